@@ -1,0 +1,15 @@
+use Rattle.std.proofs.Common.{arith, sym}
+use Rattle.zarrs_chunk.proofs.Inside.{is_box_inside-all, is_box_inside-not}
+use Rattle.zarrs_chunk.proofs.boxes.is_box_inside.Goals as goal
+use Rattle.zarrs_chunk.proofs.boxes.is_box_inside.Goals.{then-start-size-via-then-start-size, then-start-size-via-else-start-size+then-lengths-axis}
+
+pub returns-then-start-size : goal.returns-then-start-size
+returns-then-start-size c =
+    sym (is_box_inside-not c.args.sizes.now c.args.starts.now c.args.lengths.now c.loop-axis.axis (omega arith) (elim c.then-start-size.branch [
+      | then-start-size-via-then-start-size w ↦ omega arith
+      | then-start-size-via-else-start-size+then-lengths-axis w ↦ omega arith
+    ]))
+
+pub returns : goal.returns
+returns c =
+    sym (is_box_inside-all c.args.sizes.now c.args.starts.now c.args.lengths.now c.requires.starts c.requires.lengths (λ k l. c.loop-axis.invariant k (omega arith)))

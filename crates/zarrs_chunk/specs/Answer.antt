@@ -1,0 +1,63 @@
+-- What a call answers: a value, or the first cause of a refusal.
+use Rattle.std.specs.Prelude.{◌≡◌, ℕ, ◌^◌, Bool, true, false, ◌||◌, nat_lt, Result, Ok, Err, IsOkAnd, if◌then◌else◌}
+use Rattle.zarrs_chunk.specs.declared.codec_error.CodecError.{CodecError}
+use Rattle.zarrs_chunk.specs.declared.codec_error.CodecError.TheVariants.{OutOfMemory, Storage, Overflow}
+
+-- one step after another: the first refusal ends the chain. `do` blocks are chains of these.
+infixl 10 ◌>>=◌
+abbrev pub ◌>>=◌ : {E A B : Type 0} → Result A E → (A → Result B E) → Result B E
+(Ok x) >>= f = f x
+(Err e) >>= f = Err e
+
+-- go on where the test passes, else this refusal
+abbrev pub demand : {E : Type 0} → Bool → E → Result (Unit {0}) E
+demand passed cause = if passed then Ok tt else Err cause
+
+-- no refusal is due
+abbrev pub unrefused : {E : Type 0} → Result (Unit {0}) E
+unrefused = Ok tt
+
+-- a result with its value viewed
+abbrev pub seen : {E X Y : Type 0} → (X → Y) → Result X E → Result Y E
+seen view (Ok x) = Ok (view x)
+seen view (Err e) = Err e
+
+-- the number, where 64 bits hold it
+abbrev pub checked_u64 : ℕ → Result ℕ CodecError
+checked_u64 n = if nat_lt n (2 ^ 64) then Ok n else Err Overflow
+
+-- ---- the refusals that a call may give in place of its answer
+
+-- a growth was refused
+abbrev pub memory : CodecError → Bool
+memory OutOfMemory = true
+memory _ = false
+
+-- the handle failed
+abbrev pub fault : CodecError → Bool
+fault (Storage _) = true
+fault _ = false
+
+abbrev pub memory_or_fault : CodecError → Bool
+memory_or_fault e = memory e || fault e
+
+-- the handle failed in the call that gave this result
+abbrev pub is_fault : {T : Type 0} → Result T CodecError → Bool
+is_fault (Ok _) = false
+is_fault (Err e) = fault e
+
+-- ---- what a call gives
+
+-- P, unless the refusal is excused
+abbrev pub Excused : Bool → Type 0 → Type 0
+Excused excused P = excused ≡ false → P
+
+-- The answer, read by `view`, is the expected one: its value, or its first refusal. What `excuse` names may come at any time.
+abbrev pub Answers : {E T V : Type 0} → (E → Bool) → (T → V) → Result T E → Result V E → Type 0
+Answers excuse view (Ok x) expected = expected ≡ Ok (view x)
+Answers excuse view (Err e) expected = Excused (excuse e) (expected ≡ Err e)
+
+-- The same, where a relation alone is promised of the value: Ok just where one is expected.
+abbrev pub AnswersBy : {E T V : Type 0} → (E → Bool) → (T → V → Type 0) → Result T E → Result V E → Type 0
+AnswersBy excuse R (Ok x) expected = IsOkAnd expected (R x)
+AnswersBy excuse R (Err e) expected = Excused (excuse e) (expected ≡ Err e)

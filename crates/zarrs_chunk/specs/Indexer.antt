@@ -1,0 +1,9 @@
+-- What an indexer is seen as.
+use Rattle.std.specs.Prelude.{map}
+use Rattle.zarrs_chunk.specs.Selection.{Selection, subset, indices}
+use Rattle.zarrs_chunk.specs.declared.indexer.Indexer.{Indexer}
+use Rattle.zarrs_chunk.specs.declared.indexer.Indexer.TheVariants.{Subset, Indices}
+
+abbrev pub selection_of : Indexer → Selection
+selection_of (Subset region) = subset region
+selection_of (Indices tuples) = indices (map (λ tuple. tuple.items) tuples.items)

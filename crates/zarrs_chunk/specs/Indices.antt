@@ -1,0 +1,14 @@
+-- Tuples by their numbers, and numbers by their tuples.
+use Rattle.std.specs.Prelude.{◌≡◌, ℕ, ◌^◌, ◌≤◌, ◌&&◌, true, nat_lt, Option, Some, None, List, if◌then◌else◌}
+use Rattle.zarrs_chunk.specs.ChunkShape.{product}
+use Rattle.zarrs_chunk.specs.Tuples.{row_major, is_tuple_inside}
+
+-- the number of a tuple that lies inside, where 64 bits hold it
+abbrev pub raveled : List ℕ → List ℕ → Option ℕ
+raveled sizes tuple =
+    if is_tuple_inside sizes tuple && nat_lt (row_major sizes tuple) (2 ^ 64) then Some (row_major sizes tuple) else None
+
+-- the tuple inside that has this number; none, where the number lies past the chunk's end
+abbrev pub IsUnraveled : List ℕ → ℕ → Option (List ℕ) → Type 0
+IsUnraveled sizes number None = product sizes ≤ number
+IsUnraveled sizes number (Some tuple) = (is_tuple_inside sizes tuple ≡ true) × (row_major sizes tuple ≡ number)

@@ -1,0 +1,11 @@
+pub mod Answer
+pub mod ArraySubset
+pub mod ChunkShape
+pub mod CodecError
+pub mod Indexer
+pub mod Indices
+pub mod Levels
+pub mod Region
+pub mod Runs
+pub mod Selection
+pub mod Tuples

@@ -1,0 +1,39 @@
+-- Which index tuples are meant, and their places in a chunk.
+use Rattle.std.specs.Prelude.{ℕ, ◌==◌, List, map, length, Result, Ok}
+use Rattle.std.specs.List.{list_all}
+use Rattle.zarrs_chunk.specs.Answer.{◌>>=◌, demand, checked_u64}
+use Rattle.zarrs_chunk.specs.ChunkShape.{product}
+use Rattle.zarrs_chunk.specs.Region.{Region}
+use Rattle.zarrs_chunk.specs.Tuples.{row_major, box_tuples, is_box_inside, is_tuple_inside}
+use Rattle.zarrs_chunk.specs.declared.codec_error.CodecError.{CodecError}
+use Rattle.zarrs_chunk.specs.declared.codec_error.CodecError.TheVariants.{IncompatibleDimensionality, OutOfBounds}
+
+-- an indexer as plain data: a box, or a list of tuples
+pub data Selection : Type 0 where
+  subset : Region → Selection
+  indices : List (List ℕ) → Selection
+
+-- the tuples that are meant, in order: those of a box row-major, those of a list in list order
+abbrev pub tuples_of : Selection → List (List ℕ)
+tuples_of (subset region) = box_tuples region.starts region.lengths
+tuples_of (indices tuples) = tuples
+
+-- In bounds: one number or range an axis, and each inside its axis. An empty range has to lie inside too.
+abbrev pub bounds_of : Selection → List ℕ → Result (Unit {0}) CodecError
+bounds_of (subset region) sizes = do
+  _ ← demand (length region.starts == length sizes) IncompatibleDimensionality
+  demand (is_box_inside sizes region.starts region.lengths) OutOfBounds
+bounds_of (indices tuples) sizes = do
+  _ ← demand (list_all (λ tuple. length tuple == length sizes) tuples) IncompatibleDimensionality
+  demand (list_all (λ tuple. is_tuple_inside sizes tuple) tuples) OutOfBounds
+
+-- how many elements are meant
+abbrev pub len_of : Selection → Result ℕ CodecError
+len_of selection = checked_u64 (length (tuples_of selection))
+
+-- the row-major numbers of the tuples, in order
+abbrev pub places_of : Selection → List ℕ → Result (List ℕ) CodecError
+places_of selection sizes = do
+  _ ← bounds_of selection sizes
+  _ ← checked_u64 (product sizes)
+  Ok (map (row_major sizes) (tuples_of selection))

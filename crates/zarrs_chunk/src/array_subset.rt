@@ -1,0 +1,137 @@
+ghost use Rattle.std.specs.Prelude.{◌≡◌, Ok, length, ◌&&◌};
+ghost use Rattle.std.specs.Bool.{nat_eq};
+ghost use Rattle.std.specs.Cmp.Lexicographic.{pointwise};
+ghost use Rattle.std.specs.Cmp.Rules.{comparing};
+ghost use Rattle.std.proofs.Common.{rules};
+ghost use Rattle.zarrs_chunk.specs.Answer.{Answers, memory, checked_u64, seen};
+ghost use Rattle.zarrs_chunk.specs.ArraySubset.{ends_fit, subset_of_ranges, subset_of_shape, subset_of_start_shape};
+ghost use Rattle.zarrs_chunk.specs.ChunkShape.{product};
+ghost use Rattle.zarrs_chunk.specs.Tuples.{box_tuples};
+
+use crate::boxes::checked_product;
+use crate::codec_error::CodecError;
+use std::alloc::Global;
+use std::marker::Model;
+use std::ops::Range;
+
+/// A box of index tuples: one range an axis, which may be empty.
+#[derive(Debug, Drop)]
+pub struct ArraySubset {
+    starts: Vec<u64>,
+    lengths: Vec<u64>,
+}
+
+impl Model for ArraySubset {
+    ghost use Rattle.std.specs.Prelude.{◌≡◌, length};
+    ghost use Rattle.zarrs_chunk.specs.Region.{Region};
+
+    ghost Value = { Region };
+
+    ghost view = { λ subset. record { starts = subset.starts.items; lengths = subset.lengths.items } };
+
+    ghost invariant = { λ subset. length subset.starts.items ≡ length subset.lengths.items };
+}
+
+/// Whether each range of a box ends where 64 bits hold it.
+fn all_ends_fit(starts: &[u64], lengths: &[u64]) -> bool
+    ensures { result ≡ ends_fit starts.now lengths.now }
+{
+    starts
+        .iter()
+        .zip(lengths.iter())
+        .all(|(start, len)| *len <= u64::MAX - *start)
+}
+
+impl ArraySubset {
+    /// The box of these ranges, one an axis. Refusals: `OutOfMemory`; `ReversedRange` where a range
+    /// ends before it starts.
+    pub fn new_with_ranges(alloc: Global, ranges: &[Range<u64>]) -> Result<ArraySubset, CodecError>
+        ensures { Answers memory (λ subset. subset) result (subset_of_ranges ranges.now) }
+    {
+        let mut starts = Vec::new(alloc);
+        let mut lengths = Vec::new(alloc);
+        for range in ranges {
+            if range.start > range.end {
+                return Err(CodecError::ReversedRange);
+            }
+            starts.push(range.start)?;
+            lengths.push(range.end - range.start)?;
+        }
+        Ok(ArraySubset { starts, lengths })
+    }
+
+    /// The box that begins at `start` and is `shape` long, both one number an axis. Refusals, the
+    /// first that holds: `IncompatibleDimensionality` where their axes differ; `Overflow` where a
+    /// range ends past `2^64 - 1`.
+    pub fn new_with_start_shape(start: Vec<u64>, shape: Vec<u64>) -> Result<ArraySubset, CodecError>
+        ensures { result ≡ subset_of_start_shape start.items shape.items }
+    {
+        if start.len() != shape.len() {
+            return Err(CodecError::IncompatibleDimensionality);
+        }
+        if !all_ends_fit(start.as_slice(), shape.as_slice()) {
+            return Err(CodecError::Overflow);
+        }
+        Ok(ArraySubset {
+            starts: start,
+            lengths: shape,
+        })
+    }
+
+    /// The box of all tuples of `shape`. Refusals: `OutOfMemory`.
+    pub fn new_with_shape(alloc: Global, shape: Vec<u64>) -> Result<ArraySubset, CodecError>
+        ensures { Answers memory (λ subset. subset) result (Ok (subset_of_shape shape.items)) }
+    {
+        let starts = vec![in alloc; 0; shape.len()]?;
+        Ok(ArraySubset {
+            starts,
+            lengths: shape,
+        })
+    }
+
+    /// Where each range begins.
+    pub fn start(&self) -> &[u64]
+        ensures { result.now ≡ self.now.starts }
+    {
+        self.starts.as_slice()
+    }
+
+    /// How long each range is.
+    pub fn shape(&self) -> &[u64]
+        ensures lengths { result.now ≡ self.now.lengths }
+        ensures axes { length self.now.starts ≡ length self.now.lengths }
+    {
+        self.lengths.as_slice()
+    }
+
+    /// How many tuples the box has: the product of its lengths. Refusals: `Overflow`.
+    pub fn num_elements(&self) -> Result<u64, CodecError>
+        ensures product { result ≡ checked_u64 (product self.now.lengths) }
+        ensures tuples { result ≡ checked_u64 (length (box_tuples self.now.starts self.now.lengths)) }
+    {
+        checked_product(self.lengths.as_slice()).ok_or(CodecError::Overflow)
+    }
+
+    /// An equal subset. Refusals: `OutOfMemory`.
+    pub fn clone(&self) -> Result<ArraySubset, CodecError>
+        ensures { Answers memory (λ copy. copy) result (Ok self.now) }
+    {
+        let starts = self.starts.clone()?;
+        let lengths = self.lengths.clone()?;
+        Ok(ArraySubset { starts, lengths })
+    }
+}
+
+impl PartialEq for ArraySubset {
+    ghost eq = { λ one other. pointwise nat_eq one.starts other.starts && pointwise nat_eq one.lengths other.lengths };
+
+    ghost laws = { Prim.search (comparing, rules) };
+
+    fn eq(&self, other: &ArraySubset) -> bool {
+        self.starts == other.starts && self.lengths == other.lengths
+    }
+}
+
+impl Eq for ArraySubset {
+    ghost laws = { Prim.search (comparing, rules) };
+}

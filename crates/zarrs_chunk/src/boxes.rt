@@ -1,0 +1,145 @@
+//! Products of sizes, and the places and runs of a box, over plain slices.
+ghost use Rattle.std.specs.Prelude.{◌≡◌, ◌<◌, ◌≤◌, ◌^◌, ◌+◌, ◌*◌, ℕ, length, drop, slice_index, true, IfOk, SomeIff, All};
+ghost use Rattle.std.specs.List.{flat_map, range_with_len};
+ghost use Rattle.zarrs_chunk.specs.ChunkShape.{product};
+ghost use Rattle.zarrs_chunk.specs.Levels.{behind_fronts, box_places as places_of_box, IsFitting};
+ghost use Rattle.zarrs_chunk.specs.Runs.{joined_runs};
+ghost use Rattle.zarrs_chunk.specs.Tuples.{is_box_inside as box_inside};
+
+use std::alloc::{AllocError, Global};
+
+/// The product of the sizes, where it fits. With a zero among them it is 0.
+pub fn checked_product(sizes: &[u64]) -> Option<u64>
+    ensures { SomeIff result (product sizes.now < 2 ^ 64) (product sizes.now) }
+{
+    if sizes.contains(&0) {
+        return Some(0);
+    }
+    let mut count: u64 = 1;
+    for size in sizes {
+        count = count.checked_mul(*size)?;
+    }
+    Some(count)
+}
+
+/// Whether a box has one range an axis, and each ends within the axis's size.
+pub fn is_box_inside(sizes: &[u64], starts: &[u64], lengths: &[u64]) -> bool
+    requires starts { length starts.now ≡ length sizes.now }
+    requires lengths { length lengths.now ≡ length sizes.now }
+    ensures { result ≡ box_inside sizes.now starts.now lengths.now }
+{
+    for axis in 0..sizes.len() {
+        let size = sizes[axis];
+        let start = starts[axis];
+        if start > size || lengths[axis] > size - start {
+            return false;
+        }
+    }
+    true
+}
+
+/// One axis more: each front over the axes before is followed by its row.
+fn rows_behind(
+    alloc: Global,
+    fronts: &[u64],
+    size: u64,
+    start: u64,
+    len: u64,
+) -> Result<Vec<u64>, AllocError>
+    requires { (k : ℕ) → k < length fronts.now → slice_index fronts.now k * size + start + len < 2 ^ 64 }
+    ensures { IfOk result (λ v. v.items ≡ flat_map (λ front. range_with_len (front * size + start) len) fronts.now) }
+{
+    let mut rows = Vec::new(alloc);
+    for front in fronts {
+        let row = *front * size + start;
+        rows.extend(row..row + len)?;
+    }
+    Ok(rows)
+}
+
+/// The numbers of a box's tuples over its first `axes` axes alone. As no range is empty, no level
+/// has more numbers than the last.
+fn box_fronts(
+    alloc: Global,
+    sizes: &[u64],
+    starts: &[u64],
+    lengths: &[u64],
+    axes: usize,
+) -> Result<Vec<u64>, AllocError>
+    requires axes { axes ≤ length sizes.now }
+    requires starts { length starts.now ≡ length sizes.now }
+    requires lengths { length lengths.now ≡ length sizes.now }
+    requires inside { box_inside sizes.now starts.now lengths.now ≡ true }
+    requires positive { All (λ size. 0 < size) sizes.now }
+    requires fits { product sizes.now < 2 ^ 64 }
+    ensures level { IfOk result (λ v. behind_fronts (drop axes sizes.now) (drop axes starts.now) (drop axes lengths.now) v.items ≡ places_of_box sizes.now starts.now lengths.now) }
+    ensures fits { IfOk result (λ v. IsFitting (product sizes.now) (product (drop axes sizes.now)) v.items) }
+{
+    let mut fronts = vec![in alloc; 0]?;
+    for axis in 0..axes {
+        fronts = rows_behind(
+            alloc,
+            fronts.as_slice(),
+            sizes[axis],
+            starts[axis],
+            lengths[axis],
+        )?;
+    }
+    Ok(fronts)
+}
+
+/// The places of a box inside the sizes, in row-major order.
+pub fn box_places(
+    alloc: Global,
+    sizes: &[u64],
+    starts: &[u64],
+    lengths: &[u64],
+) -> Result<Vec<u64>, AllocError>
+    requires starts { length starts.now ≡ length sizes.now }
+    requires lengths { length lengths.now ≡ length sizes.now }
+    requires inside { box_inside sizes.now starts.now lengths.now ≡ true }
+    requires positive { All (λ size. 0 < size) sizes.now }
+    requires fits { product sizes.now < 2 ^ 64 }
+    ensures places { IfOk result (λ v. v.items ≡ places_of_box sizes.now starts.now lengths.now) }
+    ensures below { IfOk result (λ v. All (λ place. place < product sizes.now) v.items) }
+{
+    if lengths.contains(&0) {
+        return Ok(Vec::new(alloc));
+    }
+    box_fronts(alloc, sizes, starts, lengths, sizes.len())
+}
+
+/// The runs of a box inside the sizes: one a row of the last axis.
+pub fn box_runs(
+    alloc: Global,
+    sizes: &[u64],
+    starts: &[u64],
+    lengths: &[u64],
+) -> Result<Vec<(u64, u64)>, AllocError>
+    requires starts { length starts.now ≡ length sizes.now }
+    requires lengths { length lengths.now ≡ length sizes.now }
+    requires inside { box_inside sizes.now starts.now lengths.now ≡ true }
+    requires positive { All (λ size. 0 < size) sizes.now }
+    requires fits { product sizes.now < 2 ^ 64 }
+    ensures places { IfOk result (λ v. joined_runs v.items ≡ places_of_box sizes.now starts.now lengths.now) }
+    ensures filled { IfOk result (λ v. All (λ run. 0 < run.1) v.items) }
+    ensures below { IfOk result (λ v. All (λ run. run.0 + run.1 ≤ product sizes.now) v.items) }
+{
+    if lengths.contains(&0) {
+        return Ok(Vec::new(alloc));
+    }
+    let mut runs = Vec::new(alloc);
+    if sizes.len() == 0 {
+        runs.push((0, 1))?;
+        return Ok(runs);
+    }
+    let last = sizes.len() - 1;
+    let fronts = box_fronts(alloc, sizes, starts, lengths, last)?;
+    let size = sizes[last];
+    let start = starts[last];
+    let len = lengths[last];
+    for front in &fronts {
+        runs.push((*front * size + start, len))?;
+    }
+    Ok(runs)
+}

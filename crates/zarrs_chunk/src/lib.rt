@@ -1,0 +1,21 @@
+//! Shapes of chunks, which elements of them are meant, and the one error of all layers.
+//!
+//! A chunk's elements are numbered row-major, the last axis fastest (Zarr v3 core specification,
+//! "Chunks" and "Chunk grids"). An [`Indexer`] names index tuples; its places are their numbers.
+#![tactic(auto)]
+
+mod array_subset;
+mod boxes;
+mod chunk_shape;
+mod codec_error;
+mod indexer;
+mod indices;
+
+pub use array_subset::ArraySubset;
+pub use chunk_shape::ChunkShape;
+pub use codec_error::{CodecError, CodecName, StorageError};
+pub use indexer::Indexer;
+pub use indices::{ArrayIndices, ravel_indices, unravel_index};
+
+#[cfg(test)]
+mod tests;
