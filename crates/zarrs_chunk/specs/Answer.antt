@@ -28,6 +28,10 @@ checked_u64 n = if nat_lt n (2 ^ 64) then Ok n else Err Overflow
 
 -- ---- the refusals that a call may give in place of its answer
 
+-- none of them
+abbrev pub never : {E : Type 0} → E → Bool
+never _ = false
+
 -- a growth was refused
 abbrev pub memory : CodecError → Bool
 memory OutOfMemory = true

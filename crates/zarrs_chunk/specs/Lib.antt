@@ -1,4 +1,5 @@
 pub mod Answer
+pub mod AnswerLaws
 pub mod ArraySubset
 pub mod ChunkShape
 pub mod CodecError

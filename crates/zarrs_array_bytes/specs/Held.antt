@@ -1,0 +1,72 @@
+-- What a container of elements is seen as.
+use Rattle.std.specs.Prelude.{◌≡◌, ℕ, ◌+◌, ◌*◌, Bool, true, false, List, [], ◌∷◌, length, cond}
+use Rattle.std.proofs.Common.{refl, ap, Global}
+use Rattle.std.specs.Coded.{Coded, code_by, coded×, coded_ℕ, coded_bool, coded_list}
+use Rattle.std.specs.declared.borrow.CowSlice.{CowSlice}
+use Rattle.std.specs.declared.borrow.CowSlice.TheVariants as cow
+
+-- bytes, and whether the container owns them
+pub record Raw : Type 0 where
+  pub items : List ℕ
+  pub is_owned : Bool
+
+-- what bytes that may be borrowed are seen as
+abbrev pub raw_of : CowSlice ℕ Global → Raw
+raw_of (cow.Borrowed r) = record { items = r.now; is_owned = false }
+raw_of (cow.Owned v) = record { items = v.items; is_owned = true }
+
+-- bytes that the container owns
+abbrev pub owned : List ℕ → Raw
+owned items = record { items = items; is_owned = true }
+
+-- Elements of one size, one after another; elements of any length, one after another, with where each begins and the last one ends; or elements under a mask with one byte for each, 0 for absent and 1 for present.
+pub data Held : Type 0 where
+  flen : Raw → Held
+  vlen : Raw → List ℕ → Held
+  masked : Held → Raw → Held
+
+-- how many masks stand one round another
+abbrev pub mask_levels : Held → ℕ
+mask_levels (flen raw) = 0
+mask_levels (vlen raw offsets) = 0
+mask_levels (masked inner mask) = mask_levels inner + 1
+
+-- the bytes, plus 8 for each offset, plus one for each mask byte
+abbrev pub size_of : Held → ℕ
+size_of (flen raw) = length raw.items
+size_of (vlen raw offsets) = length raw.items + 8 * length offsets
+size_of (masked inner mask) = size_of inner + length mask.items
+
+-- bytes are stored as a pair
+abbrev raw_code : Coded Raw
+raw_code =
+    code_by (List ℕ × Bool) (coded× (coded_list coded_ℕ) coded_bool) (λ raw. (raw.items, raw.is_owned)) (λ p. record { items = p.0; is_owned = p.1 }) (λ _. refl)
+
+-- a container as plain parts: the masks, the outermost first, and then what they stand over, with true for elements of one size
+abbrev HeldParts : Type 0
+HeldParts = List Raw × (Bool × (Raw × List ℕ))
+
+abbrev pub parts_of : Held → HeldParts
+parts_of (flen raw) = ([], (true, (raw, [])))
+parts_of (vlen raw offsets) = ([], (false, (raw, offsets)))
+parts_of (masked inner mask) = (mask ∷ (parts_of inner).0, (parts_of inner).1)
+
+-- a container under masks
+abbrev under_masks : List Raw → Held → Held
+under_masks [] held = held
+under_masks (mask ∷ masks) held = masked (under_masks masks held) mask
+
+-- the container of its parts
+abbrev pub held_of_parts : HeldParts → Held
+held_of_parts p = under_masks p.0 (cond p.1.0 (flen p.1.1.0) (vlen p.1.1.0 p.1.1.1))
+
+-- the parts give the container back
+pub held_of_parts-parts_of : (held : Held) → held_of_parts (parts_of held) ≡ held
+held_of_parts-parts_of (flen raw) = refl
+held_of_parts-parts_of (vlen raw offsets) = refl
+held_of_parts-parts_of (masked inner mask) = ap (λ x. masked x mask) (held_of_parts-parts_of inner)
+
+-- a container is stored as its parts
+abbrev pub held_code : Coded Held
+held_code =
+    code_by HeldParts (coded× (coded_list raw_code) (coded× coded_bool (coded× raw_code (coded_list coded_ℕ)))) parts_of held_of_parts held_of_parts-parts_of

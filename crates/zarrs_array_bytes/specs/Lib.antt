@@ -1,0 +1,10 @@
+pub mod Held
+pub mod Offsets
+pub mod ArrayBytes
+pub mod InnerBytes
+pub mod SameBytes
+pub mod SameBytesLaws
+pub mod Parts
+pub mod Elements
+pub mod Validity
+pub mod WrongLength

@@ -1,0 +1,38 @@
+-- Containers made of parts, and the parts of containers.
+use Rattle.std.specs.Prelude.{ℕ, ◌==◌, nat_lt, List, length, Result, Ok, Err}
+use Rattle.std.specs.List.{list_all}
+use Rattle.zarrs_chunk.specs.Answer.{◌>>=◌, demand}
+use Rattle.zarrs_chunk.specs.declared.codec_error.CodecError.{CodecError}
+use Rattle.zarrs_chunk.specs.declared.codec_error.CodecError.TheVariants.{ArrayBytesKind, InvalidOffsets, MaskValue}
+use Rattle.zarrs_array_bytes.specs.Held.{Raw, Held, flen, vlen, masked}
+use Rattle.zarrs_array_bytes.specs.Offsets.{last_of}
+
+-- elements of any length: the last one ends where the bytes end
+abbrev pub with_offsets : Raw → List ℕ → Result Held CodecError
+with_offsets raw offsets = do
+  _ ← demand (last_of offsets == length raw.items) InvalidOffsets
+  Ok (vlen raw offsets)
+
+-- elements under a mask of zeros and ones
+abbrev pub with_mask : Held → Raw → Result Held CodecError
+with_mask inner mask = do
+  _ ← demand (list_all (λ byte. nat_lt byte 2) mask.items) MaskValue
+  Ok (masked inner mask)
+
+-- the bytes of elements of one size
+abbrev pub fixed_part : Held → Result Raw CodecError
+fixed_part (flen raw) = Ok raw
+fixed_part (vlen raw offsets) = Err ArrayBytesKind
+fixed_part (masked inner mask) = Err ArrayBytesKind
+
+-- the bytes and offsets of elements of any length
+abbrev pub variable_part : Held → Result (Raw × List ℕ) CodecError
+variable_part (flen raw) = Err ArrayBytesKind
+variable_part (vlen raw offsets) = Ok (raw, offsets)
+variable_part (masked inner mask) = Err ArrayBytesKind
+
+-- what stands under the outermost mask, and that mask
+abbrev pub optional_part : Held → Result (Held × Raw) CodecError
+optional_part (flen raw) = Err ArrayBytesKind
+optional_part (vlen raw offsets) = Err ArrayBytesKind
+optional_part (masked inner mask) = Ok (inner, mask)

@@ -1,0 +1,253 @@
+ghost use Rattle.std.specs.Prelude.{◌≡◌, Ok, IfOk, IsOk, true, false, min, length};
+ghost use Rattle.std.specs.Cmp.{partial_equiv_from_equiv};
+ghost use Rattle.zarrs_chunk.specs.Answer.{Answers, memory, seen, is_fault};
+ghost use Rattle.zarrs_array_bytes.specs.Held.{flen, vlen, masked, raw_of, size_of};
+ghost use Rattle.zarrs_array_bytes.specs.SameBytes.{is_same_held};
+ghost use Rattle.zarrs_array_bytes.specs.SameBytesLaws.{is_same_held-equivalence};
+ghost use Rattle.zarrs_array_bytes.specs.Parts.{with_offsets, with_mask, fixed_part, variable_part, optional_part};
+ghost use Rattle.zarrs_array_bytes.specs.Validity.{sizes_fit, levels_fit, validity, data_fit};
+ghost use Rattle.zarrs_array_bytes.specs.WrongLength.{refusal_of};
+ghost use Rattle.std.specs.List.{list_all};
+ghost use Rattle.std.specs.Prelude.{nat_lt};
+
+use crate::array_bytes_offsets::ArrayBytesOffsets;
+use crate::array_bytes_raw::{ArrayBytesRaw, clone_raw};
+use crate::validate::{WrongLength, check_length, check_offsets, check_sizes};
+use std::alloc::Global;
+use std::borrow::CowSlice;
+use std::marker::Model;
+use zarrs_chunk::CodecError;
+use zarrs_data_type::DataType;
+
+/// The elements of a chunk, in row-major order.
+///
+/// They are of one size and one after another, or of any length with offsets, or under a mask that
+/// has one byte for each, 0 for absent and 1 for present. Which type they are of, a call says.
+#[cycle(array_bytes)]
+#[derive(Debug, Drop)]
+pub struct ArrayBytes<'a> {
+    parts: Parts<'a>,
+}
+
+#[cycle(array_bytes)]
+#[derive(Debug, Drop)]
+enum Parts<'a> {
+    Fixed(ArrayBytesRaw<'a>),
+    Variable(ArrayBytesRaw<'a>, ArrayBytesOffsets),
+    Optional(Box<ArrayBytes<'a>>, ArrayBytesRaw<'a>),
+}
+
+impl<'a> Model for ArrayBytes<'a> {
+    ghost use Rattle.zarrs_array_bytes.specs.Held.{Held, held_code, mask_levels};
+
+    ghost Value = { Held };
+
+    ghost coded = { held_code };
+
+    ghost use Rattle.zarrs_array_bytes.specs.ArrayBytes.{held_of, PartsAreSound};
+
+    ghost view = { λ array. held_of array.parts };
+
+    ghost invariant = { λ array. PartsAreSound array.parts };
+
+    ghost size = { mask_levels };
+
+    ghost use Rattle.zarrs_array_bytes.specs.InnerBytes.{held_of-mask_levels};
+
+    ghost size_decreases = { λ array _. held_of-mask_levels array.parts };
+}
+
+impl<'a> ArrayBytes<'a> {
+    /// Elements of one size, one after another.
+    pub fn new_flen(bytes: ArrayBytesRaw<'a>) -> ArrayBytes<'a>
+        ensures { result ≡ flen (raw_of bytes.entry) }
+    {
+        ArrayBytes {
+            parts: Parts::Fixed(bytes),
+        }
+    }
+
+    /// Elements of any length: element i is the bytes from offset i to offset i + 1. The first
+    /// offset may be above zero. Refusals: `InvalidOffsets` where the last offset isn't the number
+    /// of bytes.
+    pub fn new_vlen(
+        bytes: ArrayBytesRaw<'a>,
+        offsets: ArrayBytesOffsets,
+    ) -> Result<ArrayBytes<'a>, CodecError>
+        ensures { result ≡ with_offsets (raw_of bytes.entry) offsets }
+    {
+        let ends = offsets.as_slice();
+        if ends[ends.len() - 1] != bytes.len() {
+            return Err(CodecError::InvalidOffsets);
+        }
+        Ok(ArrayBytes {
+            parts: Parts::Variable(bytes, offsets),
+        })
+    }
+
+    /// These elements under a mask with one byte for each: 0 for absent, 1 for present. What stands
+    /// under an absent one doesn't matter. Refusals: `MaskValue` where a byte is another number.
+    pub fn with_optional_mask(
+        self,
+        alloc: Global,
+        mask: ArrayBytesRaw<'a>,
+    ) -> Result<ArrayBytes<'a>, CodecError>
+        ensures { Answers memory (λ array. array) result (with_mask self.entry (raw_of mask.entry)) }
+    {
+        if !is_mask(mask.as_slice()) {
+            return Err(CodecError::MaskValue);
+        }
+        Ok(ArrayBytes {
+            parts: Parts::Optional(Box::new(alloc, self)?, mask),
+        })
+    }
+
+    /// The bytes of elements of one size. Refusals: `ArrayBytesKind` for any other elements.
+    pub fn into_fixed(self) -> Result<ArrayBytesRaw<'a>, CodecError>
+        ensures { seen raw_of result ≡ fixed_part self.entry }
+    {
+        match self.parts {
+            Parts::Fixed(bytes) => Ok(bytes),
+            _ => Err(CodecError::ArrayBytesKind),
+        }
+    }
+
+    /// The bytes and offsets of elements of any length. Refusals: `ArrayBytesKind` for any other
+    /// elements.
+    pub fn into_variable(self) -> Result<(ArrayBytesRaw<'a>, ArrayBytesOffsets), CodecError>
+        ensures { seen (λ parts. (raw_of parts.0, parts.1)) result ≡ variable_part self.entry }
+    {
+        match self.parts {
+            Parts::Variable(bytes, offsets) => Ok((bytes, offsets)),
+            _ => Err(CodecError::ArrayBytesKind),
+        }
+    }
+
+    /// What stands under the outermost mask, and that mask. Refusals: `ArrayBytesKind` for elements
+    /// without a mask.
+    pub fn into_optional(self) -> Result<(Box<ArrayBytes<'a>>, ArrayBytesRaw<'a>), CodecError>
+        ensures { seen (λ parts. (parts.0.value, raw_of parts.1)) result ≡ optional_part self.entry }
+    {
+        match self.parts {
+            Parts::Optional(inner, mask) => Ok((inner, mask)),
+            _ => Err(CodecError::ArrayBytesKind),
+        }
+    }
+
+    /// The bytes, plus 8 for each offset, plus one for each mask byte; `usize::MAX` where the sum
+    /// passes it.
+    pub fn size(&self) -> usize
+        ensures { result ≡ min (size_of self.now) usize.MAX }
+    {
+        match &self.parts {
+            Parts::Fixed(bytes) => bytes.len(),
+            Parts::Variable(bytes, offsets) => {
+                bytes
+                    .len()
+                    .saturating_add(offsets.as_slice().len().saturating_mul(8))
+            }
+            Parts::Optional(inner, mask) => inner.size().saturating_add(mask.len()),
+        }
+    }
+
+    /// Whether these are `count` elements of the type. Refusals, the first that holds: `Overflow`
+    /// where 64 bits don't count the bytes of so many elements, or for a variable type their
+    /// offsets; then level by level, the outermost mask first, `ArrayBytesKind` where the kind isn't
+    /// the type's, `InvalidBytesLength` where the bytes, offsets or mask bytes are more or fewer.
+    pub fn validate(&self, count: u64, data_type: &DataType) -> Result<(), CodecError>
+        ensures exact { result ≡ validity data_type.now count self.now }
+        ensures no_fault { is_fault result ≡ false }
+    {
+        check_sizes(count, data_type)?;
+        self.check_levels(count, data_type, WrongLength::InvalidBytesLength)
+    }
+
+    /// Whether these are new data for `count` places: one element of the type for each. Refusals,
+    /// the first that holds, level by level, the outermost mask first: `ArrayBytesKind` where the
+    /// kind isn't the type's, `DataMismatch` where there are more or fewer.
+    pub fn validate_data(&self, count: u64, data_type: &DataType) -> Result<(), CodecError>
+        ensures exact { result ≡ data_fit data_type.now count self.now }
+        ensures no_fault { is_fault result ≡ false }
+    {
+        self.check_levels(count, data_type, WrongLength::DataMismatch)
+    }
+
+    fn check_levels(
+        &self,
+        count: u64,
+        data_type: &DataType,
+        wrong: WrongLength,
+    ) -> Result<(), CodecError>
+        requires { wrong ≡ WrongLength.InvalidBytesLength → sizes_fit data_type.now count ≡ Ok tt }
+        ensures exact { result ≡ levels_fit (refusal_of wrong) data_type.now count self.now }
+        ensures no_fault { is_fault result ≡ false }
+    {
+        match &self.parts {
+            Parts::Fixed(bytes) => match data_type.fixed_size() {
+                Some(size) => check_length(bytes.len() as u64, count, size as u64, wrong),
+                None => Err(CodecError::ArrayBytesKind),
+            },
+            Parts::Variable(_, offsets) => {
+                if data_type.is_variable() {
+                    check_offsets(offsets.as_slice().len() as u64, count, wrong)
+                } else {
+                    Err(CodecError::ArrayBytesKind)
+                }
+            }
+            Parts::Optional(inner, mask) => match data_type.as_optional() {
+                Some(inner_type) => {
+                    check_length(mask.len() as u64, count, 1, wrong)?;
+                    inner.check_levels(count, inner_type, wrong)
+                }
+                None => Err(CodecError::ArrayBytesKind),
+            },
+        }
+    }
+
+    /// An equal container, in which borrowed bytes stay borrowed. Refusals: `OutOfMemory`.
+    pub fn clone(&self) -> Result<ArrayBytes<'a>, CodecError>
+        ensures { Answers memory (λ copy. copy) result (Ok self.now) }
+    {
+        let parts = match &self.parts {
+            Parts::Fixed(bytes) => Parts::Fixed(clone_raw(bytes)?),
+            Parts::Variable(bytes, offsets) => {
+                Parts::Variable(clone_raw(bytes)?, (*offsets).clone()?)
+            }
+            Parts::Optional(inner, mask) => {
+                let alloc = *Box::allocator(inner);
+                Parts::Optional(Box::new(alloc, (**inner).clone()?)?, clone_raw(mask)?)
+            }
+        };
+        Ok(ArrayBytes { parts })
+    }
+}
+
+impl<'a> PartialEq for ArrayBytes<'a> {
+    ghost eq = { is_same_held };
+
+    ghost laws = { partial_equiv_from_equiv is_same_held-equivalence };
+
+    fn eq(&self, other: &ArrayBytes<'a>) -> bool {
+        match (&self.parts, &other.parts) {
+            (Parts::Fixed(bytes), Parts::Fixed(others)) => bytes.as_slice() == others.as_slice(),
+            (Parts::Variable(bytes, offsets), Parts::Variable(others, other_offsets)) => {
+                bytes.as_slice() == others.as_slice()
+                    && offsets.as_slice() == other_offsets.as_slice()
+            }
+            (Parts::Optional(inner, mask), Parts::Optional(other_inner, other_mask)) => {
+                inner.eq(other_inner) && mask.as_slice() == other_mask.as_slice()
+            }
+            _ => false,
+        }
+    }
+}
+
+impl<'a> Eq for ArrayBytes<'a> {
+    ghost laws = { is_same_held-equivalence };
+}
+
+fn is_mask(mask: &[u8]) -> bool
+    ensures { result ≡ list_all (λ byte. nat_lt byte 2) mask.now }
+{
+    mask.iter().all(|byte| *byte < 2)
+}

@@ -1,0 +1,13 @@
+//! Containers of a chunk's elements: of one size, of any length, or under masks.
+//!
+//! The elements of a container are read by a data type, in row-major order.
+#![tactic(auto)]
+
+mod array_bytes;
+mod array_bytes_offsets;
+mod array_bytes_raw;
+mod validate;
+
+pub use array_bytes::ArrayBytes;
+pub use array_bytes_offsets::ArrayBytesOffsets;
+pub use array_bytes_raw::ArrayBytesRaw;

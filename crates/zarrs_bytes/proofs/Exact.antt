@@ -1,0 +1,225 @@
+-- Values are written and read exactly where the grammar says.
+use Rattle.std.proofs.Common.{◌≡◌, ℕ, zero, suc, ◌+◌, ◌*◌, ◌<◌, ◌≤◌, ◌^◌, ◌==◌, Bool, true, false, Option, Result, Ok, Err, List, [], ◌∷◌, length, map, get_or, nat_lt, arith, refl, ap, sym, ◌∙◌, subst}
+use Rattle.std.specs.List.{All, concat, range_with_len}
+use Rattle.std.specs.Prelude.{IsOkAnd}
+use Rattle.std.proofs.lemmas.Bool.Decides.{nat_tests}
+use Rattle.std.proofs.lemmas.List.{length-map}
+use Rattle.zarrs_chunk.specs.Answer.{◌>>=◌, demand}
+use Rattle.zarrs_chunk.specs.ChunkShape.{product}
+use Rattle.zarrs_chunk.specs.declared.codec_error.CodecError.{CodecError}
+use Rattle.zarrs_chunk.specs.declared.codec_error.CodecError.TheVariants.{InvalidBytesLength, Overflow, ArrayBytesKind}
+use Rattle.zarrs_data_type.specs.Element.{Element, plain, absent, present, Chunk, IsElement, AreElements}
+use Rattle.zarrs_data_type.specs.ElementType.{ElementType, fixed, text, bytes, optional, element_size}
+use Rattle.zarrs_data_type.specs.declared.endianness.Endianness.{Endianness}
+use Rattle.zarrs_array_bytes.specs.Elements.{elements}
+use Rattle.zarrs_array_bytes.specs.Held.{Held, Raw, flen, vlen, masked}
+use Rattle.zarrs_array_bytes.specs.Validity.{Holds, validity}
+use Rattle.zarrs_bytes.specs.ByteOrder.{cuts, ordered, spelled}
+use Rattle.zarrs_bytes.specs.BytesCodec.{value_length, spelling, encoded, decoded, element_read, IsChunk, Stands, Written}
+use Rattle.zarrs_bytes.proofs.Coding.{bind_ok, demand_ok, ok, two_steps, IsTaken, taken}
+use Rattle.zarrs_bytes.proofs.Cuts.{AllSized, length-cuts, cuts_sized, length-concat, cuts-concat, concat-cuts}
+use Rattle.zarrs_bytes.proofs.Spelled.{ordered_twice, ordered_sized, elements-flen, spelled-plain, read_pieces, plain_map}
+
+-- ---- a chunk of a fixed type and its elements' bytes
+
+AreElements-tail : (type : ElementType) (element : Element) (chunk : Chunk) → AreElements type (element ∷ chunk) → AreElements type chunk
+AreElements-tail type element chunk h = λ k d l. h (suc k) d (omega arith)
+
+-- the bytes of a chunk's elements, and that each has the type's size
+pub record PiecesOf (width components : ℕ) (chunk : Chunk) : Type 0 where
+  pub pieces : List (List ℕ)
+  pub are : chunk ≡ map plain pieces
+  pub sized : AllSized (element_size width components) pieces
+
+one_piece : (width components : ℕ) (sign : Bool) (element : Element) (chunk : Chunk) → IsElement (fixed width components sign) element → PiecesOf width components chunk → PiecesOf width components (element ∷ chunk)
+one_piece width components sign (plain items) chunk h rest = record {
+  pieces = items ∷ rest.pieces;
+  are = ap (λ (c : Chunk). plain items ∷ c) rest.are;
+  sized = (h, rest.sized);
+}
+one_piece width components sign absent chunk h rest = absurd h
+one_piece width components sign (present element) chunk h rest = absurd h
+
+pub pieces_of : (width components : ℕ) (sign : Bool) (chunk : Chunk) → AreElements (fixed width components sign) chunk → PiecesOf width components chunk
+pieces_of width components sign [] h = record { pieces = []; are = refl; sized = tt }
+pieces_of width components sign (element ∷ chunk) h =
+    one_piece width components sign element chunk (h 0 absent (omega arith)) (pieces_of width components sign chunk (AreElements-tail (fixed width components sign) element chunk h))
+
+pub AreElements-plain : (width components : ℕ) (sign : Bool) (pieces : List (List ℕ)) → AllSized (element_size width components) pieces → AreElements (fixed width components sign) (map plain pieces)
+AreElements-plain width components sign [] h = λ k d l. absurd (omega arith)
+AreElements-plain width components sign (piece ∷ pieces) h = λ k d.
+    elim k as (λ j. j < length (map plain (piece ∷ pieces)) → IsElement (fixed width components sign) (get_or (map plain (piece ∷ pieces)) j d)) [
+      | zero ↦ (λ l. h.0)
+      | suc j ↦ (λ l. AreElements-plain width components sign pieces h.1 j d (omega arith))
+    ]
+
+ordered_back : (order : Option Endianness) (width components : ℕ) (pieces : List (List ℕ)) → AllSized (element_size width components) pieces → map (ordered order width components) (map (ordered order width components) pieces) ≡ pieces
+ordered_back order width components [] h = refl
+ordered_back order width components (piece ∷ pieces) h = λ i. ordered_twice order width components piece h.0 i ∷ ordered_back order width components pieces h.1 i
+
+-- ---- encoding
+
+pub encoded_only : (order : Option Endianness) (sizes : List ℕ) (type : ElementType) (fill value : List ℕ) (held : Held) (chunk : Chunk) → Holds type held chunk → Written order sizes type fill value chunk → encoded order sizes type fill held ≡ Ok value
+encoded_only order sizes (fixed width components sign) fill value held chunk holds written =
+    let type = fixed width components sign in
+    let count = written.elements.count_is in
+    let valid : validity type (product sizes) held ≡ Ok tt = ap (λ n. validity type n held) (sym count) ∙ holds.valid in
+    let same : elements type (product sizes) held ≡ chunk = ap (λ n. elements type n held) (sym count) ∙ holds.elements_are in
+    two_steps (value_length order sizes type fill) (validity type (product sizes) held) written.len tt (spelling order type (elements type (product sizes) held)) written.taken valid
+    ∙ ap (λ (c : Chunk). ok (spelled order width components c)) same
+    ∙ ap ok (sym written.content.spelt)
+encoded_only order sizes text fill value held chunk holds written = absurd written.content
+encoded_only order sizes bytes fill value held chunk holds written = absurd written.content
+encoded_only order sizes (optional type) fill value held chunk holds written = absurd written.content
+
+bytes_are : (x y : List ℕ) → ok x ≡ ok y → y ≡ x
+bytes_are x y e = cc
+
+pub encoded_found : (order : Option Endianness) (sizes : List ℕ) (type : ElementType) (fill value : List ℕ) (held : Held) → encoded order sizes type fill held ≡ Ok value → (chunk : Chunk) × Holds type held chunk × Written order sizes type fill value chunk
+encoded_found order sizes (fixed width components sign) fill value (flen raw) e =
+    let type = fixed width components sign in
+    let size = element_size width components in
+    let n = product sizes in
+    let a = bind_ok (value_length order sizes type fill) _ value e in
+    let b = bind_ok (validity type n (flen raw)) _ value a.2 in
+    let t = taken order sizes width components sign fill a.0 a.1 in
+    let v = bind_ok (demand (nat_lt (n * size) (2 ^ 64)) Overflow) _ tt b.1 in
+    let long_test = demand_ok (length raw.items == n * size) (InvalidBytesLength (length raw.items) (n * size)) tt v.2 in
+    let long : length raw.items ≡ n * size = grind (arith, nat_tests) in
+    let pieces = cuts size n raw.items in
+    let sized = cuts_sized size n raw.items (omega (arith, long)) in
+    let are = elements-flen width components sign n raw in
+    let chunk = elements type n (flen raw) in
+    let count : length chunk ≡ n = ap length are ∙ length-map pieces plain ∙ length-cuts size n raw.items in
+    let spelt : value ≡ spelled order width components chunk = bytes_are (spelled order width components chunk) value b.2 in
+    let bytes_long : length (spelled order width components chunk) ≡ n * size
+    = ap (λ (c : Chunk). length (spelled order width components c)) are
+    ∙ ap length (spelled-plain order width components pieces)
+    ∙ length-concat size (map (ordered order width components) pieces) (ordered_sized order width components pieces sized)
+    ∙ ap (λ k. k * size) (length-map pieces (ordered order width components) ∙ length-cuts size n raw.items) in (
+      chunk,
+      record {
+        valid = ap (λ k. validity type k (flen raw)) count ∙ b.1;
+        elements_are = ap (λ k. elements type k (flen raw)) count;
+      },
+      record {
+        len = a.0;
+        taken = a.1;
+        elements = record { count_is = count; each = subst (AreElements type) (sym are) (AreElements-plain width components sign pieces sized) };
+        content = record { small = omega (arith, ap length spelt, bytes_long, t.len_is, t.small); spelt = spelt };
+      },
+    )
+encoded_found order sizes (fixed width components sign) fill value (vlen raw offsets) e =
+    let a = bind_ok (value_length order sizes (fixed width components sign) fill) _ value e in
+    let b = bind_ok (validity (fixed width components sign) (product sizes) (vlen raw offsets)) _ value a.2 in
+    let v = bind_ok (demand (nat_lt (product sizes * element_size width components) (2 ^ 64)) Overflow) _ tt b.1 in
+    absurd (let w = v.2 in cc)
+encoded_found order sizes (fixed width components sign) fill value (masked inner mask) e =
+    let a = bind_ok (value_length order sizes (fixed width components sign) fill) _ value e in
+    let b = bind_ok (validity (fixed width components sign) (product sizes) (masked inner mask)) _ value a.2 in
+    let v = bind_ok (demand (nat_lt (product sizes * element_size width components) (2 ^ 64)) Overflow) _ tt b.1 in
+    absurd (let w = v.2 in cc)
+encoded_found order sizes text fill value held e = absurd cc
+encoded_found order sizes bytes fill value held e = absurd cc
+encoded_found order sizes (optional type) fill value held e = absurd cc
+
+-- ---- decoding
+
+chunk_are : (x y : Chunk) → ok x ≡ ok y → y ≡ x
+chunk_are x y e = cc
+
+pub decoded_found : (order : Option Endianness) (sizes : List ℕ) (type : ElementType) (fill value : List ℕ) (chunk : Chunk) → decoded order sizes type fill value ≡ Ok chunk → Stands order sizes type fill value chunk
+decoded_found order sizes (fixed width components sign) fill value chunk e =
+    let type = fixed width components sign in
+    let size = element_size width components in
+    let n = product sizes in
+    let a = bind_ok (value_length order sizes type fill) _ chunk e in
+    let b = bind_ok (demand (length value == a.0) (InvalidBytesLength (length value) a.0)) _ chunk a.2 in
+    let t = taken order sizes width components sign fill a.0 a.1 in
+    let long_test = demand_ok (length value == a.0) (InvalidBytesLength (length value) a.0) b.0 b.1 in
+    let found : length value ≡ a.0 = grind (arith, nat_tests) in
+    let long : length value ≡ n * size = found ∙ t.len_is in
+    let pieces = cuts size n value in
+    let sized = cuts_sized size n value (omega (arith, long)) in
+    let turned_pieces = map (ordered order width components) pieces in
+    let are : chunk ≡ map plain turned_pieces
+    = chunk_are _ chunk b.2 ∙ read_pieces (λ piece. plain (ordered order width components piece)) size n value ∙ sym (plain_map order width components pieces) in
+    record {
+      len = a.0;
+      taken = a.1;
+      content = record {
+        elements = record {
+          count_is = ap length are ∙ length-map turned_pieces plain ∙ length-map pieces (ordered order width components) ∙ length-cuts size n value;
+          each = subst (AreElements type) (sym are) (AreElements-plain width components sign turned_pieces (ordered_sized order width components pieces sized));
+        };
+        spelt = sym (ap (spelled order width components) are ∙ spelled-plain order width components turned_pieces ∙ ap concat (ordered_back order width components pieces sized) ∙ concat-cuts size n value long);
+      };
+    }
+decoded_found order sizes text fill value chunk e = absurd cc
+decoded_found order sizes bytes fill value chunk e = absurd cc
+decoded_found order sizes (optional type) fill value chunk e = absurd cc
+
+two_tests : {A : Type 0} (r : Result ℕ CodecError) (test : ℕ → Bool) (cause : ℕ → CodecError) (x : A) (len : ℕ) → r ≡ Ok len → test len ≡ true → (r >>= λ n. demand (test n) (cause n) >>= λ _. ok x) ≡ ok x
+two_tests (Ok n) test cause x len e t =
+    let same : n ≡ len = number_is n len e in
+    let passed : test n ≡ true = ap test same ∙ t in
+    rw passed refl
+  where
+    number_is : (n m : ℕ) → ok n ≡ ok m → n ≡ m
+    number_is n m e = cc
+two_tests (Err d) test cause x len e t = absurd cc
+
+pub decoded_only : (order : Option Endianness) (sizes : List ℕ) (type : ElementType) (fill value : List ℕ) (chunk : Chunk) → Stands order sizes type fill value chunk → decoded order sizes type fill value ≡ Ok chunk
+decoded_only order sizes (fixed width components sign) fill value chunk stands =
+    let type = fixed width components sign in
+    let size = element_size width components in
+    let n = product sizes in
+    let t = taken order sizes width components sign fill stands.len stands.taken in
+    let p = pieces_of width components sign chunk stands.content.elements.each in
+    let turned_pieces = map (ordered order width components) p.pieces in
+    let sized = ordered_sized order width components p.pieces p.sized in
+    let value_is : value ≡ concat turned_pieces = stands.content.spelt ∙ ap (spelled order width components) p.are ∙ spelled-plain order width components p.pieces in
+    let number : length turned_pieces ≡ n
+    = length-map p.pieces (ordered order width components) ∙ sym (length-map p.pieces plain) ∙ sym (ap length p.are) ∙ stands.content.elements.count_is in
+    let long : length value ≡ n * size = ap length value_is ∙ length-concat size turned_pieces sized ∙ ap (λ k. k * size) number in
+    let found : length value ≡ stands.len = long ∙ sym t.len_is in
+    let passed : (length value == stands.len) ≡ true = grind (arith, nat_tests) in
+    let cut : cuts size n value ≡ turned_pieces = ap (cuts size n) value_is ∙ ap (λ k. cuts size k (concat turned_pieces)) (sym number) ∙ cuts-concat size turned_pieces sized in
+    let read : map (element_read order type value) (range_with_len 0 n) ≡ chunk
+    = read_pieces (λ piece. plain (ordered order width components piece)) size n value
+    ∙ ap (map (λ piece. plain (ordered order width components piece))) cut
+    ∙ sym (plain_map order width components turned_pieces)
+    ∙ ap (map plain) (ordered_back order width components p.pieces p.sized)
+    ∙ sym p.are in
+    two_tests (value_length order sizes type fill) (λ l. length value == l) (λ l. InvalidBytesLength (length value) l) (map (element_read order type value) (range_with_len 0 n)) stands.len stands.taken passed
+    ∙ ap ok read
+decoded_only order sizes text fill value chunk stands = absurd stands.content
+decoded_only order sizes bytes fill value chunk stands = absurd stands.content
+decoded_only order sizes (optional type) fill value chunk stands = absurd stands.content
+
+-- ---- at the calls
+
+-- a value that stands for a chunk has the chunk's length
+pub stands_length : (order : Option Endianness) (sizes : List ℕ) (type : ElementType) (fill value : List ℕ) (chunk : Chunk) (len : ℕ) → Stands order sizes type fill value chunk → value_length order sizes type fill ≡ Ok len → length value ≡ len
+stands_length order sizes type fill value chunk len stands e =
+    let a = bind_ok (value_length order sizes type fill) _ chunk (decoded_only order sizes type fill value chunk stands) in
+    let b = bind_ok (demand (length value == a.0) (InvalidBytesLength (length value) a.0)) _ chunk a.2 in
+    let long_test = demand_ok (length value == a.0) (InvalidBytesLength (length value) a.0) b.0 b.1 in
+    let long : length value ≡ a.0 = grind (arith, nat_tests) in
+    let same : a.0 ≡ len = ok_number a.0 len (sym a.1 ∙ e) in
+    long ∙ same
+  where
+    ok_number : (n m : ℕ) → ok n ≡ ok m → n ≡ m
+    ok_number n m e = cc
+
+-- a container that holds what the value was decoded to
+pub holds_stands : (order : Option Endianness) (sizes : List ℕ) (type : ElementType) (fill value : List ℕ) (held : Held) → IsOkAnd (decoded order sizes type fill value) (Holds type held) → (chunk : Chunk) × Holds type held chunk × Stands order sizes type fill value chunk
+holds_stands order sizes type fill value held h = by_answer (decoded order sizes type fill value) refl h
+  where
+    by_answer : (r : Result Chunk CodecError) → decoded order sizes type fill value ≡ r → IsOkAnd r (Holds type held) → (chunk : Chunk) × Holds type held chunk × Stands order sizes type fill value chunk
+    by_answer (Ok chunk) e h = (chunk, h, decoded_found order sizes type fill value chunk e)
+    by_answer (Err d) e h = absurd h
+
+pub holds_only : (order : Option Endianness) (sizes : List ℕ) (type : ElementType) (fill value : List ℕ) (held : Held) (chunk : Chunk) → IsOkAnd (decoded order sizes type fill value) (Holds type held) → Stands order sizes type fill value chunk → Holds type held chunk
+holds_only order sizes type fill value held chunk h stands =
+    subst (λ (r : Result Chunk CodecError). IsOkAnd r (Holds type held)) (decoded_only order sizes type fill value chunk stands) h

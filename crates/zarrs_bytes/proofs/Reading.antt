@@ -1,0 +1,178 @@
+-- What is read through a handle is what the definitions of a partial read say.
+use Rattle.std.proofs.Common.{◌≡◌, ℕ, zero, suc, ◌+◌, ◌-◌, ◌*◌, ◌<◌, ◌≤◌, ◌^◌, ◌&&◌, Bool, true, false, nat_le, Option, Some, None, Result, Ok, Err, List, [], ◌∷◌, ◌++◌, length, take, drop, map, map-id, get_or, replicate, arith, refl, ap, sym, ◌∙◌, subst}
+use Rattle.std.specs.List.{All, concat, flat_map, list_all, range_with_len}
+use Rattle.std.specs.Prelude.{IsOkAnd}
+use Rattle.std.proofs.lemmas.Bool.{and_parts}
+use Rattle.std.proofs.lemmas.Bool.Decides.{nat_tests}
+use Rattle.std.proofs.lemmas.List.{append_assoc, append-nil, length-drop, length-take-le}
+use Rattle.std.proofs.lemmas.List.Concat.{flat_map-append}
+use Rattle.std.proofs.lemmas.List.FromFn.{map-range_with_len_more}
+use Rattle.zarrs_chunk.specs.Answer.{◌>>=◌, demand, Excused}
+use Rattle.zarrs_chunk.specs.declared.codec_error.CodecError.{CodecError}
+use Rattle.zarrs_chunk.specs.declared.codec_error.CodecError.TheVariants.{InvalidByteRange}
+use Rattle.zarrs_data_type.specs.Element.{Element, plain, Chunk, fill_element}
+use Rattle.zarrs_data_type.specs.ElementType.{ElementType, fixed, text, bytes, optional, element_size}
+use Rattle.zarrs_data_type.specs.declared.endianness.Endianness.{Endianness}
+use Rattle.zarrs_array_bytes.specs.Elements.{piece}
+use Rattle.zarrs_array_bytes.specs.Held.{Raw, flen}
+use Rattle.zarrs_array_bytes.specs.Validity.{Holds}
+use Rattle.zarrs_bytes.specs.ByteOrder.{cuts, turned, ordered}
+use Rattle.zarrs_bytes.specs.ByteRanges.{range_indices, read_value, read_ranges}
+use Rattle.zarrs_bytes.specs.BytesCodec.{element_read, turn_size}
+use Rattle.zarrs_bytes.specs.PartialRead.{place_bytes, size_of, IsFilledType, read_places}
+use Rattle.zarrs_bytes.specs.declared.codec.byte_range.ByteRange.{ByteRange}
+use Rattle.zarrs_bytes.proofs.Coding.{ok}
+use Rattle.zarrs_bytes.proofs.Cuts.{AllSized, length-concat, cuts-concat}
+use Rattle.zarrs_bytes.proofs.Ranges.{read_value-places}
+use Rattle.zarrs_bytes.proofs.Spelled.{length-turned, turned_is, Holds-pieces}
+
+-- ---- pieces at places
+
+from_le : (a b : ℕ) → nat_le a b ≡ true → a ≤ b
+from_le a b h = grind (arith, nat_tests)
+
+pieces_sized : (size : ℕ) (value places : List ℕ) → list_all (λ place. nat_le (place * size + size) (length value)) places ≡ true → AllSized size (map (piece size value) places)
+pieces_sized size value [] h = tt
+pieces_sized size value (place ∷ places) h =
+    let both = and_parts (nat_le (place * size + size) (length value)) (list_all (λ place. nat_le (place * size + size) (length value)) places) h in
+    let within : place * size + size ≤ length value = from_le _ _ both.0 in
+    let one : place * size + size - place * size ≡ size = omega arith in (
+      ap (λ n. length (take n (drop (place * size) value))) one ∙ length-take-le size (drop (place * size) value) (omega (arith, length-drop (place * size) value)),
+      pieces_sized size value places both.1,
+    )
+
+read_map : (order : Option Endianness) (width components : ℕ) (sign : Bool) (value places : List ℕ) → map (λ piece. plain (ordered order width components piece)) (map (piece (element_size width components) value) places) ≡ map (element_read order (fixed width components sign) value) places
+read_map order width components sign value [] = refl
+read_map order width components sign value (place ∷ places) =
+    ap (λ (rest : List Element). plain (ordered order width components (piece (element_size width components) value place)) ∷ rest) (read_map order width components sign value places)
+
+fills_sized : (size : ℕ) (fill places : List ℕ) → length fill ≡ size → AllSized size (map (λ _. fill) places)
+fills_sized size fill [] h = tt
+fills_sized size fill (place ∷ places) h = (h, fills_sized size fill places h)
+
+fills_joined : (fill places : List ℕ) → flat_map (λ _. fill) places ≡ concat (map (λ (piece : List ℕ). piece) (map (λ _. fill) places))
+fills_joined fill [] = refl
+fills_joined fill (place ∷ places) = ap (λ (rest : List ℕ). fill ++ rest) (fills_joined fill places)
+
+fills_read : (fill places : List ℕ) → map (λ piece. plain piece) (map (λ _. fill) places) ≡ map (λ _. plain fill) places
+fills_read fill [] = refl
+fills_read fill (place ∷ places) = ap (λ (rest : List Element). plain fill ∷ rest) (fills_read fill places)
+
+-- ---- steps
+
+abbrev inside : Bool → List ℕ → Result (Option (List ℕ)) CodecError
+inside test x = (demand test InvalidByteRange >>= λ _. ok x) >>= λ y. ok (Some y)
+
+abbrev elements_if : Bool → Chunk → Result Chunk CodecError
+elements_if test chunk = demand test InvalidByteRange >>= λ _. ok chunk
+
+some_if : (test : Bool) (x y : List ℕ) (chunk : Chunk) (P : Chunk → Type 0) → inside test x ≡ Ok (Some y) → (test ≡ true → y ≡ x → P chunk) → IsOkAnd (elements_if test chunk) P
+some_if true x y chunk P h f = f refl cc
+some_if false x y chunk P h f = absurd cc
+
+err_if : (test : Bool) (x : List ℕ) (chunk : Chunk) (e : CodecError) → inside test x ≡ Err e → elements_if test chunk ≡ Err e
+err_if true x chunk e h = absurd cc
+err_if false x chunk e h = cc
+
+none_if : (test : Bool) (x : List ℕ) (P : Type 0) → inside test x ≡ Ok None → P
+none_if true x P h = absurd cc
+none_if false x P h = absurd cc
+
+-- ---- what the handle read
+
+abbrev test_of : ℕ → List ℕ → List ℕ → Bool
+test_of size value places = list_all (λ place. nat_le (place * size + size) (length value)) places
+
+ranges_are : (size : ℕ) (value places : List ℕ) (ranges : List ByteRange) → 0 < size → range_indices ranges ≡ place_bytes size places → All (λ range. range.start < range.end) ranges → read_ranges (Some value) ranges ≡ inside (test_of size value places) (concat (map (piece size value) places))
+ranges_are size value places ranges positive numbers filled =
+    ap (λ (r : Result (List ℕ) CodecError). r >>= λ y. ok (Some y)) (read_value-places size value places ranges positive numbers filled)
+
+-- bytes that were read, turned round, hold the elements at the places
+pub at_some : (order : Option Endianness) (type : ElementType) (fill places bytes' : List ℕ) (stored : Option (List ℕ)) (ranges : List ByteRange) (raw : Raw) → IsFilledType type fill → range_indices ranges ≡ place_bytes (size_of type) places → All (λ range. range.start < range.end) ranges
+    → read_ranges stored ranges ≡ Ok (Some bytes') → raw.items ≡ turned (turn_size order type) bytes' → length bytes' < 2 ^ 64 → IsOkAnd (read_places order type fill stored places) (Holds type (flen raw))
+at_some order (fixed width components sign) fill places bytes' None ranges raw t numbers filled read is small = absurd cc
+at_some order (fixed width components sign) fill places bytes' (Some value) ranges raw t numbers filled read is small =
+    let type = fixed width components sign in
+    let size = element_size width components in
+    let pieces = map (piece size value) places in
+    some_if (test_of size value places) (concat pieces) bytes' (map (element_read order type value) places) (Holds type (flen raw))
+    (sym (ranges_are size value places ranges t.1 numbers filled) ∙ read)
+    (λ inside same.
+    let sized = pieces_sized size value places inside in
+    let long : length bytes' ≡ length pieces * size = ap length same ∙ length-concat size pieces sized in
+    let cut : cuts size (length pieces) bytes' ≡ pieces = ap (cuts size (length pieces)) same ∙ cuts-concat size pieces sized in
+    let turned_so = is ∙ turned_is order width components sign (length pieces) bytes' long ∙ ap (λ (xs : List (List ℕ)). concat (map (ordered order width components) xs)) cut in
+    let short : length raw.items < 2 ^ 64 = omega (arith, ap length is, length-turned (turn_size order type) bytes', small) in
+    subst (Holds type (flen raw)) (read_map order width components sign value places) (Holds-pieces order width components sign raw pieces sized turned_so short))
+at_some order text fill places bytes' stored ranges raw t numbers filled read is small = absurd t
+at_some order bytes fill places bytes' stored ranges raw t numbers filled read is small = absurd t
+at_some order (optional type) fill places bytes' stored ranges raw t numbers filled read is small = absurd t
+
+-- a refused read is the refusal of the places
+pub at_err : (order : Option Endianness) (type : ElementType) (fill places : List ℕ) (stored : Option (List ℕ)) (ranges : List ByteRange) (e : CodecError) → IsFilledType type fill → range_indices ranges ≡ place_bytes (size_of type) places → All (λ range. range.start < range.end) ranges
+    → read_ranges stored ranges ≡ Err e → read_places order type fill stored places ≡ Err e
+at_err order (fixed width components sign) fill places None ranges e t numbers filled read = absurd cc
+at_err order (fixed width components sign) fill places (Some value) ranges e t numbers filled read =
+    let size = element_size width components in
+    err_if (test_of size value places) (concat (map (piece size value) places)) (map (element_read order (fixed width components sign) value) places) e
+    (sym (ranges_are size value places ranges t.1 numbers filled) ∙ read)
+at_err order text fill places stored ranges e t numbers filled read = absurd t
+at_err order bytes fill places stored ranges e t numbers filled read = absurd t
+at_err order (optional type) fill places stored ranges e t numbers filled read = absurd t
+
+-- where nothing is stored, copies of the fill element hold the elements at the places
+pub at_none : (order : Option Endianness) (type : ElementType) (fill places : List ℕ) (stored : Option (List ℕ)) (ranges : List ByteRange) (raw : Raw) → IsFilledType type fill → range_indices ranges ≡ place_bytes (size_of type) places → All (λ range. range.start < range.end) ranges
+    → read_ranges stored ranges ≡ Ok None → raw.items ≡ flat_map (λ _. fill) places → length raw.items < 2 ^ 64 → IsOkAnd (read_places order type fill stored places) (Holds type (flen raw))
+at_none order (fixed width components sign) fill places None ranges raw t numbers filled read is small =
+    let pieces = map (λ _. fill) places in
+    subst (Holds (fixed width components sign) (flen raw)) (fills_read fill places)
+    (Holds-pieces None width components sign raw pieces (fills_sized (element_size width components) fill places t.0) (is ∙ fills_joined fill places) small)
+at_none order (fixed width components sign) fill places (Some value) ranges raw t numbers filled read is small =
+    let size = element_size width components in
+    none_if (test_of size value places) (concat (map (piece size value) places)) _ (sym (ranges_are size value places ranges t.1 numbers filled) ∙ read)
+at_none order text fill places stored ranges raw t numbers filled read is small = absurd t
+at_none order bytes fill places stored ranges raw t numbers filled read is small = absurd t
+at_none order (optional type) fill places stored ranges raw t numbers filled read is small = absurd t
+
+pub Excused-weaker : {P Q : Type 0} (test : Bool) → (P → Q) → Excused test P → Excused test Q
+Excused-weaker test f h = λ e. f (h e)
+
+-- ---- fill elements
+
+const_flat_map : (fill : List ℕ) (a b n : ℕ) → flat_map (λ _. fill) (range_with_len a n) ≡ flat_map (λ _. fill) (range_with_len b n)
+const_flat_map fill a b zero = refl
+const_flat_map fill a b (suc n) = ap (λ (rest : List ℕ). fill ++ rest) (const_flat_map fill (a + 1) (b + 1) n)
+
+-- copies for one run more
+pub fills_more : (fill : List ℕ) (done joined : List ℕ) (start len : ℕ) (before after : List ℕ) → before ≡ flat_map (λ _. fill) done → after ≡ before ++ flat_map (λ _. fill) (range_with_len 0 len) → joined ≡ done ++ range_with_len start len → after ≡ flat_map (λ _. fill) joined
+fills_more fill done joined start len before after e f g =
+    f ∙ ap (λ (l : List ℕ). l ++ flat_map (λ _. fill) (range_with_len 0 len)) e
+    ∙ ap (λ (l : List ℕ). flat_map (λ _. fill) done ++ l) (const_flat_map fill 0 start len)
+    ∙ sym (flat_map-append (λ _. fill) done (range_with_len start len))
+    ∙ ap (flat_map (λ _. fill)) (sym g)
+
+single_copies : (byte a n : ℕ) → replicate n byte ≡ flat_map (λ _. byte ∷ []) (range_with_len a n)
+single_copies byte a zero = refl
+single_copies byte a (suc n) = ap (λ (rest : List ℕ). byte ∷ rest) (single_copies byte (a + 1) n)
+
+single_is : (fill : List ℕ) → length fill ≡ 1 → get_or fill 0 0 ∷ [] ≡ fill
+single_is [] h = absurd (omega arith)
+single_is (byte ∷ []) h = refl
+single_is (byte ∷ b ∷ fill) h = absurd (omega arith)
+
+-- a fill element of one byte, set so many times
+pub single_fill : (fill before after block : List ℕ) (n : ℕ) → length fill ≡ 1 → block ≡ replicate n (get_or fill 0 0) → after ≡ before ++ block → after ≡ before ++ flat_map (λ _. fill) (range_with_len 0 n)
+single_fill fill before after block n h e f =
+    f ∙ ap (λ (l : List ℕ). before ++ l) (e ∙ single_copies (get_or fill 0 0) 0 n ∙ ap (λ (l : List ℕ). flat_map (λ _. l) (range_with_len 0 n)) (single_is fill h))
+
+-- one copy more
+pub copy_more : (fill before now next : List ℕ) (index : ℕ) → now ≡ before ++ flat_map (λ _. fill) (range_with_len 0 index) → next ≡ now ++ fill → next ≡ before ++ flat_map (λ _. fill) (range_with_len 0 (index + 1))
+copy_more fill before now next index e f =
+    let more : range_with_len 0 (index + 1) ≡ range_with_len 0 index ++ index ∷ [] = range_with_len-more 0 index ∙ ap (λ k. range_with_len 0 index ++ k ∷ []) (let z : 0 + index ≡ index = omega arith in z) in
+    f ∙ ap (λ (l : List ℕ). l ++ fill) e
+    ∙ append_assoc before (flat_map (λ _. fill) (range_with_len 0 index)) fill
+    ∙ ap (λ (l : List ℕ). before ++ l) (ap (λ (l : List ℕ). flat_map (λ _. fill) (range_with_len 0 index) ++ l) (sym (append-nil fill)) ∙ sym (flat_map-append (λ _. fill) (range_with_len 0 index) (index ∷ [])) ∙ ap (flat_map (λ _. fill)) (sym more))
+  where
+    range_with_len-more : (a n : ℕ) → range_with_len a (n + 1) ≡ range_with_len a n ++ (a + n) ∷ []
+    range_with_len-more a n =
+        sym (map-id (range_with_len a (n + 1))) ∙ map-range_with_len_more (λ (x : ℕ). x) a n (a + n) refl ∙ ap (λ (l : List ℕ). l ++ (a + n) ∷ []) (map-id (range_with_len a n))

@@ -1,0 +1,12 @@
+use Rattle.std.proofs.Common.{◌≡◌, ◌<◌, take}
+use Rattle.std.specs.List.{All}
+use Rattle.zarrs_chunk.specs.Runs.{joined_runs}
+use Rattle.zarrs_bytes.specs.ByteRanges.{range_indices}
+use Rattle.zarrs_bytes.specs.PartialRead.{place_bytes}
+use Rattle.zarrs_bytes.proofs.bytes_codec_partial.run_ranges.Given as goal
+
+abbrev pub invariant-loop-start : goal.invariant-loop-start
+invariant-loop-start l = record {
+  bytes : range_indices l.ranges.items ≡ place_bytes l.size (joined_runs (take l.start-index l.runs));
+  filled : All (λ range. range.start < range.end) l.ranges.items;
+}

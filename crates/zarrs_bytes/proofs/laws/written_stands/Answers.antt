@@ -1,0 +1,5 @@
+use Rattle.zarrs_bytes.proofs.CodecLaws.{written_stands}
+use Rattle.zarrs_bytes.proofs.laws.written_stands.Goals as goal
+
+pub returns : goal.returns
+returns c = written_stands

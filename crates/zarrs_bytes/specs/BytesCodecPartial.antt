@@ -1,0 +1,20 @@
+-- What a partial decoder of `bytes` is made of.
+use Rattle.std.specs.Prelude.{ℕ, Option, List}
+use Rattle.zarrs_data_type.specs.ElementType.{ElementType}
+use Rattle.zarrs_data_type.specs.declared.endianness.Endianness.{Endianness}
+use Rattle.zarrs_bytes.specs.declared.bytes_codec_partial.BytesCodecPartial.{BytesCodecPartial}
+
+-- the chunk that a decoder reads: the byte order, the shape, the type and the fill value
+pub record ChunkForm : Type 0 where
+  pub order : Option Endianness
+  pub sizes : List ℕ
+  pub type : ElementType
+  pub fill : List ℕ
+
+abbrev pub form_of : {H : Type 0} → BytesCodecPartial H → ChunkForm
+form_of decoder =
+    record { order = decoder.codec; sizes = decoder.shape; type = decoder.data_type; fill = decoder.fill_value }
+
+-- the handle that it reads
+abbrev pub handle_of : {H : Type 0} → BytesCodecPartial H → H
+handle_of decoder = decoder.handle

@@ -1,0 +1,197 @@
+ghost use Rattle.std.specs.Prelude.{◌≡◌, ◌<◌, ℕ, List, Ok, Some, None, IfOk, IfSome, false};
+ghost use Rattle.zarrs_chunk.specs.Answer.{Answers, AnswersBy, memory, never, seen};
+ghost use Rattle.zarrs_chunk.specs.ChunkShape.{product};
+ghost use Rattle.zarrs_data_type.specs.Element.{Chunk};
+ghost use Rattle.zarrs_array_bytes.specs.Held.{flen, raw_of};
+ghost use Rattle.zarrs_array_bytes.specs.Validity.{Holds};
+ghost use Rattle.zarrs_bytes.specs.ByteOrder.{has_order};
+ghost use Rattle.zarrs_bytes.specs.BytesCodec.{value_length, encoded, decoded, turn_size as turn_size_of, needs_memory, Stands, Written};
+
+use crate::byte_order::turn;
+use crate::codec::BytesRepresentation;
+use std::alloc::Global;
+use std::marker::Model;
+use zarrs_array_bytes::{ArrayBytes, ArrayBytesRaw};
+use zarrs_chunk::{ChunkShape, CodecError, CodecName};
+use zarrs_data_type::{DataType, Endianness, FillValue, HasComponents};
+
+/// The array codec `bytes`: a chunk's value is its elements in row-major order, each component in
+/// the byte order that was asked for (Zarr v3 codec `bytes`). It takes every fixed data type.
+#[derive(Clone, Copy, Debug, PartialEq, Eq)]
+pub struct BytesCodec {
+    endianness: Option<Endianness>,
+}
+
+impl Model for BytesCodec {
+    ghost use Rattle.std.specs.Prelude.{Option};
+    ghost use Rattle.zarrs_data_type.specs.declared.endianness.Endianness.{Endianness};
+
+    ghost Value = { Option Endianness };
+
+    ghost view = { λ codec. codec.endianness };
+
+    ghost inverse = { λ order. record { endianness = order } };
+}
+
+/// How many elements a chunk has, and how many bytes its value.
+#[derive(Clone, Copy)]
+struct ChunkLengths {
+    elements: u64,
+    bytes: u64,
+}
+
+impl BytesCodec {
+    /// The codec with this byte order. Without one it takes only components of one byte.
+    pub fn new(endianness: Option<Endianness>) -> BytesCodec
+        ensures { result ≡ endianness }
+    {
+        BytesCodec { endianness }
+    }
+
+    /// The codec that writes the lowest byte of each component first.
+    pub fn little() -> BytesCodec
+        ensures { result ≡ Some Endianness.Little }
+    {
+        BytesCodec::new(Some(Endianness::Little))
+    }
+
+    /// The codec that writes the highest byte of each component first.
+    pub fn big() -> BytesCodec
+        ensures { result ≡ Some Endianness.Big }
+    {
+        BytesCodec::new(Some(Endianness::Big))
+    }
+
+    /// Whether the codec takes components of so many bits.
+    fn takes(&self, component_size_bits: u64) -> bool
+        ensures { result ≡ has_order self.now component_size_bits }
+    {
+        match self.endianness {
+            None => component_size_bits <= 8,
+            Some(_) => true,
+        }
+    }
+
+    /// The bytes of the components that are turned round, or `None` where all stay in their places.
+    pub(crate) fn turn_size(&self, data_type: &DataType) -> Option<usize>
+        ensures size { result ≡ turn_size_of self.now data_type.now }
+        ensures positive { IfSome result (λ size. 0 < size) }
+    {
+        if self.endianness != Some(Endianness::Big) {
+            return None;
+        }
+        let components = HasComponents::components(data_type)?;
+        if components.component_size_bits <= 8 {
+            return None;
+        }
+        Some(components.component_size_bits.div_ceil(8) as usize)
+    }
+
+    fn lengths(
+        &self,
+        shape: &ChunkShape,
+        data_type: &DataType,
+        fill_value: &FillValue,
+    ) -> Result<ChunkLengths, CodecError>
+        ensures answer { seen (λ lengths. lengths.bytes) result ≡ value_length self.now shape.now data_type.now fill_value.now }
+        ensures elements { IfOk result (λ lengths. lengths.elements ≡ product shape.now) }
+    {
+        let Some(components) = HasComponents::components(data_type) else {
+            return Err(CodecError::UnsupportedDataType(CodecName::Bytes));
+        };
+        if !fill_value.fits(data_type) {
+            return Err(CodecError::InvalidFillValue);
+        }
+        let elements = shape.num_elements()?;
+        let size = components.num_components * components.component_size_bits.div_ceil(8);
+        let Some(bytes) = elements.checked_mul(size) else {
+            return Err(CodecError::Overflow);
+        };
+        if !self.takes(components.component_size_bits) {
+            return Err(CodecError::EndiannessMissing);
+        }
+        Ok(ChunkLengths { elements, bytes })
+    }
+
+    /// How many bytes the value of such a chunk has. Refusals, the first that holds:
+    /// `UnsupportedDataType` for a type that isn't fixed; `InvalidFillValue`; `Overflow` where 64
+    /// bits don't count the elements, or their bytes; `EndiannessMissing` where a component has more
+    /// than one byte and there is no byte order.
+    pub fn encoded_representation(
+        &self,
+        shape: &ChunkShape,
+        data_type: &DataType,
+        fill_value: &FillValue,
+    ) -> Result<BytesRepresentation, CodecError>
+        ensures { result ≡ seen BytesRepresentation.FixedSize (value_length self.now shape.now data_type.now fill_value.now) }
+    {
+        let lengths = self.lengths(shape, data_type, fill_value)?;
+        Ok(BytesRepresentation::FixedSize(lengths.bytes))
+    }
+
+    /// The value that is written for the chunk that `elements` hold. Refusals, the first that
+    /// holds: those of `encoded_representation`, those of `ArrayBytes::validate`; `OutOfMemory`.
+    ///
+    /// Only borrowed bytes that are turned round take memory. Where no byte changes its place, the
+    /// answer is what was given.
+    pub fn encode<'a>(
+        &self,
+        alloc: Global,
+        elements: ArrayBytes<'a>,
+        shape: &ChunkShape,
+        data_type: &DataType,
+        fill_value: &FillValue,
+    ) -> Result<ArrayBytesRaw<'a>, CodecError>
+        ensures found { IfOk result (λ value. (chunk : Chunk) × Holds data_type.now elements.entry chunk × Written self.now shape.now data_type.now fill_value.now (raw_of value).items chunk) }
+        ensures only { (chunk : Chunk) (value : List ℕ) → Holds data_type.now elements.entry chunk → Written self.now shape.now data_type.now fill_value.now value chunk → Answers memory (λ bytes. (raw_of bytes).items) result (Ok value) }
+        ensures exact { Answers memory (λ value. (raw_of value).items) result (encoded self.now shape.now data_type.now fill_value.now elements.entry) }
+        ensures in_place { needs_memory self.now data_type.now elements.entry ≡ false → seen (λ value. (raw_of value).items) result ≡ encoded self.now shape.now data_type.now fill_value.now elements.entry }
+        ensures kept { turn_size_of self.now data_type.now ≡ None → IfOk result (λ value. elements.entry ≡ flen (raw_of value)) }
+    {
+        let lengths = self.lengths(shape, data_type, fill_value)?;
+        elements.validate(lengths.elements, data_type)?;
+        let raw = elements.into_fixed()?;
+        turn(alloc, raw, self.turn_size(data_type))
+    }
+
+    /// The chunk that a value stands for. Refusals, the first that holds: those of
+    /// `encoded_representation`; `InvalidBytesLength` where the value has another length;
+    /// `OutOfMemory`.
+    ///
+    /// Only borrowed bytes that are turned round take memory. Where no byte changes its place, the
+    /// answer holds what was given.
+    pub fn decode<'a>(
+        &self,
+        alloc: Global,
+        value: ArrayBytesRaw<'a>,
+        shape: &ChunkShape,
+        data_type: &DataType,
+        fill_value: &FillValue,
+    ) -> Result<ArrayBytes<'a>, CodecError>
+        ensures found { IfOk result (λ elements. (chunk : Chunk) × Holds data_type.now elements chunk × Stands self.now shape.now data_type.now fill_value.now (raw_of value.entry).items chunk) }
+        ensures only { (chunk : Chunk) → Stands self.now shape.now data_type.now fill_value.now (raw_of value.entry).items chunk → AnswersBy memory (Holds data_type.now) result (Ok chunk) }
+        ensures exact { AnswersBy memory (Holds data_type.now) result (decoded self.now shape.now data_type.now fill_value.now (raw_of value.entry).items) }
+        ensures in_place { needs_memory self.now data_type.now (flen (raw_of value.entry)) ≡ false → AnswersBy never (Holds data_type.now) result (decoded self.now shape.now data_type.now fill_value.now (raw_of value.entry).items) }
+        ensures kept { turn_size_of self.now data_type.now ≡ None → IfOk result (λ elements. elements ≡ flen (raw_of value.entry)) }
+    {
+        let lengths = self.lengths(shape, data_type, fill_value)?;
+        let found = value.len() as u64;
+        if found != lengths.bytes {
+            return Err(CodecError::InvalidBytesLength {
+                len: found,
+                expected: lengths.bytes,
+            });
+        }
+        let elements = turn(alloc, value, self.turn_size(data_type))?;
+        Ok(ArrayBytes::new_flen(elements))
+    }
+}
+
+impl Default for BytesCodec {
+    /// The codec in the native byte order, which is little.
+    fn default() -> BytesCodec
+        ensures { result ≡ Some Endianness.Little }
+    {
+        BytesCodec::new(Some(Endianness::native()))
+    }
+}

@@ -1,0 +1,273 @@
+ghost use Rattle.std.specs.Prelude.{◌≡◌, ◌<◌, ◌+◌, ◌*◌, ◌-◌, ◌^◌, ◌++◌, true, Ok, IfOk, OnOk, IfErr, All, is_some, is_ok, sum_by, length};
+ghost use Rattle.std.specs.List.{flat_map, range_with_len};
+ghost use Rattle.zarrs_chunk.specs.ChunkShape.{product};
+ghost use Rattle.zarrs_chunk.specs.Answer.{Answers, AnswersBy, fault, memory, memory_or_fault, is_fault, seen};
+ghost use Rattle.zarrs_chunk.specs.Indexer.{selection_of};
+ghost use Rattle.zarrs_chunk.specs.Runs.{joined_runs};
+ghost use Rattle.zarrs_chunk.specs.Selection.{places_of};
+ghost use Rattle.zarrs_array_bytes.specs.Held.{raw_of};
+ghost use Rattle.zarrs_array_bytes.specs.Validity.{Holds};
+ghost use Rattle.zarrs_bytes.specs.ByteRanges.{range_indices};
+ghost use Rattle.zarrs_bytes.specs.BytesCodec.{value_length};
+ghost use Rattle.zarrs_bytes.specs.HandleState.{after_reading};
+ghost use Rattle.zarrs_bytes.specs.PartialRead.{place_bytes, planned, read, read_places, size_of, IsFilledType};
+ghost use Rattle.zarrs_bytes.specs.Refused.{outcome};
+
+use crate::byte_order::turn;
+use crate::bytes_codec::BytesCodec;
+use crate::codec::{ByteRange, BytesPartialDecoderTraits, Refused};
+use std::alloc::{AllocError, Global};
+use std::borrow::CowSlice;
+use zarrs_array_bytes::ArrayBytes;
+use zarrs_chunk::{ChunkShape, CodecError, Indexer};
+use zarrs_data_type::{DataType, FillValue};
+
+/// Reads a chunk of [`BytesCodec`] in part, over a storage handle that it owns. A read looks at the
+/// bytes of the places that are asked for and at no others: it checks neither the value's length
+/// nor what else stands there.
+#[derive(Drop)]
+pub struct BytesCodecPartial<H> {
+    handle: H,
+    codec: BytesCodec,
+    shape: ChunkShape,
+    data_type: DataType,
+    fill_value: FillValue,
+    ghost taken: { is_ok (value_length codec shape data_type fill_value) ≡ true },
+}
+
+/// One range of bytes for each run of elements of `size` bytes.
+fn run_ranges(alloc: Global, size: u64, runs: &[(u64, u64)]) -> Result<Vec<ByteRange>, AllocError>
+    requires filled { All (λ run. 0 < run.1) runs.now }
+    requires ends { All (λ run. (run.0 + run.1) * size < 2 ^ 64) runs.now }
+    requires positive { 0 < size }
+    ensures bytes { IfOk result (λ ranges. range_indices ranges.items ≡ place_bytes size (joined_runs runs.now)) }
+    ensures filled { IfOk result (λ ranges. All (λ range. range.start < range.end) ranges.items) }
+{
+    let mut ranges = Vec::with_capacity(alloc, runs.len())?;
+    for (start, len) in runs {
+        let first = *start * size;
+        match ByteRange::new(first..first + *len * size) {
+            None => unreachable!(),
+            Some(range) => ranges.push(range)?,
+        }
+    }
+    Ok(ranges)
+}
+
+/// Appends so many copies of the fill element. Of one byte they are set at once.
+fn append_fill(
+    alloc: Global,
+    bytes: &mut Vec<u8>,
+    fill: &[u8],
+    count: u64,
+) -> Result<(), AllocError>
+    ensures { OnOk result (bytes.new.items ≡ bytes.old.items ++ flat_map (λ _. fill.now) (range_with_len 0 count)) }
+{
+    if fill.len() == 1 {
+        let block = vec![in alloc; fill[0]; count as usize]?;
+        bytes.extend_from_slice(block.as_slice())?;
+        return Ok(());
+    }
+    for _copy in 0..count {
+        bytes.extend_from_slice(fill)?;
+    }
+    Ok(())
+}
+
+/// The fill element for each place of the runs.
+fn fill_runs(alloc: Global, fill: &[u8], runs: &[(u64, u64)]) -> Result<Vec<u8>, AllocError>
+    ensures { IfOk result (λ bytes. bytes.items ≡ flat_map (λ _. fill.now) (joined_runs runs.now)) }
+{
+    let mut bytes = Vec::new(alloc);
+    for (_, len) in runs {
+        append_fill(alloc, &mut bytes, fill, *len)?;
+    }
+    Ok(bytes)
+}
+
+impl BytesCodec {
+    ghost use Rattle.zarrs_bytes.specs.BytesCodecPartial.{form_of, handle_of};
+
+    /// The elements at the places of these runs, by the ranges of their bytes.
+    fn read_ranges<H: BytesPartialDecoderTraits>(
+        &self,
+        alloc: Global,
+        handle: &mut H,
+        data_type: &DataType,
+        fill: &[u8],
+        runs: &[(u64, u64)],
+        ranges: &[ByteRange],
+    ) -> Result<ArrayBytes<'static>, CodecError>
+        requires fixed { IsFilledType data_type.now fill.now }
+        requires bytes { range_indices ranges.now ≡ place_bytes (size_of data_type.now) (joined_runs runs.now) }
+        requires filled { All (λ range. range.start < range.end) ranges.now }
+        ensures answer { AnswersBy memory_or_fault (Holds data_type.now) result (read_places self.now data_type.now fill.now (H.state handle.old).value (joined_runs runs.now)) }
+        ensures left { H.state handle.new ≡ after_reading (is_fault result) (H.state handle.old) }
+        ensures same_reference { H.lent handle.new ≡ H.lent handle.old }
+    {
+        match handle.partial_decode_many(alloc, ranges)? {
+            None => {
+                let bytes = fill_runs(alloc, fill, runs)?;
+                Ok(ArrayBytes::new_flen(CowSlice::Owned(bytes)))
+            }
+            Some(bytes) => {
+                let turn_size = self.turn_size(data_type);
+                let elements = turn(alloc, CowSlice::Owned(bytes), turn_size)?;
+                Ok(ArrayBytes::new_flen(elements))
+            }
+        }
+    }
+
+    /// What a partial decoder keeps of a chunk that the codec takes.
+    fn parts_of_decoder(
+        &self,
+        shape: &ChunkShape,
+        data_type: &DataType,
+        fill_value: &FillValue,
+    ) -> Result<(ChunkShape, DataType, FillValue), CodecError>
+        ensures answer { Answers memory (λ parts. parts) result (seen (λ _. (shape.now, data_type.now, fill_value.now)) (value_length self.now shape.now data_type.now fill_value.now)) }
+        ensures taken { IfOk result (λ parts. is_ok (value_length self.now parts.0 parts.1 parts.2) ≡ true) }
+    {
+        self.encoded_representation(shape, data_type, fill_value)?;
+        let shape = shape.clone()?;
+        let data_type = data_type.clone()?;
+        let fill_value = fill_value.clone()?;
+        Ok((shape, data_type, fill_value))
+    }
+
+    /// A decoder of a chunk in part, over a handle. Refusals: those of `encoded_representation`;
+    /// `OutOfMemory`. A refusal hands the handle back as it was.
+    pub fn partial_decoder<H: BytesPartialDecoderTraits>(
+        &self,
+        alloc: Global,
+        handle: H,
+        shape: &ChunkShape,
+        data_type: &DataType,
+        fill_value: &FillValue,
+    ) -> Result<BytesCodecPartial<H>, Refused<H>>
+        ensures answer { Answers memory (λ made. made) (outcome result) (seen (λ _. tt) (value_length self.now shape.now data_type.now fill_value.now)) }
+        ensures form { IfOk result (λ decoder. form_of decoder ≡ record { order = self.now; sizes = shape.now; type = data_type.now; fill = fill_value.now }) }
+        ensures over { IfOk result (λ decoder. handle_of decoder ≡ handle) }
+        ensures handed_back { IfErr result (λ refused. refused.handle ≡ handle) }
+    {
+        match self.parts_of_decoder(shape, data_type, fill_value) {
+            Ok((shape, data_type, fill_value)) => Ok(BytesCodecPartial {
+                handle,
+                codec: *self,
+                shape,
+                data_type,
+                fill_value,
+            }),
+            Err(error) => Err(Refused { error, handle }),
+        }
+    }
+}
+
+impl<H: BytesPartialDecoderTraits> BytesCodecPartial<H> {
+    ghost use Rattle.zarrs_bytes.specs.BytesCodecPartial.{form_of, handle_of};
+
+    /// The type of the elements.
+    pub fn data_type(&self) -> &DataType
+        ensures { result.now ≡ (form_of self.now).type }
+    {
+        &self.data_type
+    }
+
+    /// The elements that the indexer means, in its order: those of the stored value by the places'
+    /// bytes alone, and the fill value at each place where nothing is stored. Refusals, the first
+    /// that holds: those of `Indexer::places`; `InvalidByteRange` where a place's bytes lie past the
+    /// value's end; `OutOfMemory` and `Storage`.
+    pub fn partial_decode(
+        &mut self,
+        alloc: Global,
+        indexer: &Indexer,
+    ) -> Result<ArrayBytes<'static>, CodecError>
+        ensures answer { let form = form_of self.old in AnswersBy memory_or_fault (Holds form.type) result (read form.order form.sizes form.type form.fill (H.state (handle_of self.old)).value (selection_of indexer.now)) }
+        ensures left { H.state (handle_of self.new) ≡ after_reading (is_fault result) (H.state (handle_of self.old)) }
+        ensures same_reference { H.lent (handle_of self.new) ≡ H.lent (handle_of self.old) }
+        ensures form_kept { form_of self.new ≡ form_of self.old }
+    {
+        let runs = indexer.runs(alloc, &self.shape)?;
+        let size = self.element_size();
+        let ranges = run_ranges(alloc, size as u64, runs.as_slice())?;
+        self.codec.read_ranges(
+            alloc,
+            &mut self.handle,
+            &self.data_type,
+            self.fill_value.as_ne_bytes(),
+            runs.as_slice(),
+            ranges.as_slice(),
+        )
+    }
+
+    /// The ranges of bytes that such a read asks for: the bytes of the places, in order, and no
+    /// others. None is empty. Refusals, the first that holds: those of `Indexer::places`;
+    /// `OutOfMemory`.
+    pub fn planned_ranges(
+        &self,
+        alloc: Global,
+        indexer: &Indexer,
+    ) -> Result<Vec<ByteRange>, CodecError>
+        ensures bytes { let form = form_of self.now in Answers memory (λ ranges. range_indices ranges.items) result (planned form.sizes form.type (selection_of indexer.now)) }
+        ensures filled { IfOk result (λ ranges. All (λ range. range.start < range.end) ranges.items) }
+        ensures sum { let form = form_of self.now in IfOk result (λ ranges. IfOk (places_of (selection_of indexer.now) form.sizes) (λ places. sum_by (λ range. range.end - range.start) ranges.items ≡ length places * size_of form.type)) }
+    {
+        let runs = indexer.runs(alloc, &self.shape)?;
+        let ranges = run_ranges(alloc, self.element_size() as u64, runs.as_slice())?;
+        Ok(ranges)
+    }
+
+    /// Whether a value is stored. Refusals: `Storage`.
+    pub fn exists(&mut self) -> Result<bool, CodecError>
+        ensures answer { Answers fault (λ there. there) result (Ok (is_some (H.state (handle_of self.old)).value)) }
+        ensures left { H.state (handle_of self.new) ≡ after_reading (is_fault result) (H.state (handle_of self.old)) }
+        ensures same_reference { H.lent (handle_of self.new) ≡ H.lent (handle_of self.old) }
+        ensures form_kept { form_of self.new ≡ form_of self.old }
+    {
+        self.handle.exists()
+    }
+
+    /// The bytes that the handle keeps in memory.
+    pub fn size_held(&self) -> usize
+        ensures { result ≡ H.held (handle_of self.now) }
+    {
+        self.handle.size_held()
+    }
+
+    /// Whether a part is read without the rest: where the handle reads ranges by themselves.
+    pub fn supports_partial_decode(&self) -> bool
+        ensures { result ≡ H.reads_ranges }
+    {
+        self.handle.supports_partial_decode()
+    }
+}
+
+impl<H> BytesCodecPartial<H> {
+    ghost use Rattle.zarrs_bytes.specs.BytesCodecPartial.{form_of, handle_of};
+
+    /// The bytes of an element. The codec takes fixed types alone.
+    fn element_size(&self) -> usize
+        ensures size { result ≡ size_of (form_of self.now).type }
+        ensures positive { 0 < result }
+        ensures fits { product (form_of self.now).sizes * result < 2 ^ 64 }
+    {
+        match self.data_type.fixed_size() {
+            Some(size) => size,
+            None => unreachable!(),
+        }
+    }
+
+    /// The handle, as it stands.
+    pub fn into_handle(self) -> H
+        ensures { result ≡ handle_of self }
+    {
+        let BytesCodecPartial {
+            handle,
+            codec: _,
+            shape: _,
+            data_type: _,
+            fill_value: _,
+        } = self;
+        handle
+    }
+}

@@ -1,0 +1,94 @@
+ghost use Rattle.std.specs.Prelude.{◌≡◌, ℕ, Bool, Option, Some, Ok, is_some};
+ghost use Rattle.std.specs.Option.{option_map};
+ghost use Rattle.std.specs.Borrow.{GName};
+ghost use Rattle.zarrs_chunk.specs.Answer.{Answers, fault, memory_or_fault, is_fault};
+ghost use Rattle.zarrs_bytes.specs.ByteRanges.{read_ranges};
+ghost use Rattle.zarrs_bytes.specs.HandleState.{HandleState, after_reading};
+
+use crate::codec::byte_range::ByteRange;
+use std::alloc::Global;
+use zarrs_chunk::CodecError;
+
+/// A storage handle that can be read: a place that keeps one value, a list of bytes, or none.
+///
+/// Reading leaves the value as it is. A call answers `Storage` exactly where the handle failed in
+/// that call, and its count of faults is then one more.
+pub trait BytesPartialDecoderTraits {
+    // The value, and the counts of faults and of writing calls.
+    ghost state: { Self → HandleState };
+
+    // The name of the reference that the handle is, where it is one: by it the lender learns what became of its own.
+    ghost lent: { Self → Option GName };
+
+    // The bytes that the handle keeps in memory.
+    ghost held: { Self → ℕ };
+
+    // Whether the handle reads ranges without the rest.
+    ghost reads_ranges: { Bool };
+
+    /// Whether there is a value. Refusals: `Storage`.
+    fn exists(&mut self) -> Result<bool, CodecError>
+        ensures answer { Answers fault (λ there. there) result (Ok (is_some (state self.old).value)) }
+        ensures left { state self.new ≡ after_reading (is_fault result) (state self.old) }
+        ensures same_reference { lent self.new ≡ lent self.old };
+
+    /// The bytes that the handle keeps in memory.
+    fn size_held(&self) -> usize
+        ensures { result ≡ held self.now };
+
+    /// The ranges' bytes, joined in order, or `None` where there is no value. Refusals:
+    /// `InvalidByteRange` where a range ends past the value; `OutOfMemory` and `Storage`, which may
+    /// come before.
+    fn partial_decode_many(
+        &mut self,
+        alloc: Global,
+        ranges: &[ByteRange],
+    ) -> Result<Option<Vec<u8>>, CodecError>
+        ensures answer { Answers memory_or_fault (option_map (λ bytes. bytes.items)) result (read_ranges (state self.old).value ranges.now) }
+        ensures left { state self.new ≡ after_reading (is_fault result) (state self.old) }
+        ensures same_reference { lent self.new ≡ lent self.old };
+
+    /// The whole value, or `None`. Refusals: `OutOfMemory`, `Storage`.
+    fn decode(&mut self, alloc: Global) -> Result<Option<Vec<u8>>, CodecError>
+        ensures answer { Answers memory_or_fault (option_map (λ bytes. bytes.items)) result (Ok (state self.old).value) }
+        ensures left { state self.new ≡ after_reading (is_fault result) (state self.old) }
+        ensures same_reference { lent self.new ≡ lent self.old };
+
+    /// Whether the handle reads ranges without the rest of the value.
+    fn supports_partial_decode(&self) -> bool
+        ensures { result ≡ reads_ranges };
+}
+
+impl<H: BytesPartialDecoderTraits> BytesPartialDecoderTraits for &mut H {
+    ghost state = { λ handle. H.state handle.now };
+
+    ghost lent = { λ handle. Some handle.ghost_name };
+
+    ghost held = { λ handle. H.held handle.now };
+
+    ghost reads_ranges = { H.reads_ranges };
+
+    fn exists(&mut self) -> Result<bool, CodecError> {
+        (**self).exists()
+    }
+
+    fn size_held(&self) -> usize {
+        (**self).size_held()
+    }
+
+    fn partial_decode_many(
+        &mut self,
+        alloc: Global,
+        ranges: &[ByteRange],
+    ) -> Result<Option<Vec<u8>>, CodecError> {
+        (**self).partial_decode_many(alloc, ranges)
+    }
+
+    fn decode(&mut self, alloc: Global) -> Result<Option<Vec<u8>>, CodecError> {
+        (**self).decode(alloc)
+    }
+
+    fn supports_partial_decode(&self) -> bool {
+        (**self).supports_partial_decode()
+    }
+}

@@ -1,0 +1,113 @@
+ghost use Rattle.std.specs.Prelude.{◌≡◌, true, false, Some, None};
+ghost use Rattle.std.specs.Option.{option_map};
+ghost use Rattle.zarrs_chunk.specs.Answer.{Answers, memory, is_fault};
+ghost use Rattle.zarrs_bytes.specs.ByteRanges.{read_value};
+
+use crate::codec::byte_range::ByteRange;
+use crate::codec::bytes_partial_decoder_traits::BytesPartialDecoderTraits;
+use std::alloc::Global;
+use zarrs_chunk::CodecError;
+
+/// The ranges' bytes of a value, joined in order.
+fn gather(alloc: Global, value: &[u8], ranges: &[ByteRange]) -> Result<Vec<u8>, CodecError>
+    ensures answer { Answers memory (λ bytes. bytes.items) result (read_value value.now ranges.now) }
+    ensures no_fault { is_fault result ≡ false }
+{
+    let mut bytes = Vec::new(alloc);
+    for range in ranges {
+        let start = range.start() as usize;
+        let end = range.end() as usize;
+        if value.len() < end {
+            return Err(CodecError::InvalidByteRange);
+        }
+        bytes.extend_from_slice(&value[start..end])?;
+    }
+    Ok(bytes)
+}
+
+/// A handle whose value is in memory. It never fails, but for want of memory.
+#[derive(Drop)]
+pub struct MemoryHandle {
+    value: Option<Vec<u8>>,
+}
+
+impl MemoryHandle {
+    ghost use Rattle.zarrs_bytes.specs.MemoryHandle.{stored};
+
+    /// A handle without a value.
+    pub fn new() -> MemoryHandle
+        ensures { stored result ≡ None }
+    {
+        MemoryHandle { value: None }
+    }
+
+    /// A handle with this value.
+    pub fn with_value(value: Vec<u8>) -> MemoryHandle
+        ensures { stored result ≡ Some value.items }
+    {
+        MemoryHandle { value: Some(value) }
+    }
+
+    /// The value, or `None`.
+    pub fn value(&self) -> Option<&[u8]>
+        ensures { option_map (λ bytes. bytes.now) result ≡ stored self.now }
+    {
+        match &self.value {
+            None => None,
+            Some(value) => Some(value.as_slice()),
+        }
+    }
+
+    /// The value, or `None`, without the handle.
+    pub fn into_value(self) -> Option<Vec<u8>>
+        ensures { option_map (λ bytes. bytes.items) result ≡ stored self }
+    {
+        self.value
+    }
+}
+
+impl BytesPartialDecoderTraits for MemoryHandle {
+    ghost use Rattle.zarrs_bytes.specs.HandleState.{held_bytes};
+    ghost use Rattle.zarrs_bytes.specs.MemoryHandle.{stored, memory_state};
+
+    ghost state = { memory_state };
+
+    ghost lent = { λ _. None };
+
+    ghost held = { λ handle. held_bytes (stored handle) };
+
+    ghost reads_ranges = { true };
+
+    fn exists(&mut self) -> Result<bool, CodecError> {
+        Ok(self.value.is_some())
+    }
+
+    fn size_held(&self) -> usize {
+        match &self.value {
+            None => 0,
+            Some(value) => value.len(),
+        }
+    }
+
+    fn partial_decode_many(
+        &mut self,
+        alloc: Global,
+        ranges: &[ByteRange],
+    ) -> Result<Option<Vec<u8>>, CodecError> {
+        match &self.value {
+            None => Ok(None),
+            Some(value) => Ok(Some(gather(alloc, value.as_slice(), ranges)?)),
+        }
+    }
+
+    fn decode(&mut self, alloc: Global) -> Result<Option<Vec<u8>>, CodecError> {
+        match &self.value {
+            None => Ok(None),
+            Some(value) => Ok(Some(Vec::from_slice(alloc, value.as_slice())?)),
+        }
+    }
+
+    fn supports_partial_decode(&self) -> bool {
+        true
+    }
+}

@@ -1,0 +1,17 @@
+/// The components of an element of a fixed type.
+#[derive(Clone, Copy, Debug, PartialEq, Eq)]
+pub struct Components {
+    /// The bits of a component, at least 1. In memory it takes whole bytes.
+    pub component_size_bits: u64,
+    /// The components of an element, at least 1.
+    pub num_components: u64,
+    /// Whether a component has a sign, which fills the bits above the ones that are kept.
+    pub sign_extension: bool,
+}
+
+/// What a codec has to know of a fixed type. It stands in a trait, since
+/// [`DataType::components`](crate::DataType::components) makes a type.
+pub trait HasComponents {
+    /// The components of an element, or `None` for a type that is not fixed.
+    fn components(&self) -> Option<Components>;
+}
