@@ -16,7 +16,7 @@ use Rattle.zarrs_chunk.specs.declared.codec_error.CodecError.TheVariants.{Invali
 use Rattle.zarrs_array_bytes.specs.Elements.{piece}
 use Rattle.zarrs_bytes.specs.ByteRanges.{range_indices, bytes_in_ranges, read_value, read_ranges}
 use Rattle.zarrs_bytes.specs.PartialRead.{place_bytes}
-use Rattle.zarrs_bytes.specs.declared.codec.byte_range.ByteRange.{ByteRange}
+use Rattle.zarrs_bytes.specs.ByteSpan.{ByteSpan}
 
 -- ---- bytes by number
 
@@ -77,13 +77,13 @@ spans_bytes-numbers value (span ∷ spans) h =
 
 -- ---- ranges and places as spans
 
-abbrev span_of : ByteRange → ℕ × ℕ
+abbrev span_of : ByteSpan → ℕ × ℕ
 span_of range = (range.start, range.end - range.start)
 
 abbrev place_span : ℕ → ℕ → ℕ × ℕ
 place_span size place = (place * size, size)
 
-range_spans-numbers : (ranges : List ByteRange) → joined_runs (map span_of ranges) ≡ range_indices ranges
+range_spans-numbers : (ranges : List ByteSpan) → joined_runs (map span_of ranges) ≡ range_indices ranges
 range_spans-numbers [] = refl
 range_spans-numbers (range ∷ ranges) = ap (λ (l : List ℕ). range_with_len range.start (range.end - range.start) ++ l) (range_spans-numbers ranges)
 
@@ -91,7 +91,7 @@ place_spans-numbers : (size : ℕ) (places : List ℕ) → joined_runs (map (pla
 place_spans-numbers size [] = refl
 place_spans-numbers size (place ∷ places) = ap (λ (l : List ℕ). range_with_len (place * size) size ++ l) (place_spans-numbers size places)
 
-range_spans-filled : (ranges : List ByteRange) → All (λ range. range.start < range.end) ranges → AllFilled (map span_of ranges)
+range_spans-filled : (ranges : List ByteSpan) → All (λ range. range.start < range.end) ranges → AllFilled (map span_of ranges)
 range_spans-filled [] h = λ k d l. absurd (omega arith)
 range_spans-filled (range ∷ ranges) h = λ k d.
     elim k as (λ j. j < length (map span_of (range ∷ ranges)) → 0 < (get_or (map span_of (range ∷ ranges)) j d).1) [
@@ -107,17 +107,17 @@ place_spans-filled size (place ∷ places) p = λ k d.
       | suc j ↦ (λ l. place_spans-filled size places p j d (omega arith))
     ]
 
-end_is : (range : ByteRange) → range.start ≤ range.end → range.start + (range.end - range.start) ≡ range.end
+end_is : (range : ByteSpan) → range.start ≤ range.end → range.start + (range.end - range.start) ≡ range.end
 end_is range h = omega arith
 
-range_spans-within : (n : ℕ) (ranges : List ByteRange) → All (λ range. range.start < range.end) ranges → spans_within n (map span_of ranges) ≡ list_all (λ range. nat_le range.end n) ranges
+range_spans-within : (n : ℕ) (ranges : List ByteSpan) → All (λ range. range.start < range.end) ranges → spans_within n (map span_of ranges) ≡ list_all (λ range. nat_le range.end n) ranges
 range_spans-within n [] h = refl
 range_spans-within n (range ∷ ranges) h =
     let lt : range.start < range.end = h 0 range (omega arith) in
     ap (λ (k : ℕ). nat_le k n && spans_within n (map span_of ranges)) (end_is range (omega arith))
     ∙ ap (λ (b : Bool). nat_le range.end n && b) (range_spans-within n ranges (λ i e m. h (suc i) e (omega arith)))
 
-range_spans-bytes : (value : List ℕ) (ranges : List ByteRange) → spans_bytes value (map span_of ranges) ≡ bytes_in_ranges value ranges
+range_spans-bytes : (value : List ℕ) (ranges : List ByteSpan) → spans_bytes value (map span_of ranges) ≡ bytes_in_ranges value ranges
 range_spans-bytes value [] = refl
 range_spans-bytes value (range ∷ ranges) = ap (λ (l : List ℕ). take (range.end - range.start) (drop range.start value) ++ l) (range_spans-bytes value ranges)
 
@@ -144,7 +144,7 @@ same_if true false xs ys e h = absurd cc
 same_if false true xs ys e h = absurd cc
 
 -- ranges whose bytes are those of the places read what stands at the places
-pub read_value-places : (size : ℕ) (value places : List ℕ) (ranges : List ByteRange) → 0 < size → range_indices ranges ≡ place_bytes size places → All (λ range. range.start < range.end) ranges
+pub read_value-places : (size : ℕ) (value places : List ℕ) (ranges : List ByteSpan) → 0 < size → range_indices ranges ≡ place_bytes size places → All (λ range. range.start < range.end) ranges
     → read_value value ranges ≡ (demand (list_all (λ place. nat_le (place * size + size) (length value)) places) InvalidByteRange >>= λ _. Ok (concat (map (piece size value) places)))
 read_value-places size value places ranges positive numbers filled =
     let n = length value in
@@ -189,9 +189,9 @@ place_bytes-run size start (suc len) =
 pub place_bytes-append : (size : ℕ) (xs ys : List ℕ) → place_bytes size (xs ++ ys) ≡ place_bytes size xs ++ place_bytes size ys
 place_bytes-append size xs ys = flat_map-append (λ place. range_with_len (place * size) size) xs ys
 
-pub range_indices-push : (ranges : List ByteRange) (range : ByteRange) → range_indices (ranges ++ range ∷ []) ≡ range_indices ranges ++ range_with_len range.start (range.end - range.start)
+pub range_indices-push : (ranges : List ByteSpan) (range : ByteSpan) → range_indices (ranges ++ range ∷ []) ≡ range_indices ranges ++ range_with_len range.start (range.end - range.start)
 range_indices-push ranges range =
-    flat_map-append (λ (r : ByteRange). range_with_len r.start (r.end - r.start)) ranges (range ∷ [])
+    flat_map-append (λ (r : ByteSpan). range_with_len r.start (r.end - r.start)) ranges (range ∷ [])
     ∙ ap (λ (l : List ℕ). range_indices ranges ++ l) (append-nil (range_with_len range.start (range.end - range.start)))
 
 pub joined_runs-more : (runs : List (ℕ × ℕ)) (index : ℕ) (d : ℕ × ℕ) → index < length runs → joined_runs (take (index + 1) runs) ≡ joined_runs (take index runs) ++ range_with_len (get_or runs index d).0 (get_or runs index d).1
@@ -201,7 +201,7 @@ joined_runs-more runs index d h =
     ∙ ap (λ (l : List ℕ). joined_runs (take index runs) ++ l) (append-nil (range_with_len (get_or runs index d).0 (get_or runs index d).1))
 
 -- one run more
-pub ranges_more : (size : ℕ) (runs : List (ℕ × ℕ)) (index : ℕ) (d : ℕ × ℕ) (ranges : List ByteRange) (range : ByteRange) → index < length runs → range_indices ranges ≡ place_bytes size (joined_runs (take index runs)) → range.start ≡ (get_or runs index d).0 * size → range.end ≡ (get_or runs index d).0 * size + (get_or runs index d).1 * size
+pub ranges_more : (size : ℕ) (runs : List (ℕ × ℕ)) (index : ℕ) (d : ℕ × ℕ) (ranges : List ByteSpan) (range : ByteSpan) → index < length runs → range_indices ranges ≡ place_bytes size (joined_runs (take index runs)) → range.start ≡ (get_or runs index d).0 * size → range.end ≡ (get_or runs index d).0 * size + (get_or runs index d).1 * size
     → range_indices (ranges ++ range ∷ []) ≡ place_bytes size (joined_runs (take (index + 1) runs))
 ranges_more size runs index d ranges range h is start end =
     let run = get_or runs index d in
@@ -218,10 +218,10 @@ ranges_more size runs index d ranges range h is start end =
 pub runs_fit : (runs : List (ℕ × ℕ)) (total size : ℕ) → All (λ run. run.0 + run.1 ≤ total) runs → total * size < 2 ^ 64 → All (λ run. (run.0 + run.1) * size < 2 ^ 64) runs
 runs_fit runs total size h fits = λ k d l. omega (arith, mul-le-mul_right size (h k d l), fits)
 
-range_lengths : (ranges : List ByteRange) → length (range_indices ranges) ≡ sum_by (λ range. range.end - range.start) ranges
+range_lengths : (ranges : List ByteSpan) → length (range_indices ranges) ≡ sum_by (λ range. range.end - range.start) ranges
 range_lengths [] = refl
 range_lengths (range ∷ ranges) =
-    omega (arith, length-append (range_with_len range.start (range.end - range.start)) (range_indices ranges), length-range_with_len range.start (range.end - range.start), range_lengths ranges, sum_by-cons (λ (r : ByteRange). r.end - r.start) range ranges)
+    omega (arith, length-append (range_with_len range.start (range.end - range.start)) (range_indices ranges), length-range_with_len range.start (range.end - range.start), range_lengths ranges, sum_by-cons (λ (r : ByteSpan). r.end - r.start) range ranges)
 
 place_lengths : (size : ℕ) (places : List ℕ) → length (place_bytes size places) ≡ length places * size
 place_lengths size [] = omega arith
@@ -229,5 +229,5 @@ place_lengths size (place ∷ places) =
     omega (arith, length-append (range_with_len (place * size) size) (place_bytes size places), length-range_with_len (place * size) size, place_lengths size places)
 
 -- ranges whose bytes are those of the places have as many of them
-pub ranges_sum : (size : ℕ) (places : List ℕ) (ranges : List ByteRange) → range_indices ranges ≡ place_bytes size places → sum_by (λ range. range.end - range.start) ranges ≡ length places * size
+pub ranges_sum : (size : ℕ) (places : List ℕ) (ranges : List ByteSpan) → range_indices ranges ≡ place_bytes size places → sum_by (λ range. range.end - range.start) ranges ≡ length places * size
 ranges_sum size places ranges h = sym (range_lengths ranges) ∙ ap length h ∙ place_lengths size places

@@ -20,7 +20,7 @@ use Rattle.zarrs_bytes.specs.ByteOrder.{cuts, turned, ordered}
 use Rattle.zarrs_bytes.specs.ByteRanges.{range_indices, read_value, read_ranges}
 use Rattle.zarrs_bytes.specs.BytesCodec.{element_read, turn_size}
 use Rattle.zarrs_bytes.specs.PartialRead.{place_bytes, size_of, IsFilledType, read_places}
-use Rattle.zarrs_bytes.specs.declared.codec.byte_range.ByteRange.{ByteRange}
+use Rattle.zarrs_bytes.specs.ByteSpan.{ByteSpan}
 use Rattle.zarrs_bytes.proofs.Coding.{ok}
 use Rattle.zarrs_bytes.proofs.Cuts.{AllSized, length-concat, cuts-concat}
 use Rattle.zarrs_bytes.proofs.Ranges.{read_value-places}
@@ -83,12 +83,12 @@ none_if false x P h = absurd cc
 abbrev test_of : ℕ → List ℕ → List ℕ → Bool
 test_of size value places = list_all (λ place. nat_le (place * size + size) (length value)) places
 
-ranges_are : (size : ℕ) (value places : List ℕ) (ranges : List ByteRange) → 0 < size → range_indices ranges ≡ place_bytes size places → All (λ range. range.start < range.end) ranges → read_ranges (Some value) ranges ≡ inside (test_of size value places) (concat (map (piece size value) places))
+ranges_are : (size : ℕ) (value places : List ℕ) (ranges : List ByteSpan) → 0 < size → range_indices ranges ≡ place_bytes size places → All (λ range. range.start < range.end) ranges → read_ranges (Some value) ranges ≡ inside (test_of size value places) (concat (map (piece size value) places))
 ranges_are size value places ranges positive numbers filled =
     ap (λ (r : Result (List ℕ) CodecError). r >>= λ y. ok (Some y)) (read_value-places size value places ranges positive numbers filled)
 
 -- bytes that were read, turned round, hold the elements at the places
-pub at_some : (order : Option Endianness) (type : ElementType) (fill places bytes' : List ℕ) (stored : Option (List ℕ)) (ranges : List ByteRange) (raw : Raw) → IsFilledType type fill → range_indices ranges ≡ place_bytes (size_of type) places → All (λ range. range.start < range.end) ranges
+pub at_some : (order : Option Endianness) (type : ElementType) (fill places bytes' : List ℕ) (stored : Option (List ℕ)) (ranges : List ByteSpan) (raw : Raw) → IsFilledType type fill → range_indices ranges ≡ place_bytes (size_of type) places → All (λ range. range.start < range.end) ranges
     → read_ranges stored ranges ≡ Ok (Some bytes') → raw.items ≡ turned (turn_size order type) bytes' → length bytes' < 2 ^ 64 → IsOkAnd (read_places order type fill stored places) (Holds type (flen raw))
 at_some order (fixed width components sign) fill places bytes' None ranges raw t numbers filled read is small = absurd cc
 at_some order (fixed width components sign) fill places bytes' (Some value) ranges raw t numbers filled read is small =
@@ -109,7 +109,7 @@ at_some order bytes fill places bytes' stored ranges raw t numbers filled read i
 at_some order (optional type) fill places bytes' stored ranges raw t numbers filled read is small = absurd t
 
 -- a refused read is the refusal of the places
-pub at_err : (order : Option Endianness) (type : ElementType) (fill places : List ℕ) (stored : Option (List ℕ)) (ranges : List ByteRange) (e : CodecError) → IsFilledType type fill → range_indices ranges ≡ place_bytes (size_of type) places → All (λ range. range.start < range.end) ranges
+pub at_err : (order : Option Endianness) (type : ElementType) (fill places : List ℕ) (stored : Option (List ℕ)) (ranges : List ByteSpan) (e : CodecError) → IsFilledType type fill → range_indices ranges ≡ place_bytes (size_of type) places → All (λ range. range.start < range.end) ranges
     → read_ranges stored ranges ≡ Err e → read_places order type fill stored places ≡ Err e
 at_err order (fixed width components sign) fill places None ranges e t numbers filled read = absurd cc
 at_err order (fixed width components sign) fill places (Some value) ranges e t numbers filled read =
@@ -121,7 +121,7 @@ at_err order bytes fill places stored ranges e t numbers filled read = absurd t
 at_err order (optional type) fill places stored ranges e t numbers filled read = absurd t
 
 -- where nothing is stored, copies of the fill element hold the elements at the places
-pub at_none : (order : Option Endianness) (type : ElementType) (fill places : List ℕ) (stored : Option (List ℕ)) (ranges : List ByteRange) (raw : Raw) → IsFilledType type fill → range_indices ranges ≡ place_bytes (size_of type) places → All (λ range. range.start < range.end) ranges
+pub at_none : (order : Option Endianness) (type : ElementType) (fill places : List ℕ) (stored : Option (List ℕ)) (ranges : List ByteSpan) (raw : Raw) → IsFilledType type fill → range_indices ranges ≡ place_bytes (size_of type) places → All (λ range. range.start < range.end) ranges
     → read_ranges stored ranges ≡ Ok None → raw.items ≡ flat_map (λ _. fill) places → length raw.items < 2 ^ 64 → IsOkAnd (read_places order type fill stored places) (Holds type (flen raw))
 at_none order (fixed width components sign) fill places None ranges raw t numbers filled read is small =
     let pieces = map (λ _. fill) places in

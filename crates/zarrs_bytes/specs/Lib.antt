@@ -1,5 +1,6 @@
 pub mod ByteOrder
 pub mod ByteRanges
+pub mod ByteSpan
 pub mod BytesCodec
 pub mod BytesCodecPartial
 pub mod BytesRepresentation
