@@ -1,5 +1,5 @@
 -- The laws of the codec.
-use Rattle.std.proofs.Common.{◌≡◌, ◌==◌, ◌↔◌, ℕ, suc, ◌+◌, ◌*◌, ◌<◌, ◌≤◌, Bool, true, false, nat_le, Option, Some, Result, Ok, List, [], ◌∷◌, length, map, get_or, arith, refl, ap, sym, ◌∙◌, subst}
+use Rattle.std.proofs.Common.{◌≡◌, ◌==◌, ◌↔◌, ℕ, suc, ◌+◌, ◌*◌, ◌<◌, ◌≤◌, Bool, true, nat_le, Option, Some, Ok, List, [], ◌∷◌, length, map, get_or, arith, refl, ap, sym, ◌∙◌, subst}
 use Rattle.std.specs.List.{All, list_all, range_with_len}
 use Rattle.std.proofs.Math.Nat.{mul-le-mul_right}
 use Rattle.std.proofs.lemmas.Bool.{and_from}
@@ -10,11 +10,11 @@ use Rattle.zarrs_chunk.specs.Answer.{demand}
 use Rattle.zarrs_chunk.specs.ChunkShape.{product}
 use Rattle.zarrs_chunk.specs.declared.codec_error.CodecError.TheVariants.{InvalidBytesLength}
 use Rattle.zarrs_data_type.specs.Element.{Element, absent, Chunk}
-use Rattle.zarrs_data_type.specs.ElementType.{ElementType, fixed, text, bytes, optional, element_size}
+use Rattle.zarrs_data_type.specs.ElementType.{ElementType, fixed, text, bytes, optional}
 use Rattle.zarrs_data_type.specs.declared.endianness.Endianness.{Endianness}
 use Rattle.zarrs_array_bytes.specs.Elements.{select}
 use Rattle.zarrs_bytes.specs.ByteOrder.{spelled}
-use Rattle.zarrs_bytes.specs.BytesCodec.{value_length, decoded, element_read, Stands, Written}
+use Rattle.zarrs_bytes.specs.BytesCodec.{value_length, element_read, Stands, Written}
 use Rattle.zarrs_bytes.specs.PartialRead.{has_place, size_of, read_places}
 use Rattle.zarrs_bytes.proofs.Coding.{bind_ok, ok, taken}
 use Rattle.zarrs_bytes.proofs.Exact.{decoded_only, stands_length}

@@ -1,6 +1,6 @@
 -- What the codec computes is what its definitions say.
-use Rattle.std.proofs.Common.{◌≡◌, ℕ, ◌+◌, ◌*◌, ◌<◌, ◌≤◌, ◌^◌, ◌==◌, ◌&&◌, Bool, true, false, nat_lt, cond, not, Option, Some, None, Result, Ok, Err, List, length, map, arith, refl, ap, sym, ◌∙◌, subst, Global}
-use Rattle.std.specs.List.{concat, range_with_len}
+use Rattle.std.proofs.Common.{◌≡◌, ℕ, ◌*◌, ◌<◌, ◌^◌, ◌==◌, ◌&&◌, Bool, true, false, nat_lt, cond, not, Option, Some, None, Result, Ok, Err, List, length, map, arith, refl, ap, sym, ◌∙◌, subst, Global}
+use Rattle.std.specs.List.{range_with_len}
 use Rattle.std.specs.Prelude.{IsOk, IsOkAnd, is_some}
 use Rattle.std.specs.Cow.{cow_slice_items}
 use Rattle.std.specs.declared.borrow.CowSlice.{CowSlice}
@@ -9,8 +9,8 @@ use Rattle.std.proofs.lemmas.Bool.Decides.{nat_tests}
 use Rattle.zarrs_chunk.specs.Answer.{◌>>=◌, demand, checked_u64, seen}
 use Rattle.zarrs_chunk.specs.ChunkShape.{product}
 use Rattle.zarrs_chunk.specs.declared.codec_error.CodecError.{CodecError}
-use Rattle.zarrs_chunk.specs.declared.codec_error.CodecError.TheVariants.{InvalidFillValue, EndiannessMissing, InvalidBytesLength, Overflow, ArrayBytesKind}
-use Rattle.zarrs_data_type.specs.Element.{Chunk, plain}
+use Rattle.zarrs_chunk.specs.declared.codec_error.CodecError.TheVariants.{InvalidFillValue, EndiannessMissing, InvalidBytesLength, Overflow}
+use Rattle.zarrs_data_type.specs.Element.{plain}
 use Rattle.zarrs_data_type.specs.ElementType.{ElementType, fixed, text, bytes, optional, element_size}
 use Rattle.zarrs_data_type.specs.FillValue.{fill_fits}
 use Rattle.zarrs_data_type.specs.declared.endianness.Endianness.{Endianness}
@@ -19,7 +19,7 @@ use Rattle.zarrs_array_bytes.specs.Held.{Held, Raw, flen, vlen, masked, raw_of}
 use Rattle.zarrs_array_bytes.specs.Parts.{fixed_part}
 use Rattle.zarrs_array_bytes.specs.Validity.{Holds, validity}
 use Rattle.zarrs_bytes.specs.ByteOrder.{cuts, turned, ordered, has_order, spelled}
-use Rattle.zarrs_bytes.specs.BytesCodec.{value_length, spelling, encoded, decoded, element_read, turn_size, needs_memory}
+use Rattle.zarrs_bytes.specs.BytesCodec.{value_length, encoded, decoded, element_read, turn_size, needs_memory}
 use Rattle.zarrs_bytes.proofs.Cuts.{cuts_sized}
 use Rattle.zarrs_bytes.proofs.Spelled.{length-turned, turned_is, elements-flen, spelled-plain, read_pieces, Holds-pieces}
 

@@ -1,22 +1,22 @@
 -- Values are written and read exactly where the grammar says.
-use Rattle.std.proofs.Common.{◌≡◌, ℕ, zero, suc, ◌+◌, ◌*◌, ◌<◌, ◌≤◌, ◌^◌, ◌==◌, Bool, true, false, Option, Result, Ok, Err, List, [], ◌∷◌, length, map, get_or, nat_lt, arith, refl, ap, sym, ◌∙◌, subst}
-use Rattle.std.specs.List.{All, concat, range_with_len}
+use Rattle.std.proofs.Common.{◌≡◌, ℕ, zero, suc, ◌*◌, ◌<◌, ◌^◌, ◌==◌, Bool, true, Option, Result, Ok, Err, List, [], ◌∷◌, length, map, get_or, nat_lt, arith, refl, ap, sym, ◌∙◌, subst}
+use Rattle.std.specs.List.{concat, range_with_len}
 use Rattle.std.specs.Prelude.{IsOkAnd}
 use Rattle.std.proofs.lemmas.Bool.Decides.{nat_tests}
 use Rattle.std.proofs.lemmas.List.{length-map}
 use Rattle.zarrs_chunk.specs.Answer.{◌>>=◌, demand}
 use Rattle.zarrs_chunk.specs.ChunkShape.{product}
 use Rattle.zarrs_chunk.specs.declared.codec_error.CodecError.{CodecError}
-use Rattle.zarrs_chunk.specs.declared.codec_error.CodecError.TheVariants.{InvalidBytesLength, Overflow, ArrayBytesKind}
+use Rattle.zarrs_chunk.specs.declared.codec_error.CodecError.TheVariants.{InvalidBytesLength, Overflow}
 use Rattle.zarrs_data_type.specs.Element.{Element, plain, absent, present, Chunk, IsElement, AreElements}
 use Rattle.zarrs_data_type.specs.ElementType.{ElementType, fixed, text, bytes, optional, element_size}
 use Rattle.zarrs_data_type.specs.declared.endianness.Endianness.{Endianness}
 use Rattle.zarrs_array_bytes.specs.Elements.{elements}
-use Rattle.zarrs_array_bytes.specs.Held.{Held, Raw, flen, vlen, masked}
+use Rattle.zarrs_array_bytes.specs.Held.{Held, flen, vlen, masked}
 use Rattle.zarrs_array_bytes.specs.Validity.{Holds, validity}
 use Rattle.zarrs_bytes.specs.ByteOrder.{cuts, ordered, spelled}
-use Rattle.zarrs_bytes.specs.BytesCodec.{value_length, spelling, encoded, decoded, element_read, IsChunk, Stands, Written}
-use Rattle.zarrs_bytes.proofs.Coding.{bind_ok, demand_ok, ok, two_steps, IsTaken, taken}
+use Rattle.zarrs_bytes.specs.BytesCodec.{value_length, spelling, encoded, decoded, element_read, Stands, Written}
+use Rattle.zarrs_bytes.proofs.Coding.{bind_ok, demand_ok, ok, two_steps, taken}
 use Rattle.zarrs_bytes.proofs.Cuts.{AllSized, length-cuts, cuts_sized, length-concat, cuts-concat, concat-cuts}
 use Rattle.zarrs_bytes.proofs.Spelled.{ordered_twice, ordered_sized, elements-flen, spelled-plain, read_pieces, plain_map}
 

@@ -5,4 +5,5 @@ pub mod Exact
 pub mod Turned
 pub mod Ranges
 pub mod Reading
+pub mod PartReads
 pub mod Spelled

@@ -1,5 +1,5 @@
 -- A read of ranges is a read of the places whose bytes the ranges are.
-use Rattle.std.proofs.Common.{◌≡◌, ℕ, zero, suc, ◌+◌, ◌-◌, ◌*◌, ◌<◌, ◌≤◌, ◌&&◌, Bool, true, false, nat_lt, nat_le, Option, Some, None, Result, Ok, Err, List, [], ◌∷◌, ◌++◌, length, take, drop, map, get_or, ◌^◌, arith, refl, ap, sym, ◌∙◌, subst}
+use Rattle.std.proofs.Common.{◌≡◌, ℕ, zero, suc, ◌+◌, ◌-◌, ◌*◌, ◌<◌, ◌≤◌, ◌&&◌, Bool, true, false, nat_lt, nat_le, Result, Ok, List, [], ◌∷◌, ◌++◌, length, take, drop, map, get_or, ◌^◌, arith, refl, ap, sym, ◌∙◌}
 use Rattle.std.specs.List.{All, concat, flat_map, list_all, range_with_len, sum_by}
 use Rattle.std.proofs.lemmas.Bool.{and_parts}
 use Rattle.std.proofs.lemmas.Bool.Decides.{nat_tests}
@@ -14,7 +14,7 @@ use Rattle.zarrs_chunk.specs.Runs.{joined_runs}
 use Rattle.zarrs_chunk.specs.declared.codec_error.CodecError.{CodecError}
 use Rattle.zarrs_chunk.specs.declared.codec_error.CodecError.TheVariants.{InvalidByteRange}
 use Rattle.zarrs_array_bytes.specs.Elements.{piece}
-use Rattle.zarrs_bytes.specs.ByteRanges.{range_indices, bytes_in_ranges, read_value, read_ranges}
+use Rattle.zarrs_bytes.specs.ByteRanges.{range_indices, bytes_in_ranges, read_value}
 use Rattle.zarrs_bytes.specs.PartialRead.{place_bytes}
 use Rattle.zarrs_bytes.specs.ByteSpan.{ByteSpan}
 

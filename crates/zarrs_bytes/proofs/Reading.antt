@@ -1,5 +1,5 @@
 -- What is read through a handle is what the definitions of a partial read say.
-use Rattle.std.proofs.Common.{◌≡◌, ℕ, zero, suc, ◌+◌, ◌-◌, ◌*◌, ◌<◌, ◌≤◌, ◌^◌, ◌&&◌, Bool, true, false, nat_le, Option, Some, None, Result, Ok, Err, List, [], ◌∷◌, ◌++◌, length, take, drop, map, map-id, get_or, replicate, arith, refl, ap, sym, ◌∙◌, subst}
+use Rattle.std.proofs.Common.{◌≡◌, ℕ, zero, suc, ◌+◌, ◌-◌, ◌*◌, ◌<◌, ◌≤◌, ◌^◌, Bool, true, false, nat_le, Option, Some, None, Result, Ok, Err, List, [], ◌∷◌, ◌++◌, length, take, drop, map, map-id, get_or, replicate, arith, refl, ap, sym, ◌∙◌, subst}
 use Rattle.std.specs.List.{All, concat, flat_map, list_all, range_with_len}
 use Rattle.std.specs.Prelude.{IsOkAnd}
 use Rattle.std.proofs.lemmas.Bool.{and_parts}
@@ -10,14 +10,14 @@ use Rattle.std.proofs.lemmas.List.FromFn.{map-range_with_len_more}
 use Rattle.zarrs_chunk.specs.Answer.{◌>>=◌, demand, Excused}
 use Rattle.zarrs_chunk.specs.declared.codec_error.CodecError.{CodecError}
 use Rattle.zarrs_chunk.specs.declared.codec_error.CodecError.TheVariants.{InvalidByteRange}
-use Rattle.zarrs_data_type.specs.Element.{Element, plain, Chunk, fill_element}
+use Rattle.zarrs_data_type.specs.Element.{Element, plain, Chunk}
 use Rattle.zarrs_data_type.specs.ElementType.{ElementType, fixed, text, bytes, optional, element_size}
 use Rattle.zarrs_data_type.specs.declared.endianness.Endianness.{Endianness}
 use Rattle.zarrs_array_bytes.specs.Elements.{piece}
 use Rattle.zarrs_array_bytes.specs.Held.{Raw, flen}
 use Rattle.zarrs_array_bytes.specs.Validity.{Holds}
 use Rattle.zarrs_bytes.specs.ByteOrder.{cuts, turned, ordered}
-use Rattle.zarrs_bytes.specs.ByteRanges.{range_indices, read_value, read_ranges}
+use Rattle.zarrs_bytes.specs.ByteRanges.{range_indices, read_ranges}
 use Rattle.zarrs_bytes.specs.BytesCodec.{element_read, turn_size}
 use Rattle.zarrs_bytes.specs.PartialRead.{place_bytes, size_of, IsFilledType, read_places}
 use Rattle.zarrs_bytes.specs.ByteSpan.{ByteSpan}

@@ -1,20 +1,19 @@
 -- Elements of a fixed type, spelled in a byte order and read in it.
-use Rattle.std.proofs.Common.{◌≡◌, ℕ, zero, suc, ◌+◌, ◌-◌, ◌*◌, ◌/◌, ◌<◌, ◌≤◌, ◌^◌, ◌==◌, ◌&&◌, Bool, true, false, nat_le, nat_lt, cond, Option, Some, None, Result, Ok, Err, List, [], ◌∷◌, ◌++◌, length, map, take, drop, reverse, arith, refl, ap, sym, ◌∙◌, subst}
+use Rattle.std.proofs.Common.{◌≡◌, ℕ, zero, suc, ◌+◌, ◌-◌, ◌*◌, ◌/◌, ◌<◌, ◌≤◌, ◌^◌, ◌==◌, Bool, true, false, nat_le, nat_lt, cond, Option, Some, None, List, [], ◌∷◌, ◌++◌, length, map, take, drop, reverse, arith, refl, ap, sym, ◌∙◌}
 use Rattle.std.specs.List.{concat, range_with_len}
-use Rattle.std.specs.Prelude.{IsOkAnd}
 use mathlib.Core.List.{reverse-reverse}
 use Rattle.std.proofs.Math.Nat.{mul-div_cancel, div-mul-le_self}
 use Rattle.std.proofs.lemmas.Bool.Decides.{nat_tests}
 use Rattle.std.proofs.lemmas.List.{append-nil, drop_all, drop-drop, length-append, length-drop, length-map}
-use Rattle.zarrs_data_type.specs.Element.{Element, plain, Chunk}
-use Rattle.zarrs_data_type.specs.ElementType.{ElementType, fixed, text, bytes, optional, component_bytes, element_size}
+use Rattle.zarrs_data_type.specs.Element.{Element, plain}
+use Rattle.zarrs_data_type.specs.ElementType.{fixed, component_bytes, element_size}
 use Rattle.zarrs_data_type.specs.declared.endianness.Endianness.{Endianness}
 use Rattle.zarrs_data_type.specs.declared.endianness.Endianness.TheVariants.{Little, Big}
 use Rattle.zarrs_array_bytes.specs.Elements.{piece, elements}
 use Rattle.zarrs_array_bytes.specs.Held.{Raw, flen}
-use Rattle.zarrs_array_bytes.specs.Validity.{Holds, validity}
-use Rattle.zarrs_bytes.specs.ByteOrder.{cuts, reversed_pieces, turned, ordered, bytes_of, spelled}
-use Rattle.zarrs_bytes.specs.BytesCodec.{turn_size, element_read}
+use Rattle.zarrs_array_bytes.specs.Validity.{Holds}
+use Rattle.zarrs_bytes.specs.ByteOrder.{cuts, reversed_pieces, turned, ordered, spelled}
+use Rattle.zarrs_bytes.specs.BytesCodec.{turn_size}
 use Rattle.zarrs_bytes.proofs.Cuts.{AllSized, length-cuts, cuts_sized, length-concat, cuts-concat, concat-cuts, reverse_sized, reversed_pieces-groups, reversed_pieces-single}
 
 -- ---- one element

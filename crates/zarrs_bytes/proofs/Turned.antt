@@ -1,7 +1,6 @@
 -- Pieces turned round in place, one after another.
-use Rattle.std.proofs.Common.{◌≡◌, ℕ, zero, suc, ◌+◌, ◌*◌, ◌≤◌, List, [], ◌∷◌, ◌++◌, length, map, take, drop, reverse, swap, arith, ap, ◌∙◌, sym, refl}
-use Rattle.std.specs.List.{concat}
-use Rattle.std.proofs.lemmas.List.{append_assoc, append-nil, length-append, length-reverse, length-take-le, length-drop, take_at, drop_at, drop-drop, length-map}
+use Rattle.std.proofs.Common.{◌≡◌, ℕ, ◌+◌, ◌*◌, ◌≤◌, List, [], ◌∷◌, ◌++◌, length, map, take, drop, reverse, swap, arith, ap, ◌∙◌, sym, refl}
+use Rattle.std.proofs.lemmas.List.{append_assoc, take_at, drop_at, drop-drop, length-map}
 use Rattle.zarrs_bytes.specs.ByteOrder.{cuts, reversed_pieces}
 use Rattle.zarrs_bytes.proofs.Cuts.{cuts_sized, length-concat, length-cuts, reverse_sized, reversed_pieces-more}
 use borrow.Rule.Slice.PartMut.{put_mid, mid_of}

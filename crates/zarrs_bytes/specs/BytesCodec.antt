@@ -1,5 +1,5 @@
 -- What the codec `bytes` answers, for which chunk a value stands, and which value is written for a chunk.
-use Rattle.std.specs.Prelude.{◌≡◌, ℕ, ◌*◌, ◌<◌, ◌^◌, ◌==◌, ◌&&◌, nat_le, is_some, if◌then◌else◌, Bool, true, false, not, Option, Some, None, List, [], length, map, Result, Ok, Err}
+use Rattle.std.specs.Prelude.{◌≡◌, ℕ, ◌*◌, ◌<◌, ◌^◌, ◌==◌, ◌&&◌, nat_le, is_some, if◌then◌else◌, Bool, false, not, Option, Some, None, List, [], length, map, Result, Ok, Err}
 use Rattle.std.specs.List.{range_with_len}
 use Rattle.zarrs_chunk.specs.Answer.{◌>>=◌, demand, checked_u64}
 use Rattle.zarrs_chunk.specs.ChunkShape.{product}
@@ -10,7 +10,7 @@ use Rattle.zarrs_data_type.specs.Element.{Element, plain, absent, Chunk, AreElem
 use Rattle.zarrs_data_type.specs.ElementType.{ElementType, fixed, text, bytes, optional, component_bytes, element_size}
 use Rattle.zarrs_data_type.specs.FillValue.{fill_fits}
 use Rattle.zarrs_data_type.specs.declared.endianness.Endianness.{Endianness}
-use Rattle.zarrs_data_type.specs.declared.endianness.Endianness.TheVariants.{Little, Big}
+use Rattle.zarrs_data_type.specs.declared.endianness.Endianness.TheVariants.{Big}
 use Rattle.zarrs_array_bytes.specs.Elements.{piece, elements}
 use Rattle.zarrs_array_bytes.specs.Held.{Held, flen}
 use Rattle.zarrs_array_bytes.specs.Validity.{validity}

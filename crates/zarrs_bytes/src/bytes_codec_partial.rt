@@ -1,14 +1,16 @@
-ghost use Rattle.std.specs.Prelude.{◌≡◌, ◌<◌, ◌+◌, ◌*◌, ◌-◌, ◌^◌, ◌++◌, true, Ok, IfOk, OnOk, IfErr, All, is_some, is_ok, sum_by, length};
+ghost use Rattle.std.specs.Prelude.{◌≡◌, ◌<◌, ◌+◌, ◌*◌, ◌-◌, ◌^◌, ◌++◌, ℕ, true, List, Some, None, Ok, IfOk, OnOk, IfErr, All, is_some, is_ok, map, sum_by, length};
 ghost use Rattle.std.specs.List.{flat_map, range_with_len};
 ghost use Rattle.zarrs_chunk.specs.ChunkShape.{product};
 ghost use Rattle.zarrs_chunk.specs.Answer.{Answers, AnswersBy, fault, memory, memory_or_fault, is_fault, seen};
 ghost use Rattle.zarrs_chunk.specs.Indexer.{selection_of};
 ghost use Rattle.zarrs_chunk.specs.Runs.{joined_runs};
 ghost use Rattle.zarrs_chunk.specs.Selection.{places_of};
+ghost use Rattle.zarrs_data_type.specs.Element.{Chunk, fill_element};
+ghost use Rattle.zarrs_array_bytes.specs.Elements.{select};
 ghost use Rattle.zarrs_array_bytes.specs.Held.{raw_of};
 ghost use Rattle.zarrs_array_bytes.specs.Validity.{Holds};
 ghost use Rattle.zarrs_bytes.specs.ByteRanges.{range_indices};
-ghost use Rattle.zarrs_bytes.specs.BytesCodec.{value_length};
+ghost use Rattle.zarrs_bytes.specs.BytesCodec.{value_length, Stands};
 ghost use Rattle.zarrs_bytes.specs.HandleState.{after_reading};
 ghost use Rattle.zarrs_bytes.specs.PartialRead.{place_bytes, planned, read, read_places, size_of, IsFilledType};
 ghost use Rattle.zarrs_bytes.specs.Refused.{outcome};
@@ -182,6 +184,8 @@ impl<H: BytesPartialDecoderTraits> BytesCodecPartial<H> {
         alloc: Global,
         indexer: &Indexer,
     ) -> Result<ArrayBytes<'static>, CodecError>
+        ensures selected { let form = form_of self.old in (value : List ℕ) (chunk : Chunk) → (H.state (handle_of self.old)).value ≡ Some value → Stands form.order form.sizes form.type form.fill value chunk → AnswersBy memory_or_fault (Holds form.type) result (seen (select chunk) (places_of (selection_of indexer.now) form.sizes)) }
+        ensures unstored { let form = form_of self.old in (H.state (handle_of self.old)).value ≡ None → AnswersBy memory_or_fault (Holds form.type) result (seen (map (λ _. fill_element form.type form.fill)) (places_of (selection_of indexer.now) form.sizes)) }
         ensures answer { let form = form_of self.old in AnswersBy memory_or_fault (Holds form.type) result (read form.order form.sizes form.type form.fill (H.state (handle_of self.old)).value (selection_of indexer.now)) }
         ensures left { H.state (handle_of self.new) ≡ after_reading (is_fault result) (H.state (handle_of self.old)) }
         ensures same_reference { H.lent (handle_of self.new) ≡ H.lent (handle_of self.old) }

@@ -1,16 +1,15 @@
-use Rattle.std.proofs.Common.{◌≡◌, ℕ, List, Bool, true, false, ◌&&◌, not, Option, Some, None, Result, Ok, Err, length, arith, refl, sym, ◌∙◌, ap, subst, rules, Global}
-use Rattle.std.specs.Prelude.{IsOk, is_some}
+use Rattle.std.proofs.Common.{◌≡◌, ℕ, List, Ok, sym, ◌∙◌, ap, subst, Global}
+use Rattle.std.specs.Prelude.{IsOk}
 use Rattle.std.specs.declared.borrow.CowSlice.{CowSlice}
-use Rattle.zarrs_chunk.specs.Answer.{Answers, memory, seen}
+use Rattle.zarrs_chunk.specs.Answer.{Answers, memory}
 use Rattle.zarrs_chunk.specs.AnswerLaws.{found_from, seen_from}
-use Rattle.zarrs_chunk.specs.declared.codec_error.CodecError.{CodecError}
 use Rattle.zarrs_data_type.specs.Element.{Chunk}
-use Rattle.zarrs_array_bytes.specs.Held.{Held, Raw, flen, vlen, masked, raw_of}
+use Rattle.zarrs_array_bytes.specs.Held.{raw_of}
 use Rattle.zarrs_array_bytes.specs.Parts.{fixed_part}
 use Rattle.zarrs_array_bytes.specs.Validity.{Holds, validity}
 use Rattle.zarrs_bytes.specs.ByteOrder.{turned}
-use Rattle.zarrs_bytes.specs.BytesCodec.{encoded, turn_size, needs_memory, Written}
-use Rattle.zarrs_bytes.proofs.Coding.{ok, encoded_is, spared, ok_from_seen}
+use Rattle.zarrs_bytes.specs.BytesCodec.{encoded, turn_size, Written}
+use Rattle.zarrs_bytes.proofs.Coding.{encoded_is, spared, ok_from_seen}
 use Rattle.zarrs_bytes.proofs.Exact.{encoded_found, encoded_only}
 use Rattle.zarrs_bytes.proofs.bytes_codec.BytesCodec.encode.Goals as goal
 
