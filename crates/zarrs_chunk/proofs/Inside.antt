@@ -1,5 +1,5 @@
 -- Boxes and tuples that lie inside the sizes of a chunk, axis by axis.
-use Rattle.std.proofs.Common.{◌≡◌, ℕ, zero, suc, ◌+◌, ◌*◌, ◌<◌, ◌≤◌, ◌&&◌, ◌∙◌, Bool, true, false, List, [], ◌∷◌, length, get_or, drop, nat_le, nat_lt, arith, refl, ap}
+use Rattle.std.proofs.Common.{◌≡◌, ℕ, zero, suc, ◌+◌, ◌*◌, ◌<◌, ◌≤◌, ◌∙◌, Bool, true, false, List, [], ◌∷◌, length, get_or, drop, replicate, nat_le, nat_lt, arith, refl, ap}
 use Rattle.std.proofs.lemmas.Bool.{and_parts, and_from}
 use Rattle.std.proofs.lemmas.Bool.Decides.{nat_tests}
 use Rattle.std.specs.List.{All}
@@ -38,6 +38,11 @@ is_box_inside-all (size ∷ sizes) (start ∷ starts) [] e f h = absurd (omega a
 is_box_inside-all (size ∷ sizes) (start ∷ starts) (len ∷ lengths) e f h =
     and_from _ _ (le_test _ _ (h 0 (omega arith))) (is_box_inside-all sizes starts lengths (omega arith) (omega arith) (λ k l. h (suc k) (omega arith)))
 
+-- the whole box is inside
+pub is_box_inside-whole : (sizes : List ℕ) → is_box_inside sizes (replicate (length sizes) 0) sizes ≡ true
+is_box_inside-whole [] = refl
+is_box_inside-whole (size ∷ sizes) = and_from _ _ (le_test (0 + size) size (omega arith)) (is_box_inside-whole sizes)
+
 pub is_box_inside-at : (sizes starts lengths : List ℕ) (axis : ℕ) → is_box_inside sizes starts lengths ≡ true → axis < length sizes → get_or starts axis 0 + get_or lengths axis 0 ≤ get_or sizes axis 0
 is_box_inside-at [] starts lengths axis h l = absurd (omega arith)
 is_box_inside-at (size ∷ sizes) [] lengths axis h l = absurd (cc)
@@ -49,6 +54,16 @@ is_box_inside-at (size ∷ sizes) (start ∷ starts) (len ∷ lengths) (suc axis
 pub is_box_inside-not : (sizes starts lengths : List ℕ) (axis : ℕ) → axis < length sizes → get_or sizes axis 0 < get_or starts axis 0 + get_or lengths axis 0 → is_box_inside sizes starts lengths ≡ false
 is_box_inside-not sizes starts lengths axis l h =
     false_unless _ (λ e. let b = is_box_inside-at sizes starts lengths axis e l in omega arith)
+
+pub is_box_inside-lengths : (sizes starts lengths : List ℕ) → is_box_inside sizes starts lengths ≡ true → (length starts ≡ length sizes) × (length lengths ≡ length sizes)
+is_box_inside-lengths [] [] [] h = (refl, refl)
+is_box_inside-lengths [] [] (len ∷ lengths) h = absurd (cc)
+is_box_inside-lengths [] (start ∷ starts) lengths h = absurd (cc)
+is_box_inside-lengths (size ∷ sizes) [] lengths h = absurd (cc)
+is_box_inside-lengths (size ∷ sizes) (start ∷ starts) [] h = absurd (cc)
+is_box_inside-lengths (size ∷ sizes) (start ∷ starts) (len ∷ lengths) h =
+    let rest = is_box_inside-lengths sizes starts lengths (and_parts _ _ h).1 in
+    (ap suc rest.0, ap suc rest.1)
 
 -- ---- tuples
 
@@ -84,10 +99,11 @@ row_major-below [] [] h = omega arith
 row_major-below [] (index ∷ tuple) h = absurd (cc)
 row_major-below (size ∷ sizes) [] h = absurd (cc)
 row_major-below (size ∷ sizes) (index ∷ tuple) h =
-    let p = row_major-below sizes tuple (and_parts _ _ h).1 in
-    let q : index < size = from_lt_test _ _ (and_parts _ _ h).0 in
-    let m : index + 1 ≤ size = omega arith in
-    omega (arith, mul-le-mul_right (product sizes) m)
+    let parts = and_parts (nat_lt index size) (is_tuple_inside sizes tuple) h in
+    let rest : row_major sizes tuple < product sizes = row_major-below sizes tuple parts.1 in
+    let first : index < size = from_lt_test index size parts.0 in
+    let next : index + 1 ≤ size = omega arith in
+    omega (arith, mul-le-mul_right (product sizes) next)
 
 -- one axis more behind a number
 pub number_behind-more : (sizes tuple : List ℕ) (number axis : ℕ) → axis < length sizes → axis < length tuple → number_behind (number * get_or sizes axis 0 + get_or tuple axis 0) (drop (axis + 1) sizes) (drop (axis + 1) tuple) ≡ number_behind number (drop axis sizes) (drop axis tuple)

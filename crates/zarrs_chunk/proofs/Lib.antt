@@ -1,6 +1,10 @@
+pub mod BoxLaws
 pub mod BoxTuples
 pub mod Fitting
 pub mod Inside
+pub mod NumberLaws
 pub mod Numbers
+pub mod PlaceLaws
 pub mod Products
+pub mod Rising
 pub mod TupleLists

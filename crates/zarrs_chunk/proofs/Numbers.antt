@@ -1,15 +1,14 @@
 -- Numbers of tuples, and tuples of numbers.
-use Rattle.std.proofs.Common.{◌≡◌, ℕ, zero, suc, ◌+◌, ◌-◌, ◌*◌, ◌/◌, ◌%◌, ◌^◌, ◌<◌, ◌≤◌, ◌&&◌, ◌∙◌, Bool, true, false, Some, None, List, [], ◌∷◌, length, get_or, drop, set, nat_lt, arith, refl, ap, sym, if◌then◌else◌}
+use Rattle.std.proofs.Common.{◌≡◌, ℕ, zero, suc, ◌+◌, ◌*◌, ◌/◌, ◌%◌, ◌^◌, ◌<◌, ◌≤◌, ◌∙◌, true, false, Some, None, List, length, get_or, drop, set, nat_lt, arith, refl, ap, sym}
 use Rattle.std.specs.List.{All}
 use Rattle.std.proofs.lemmas.Bool.Decides.{nat_tests}
 use Rattle.std.proofs.lemmas.Bool.{and_from}
-use Rattle.std.proofs.lemmas.List.{drop_more, drop_all, drop-set, length-set}
-use Rattle.std.proofs.Math.Nat.{div-add-mod, mod-lt, mul-le-mul_left}
+use Rattle.std.proofs.lemmas.List.{drop_more, drop-set}
+use Rattle.std.proofs.Math.Nat.{div-add-mod, mod-lt}
 use Rattle.zarrs_chunk.specs.ChunkShape.{product}
-use Rattle.zarrs_chunk.specs.Indices.{raveled, IsUnraveled}
+use Rattle.zarrs_chunk.specs.Indices.{raveled}
 use Rattle.zarrs_chunk.specs.Levels.{number_behind}
 use Rattle.zarrs_chunk.specs.Tuples.{row_major, is_tuple_inside}
-use Rattle.zarrs_chunk.proofs.Products.{product_positive}
 use Rattle.zarrs_chunk.proofs.Inside.{is_tuple_inside-length, number_behind-more, number_behind-end, number_behind-drop-le}
 
 -- ---- ravel

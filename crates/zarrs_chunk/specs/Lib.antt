@@ -5,6 +5,7 @@ pub mod ChunkShape
 pub mod CodecError
 pub mod Indexer
 pub mod Indices
+pub mod Laws
 pub mod Levels
 pub mod Region
 pub mod Runs

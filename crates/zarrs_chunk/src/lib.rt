@@ -10,6 +10,7 @@ mod chunk_shape;
 mod codec_error;
 mod indexer;
 mod indices;
+pub mod laws;
 
 pub use array_subset::ArraySubset;
 pub use chunk_shape::ChunkShape;

@@ -1,12 +1,12 @@
-use Rattle.std.proofs.Common.{[], ◌∷◌, ◌++◌, ◌-◌, ◌≡◌, ℕ, ◌+◌, ◌*◌, ◌<◌, ◌≤◌, length, map, get_or, arith, sym, ap, ◌∙◌, refl}
+use Rattle.std.proofs.Common.{◌++◌, ◌-◌, ℕ, ◌+◌, ◌*◌, ◌<◌, ◌≤◌, length, map, get_or, arith, sym, ap, ◌∙◌}
 use Rattle.std.specs.List.{range_with_len}
 use Rattle.std.proofs.lemmas.List.{take_all}
 use Rattle.std.proofs.lemmas.List.Elements.{All-push}
 use Rattle.zarrs_chunk.specs.ChunkShape.{product}
 use Rattle.zarrs_chunk.specs.Tuples.{row_major}
-use Rattle.zarrs_chunk.proofs.BoxTuples.{next_fronts, box_tuples-nothing, flat_map-take_more, behind_fronts-last, box_places-none, joined_runs-push}
+use Rattle.zarrs_chunk.proofs.BoxTuples.{next_fronts, box_tuples-nothing, flat_map-take_more, behind_fronts-last, joined_runs-push}
 use Rattle.zarrs_chunk.proofs.Fitting.{row_fits}
-use Rattle.zarrs_chunk.proofs.Products.{All-positive, product_positive}
+use Rattle.zarrs_chunk.proofs.Products.{All-positive}
 use Rattle.zarrs_chunk.proofs.boxes.box_runs.Goals as goal
 
 pub returns-then-contains-clause-places : goal.returns-then-contains-clause-places

@@ -1,4 +1,4 @@
-use Rattle.std.proofs.Common.{◌≡◌, ◌+◌, ◌*◌, arith, drop, sym, refl, ap, ◌∙◌, true, false}
+use Rattle.std.proofs.Common.{◌≡◌, ◌+◌, ◌*◌, arith, drop, sym, refl, ap, ◌∙◌}
 use Rattle.std.proofs.lemmas.List.{drop_all}
 use Rattle.zarrs_chunk.specs.ChunkShape.{product}
 use Rattle.zarrs_chunk.proofs.Products.{All-positive, product_zero, product_more, product_more-le}

@@ -1,4 +1,4 @@
-use Rattle.std.proofs.Common.{rules, map}
+use Rattle.std.proofs.Common.{rules}
 use Rattle.std.proofs.lemmas.Simd.{map-map}
 use Rattle.zarrs_chunk.proofs.TupleLists.{tuples_inside}
 use Rattle.zarrs_chunk.proofs.indexer.indices_places.Goals as goal

@@ -1,5 +1,4 @@
-use Rattle.std.proofs.Common.{◌≡◌, ◌+◌, ◌*◌, ◌≤◌, ◌∙◌, get_or, arith, sym, ap, subst, None, true}
-use Rattle.zarrs_chunk.specs.Indices.{raveled}
+use Rattle.std.proofs.Common.{◌≡◌, ◌+◌, ◌*◌, ◌∙◌, get_or, arith, sym, true}
 use Rattle.zarrs_chunk.specs.Tuples.{is_tuple_inside}
 use Rattle.zarrs_chunk.proofs.Inside.{is_tuple_inside-length, number_behind-more}
 use Rattle.zarrs_chunk.proofs.Numbers.{raveled-fails, raveled-end}

@@ -1,7 +1,4 @@
-use Rattle.std.proofs.Common.{◌≡◌, ◌+◌, ◌*◌, ◌<◌, ◌≤◌, drop, get_or, length, arith, sym, ◌∙◌}
-use Rattle.zarrs_chunk.specs.ChunkShape.{product}
-use Rattle.zarrs_chunk.specs.Levels.{number_behind}
-use Rattle.zarrs_chunk.specs.Tuples.{row_major}
+use Rattle.std.proofs.Common.{◌+◌, ◌*◌, get_or, arith, sym, ◌∙◌}
 use Rattle.zarrs_chunk.proofs.Inside.{is_tuple_inside-length, row_major-below, number_behind-more, number_behind-end, number_behind-drop-le}
 use Rattle.zarrs_chunk.proofs.indices.row_major.Goals as goal
 

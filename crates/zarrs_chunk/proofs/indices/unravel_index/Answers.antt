@@ -1,4 +1,4 @@
-use Rattle.std.proofs.Common.{◌≡◌, ◌+◌, ◌-◌, ◌%◌, get_or, set, drop, arith, ap, sym, ◌∙◌, subst, true}
+use Rattle.std.proofs.Common.{◌≡◌, ◌+◌, ◌-◌, ◌%◌, get_or, drop, arith, ap, sym, ◌∙◌, true}
 use Rattle.std.proofs.lemmas.List.{length-set}
 use Rattle.zarrs_chunk.specs.Levels.{number_behind}
 use Rattle.zarrs_chunk.specs.Tuples.{is_tuple_inside}
