@@ -1,0 +1,14 @@
+pub mod OffsetLemmas
+pub mod RunLemmas
+pub mod FillLemmas
+pub mod UpdateSteps
+pub mod ValidLemmas
+pub mod ElementLemmas
+pub mod ExtractLemmas
+pub mod ExtractCalls
+pub mod FilledLemmas
+pub mod WriteLemmas
+pub mod UpdatedLemmas
+pub mod UpdateCalls
+pub mod UpdateLaw
+pub mod AnswerLemmas

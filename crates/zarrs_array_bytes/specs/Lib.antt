@@ -8,3 +8,10 @@ pub mod Parts
 pub mod Elements
 pub mod Validity
 pub mod WrongLength
+pub mod Pieces
+pub mod Extracted
+pub mod Filled
+pub mod Sources
+pub mod Updated
+pub mod Chunks
+pub mod Laws

@@ -1,5 +1,5 @@
 -- Containers made of parts, and the parts of containers.
-use Rattle.std.specs.Prelude.{ℕ, ◌==◌, nat_lt, List, length, Result, Ok, Err}
+use Rattle.std.specs.Prelude.{ℕ, ◌==◌, nat_lt, List, [], length, Result, Ok, Err}
 use Rattle.std.specs.List.{list_all}
 use Rattle.zarrs_chunk.specs.Answer.{◌>>=◌, demand}
 use Rattle.zarrs_chunk.specs.declared.codec_error.CodecError.{CodecError}
@@ -36,3 +36,21 @@ abbrev pub optional_part : Held → Result (Held × Raw) CodecError
 optional_part (flen raw) = Err ArrayBytesKind
 optional_part (vlen raw offsets) = Err ArrayBytesKind
 optional_part (masked inner mask) = Ok (inner, mask)
+
+-- the bytes of the outermost level: those of the elements, or a mask's
+abbrev pub bytes_in : Held → List ℕ
+bytes_in (flen raw) = raw.items
+bytes_in (vlen raw offsets) = raw.items
+bytes_in (masked inner mask) = mask.items
+
+-- the offsets of the outermost level
+abbrev pub offsets_in : Held → List ℕ
+offsets_in (flen raw) = []
+offsets_in (vlen raw offsets) = offsets
+offsets_in (masked inner mask) = []
+
+-- what stands under the outermost mask
+abbrev pub inner_in : Held → Held
+inner_in (flen raw) = flen raw
+inner_in (vlen raw offsets) = vlen raw offsets
+inner_in (masked inner mask) = inner

@@ -39,9 +39,13 @@ validity type count held = do
   _ ← sizes_fit type count
   levels_fit InvalidBytesLength type count held
 
+-- any wrong length of new data
+abbrev pub data_mismatch : LengthRefusal
+data_mismatch found expected = DataMismatch
+
 -- new data have one element of the type for each of so many places
 abbrev pub data_fit : ElementType → ℕ → Held → Result (Unit {0}) CodecError
-data_fit type count held = levels_fit (λ found expected. DataMismatch) type count held
+data_fit type count held = levels_fit data_mismatch type count held
 
 -- the container holds the chunk: it has as many elements of the type, and they are the chunk's
 pub record Holds (type : ElementType) (held : Held) (chunk : Chunk) : Type 0 where

@@ -1,7 +1,9 @@
-ghost use Rattle.std.specs.Prelude.{◌≡◌, Ok, IfOk, IsOk, true, false, min, length};
+ghost use Rattle.std.specs.Prelude.{◌≡◌, ◌<◌, ◌^◌, Ok, IfOk, IsOk, true, false, min, length};
 ghost use Rattle.std.specs.Cmp.{partial_equiv_from_equiv};
 ghost use Rattle.zarrs_chunk.specs.Answer.{Answers, memory, seen, is_fault};
-ghost use Rattle.zarrs_array_bytes.specs.Held.{flen, vlen, masked, raw_of, size_of};
+ghost use Rattle.zarrs_array_bytes.specs.Held.{flen, vlen, masked, owned, raw_of, size_of};
+ghost use Rattle.zarrs_array_bytes.specs.Offsets.{is_offsets, last_of};
+ghost use Rattle.zarrs_array_bytes.specs.Extracted.{IsSmall};
 ghost use Rattle.zarrs_array_bytes.specs.SameBytes.{is_same_held};
 ghost use Rattle.zarrs_array_bytes.specs.SameBytesLaws.{is_same_held-equivalence};
 ghost use Rattle.zarrs_array_bytes.specs.Parts.{with_offsets, with_mask, fixed_part, variable_part, optional_part};
@@ -26,12 +28,12 @@ use zarrs_data_type::DataType;
 #[cycle(array_bytes)]
 #[derive(Debug, Drop)]
 pub struct ArrayBytes<'a> {
-    parts: Parts<'a>,
+    pub(crate) parts: Parts<'a>,
 }
 
 #[cycle(array_bytes)]
 #[derive(Debug, Drop)]
-enum Parts<'a> {
+pub(crate) enum Parts<'a> {
     Fixed(ArrayBytesRaw<'a>),
     Variable(ArrayBytesRaw<'a>, ArrayBytesOffsets),
     Optional(Box<ArrayBytes<'a>>, ArrayBytesRaw<'a>),
@@ -102,6 +104,34 @@ impl<'a> ArrayBytes<'a> {
         })
     }
 
+    pub(crate) fn of_variable(bytes: Vec<u8>, offsets: Vec<usize>) -> ArrayBytes<'a>
+        requires rising { is_offsets offsets.items ≡ true }
+        requires ending { last_of offsets.items ≡ length bytes.items }
+        ensures { result ≡ vlen (owned bytes.items) offsets.items }
+    {
+        ArrayBytes {
+            parts: Parts::Variable(
+                CowSlice::Owned(bytes),
+                ArrayBytesOffsets::of_rising(offsets),
+            ),
+        }
+    }
+
+    pub(crate) fn of_masked(
+        alloc: Global,
+        inner: ArrayBytes<'a>,
+        mask: Vec<u8>,
+    ) -> Result<ArrayBytes<'a>, CodecError>
+        requires { list_all (λ byte. nat_lt byte 2) mask.items ≡ true }
+        ensures small { IfOk result (λ array. IsSmall inner.entry → IsSmall array) }
+        ensures exact { Answers memory (λ array. array) result (Ok (masked inner.entry (owned mask.items))) }
+        ensures no_fault { is_fault result ≡ false }
+    {
+        Ok(ArrayBytes {
+            parts: Parts::Optional(Box::new(alloc, inner)?, CowSlice::Owned(mask)),
+        })
+    }
+
     /// The bytes of elements of one size. Refusals: `ArrayBytesKind` for any other elements.
     pub fn into_fixed(self) -> Result<ArrayBytesRaw<'a>, CodecError>
         ensures { seen raw_of result ≡ fixed_part self.entry }
@@ -159,7 +189,7 @@ impl<'a> ArrayBytes<'a> {
         ensures no_fault { is_fault result ≡ false }
     {
         check_sizes(count, data_type)?;
-        self.check_levels(count, data_type, WrongLength::InvalidBytesLength)
+        self.check_levels(count as u128, data_type, WrongLength::InvalidBytesLength)
     }
 
     /// Whether these are new data for `count` places: one element of the type for each. Refusals,
@@ -169,34 +199,35 @@ impl<'a> ArrayBytes<'a> {
         ensures exact { result ≡ data_fit data_type.now count self.now }
         ensures no_fault { is_fault result ≡ false }
     {
-        self.check_levels(count, data_type, WrongLength::DataMismatch)
+        self.check_levels(count as u128, data_type, WrongLength::DataMismatch)
     }
 
-    fn check_levels(
+    pub(crate) fn check_levels(
         &self,
-        count: u64,
+        count: u128,
         data_type: &DataType,
         wrong: WrongLength,
     ) -> Result<(), CodecError>
-        requires { wrong ≡ WrongLength.InvalidBytesLength → sizes_fit data_type.now count ≡ Ok tt }
+        requires counted { wrong ≡ WrongLength.InvalidBytesLength → count < 2 ^ 64 }
+        requires sizes { wrong ≡ WrongLength.InvalidBytesLength → sizes_fit data_type.now count ≡ Ok tt }
         ensures exact { result ≡ levels_fit (refusal_of wrong) data_type.now count self.now }
         ensures no_fault { is_fault result ≡ false }
     {
         match &self.parts {
             Parts::Fixed(bytes) => match data_type.fixed_size() {
-                Some(size) => check_length(bytes.len() as u64, count, size as u64, wrong),
+                Some(size) => check_length(bytes.len(), count, size, wrong),
                 None => Err(CodecError::ArrayBytesKind),
             },
             Parts::Variable(_, offsets) => {
                 if data_type.is_variable() {
-                    check_offsets(offsets.as_slice().len() as u64, count, wrong)
+                    check_offsets(offsets.as_slice().len(), count, wrong)
                 } else {
                     Err(CodecError::ArrayBytesKind)
                 }
             }
             Parts::Optional(inner, mask) => match data_type.as_optional() {
                 Some(inner_type) => {
-                    check_length(mask.len() as u64, count, 1, wrong)?;
+                    check_length(mask.len(), count, 1, wrong)?;
                     inner.check_levels(count, inner_type, wrong)
                 }
                 None => Err(CodecError::ArrayBytesKind),

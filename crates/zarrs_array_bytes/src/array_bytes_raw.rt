@@ -1,7 +1,8 @@
-ghost use Rattle.std.specs.Prelude.{◌≡◌, Ok};
-ghost use Rattle.zarrs_chunk.specs.Answer.{Answers, memory};
+ghost use Rattle.std.specs.Prelude.{◌≡◌, Ok, false};
+ghost use Rattle.zarrs_chunk.specs.Answer.{Answers, memory, is_fault};
 ghost use Rattle.zarrs_array_bytes.specs.Held.{raw_of};
 
+use std::alloc::Global;
 use std::borrow::CowSlice;
 use zarrs_chunk::CodecError;
 
@@ -15,5 +16,16 @@ pub(crate) fn clone_raw<'a>(raw: &ArrayBytesRaw<'a>) -> Result<ArrayBytesRaw<'a>
     match raw {
         CowSlice::Borrowed(bytes) => Ok(CowSlice::Borrowed(*bytes)),
         CowSlice::Owned(bytes) => Ok(CowSlice::Owned(bytes.clone()?)),
+    }
+}
+
+/// The bytes as owned ones. Owned bytes are taken as they are.
+pub(crate) fn owned_bytes(alloc: Global, raw: ArrayBytesRaw<'_>) -> Result<Vec<u8>, CodecError>
+    ensures exact { Answers memory (λ v. v.items) result (Ok (raw_of raw.entry).items) }
+    ensures no_fault { is_fault result ≡ false }
+{
+    match raw {
+        CowSlice::Borrowed(bytes) => Ok(bytes.to_vec(alloc)?),
+        CowSlice::Owned(bytes) => Ok(bytes),
     }
 }

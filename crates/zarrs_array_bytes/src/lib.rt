@@ -6,8 +6,21 @@
 mod array_bytes;
 mod array_bytes_offsets;
 mod array_bytes_raw;
+mod extract;
+mod fill;
+mod gather;
+pub mod laws;
+mod repeat;
+mod runs;
+mod sources;
+mod update;
 mod validate;
+mod write;
 
 pub use array_bytes::ArrayBytes;
 pub use array_bytes_offsets::ArrayBytesOffsets;
 pub use array_bytes_raw::ArrayBytesRaw;
+pub use update::update_array_bytes;
+
+#[cfg(test)]
+mod tests;

@@ -15,22 +15,22 @@ pub(crate) enum WrongLength {
 
 /// Whether as many bytes, or flags, are found as `count` elements of `size` have.
 pub(crate) fn check_length(
-    found: u64,
-    count: u64,
-    size: u64,
+    found: usize,
+    count: u128,
+    size: usize,
     wrong: WrongLength,
 ) -> Result<(), CodecError>
     requires { wrong ≡ WrongLength.InvalidBytesLength → count * size < 2 ^ 64 }
     ensures { result ≡ length_is (refusal_of wrong) found (count * size) }
 {
-    if count.checked_mul(size) == Some(found) {
+    if count.checked_mul(size as u128) == Some(found as u128) {
         return Ok(());
     }
     match wrong {
         WrongLength::InvalidBytesLength => {
-            let expected = count * size;
+            let expected = (count * size as u128) as u64;
             Err(CodecError::InvalidBytesLength {
-                len: found,
+                len: found as u64,
                 expected,
             })
         }
@@ -39,18 +39,18 @@ pub(crate) fn check_length(
 }
 
 /// Whether as many offsets are found as `count` elements have.
-pub(crate) fn check_offsets(found: u64, count: u64, wrong: WrongLength) -> Result<(), CodecError>
+pub(crate) fn check_offsets(found: usize, count: u128, wrong: WrongLength) -> Result<(), CodecError>
     requires { wrong ≡ WrongLength.InvalidBytesLength → count + 1 < 2 ^ 64 }
     ensures { result ≡ length_is (refusal_of wrong) found (count + 1) }
 {
-    if count.checked_add(1) == Some(found) {
+    if count.checked_add(1) == Some(found as u128) {
         return Ok(());
     }
     match wrong {
         WrongLength::InvalidBytesLength => {
-            let expected = count + 1;
+            let expected = (count + 1) as u64;
             Err(CodecError::InvalidBytesLength {
-                len: found,
+                len: found as u64,
                 expected,
             })
         }

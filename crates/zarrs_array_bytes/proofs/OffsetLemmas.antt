@@ -1,0 +1,53 @@
+-- What follows from offsets that rise.
+use Rattle.std.proofs.Common.{◌≡◌, ℕ, zero, suc, ◌+◌, ◌<◌, ◌≤◌, Bool, true, false, List, [], ◌∷◌, length, map, slice_index, get_or, ◌&&◌, refl, ◌∙◌, arith, leb-true, le-leb, add-one, sub-one, zero-add, length-append}
+use Rattle.std.proofs.lemmas.Bool.{false≢true}
+use Rattle.std.specs.List.{flat_map}
+use Rattle.zarrs_array_bytes.specs.Offsets.{rises, is_offsets, last_of}
+use Rattle.zarrs_array_bytes.specs.Pieces.{ends, gathered}
+
+pub both_true : (a b : Bool) → a && b ≡ true → (a ≡ true) × (b ≡ true)
+both_true true b h = (refl, h)
+both_true false b h = absurd (false≢true h)
+
+steps : (o : ℕ) (os : List ℕ) → rises (o ∷ os) ≡ true → (k : ℕ) → k < length os → get_or (o ∷ os) k 0 ≤ get_or os k 0
+steps o [] h k l = omega arith
+steps o (p ∷ os) h zero l = leb-true o p (both_true _ _ h).0
+steps o (p ∷ os) h (suc k) l = steps p os (both_true _ _ h).1 k (omega arith)
+
+-- none is less than the one before
+pub rising_steps : (os : List ℕ) → is_offsets os ≡ true → (k : ℕ) → k + 1 < length os → slice_index os k ≤ slice_index os (k + 1)
+rising_steps [] h k l = omega arith
+rising_steps (o ∷ os) h k l = rw add-one (steps o os h k (omega arith))
+
+ends_above : (o : ℕ) (os : List ℕ) → rises (o ∷ os) ≡ true → (k : ℕ) → k < length os + 1 → get_or (o ∷ os) k 0 ≤ get_or (o ∷ os) (length os) 0
+ends_above o [] h zero l = omega arith
+ends_above o [] h (suc k) l = omega arith
+ends_above o (p ∷ os) h zero l = omega (arith, leb-true o p (both_true _ _ h).0, ends_above p os (both_true _ _ h).1 0 (omega arith))
+ends_above o (p ∷ os) h (suc k) l = ends_above p os (both_true _ _ h).1 k (omega arith)
+
+-- none is above the last
+pub rising_last : (os : List ℕ) → is_offsets os ≡ true → (k : ℕ) → k < length os → slice_index os k ≤ last_of os
+rising_last [] h k l = omega arith
+rising_last (o ∷ os) h k l = rw sub-one (ends_above o os h k (omega arith))
+
+-- the ends rise
+pub ends_rise : (at : ℕ) (xs : List (List ℕ)) → is_offsets (at ∷ ends at xs) ≡ true
+ends_rise at [] = refl
+ends_rise at (x ∷ xs) = rw (le-leb at (at + length x) (omega arith)) (ends_rise (at + length x) xs)
+
+at_end : {X : Type 0} (f : X → List ℕ) (at : ℕ) (ps : List X) → get_or (at ∷ ends at (map f ps)) (length (ends at (map f ps))) 0 ≡ at + length (flat_map f ps)
+at_end f at [] = omega arith
+at_end f at (p ∷ ps) = omega (arith, at_end f (at + length (f p)) ps, length-append (f p) (flat_map f ps))
+
+-- the last end is behind all
+last_of-ends : {X : Type 0} (f : X → List ℕ) (at : ℕ) (ps : List X) → last_of (at ∷ ends at (map f ps)) ≡ at + length (flat_map f ps)
+last_of-ends f at ps = rw sub-one (at_end f at ps)
+
+-- what is gathered has offsets that rise to its end
+pub gathered_rises : {X : Type 0} (f : X → List ℕ) (xs : List X) → is_offsets (gathered f xs).1 ≡ true
+gathered_rises f xs = ends_rise 0 (map f xs)
+
+pub gathered_ends : {X : Type 0} (f : X → List ℕ) (xs : List X) → last_of (gathered f xs).1 ≡ length (gathered f xs).0
+gathered_ends f xs = last_of-ends f 0 xs ∙ zero-add _
+
+pub ruleset offsets_facts = (rising_steps, rising_last)

@@ -1,0 +1,36 @@
+-- What the calls over a chunk's container answer, as chunks.
+use Rattle.std.specs.Prelude.{ℕ, List, length, replicate, Result, Ok}
+use Rattle.zarrs_chunk.specs.Answer.{◌>>=◌, demand}
+use Rattle.zarrs_chunk.specs.ChunkShape.{product}
+use Rattle.zarrs_chunk.specs.Selection.{Selection, places_of}
+use Rattle.zarrs_chunk.specs.declared.codec_error.CodecError.{CodecError}
+use Rattle.zarrs_chunk.specs.declared.codec_error.CodecError.TheVariants.{InvalidFillValue}
+use Rattle.zarrs_data_type.specs.ElementType.{ElementType}
+use Rattle.zarrs_data_type.specs.FillValue.{fill_fits}
+use Rattle.zarrs_data_type.specs.Element.{Chunk, fill_element}
+use Rattle.zarrs_array_bytes.specs.Held.{Held}
+use Rattle.zarrs_array_bytes.specs.Elements.{elements, select}
+use Rattle.zarrs_array_bytes.specs.Validity.{sizes_fit, validity, data_fit}
+use Rattle.zarrs_array_bytes.specs.Updated.{update}
+
+-- so many fill elements, or the first cause why they can't be made
+abbrev pub fill_chunk : ElementType → ℕ → List ℕ → Result Chunk CodecError
+fill_chunk type count fill = do
+  _ ← demand (fill_fits type fill) InvalidFillValue
+  _ ← sizes_fit type count
+  Ok (replicate count (fill_element type fill))
+
+-- the selection at the selected places, or the first cause why there is none
+abbrev pub selected_chunk : ElementType → List ℕ → Selection → Held → Result Chunk CodecError
+selected_chunk type sizes selection held = do
+  places ← places_of selection sizes
+  _ ← validity type (product sizes) held
+  Ok (select (elements type (product sizes) held) places)
+
+-- the chunk with the elements at the selected places replaced by the new ones, or the first cause why it can't be made
+abbrev pub updated_chunk : ElementType → List ℕ → Selection → Held → Held → Result Chunk CodecError
+updated_chunk type sizes selection held new = do
+  places ← places_of selection sizes
+  _ ← validity type (product sizes) held
+  _ ← data_fit type (length places) new
+  Ok (update (elements type (product sizes) held) places (elements type (length places) new))

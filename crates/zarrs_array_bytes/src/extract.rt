@@ -1,0 +1,77 @@
+ghost use Rattle.std.specs.Prelude.{◌≡◌, ◌+◌, ◌≤◌, Ok, IfOk, All, false};
+ghost use Rattle.zarrs_chunk.specs.declared.codec_error.CodecError.TheVariants.{InvalidBytesLength};
+ghost use Rattle.zarrs_chunk.specs.Answer.{Answers, AnswersBy, memory, is_fault};
+ghost use Rattle.zarrs_chunk.specs.Indexer.{selection_of};
+ghost use Rattle.zarrs_chunk.specs.Runs.{joined_runs};
+ghost use Rattle.zarrs_array_bytes.specs.Validity.{Holds, levels_fit};
+ghost use Rattle.zarrs_array_bytes.specs.Extracted.{extracted, IsSmall};
+ghost use Rattle.zarrs_array_bytes.specs.Chunks.{selected_chunk};
+
+use crate::array_bytes::{ArrayBytes, Parts};
+use crate::gather::{gather_cuts, gather_flags, gather_pieces};
+use crate::runs::places_of_runs;
+use std::alloc::Global;
+use std::borrow::CowSlice;
+use zarrs_chunk::{ChunkShape, CodecError, Indexer};
+use zarrs_data_type::DataType;
+
+impl<'a> ArrayBytes<'a> {
+    /// The elements of a chunk of this shape and type at the indexer's tuples, in their order. Elements
+    /// of one size are copied a run at a time. Refusals, the first that holds, `OutOfMemory` aside:
+    /// those of the indexer (`IncompatibleDimensionality`, `OutOfBounds`, and `Overflow` where the
+    /// shape has `2^64` elements or more), and then those of `validate` at the shape's element count.
+    pub fn extract_array_subset(
+        &self,
+        alloc: Global,
+        indexer: &Indexer,
+        shape: &ChunkShape,
+        data_type: &DataType,
+    ) -> Result<ArrayBytes<'static>, CodecError>
+        ensures exact { AnswersBy memory (Holds data_type.now) result (selected_chunk data_type.now shape.now (selection_of indexer.now) self.now) }
+        ensures no_fault { is_fault result ≡ false }
+    {
+        let runs = indexer.runs(alloc, shape)?;
+        let count = shape.num_elements()?;
+        self.validate(count, data_type)?;
+        self.at_runs(alloc, runs.as_slice(), count, data_type)
+    }
+
+    #[tactic(auto, using(crate::proofs::ExtractCalls::extract_calls))]
+    fn at_runs(
+        &self,
+        alloc: Global,
+        runs: &[(u64, u64)],
+        count: u64,
+        data_type: &DataType,
+    ) -> Result<ArrayBytes<'static>, CodecError>
+        requires valid { levels_fit InvalidBytesLength data_type.now count self.now ≡ Ok tt }
+        requires inside { All (λ run. run.0 + run.1 ≤ count) runs.now }
+        ensures small { IfOk result IsSmall }
+        ensures exact { Answers memory (λ array. array) result (Ok (extracted data_type.now self.now (joined_runs runs.now))) }
+        ensures no_fault { is_fault result ≡ false }
+    {
+        match &self.parts {
+            Parts::Fixed(bytes) => {
+                let size = data_type.fixed_size().unwrap();
+                let bytes = gather_pieces(alloc, bytes.as_slice(), size, runs)?;
+                Ok(ArrayBytes::new_flen(CowSlice::Owned(bytes)))
+            }
+            Parts::Variable(bytes, offsets) => {
+                let places = places_of_runs(alloc, runs)?;
+                let (bytes, offsets) = gather_cuts(
+                    alloc,
+                    bytes.as_slice(),
+                    offsets.as_slice(),
+                    places.as_slice(),
+                )?;
+                Ok(ArrayBytes::of_variable(bytes, offsets))
+            }
+            Parts::Optional(inner, mask) => {
+                let inner_type = data_type.as_optional().unwrap();
+                let inner = inner.at_runs(alloc, runs, count, inner_type)?;
+                let mask = gather_flags(alloc, mask.as_slice(), runs)?;
+                ArrayBytes::of_masked(alloc, inner, mask)
+            }
+        }
+    }
+}

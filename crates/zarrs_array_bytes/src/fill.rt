@@ -1,0 +1,93 @@
+ghost use Rattle.std.specs.Prelude.{◌≡◌, Ok, IfOk, false};
+ghost use Rattle.zarrs_chunk.specs.Answer.{Answers, AnswersBy, memory, is_fault};
+ghost use Rattle.zarrs_array_bytes.specs.Validity.{Holds, sizes_fit};
+ghost use Rattle.zarrs_array_bytes.specs.Extracted.{IsSmall};
+ghost use Rattle.zarrs_array_bytes.specs.Filled.{blank_elements as blank_of, filled as filled_of};
+ghost use Rattle.zarrs_array_bytes.specs.Chunks.{fill_chunk};
+
+use crate::array_bytes::ArrayBytes;
+use crate::repeat::{repeat_bytes, repeat_cuts, same_bytes, zero_offsets};
+use crate::validate::check_sizes;
+use std::alloc::Global;
+use std::borrow::CowSlice;
+use zarrs_chunk::CodecError;
+use zarrs_data_type::{DataType, FillValue};
+
+impl<'a> ArrayBytes<'a> {
+    /// `count` elements of the type, each of them the fill value. Absent ones stand over zeros, empty
+    /// bytes and inner masks of zero. Refusals, the first that holds, `OutOfMemory` aside:
+    /// `InvalidFillValue` where the bytes don't fit the type; `Overflow` as in `validate`.
+    pub fn new_fill_value(
+        alloc: Global,
+        data_type: &DataType,
+        count: u64,
+        fill_value: &FillValue,
+    ) -> Result<ArrayBytes<'a>, CodecError>
+        ensures exact { AnswersBy memory (Holds data_type.now) result (fill_chunk data_type.now count fill_value.now) }
+        ensures no_fault { is_fault result ≡ false }
+    {
+        if !fill_value.fits(data_type) {
+            return Err(CodecError::InvalidFillValue);
+        }
+        check_sizes(count, data_type)?;
+        fill_elements(alloc, data_type, count, fill_value.as_ne_bytes())
+    }
+}
+
+/// `count` elements that are absent, and what stands under them.
+#[tactic(auto, using(crate::proofs::FillLemmas::fill_calls))]
+fn blank_elements<'a>(
+    alloc: Global,
+    data_type: &DataType,
+    count: u64,
+) -> Result<ArrayBytes<'a>, CodecError>
+    requires { sizes_fit data_type.now count ≡ Ok tt }
+    ensures small { IfOk result IsSmall }
+    ensures exact { Answers memory (λ array. array) result (Ok (blank_of data_type.now count)) }
+    ensures no_fault { is_fault result ≡ false }
+{
+    if let Some(inner) = data_type.as_optional() {
+        let inner = blank_elements(alloc, inner, count)?;
+        return ArrayBytes::of_masked(alloc, inner, same_bytes(alloc, 0, count)?);
+    }
+    match data_type.fixed_size() {
+        Some(size) => {
+            let bytes = same_bytes(alloc, 0, count * size as u64)?;
+            Ok(ArrayBytes::new_flen(CowSlice::Owned(bytes)))
+        }
+        None => Ok(ArrayBytes::of_variable(Vec::new(alloc), zero_offsets(alloc, count + 1)?)),
+    }
+}
+
+/// `count` elements of a fill value's bytes.
+#[tactic(auto, using(crate::proofs::FillLemmas::fill_calls))]
+fn fill_elements<'a>(
+    alloc: Global,
+    data_type: &DataType,
+    count: u64,
+    fill: &[u8],
+) -> Result<ArrayBytes<'a>, CodecError>
+    requires { sizes_fit data_type.now count ≡ Ok tt }
+    ensures small { IfOk result IsSmall }
+    ensures exact { Answers memory (λ array. array) result (Ok (filled_of data_type.now count fill.now)) }
+    ensures no_fault { is_fault result ≡ false }
+{
+    if let Some(inner) = data_type.as_optional() {
+        if let [0] = fill {
+            let inner = blank_elements(alloc, inner, count)?;
+            return ArrayBytes::of_masked(alloc, inner, same_bytes(alloc, 0, count)?);
+        }
+        let front = match fill {
+            [front @ .., _] => front,
+            [] => fill,
+        };
+        let inner = fill_elements(alloc, inner, count, front)?;
+        return ArrayBytes::of_masked(alloc, inner, same_bytes(alloc, 1, count)?);
+    }
+    if data_type.is_variable() {
+        let (bytes, offsets) = repeat_cuts(alloc, fill, count)?;
+        return Ok(ArrayBytes::of_variable(bytes, offsets));
+    }
+    let bytes = repeat_bytes(alloc, fill, count)?;
+    Ok(ArrayBytes::new_flen(CowSlice::Owned(bytes)))
+}

@@ -1,0 +1,7 @@
+//! Laws over the definitions alone: each function's contract is one.
+ghost use Rattle.zarrs_array_bytes.specs.Laws.{UpdateThenSelect};
+
+/// What is selected after an update is the data written last at a place, or else the old element.
+pub fn update_then_select()
+    ensures { UpdateThenSelect }
+{}

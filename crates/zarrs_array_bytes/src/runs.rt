@@ -1,0 +1,39 @@
+ghost use Rattle.std.specs.Prelude.{◌≡◌, ◌<◌, ◌+◌, ◌^◌, All, Ok, length, false};
+ghost use Rattle.zarrs_chunk.specs.Answer.{Answers, memory, is_fault};
+ghost use Rattle.zarrs_chunk.specs.Runs.{joined_runs};
+
+use std::alloc::Global;
+use zarrs_chunk::CodecError;
+
+/// How many places the runs have.
+pub(crate) fn count_places(runs: &[(u64, u64)]) -> u128
+    ensures { result ≡ length (joined_runs runs.now) }
+{
+    let mut count: u128 = 0;
+    for run in runs {
+        count += run.1 as u128;
+    }
+    count
+}
+
+/// How many bytes to reserve for elements of `size` at the runs.
+pub(crate) fn bytes_of_runs(runs: &[(u64, u64)], size: usize) -> usize {
+    let mut count: u64 = 0;
+    for run in runs {
+        count = count.saturating_add(run.1);
+    }
+    (count as usize).saturating_mul(size)
+}
+
+/// The places of the runs, in order.
+pub(crate) fn places_of_runs(alloc: Global, runs: &[(u64, u64)]) -> Result<Vec<u64>, CodecError>
+    requires { All (λ run. run.0 + run.1 < 2 ^ 64) runs.now }
+    ensures exact { Answers memory (λ v. v.items) result (Ok (joined_runs runs.now)) }
+    ensures no_fault { is_fault result ≡ false }
+{
+    let mut places = Vec::with_capacity(alloc, bytes_of_runs(runs, 1))?;
+    for run in runs {
+        places.extend(run.0..run.0 + run.1)?;
+    }
+    Ok(places)
+}

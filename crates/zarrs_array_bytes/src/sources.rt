@@ -1,0 +1,95 @@
+ghost use Rattle.std.specs.Prelude.{◌≡◌, ◌+◌, ◌≤◌, ◌-◌, ◌<◌, ◌^◌, All, Ok, IfOk, length, true, false};
+ghost use Rattle.zarrs_chunk.specs.Answer.{Answers, memory, is_fault};
+ghost use Rattle.zarrs_chunk.specs.Runs.{joined_runs};
+ghost use Rattle.zarrs_array_bytes.specs.Elements.{cut};
+ghost use Rattle.zarrs_array_bytes.specs.Offsets.{is_offsets, last_of};
+ghost use Rattle.zarrs_array_bytes.specs.Pieces.{gathered};
+ghost use Rattle.zarrs_array_bytes.specs.Sources.{sources, chosen, IsSourceOf};
+
+use crate::gather::cut_of;
+use crate::runs::places_of_runs;
+use std::alloc::Global;
+use zarrs_chunk::CodecError;
+
+/// Where an element of an updated container comes from: a place of the old elements, or of the new
+/// ones.
+#[derive(Clone, Copy, Drop)]
+enum Source {
+    Old(usize),
+    New(usize),
+}
+
+/// The bytes between the offsets, with those of the elements at the runs replaced by the new ones in
+/// order, and where each then begins and ends.
+pub(crate) fn written_cuts(
+    alloc: Global,
+    old: &[u8],
+    old_offsets: &[usize],
+    new: &[u8],
+    new_offsets: &[usize],
+    runs: &[(u64, u64)],
+) -> Result<(Vec<u8>, Vec<usize>), CodecError>
+    requires old_rising { is_offsets old_offsets.now ≡ true }
+    requires old_ending { last_of old_offsets.now ≡ length old.now }
+    requires new_rising { is_offsets new_offsets.now ≡ true }
+    requires new_ending { last_of new_offsets.now ≡ length new.now }
+    requires inside { All (λ run. run.0 + run.1 ≤ length old_offsets.now - 1) runs.now }
+    requires enough { length new_offsets.now ≡ length (joined_runs runs.now) + 1 }
+    ensures exact { Answers memory (λ parts. (parts.0.items, parts.1.items)) result
+        (Ok (gathered (chosen (cut old_offsets.now old.now) (cut new_offsets.now new.now)) (sources (length old_offsets.now - 1) (joined_runs runs.now)))) }
+    ensures no_fault { is_fault result ≡ false }
+{
+    let places = places_of_runs(alloc, runs)?;
+    let from = sources_of(alloc, old_offsets.len() - 1, places.as_slice())?;
+    gather_sources(alloc, old, old_offsets, new, new_offsets, from.as_slice())
+}
+
+/// For each of `count` places, where its element comes from after writes at these places.
+fn sources_of(alloc: Global, count: usize, places: &[u64]) -> Result<Vec<Source>, CodecError>
+    requires { All (λ place. place < count) places.now }
+    ensures exact { Answers memory (λ v. v.items) result (Ok (sources count places.now)) }
+    ensures no_fault { is_fault result ≡ false }
+{
+    let mut from = Vec::with_capacity(alloc, count)?;
+    for place in 0..count {
+        from.push(Source::Old(place))?;
+    }
+    let mut next = 0;
+    for place in places {
+        from[*place as usize] = Source::New(next);
+        next += 1;
+    }
+    Ok(from)
+}
+
+/// The bytes between the offsets at these sources, and where each then begins and ends.
+fn gather_sources(
+    alloc: Global,
+    old: &[u8],
+    old_offsets: &[usize],
+    new: &[u8],
+    new_offsets: &[usize],
+    from: &[Source],
+) -> Result<(Vec<u8>, Vec<usize>), CodecError>
+    requires old_rising { is_offsets old_offsets.now ≡ true }
+    requires old_ending { last_of old_offsets.now ≡ length old.now }
+    requires new_rising { is_offsets new_offsets.now ≡ true }
+    requires new_ending { last_of new_offsets.now ≡ length new.now }
+    requires known { All (IsSourceOf (length old_offsets.now - 1) (length new_offsets.now - 1)) from.now }
+    ensures exact { Answers memory (λ parts. (parts.0.items, parts.1.items)) result
+        (Ok (gathered (chosen (cut old_offsets.now old.now) (cut new_offsets.now new.now)) from.now)) }
+    ensures no_fault { is_fault result ≡ false }
+{
+    let mut out = Vec::new(alloc);
+    let mut ends = Vec::with_capacity(alloc, from.len().saturating_add(1))?;
+    ends.push(0)?;
+    for source in from {
+        let part = match *source {
+            Source::Old(place) => cut_of(old, old_offsets, place),
+            Source::New(place) => cut_of(new, new_offsets, place),
+        };
+        out.extend_from_slice(part)?;
+        ends.push(out.len())?;
+    }
+    Ok((out, ends))
+}

@@ -1,0 +1,65 @@
+ghost use Rattle.std.specs.Prelude.{◌≡◌, ◌+◌, ◌*◌, ◌≤◌, All, Ok, false, length};
+ghost use Rattle.zarrs_chunk.specs.Answer.{Answers, memory, is_fault};
+ghost use Rattle.zarrs_chunk.specs.Runs.{joined_runs};
+ghost use Rattle.zarrs_array_bytes.specs.Held.{raw_of};
+ghost use Rattle.zarrs_array_bytes.specs.Updated.{overwritten, runs_written, update};
+
+use crate::array_bytes_raw::{ArrayBytesRaw, owned_bytes};
+use std::alloc::Global;
+use zarrs_chunk::CodecError;
+
+/// The bytes with the elements of `size` at the runs replaced by those of `new`, in order. Owned
+/// bytes are written in place.
+pub(crate) fn written_elements(
+    alloc: Global,
+    raw: ArrayBytesRaw<'_>,
+    new: &[u8],
+    size: usize,
+    runs: &[(u64, u64)],
+) -> Result<Vec<u8>, CodecError>
+    requires inside { All (λ run. (run.0 + run.1) * size ≤ length (raw_of raw).items) runs.now }
+    requires enough { length (joined_runs runs.now) * size ≤ length new.now }
+    ensures exact { Answers memory (λ v. v.items) result (Ok (runs_written size (raw_of raw.entry).items runs.now new.now)) }
+    ensures no_fault { is_fault result ≡ false }
+{
+    let mut bytes = owned_bytes(alloc, raw)?;
+    write_runs(&mut bytes, new, size, runs);
+    Ok(bytes)
+}
+
+/// The flags with those at the runs replaced by the new ones, in order.
+pub(crate) fn written_flags(
+    alloc: Global,
+    raw: ArrayBytesRaw<'_>,
+    new: &[u8],
+    runs: &[(u64, u64)],
+) -> Result<Vec<u8>, CodecError>
+    requires inside { All (λ run. run.0 + run.1 ≤ length (raw_of raw).items) runs.now }
+    requires enough { length new.now ≡ length (joined_runs runs.now) }
+    ensures exact { Answers memory (λ v. v.items) result (Ok (update (raw_of raw.entry).items (joined_runs runs.now) new.now)) }
+    ensures no_fault { is_fault result ≡ false }
+{
+    written_elements(alloc, raw, new, 1, runs)
+}
+
+fn write_runs(bytes: &mut [u8], new: &[u8], size: usize, runs: &[(u64, u64)])
+    requires inside { All (λ run. (run.0 + run.1) * size ≤ length bytes.old) runs.now }
+    requires enough { length (joined_runs runs.now) * size ≤ length new.now }
+    ensures written { bytes.new ≡ runs_written size bytes.old runs.now new.now }
+    ensures len { length bytes.new ≡ length bytes.old }
+{
+    let mut done = 0;
+    for run in runs {
+        let at = run.0 as usize * size;
+        let len = run.1 as usize * size;
+        overwrite(bytes, at, &new[done..done + len]);
+        done += len;
+    }
+}
+
+fn overwrite(bytes: &mut [u8], at: usize, new: &[u8])
+    requires { at + length new.now ≤ length bytes.old }
+    ensures { bytes.new ≡ overwritten bytes.old at new.now }
+{
+    bytes[at..at + new.len()].copy_from_slice(new);
+}
