@@ -1,0 +1,5 @@
+pub mod LineLemmas
+pub mod JsonLemmas
+pub mod RunLemmas
+pub mod ElementLemmas
+pub mod ReadLemmas

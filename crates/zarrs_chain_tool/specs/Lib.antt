@@ -1,0 +1,12 @@
+pub mod Refusal
+pub mod Json
+pub mod Elements
+pub mod Indexer
+pub mod DataType
+pub mod Codec
+pub mod Header
+pub mod Commands
+pub mod Lines
+pub mod Run
+pub mod Seen
+pub mod Session
