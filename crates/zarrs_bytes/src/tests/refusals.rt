@@ -109,39 +109,56 @@ fn masked(alloc: Global) -> Result<ArrayBytes<'static>, CodecError> {
 }
 
 #[test]
-fn takes_elements_of_the_type(rt: HostRuntime) -> Result<(), Fail> {
+fn takes_elements_of_the_kind(rt: HostRuntime) -> Result<(), Fail> {
     let alloc = rt.alloc();
-    let little = BytesCodec::little();
-    let none = BytesCodec::new(None);
     let pair = form(alloc, &[2], DataType::uint8(), &[0])?;
-    let words = form(alloc, &[2], DataType::uint16(), &[0, 0])?;
-    let kind = Err(CodecError::ArrayBytesKind);
-    for codec in [little, none, BytesCodec::big()] {
-        assert_eq!(rt; pair.encode(alloc, codec, variable(alloc)?)?, kind);
-        assert_eq!(rt; pair.encode(alloc, codec, masked(alloc)?)?, kind);
+    let kind = Some(CodecError::ArrayBytesKind);
+    for codec in [
+        BytesCodec::little(),
+        BytesCodec::big(),
+        BytesCodec::new(None),
+    ] {
+        let answer = pair.encode(alloc, codec, variable(alloc)?)?;
+        assert_eq!(rt; answer.err(), kind, "of {codec:?}");
+        let answer = pair.encode(alloc, codec, masked(alloc)?)?;
+        assert_eq!(rt; answer.err(), kind, "of {codec:?}");
     }
     // Both the order and the kind are wrong.
-    let missing = Err(CodecError::EndiannessMissing);
-    assert_eq!(rt; words.encode(alloc, none, masked(alloc)?)?, missing);
+    let words = form(alloc, &[2], DataType::uint16(), &[0, 0])?;
+    let answer = words.encode(alloc, BytesCodec::new(None), masked(alloc)?)?;
+    assert_eq!(rt; answer.err(), Some(CodecError::EndiannessMissing));
+    Ok(())
+}
+
+/// Bytes of a wrong length are refused, those of elements and those of a value.
+fn has_wrong_length(
+    rt: &impl Abort,
+    alloc: Global,
+    codec: BytesCodec,
+    form: &ChunkForm,
+    bytes: &[u8],
+    expected: u64,
+) -> Result<(), Fail> {
+    let len = bytes.len() as u64;
+    let short = Some(CodecError::InvalidBytesLength { len, expected });
+    let answer = form.encode(alloc, codec, fixed(alloc, bytes)?)?;
+    assert_eq!(rt; answer.err(), short, "of {bytes:?}");
+    let answer = form.decode(alloc, codec, owned(alloc, bytes)?)?;
+    assert_eq!(rt; answer.err(), short, "of {bytes:?}");
+    let answer = form.decode(alloc, codec, CowSlice::Borrowed(bytes))?;
+    assert_eq!(rt; answer.err(), short, "of {bytes:?}, lent");
+    Ok(())
+}
+
+#[test]
+fn takes_elements_of_the_length(rt: HostRuntime) -> Result<(), Fail> {
+    let alloc = rt.alloc();
+    let pair = form(alloc, &[2], DataType::uint8(), &[0])?;
+    let words = form(alloc, &[2], DataType::uint16(), &[0, 0])?;
     let found: [&[u8]; 4] = [&[], &[1], &[1, 2, 3], &[1, 2, 3, 4, 5]];
     for bytes in found {
-        let len = bytes.len() as u64;
-        let short = CodecError::InvalidBytesLength { len, expected: 2 };
-        assert_eq!(rt;
-            pair.encode(alloc, little, fixed(alloc, bytes)?)?,
-            Err(short)
-        );
-        assert_eq!(rt;
-            pair.decode(alloc, little, owned(alloc, bytes)?)?,
-            Err(short)
-        );
-        let short = CodecError::InvalidBytesLength { len, expected: 4 };
-        let big = BytesCodec::big();
-        assert_eq!(rt; words.encode(alloc, big, fixed(alloc, bytes)?)?, Err(short));
-        assert_eq!(rt;
-            words.decode(alloc, big, CowSlice::Borrowed(bytes))?,
-            Err(short)
-        );
+        has_wrong_length(&rt, alloc, BytesCodec::new(None), &pair, bytes, 2)?;
+        has_wrong_length(&rt, alloc, BytesCodec::big(), &words, bytes, 4)?;
     }
     Ok(())
 }
