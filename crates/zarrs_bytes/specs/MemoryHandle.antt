@@ -1,5 +1,5 @@
 -- What a handle in memory is seen as.
-use Rattle.std.specs.Prelude.{ℕ, Option, List}
+use Rattle.std.specs.Prelude.{ℕ, Option, None, List}
 use Rattle.std.specs.Option.{option_map}
 use Rattle.zarrs_bytes.specs.HandleState.{HandleState}
 use Rattle.zarrs_bytes.specs.declared.codec.memory_handle.MemoryHandle.{MemoryHandle}
@@ -10,4 +10,4 @@ stored handle = option_map (λ value. value.items) handle.value
 
 -- it never fails
 abbrev pub memory_state : MemoryHandle → HandleState
-memory_state handle = record { value = stored handle; faults = 0; writes = 0 }
+memory_state handle = record { value = stored handle; faults = 0; failure = None; writes = 0 }

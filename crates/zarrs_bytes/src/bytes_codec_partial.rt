@@ -1,7 +1,7 @@
 ghost use Rattle.std.specs.Prelude.{◌≡◌, ◌<◌, ◌+◌, ◌*◌, ◌-◌, ◌^◌, ◌++◌, ℕ, true, List, Some, None, Ok, IfOk, OnOk, IfErr, All, is_some, is_ok, map, sum_by, length};
 ghost use Rattle.std.specs.List.{flat_map, range_with_len};
 ghost use Rattle.zarrs_chunk.specs.ChunkShape.{product};
-ghost use Rattle.zarrs_chunk.specs.Answer.{Answers, AnswersBy, fault, memory, memory_or_fault, is_fault, seen};
+ghost use Rattle.zarrs_chunk.specs.Answer.{Answers, AnswersBy, fault, memory, memory_or_fault, seen};
 ghost use Rattle.zarrs_chunk.specs.Indexer.{selection_of};
 ghost use Rattle.zarrs_chunk.specs.Runs.{joined_runs};
 ghost use Rattle.zarrs_chunk.specs.Selection.{places_of};
@@ -104,7 +104,7 @@ impl BytesCodec {
         requires bytes { range_indices ranges.now ≡ place_bytes (size_of data_type.now) (joined_runs runs.now) }
         requires filled { All (λ range. range.start < range.end) ranges.now }
         ensures answer { AnswersBy memory_or_fault (Holds data_type.now) result (read_places self.now data_type.now fill.now (H.state handle.old).value (joined_runs runs.now)) }
-        ensures left { H.state handle.new ≡ after_reading (is_fault result) (H.state handle.old) }
+        ensures left { H.state handle.new ≡ after_reading result (H.state handle.old) }
         ensures same_reference { H.lent handle.new ≡ H.lent handle.old }
     {
         match handle.partial_decode_many(alloc, ranges)? {
@@ -187,7 +187,7 @@ impl<H: BytesPartialDecoderTraits> BytesCodecPartial<H> {
         ensures selected { let form = form_of self.old in (value : List ℕ) (chunk : Chunk) → (H.state (handle_of self.old)).value ≡ Some value → Stands form.order form.sizes form.type form.fill value chunk → AnswersBy memory_or_fault (Holds form.type) result (seen (select chunk) (places_of (selection_of indexer.now) form.sizes)) }
         ensures unstored { let form = form_of self.old in (H.state (handle_of self.old)).value ≡ None → AnswersBy memory_or_fault (Holds form.type) result (seen (map (λ _. fill_element form.type form.fill)) (places_of (selection_of indexer.now) form.sizes)) }
         ensures answer { let form = form_of self.old in AnswersBy memory_or_fault (Holds form.type) result (read form.order form.sizes form.type form.fill (H.state (handle_of self.old)).value (selection_of indexer.now)) }
-        ensures left { H.state (handle_of self.new) ≡ after_reading (is_fault result) (H.state (handle_of self.old)) }
+        ensures left { H.state (handle_of self.new) ≡ after_reading result (H.state (handle_of self.old)) }
         ensures same_reference { H.lent (handle_of self.new) ≡ H.lent (handle_of self.old) }
         ensures form_kept { form_of self.new ≡ form_of self.old }
     {
@@ -224,7 +224,7 @@ impl<H: BytesPartialDecoderTraits> BytesCodecPartial<H> {
     /// Whether a value is stored. Refusals: `Storage`.
     pub fn exists(&mut self) -> Result<bool, CodecError>
         ensures answer { Answers fault (λ there. there) result (Ok (is_some (H.state (handle_of self.old)).value)) }
-        ensures left { H.state (handle_of self.new) ≡ after_reading (is_fault result) (H.state (handle_of self.old)) }
+        ensures left { H.state (handle_of self.new) ≡ after_reading result (H.state (handle_of self.old)) }
         ensures same_reference { H.lent (handle_of self.new) ≡ H.lent (handle_of self.old) }
         ensures form_kept { form_of self.new ≡ form_of self.old }
     {

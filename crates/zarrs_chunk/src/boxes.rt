@@ -1,5 +1,5 @@
 //! Products of sizes, and the places and runs of a box, over plain slices.
-ghost use Rattle.std.specs.Prelude.{◌≡◌, ◌<◌, ◌≤◌, ◌^◌, ◌+◌, ◌*◌, ℕ, length, drop, slice_index, true, IfOk, SomeIff, All};
+ghost use Rattle.std.specs.Prelude.{◌≡◌, ◌<◌, ◌≤◌, ◌^◌, ◌+◌, ◌*◌, ℕ, length, drop, slice_index, true, IfOk, OnOk, SomeIff, All};
 ghost use Rattle.std.specs.List.{flat_map, range_with_len};
 ghost use Rattle.zarrs_chunk.specs.ChunkShape.{product};
 ghost use Rattle.zarrs_chunk.specs.Levels.{behind_fronts, box_places as places_of_box, IsFitting};
@@ -7,6 +7,7 @@ ghost use Rattle.zarrs_chunk.specs.Runs.{joined_runs};
 ghost use Rattle.zarrs_chunk.specs.Tuples.{is_box_inside as box_inside};
 
 use std::alloc::{AllocError, Global};
+use std::mem;
 
 /// The product of the sizes, where it fits. With a zero among them it is 0.
 pub fn checked_product(sizes: &[u64]) -> Option<u64>
@@ -38,23 +39,24 @@ pub fn is_box_inside(sizes: &[u64], starts: &[u64], lengths: &[u64]) -> bool
     true
 }
 
-/// One axis more: each front over the axes before is followed by its row.
-fn rows_behind(
-    alloc: Global,
+/// One axis more: each front over the axes before is followed by its row. What stood in `rows`
+/// before is gone; its room is used again.
+fn write_rows(
+    rows: &mut Vec<u64>,
     fronts: &[u64],
     size: u64,
     start: u64,
     len: u64,
-) -> Result<Vec<u64>, AllocError>
+) -> Result<(), AllocError>
     requires { (k : ℕ) → k < length fronts.now → slice_index fronts.now k * size + start + len < 2 ^ 64 }
-    ensures { IfOk result (λ v. v.items ≡ flat_map (λ front. range_with_len (front * size + start) len) fronts.now) }
+    ensures { OnOk result (rows.new.items ≡ flat_map (λ front. range_with_len (front * size + start) len) fronts.now) }
 {
-    let mut rows = Vec::new(alloc);
+    rows.clear();
     for front in fronts {
         let row = *front * size + start;
         rows.extend(row..row + len)?;
     }
-    Ok(rows)
+    Ok(())
 }
 
 /// The numbers of a box's tuples over its first `axes` axes alone. As no range is empty, no level
@@ -76,14 +78,16 @@ fn box_fronts(
     ensures fits { IfOk result (λ v. IsFitting (product sizes.now) (product (drop axes sizes.now)) v.items) }
 {
     let mut fronts = vec![in alloc; 0]?;
+    let mut rows = Vec::new(alloc);
     for axis in 0..axes {
-        fronts = rows_behind(
-            alloc,
+        write_rows(
+            &mut rows,
             fronts.as_slice(),
             sizes[axis],
             starts[axis],
             lengths[axis],
         )?;
+        mem::swap(&mut fronts, &mut rows);
     }
     Ok(fronts)
 }

@@ -1,3 +1,6 @@
+ghost use Rattle.std.specs.Prelude.{◌≡◌, IfSome};
+ghost use Rattle.zarrs_data_type.specs.ElementType.{ElementType, IsFixedType, components_of};
+
 /// The components of an element of a fixed type.
 #[derive(Clone, Copy, Debug, PartialEq, Eq)]
 pub struct Components {
@@ -12,6 +15,11 @@ pub struct Components {
 /// What a codec has to know of a fixed type. It stands in a trait, since
 /// [`DataType::components`](crate::DataType::components) makes a type.
 pub trait HasComponents {
+    // The type that is meant.
+    ghost element_type: { Self → ElementType };
+
     /// The components of an element, or `None` for a type that is not fixed.
-    fn components(&self) -> Option<Components>;
+    fn components(&self) -> Option<Components>
+        ensures components { result ≡ components_of (element_type self.now) }
+        ensures sound { IfSome result (λ c. IsFixedType c.component_size_bits c.num_components) };
 }

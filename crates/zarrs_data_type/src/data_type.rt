@@ -281,10 +281,9 @@ impl DataType {
 }
 
 impl HasComponents for DataType {
-    fn components(&self) -> Option<Components>
-        ensures components { result ≡ components_of self.now }
-        ensures sound { IfSome result (λ c. IsFixedType c.component_size_bits c.num_components) }
-    {
+    ghost element_type = { λ data_type. data_type };
+
+    fn components(&self) -> Option<Components> {
         match &self.kind {
             Kind::Fixed(components) => Some(*components),
             _ => None,

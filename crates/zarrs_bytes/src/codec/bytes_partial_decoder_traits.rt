@@ -1,7 +1,7 @@
 ghost use Rattle.std.specs.Prelude.{◌≡◌, ℕ, Bool, Option, Some, Ok, is_some};
 ghost use Rattle.std.specs.Option.{option_map};
 ghost use Rattle.std.specs.Borrow.{GName};
-ghost use Rattle.zarrs_chunk.specs.Answer.{Answers, fault, memory_or_fault, is_fault};
+ghost use Rattle.zarrs_chunk.specs.Answer.{Answers, fault, memory_or_fault};
 ghost use Rattle.zarrs_bytes.specs.ByteRanges.{read_ranges};
 ghost use Rattle.zarrs_bytes.specs.HandleState.{HandleState, after_reading};
 
@@ -12,9 +12,9 @@ use zarrs_chunk::CodecError;
 /// A storage handle that can be read: a place that keeps one value, a list of bytes, or none.
 ///
 /// Reading leaves the value as it is. A call answers `Storage` exactly where the handle failed in
-/// that call, and its count of faults is then one more.
+/// that call, with what the handle said; its count of faults is then one more.
 pub trait BytesPartialDecoderTraits {
-    // The value, and the counts of faults and of writing calls.
+    // The value, the failures, and the count of writing calls.
     ghost state: { Self → HandleState };
 
     // The name of the reference that the handle is, where it is one: by it the lender learns what became of its own.
@@ -29,7 +29,7 @@ pub trait BytesPartialDecoderTraits {
     /// Whether there is a value. Refusals: `Storage`.
     fn exists(&mut self) -> Result<bool, CodecError>
         ensures answer { Answers fault (λ there. there) result (Ok (is_some (state self.old).value)) }
-        ensures left { state self.new ≡ after_reading (is_fault result) (state self.old) }
+        ensures left { state self.new ≡ after_reading result (state self.old) }
         ensures same_reference { lent self.new ≡ lent self.old };
 
     /// The bytes that the handle keeps in memory.
@@ -45,13 +45,13 @@ pub trait BytesPartialDecoderTraits {
         ranges: &[ByteRange],
     ) -> Result<Option<Vec<u8>>, CodecError>
         ensures answer { Answers memory_or_fault (option_map (λ bytes. bytes.items)) result (read_ranges (state self.old).value ranges.now) }
-        ensures left { state self.new ≡ after_reading (is_fault result) (state self.old) }
+        ensures left { state self.new ≡ after_reading result (state self.old) }
         ensures same_reference { lent self.new ≡ lent self.old };
 
     /// The whole value, or `None`. Refusals: `OutOfMemory`, `Storage`.
     fn decode(&mut self, alloc: Global) -> Result<Option<Vec<u8>>, CodecError>
         ensures answer { Answers memory_or_fault (option_map (λ bytes. bytes.items)) result (Ok (state self.old).value) }
-        ensures left { state self.new ≡ after_reading (is_fault result) (state self.old) }
+        ensures left { state self.new ≡ after_reading result (state self.old) }
         ensures same_reference { lent self.new ≡ lent self.old };
 
     /// Whether the handle reads ranges without the rest of the value.

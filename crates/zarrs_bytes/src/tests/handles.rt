@@ -1,6 +1,6 @@
 ghost use Rattle.std.specs.Prelude.{◌≡◌, Ok};
 ghost use Rattle.zarrs_chunk.specs.Answer.{Answers, fault, is_fault};
-ghost use Rattle.zarrs_bytes.specs.HandleState.{count_if};
+ghost use Rattle.zarrs_bytes.specs.HandleState.{count_if, last_failure};
 
 use super::{ChunkForm, fixed, form, refusal, settled, stored, subset};
 use crate::{
@@ -170,6 +170,7 @@ struct FailingHandle {
     memory: MemoryHandle,
     calls_before: u64,
     faults: u64,
+    failure: Option<StorageError>,
 }
 
 impl FailingHandle {
@@ -178,11 +179,14 @@ impl FailingHandle {
         ensures memory { self.new.memory ≡ self.old.memory }
         ensures answer { Answers fault (λ passed. passed) result (Ok tt) }
         ensures faults { self.new.faults ≡ count_if (is_fault result) self.old.faults }
+        ensures failure { self.new.failure ≡ last_failure result self.old.failure }
     {
         if self.calls_before == 0 {
+            let failure = StorageError { code: 7 };
             self.calls_before = u64::MAX;
             self.faults = self.faults.wrapping_add(1);
-            return Err(CodecError::Storage(StorageError { code: 7 }));
+            self.failure = Some(failure);
+            return Err(CodecError::Storage(failure));
         }
         self.calls_before -= 1;
         Ok(())
@@ -194,7 +198,7 @@ impl BytesPartialDecoderTraits for FailingHandle {
     ghost use Rattle.zarrs_bytes.specs.HandleState.{held_bytes};
     ghost use Rattle.zarrs_bytes.specs.MemoryHandle.{stored as stored_bytes};
 
-    ghost state = { λ handle. record { value = stored_bytes handle.memory; faults = handle.faults; writes = 0 } };
+    ghost state = { λ handle. record { value = stored_bytes handle.memory; faults = handle.faults; failure = handle.failure; writes = 0 } };
 
     ghost lent = { λ _. None };
 
@@ -240,6 +244,7 @@ fn failing(
         memory: stored(alloc, value)?,
         calls_before: 1,
         faults: 0,
+        failure: None,
     };
     Ok(form.partial_decoder(alloc, BytesCodec::big(), handle)?)
 }

@@ -4,7 +4,7 @@ use Rattle.std.proofs.lemmas.Iterator.Adapters.{items_from_extend}
 use Rattle.std.specs.List.{range_with_len}
 use Rattle.std.proofs.lemmas.Result.{IfOk-at_ok}
 use Rattle.zarrs_chunk.proofs.BoxTuples.{flat_map-take_more}
-use Rattle.zarrs_chunk.proofs.boxes.rows_behind.Goals as goal
+use Rattle.zarrs_chunk.proofs.boxes.write_rows.Goals as goal
 
 pub loop-front-preserved : goal.loop-front-preserved
 loop-front-preserved c =

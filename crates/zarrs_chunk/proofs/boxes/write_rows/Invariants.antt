@@ -1,6 +1,6 @@
 use Rattle.std.proofs.Common.{◌≡◌, ◌+◌, ◌*◌, take}
 use Rattle.std.specs.List.{flat_map, range_with_len}
-use Rattle.zarrs_chunk.proofs.boxes.rows_behind.Given as goal
+use Rattle.zarrs_chunk.proofs.boxes.write_rows.Given as goal
 
 abbrev pub invariant-loop-front : goal.invariant-loop-front
 invariant-loop-front l =
