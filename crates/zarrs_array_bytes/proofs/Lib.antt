@@ -1,5 +1,6 @@
 pub mod OffsetLemmas
 pub mod RunLemmas
+pub mod Pieces
 pub mod FillLemmas
 pub mod UpdateSteps
 pub mod ValidLemmas

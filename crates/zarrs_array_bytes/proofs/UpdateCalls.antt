@@ -1,6 +1,6 @@
 -- What the calls of an update require, at each kind.
 use Rattle.std.proofs.Common.{◌≡◌, ℕ, suc, ◌+◌, ◌*◌, ◌<◌, ◌≤◌, Bool, true, List, [], ◌∷◌, ◌++◌, length, map, set, Some, Ok, IsOk, refl, sym, ap, ap₂, ◌∙◌, arith, zero}
-use Rattle.std.specs.List.{All, list_all, flat_map, range_with_len}
+use Rattle.std.specs.List.{All, concat, list_all, flat_map, range_with_len}
 use Rattle.std.proofs.lemmas.Simd.{map-map}
 use Rattle.std.proofs.lemmas.List.Elements.{All-cons, All-tail, All-set}
 use Rattle.zarrs_chunk.specs.Runs.{joined_runs}
@@ -8,7 +8,7 @@ use Rattle.zarrs_data_type.specs.ElementType.{ElementType, fixed, text, bytes, o
 use Rattle.zarrs_array_bytes.specs.Held.{Raw, Held, flen, vlen, masked, owned}
 use Rattle.zarrs_array_bytes.specs.Parts.{fixed_part, variable_part, optional_part, bytes_in, offsets_in, inner_in}
 use Rattle.zarrs_array_bytes.specs.Elements.{cut}
-use Rattle.zarrs_array_bytes.specs.Pieces.{joined, pieces, ends, gathered, variable_of}
+use Rattle.zarrs_array_bytes.specs.Pieces.{pieces, ends, gathered, variable_of}
 use Rattle.zarrs_array_bytes.specs.Validity.{LengthRefusal, levels_fit}
 use Rattle.zarrs_array_bytes.specs.Updated.{update, cuts, updated, runs_written}
 use Rattle.zarrs_array_bytes.specs.Sources.{sources, chosen, IsSourceOf}
@@ -138,10 +138,10 @@ pub ruleset update_calls = (fixed_too, variable_too, optional_too, gathered_rise
 -- ---- what each kind's call gives
 
 updated_pieces : (r e : LengthRefusal) (t : ElementType) (n m : ℕ) (raw : Raw) (g : Held) (ps : List ℕ) (size : ℕ) → levels_fit r t n (flen raw) ≡ Ok tt → levels_fit e t m g ≡ Ok tt → fixed_size_of t ≡ Some size
-    → updated t n (flen raw) m g ps ≡ flen (owned (joined (update (pieces size n raw.items) ps (pieces size m (bytes_in g)))))
+    → updated t n (flen raw) m g ps ≡ flen (owned (concat (update (pieces size n raw.items) ps (pieces size m (bytes_in g)))))
 updated_pieces r e (fixed w c s) n m raw (flen q) ps size a b i =
     let is : element_size w c ≡ size = cc in
-    ap (λ k. flen (owned (joined (update (pieces k n raw.items) ps (pieces k m q.items))))) is
+    ap (λ k. flen (owned (concat (update (pieces k n raw.items) ps (pieces k m q.items))))) is
 updated_pieces r e (fixed w c s) n m raw (vlen q us) ps size a b i = cc
 updated_pieces r e (fixed w c s) n m raw (masked g k) ps size a b i = cc
 updated_pieces r e text n m raw g ps size a b i = cc

@@ -1,65 +1,33 @@
 -- What an update leaves holds the updated chunk.
-use Rattle.std.proofs.Common.{◌≡◌, Bool, ℕ, zero, suc, ◌+◌, ◌*◌, ◌<◌, ◌≤◌, List, [], ◌∷◌, length, map, take, drop, set, get_or, Ok, refl, sym, ap, ap₂, ◌∙◌, arith, add-one, length-append, length-take-le, length-drop, take_at, drop_at, drop-drop}
-use Rattle.std.specs.List.{All, range_with_len}
+use Rattle.std.proofs.Common.{◌≡◌, Bool, ℕ, zero, suc, ◌*◌, ◌<◌, List, [], ◌∷◌, length, map, set, get_or, Ok, refl, sym, ap, ap₂, ◌∙◌, arith, add-one}
+use Rattle.std.specs.List.{concat, range_with_len}
 use Rattle.std.proofs.lemmas.Simd.{map-map}
 use Rattle.std.proofs.lemmas.List.{get_or-map, length-map}
-use Rattle.std.proofs.lemmas.List.Elements.{All-cons, All-tail, All-set}
 use Rattle.std.proofs.lemmas.List.FromFn.{fill_by_all, get_or-map-range_with_len, length-map-range_with_len}
 use Rattle.zarrs_chunk.specs.declared.codec_error.CodecError.TheVariants.{InvalidBytesLength}
 use Rattle.zarrs_data_type.specs.ElementType.{ElementType, fixed, text, bytes, optional, element_size}
 use Rattle.zarrs_data_type.specs.Element.{Element, absent, plain}
 use Rattle.zarrs_array_bytes.specs.Held.{Raw, Held, flen, vlen, masked, owned}
-use Rattle.zarrs_array_bytes.specs.Elements.{piece, cut, flagged, element_at, elements}
+use Rattle.zarrs_array_bytes.specs.Elements.{cut, flagged, element_at, elements}
 use Rattle.zarrs_array_bytes.specs.Validity.{LengthRefusal, sizes_fit, levels_fit, Holds}
-use Rattle.zarrs_array_bytes.specs.Pieces.{joined, pieces, gathered, variable_of}
+use Rattle.zarrs_array_bytes.specs.Pieces.{pieces, gathered, variable_of}
 use Rattle.zarrs_array_bytes.specs.Updated.{update, cuts, updated}
-use Rattle.zarrs_array_bytes.proofs.RunLemmas.{piece_is}
 use Rattle.zarrs_array_bytes.proofs.ElementLemmas.{cut_at, length_ends}
 use Rattle.zarrs_array_bytes.proofs.ValidLemmas.{both_ok, then_ok, length_found, length_due}
-use Rattle.zarrs_array_bytes.proofs.WriteLemmas.{length-pieces, length-update, map-update}
+use Rattle.zarrs_array_bytes.proofs.Pieces.{AllSized, length-pieces, pieces_sized, length-concat, pieces-concat, elements-pieces}
+use Rattle.zarrs_array_bytes.proofs.WriteLemmas.{length-update, map-update}
 
--- ---- elements of one size
+-- ---- parts of one size
 
-pieces-range : (size a n : ℕ) (xs : List ℕ) → map (piece size xs) (range_with_len a n) ≡ pieces size n (drop (a * size) xs)
-pieces-range size a zero xs = refl
-pieces-range size a (suc n) xs =
-    let e : (a + 1) * size ≡ a * size + size = omega arith in
-    ap₂ (λ p ps. p ∷ ps) (piece_is size a xs) (pieces-range size (a + 1) n xs ∙ ap (λ k. pieces size n (drop k xs)) e ∙ ap (pieces size n) (sym (drop-drop size (a * size) xs)))
+set_sized : (size : ℕ) (parts : List (List ℕ)) (place : ℕ) (part : List ℕ) → AllSized size parts → length part ≡ size → AllSized size (set parts place part)
+set_sized size [] place part h e = h
+set_sized size (first ∷ parts) zero part h e = (e, h.1)
+set_sized size (first ∷ parts) (suc place) part h e = (h.0, set_sized size parts place part h.1 e)
 
-pub elements-pieces : (w c : ℕ) (s : Bool) (n : ℕ) (r : Raw) → elements (fixed w c s) n (flen r) ≡ map plain (pieces (element_size w c) n r.items)
-elements-pieces w c s n r =
-    let z : 0 * element_size w c ≡ 0 = omega arith in
-    sym (map-map plain (piece (element_size w c) r.items) (range_with_len 0 n))
-    ∙ ap (map plain) (pieces-range (element_size w c) 0 n r.items ∙ ap (λ k. pieces (element_size w c) n (drop k r.items)) z)
-
--- each list is so long
-abbrev pub AreLong : ℕ → List (List ℕ) → Type 0
-AreLong size parts = All (λ part. length part ≡ size) parts
-
-pub pieces-long : (size n : ℕ) (xs : List ℕ) → n * size ≤ length xs → AreLong size (pieces size n xs)
-pieces-long size zero xs e = λ k d l. absurd (omega arith)
-pieces-long size (suc n) xs e =
-    let f : suc n * size ≡ size + n * size = omega arith in
-    All-cons (λ part. length part ≡ size) (take size xs) (pieces size n (drop size xs)) (length-take-le size xs (omega arith)) (pieces-long size n (drop size xs) (omega (arith, length-drop size xs)))
-
-update-long : (size : ℕ) (xs : List (List ℕ)) (ps : List ℕ) (ys : List (List ℕ)) → AreLong size xs → AreLong size ys → AreLong size (update xs ps ys)
-update-long size xs [] ys h e = h
-update-long size xs (p ∷ ps) [] h e = h
-update-long size xs (p ∷ ps) (y ∷ ys) h e =
-    update-long size (set xs p y) ps ys (All-set (λ part. length part ≡ size) xs p y (e 0 y (omega arith)) h) (All-tail (λ part. length part ≡ size) y ys e)
-
-pub pieces-joined : (size : ℕ) (parts : List (List ℕ)) → AreLong size parts → pieces size (length parts) (joined parts) ≡ parts
-pieces-joined size [] h = refl
-pieces-joined size (part ∷ parts) h =
-    let first : length part ≡ size = h 0 part (omega arith) in
-    ap₂ (λ a b. a ∷ pieces size (length parts) b) (take_at part (joined parts) size first) (drop_at part (joined parts) size first)
-    ∙ ap (λ ps. part ∷ ps) (pieces-joined size parts (All-tail (λ p. length p ≡ size) part parts h))
-
-pub length-joined : (size : ℕ) (parts : List (List ℕ)) → AreLong size parts → length (joined parts) ≡ length parts * size
-length-joined size [] h = omega arith
-length-joined size (part ∷ parts) h =
-    let first : length part ≡ size = h 0 part (omega arith) in
-    omega (arith, length-append part (joined parts), first, length-joined size parts (All-tail (λ p. length p ≡ size) part parts h))
+update_sized : (size : ℕ) (xs : List (List ℕ)) (ps : List ℕ) (ys : List (List ℕ)) → AllSized size xs → AllSized size ys → AllSized size (update xs ps ys)
+update_sized size xs [] ys h e = h
+update_sized size xs (p ∷ ps) [] h e = h
+update_sized size xs (p ∷ ps) (y ∷ ys) h e = update_sized size (set xs p y) ps ys (set_sized size xs p y h e.0) e.1
 
 -- ---- elements of any length
 
@@ -130,10 +98,10 @@ module _ (refusal other : LengthRefusal) where
       let size : ℕ = element_size w c in
       let parts : List (List ℕ) = update (pieces size n r.items) ps (pieces size m q.items) in
       let count : length parts ≡ n = length-update (pieces size n r.items) ps (pieces size m q.items) ∙ length-pieces size n r.items in
-      let long : AreLong size parts = update-long size (pieces size n r.items) ps (pieces size m q.items) (pieces-long size n r.items (omega arith)) (pieces-long size m q.items (omega arith)) in
+      let sized : AllSized size parts = update_sized size (pieces size n r.items) ps (pieces size m q.items) (pieces_sized size n r.items (omega arith)) (pieces_sized size m q.items (omega arith)) in
       record {
-        fits = length_due refusal _ _ (length-joined size parts long ∙ ap (λ k. k * size) count);
-        are = elements-pieces w c s n (owned (joined parts)) ∙ ap (map plain) (ap (λ k. pieces size k (joined parts)) (sym count) ∙ pieces-joined size parts long)
+        fits = length_due refusal _ _ (length-concat size parts sized ∙ ap (λ k. k * size) count);
+        are = elements-pieces w c s n (owned (concat parts)) ∙ ap (map plain) (ap (λ k. pieces size k (concat parts)) (sym count) ∙ pieces-concat size parts sized)
             ∙ map-update plain (pieces size n r.items) ps (pieces size m q.items)
             ∙ ap₂ (λ xs ys. update xs ps ys) (sym (elements-pieces w c s n r)) (sym (elements-pieces w c s m q));
       }

@@ -1,48 +1,15 @@
 -- Writing runs of bytes is an update of their pieces.
-use Rattle.std.proofs.Common.{◌≡◌, ℕ, zero, suc, ◌+◌, ◌-◌, ◌*◌, ◌≤◌, List, [], ◌∷◌, ◌++◌, length, map, take, drop, set, refl, sym, ap, ap₂, ◌∙◌, arith, take_at, drop_at, drop-drop, append_assoc, length-append, length-take-le, length-drop}
-use Rattle.std.specs.List.{All, range_with_len}
+use Rattle.std.proofs.Common.{◌≡◌, ℕ, zero, suc, ◌+◌, ◌-◌, ◌*◌, ◌≤◌, List, [], ◌∷◌, ◌++◌, length, map, take, drop, set, refl, sym, ap, ap₂, ◌∙◌, arith, drop_at, drop-drop, append_assoc, length-append, length-take-le, length-drop}
+use Rattle.std.specs.List.{All, concat, range_with_len}
 use Rattle.std.proofs.Math.Seq.{set-append_seam}
 use Rattle.std.proofs.Math.Nat.{mul-le-mul_right}
-use Rattle.std.proofs.lemmas.List.{take-append-drop, map-set, length-set}
+use Rattle.std.proofs.lemmas.List.{map-set, length-set}
 use Rattle.std.proofs.lemmas.List.Elements.{All-tail}
 use Rattle.std.proofs.lemmas.List.FromFn.{length-range_with_len}
 use Rattle.zarrs_chunk.specs.Runs.{joined_runs}
-use Rattle.zarrs_array_bytes.specs.Pieces.{joined, pieces}
+use Rattle.zarrs_array_bytes.specs.Pieces.{pieces}
 use Rattle.zarrs_array_bytes.specs.Updated.{update, overwritten, runs_written}
-
--- ---- pieces
-
-pub length-pieces : (size n : ℕ) (xs : List ℕ) → length (pieces size n xs) ≡ n
-length-pieces size zero xs = refl
-length-pieces size (suc n) xs = ap suc (length-pieces size n (drop size xs))
-
-pub pieces-split : (size a b : ℕ) (xs : List ℕ) → pieces size (a + b) xs ≡ pieces size a xs ++ pieces size b (drop (a * size) xs)
-pieces-split size zero b xs =
-    let e : 0 + b ≡ b = omega arith in
-    let f : 0 * size ≡ 0 = omega arith in
-    ap (λ n. pieces size n xs) e ∙ ap (λ n. pieces size b (drop n xs)) (sym f)
-pieces-split size (suc a) b xs =
-    let e : suc a + b ≡ suc (a + b) = omega arith in
-    let f : size + a * size ≡ suc a * size = omega arith in
-    ap (λ n. pieces size n xs) e ∙ ap (λ ps. take size xs ∷ ps) (pieces-split size a b (drop size xs))
-    ∙ ap (λ ys. take size xs ∷ (pieces size a (drop size xs) ++ pieces size b ys)) (drop-drop (a * size) size xs ∙ ap (λ n. drop n xs) f)
-
--- pieces from the front don't look behind
-pub pieces-front : (size n : ℕ) (xs ys : List ℕ) → length xs ≡ n * size → pieces size n (xs ++ ys) ≡ pieces size n xs
-pieces-front size zero xs ys e = refl
-pieces-front size (suc n) xs ys e =
-    let whole : length (take size xs) ≡ size = length-take-le size xs (omega arith) in
-    let rest : length (drop size xs) ≡ n * size = omega (arith, length-drop size xs) in
-    let parts : xs ++ ys ≡ take size xs ++ (drop size xs ++ ys) = ap (λ zs. zs ++ ys) (sym (take-append-drop size xs)) ∙ append_assoc (take size xs) (drop size xs) ys in
-    ap (pieces size (suc n)) parts
-    ∙ ap₂ (λ a b. a ∷ pieces size n b) (take_at (take size xs) (drop size xs ++ ys) size whole) (drop_at (take size xs) (drop size xs ++ ys) size whole)
-    ∙ ap (λ ps. take size xs ∷ ps) (pieces-front size n (drop size xs) ys rest)
-
-pub joined-pieces : (size n : ℕ) (xs : List ℕ) → length xs ≡ n * size → joined (pieces size n xs) ≡ xs
-joined-pieces size zero [] e = refl
-joined-pieces size zero (x ∷ xs) e = absurd (omega arith)
-joined-pieces size (suc n) xs e =
-    ap (λ ys. take size xs ++ ys) (joined-pieces size n (drop size xs) (omega (arith, length-drop size xs))) ∙ take-append-drop size xs
+use Rattle.zarrs_array_bytes.proofs.Pieces.{length-pieces, pieces-split, pieces-take, pieces-front, concat-pieces}
 
 -- ---- updates
 
@@ -86,11 +53,9 @@ pieces-overwritten size n start len old new whole inside long =
     let at : ℕ = start * size in
     let behind : List ℕ = drop (at + len * size) old in
     let front : length (take at old) ≡ at = length-take-le at old (omega arith) in
-    let before : pieces size start old ≡ pieces size start (take at old) =
-    ap (pieces size start) (sym (take-append-drop at old)) ∙ pieces-front size start (take at old) (drop at old) front in
     let olds : pieces size n old ≡ pieces size start (take at old) ++ (pieces size len (drop at old) ++ pieces size rest behind) =
     ap (λ k. pieces size k old) count ∙ pieces-split size start (len + rest) old
-    ∙ ap₂ (λ a b. a ++ b) before (pieces-split size len rest (drop at old) ∙ ap (λ ys. pieces size len (drop at old) ++ pieces size rest ys) (drop-drop (len * size) at old)) in
+    ∙ ap₂ (λ a b. a ++ b) (sym (pieces-take size start old)) (pieces-split size len rest (drop at old) ∙ ap (λ ys. pieces size len (drop at old) ++ pieces size rest ys) (drop-drop (len * size) at old)) in
     let tail : drop (at + length new) old ≡ behind = ap (λ k. drop (at + k) old) long in
     let written : List ℕ = take at old ++ (new ++ behind) in
     let news : pieces size n written ≡ pieces size start (take at old) ++ (pieces size len new ++ pieces size rest behind) =
@@ -106,8 +71,8 @@ pieces-overwritten size n start len old new whole inside long =
 
 -- writing runs is an update of the pieces
 pub runs_written-update : (size n : ℕ) (old : List ℕ) (runs : List (ℕ × ℕ)) (new : List ℕ) → length old ≡ n * size → All (λ run. run.0 + run.1 ≤ n) runs → length (joined_runs runs) * size ≤ length new
-    → runs_written size old runs new ≡ joined (update (pieces size n old) (joined_runs runs) (pieces size (length (joined_runs runs)) new))
-runs_written-update size n old [] new whole inside enough = sym (joined-pieces size n old whole)
+    → runs_written size old runs new ≡ concat (update (pieces size n old) (joined_runs runs) (pieces size (length (joined_runs runs)) new))
+runs_written-update size n old [] new whole inside enough = sym (concat-pieces size n old whole)
 runs_written-update size n old (run ∷ runs) new whole inside enough =
     let places : List ℕ = range_with_len run.0 run.1 in
     let m : ℕ = length (joined_runs runs) in
@@ -127,19 +92,19 @@ runs_written-update size n old (run ∷ runs) new whole inside enough =
     let wrote-len : length wrote ≡ n * size =
     omega (arith, length-append (take (run.0 * size) old) (part ++ drop (run.0 * size + length part) old), length-append part (drop (run.0 * size + length part) old), length-drop (run.0 * size + length part) old, front-len, part-len) in
     let news : pieces size (run.1 + m) new ≡ pieces size run.1 part ++ pieces size m rest =
-    pieces-split size run.1 m new ∙ ap (λ ps. ps ++ pieces size m rest) (ap (pieces size run.1) (sym (take-append-drop (run.1 * size) new)) ∙ pieces-front size run.1 part rest part-len) in
+    pieces-split size run.1 m new ∙ ap (λ ps. ps ++ pieces size m rest) (sym (pieces-take size run.1 new)) in
     let lens : length places ≡ length (pieces size run.1 part) = places-len ∙ sym (length-pieces size run.1 part) in
     runs_written-update size n wrote runs rest wrote-len (All-tail (λ (r : ℕ × ℕ). r.0 + r.1 ≤ n) run runs inside) rest-len
-    ∙ ap (λ ps. joined (update ps (joined_runs runs) (pieces size m rest))) (pieces-overwritten size n run.0 run.1 old part whole here part-len)
-    ∙ ap joined (sym (update-append (pieces size n old) places (joined_runs runs) (pieces size run.1 part) (pieces size m rest) lens))
-    ∙ ap (λ ps. joined (update (pieces size n old) (places ++ joined_runs runs) ps)) (sym news)
-    ∙ ap (λ k. joined (update (pieces size n old) (places ++ joined_runs runs) (pieces size k new))) (sym count)
+    ∙ ap (λ ps. concat (update ps (joined_runs runs) (pieces size m rest))) (pieces-overwritten size n run.0 run.1 old part whole here part-len)
+    ∙ ap concat (sym (update-append (pieces size n old) places (joined_runs runs) (pieces size run.1 part) (pieces size m rest) lens))
+    ∙ ap (λ ps. concat (update (pieces size n old) (places ++ joined_runs runs) ps)) (sym news)
+    ∙ ap (λ k. concat (update (pieces size n old) (places ++ joined_runs runs) (pieces size k new))) (sym count)
 
 -- ---- flags
 
-joined-single : (xs : List ℕ) → joined (map (λ x. x ∷ []) xs) ≡ xs
-joined-single [] = refl
-joined-single (x ∷ xs) = ap (λ ys. x ∷ ys) (joined-single xs)
+concat-single : (xs : List ℕ) → concat (map (λ x. x ∷ []) xs) ≡ xs
+concat-single [] = refl
+concat-single (x ∷ xs) = ap (λ ys. x ∷ ys) (concat-single xs)
 
 pieces-single : (xs : List ℕ) (n : ℕ) → length xs ≡ n → pieces 1 n xs ≡ map (λ x. x ∷ []) xs
 pieces-single [] zero e = refl
@@ -153,5 +118,5 @@ pub flags_written-update : (n : ℕ) (old : List ℕ) (runs : List (ℕ × ℕ))
 flags_written-update n old runs new whole inside long =
     let places : List ℕ = joined_runs runs in
     runs_written-update 1 n old runs new (omega arith) inside (omega arith)
-    ∙ ap₂ (λ xs ys. joined (update xs places ys)) (pieces-single old n whole) (pieces-single new (length places) long)
-    ∙ ap joined (sym (map-update (λ x. x ∷ []) old places new)) ∙ joined-single (update old places new)
+    ∙ ap₂ (λ xs ys. concat (update xs places ys)) (pieces-single old n whole) (pieces-single new (length places) long)
+    ∙ ap concat (sym (map-update (λ x. x ∷ []) old places new)) ∙ concat-single (update old places new)

@@ -1,12 +1,7 @@
 -- Byte lists that stand one after another.
-use Rattle.std.specs.Prelude.{ℕ, zero, suc, ◌+◌, List, [], ◌∷◌, ◌++◌, length, map, take, drop}
+use Rattle.std.specs.Prelude.{ℕ, zero, suc, ◌+◌, List, [], ◌∷◌, length, map, take, drop}
 use Rattle.std.specs.List.{flat_map}
 use Rattle.zarrs_array_bytes.specs.Held.{Held, vlen, owned}
-
--- the lists, one after another
-abbrev pub joined : List (List ℕ) → List ℕ
-joined [] = []
-joined (first ∷ rest) = first ++ joined rest
 
 -- so many pieces of a size, from the front
 abbrev pub pieces : ℕ → ℕ → List ℕ → List (List ℕ)

@@ -18,10 +18,11 @@ use Rattle.zarrs_array_bytes.specs.Elements.{elements}
 use Rattle.zarrs_array_bytes.specs.Held.{Held, Raw, flen, vlen, masked, raw_of}
 use Rattle.zarrs_array_bytes.specs.Parts.{fixed_part}
 use Rattle.zarrs_array_bytes.specs.Validity.{Holds, validity}
-use Rattle.zarrs_bytes.specs.ByteOrder.{cuts, turned, ordered, has_order, spelled}
+use Rattle.zarrs_array_bytes.specs.Pieces.{pieces}
+use Rattle.zarrs_array_bytes.proofs.Pieces.{pieces_sized, elements-pieces, read_pieces}
+use Rattle.zarrs_bytes.specs.ByteOrder.{turned, ordered, has_order, spelled}
 use Rattle.zarrs_bytes.specs.BytesCodec.{value_length, encoded, decoded, element_read, turn_size, needs_memory}
-use Rattle.zarrs_bytes.proofs.Cuts.{cuts_sized}
-use Rattle.zarrs_bytes.proofs.Spelled.{length-turned, turned_is, elements-flen, spelled-plain, read_pieces, Holds-pieces}
+use Rattle.zarrs_bytes.proofs.Spelled.{length-turned, turned_is, spelled-plain, Holds-pieces}
 
 -- ---- steps
 
@@ -90,8 +91,8 @@ fixed_encoded order sizes width components sign fill raw len e valid =
     let long = demand_ok (length raw.items == n * element_size width components) (InvalidBytesLength (length raw.items) (n * element_size width components)) tt a.2 in
     let is : length raw.items ≡ n * element_size width components = grind (arith, nat_tests) in
     let same : spelled order width components (elements (fixed width components sign) n (flen raw)) ≡ turned (turn_size order (fixed width components sign)) raw.items
-    = ap (spelled order width components) (elements-flen width components sign n raw)
-    ∙ spelled-plain order width components (cuts (element_size width components) n raw.items)
+    = ap (spelled order width components) (elements-pieces width components sign n raw)
+    ∙ spelled-plain order width components (pieces (element_size width components) n raw.items)
     ∙ sym (turned_is order width components sign n raw.items is) in
     two_steps (value_length order sizes (fixed width components sign) fill) (validity (fixed width components sign) n (flen raw)) len tt (spelled order width components (elements (fixed width components sign) n (flen raw))) e valid
     ∙ ap ok same
@@ -124,11 +125,11 @@ decoded_holds order sizes (fixed width components sign) fill value raw len e lon
     let n = product sizes in
     let size = element_size width components in
     let whole : length value ≡ n * size = long ∙ t.len_is in
-    let pieces = cuts size n value in
-    let sized = cuts_sized size n value (omega (arith, whole)) in
+    let parts = pieces size n value in
+    let sized = pieces_sized size n value (omega (arith, whole)) in
     let turned_so = is ∙ turned_is order width components sign n value whole in
     let small : length raw.items < 2 ^ 64 = omega (arith, t.small, long, ap length is, length-turned (turn_size order (fixed width components sign)) value) in
-    let holds = Holds-pieces order width components sign raw pieces sized turned_so small in
+    let holds = Holds-pieces order width components sign raw parts sized turned_so small in
     let read = read_pieces (λ piece. plain (ordered order width components piece)) size n value in
     let passed : (length value == len) ≡ true = grind (arith, nat_tests) in
     found_chunk (value_length order sizes (fixed width components sign) fill) (λ l. length value == l) (λ l. InvalidBytesLength (length value) l) (map (element_read order (fixed width components sign) value) (range_with_len 0 n)) (Holds (fixed width components sign) (flen raw)) len e passed

@@ -14,11 +14,12 @@ use Rattle.zarrs_data_type.specs.declared.endianness.Endianness.{Endianness}
 use Rattle.zarrs_array_bytes.specs.Elements.{elements}
 use Rattle.zarrs_array_bytes.specs.Held.{Held, flen, vlen, masked}
 use Rattle.zarrs_array_bytes.specs.Validity.{Holds, validity}
-use Rattle.zarrs_bytes.specs.ByteOrder.{cuts, ordered, spelled}
+use Rattle.zarrs_array_bytes.specs.Pieces.{pieces}
+use Rattle.zarrs_array_bytes.proofs.Pieces.{AllSized, length-pieces, pieces_sized, length-concat, pieces-concat, concat-pieces, elements-pieces, read_pieces}
+use Rattle.zarrs_bytes.specs.ByteOrder.{ordered, spelled}
 use Rattle.zarrs_bytes.specs.BytesCodec.{value_length, spelling, encoded, decoded, element_read, Stands, Written}
 use Rattle.zarrs_bytes.proofs.Coding.{bind_ok, demand_ok, ok, two_steps, taken}
-use Rattle.zarrs_bytes.proofs.Cuts.{AllSized, length-cuts, cuts_sized, length-concat, cuts-concat, concat-cuts}
-use Rattle.zarrs_bytes.proofs.Spelled.{ordered_twice, ordered_sized, elements-flen, spelled-plain, read_pieces, plain_map}
+use Rattle.zarrs_bytes.proofs.Spelled.{ordered_twice, ordered_sized, spelled-plain, plain_map}
 
 -- ---- a chunk of a fixed type and its elements' bytes
 
@@ -27,13 +28,13 @@ AreElements-tail type element chunk h = λ k d l. h (suc k) d (omega arith)
 
 -- the bytes of a chunk's elements, and that each has the type's size
 pub record PiecesOf (width components : ℕ) (chunk : Chunk) : Type 0 where
-  pub pieces : List (List ℕ)
-  pub are : chunk ≡ map plain pieces
-  pub sized : AllSized (element_size width components) pieces
+  pub parts : List (List ℕ)
+  pub are : chunk ≡ map plain parts
+  pub sized : AllSized (element_size width components) parts
 
 one_piece : (width components : ℕ) (sign : Bool) (element : Element) (chunk : Chunk) → IsElement (fixed width components sign) element → PiecesOf width components chunk → PiecesOf width components (element ∷ chunk)
 one_piece width components sign (plain items) chunk h rest = record {
-  pieces = items ∷ rest.pieces;
+  parts = items ∷ rest.parts;
   are = ap (λ (c : Chunk). plain items ∷ c) rest.are;
   sized = (h, rest.sized);
 }
@@ -41,21 +42,21 @@ one_piece width components sign absent chunk h rest = absurd h
 one_piece width components sign (present element) chunk h rest = absurd h
 
 pub pieces_of : (width components : ℕ) (sign : Bool) (chunk : Chunk) → AreElements (fixed width components sign) chunk → PiecesOf width components chunk
-pieces_of width components sign [] h = record { pieces = []; are = refl; sized = tt }
+pieces_of width components sign [] h = record { parts = []; are = refl; sized = tt }
 pieces_of width components sign (element ∷ chunk) h =
     one_piece width components sign element chunk (h 0 absent (omega arith)) (pieces_of width components sign chunk (AreElements-tail (fixed width components sign) element chunk h))
 
-pub AreElements-plain : (width components : ℕ) (sign : Bool) (pieces : List (List ℕ)) → AllSized (element_size width components) pieces → AreElements (fixed width components sign) (map plain pieces)
+pub AreElements-plain : (width components : ℕ) (sign : Bool) (parts : List (List ℕ)) → AllSized (element_size width components) parts → AreElements (fixed width components sign) (map plain parts)
 AreElements-plain width components sign [] h = λ k d l. absurd (omega arith)
-AreElements-plain width components sign (piece ∷ pieces) h = λ k d.
-    elim k as (λ j. j < length (map plain (piece ∷ pieces)) → IsElement (fixed width components sign) (get_or (map plain (piece ∷ pieces)) j d)) [
+AreElements-plain width components sign (piece ∷ parts) h = λ k d.
+    elim k as (λ j. j < length (map plain (piece ∷ parts)) → IsElement (fixed width components sign) (get_or (map plain (piece ∷ parts)) j d)) [
       | zero ↦ (λ l. h.0)
-      | suc j ↦ (λ l. AreElements-plain width components sign pieces h.1 j d (omega arith))
+      | suc j ↦ (λ l. AreElements-plain width components sign parts h.1 j d (omega arith))
     ]
 
-ordered_back : (order : Option Endianness) (width components : ℕ) (pieces : List (List ℕ)) → AllSized (element_size width components) pieces → map (ordered order width components) (map (ordered order width components) pieces) ≡ pieces
+ordered_back : (order : Option Endianness) (width components : ℕ) (parts : List (List ℕ)) → AllSized (element_size width components) parts → map (ordered order width components) (map (ordered order width components) parts) ≡ parts
 ordered_back order width components [] h = refl
-ordered_back order width components (piece ∷ pieces) h = λ i. ordered_twice order width components piece h.0 i ∷ ordered_back order width components pieces h.1 i
+ordered_back order width components (piece ∷ parts) h = λ i. ordered_twice order width components piece h.0 i ∷ ordered_back order width components parts h.1 i
 
 -- ---- encoding
 
@@ -86,17 +87,17 @@ encoded_found order sizes (fixed width components sign) fill value (flen raw) e 
     let v = bind_ok (demand (nat_lt (n * size) (2 ^ 64)) Overflow) _ tt b.1 in
     let long_test = demand_ok (length raw.items == n * size) (InvalidBytesLength (length raw.items) (n * size)) tt v.2 in
     let long : length raw.items ≡ n * size = grind (arith, nat_tests) in
-    let pieces = cuts size n raw.items in
-    let sized = cuts_sized size n raw.items (omega (arith, long)) in
-    let are = elements-flen width components sign n raw in
+    let parts = pieces size n raw.items in
+    let sized = pieces_sized size n raw.items (omega (arith, long)) in
+    let are = elements-pieces width components sign n raw in
     let chunk = elements type n (flen raw) in
-    let count : length chunk ≡ n = ap length are ∙ length-map pieces plain ∙ length-cuts size n raw.items in
+    let count : length chunk ≡ n = ap length are ∙ length-map parts plain ∙ length-pieces size n raw.items in
     let spelt : value ≡ spelled order width components chunk = bytes_are (spelled order width components chunk) value b.2 in
     let bytes_long : length (spelled order width components chunk) ≡ n * size
     = ap (λ (c : Chunk). length (spelled order width components c)) are
-    ∙ ap length (spelled-plain order width components pieces)
-    ∙ length-concat size (map (ordered order width components) pieces) (ordered_sized order width components pieces sized)
-    ∙ ap (λ k. k * size) (length-map pieces (ordered order width components) ∙ length-cuts size n raw.items) in (
+    ∙ ap length (spelled-plain order width components parts)
+    ∙ length-concat size (map (ordered order width components) parts) (ordered_sized order width components parts sized)
+    ∙ ap (λ k. k * size) (length-map parts (ordered order width components) ∙ length-pieces size n raw.items) in (
       chunk,
       record {
         valid = ap (λ k. validity type k (flen raw)) count ∙ b.1;
@@ -105,7 +106,7 @@ encoded_found order sizes (fixed width components sign) fill value (flen raw) e 
       record {
         len = a.0;
         taken = a.1;
-        elements = record { count_is = count; each = subst (AreElements type) (sym are) (AreElements-plain width components sign pieces sized) };
+        elements = record { count_is = count; each = subst (AreElements type) (sym are) (AreElements-plain width components sign parts sized) };
         content = record { small = omega (arith, ap length spelt, bytes_long, t.len_is, t.small); spelt = spelt };
       },
     )
@@ -139,20 +140,20 @@ decoded_found order sizes (fixed width components sign) fill value chunk e =
     let long_test = demand_ok (length value == a.0) (InvalidBytesLength (length value) a.0) b.0 b.1 in
     let found : length value ≡ a.0 = grind (arith, nat_tests) in
     let long : length value ≡ n * size = found ∙ t.len_is in
-    let pieces = cuts size n value in
-    let sized = cuts_sized size n value (omega (arith, long)) in
-    let turned_pieces = map (ordered order width components) pieces in
+    let parts = pieces size n value in
+    let sized = pieces_sized size n value (omega (arith, long)) in
+    let turned_pieces = map (ordered order width components) parts in
     let are : chunk ≡ map plain turned_pieces
-    = chunk_are _ chunk b.2 ∙ read_pieces (λ piece. plain (ordered order width components piece)) size n value ∙ sym (plain_map order width components pieces) in
+    = chunk_are _ chunk b.2 ∙ read_pieces (λ piece. plain (ordered order width components piece)) size n value ∙ sym (plain_map order width components parts) in
     record {
       len = a.0;
       taken = a.1;
       content = record {
         elements = record {
-          count_is = ap length are ∙ length-map turned_pieces plain ∙ length-map pieces (ordered order width components) ∙ length-cuts size n value;
-          each = subst (AreElements type) (sym are) (AreElements-plain width components sign turned_pieces (ordered_sized order width components pieces sized));
+          count_is = ap length are ∙ length-map turned_pieces plain ∙ length-map parts (ordered order width components) ∙ length-pieces size n value;
+          each = subst (AreElements type) (sym are) (AreElements-plain width components sign turned_pieces (ordered_sized order width components parts sized));
         };
-        spelt = sym (ap (spelled order width components) are ∙ spelled-plain order width components turned_pieces ∙ ap concat (ordered_back order width components pieces sized) ∙ concat-cuts size n value long);
+        spelt = sym (ap (spelled order width components) are ∙ spelled-plain order width components turned_pieces ∙ ap concat (ordered_back order width components parts sized) ∙ concat-pieces size n value long);
       };
     }
 decoded_found order sizes text fill value chunk e = absurd cc
@@ -176,20 +177,20 @@ decoded_only order sizes (fixed width components sign) fill value chunk stands =
     let n = product sizes in
     let t = taken order sizes width components sign fill stands.len stands.taken in
     let p = pieces_of width components sign chunk stands.content.elements.each in
-    let turned_pieces = map (ordered order width components) p.pieces in
-    let sized = ordered_sized order width components p.pieces p.sized in
-    let value_is : value ≡ concat turned_pieces = stands.content.spelt ∙ ap (spelled order width components) p.are ∙ spelled-plain order width components p.pieces in
+    let turned_pieces = map (ordered order width components) p.parts in
+    let sized = ordered_sized order width components p.parts p.sized in
+    let value_is : value ≡ concat turned_pieces = stands.content.spelt ∙ ap (spelled order width components) p.are ∙ spelled-plain order width components p.parts in
     let number : length turned_pieces ≡ n
-    = length-map p.pieces (ordered order width components) ∙ sym (length-map p.pieces plain) ∙ sym (ap length p.are) ∙ stands.content.elements.count_is in
+    = length-map p.parts (ordered order width components) ∙ sym (length-map p.parts plain) ∙ sym (ap length p.are) ∙ stands.content.elements.count_is in
     let long : length value ≡ n * size = ap length value_is ∙ length-concat size turned_pieces sized ∙ ap (λ k. k * size) number in
     let found : length value ≡ stands.len = long ∙ sym t.len_is in
     let passed : (length value == stands.len) ≡ true = grind (arith, nat_tests) in
-    let cut : cuts size n value ≡ turned_pieces = ap (cuts size n) value_is ∙ ap (λ k. cuts size k (concat turned_pieces)) (sym number) ∙ cuts-concat size turned_pieces sized in
+    let cut : pieces size n value ≡ turned_pieces = ap (pieces size n) value_is ∙ ap (λ k. pieces size k (concat turned_pieces)) (sym number) ∙ pieces-concat size turned_pieces sized in
     let read : map (element_read order type value) (range_with_len 0 n) ≡ chunk
     = read_pieces (λ piece. plain (ordered order width components piece)) size n value
     ∙ ap (map (λ piece. plain (ordered order width components piece))) cut
     ∙ sym (plain_map order width components turned_pieces)
-    ∙ ap (map plain) (ordered_back order width components p.pieces p.sized)
+    ∙ ap (map plain) (ordered_back order width components p.parts p.sized)
     ∙ sym p.are in
     two_tests (value_length order sizes type fill) (λ l. length value == l) (λ l. InvalidBytesLength (length value) l) (map (element_read order type value) (range_with_len 0 n)) stands.len stands.taken passed
     ∙ ap ok read

@@ -1,6 +1,6 @@
 pub mod CodecLaws
 pub mod Coding
-pub mod Cuts
+pub mod ReversedPieces
 pub mod Exact
 pub mod Turned
 pub mod Ranges

@@ -16,13 +16,14 @@ use Rattle.zarrs_data_type.specs.declared.endianness.Endianness.{Endianness}
 use Rattle.zarrs_array_bytes.specs.Elements.{piece}
 use Rattle.zarrs_array_bytes.specs.Held.{Raw, flen}
 use Rattle.zarrs_array_bytes.specs.Validity.{Holds}
-use Rattle.zarrs_bytes.specs.ByteOrder.{cuts, turned, ordered}
+use Rattle.zarrs_array_bytes.specs.Pieces.{pieces}
+use Rattle.zarrs_array_bytes.proofs.Pieces.{AllSized, length-concat, pieces-concat}
+use Rattle.zarrs_bytes.specs.ByteOrder.{turned, ordered}
 use Rattle.zarrs_bytes.specs.ByteRanges.{range_indices, read_ranges}
 use Rattle.zarrs_bytes.specs.BytesCodec.{element_read, turn_size}
 use Rattle.zarrs_bytes.specs.PartialRead.{place_bytes, size_of, IsFilledType, read_places}
 use Rattle.zarrs_bytes.specs.ByteSpan.{ByteSpan}
 use Rattle.zarrs_bytes.proofs.Coding.{ok}
-use Rattle.zarrs_bytes.proofs.Cuts.{AllSized, length-concat, cuts-concat}
 use Rattle.zarrs_bytes.proofs.Ranges.{read_value-places}
 use Rattle.zarrs_bytes.proofs.Spelled.{length-turned, turned_is, Holds-pieces}
 
@@ -31,14 +32,14 @@ use Rattle.zarrs_bytes.proofs.Spelled.{length-turned, turned_is, Holds-pieces}
 from_le : (a b : ℕ) → nat_le a b ≡ true → a ≤ b
 from_le a b h = grind (arith, nat_tests)
 
-pieces_sized : (size : ℕ) (value places : List ℕ) → list_all (λ place. nat_le (place * size + size) (length value)) places ≡ true → AllSized size (map (piece size value) places)
-pieces_sized size value [] h = tt
-pieces_sized size value (place ∷ places) h =
+places_sized : (size : ℕ) (value places : List ℕ) → list_all (λ place. nat_le (place * size + size) (length value)) places ≡ true → AllSized size (map (piece size value) places)
+places_sized size value [] h = tt
+places_sized size value (place ∷ places) h =
     let both = and_parts (nat_le (place * size + size) (length value)) (list_all (λ place. nat_le (place * size + size) (length value)) places) h in
     let within : place * size + size ≤ length value = from_le _ _ both.0 in
     let one : place * size + size - place * size ≡ size = omega arith in (
       ap (λ n. length (take n (drop (place * size) value))) one ∙ length-take-le size (drop (place * size) value) (omega (arith, length-drop (place * size) value)),
-      pieces_sized size value places both.1,
+      places_sized size value places both.1,
     )
 
 read_map : (order : Option Endianness) (width components : ℕ) (sign : Bool) (value places : List ℕ) → map (λ piece. plain (ordered order width components piece)) (map (piece (element_size width components) value) places) ≡ map (element_read order (fixed width components sign) value) places
@@ -94,16 +95,16 @@ at_some order (fixed width components sign) fill places bytes' None ranges raw t
 at_some order (fixed width components sign) fill places bytes' (Some value) ranges raw t numbers filled read is small =
     let type = fixed width components sign in
     let size = element_size width components in
-    let pieces = map (piece size value) places in
-    some_if (test_of size value places) (concat pieces) bytes' (map (element_read order type value) places) (Holds type (flen raw))
+    let parts = map (piece size value) places in
+    some_if (test_of size value places) (concat parts) bytes' (map (element_read order type value) places) (Holds type (flen raw))
     (sym (ranges_are size value places ranges t.1 numbers filled) ∙ read)
     (λ inside same.
-    let sized = pieces_sized size value places inside in
-    let long : length bytes' ≡ length pieces * size = ap length same ∙ length-concat size pieces sized in
-    let cut : cuts size (length pieces) bytes' ≡ pieces = ap (cuts size (length pieces)) same ∙ cuts-concat size pieces sized in
-    let turned_so = is ∙ turned_is order width components sign (length pieces) bytes' long ∙ ap (λ (xs : List (List ℕ)). concat (map (ordered order width components) xs)) cut in
+    let sized = places_sized size value places inside in
+    let long : length bytes' ≡ length parts * size = ap length same ∙ length-concat size parts sized in
+    let cut : pieces size (length parts) bytes' ≡ parts = ap (pieces size (length parts)) same ∙ pieces-concat size parts sized in
+    let turned_so = is ∙ turned_is order width components sign (length parts) bytes' long ∙ ap (λ (xs : List (List ℕ)). concat (map (ordered order width components) xs)) cut in
     let short : length raw.items < 2 ^ 64 = omega (arith, ap length is, length-turned (turn_size order type) bytes', small) in
-    subst (Holds type (flen raw)) (read_map order width components sign value places) (Holds-pieces order width components sign raw pieces sized turned_so short))
+    subst (Holds type (flen raw)) (read_map order width components sign value places) (Holds-pieces order width components sign raw parts sized turned_so short))
 at_some order text fill places bytes' stored ranges raw t numbers filled read is small = absurd t
 at_some order bytes fill places bytes' stored ranges raw t numbers filled read is small = absurd t
 at_some order (optional type) fill places bytes' stored ranges raw t numbers filled read is small = absurd t
@@ -124,9 +125,9 @@ at_err order (optional type) fill places stored ranges e t numbers filled read =
 pub at_none : (order : Option Endianness) (type : ElementType) (fill places : List ℕ) (stored : Option (List ℕ)) (ranges : List ByteSpan) (raw : Raw) → IsFilledType type fill → range_indices ranges ≡ place_bytes (size_of type) places → All (λ range. range.start < range.end) ranges
     → read_ranges stored ranges ≡ Ok None → raw.items ≡ flat_map (λ _. fill) places → length raw.items < 2 ^ 64 → IsOkAnd (read_places order type fill stored places) (Holds type (flen raw))
 at_none order (fixed width components sign) fill places None ranges raw t numbers filled read is small =
-    let pieces = map (λ _. fill) places in
+    let parts = map (λ _. fill) places in
     subst (Holds (fixed width components sign) (flen raw)) (fills_read fill places)
-    (Holds-pieces None width components sign raw pieces (fills_sized (element_size width components) fill places t.0) (is ∙ fills_joined fill places) small)
+    (Holds-pieces None width components sign raw parts (fills_sized (element_size width components) fill places t.0) (is ∙ fills_joined fill places) small)
 at_none order (fixed width components sign) fill places (Some value) ranges raw t numbers filled read is small =
     let size = element_size width components in
     none_if (test_of size value places) (concat (map (piece size value) places)) _ (sym (ranges_are size value places ranges t.1 numbers filled) ∙ read)

@@ -1,15 +1,9 @@
 -- Pieces turned round in place, one after another.
-use Rattle.std.proofs.Common.{◌≡◌, ℕ, ◌+◌, ◌*◌, ◌≤◌, List, [], ◌∷◌, ◌++◌, length, map, take, drop, reverse, swap, arith, ap, ◌∙◌, sym, refl}
-use Rattle.std.proofs.lemmas.List.{append_assoc, take_at, drop_at, drop-drop, length-map}
-use Rattle.zarrs_bytes.specs.ByteOrder.{cuts, reversed_pieces}
-use Rattle.zarrs_bytes.proofs.Cuts.{cuts_sized, length-concat, length-cuts, reverse_sized, reversed_pieces-more}
+use Rattle.std.proofs.Common.{◌≡◌, ℕ, ◌+◌, ◌*◌, ◌≤◌, List, [], ◌∷◌, ◌++◌, length, take, drop, reverse, swap, arith, ap, ◌∙◌, sym, refl}
+use Rattle.std.proofs.lemmas.List.{append_assoc, take_at, drop_at, drop-drop}
+use Rattle.zarrs_bytes.specs.ByteOrder.{reversed_pieces}
+use Rattle.zarrs_bytes.proofs.ReversedPieces.{length-reversed_pieces, reversed_pieces-more}
 use borrow.Rule.Slice.PartMut.{put_mid, mid_of}
-
-pub length-reversed_pieces : (size count : ℕ) (bytes : List ℕ) → count * size ≤ length bytes → length (reversed_pieces size count bytes) ≡ count * size
-length-reversed_pieces size count bytes h =
-    let pieces = cuts size count bytes in
-    length-concat size (map reverse pieces) (reverse_sized size pieces (cuts_sized size count bytes h))
-    ∙ ap (λ n. n * size) (length-map pieces reverse ∙ length-cuts size count bytes)
 
 -- one piece more is turned round in place
 pub turned_step : (size index k : ℕ) (bytes now piece : List ℕ) → (index + 1) * size ≤ length bytes → k ≡ size → now ≡ reversed_pieces size index bytes ++ drop (index * size) bytes → piece ≡ reverse (mid_of (index * size) k now) → put_mid (index * size) k now piece ≡ reversed_pieces size (index + 1) bytes ++ drop ((index + 1) * size) bytes

@@ -1,19 +1,15 @@
 -- The bytes of elements, each component in a byte order.
-use Rattle.std.specs.Prelude.{ℕ, zero, suc, ◌*◌, ◌/◌, nat_le, Bool, true, Option, Some, None, List, [], ◌∷◌, ◌++◌, length, map, take, drop, reverse}
+use Rattle.std.specs.Prelude.{ℕ, ◌*◌, ◌/◌, nat_le, Bool, true, Option, Some, None, List, [], ◌++◌, length, map, drop, reverse}
 use Rattle.std.specs.List.{concat}
 use Rattle.zarrs_data_type.specs.Element.{Element, plain, Chunk}
 use Rattle.zarrs_data_type.specs.ElementType.{component_bytes}
 use Rattle.zarrs_data_type.specs.declared.endianness.Endianness.{Endianness}
 use Rattle.zarrs_data_type.specs.declared.endianness.Endianness.TheVariants.{Little, Big}
-
--- so many pieces of a size, from the front
-abbrev pub cuts : ℕ → ℕ → List ℕ → List (List ℕ)
-cuts size zero bytes = []
-cuts size (suc count) bytes = take size bytes ∷ cuts size count (drop size bytes)
+use Rattle.zarrs_array_bytes.specs.Pieces.{pieces}
 
 -- so many pieces of a size, each turned round
 abbrev pub reversed_pieces : ℕ → ℕ → List ℕ → List ℕ
-reversed_pieces size count bytes = concat (map reverse (cuts size count bytes))
+reversed_pieces size count bytes = concat (map reverse (pieces size count bytes))
 
 -- the bytes of an element with each of its components turned round
 abbrev pub reversed : ℕ → ℕ → List ℕ → List ℕ

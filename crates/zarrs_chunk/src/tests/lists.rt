@@ -1,4 +1,4 @@
-use super::{joined, refusal, settled, shape};
+use super::{has_places, is_refused, settled, shape};
 use crate::{ArraySubset, CodecError, Indexer};
 use std::alloc::Global;
 use std::test::Fail;
@@ -11,35 +11,28 @@ fn list(alloc: Global, tuples: &[&[u64]]) -> Result<Indexer, CodecError> {
     Ok(Indexer::Indices(indices))
 }
 
-/// The places of tuples that fit the shape, after a look at what the other calls answer.
-fn places(alloc: Global, sizes: &[u64], tuples: &[&[u64]]) -> Result<Vec<u64>, Fail> {
-    let chunk = shape(alloc, sizes)?;
-    let indexer = list(alloc, tuples)?;
-    indexer.check(&chunk)?;
-    if indexer.len() != Ok(tuples.len() as u64) {
-        return Err("another number of elements than of tuples")?;
-    }
-    let found = settled(indexer.places(alloc, &chunk))??;
-    let runs = settled(indexer.runs(alloc, &chunk))??;
-    if joined(alloc, runs.as_slice())? != found {
-        return Err("runs that cover other places")?;
-    }
-    Ok(found)
-}
-
 #[test]
 fn has_places_in_list_order(rt: HostRuntime) -> Result<(), Fail> {
     let alloc = rt.alloc();
-    let repeated = places(alloc, &[4, 4], &[&[1, 0], &[3, 3], &[0, 2], &[3, 3]])?;
-    assert_eq!(rt; repeated.as_slice(), [4, 15, 2, 15].as_slice());
-    let deep = places(alloc, &[2, 3, 4], &[&[1, 2, 3], &[0, 0, 0], &[1, 0, 2]])?;
-    assert_eq!(rt; deep.as_slice(), [23, 0, 14].as_slice());
-    let falling = places(alloc, &[3], &[&[2], &[1], &[0]])?;
-    assert_eq!(rt; falling.as_slice(), [2, 1, 0].as_slice());
-    let without_axes = places(alloc, &[], &[&[], &[]])?;
-    assert_eq!(rt; without_axes.as_slice(), [0, 0].as_slice());
-    assert!(rt; places(alloc, &[4, 4], &[])?.is_empty());
-    assert!(rt; places(alloc, &[], &[])?.is_empty());
+    let rows: [(&[u64], &[&[u64]], &[u64]); 6] = [
+        (
+            &[4, 4],
+            &[&[1, 0], &[3, 3], &[0, 2], &[3, 3]],
+            &[4, 15, 2, 15],
+        ),
+        (
+            &[2, 3, 4],
+            &[&[1, 2, 3], &[0, 0, 0], &[1, 0, 2]],
+            &[23, 0, 14],
+        ),
+        (&[3], &[&[2], &[1], &[0]], &[2, 1, 0]),
+        (&[], &[&[], &[]], &[0, 0]),
+        (&[4, 4], &[], &[]),
+        (&[], &[], &[]),
+    ];
+    for (sizes, tuples, places) in rows {
+        has_places(&rt, alloc, sizes, &list(alloc, tuples)?, places)?;
+    }
     Ok(())
 }
 
@@ -61,33 +54,12 @@ fn is_refused_by_the_first_cause(rt: HostRuntime) -> Result<(), Fail> {
         (wide, &[&[4294967296, 0]], outside),
     ];
     for (sizes, tuples, cause) in rows {
-        let chunk = shape(alloc, sizes)?;
-        let indexer = list(alloc, tuples)?;
-        assert_eq!(rt; indexer.check(&chunk), Err(cause), "in {sizes:?}");
-        assert_eq!(rt;
-            refusal(indexer.places(alloc, &chunk))?,
-            Some(cause),
-            "in {sizes:?}"
-        );
-        assert_eq!(rt;
-            refusal(indexer.runs(alloc, &chunk))?,
-            Some(cause),
-            "in {sizes:?}"
-        );
+        is_refused(&rt, alloc, sizes, &list(alloc, tuples)?, Err(cause), cause)?;
     }
-    let chunk = shape(alloc, wide)?;
     let inside: [&[&[u64]]; 2] = [&[], &[&[0, 0]]];
     for tuples in inside {
         let indexer = list(alloc, tuples)?;
-        assert_eq!(rt; indexer.check(&chunk), Ok(()));
-        assert_eq!(rt;
-            refusal(indexer.places(alloc, &chunk))?,
-            Some(CodecError::Overflow)
-        );
-        assert_eq!(rt;
-            refusal(indexer.runs(alloc, &chunk))?,
-            Some(CodecError::Overflow)
-        );
+        is_refused(&rt, alloc, wide, &indexer, Ok(()), CodecError::Overflow)?;
     }
     Ok(())
 }

@@ -1,4 +1,4 @@
-use super::{joined, refusal, settled, shape};
+use super::{has_places, is_refused, refusal, settled, shape};
 use crate::{ArraySubset, CodecError, Indexer};
 use std::alloc::Global;
 use std::ops::Range;
@@ -132,16 +132,8 @@ fn has_places_row_by_row(rt: HostRuntime) -> Result<(), Fail> {
         (&[1, 1, 1], &[0..1, 0..1, 0..1], &[0], &[(0, 1)]),
     ];
     for (sizes, ranges, places, runs) in rows {
-        let chunk = shape(alloc, sizes)?;
-        let indexer = subset(alloc, ranges)?;
-        assert_eq!(rt; indexer.check(&chunk), Ok(()), "in {sizes:?}");
-        assert_eq!(rt; indexer.len(), Ok(places.len() as u64), "in {sizes:?}");
-        let found = settled(indexer.places(alloc, &chunk))??;
-        assert_eq!(rt; found.as_slice(), places, "in {sizes:?}");
-        let found = settled(indexer.runs(alloc, &chunk))??;
+        let found = has_places(&rt, alloc, sizes, &subset(alloc, ranges)?, places)?;
         assert_eq!(rt; found.as_slice(), runs, "in {sizes:?}");
-        let covered = joined(alloc, found.as_slice())?;
-        assert_eq!(rt; covered.as_slice(), places, "in {sizes:?}");
     }
     Ok(())
 }
@@ -165,33 +157,19 @@ fn is_refused_by_the_first_cause(rt: HostRuntime) -> Result<(), Fail> {
         (wide, &[0..1, 0..4294967297], outside),
     ];
     for (sizes, ranges, cause) in rows {
-        let chunk = shape(alloc, sizes)?;
-        let indexer = subset(alloc, ranges)?;
-        assert_eq!(rt; indexer.check(&chunk), Err(cause), "in {sizes:?}");
-        assert_eq!(rt;
-            refusal(indexer.places(alloc, &chunk))?,
-            Some(cause),
-            "in {sizes:?}"
-        );
-        assert_eq!(rt;
-            refusal(indexer.runs(alloc, &chunk))?,
-            Some(cause),
-            "in {sizes:?}"
-        );
+        is_refused(
+            &rt,
+            alloc,
+            sizes,
+            &subset(alloc, ranges)?,
+            Err(cause),
+            cause,
+        )?;
     }
-    let chunk = shape(alloc, wide)?;
     let inside: [&[Range<u64>]; 2] = [&[0..1, 0..1], &[0..0, 0..0]];
     for ranges in inside {
         let indexer = subset(alloc, ranges)?;
-        assert_eq!(rt; indexer.check(&chunk), Ok(()));
-        assert_eq!(rt;
-            refusal(indexer.places(alloc, &chunk))?,
-            Some(CodecError::Overflow)
-        );
-        assert_eq!(rt;
-            refusal(indexer.runs(alloc, &chunk))?,
-            Some(CodecError::Overflow)
-        );
+        is_refused(&rt, alloc, wide, &indexer, Ok(()), CodecError::Overflow)?;
     }
     Ok(())
 }
