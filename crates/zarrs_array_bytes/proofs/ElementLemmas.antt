@@ -13,10 +13,10 @@ piece_at f size (p ∷ ps) (suc i) d each l =
     let at : suc i * size ≡ size + i * size = omega arith in
     rw (at, ← drop-drop (i * size) size (f p ++ flat_map f ps), drop_at (f p) (flat_map f ps) size first) (piece_at f size ps i d (λ k h. each (suc k) (omega arith)) (omega arith))
 
-pub length_pieces : {X : Type 0} (f : X → List ℕ) (size : ℕ) (ps : List X) (d : X) → ((k : ℕ) → k < length ps → length (f (get_or ps k d)) ≡ size) → length (flat_map f ps) ≡ length ps * size
-length_pieces f size [] d each = omega arith
-length_pieces f size (p ∷ ps) d each =
-    omega (arith, length-append (f p) (flat_map f ps), each 0 (omega arith), length_pieces f size ps d (λ k h. each (suc k) (omega arith)))
+pub length-flat_map_sized : {X : Type 0} (f : X → List ℕ) (size : ℕ) (ps : List X) (d : X) → ((k : ℕ) → k < length ps → length (f (get_or ps k d)) ≡ size) → length (flat_map f ps) ≡ length ps * size
+length-flat_map_sized f size [] d each = omega arith
+length-flat_map_sized f size (p ∷ ps) d each =
+    omega (arith, length-append (f p) (flat_map f ps), each 0 (omega arith), length-flat_map_sized f size ps d (λ k h. each (suc k) (omega arith)))
 
 -- what stands between the ends of joined pieces
 pub cut_at : {X : Type 0} (f : X → List ℕ) (pre : List ℕ) (at : ℕ) (ps : List X) (i : ℕ) (d : X) → length pre ≡ at → i < length ps

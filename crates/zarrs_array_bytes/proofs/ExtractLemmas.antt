@@ -12,7 +12,7 @@ use Rattle.zarrs_array_bytes.specs.Elements.{piece, cut, flagged, element_at, el
 use Rattle.zarrs_array_bytes.specs.Validity.{LengthRefusal, sizes_fit, levels_fit, Holds}
 use Rattle.zarrs_array_bytes.specs.Extracted.{extracted, IsSmall}
 use Rattle.zarrs_array_bytes.proofs.RunLemmas.{piece_is}
-use Rattle.zarrs_array_bytes.proofs.ElementLemmas.{piece_at, length_pieces, cut_at, length_ends, length_piece}
+use Rattle.zarrs_array_bytes.proofs.ElementLemmas.{piece_at, length-flat_map_sized, cut_at, length_ends, length_piece}
 use Rattle.zarrs_array_bytes.proofs.ValidLemmas.{both_ok, then_ok, length_found, length_due, sizes_from_small}
 
 -- elements read by a function, and those selected from a list
@@ -53,7 +53,7 @@ module _ (refusal : LengthRefusal) where
   pub extracted_fits : (t : ElementType) (n : ℕ) (h : Held) (ps : List ℕ) → levels_fit refusal t n h ≡ Ok tt → All (λ p. p < n) ps → levels_fit refusal t (length ps) (extracted t h ps) ≡ Ok tt
   extracted_fits (fixed w c s) n (flen r) ps fit inside =
       let size : ℕ = element_size w c in
-      length_due refusal _ _ (length_pieces (piece size r.items) size ps 0 (pieces_whole w c n r ps (length_found refusal _ _ fit) inside))
+      length_due refusal _ _ (length-flat_map_sized (piece size r.items) size ps 0 (pieces_whole w c n r ps (length_found refusal _ _ fit) inside))
   extracted_fits (fixed w c s) n (vlen r os) ps fit inside = cc
   extracted_fits (fixed w c s) n (masked h m) ps fit inside = cc
   extracted_fits text n (vlen r os) ps fit inside = length_due refusal _ _ (omega (arith, length_ends 0 (map (cut os r.items) ps), length-map ps (cut os r.items)))

@@ -14,7 +14,7 @@ use Rattle.zarrs_array_bytes.specs.Pieces.{gathered}
 use Rattle.zarrs_array_bytes.specs.Filled.{same, repeated, blank_elements, filled}
 use Rattle.zarrs_array_bytes.proofs.OffsetLemmas.{both_true}
 use Rattle.zarrs_array_bytes.proofs.RunLemmas.{piece_is}
-use Rattle.zarrs_array_bytes.proofs.ElementLemmas.{piece_at, length_pieces, cut_at, length_ends}
+use Rattle.zarrs_array_bytes.proofs.ElementLemmas.{piece_at, length-flat_map_sized, cut_at, length_ends}
 use Rattle.zarrs_array_bytes.proofs.ValidLemmas.{length_due, then_ok}
 
 count_of : (n : ℕ) (x : ℕ) → length (replicate n x) ≡ n
@@ -43,7 +43,7 @@ module _ (refusal : LengthRefusal) where
   filled_fits (fixed w c s) n bs h =
       let size : ℕ = element_size w c in
       let each : length bs ≡ size = eqb-true _ _ h in
-      length_due refusal _ _ (length_pieces (same bs) size (replicate n 0) 0 (λ k l. each) ∙ ap (λ k. k * size) (count_of n 0))
+      length_due refusal _ _ (length-flat_map_sized (same bs) size (replicate n 0) 0 (λ k l. each) ∙ ap (λ k. k * size) (count_of n 0))
   filled_fits text n bs h = length_due refusal _ _ (cuts_fit bs n)
   filled_fits bytes n bs h = length_due refusal _ _ (cuts_fit bs n)
   filled_fits (optional t) n bs h =

@@ -1,7 +1,8 @@
 -- What the calls of an update require, at each kind.
-use Rattle.std.proofs.Common.{◌≡◌, ℕ, suc, ◌+◌, ◌*◌, ◌<◌, ◌≤◌, Bool, true, List, [], ◌∷◌, ◌++◌, length, map, set, Some, Ok, IsOk, refl, sym, ap, ap₂, ◌∙◌, arith, zero}
-use Rattle.std.specs.List.{All, concat, list_all, flat_map, range_with_len}
+use Rattle.std.proofs.Common.{◌≡◌, ℕ, suc, ◌+◌, ◌*◌, ◌<◌, ◌≤◌, Bool, true, List, [], ◌∷◌, length, map, map-id, set, Some, Ok, IsOk, refl, sym, ap, ap₂, ◌∙◌, arith, zero}
+use Rattle.std.specs.List.{All, concat, list_all, range_with_len}
 use Rattle.std.proofs.lemmas.Simd.{map-map}
+use Rattle.std.proofs.lemmas.List.Folds.{flat_map-map}
 use Rattle.std.proofs.lemmas.List.Elements.{All-cons, All-tail, All-set}
 use Rattle.zarrs_chunk.specs.Runs.{joined_runs}
 use Rattle.zarrs_data_type.specs.ElementType.{ElementType, fixed, text, bytes, optional, element_size, fixed_size_of, inner_of}
@@ -89,16 +90,8 @@ All-update P xs (p ∷ ps) (y ∷ ys) h e = All-update P (set xs p y) ps ys (All
 pub sources_known : (n : ℕ) (ps : List ℕ) → All (IsSourceOf n (length ps)) (sources n ps)
 sources_known n ps = All-update (IsSourceOf n (length ps)) (map Old (range_with_len 0 n)) ps (map New (range_with_len 0 (length ps))) (old_sources n (length ps) 0 n (omega arith)) (new_sources n (length ps) 0 (length ps) (omega arith))
 
-map-itself : (xs : List (List ℕ)) → map (λ (x : List ℕ). x) xs ≡ xs
-map-itself [] = refl
-map-itself (x ∷ xs) = ap (λ ys. x ∷ ys) (map-itself xs)
-
-flat_map-map : {X : Type 0} (f : X → List ℕ) (xs : List X) → flat_map f xs ≡ flat_map (λ (part : List ℕ). part) (map f xs)
-flat_map-map f [] = refl
-flat_map-map f (x ∷ xs) = ap (λ ys. f x ++ ys) (flat_map-map f xs)
-
 gathered-map : {X : Type 0} (f : X → List ℕ) (xs : List X) → gathered f xs ≡ gathered (λ (part : List ℕ). part) (map f xs)
-gathered-map f xs = ap₂ (λ bs parts. (bs, 0 ∷ ends 0 parts)) (flat_map-map f xs) (sym (map-itself (map f xs)))
+gathered-map f xs = ap₂ (λ bs parts. (bs, 0 ∷ ends 0 parts)) (sym (flat_map-map (λ (part : List ℕ). part) f xs)) (sym (map-id (map f xs)))
 
 -- what the sources give is an update of what they are taken from
 pub gathered-sources : (f g : ℕ → List ℕ) (n : ℕ) (ps : List ℕ)

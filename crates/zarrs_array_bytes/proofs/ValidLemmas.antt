@@ -60,6 +60,7 @@ inner_fits refusal (optional t) u n h m e i =
     let is : t ≡ u = cc in
     rw (← is) (both_ok _ _ e).1
 
+-- borrowed or owned, the bytes are the same
 pub raw_items : (b : CowSlice ℕ Global) → cow_slice_items b ≡ (raw_of b).items
 raw_items (cow.Borrowed r) = refl
 raw_items (cow.Owned v) = refl

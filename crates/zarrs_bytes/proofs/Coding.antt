@@ -1,10 +1,7 @@
 -- What the codec computes is what its definitions say.
-use Rattle.std.proofs.Common.{◌≡◌, ℕ, ◌*◌, ◌<◌, ◌^◌, ◌==◌, ◌&&◌, Bool, true, false, nat_lt, cond, not, Option, Some, None, Result, Ok, Err, List, length, map, arith, refl, ap, sym, ◌∙◌, subst, Global}
+use Rattle.std.proofs.Common.{◌≡◌, ℕ, ◌*◌, ◌<◌, ◌^◌, ◌==◌, ◌&&◌, Bool, true, false, nat_lt, cond, not, Option, Some, None, Result, Ok, Err, List, length, map, arith, refl, ap, sym, ◌∙◌, subst}
 use Rattle.std.specs.List.{range_with_len}
 use Rattle.std.specs.Prelude.{IsOk, IsOkAnd, is_some}
-use Rattle.std.specs.Cow.{cow_slice_items}
-use Rattle.std.specs.declared.borrow.CowSlice.{CowSlice}
-use Rattle.std.specs.declared.borrow.CowSlice.TheVariants as cow
 use Rattle.std.proofs.lemmas.Bool.Decides.{nat_tests}
 use Rattle.zarrs_chunk.specs.Answer.{◌>>=◌, demand, checked_u64, seen}
 use Rattle.zarrs_chunk.specs.ChunkShape.{product}
@@ -15,7 +12,7 @@ use Rattle.zarrs_data_type.specs.ElementType.{ElementType, fixed, text, bytes, o
 use Rattle.zarrs_data_type.specs.FillValue.{fill_fits}
 use Rattle.zarrs_data_type.specs.declared.endianness.Endianness.{Endianness}
 use Rattle.zarrs_array_bytes.specs.Elements.{elements}
-use Rattle.zarrs_array_bytes.specs.Held.{Held, Raw, flen, vlen, masked, raw_of}
+use Rattle.zarrs_array_bytes.specs.Held.{Held, Raw, flen, vlen, masked}
 use Rattle.zarrs_array_bytes.specs.Parts.{fixed_part}
 use Rattle.zarrs_array_bytes.specs.Validity.{Holds, validity}
 use Rattle.zarrs_array_bytes.specs.Pieces.{pieces}
@@ -139,10 +136,6 @@ decoded_holds order sizes bytes fill value raw len e long is = absurd cc
 decoded_holds order sizes (optional type) fill value raw len e long is = absurd cc
 
 -- ---- bytes that stay in their place
-
-pub raw_items : (raw : CowSlice ℕ Global) → cow_slice_items raw ≡ (raw_of raw).items
-raw_items (cow.Borrowed r) = refl
-raw_items (cow.Owned v) = refl
 
 spared_by : (size : Option ℕ) (own : Bool) (P : Type 0) → (is_some size && not own) ≡ false → (size ≡ None → P) → (own ≡ true → P) → P
 spared_by None own P h f g = f refl

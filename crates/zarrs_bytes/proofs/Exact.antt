@@ -2,6 +2,7 @@
 use Rattle.std.proofs.Common.{◌≡◌, ℕ, zero, suc, ◌*◌, ◌<◌, ◌^◌, ◌==◌, Bool, true, Option, Result, Ok, Err, List, [], ◌∷◌, length, map, get_or, nat_lt, arith, refl, ap, sym, ◌∙◌, subst}
 use Rattle.std.specs.List.{concat, range_with_len}
 use Rattle.std.specs.Prelude.{IsOkAnd}
+use Rattle.std.proofs.lemmas.Simd.{map-map}
 use Rattle.std.proofs.lemmas.Bool.Decides.{nat_tests}
 use Rattle.std.proofs.lemmas.List.{length-map}
 use Rattle.zarrs_chunk.specs.Answer.{◌>>=◌, demand}
@@ -19,7 +20,7 @@ use Rattle.zarrs_array_bytes.proofs.Pieces.{AllSized, length-pieces, pieces_size
 use Rattle.zarrs_bytes.specs.ByteOrder.{ordered, spelled}
 use Rattle.zarrs_bytes.specs.BytesCodec.{value_length, spelling, encoded, decoded, element_read, Stands, Written}
 use Rattle.zarrs_bytes.proofs.Coding.{bind_ok, demand_ok, ok, two_steps, taken}
-use Rattle.zarrs_bytes.proofs.Spelled.{ordered_twice, ordered_sized, spelled-plain, plain_map}
+use Rattle.zarrs_bytes.proofs.Spelled.{ordered_twice, ordered_sized, spelled-plain}
 
 -- ---- a chunk of a fixed type and its elements' bytes
 
@@ -144,7 +145,7 @@ decoded_found order sizes (fixed width components sign) fill value chunk e =
     let sized = pieces_sized size n value (omega (arith, long)) in
     let turned_pieces = map (ordered order width components) parts in
     let are : chunk ≡ map plain turned_pieces
-    = chunk_are _ chunk b.2 ∙ read_pieces (λ piece. plain (ordered order width components piece)) size n value ∙ sym (plain_map order width components parts) in
+    = chunk_are _ chunk b.2 ∙ read_pieces (λ piece. plain (ordered order width components piece)) size n value ∙ sym (map-map plain (ordered order width components) parts) in
     record {
       len = a.0;
       taken = a.1;
@@ -189,7 +190,7 @@ decoded_only order sizes (fixed width components sign) fill value chunk stands =
     let read : map (element_read order type value) (range_with_len 0 n) ≡ chunk
     = read_pieces (λ piece. plain (ordered order width components piece)) size n value
     ∙ ap (map (λ piece. plain (ordered order width components piece))) cut
-    ∙ sym (plain_map order width components turned_pieces)
+    ∙ sym (map-map plain (ordered order width components) turned_pieces)
     ∙ ap (map plain) (ordered_back order width components p.parts p.sized)
     ∙ sym p.are in
     two_tests (value_length order sizes type fill) (λ l. length value == l) (λ l. InvalidBytesLength (length value) l) (map (element_read order type value) (range_with_len 0 n)) stands.len stands.taken passed

@@ -4,8 +4,9 @@ use Rattle.std.specs.List.{concat}
 use mathlib.Core.List.{reverse-reverse}
 use Rattle.std.proofs.Math.Nat.{mul-div_cancel, div-mul-le_self}
 use Rattle.std.proofs.lemmas.Bool.Decides.{nat_tests}
+use Rattle.std.proofs.lemmas.Simd.{map-map}
 use Rattle.std.proofs.lemmas.List.{append-nil, drop_all, length-append, length-drop, length-map}
-use Rattle.zarrs_data_type.specs.Element.{Element, plain}
+use Rattle.zarrs_data_type.specs.Element.{plain}
 use Rattle.zarrs_data_type.specs.ElementType.{fixed, component_bytes, element_size}
 use Rattle.zarrs_data_type.specs.declared.endianness.Endianness.{Endianness}
 use Rattle.zarrs_data_type.specs.declared.endianness.Endianness.TheVariants.{Little, Big}
@@ -93,11 +94,6 @@ spelled-plain order width components [] = refl
 spelled-plain order width components (piece ∷ parts) =
     ap (λ (rest : List ℕ). ordered order width components piece ++ rest) (spelled-plain order width components parts)
 
-pub plain_map : (order : Option Endianness) (width components : ℕ) (parts : List (List ℕ)) → map plain (map (ordered order width components) parts) ≡ map (λ piece. plain (ordered order width components piece)) parts
-plain_map order width components [] = refl
-plain_map order width components (piece ∷ parts) =
-    ap (λ (rest : List Element). plain (ordered order width components piece) ∷ rest) (plain_map order width components parts)
-
 -- a container of pieces in the byte order holds the elements that the pieces are read as
 pub Holds-pieces : (order : Option Endianness) (width components : ℕ) (sign : Bool) (raw : Raw) (parts : List (List ℕ)) → AllSized (element_size width components) parts → raw.items ≡ concat (map (ordered order width components) parts) → length raw.items < 2 ^ 64
     → Holds (fixed width components sign) (flen raw) (map (λ piece. plain (ordered order width components piece)) parts)
@@ -115,5 +111,5 @@ Holds-pieces order width components sign raw parts sized is small =
       elements_are = ap (λ n. elements (fixed width components sign) n (flen raw)) number
           ∙ elements-pieces width components sign (length turned_pieces) raw
           ∙ ap (map plain) cut
-          ∙ plain_map order width components parts;
+          ∙ map-map plain (ordered order width components) parts;
     }

@@ -3,9 +3,6 @@ use Rattle.std.proofs.Common.{◌≡◌, ◌∙◌, ◌+◌, ◌*◌, ◌/◌, �
 use Rattle.std.specs.Prelude.{String, string_bytes}
 use Rattle.std.specs.Global.{Global}
 use Rattle.std.specs.Prelude.{IfSome, Vec}
-use Rattle.std.specs.Cow.{cow_slice_items}
-use Rattle.std.specs.declared.borrow.CowSlice.{CowSlice}
-use Rattle.std.specs.declared.borrow.CowSlice.TheVariants as cow
 use Rattle.std.specs.List.{range_with_len}
 use Rattle.std.proofs.lemmas.List.{map-append}
 use Rattle.std.proofs.lemmas.List.FromFn.{map-range_with_len_more}
@@ -24,7 +21,7 @@ use Rattle.zarrs_chunk.specs.declared.codec_error.CodecError.TheVariants.{Overfl
 use Rattle.zarrs_data_type.specs.Element.{Chunk}
 use Rattle.zarrs_data_type.specs.ElementType.{ElementType, fixed, text as text_type, bytes as bytes_type, optional, element_size, fixed_size_of}
 use Rattle.zarrs_array_bytes.specs.Elements.{piece, element_at}
-use Rattle.zarrs_array_bytes.specs.Held.{Held, Raw, raw_of, flen, vlen, masked}
+use Rattle.zarrs_array_bytes.specs.Held.{Held, Raw, flen, vlen, masked}
 use Rattle.zarrs_array_bytes.specs.Parts.{fixed_part}
 use Rattle.zarrs_array_bytes.specs.Validity.{Holds}
 use Rattle.zarrs_chain_tool.specs.Elements.{element_tree, chunk_tree}
@@ -94,11 +91,6 @@ held_pieces (fixed width components sign) (masked inner mask) raw size chunk h s
 held_pieces text_type held raw size chunk h sized part positive = absurd (cc)
 held_pieces bytes_type held raw size chunk h sized part positive = absurd (cc)
 held_pieces (optional type) held raw size chunk h sized part positive = absurd (cc)
-
--- borrowed or owned, the bytes are the same
-pub items_of_raw : (bytes : CowSlice ℕ Global) → cow_slice_items bytes ≡ (raw_of bytes).items
-items_of_raw (cow.Borrowed r) = refl
-items_of_raw (cow.Owned v) = refl
 
 -- the line that shows the pieces shows the elements
 pub shown_line : (chunk : Chunk) (trees : Vec Value Global) (line slice items : List ℕ) (size : ℕ) → map element_tree chunk ≡ map (piece_tree size items) (range_with_len 0 (length items / size)) → slice ≡ items

@@ -6,7 +6,8 @@ use Rattle.serde_json.specs.Written.{has_float, items_have_float}
 use Rattle.serde_json.proofs.Views.{view-Array}
 use Rattle.zarrs_array_bytes.specs.Held.{raw_of}
 use Rattle.zarrs_data_type.specs.ElementType.{fixed_size_of}
-use Rattle.zarrs_chain_tool.proofs.ElementLemmas.{held_pieces, items_of_raw, no_floats, positive_size, shown_line}
+use Rattle.zarrs_array_bytes.proofs.ValidLemmas.{raw_items}
+use Rattle.zarrs_chain_tool.proofs.ElementLemmas.{held_pieces, no_floats, positive_size, shown_line}
 use Rattle.zarrs_chain_tool.proofs.elements.ok_elements.Goals as goal
 
 pub ok_line-requires : goal.ok_line-requires
@@ -22,4 +23,4 @@ returns c = λ chunk holds.
     let sized : fixed_size_of c.args.data_type.now ≡ Some size = sym c.fixed_size.ensures.size ∙ c.unwrap-size.ensures in
     let positive : 0 < size = positive_size c.fixed_size.result size c.unwrap-size.ensures c.fixed_size.ensures.positive in
     let pieces = held_pieces c.args.data_type.now c.args.elements raw size chunk holds sized (sym c.in_ok-bytes.ensures) positive in
-    ap Ok (shown_line chunk c.in_ok-items.items c.in_ok-line.line.items c.as_slice.result.now raw.items size pieces (c.as_slice.ensures.value ∙ items_of_raw c.in_ok-bytes.bytes) c.in_ok-items.ensures c.in_ok-line.ensures)
+    ap Ok (shown_line chunk c.in_ok-items.items c.in_ok-line.line.items c.as_slice.result.now raw.items size pieces (c.as_slice.ensures.value ∙ raw_items c.in_ok-bytes.bytes) c.in_ok-items.ensures c.in_ok-line.ensures)

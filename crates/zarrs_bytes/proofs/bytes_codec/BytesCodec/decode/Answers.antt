@@ -4,7 +4,8 @@ use Rattle.zarrs_array_bytes.specs.Held.{raw_of}
 use Rattle.zarrs_array_bytes.specs.Validity.{Holds}
 use Rattle.zarrs_bytes.specs.ByteOrder.{turned}
 use Rattle.zarrs_bytes.specs.BytesCodec.{decoded, turn_size}
-use Rattle.zarrs_bytes.proofs.Coding.{ok, decoded_holds, raw_items}
+use Rattle.zarrs_array_bytes.proofs.ValidLemmas.{raw_items}
+use Rattle.zarrs_bytes.proofs.Coding.{ok, decoded_holds}
 use Rattle.zarrs_bytes.proofs.Exact.{stands_length, holds_stands, holds_only}
 use Rattle.zarrs_bytes.proofs.bytes_codec.BytesCodec.decode.Goals as goal
 
