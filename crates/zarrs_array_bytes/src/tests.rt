@@ -2,6 +2,7 @@ use crate::{ArrayBytes, ArrayBytesOffsets, update_array_bytes};
 use std::alloc::{AllocError, Global};
 use std::borrow::CowSlice;
 use std::ops::Range;
+use std::process::Abort;
 use std::test::Fail;
 use zarrs_chunk::{ArraySubset, ChunkShape, CodecError, Indexer};
 use zarrs_data_type::{DataType, FillValue};
@@ -79,12 +80,36 @@ fn filled(alloc: Global, data_type: &DataType, count: u64, fill: &[u8]) -> Eleme
     ArrayBytes::new_fill_value(alloc, data_type, count, &fill_value)
 }
 
+/// What was answered, unless memory was wanting.
+fn settled<T: Drop>(answer: Result<T, CodecError>) -> Result<Result<T, CodecError>, CodecError> {
+    match answer {
+        Err(CodecError::OutOfMemory) => Err(CodecError::OutOfMemory),
+        other => Ok(other),
+    }
+}
+
+/// These elements are answered.
+fn answers(rt: &impl Abort, answer: Elements, wanted: Elements) -> Result<(), Fail> {
+    assert_eq!(rt; settled(answer)?, Ok(wanted?));
+    Ok(())
+}
+
+/// The answer is this refusal.
+fn refuses<T: Drop>(
+    rt: &impl Abort,
+    answer: Result<T, CodecError>,
+    cause: CodecError,
+) -> Result<(), Fail> {
+    assert_eq!(rt; settled(answer)?.err(), Some(cause));
+    Ok(())
+}
+
 #[test]
 fn offsets(rt: HostRuntime) -> Result<(), Fail> {
     let alloc = rt.alloc();
-    for numbers in [[0, 2, 1].as_slice(), [].as_slice()] {
+    for numbers in &[[0, 2, 1].as_slice(), [].as_slice()] {
         let refused = ArrayBytesOffsets::new(numbers.to_vec(alloc)?);
-        assert_eq!(rt; refused, Err(CodecError::InvalidOffsets));
+        refuses(&rt, refused, CodecError::InvalidOffsets)?;
     }
     let kept = ArrayBytesOffsets::new([1usize, 2, 4].to_vec(alloc)?)?;
     assert_eq!(rt; kept.as_slice(), [1, 2, 4].as_slice());
@@ -95,15 +120,11 @@ fn offsets(rt: HostRuntime) -> Result<(), Fail> {
 #[test]
 fn sizes(rt: HostRuntime) -> Result<(), Fail> {
     let alloc = rt.alloc();
-    assert_eq!(rt;
-        variable(alloc, b"abc", &[0, 2]),
-        Err(CodecError::InvalidOffsets)
-    );
+    let short = variable(alloc, b"abc", &[0, 2]);
+    refuses(&rt, short, CodecError::InvalidOffsets)?;
     assert_eq!(rt; variable(alloc, b"xabc", &[1, 2, 4])?.size(), 28);
-    assert_eq!(rt;
-        optional(alloc, &[0, 2], &[1, 1]),
-        Err(CodecError::MaskValue)
-    );
+    let other = optional(alloc, &[0, 2], &[1, 1]);
+    refuses(&rt, other, CodecError::MaskValue)?;
     assert_eq!(rt; optional(alloc, &[1, 0, 1], &[5, 9, 7])?.size(), 6);
     Ok(())
 }
@@ -157,10 +178,11 @@ fn optional_elements(rt: HostRuntime) -> Result<(), Fail> {
 fn other_kinds(rt: HostRuntime) -> Result<(), Fail> {
     let alloc = rt.alloc();
     let kind = CodecError::ArrayBytesKind;
-    assert_eq!(rt; variable(alloc, b"a", &[0, 1])?.into_fixed(), Err(kind));
-    assert_eq!(rt; fixed(alloc, &[1])?.into_variable(), Err(kind));
-    assert!(rt; fixed(alloc, &[1])?.into_optional().is_err());
-    assert!(rt; fixed(alloc, &[])? != variable(alloc, b"", &[0])?);
+    refuses(&rt, variable(alloc, b"a", &[0, 1])?.into_fixed(), kind)?;
+    refuses(&rt, fixed(alloc, &[1])?.into_variable(), kind)?;
+    refuses(&rt, fixed(alloc, &[1])?.into_optional(), kind)?;
+    let (one, other) = (fixed(alloc, &[])?, variable(alloc, b"", &[0])?);
+    assert_ne!(rt; one, other);
     Ok(())
 }
 
@@ -168,24 +190,15 @@ fn other_kinds(rt: HostRuntime) -> Result<(), Fail> {
 fn fills(rt: HostRuntime) -> Result<(), Fail> {
     let alloc = rt.alloc();
     let byte = optional_byte(alloc)?;
-    assert_eq!(rt;
-        filled(alloc, &byte, 2, &[1]),
-        Err(CodecError::InvalidFillValue)
-    );
-    assert_eq!(rt;
-        filled(alloc, &byte, 2, &[0]),
-        optional(alloc, &[0, 0], &[0, 0])
-    );
     let word = DataType::uint16();
-    assert_eq!(rt;
-        filled(alloc, &word, 2, &[1, 2]),
-        fixed(alloc, &[1, 2, 1, 2])
-    );
-    assert_eq!(rt;
-        filled(alloc, &word, u64::MAX, &[1, 2]),
-        Err(CodecError::Overflow)
-    );
-    Ok(())
+    let other = filled(alloc, &byte, 2, &[1]);
+    refuses(&rt, other, CodecError::InvalidFillValue)?;
+    let absent = optional(alloc, &[0, 0], &[0, 0]);
+    answers(&rt, filled(alloc, &byte, 2, &[0]), absent)?;
+    let words = fixed(alloc, &[1, 2, 1, 2]);
+    answers(&rt, filled(alloc, &word, 2, &[1, 2]), words)?;
+    let endless = filled(alloc, &word, u64::MAX, &[1, 2]);
+    refuses(&rt, endless, CodecError::Overflow)
 }
 
 #[test]
@@ -193,14 +206,11 @@ fn fills_of_any_length(rt: HostRuntime) -> Result<(), Fail> {
     let alloc = rt.alloc();
     let text = DataType::optional(alloc, DataType::string())?;
     let empty = variable(alloc, b"", &[0, 0, 0])?;
-    let want = empty.with_optional_mask(alloc, raw(alloc, &[1, 1])?);
-    assert_eq!(rt; filled(alloc, &text, 2, &[1]), want);
+    let present = empty.with_optional_mask(alloc, raw(alloc, &[1, 1])?);
+    answers(&rt, filled(alloc, &text, 2, &[1]), present)?;
     let twice = nested_byte(alloc)?;
-    assert_eq!(rt;
-        filled(alloc, &twice, 1, &[0, 1]),
-        nested(alloc, &[1], &[0], &[0])
-    );
-    Ok(())
+    let absent = nested(alloc, &[1], &[0], &[0]);
+    answers(&rt, filled(alloc, &twice, 1, &[0, 1]), absent)
 }
 
 #[test]
@@ -212,14 +222,11 @@ fn selections(rt: HostRuntime) -> Result<(), Fail> {
         &[0, 1, 2, 3, 4, 5, 6, 7, 8, 9, 10, 11, 12, 13, 14, 15],
     )?;
     let part = region(alloc, &[1..3, 0..1])?;
-    assert_eq!(rt;
-        selected(alloc, &array, &[4, 4], &part, &byte),
-        fixed(alloc, &[4, 8])
-    );
+    let found = selected(alloc, &array, &[4, 4], &part, &byte);
+    answers(&rt, found, fixed(alloc, &[4, 8]))?;
     let outside = indices(alloc, &[&[4, 0]])?;
     let refused = selected(alloc, &array, &[4, 4], &outside, &byte);
-    assert_eq!(rt; refused, Err(CodecError::OutOfBounds));
-    Ok(())
+    refuses(&rt, refused, CodecError::OutOfBounds)
 }
 
 #[test]
@@ -228,11 +235,10 @@ fn repeated_selections(rt: HostRuntime) -> Result<(), Fail> {
     let again = indices(alloc, &[&[2], &[0], &[2]])?;
     let flags = optional(alloc, &[1, 0, 1], &[5, 9, 7])?;
     let part = selected(alloc, &flags, &[3], &again, &optional_byte(alloc)?);
-    assert_eq!(rt; part, optional(alloc, &[1, 1, 1], &[7, 5, 7]));
+    answers(&rt, part, optional(alloc, &[1, 1, 1], &[7, 5, 7]))?;
     let texts = variable(alloc, b"xabc", &[1, 2, 4, 4])?;
     let part = selected(alloc, &texts, &[3], &again, &DataType::string());
-    assert_eq!(rt; part, variable(alloc, b"a", &[0, 0, 1, 1]));
-    Ok(())
+    answers(&rt, part, variable(alloc, b"a", &[0, 0, 1, 1]))
 }
 
 #[test]
@@ -243,10 +249,9 @@ fn updates(rt: HostRuntime) -> Result<(), Fail> {
     let old = fixed(alloc, &[1, 2, 3, 4])?;
     let new = fixed(alloc, &[9, 8, 7])?;
     let after = updated(alloc, old.clone()?, &[2, 2], &places, &new, &byte);
-    assert_eq!(rt; after, fixed(alloc, &[8, 2, 3, 7]));
+    answers(&rt, after, fixed(alloc, &[8, 2, 3, 7]))?;
     let refused = updated(alloc, old, &[2, 2], &places, &fixed(alloc, &[9])?, &byte);
-    assert_eq!(rt; refused, Err(CodecError::DataMismatch));
-    Ok(())
+    refuses(&rt, refused, CodecError::DataMismatch)
 }
 
 #[test]
@@ -256,8 +261,7 @@ fn updates_of_any_length(rt: HostRuntime) -> Result<(), Fail> {
     let texts = variable(alloc, b"abc", &[0, 1, 3])?;
     let empty = variable(alloc, b"", &[0, 0])?;
     let after = updated(alloc, texts, &[2], &second, &empty, &DataType::string());
-    assert_eq!(rt; after, variable(alloc, b"a", &[0, 1, 1]));
-    Ok(())
+    answers(&rt, after, variable(alloc, b"a", &[0, 1, 1]))
 }
 
 #[test]
@@ -269,8 +273,7 @@ fn updates_of_borrowed_bytes(rt: HostRuntime) -> Result<(), Fail> {
     let old = inner.with_optional_mask(alloc, CowSlice::Borrowed([0, 0].as_slice()))?;
     let new = optional(alloc, &[1], &[5, 6])?;
     let after = updated(alloc, old, &[2], &second, &new, &word);
-    assert_eq!(rt; after, optional(alloc, &[0, 1], &[1, 2, 5, 6]));
-    Ok(())
+    answers(&rt, after, optional(alloc, &[0, 1], &[1, 2, 5, 6]))
 }
 
 #[test]
@@ -280,9 +283,13 @@ fn nested_elements(rt: HostRuntime) -> Result<(), Fail> {
     let old = nested(alloc, &[1, 1, 0], &[1, 0, 0], &[42, 0, 0])?;
     assert_eq!(rt; old.size(), 9);
     let part = selected(alloc, &old, &[3], &indices(alloc, &[&[2], &[0]])?, &twice)?;
-    assert_eq!(rt; part, nested(alloc, &[0, 1], &[0, 1], &[0, 42])?);
+    let wanted = nested(alloc, &[0, 1], &[0, 1], &[0, 42])?;
+    assert_eq!(rt; part, wanted);
     let ends = indices(alloc, &[&[0], &[2]])?;
     let after = updated(alloc, old, &[3], &ends, &part, &twice);
-    assert_eq!(rt; after, nested(alloc, &[0, 1, 1], &[0, 0, 1], &[0, 0, 42]));
-    Ok(())
+    answers(
+        &rt,
+        after,
+        nested(alloc, &[0, 1, 1], &[0, 0, 1], &[0, 0, 42]),
+    )
 }

@@ -8,10 +8,14 @@ mod refusals;
 mod types;
 mod whole;
 
-use crate::{BytesCodec, BytesCodecPartial, BytesPartialDecoderTraits, MemoryHandle, Refused};
+use crate::{
+    BytesCodec, BytesCodecPartial, BytesPartialDecoderTraits, BytesRepresentation, MemoryHandle,
+    Refused,
+};
 use std::alloc::{AllocError, Global};
 use std::borrow::CowSlice;
 use std::ops::Range;
+use std::process::Abort;
 use std::test::Fail;
 use zarrs_array_bytes::{ArrayBytes, ArrayBytesRaw};
 use zarrs_chunk::{ArraySubset, ChunkShape, CodecError, Indexer};
@@ -136,4 +140,52 @@ impl ChunkForm {
             Err(Refused { error, handle }) => Ok((refusal::<()>(Err(error))?, handle)),
         }
     }
+}
+
+/// A chunk of these elements, as they stand in memory, has this value, and the value stands for it:
+/// of owned bytes and of lent ones.
+fn codes(
+    rt: &impl Abort,
+    alloc: Global,
+    codec: BytesCodec,
+    form: &ChunkForm,
+    memory: &[u8],
+    value: &[u8],
+) -> Result<(), Fail> {
+    let name = &form.data_type;
+    let answer = codec.encoded_representation(&form.shape, &form.data_type, &form.fill_value);
+    let len = BytesRepresentation::FixedSize(memory.len() as u64);
+    assert_eq!(rt; answer, Ok(len), "of {name:?}");
+    let encoded = form.encode(alloc, codec, fixed(alloc, memory)?)??;
+    assert_eq!(rt; encoded.as_slice(), value, "of {name:?}");
+    let lent = ArrayBytes::new_flen(CowSlice::Borrowed(memory));
+    let encoded = form.encode(alloc, codec, lent)??;
+    assert_eq!(rt; encoded.as_slice(), value, "of {name:?}, lent");
+    let decoded = form.decode(alloc, codec, owned(alloc, value)?)??;
+    let decoded = settled(decoded.into_fixed())??;
+    assert_eq!(rt; decoded.as_slice(), memory, "of {name:?}");
+    let decoded = form.decode(alloc, codec, CowSlice::Borrowed(value))??;
+    let decoded = settled(decoded.into_fixed())??;
+    assert_eq!(rt; decoded.as_slice(), memory, "of {name:?}, lent");
+    Ok(())
+}
+
+/// Bytes of a wrong length are refused, those of elements and those of a value.
+fn has_wrong_length(
+    rt: &impl Abort,
+    alloc: Global,
+    codec: BytesCodec,
+    form: &ChunkForm,
+    bytes: &[u8],
+    expected: u64,
+) -> Result<(), Fail> {
+    let len = bytes.len() as u64;
+    let short = Some(CodecError::InvalidBytesLength { len, expected });
+    let answer = form.encode(alloc, codec, fixed(alloc, bytes)?)?;
+    assert_eq!(rt; answer.err(), short, "of {bytes:?}");
+    let answer = form.decode(alloc, codec, owned(alloc, bytes)?)?;
+    assert_eq!(rt; answer.err(), short, "of {bytes:?}");
+    let answer = form.decode(alloc, codec, CowSlice::Borrowed(bytes))?;
+    assert_eq!(rt; answer.err(), short, "of {bytes:?}, lent");
+    Ok(())
 }

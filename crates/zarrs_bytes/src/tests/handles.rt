@@ -44,11 +44,11 @@ fn representations_have_a_greatest_size(rt: HostRuntime) -> Result<(), Fail> {
         ),
         (BytesRepresentation::UnboundedSize, None, "UnboundedSize"),
     ];
-    for (representation, size, text) in rows {
-        assert_eq!(rt; representation.size(), size);
-        assert_eq!(rt; representation.clone()?, representation);
+    for (representation, size, text) in &rows {
+        assert_eq!(rt; representation.size(), *size);
+        assert_eq!(rt; representation.clone()?, *representation);
         let shown = format!(in alloc; "{representation:?}")?;
-        assert_eq!(rt; shown.as_str(), text);
+        assert_eq!(rt; shown.as_str(), *text);
     }
     assert_ne!(rt;
         BytesRepresentation::FixedSize(4),
@@ -82,7 +82,8 @@ fn is_read<H: BytesPartialDecoderTraits>(
 fn memory_keeps_a_value_or_none(rt: HostRuntime) -> Result<(), Fail> {
     let alloc = rt.alloc();
     let rows: [Option<&[u8]>; 3] = [None, Some(&[]), Some(&[10, 11, 12])];
-    for value in rows {
+    for value in &rows {
+        let value = *value;
         let mut handle = stored(alloc, value)?;
         assert_eq!(rt; handle.value(), value);
         is_read(&rt, alloc, &mut handle, value)?;
@@ -157,8 +158,14 @@ fn a_decoder_owns_or_borrows_its_handle(rt: HostRuntime) -> Result<(), Fail> {
     is_read(&rt, alloc, &mut handle, Some(value))?;
     let handle = read_once(&rt, alloc, &words, handle, &indexer, &[4, 3, 6, 5])?;
     assert_eq!(rt; handle.value(), Some(value));
-    let empty = MemoryHandle::new();
-    let mut decoder = words.partial_decoder(alloc, BytesCodec::big(), empty)?;
+    Ok(())
+}
+
+#[test]
+fn a_decoder_tells_that_nothing_is_stored(rt: HostRuntime) -> Result<(), Fail> {
+    let alloc = rt.alloc();
+    let words = form(alloc, &[3], DataType::uint16(), &[0, 0])?;
+    let mut decoder = words.partial_decoder(alloc, BytesCodec::big(), MemoryHandle::new())?;
     assert_eq!(rt; decoder.exists(), Ok(false));
     assert_eq!(rt; decoder.size_held(), 0);
     Ok(())
@@ -256,8 +263,8 @@ fn a_failing_read_is_refused(rt: HostRuntime) -> Result<(), Fail> {
     let indexer = subset(alloc, &[0..1])?;
     let failed = Some(CodecError::Storage(StorageError { code: 7 }));
     let rows: [(Option<&[u8]>, &[u8]); 2] = [(Some(&[1, 2]), &[2, 1]), (None, &[9, 9])];
-    for (value, elements) in rows {
-        let mut decoder = failing(alloc, &words, value)?;
+    for (value, elements) in &rows {
+        let mut decoder = failing(alloc, &words, *value)?;
         assert_eq!(rt; decoder.exists(), Ok(value.is_some()));
         let answer = refusal(decoder.partial_decode(alloc, &indexer))?;
         assert_eq!(rt; answer, failed, "over {value:?}");

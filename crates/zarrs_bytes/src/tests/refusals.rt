@@ -1,7 +1,6 @@
-use super::{ChunkForm, fixed, form, owned, stored};
+use super::{ChunkForm, fixed, form, has_wrong_length, owned, stored};
 use crate::{BytesCodec, MemoryHandle};
 use std::alloc::Global;
-use std::borrow::CowSlice;
 use std::process::Abort;
 use std::test::Fail;
 use zarrs_array_bytes::{ArrayBytes, ArrayBytesOffsets};
@@ -92,9 +91,9 @@ fn takes_counted_chunks_in_an_order(rt: HostRuntime) -> Result<(), Fail> {
         (none, wide, DataType::uint16(), &[0, 0], overflow),
         (none, half, DataType::uint16(), &[0, 0], overflow),
     ];
-    for (codec, sizes, data_type, fill, cause) in rows {
-        let form = form(alloc, sizes, data_type, fill)?;
-        is_refused(&rt, alloc, codec, &form, cause)?;
+    for (codec, sizes, data_type, fill, cause) in &rows {
+        let form = form(alloc, sizes, data_type.clone()?, fill)?;
+        is_refused(&rt, alloc, *codec, &form, *cause)?;
     }
     Ok(())
 }
@@ -108,46 +107,33 @@ fn masked(alloc: Global) -> Result<ArrayBytes<'static>, CodecError> {
     fixed(alloc, &[1, 2])?.with_optional_mask(alloc, owned(alloc, &[1, 1])?)
 }
 
-#[test]
-fn takes_elements_of_the_kind(rt: HostRuntime) -> Result<(), Fail> {
-    let alloc = rt.alloc();
-    let pair = form(alloc, &[2], DataType::uint8(), &[0])?;
-    let kind = Some(CodecError::ArrayBytesKind);
-    for codec in [
-        BytesCodec::little(),
-        BytesCodec::big(),
-        BytesCodec::new(None),
-    ] {
-        let answer = pair.encode(alloc, codec, variable(alloc)?)?;
-        assert_eq!(rt; answer.err(), kind, "of {codec:?}");
-        let answer = pair.encode(alloc, codec, masked(alloc)?)?;
-        assert_eq!(rt; answer.err(), kind, "of {codec:?}");
-    }
-    // Both the order and the kind are wrong.
-    let words = form(alloc, &[2], DataType::uint16(), &[0, 0])?;
-    let answer = words.encode(alloc, BytesCodec::new(None), masked(alloc)?)?;
-    assert_eq!(rt; answer.err(), Some(CodecError::EndiannessMissing));
-    Ok(())
-}
-
-/// Bytes of a wrong length are refused, those of elements and those of a value.
-fn has_wrong_length(
+/// Elements of another kind than the codec's are refused by this cause.
+fn refuses_other_kinds(
     rt: &impl Abort,
     alloc: Global,
     codec: BytesCodec,
     form: &ChunkForm,
-    bytes: &[u8],
-    expected: u64,
+    cause: CodecError,
 ) -> Result<(), Fail> {
-    let len = bytes.len() as u64;
-    let short = Some(CodecError::InvalidBytesLength { len, expected });
-    let answer = form.encode(alloc, codec, fixed(alloc, bytes)?)?;
-    assert_eq!(rt; answer.err(), short, "of {bytes:?}");
-    let answer = form.decode(alloc, codec, owned(alloc, bytes)?)?;
-    assert_eq!(rt; answer.err(), short, "of {bytes:?}");
-    let answer = form.decode(alloc, codec, CowSlice::Borrowed(bytes))?;
-    assert_eq!(rt; answer.err(), short, "of {bytes:?}, lent");
+    let answer = form.encode(alloc, codec, variable(alloc)?)?;
+    assert_eq!(rt; answer.err(), Some(cause), "of {codec:?}");
+    let answer = form.encode(alloc, codec, masked(alloc)?)?;
+    assert_eq!(rt; answer.err(), Some(cause), "of {codec:?}");
     Ok(())
+}
+
+#[test]
+fn takes_elements_of_the_kind(rt: HostRuntime) -> Result<(), Fail> {
+    let alloc = rt.alloc();
+    let none = BytesCodec::new(None);
+    let kind = CodecError::ArrayBytesKind;
+    let pair = form(alloc, &[2], DataType::uint8(), &[0])?;
+    let words = form(alloc, &[2], DataType::uint16(), &[0, 0])?;
+    refuses_other_kinds(&rt, alloc, BytesCodec::little(), &pair, kind)?;
+    refuses_other_kinds(&rt, alloc, BytesCodec::big(), &words, kind)?;
+    refuses_other_kinds(&rt, alloc, none, &pair, kind)?;
+    // Both the order and the kind are wrong.
+    refuses_other_kinds(&rt, alloc, none, &words, CodecError::EndiannessMissing)
 }
 
 #[test]
@@ -156,7 +142,7 @@ fn takes_elements_of_the_length(rt: HostRuntime) -> Result<(), Fail> {
     let pair = form(alloc, &[2], DataType::uint8(), &[0])?;
     let words = form(alloc, &[2], DataType::uint16(), &[0, 0])?;
     let found: [&[u8]; 4] = [&[], &[1], &[1, 2, 3], &[1, 2, 3, 4, 5]];
-    for bytes in found {
+    for bytes in &found {
         has_wrong_length(&rt, alloc, BytesCodec::new(None), &pair, bytes, 2)?;
         has_wrong_length(&rt, alloc, BytesCodec::big(), &words, bytes, 4)?;
     }

@@ -1,10 +1,8 @@
-use super::{ChunkForm, fixed, form, list, owned, settled, stored, subset};
-use crate::{BytesCodec, BytesRepresentation};
+use super::{ChunkForm, codes, fixed, form, list, settled, stored, subset};
+use crate::BytesCodec;
 use std::alloc::{AllocError, Global};
-use std::borrow::CowSlice;
 use std::process::Abort;
 use std::test::Fail;
-use zarrs_array_bytes::ArrayBytes;
 use zarrs_chunk::Indexer;
 use zarrs_data_type::DataType;
 
@@ -59,33 +57,6 @@ fn reads(
     let mut decoder = form.partial_decoder(alloc, codec, handle)?;
     let part = settled(decoder.partial_decode(alloc, indexer))??;
     assert_eq!(rt; part, fixed(alloc, elements)?, "in {:?}", &form.data_type);
-    Ok(())
-}
-
-/// A chunk of two rows of three elements, whole and in part.
-fn codes(
-    rt: &impl Abort,
-    alloc: Global,
-    codec: BytesCodec,
-    form: &ChunkForm,
-    memory: &[u8],
-    value: &[u8],
-) -> Result<(), Fail> {
-    let name = &form.data_type;
-    let answer = codec.encoded_representation(&form.shape, &form.data_type, &form.fill_value);
-    let len = BytesRepresentation::FixedSize(memory.len() as u64);
-    assert_eq!(rt; answer, Ok(len), "of {name:?}");
-    let encoded = form.encode(alloc, codec, fixed(alloc, memory)?)??;
-    assert_eq!(rt; encoded.as_slice(), value, "of {name:?}");
-    let lent = ArrayBytes::new_flen(CowSlice::Borrowed(memory));
-    let encoded = form.encode(alloc, codec, lent)??;
-    assert_eq!(rt; encoded.as_slice(), value, "of {name:?}, lent");
-    let decoded = form.decode(alloc, codec, owned(alloc, value)?)??;
-    let decoded = settled(decoded.into_fixed())??;
-    assert_eq!(rt; decoded.as_slice(), memory, "of {name:?}");
-    let decoded = form.decode(alloc, codec, CowSlice::Borrowed(value))??;
-    let decoded = settled(decoded.into_fixed())??;
-    assert_eq!(rt; decoded.as_slice(), memory, "of {name:?}, lent");
     Ok(())
 }
 
@@ -164,11 +135,11 @@ fn every_width_in_both_orders(rt: HostRuntime) -> Result<(), Fail> {
         (64, 8),
         (65, 9),
     ];
-    for (width, component) in rows {
-        for components in [1, 3] {
-            let data_type = DataType::components(width, components, width == 12)?;
-            check(&rt, alloc, data_type, component, components)?;
-        }
+    for (width, component) in &rows {
+        let single = DataType::components(*width, 1, *width == 12)?;
+        check(&rt, alloc, single, *component, 1)?;
+        let triple = DataType::components(*width, 3, *width == 12)?;
+        check(&rt, alloc, triple, *component, 3)?;
     }
     Ok(())
 }
