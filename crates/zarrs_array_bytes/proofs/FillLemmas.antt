@@ -1,7 +1,8 @@
 -- The steps of a fill.
-use Rattle.std.proofs.Common.{◌≡◌, ℕ, zero, suc, ◌+◌, ◌-◌, ◌<◌, ◌≤◌, get_or, List, [], ◌∷◌, ◌++◌, length, map, replicate, nat_lt, true, refl, ap, arith, add-one, lt-ltb}
+use Rattle.std.proofs.Common.{◌≡◌, ℕ, zero, suc, ◌+◌, ◌-◌, ◌*◌, ◌/◌, ◌%◌, ◌∙◌, sym, ◌<◌, ◌≤◌, get_or, List, [], ◌∷◌, ◌++◌, length, map, replicate, nat_lt, true, refl, ap, arith, add-one, lt-ltb}
 use Rattle.std.specs.List.{list_all}
-use Rattle.std.proofs.lemmas.List.{get_or-replicate, length-replicate}
+use Rattle.std.proofs.lemmas.Nat.{div-add-mod'}
+use Rattle.std.proofs.lemmas.List.{append_assoc, get_or-replicate, length-replicate}
 use Rattle.zarrs_array_bytes.specs.Offsets.{rises, is_offsets, last_of}
 use Rattle.zarrs_array_bytes.specs.Pieces.{ends}
 use Rattle.zarrs_array_bytes.specs.Filled.{same, repeated}
@@ -43,3 +44,27 @@ pub replicate-repeated : (bs : List ℕ) (n : ℕ) → 1 ≤ length bs → lengt
 replicate-repeated [] n l h = absurd (omega arith)
 replicate-repeated (b ∷ []) n l h = single_repeated b n
 replicate-repeated (b ∷ c ∷ bs) n l h = absurd (omega arith)
+
+-- some copies, and some more
+pub repeated-add : (bytes : List ℕ) (some more : ℕ) → repeated bytes (some + more) ≡ repeated bytes some ++ repeated bytes more
+repeated-add bytes zero more = ap (repeated bytes) (let e : 0 + more ≡ more = omega arith in e)
+repeated-add bytes (suc some) more =
+    ap (repeated bytes) (let e : suc some + more ≡ suc (some + more) = omega arith in e)
+    ∙ ap (λ (xs : List ℕ). bytes ++ xs) (repeated-add bytes some more)
+    ∙ sym (append_assoc bytes (repeated bytes some) (repeated bytes more))
+
+-- copies of copies
+pub repeated-many : (bytes : List ℕ) (each count : ℕ) → repeated (repeated bytes each) count ≡ repeated bytes (count * each)
+repeated-many bytes each zero = ap (repeated bytes) (let e : 0 ≡ 0 * each = omega arith in e)
+repeated-many bytes each (suc count) =
+    ap (λ (xs : List ℕ). repeated bytes each ++ xs) (repeated-many bytes each count)
+    ∙ sym (repeated-add bytes each (count * each))
+    ∙ ap (repeated bytes) (let e : each + count * each ≡ suc count * each = omega arith in e)
+
+-- copies by blocks, and those that are left
+pub repeated-blocks : (bytes block : List ℕ) (each count : ℕ) → block ≡ repeated bytes each → repeated block (count / each) ++ repeated bytes (count % each) ≡ repeated bytes count
+repeated-blocks bytes block each count is =
+    ap (λ (xs : List ℕ). repeated xs (count / each) ++ repeated bytes (count % each)) is
+    ∙ ap (λ (xs : List ℕ). xs ++ repeated bytes (count % each)) (repeated-many bytes each (count / each))
+    ∙ sym (repeated-add bytes (count / each * each) (count % each))
+    ∙ ap (repeated bytes) (div-add-mod' count each)

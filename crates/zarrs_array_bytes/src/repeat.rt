@@ -1,9 +1,9 @@
-ghost use Rattle.std.specs.Prelude.{◌≡◌, ℕ, ◌^◌, ◌<◌, Ok, IfOk, length, replicate, false};
+ghost use Rattle.std.specs.Prelude.{◌≡◌, ℕ, ◌^◌, ◌<◌, ◌++◌, Ok, IfOk, OnOk, length, replicate, false};
 ghost use Rattle.zarrs_chunk.specs.Answer.{Answers, memory, is_fault};
 ghost use Rattle.zarrs_array_bytes.specs.Filled.{repeated, same};
 ghost use Rattle.zarrs_array_bytes.specs.Pieces.{gathered};
 
-use std::alloc::Global;
+use std::alloc::{AllocError, Global};
 use zarrs_chunk::CodecError;
 
 /// The bytes, `count` times.
@@ -18,15 +18,31 @@ pub(crate) fn repeat_bytes(alloc: Global, bytes: &[u8], count: u64) -> Result<Ve
     }
 }
 
+/// Appends the bytes `count` times.
+fn append_copies(out: &mut Vec<u8>, bytes: &[u8], count: u64) -> Result<(), AllocError>
+    ensures { OnOk result (out.new.items ≡ out.old.items ++ repeated bytes.now count) }
+{
+    for _i in 0..count {
+        out.extend_from_slice(bytes)?;
+    }
+    Ok(())
+}
+
+/// Many copies are made by blocks of 128, since each append costs as much as some dozen bytes.
 fn repeat_slice(alloc: Global, bytes: &[u8], count: u64) -> Result<Vec<u8>, CodecError>
     ensures small { IfOk result (λ v. length v.items < 2 ^ 64) }
     ensures exact { Answers memory (λ v. v.items) result (Ok (repeated bytes.now count)) }
     ensures no_fault { is_fault result ≡ false }
 {
     let mut out = Vec::with_capacity(alloc, bytes.len().saturating_mul(count as usize))?;
-    for _i in 0..count {
-        out.extend_from_slice(bytes)?;
+    if count < 2048 {
+        append_copies(&mut out, bytes, count)?;
+        return Ok(out);
     }
+    let mut block = Vec::with_capacity(alloc, bytes.len().saturating_mul(128))?;
+    append_copies(&mut block, bytes, 128)?;
+    append_copies(&mut out, block.as_slice(), count / 128)?;
+    append_copies(&mut out, bytes, count % 128)?;
     Ok(out)
 }
 

@@ -3,6 +3,7 @@ pub mod Coding
 pub mod ReversedPieces
 pub mod Exact
 pub mod Turned
+pub mod TurnedParts
 pub mod Ranges
 pub mod Reading
 pub mod PartReads

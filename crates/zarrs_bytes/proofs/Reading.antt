@@ -1,12 +1,11 @@
 -- What is read through a handle is what the definitions of a partial read say.
-use Rattle.std.proofs.Common.{◌≡◌, ℕ, zero, suc, ◌+◌, ◌-◌, ◌*◌, ◌<◌, ◌≤◌, ◌^◌, Bool, true, false, nat_le, Option, Some, None, Result, Ok, Err, List, [], ◌∷◌, ◌++◌, length, take, drop, map, map-id, get_or, replicate, arith, refl, ap, sym, ◌∙◌, subst}
+use Rattle.std.proofs.Common.{◌≡◌, ℕ, zero, suc, ◌+◌, ◌-◌, ◌*◌, ◌<◌, ◌≤◌, ◌^◌, Bool, true, false, nat_le, Option, Some, None, Result, Ok, Err, List, [], ◌∷◌, ◌++◌, length, take, drop, map, arith, refl, ap, sym, ◌∙◌, subst}
 use Rattle.std.specs.List.{All, concat, flat_map, list_all, range_with_len}
 use Rattle.std.specs.Prelude.{IsOkAnd}
 use Rattle.std.proofs.lemmas.Bool.{and_parts}
 use Rattle.std.proofs.lemmas.Bool.Decides.{nat_tests}
-use Rattle.std.proofs.lemmas.List.{append_assoc, append-nil, length-drop, length-take-le}
+use Rattle.std.proofs.lemmas.List.{length-drop, length-take-le}
 use Rattle.std.proofs.lemmas.List.Concat.{flat_map-append}
-use Rattle.std.proofs.lemmas.List.FromFn.{map-range_with_len_more}
 use Rattle.zarrs_chunk.specs.Answer.{◌>>=◌, demand, Excused}
 use Rattle.zarrs_chunk.specs.declared.codec_error.CodecError.{CodecError}
 use Rattle.zarrs_chunk.specs.declared.codec_error.CodecError.TheVariants.{InvalidByteRange}
@@ -14,6 +13,7 @@ use Rattle.zarrs_data_type.specs.Element.{Element, plain, Chunk}
 use Rattle.zarrs_data_type.specs.ElementType.{ElementType, fixed, text, bytes, optional, element_size}
 use Rattle.zarrs_data_type.specs.declared.endianness.Endianness.{Endianness}
 use Rattle.zarrs_array_bytes.specs.Elements.{piece}
+use Rattle.zarrs_array_bytes.specs.Filled.{repeated}
 use Rattle.zarrs_array_bytes.specs.Held.{Raw, flen}
 use Rattle.zarrs_array_bytes.specs.Validity.{Holds}
 use Rattle.zarrs_array_bytes.specs.Pieces.{pieces}
@@ -152,28 +152,16 @@ fills_more fill done joined start len before after e f g =
     ∙ sym (flat_map-append (λ _. fill) done (range_with_len start len))
     ∙ ap (flat_map (λ _. fill)) (sym g)
 
-single_copies : (byte a n : ℕ) → replicate n byte ≡ flat_map (λ _. byte ∷ []) (range_with_len a n)
-single_copies byte a zero = refl
-single_copies byte a (suc n) = ap (λ (rest : List ℕ). byte ∷ rest) (single_copies byte (a + 1) n)
+copies_repeated : (fill : List ℕ) (a n : ℕ) → flat_map (λ _. fill) (range_with_len a n) ≡ repeated fill n
+copies_repeated fill a zero = refl
+copies_repeated fill a (suc n) = ap (λ (rest : List ℕ). fill ++ rest) (copies_repeated fill (a + 1) n)
 
-single_is : (fill : List ℕ) → length fill ≡ 1 → get_or fill 0 0 ∷ [] ≡ fill
-single_is [] h = absurd (omega arith)
-single_is (byte ∷ []) h = refl
-single_is (byte ∷ b ∷ fill) h = absurd (omega arith)
+-- a copy for each place
+pub copies_of_places : (fill places : List ℕ) → repeated fill (length places) ≡ flat_map (λ _. fill) places
+copies_of_places fill [] = refl
+copies_of_places fill (place ∷ places) = ap (λ (rest : List ℕ). fill ++ rest) (copies_of_places fill places)
 
--- a fill element of one byte, set so many times
-pub single_fill : (fill before after block : List ℕ) (n : ℕ) → length fill ≡ 1 → block ≡ replicate n (get_or fill 0 0) → after ≡ before ++ block → after ≡ before ++ flat_map (λ _. fill) (range_with_len 0 n)
-single_fill fill before after block n h e f =
-    f ∙ ap (λ (l : List ℕ). before ++ l) (e ∙ single_copies (get_or fill 0 0) 0 n ∙ ap (λ (l : List ℕ). flat_map (λ _. l) (range_with_len 0 n)) (single_is fill h))
-
--- one copy more
-pub copy_more : (fill before now next : List ℕ) (index : ℕ) → now ≡ before ++ flat_map (λ _. fill) (range_with_len 0 index) → next ≡ now ++ fill → next ≡ before ++ flat_map (λ _. fill) (range_with_len 0 (index + 1))
-copy_more fill before now next index e f =
-    let more : range_with_len 0 (index + 1) ≡ range_with_len 0 index ++ index ∷ [] = range_with_len-more 0 index ∙ ap (λ k. range_with_len 0 index ++ k ∷ []) (let z : 0 + index ≡ index = omega arith in z) in
-    f ∙ ap (λ (l : List ℕ). l ++ fill) e
-    ∙ append_assoc before (flat_map (λ _. fill) (range_with_len 0 index)) fill
-    ∙ ap (λ (l : List ℕ). before ++ l) (ap (λ (l : List ℕ). flat_map (λ _. fill) (range_with_len 0 index) ++ l) (sym (append-nil fill)) ∙ sym (flat_map-append (λ _. fill) (range_with_len 0 index) (index ∷ [])) ∙ ap (flat_map (λ _. fill)) (sym more))
-  where
-    range_with_len-more : (a n : ℕ) → range_with_len a (n + 1) ≡ range_with_len a n ++ (a + n) ∷ []
-    range_with_len-more a n =
-        sym (map-id (range_with_len a (n + 1))) ∙ map-range_with_len_more (λ (x : ℕ). x) a n (a + n) refl ∙ ap (λ (l : List ℕ). l ++ (a + n) ∷ []) (map-id (range_with_len a n))
+-- copies for one run more, told by their number
+pub copies_more : (fill : List ℕ) (done joined : List ℕ) (start len : ℕ) (before after : List ℕ) → before ≡ flat_map (λ _. fill) done → after ≡ before ++ repeated fill len → joined ≡ done ++ range_with_len start len → after ≡ flat_map (λ _. fill) joined
+copies_more fill done joined start len before after e f g =
+    fills_more fill done joined start len before after e (f ∙ ap (λ (l : List ℕ). before ++ l) (sym (copies_repeated fill 0 len))) g

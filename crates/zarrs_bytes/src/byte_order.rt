@@ -1,22 +1,23 @@
 //! Components turned round in place.
-ghost use Rattle.std.specs.Prelude.{◌≡◌, ◌<◌, Ok, Some, None, IsOk, reverse, true, false};
+ghost use Rattle.std.specs.Prelude.{◌≡◌, ◌<◌, ◌*◌, ◌/◌, ◌++◌, length, IfOk, OnOk, Ok, Some, None, IsOk, reverse, true, false};
 ghost use Rattle.zarrs_chunk.specs.Answer.{Answers, memory, is_fault, seen};
 ghost use Rattle.zarrs_array_bytes.specs.Held.{raw_of};
 ghost use Rattle.zarrs_bytes.specs.ByteOrder.{turned};
 
-use std::alloc::Global;
+use std::alloc::{AllocError, Global};
 use std::borrow::CowSlice;
 use zarrs_array_bytes::ArrayBytesRaw;
 use zarrs_chunk::CodecError;
 
-/// Turns the bytes of a piece round. Pieces of 2, 4 and 8 bytes are swapped one pair after another,
-/// which compiles to a few moves where the size is known.
+/// Turns the bytes of a piece round. Pieces of 2, 3, 4 and 8 bytes are swapped one pair after
+/// another, which compiles to a few moves where the size is known.
 #[inline(always)]
 fn reverse_piece(piece: &mut [u8])
     ensures { piece.new ≡ reverse piece.old }
 {
     match piece.len() {
         2 => piece.swap(0, 1),
+        3 => piece.swap(0, 2),
         4 => {
             piece.swap(0, 3);
             piece.swap(1, 2);
@@ -42,6 +43,64 @@ fn reverse_pieces(bytes: &mut [u8], size: usize)
     }
 }
 
+/// Turns each piece of 16 bytes round. Pieces of 2, 4 and 8 bytes are swapped pair by pair, which
+/// compiles to one shuffle of the whole where the size is known.
+#[inline(always)]
+fn reverse_group(group: &mut [u8], size: usize)
+    requires len { length group.now ≡ 16 }
+    requires positive { 0 < size }
+    ensures { group.new ≡ turned (Some size) group.old }
+{
+    match size {
+        2 => {
+            group.swap(0, 1);
+            group.swap(2, 3);
+            group.swap(4, 5);
+            group.swap(6, 7);
+            group.swap(8, 9);
+            group.swap(10, 11);
+            group.swap(12, 13);
+            group.swap(14, 15);
+        }
+        4 => {
+            group.swap(0, 3);
+            group.swap(1, 2);
+            group.swap(4, 7);
+            group.swap(5, 6);
+            group.swap(8, 11);
+            group.swap(9, 10);
+            group.swap(12, 15);
+            group.swap(13, 14);
+        }
+        8 => {
+            group.swap(0, 7);
+            group.swap(1, 6);
+            group.swap(2, 5);
+            group.swap(3, 4);
+            group.swap(8, 15);
+            group.swap(9, 14);
+            group.swap(10, 13);
+            group.swap(11, 12);
+        }
+        _ => reverse_pieces(group, size),
+    }
+}
+
+/// Turns each piece of `size` bytes round, 16 bytes at a time.
+#[inline(always)]
+fn reverse_groups(bytes: &mut [u8], size: usize)
+    requires positive { 0 < size }
+    requires divides { 16 / size * size ≡ 16 }
+    ensures { bytes.new ≡ turned (Some size) bytes.old }
+{
+    let groups = bytes.len() / 16;
+    for index in 0..groups {
+        let start = index * 16;
+        reverse_group(&mut bytes[start..start + 16], size);
+    }
+    reverse_pieces(&mut bytes[groups * 16..], size);
+}
+
 /// Turns each piece of `size` bytes round. The usual sizes are constants here, so that each gets
 /// a loop of its own.
 pub fn reverse_each(bytes: &mut [u8], size: usize)
@@ -49,11 +108,43 @@ pub fn reverse_each(bytes: &mut [u8], size: usize)
     ensures { bytes.new ≡ turned (Some size) bytes.old }
 {
     match size {
-        2 => reverse_pieces(bytes, 2),
-        4 => reverse_pieces(bytes, 4),
-        8 => reverse_pieces(bytes, 8),
+        2 => reverse_groups(bytes, 2),
+        3 => reverse_pieces(bytes, 3),
+        4 => reverse_groups(bytes, 4),
+        8 => reverse_groups(bytes, 8),
         _ => reverse_pieces(bytes, size),
     }
+}
+
+/// Appends the bytes with each piece of `size` bytes turned round.
+fn append_turned(copy: &mut Vec<u8>, part: &[u8], size: usize) -> Result<(), AllocError>
+    requires { 0 < size }
+    ensures { OnOk result (copy.new.items ≡ copy.old.items ++ turned (Some size) part.now) }
+{
+    let start = copy.len();
+    copy.extend_from_slice(part)?;
+    reverse_each(&mut copy[start..], size);
+    Ok(())
+}
+
+/// The bytes with each piece of `size` bytes turned round. They are copied and turned a block at a
+/// time where whole pieces make up a block, so that it is turned while it is in the nearest cache.
+fn turned_copy(alloc: Global, bytes: &[u8], size: usize) -> Result<Vec<u8>, AllocError>
+    requires { 0 < size }
+    ensures { IfOk result (λ copy. copy.items ≡ turned (Some size) bytes.now) }
+{
+    let mut copy = Vec::with_capacity(alloc, bytes.len())?;
+    if 3072 / size * size != 3072 {
+        append_turned(&mut copy, bytes, size)?;
+        return Ok(copy);
+    }
+    let blocks = bytes.len() / 3072;
+    for index in 0..blocks {
+        let start = index * 3072;
+        append_turned(&mut copy, &bytes[start..start + 3072], size)?;
+    }
+    append_turned(&mut copy, &bytes[blocks * 3072..], size)?;
+    Ok(copy)
 }
 
 /// The bytes with each component of `size` bytes turned round, or as they are where no size is
@@ -78,9 +169,8 @@ pub fn turn<'a>(
             Ok(CowSlice::Owned(bytes))
         }
         CowSlice::Borrowed(bytes) => {
-            let mut bytes = bytes.to_vec(alloc)?;
-            reverse_each(&mut bytes, size);
-            Ok(CowSlice::Owned(bytes))
+            let copy = turned_copy(alloc, bytes, size)?;
+            Ok(CowSlice::Owned(copy))
         }
     }
 }

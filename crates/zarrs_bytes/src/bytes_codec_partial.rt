@@ -1,5 +1,5 @@
-ghost use Rattle.std.specs.Prelude.{◌≡◌, ◌<◌, ◌+◌, ◌*◌, ◌-◌, ◌^◌, ◌++◌, ℕ, true, List, Some, None, Ok, IfOk, OnOk, IfErr, All, is_some, is_ok, map, sum_by, length};
-ghost use Rattle.std.specs.List.{flat_map, range_with_len};
+ghost use Rattle.std.specs.Prelude.{◌≡◌, ◌<◌, ◌+◌, ◌*◌, ◌-◌, ◌^◌, ◌++◌, ℕ, true, List, Some, None, Ok, IfOk, OnOk, IfErr, All, IfSome, is_some, is_ok, map, sum_by, length};
+ghost use Rattle.std.specs.List.{flat_map};
 ghost use Rattle.zarrs_chunk.specs.ChunkShape.{product};
 ghost use Rattle.zarrs_chunk.specs.Answer.{Answers, AnswersBy, fault, memory, memory_or_fault, seen};
 ghost use Rattle.zarrs_chunk.specs.Indexer.{selection_of};
@@ -7,6 +7,7 @@ ghost use Rattle.zarrs_chunk.specs.Runs.{joined_runs};
 ghost use Rattle.zarrs_chunk.specs.Selection.{places_of};
 ghost use Rattle.zarrs_data_type.specs.Element.{Chunk, fill_element};
 ghost use Rattle.zarrs_array_bytes.specs.Elements.{select};
+ghost use Rattle.zarrs_array_bytes.specs.Filled.{repeated};
 ghost use Rattle.zarrs_array_bytes.specs.Held.{raw_of};
 ghost use Rattle.zarrs_array_bytes.specs.Validity.{Holds};
 ghost use Rattle.zarrs_bytes.specs.ByteRanges.{range_indices};
@@ -56,33 +57,56 @@ fn run_ranges(alloc: Global, size: u64, runs: &[(u64, u64)]) -> Result<Vec<ByteR
     Ok(ranges)
 }
 
-/// Appends so many copies of the fill element. Of one byte they are set at once.
-fn append_fill(
-    alloc: Global,
-    bytes: &mut Vec<u8>,
-    fill: &[u8],
-    count: u64,
-) -> Result<(), AllocError>
-    ensures { OnOk result (bytes.new.items ≡ bytes.old.items ++ flat_map (λ _. fill.now) (range_with_len 0 count)) }
+/// Appends so many copies of the bytes.
+fn append_copies(bytes: &mut Vec<u8>, part: &[u8], count: u64) -> Result<(), AllocError>
+    ensures { OnOk result (bytes.new.items ≡ bytes.old.items ++ repeated part.now count) }
 {
-    if fill.len() == 1 {
-        let block = vec![in alloc; fill[0]; count as usize]?;
-        bytes.extend_from_slice(block.as_slice())?;
-        return Ok(());
-    }
     for _copy in 0..count {
-        bytes.extend_from_slice(fill)?;
+        bytes.extend_from_slice(part)?;
     }
     Ok(())
+}
+
+/// So many copies of the bytes. Many are made by blocks of 256, since each append costs as much as
+/// some dozen bytes.
+fn copies(alloc: Global, part: &[u8], count: u64) -> Result<Vec<u8>, AllocError>
+    ensures { IfOk result (λ bytes. bytes.items ≡ repeated part.now count) }
+{
+    let mut bytes = Vec::with_capacity(alloc, part.len().saturating_mul(count as usize))?;
+    if count < 1024 {
+        append_copies(&mut bytes, part, count)?;
+        return Ok(bytes);
+    }
+    let mut few = Vec::new(alloc);
+    append_copies(&mut few, part, 16)?;
+    let mut block = Vec::new(alloc);
+    append_copies(&mut block, few.as_slice(), 16)?;
+    append_copies(&mut bytes, block.as_slice(), count / 256)?;
+    append_copies(&mut bytes, part, count % 256)?;
+    Ok(bytes)
+}
+
+/// How many places the runs have, where 64 bits count them.
+fn count_of(runs: &[(u64, u64)]) -> Option<u64>
+    ensures { IfSome result (λ count. count ≡ length (joined_runs runs.now)) }
+{
+    let mut count: u64 = 0;
+    for (_, len) in runs {
+        count = count.checked_add(*len)?;
+    }
+    Some(count)
 }
 
 /// The fill element for each place of the runs.
 fn fill_runs(alloc: Global, fill: &[u8], runs: &[(u64, u64)]) -> Result<Vec<u8>, AllocError>
     ensures { IfOk result (λ bytes. bytes.items ≡ flat_map (λ _. fill.now) (joined_runs runs.now)) }
 {
+    if let Some(count) = count_of(runs) {
+        return copies(alloc, fill, count);
+    }
     let mut bytes = Vec::new(alloc);
     for (_, len) in runs {
-        append_fill(alloc, &mut bytes, fill, *len)?;
+        append_copies(&mut bytes, fill, *len)?;
     }
     Ok(bytes)
 }

@@ -4,22 +4,11 @@
 //! and `codecs`. Each line after it is a command, which one line answers.
 #![tactic(auto)]
 
-mod codec;
-mod command;
-mod data_types;
-mod elements;
-mod indexers;
-mod json;
-mod lines;
-mod refusal;
-mod run;
-mod session;
-
-use run::{RunEnd, run};
 use std::io;
 use std::io::{BufReader, BufWriter};
 use std::process::ExitCode;
 use thiserror::Error;
+use zarrs_chain::run::{RunEnd, run};
 
 /// What stopped the program.
 #[derive(Debug, Drop, Error)]
@@ -49,6 +38,3 @@ fn main(rt: HostRuntime) -> ExitCode {
         }
     }
 }
-
-#[cfg(test)]
-mod tests;

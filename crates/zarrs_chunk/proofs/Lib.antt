@@ -8,3 +8,4 @@ pub mod PlaceLaws
 pub mod Products
 pub mod Rising
 pub mod TupleLists
+pub mod WholeAxes

@@ -1,8 +1,8 @@
 -- Laws of what calls answer, for the proofs of their callers.
-use Rattle.std.specs.Prelude.{◌≡◌, Bool, true, false, Result, Ok, Err, IsOk, IfOk, IsOkAnd}
+use Rattle.std.specs.Prelude.{◌≡◌, Bool, true, false, Result, Ok, Err, IsOk, IfOk}
 use Rattle.std.proofs.Common.{refl, sym}
 use Rattle.std.proofs.lemmas.Bool.{false≢true}
-use Rattle.zarrs_chunk.specs.Answer.{◌>>=◌, demand, seen, Excused, Answers, AnswersBy}
+use Rattle.zarrs_chunk.specs.Answer.{◌>>=◌, demand, seen, Answers, AnswersBy}
 
 -- what holds of each expected value holds of the value that was answered
 pub found_from : {E T V : Type 0} (excuse : E → Bool) (view : T → V) (r : Result T E) (expected : Result V E) (P : V → Type 0) → Answers excuse view r expected → ((v : V) → expected ≡ Ok v → P v) → IfOk r (λ x. P (view x))

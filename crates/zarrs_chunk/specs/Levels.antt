@@ -1,5 +1,5 @@
 -- The numbers of a box's tuples, built axis by axis.
-use Rattle.std.specs.Prelude.{ℕ, ◌+◌, ◌*◌, ◌<◌, ◌≤◌, List, map, length, get_or}
+use Rattle.std.specs.Prelude.{◌≡◌, ℕ, ◌+◌, ◌*◌, ◌<◌, ◌≤◌, List, map, length, get_or}
 use Rattle.std.specs.List.{flat_map}
 use Rattle.zarrs_chunk.specs.ChunkShape.{product}
 use Rattle.zarrs_chunk.specs.Tuples.{row_major, box_tuples}
@@ -20,3 +20,7 @@ IsFitting total rest fronts = (k : ℕ) → k < length fronts → (get_or fronts
 -- the places of a box
 abbrev pub box_places : List ℕ → List ℕ → List ℕ → List ℕ
 box_places sizes starts lengths = map (row_major sizes) (box_tuples starts lengths)
+
+-- the box covers these axes whole
+abbrev pub AreWhole : ℕ → ℕ → List ℕ → List ℕ → List ℕ → Type 0
+AreWhole from to sizes starts lengths = (k : ℕ) → from ≤ k → k < to → (get_or starts k 0 ≡ 0) × (get_or lengths k 0 ≡ get_or sizes k 0)

@@ -4,6 +4,7 @@ ghost use Rattle.std.specs.List.{flat_map, range_with_len};
 ghost use Rattle.zarrs_chunk.specs.ChunkShape.{product};
 ghost use Rattle.zarrs_chunk.specs.Levels.{behind_fronts, box_places as places_of_box, IsFitting};
 ghost use Rattle.zarrs_chunk.specs.Runs.{joined_runs};
+ghost use Rattle.zarrs_chunk.specs.Levels.{AreWhole};
 ghost use Rattle.zarrs_chunk.specs.Tuples.{is_box_inside as box_inside};
 
 use std::alloc::{AllocError, Global};
@@ -52,6 +53,7 @@ fn write_rows(
     ensures { OnOk result (rows.new.items ≡ flat_map (λ front. range_with_len (front * size + start) len) fronts.now) }
 {
     rows.clear();
+    rows.reserve_exact(fronts.len().saturating_mul(len as usize))?;
     for front in fronts {
         let row = *front * size + start;
         rows.extend(row..row + len)?;
@@ -113,7 +115,35 @@ pub fn box_places(
     box_fronts(alloc, sizes, starts, lengths, sizes.len())
 }
 
-/// The runs of a box inside the sizes: one a row of the last axis.
+/// How many of the first axes there are up to the last one that the box doesn't cover whole.
+fn axes_before_whole(sizes: &[u64], starts: &[u64], lengths: &[u64]) -> usize
+    requires starts { length starts.now ≡ length sizes.now }
+    requires lengths { length lengths.now ≡ length sizes.now }
+    ensures axes { result ≤ length sizes.now }
+    ensures whole { AreWhole result (length sizes.now) sizes.now starts.now lengths.now }
+{
+    let mut axes = 0;
+    for index in 0..sizes.len() {
+        if starts[index] != 0 || lengths[index] != sizes[index] {
+            axes = index + 1;
+        }
+    }
+    axes
+}
+
+/// The product of sizes that are part of a chunk that can be numbered.
+fn small_product(sizes: &[u64]) -> u64
+    requires { product sizes.now < 2 ^ 64 }
+    ensures { result ≡ product sizes.now }
+{
+    match checked_product(sizes) {
+        Some(count) => count,
+        None => unreachable!(),
+    }
+}
+
+/// The runs of a box inside the sizes. Axes at the end that the box covers whole join into one
+/// run; there is one run for each row of the last axis before them.
 pub fn box_runs(
     alloc: Global,
     sizes: &[u64],
@@ -132,18 +162,21 @@ pub fn box_runs(
     if lengths.contains(&0) {
         return Ok(Vec::new(alloc));
     }
-    let mut runs = Vec::new(alloc);
-    if sizes.len() == 0 {
-        runs.push((0, 1))?;
+    let axes = axes_before_whole(sizes, starts, lengths);
+    if axes == 0 {
+        let mut runs = Vec::new(alloc);
+        runs.push((0, small_product(sizes)))?;
         return Ok(runs);
     }
-    let last = sizes.len() - 1;
+    let last = axes - 1;
     let fronts = box_fronts(alloc, sizes, starts, lengths, last)?;
     let size = sizes[last];
     let start = starts[last];
-    let len = lengths[last];
+    let whole = small_product(&sizes[axes..]);
+    let len = lengths[last] * whole;
+    let mut runs = Vec::with_capacity(alloc, fronts.len())?;
     for front in &fronts {
-        runs.push((*front * size + start, len))?;
+        runs.push(((*front * size + start) * whole, len))?;
     }
     Ok(runs)
 }

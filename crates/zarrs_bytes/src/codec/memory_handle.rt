@@ -1,26 +1,52 @@
-ghost use Rattle.std.specs.Prelude.{◌≡◌, true, false, Some, None};
+ghost use Rattle.std.specs.Prelude.{◌≡◌, ◌++◌, OnOk, true, false, Some, None};
 ghost use Rattle.std.specs.Option.{option_map};
 ghost use Rattle.zarrs_chunk.specs.Answer.{Answers, memory, is_fault};
 ghost use Rattle.zarrs_bytes.specs.ByteRanges.{read_value};
 
 use crate::codec::byte_range::ByteRange;
 use crate::codec::bytes_partial_decoder_traits::BytesPartialDecoderTraits;
-use std::alloc::Global;
+use std::alloc::{AllocError, Global};
 use zarrs_chunk::CodecError;
+
+/// How many bytes to reserve for ranges of a value of `len` bytes.
+fn room_of(len: usize, ranges: &[ByteRange]) -> usize {
+    let mut room: u64 = 0;
+    for range in ranges {
+        if range.end() > len as u64 {
+            return 0;
+        }
+        room = room.saturating_add(range.end() - range.start());
+    }
+    room as usize
+}
+
+/// Appends a piece. The sizes of most elements are constants here, so that one is a single move.
+#[inline(always)]
+fn append_piece(bytes: &mut Vec<u8>, piece: &[u8]) -> Result<(), AllocError>
+    ensures { OnOk result (bytes.new.items ≡ bytes.old.items ++ piece.now) }
+{
+    match piece.len() {
+        1 => bytes.extend_from_slice(&piece[..1]),
+        2 => bytes.extend_from_slice(&piece[..2]),
+        4 => bytes.extend_from_slice(&piece[..4]),
+        8 => bytes.extend_from_slice(&piece[..8]),
+        _ => bytes.extend_from_slice(piece),
+    }
+}
 
 /// The ranges' bytes of a value, joined in order.
 fn gather(alloc: Global, value: &[u8], ranges: &[ByteRange]) -> Result<Vec<u8>, CodecError>
     ensures answer { Answers memory (λ bytes. bytes.items) result (read_value value.now ranges.now) }
     ensures no_fault { is_fault result ≡ false }
 {
-    let mut bytes = Vec::new(alloc);
+    let mut bytes = Vec::with_capacity(alloc, room_of(value.len(), ranges))?;
     for range in ranges {
         let start = range.start() as usize;
         let end = range.end() as usize;
         if value.len() < end {
             return Err(CodecError::InvalidByteRange);
         }
-        bytes.extend_from_slice(&value[start..end])?;
+        append_piece(&mut bytes, &value[start..end])?;
     }
     Ok(bytes)
 }
