@@ -162,7 +162,7 @@ impl Indexer {
     /// empty, and has to lie inside too; an empty list fits every shape.
     /// Refusals, the first that holds: `IncompatibleDimensionality`, `OutOfBounds`.
     pub fn check(&self, shape: &ChunkShape) -> Result<(), CodecError>
-        ensures { result ≡ bounds_of (selection_of self.now) shape.now }
+        ensures answer { result ≡ bounds_of (selection_of self.now) shape.now }
     {
         match self {
             Indexer::Subset(subset) => check_subset(shape.as_slice(), subset),
@@ -172,7 +172,7 @@ impl Indexer {
 
     /// How many elements are meant, repeated ones counted each time. Refusals: `Overflow`.
     pub fn len(&self) -> Result<u64, CodecError>
-        ensures { result ≡ len_of (selection_of self.now) }
+        ensures answer { result ≡ len_of (selection_of self.now) }
     {
         match self {
             Indexer::Subset(subset) => subset.num_elements(),
@@ -210,7 +210,7 @@ impl Indexer {
 
     /// An equal indexer. Refusals: `OutOfMemory`.
     pub fn clone(&self) -> Result<Indexer, CodecError>
-        ensures { Answers memory selection_of result (Ok (selection_of self.now)) }
+        ensures copy { Answers memory selection_of result (Ok (selection_of self.now)) }
     {
         match self {
             Indexer::Subset(subset) => Ok(Indexer::Subset(subset.clone()?)),
