@@ -1,5 +1,6 @@
 pub mod BoxLaws
 pub mod BoxTuples
+pub mod Consecutive
 pub mod Ends
 pub mod Fitting
 pub mod Inside
