@@ -8,6 +8,7 @@ mod array_subset;
 mod boxes;
 mod chunk_shape;
 mod codec_error;
+mod index_lists;
 mod indexer;
 mod indices;
 pub mod laws;
