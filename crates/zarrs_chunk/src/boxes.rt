@@ -40,8 +40,18 @@ pub fn is_box_inside(sizes: &[u64], starts: &[u64], lengths: &[u64]) -> bool
     true
 }
 
-/// One axis more: each front over the axes before is followed by its row. What stood in `rows`
-/// before is gone; its room is used again.
+/// One axis more, on which the box has one index: each front gives way to the number behind it.
+fn step_fronts(fronts: &mut [u64], size: u64, start: u64)
+    requires { (k : ℕ) → k < length fronts.old → slice_index fronts.old k * size + start + 1 < 2 ^ 64 }
+    ensures { fronts.new ≡ flat_map (λ front. range_with_len (front * size + start) 1) fronts.old }
+{
+    for index in 0..fronts.len() {
+        fronts[index] = fronts[index] * size + start;
+    }
+}
+
+/// One axis more: each front is followed by its row. What stood in `rows` before is gone, and its
+/// room is used again.
 fn write_rows(
     rows: &mut Vec<u64>,
     fronts: &[u64],
@@ -58,6 +68,27 @@ fn write_rows(
         let row = *front * size + start;
         rows.extend(row..row + len)?;
     }
+    Ok(())
+}
+
+/// The fronts over one axis more. `rows` is room for them, which is left for the next axis. An axis
+/// with one index is done in place, since a shape may have very many of them.
+fn next_fronts(
+    fronts: &mut Vec<u64>,
+    rows: &mut Vec<u64>,
+    size: u64,
+    start: u64,
+    len: u64,
+) -> Result<(), AllocError>
+    requires { (k : ℕ) → k < length fronts.old.items → slice_index fronts.old.items k * size + start + len < 2 ^ 64 }
+    ensures { OnOk result (fronts.new.items ≡ flat_map (λ front. range_with_len (front * size + start) len) fronts.old.items) }
+{
+    if len == 1 {
+        step_fronts(fronts.as_mut_slice(), size, start);
+        return Ok(());
+    }
+    write_rows(rows, fronts.as_slice(), size, start, len)?;
+    mem::swap(fronts, rows);
     Ok(())
 }
 
@@ -82,14 +113,8 @@ fn box_fronts(
     let mut fronts = vec![in alloc; 0]?;
     let mut rows = Vec::new(alloc);
     for axis in 0..axes {
-        write_rows(
-            &mut rows,
-            fronts.as_slice(),
-            sizes[axis],
-            starts[axis],
-            lengths[axis],
-        )?;
-        mem::swap(&mut fronts, &mut rows);
+        let len = lengths[axis];
+        next_fronts(&mut fronts, &mut rows, sizes[axis], starts[axis], len)?;
     }
     Ok(fronts)
 }

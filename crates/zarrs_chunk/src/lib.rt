@@ -21,5 +21,3 @@ pub use indexer::Indexer;
 pub use indices::{ArrayIndices, ravel_indices, unravel_index};
 pub use runs::runs_of_places;
 
-#[cfg(test)]
-mod tests;
