@@ -140,8 +140,8 @@ pub fn box_places(
     box_fronts(alloc, sizes, starts, lengths, sizes.len())
 }
 
-/// How many of the first axes there are up to the last one that the box doesn't cover whole.
-fn axes_before_whole(sizes: &[u64], starts: &[u64], lengths: &[u64]) -> usize
+/// How many axes stand before those at the end that the box covers whole.
+fn outer_axes(sizes: &[u64], starts: &[u64], lengths: &[u64]) -> usize
     requires starts { length starts.now ≡ length sizes.now }
     requires lengths { length lengths.now ≡ length sizes.now }
     ensures axes { result ≤ length sizes.now }
@@ -156,8 +156,8 @@ fn axes_before_whole(sizes: &[u64], starts: &[u64], lengths: &[u64]) -> usize
     axes
 }
 
-/// The product of sizes that are part of a chunk that can be numbered.
-fn small_product(sizes: &[u64]) -> u64
+/// The product of sizes, where the caller knows that 64 bits hold it.
+fn known_product(sizes: &[u64]) -> u64
     requires { product sizes.now < 2 ^ 64 }
     ensures { result ≡ product sizes.now }
 {
@@ -167,8 +167,8 @@ fn small_product(sizes: &[u64]) -> u64
     }
 }
 
-/// The runs of a box inside the sizes. Axes at the end that the box covers whole join into one
-/// run; there is one run for each row of the last axis before them.
+/// The runs of a box inside the sizes. Axes at the end that the box covers whole join, so there is
+/// one run for each row of the last axis before them, or one alone where it covers all axes.
 pub fn box_runs(
     alloc: Global,
     sizes: &[u64],
@@ -187,17 +187,17 @@ pub fn box_runs(
     if lengths.contains(&0) {
         return Ok(Vec::new(alloc));
     }
-    let axes = axes_before_whole(sizes, starts, lengths);
+    let axes = outer_axes(sizes, starts, lengths);
     if axes == 0 {
         let mut runs = Vec::new(alloc);
-        runs.push((0, small_product(sizes)))?;
+        runs.push((0, known_product(sizes)))?;
         return Ok(runs);
     }
     let last = axes - 1;
     let fronts = box_fronts(alloc, sizes, starts, lengths, last)?;
     let size = sizes[last];
     let start = starts[last];
-    let whole = small_product(&sizes[axes..]);
+    let whole = known_product(&sizes[axes..]);
     let len = lengths[last] * whole;
     let mut runs = Vec::with_capacity(alloc, fronts.len())?;
     for front in &fronts {

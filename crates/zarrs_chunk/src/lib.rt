@@ -20,4 +20,3 @@ pub use codec_error::{CodecError, CodecName, StorageError};
 pub use indexer::Indexer;
 pub use indices::{ArrayIndices, ravel_indices, unravel_index};
 pub use runs::runs_of_places;
-
