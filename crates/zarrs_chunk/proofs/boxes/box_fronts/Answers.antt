@@ -1,5 +1,5 @@
-use Rattle.std.proofs.Common.{◌≡◌, get_or, arith, sym, ap, ◌∙◌}
-use Rattle.zarrs_chunk.proofs.BoxTuples.{next_fronts, numbers_behind-more, numbers_behind-start}
+use Rattle.std.proofs.Common.{◌≡◌, arith, sym, ◌∙◌}
+use Rattle.zarrs_chunk.proofs.BoxTuples.{numbers_behind-more, numbers_behind-start}
 use Rattle.zarrs_chunk.proofs.Fitting.{row_fits, IsFitting-more, IsFitting-start}
 use Rattle.zarrs_chunk.proofs.boxes.box_fronts.Goals as goal
 

@@ -1,4 +1,4 @@
-use Rattle.std.proofs.Common.{◌≡◌, ◌+◌, ◌*◌, ◌<◌, ◌≤◌, drop, get_or, arith, sym, ◌∙◌, below_more}
+use Rattle.std.proofs.Common.{◌+◌, ◌*◌, ◌≤◌, drop, get_or, arith, sym, ◌∙◌, below_more}
 use Rattle.zarrs_chunk.specs.ChunkShape.{product}
 use Rattle.zarrs_chunk.proofs.Fitting.{room_below, room_next}
 use Rattle.zarrs_chunk.proofs.Inside.{is_tuple_inside-all, is_tuple_inside-at, number_behind-more, number_behind-end}
