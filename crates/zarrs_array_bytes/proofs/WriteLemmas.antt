@@ -9,7 +9,7 @@ use Rattle.std.proofs.lemmas.List.FromFn.{length-range_with_len}
 use Rattle.zarrs_chunk.specs.Runs.{joined_runs}
 use Rattle.zarrs_array_bytes.specs.Pieces.{pieces}
 use Rattle.zarrs_array_bytes.specs.Updated.{update, overwritten, runs_written}
-use Rattle.zarrs_array_bytes.proofs.Pieces.{length-pieces, pieces-split, pieces-take, pieces-front, concat-pieces}
+use Rattle.zarrs_array_bytes.proofs.Pieces.{length-pieces, pieces-suc, pieces-split, pieces-take, pieces-front, concat-pieces}
 
 -- ---- updates
 
@@ -110,7 +110,7 @@ pieces-single : (xs : List ℕ) (n : ℕ) → length xs ≡ n → pieces 1 n xs 
 pieces-single [] zero e = refl
 pieces-single [] (suc n) e = absurd (omega arith)
 pieces-single (x ∷ xs) zero e = absurd (omega arith)
-pieces-single (x ∷ xs) (suc n) e = ap (λ ps. (x ∷ []) ∷ ps) (pieces-single xs n (omega arith))
+pieces-single (x ∷ xs) (suc n) e = pieces-suc 1 n (x ∷ xs) ∙ ap (λ ps. (x ∷ []) ∷ ps) (pieces-single xs n (omega arith))
 
 -- writing runs of flags is an update
 pub flags_written-update : (n : ℕ) (old : List ℕ) (runs : List (ℕ × ℕ)) (new : List ℕ) → length old ≡ n → All (λ run. run.0 + run.1 ≤ n) runs → length new ≡ length (joined_runs runs)

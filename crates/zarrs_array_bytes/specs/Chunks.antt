@@ -20,12 +20,17 @@ fill_chunk type count fill = do
   _ ← sizes_fit type count
   Ok (replicate count (fill_element type fill))
 
+-- the elements at these places of a container of so many, or the first cause why there are none
+abbrev pub chunk_at : ElementType → ℕ → List ℕ → Held → Result Chunk CodecError
+chunk_at type count places held = do
+  _ ← validity type count held
+  Ok (select (elements type count held) places)
+
 -- the selection at the selected places, or the first cause why there is none
 abbrev pub selected_chunk : ElementType → List ℕ → Selection → Held → Result Chunk CodecError
 selected_chunk type sizes selection held = do
   places ← places_of selection sizes
-  _ ← validity type (product sizes) held
-  Ok (select (elements type (product sizes) held) places)
+  chunk_at type (product sizes) places held
 
 -- the chunk with the elements at the selected places replaced by the new ones, or the first cause why it can't be made
 abbrev pub updated_chunk : ElementType → List ℕ → Selection → Held → Held → Result Chunk CodecError

@@ -2,9 +2,9 @@
 use Rattle.std.specs.Prelude.{ℕ, ◌+◌, ◌*◌, List, [], ◌∷◌, ◌++◌, length, map, take, drop, set}
 use Rattle.std.specs.List.{concat, range_with_len}
 use Rattle.zarrs_data_type.specs.ElementType.{ElementType, fixed, text, bytes, optional, element_size}
-use Rattle.zarrs_array_bytes.specs.Held.{Held, flen, vlen, masked, owned}
+use Rattle.zarrs_array_bytes.specs.Held.{Held, flen, vlen, masked, owned_bytes}
 use Rattle.zarrs_array_bytes.specs.Elements.{cut}
-use Rattle.zarrs_array_bytes.specs.Pieces.{pieces, gathered, variable_of}
+use Rattle.zarrs_array_bytes.specs.Pieces.{pieces, bytes_with_offsets, variable_of}
 
 -- the list with the item at the first place replaced by the first new one, then the item at the second place by the second, and so on
 abbrev pub update : {A : Type 0} → List A → List ℕ → List A → List A
@@ -29,11 +29,11 @@ runs_written size old (run ∷ runs) new =
 -- the container with its elements at the places replaced by the new ones: the bytes of each element, and at each optional level the flags
 abbrev pub updated : ElementType → ℕ → Held → ℕ → Held → List ℕ → Held
 updated (fixed width components sign) count (flen raw) new_count (flen new) places =
-    flen (owned (concat (update (pieces (element_size width components) count raw.items) places (pieces (element_size width components) new_count new.items))))
+    flen (owned_bytes (concat (update (pieces (element_size width components) count raw.items) places (pieces (element_size width components) new_count new.items))))
 updated text count (vlen raw offsets) new_count (vlen new new_offsets) places =
-    variable_of (gathered (λ part. part) (update (cuts count offsets raw.items) places (cuts new_count new_offsets new.items)))
+    variable_of (bytes_with_offsets (λ part. part) (update (cuts count offsets raw.items) places (cuts new_count new_offsets new.items)))
 updated bytes count (vlen raw offsets) new_count (vlen new new_offsets) places =
-    variable_of (gathered (λ part. part) (update (cuts count offsets raw.items) places (cuts new_count new_offsets new.items)))
+    variable_of (bytes_with_offsets (λ part. part) (update (cuts count offsets raw.items) places (cuts new_count new_offsets new.items)))
 updated (optional type) count (masked inner mask) new_count (masked new new_mask) places =
-    masked (updated type count inner new_count new places) (owned (update mask.items places new_mask.items))
+    masked (updated type count inner new_count new places) (owned_bytes (update mask.items places new_mask.items))
 updated _ count held new_count new places = held

@@ -3,7 +3,7 @@ ghost use Rattle.zarrs_chunk.specs.Answer.{Answers, memory, is_fault};
 ghost use Rattle.zarrs_chunk.specs.Runs.{joined_runs};
 ghost use Rattle.zarrs_array_bytes.specs.Elements.{cut};
 ghost use Rattle.zarrs_array_bytes.specs.Offsets.{is_offsets, last_of};
-ghost use Rattle.zarrs_array_bytes.specs.Pieces.{gathered};
+ghost use Rattle.zarrs_array_bytes.specs.Pieces.{bytes_with_offsets};
 ghost use Rattle.zarrs_array_bytes.specs.Sources.{sources, chosen, IsSourceOf};
 
 use crate::gather::cut_of;
@@ -36,7 +36,7 @@ pub(crate) fn written_cuts(
     requires inside { All (λ run. run.0 + run.1 ≤ length old_offsets.now - 1) runs.now }
     requires enough { length new_offsets.now ≡ length (joined_runs runs.now) + 1 }
     ensures exact { Answers memory (λ parts. (parts.0.items, parts.1.items)) result
-        (Ok (gathered (chosen (cut old_offsets.now old.now) (cut new_offsets.now new.now)) (sources (length old_offsets.now - 1) (joined_runs runs.now)))) }
+        (Ok (bytes_with_offsets (chosen (cut old_offsets.now old.now) (cut new_offsets.now new.now)) (sources (length old_offsets.now - 1) (joined_runs runs.now)))) }
     ensures no_fault { is_fault result ≡ false }
 {
     let places = places_of_runs(alloc, runs)?;
@@ -77,7 +77,7 @@ fn gather_sources(
     requires new_ending { last_of new_offsets.now ≡ length new.now }
     requires known { All (IsSourceOf (length old_offsets.now - 1) (length new_offsets.now - 1)) from.now }
     ensures exact { Answers memory (λ parts. (parts.0.items, parts.1.items)) result
-        (Ok (gathered (chosen (cut old_offsets.now old.now) (cut new_offsets.now new.now)) from.now)) }
+        (Ok (bytes_with_offsets (chosen (cut old_offsets.now old.now) (cut new_offsets.now new.now)) from.now)) }
     ensures no_fault { is_fault result ≡ false }
 {
     let mut out = Vec::new(alloc);

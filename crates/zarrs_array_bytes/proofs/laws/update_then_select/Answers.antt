@@ -7,8 +7,10 @@ use Rattle.zarrs_array_bytes.proofs.UpdateLaw.{untouched, written}
 use Rattle.zarrs_array_bytes.proofs.laws.update_then_select.Goals as goal
 
 pub returns : goal.returns
-returns c = λ chunk new places others i count known here.
-    let place = get_or others i 0 in
-    let at : ℕ → Element = λ p. get_or (update chunk places new) p absent in
-    let chosen : get_or (select (update chunk places new) others) i absent ≡ get_or (update chunk places new) place absent = get_or-map at others i 0 absent known in
-    (λ other. chosen ∙ untouched chunk new places place absent other, λ number write. chosen ∙ written chunk new places place absent number here count write.known write.here write.last)
+returns c = record {
+  law = λ chunk new places others i count known here.
+      let place = get_or others i 0 in
+      let at : ℕ → Element = λ p. get_or (update chunk places new) p absent in
+      let picked : get_or (select (update chunk places new) others) i absent ≡ get_or (update chunk places new) place absent = get_or-map at others i 0 absent known in
+      (λ other. picked ∙ untouched chunk new places place absent other, λ number write. picked ∙ written chunk new places place absent number here count write.known write.here write.last);
+}

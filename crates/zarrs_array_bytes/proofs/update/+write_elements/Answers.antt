@@ -4,11 +4,11 @@ use Rattle.std.specs.Cow.{cow_slice_items}
 use Rattle.zarrs_chunk.specs.Runs.{joined_runs}
 use Rattle.zarrs_chunk.specs.declared.codec_error.CodecError.TheVariants.{InvalidBytesLength}
 use Rattle.zarrs_data_type.specs.ElementType.{fixed_size_of}
-use Rattle.zarrs_array_bytes.specs.Held.{flen, vlen, raw_of, owned}
+use Rattle.zarrs_array_bytes.specs.Held.{flen, vlen, raw_of, owned_bytes}
 use Rattle.zarrs_array_bytes.specs.ArrayBytes.{held_of}
 use Rattle.zarrs_array_bytes.specs.Parts.{variable_part, bytes_in, offsets_in}
 use Rattle.zarrs_array_bytes.specs.Elements.{cut}
-use Rattle.zarrs_array_bytes.specs.Pieces.{gathered, variable_of}
+use Rattle.zarrs_array_bytes.specs.Pieces.{bytes_with_offsets, variable_of}
 use Rattle.zarrs_array_bytes.specs.Validity.{data_mismatch}
 use Rattle.zarrs_array_bytes.specs.Sources.{sources, chosen}
 use Rattle.zarrs_array_bytes.specs.Updated.{updated, update, runs_written}
@@ -44,7 +44,7 @@ returns-in_ok-bytes-in-Fixed-clause-exact t c =
     let wrote : runs_written c.unwrap-size.result (raw_of c.in-Fixed.old).items runs c.fixed_bytes.result.now ≡ c.in_ok-bytes-in-Fixed.bytes.items = cc (c.in_ok-bytes-in-Fixed.ensures.exact) in
     ap Ok (ap (λ h. updated c.args.data_type.now c.args.count h (length (joined_runs runs)) c.args.new.now (joined_runs runs)) seen
     ∙ written_fixed InvalidBytesLength data_mismatch c.args.data_type.now c.args.count (raw_of c.in-Fixed.old) c.args.new.now runs c.unwrap-size.result (rw seen at c.requires.valid) c.requires.data_valid size c.requires.inside
-    ∙ ap (λ xs. flen (owned (runs_written c.unwrap-size.result (raw_of c.in-Fixed.old).items runs xs))) (sym c.fixed_bytes.ensures) ∙ ap (λ xs. flen (owned xs)) wrote ∙ sym c.new_flen.ensures)
+    ∙ ap (λ xs. flen (owned_bytes (runs_written c.unwrap-size.result (raw_of c.in-Fixed.old).items runs xs))) (sym c.fixed_bytes.ensures) ∙ ap (λ xs. flen (owned_bytes xs)) wrote ∙ sym c.new_flen.ensures.made)
 
 pub returns-in_ok-bytes-in-Variable-clause-exact : goal.returns-in_ok-bytes-in-Variable-clause-exact
 returns-in_ok-bytes-in-Variable-clause-exact t c =
@@ -56,11 +56,11 @@ returns-in_ok-bytes-in-Variable-clause-exact t c =
     let ends : c.as_slice-in-Variable.result.now ≡ os = c.as_slice-in-Variable.ensures.offsets ∙ c.in-Variable.old_offsets-is in
     let long : length os ≡ c.args.count + 1 = variable_fits InvalidBytesLength c.args.data_type.now c.args.count _ _ (rw seen at c.requires.valid) in
     let count : c.args.count ≡ length c.as_slice-in-Variable.result.now - 1 = omega (arith, long, ap length ends) in
-    let both : gathered (chosen (cut c.as_slice-in-Variable.result.now c.as_slice.result.now) (cut c.variable_parts.result.1.now c.variable_parts.result.0.now)) (sources (length c.as_slice-in-Variable.result.now - 1) ps)
+    let both : bytes_with_offsets (chosen (cut c.as_slice-in-Variable.result.now c.as_slice.result.now) (cut c.variable_parts.result.1.now c.variable_parts.result.0.now)) (sources (length c.as_slice-in-Variable.result.now - 1) ps)
     ≡ (c.in_ok-bytes-in-Variable.bytes.items, c.in_ok-bytes-in-Variable.offsets.items) = cc (c.in_ok-bytes-in-Variable.ensures.exact) in
     ap Ok (ap (λ h. updated c.args.data_type.now c.args.count h (length ps) c.args.new.now ps) seen
     ∙ written_variable InvalidBytesLength data_mismatch c.args.data_type.now c.args.count old os c.args.new.now ps (rw seen at c.requires.valid) c.requires.data_valid
-    ∙ ap₂ (λ bs us. variable_of (gathered (chosen (cut us bs) (cut (offsets_in c.args.new.now) (bytes_in c.args.new.now))) (sources c.args.count ps))) (sym items) (sym ends)
-    ∙ ap₂ (λ bs us. variable_of (gathered (chosen (cut c.as_slice-in-Variable.result.now c.as_slice.result.now) (cut us bs)) (sources c.args.count ps))) (sym c.variable_parts.ensures.bytes) (sym c.variable_parts.ensures.offsets)
-    ∙ ap (λ n. variable_of (gathered (chosen (cut c.as_slice-in-Variable.result.now c.as_slice.result.now) (cut c.variable_parts.result.1.now c.variable_parts.result.0.now)) (sources n ps))) count
+    ∙ ap₂ (λ bs us. variable_of (bytes_with_offsets (chosen (cut us bs) (cut (offsets_in c.args.new.now) (bytes_in c.args.new.now))) (sources c.args.count ps))) (sym items) (sym ends)
+    ∙ ap₂ (λ bs us. variable_of (bytes_with_offsets (chosen (cut c.as_slice-in-Variable.result.now c.as_slice.result.now) (cut us bs)) (sources c.args.count ps))) (sym c.variable_parts.ensures.bytes) (sym c.variable_parts.ensures.offsets)
+    ∙ ap (λ n. variable_of (bytes_with_offsets (chosen (cut c.as_slice-in-Variable.result.now c.as_slice.result.now) (cut c.variable_parts.result.1.now c.variable_parts.result.0.now)) (sources n ps))) count
     ∙ ap variable_of both ∙ sym c.of_variable.ensures)
