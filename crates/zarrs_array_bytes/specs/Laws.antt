@@ -2,7 +2,7 @@
 use Rattle.std.specs.Prelude.{◌≡◌, ◌≢◌, ℕ, ◌<◌, List, length, get_or}
 use Rattle.zarrs_data_type.specs.Element.{absent, Chunk}
 use Rattle.zarrs_array_bytes.specs.Elements.{select}
-use Rattle.zarrs_array_bytes.specs.Updated.{update}
+use Rattle.zarrs_array_bytes.specs.Update.{update}
 
 -- no write is at the place
 abbrev pub IsUntouched : List ℕ → ℕ → Type 0

@@ -20,7 +20,7 @@ mod write;
 pub use array_bytes::ArrayBytes;
 pub use array_bytes_offsets::ArrayBytesOffsets;
 pub use array_bytes_raw::ArrayBytesRaw;
-pub use update::update_array_bytes;
+pub use update::{update_array_bytes, update_runs};
 
 #[cfg(test)]
 mod tests;

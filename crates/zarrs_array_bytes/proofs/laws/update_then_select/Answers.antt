@@ -2,7 +2,7 @@ use Rattle.std.proofs.Common.{◌≡◌, ℕ, get_or, ◌∙◌}
 use Rattle.std.proofs.lemmas.List.{get_or-map}
 use Rattle.zarrs_data_type.specs.Element.{Element, absent}
 use Rattle.zarrs_array_bytes.specs.Elements.{select}
-use Rattle.zarrs_array_bytes.specs.Updated.{update}
+use Rattle.zarrs_array_bytes.specs.Update.{update}
 use Rattle.zarrs_array_bytes.proofs.UpdateLaw.{untouched, written}
 use Rattle.zarrs_array_bytes.proofs.laws.update_then_select.Goals as goal
 
