@@ -11,7 +11,7 @@ use Rattle.zarrs_array_bytes.specs.Held.{Raw, Held, flen, vlen, masked, owned_by
 use Rattle.zarrs_array_bytes.specs.Elements.{cut, under_flag, element_at, elements}
 use Rattle.zarrs_array_bytes.specs.Validity.{LengthRefusal, sizes_fit, levels_fit, Holds}
 use Rattle.zarrs_array_bytes.specs.Pieces.{pieces, bytes_with_offsets, variable_of}
-use Rattle.zarrs_array_bytes.specs.Updated.{update, cuts, updated}
+use Rattle.zarrs_array_bytes.specs.Update.{update, cuts, container_update}
 use Rattle.zarrs_array_bytes.proofs.ElementLemmas.{cut_at, length_ends}
 use Rattle.zarrs_array_bytes.proofs.ValidLemmas.{both_ok, then_ok, length_found, length_due}
 use Rattle.zarrs_array_bytes.proofs.Pieces.{AllSized, length-pieces, pieces_sized, length-concat, pieces-concat, elements-pieces}
@@ -93,7 +93,7 @@ record IsUpdated (refusal : LengthRefusal) (t : ElementType) (n : ℕ) (old : Li
 
 module _ (refusal other : LengthRefusal) where
   updated_fixed : (w c : ℕ) (s : Bool) (n m : ℕ) (r q : Raw) (ps : List ℕ) → length r.items ≡ n * element_size w c → length q.items ≡ m * element_size w c
-      → IsUpdated refusal (fixed w c s) n (elements (fixed w c s) n (flen r)) ps (elements (fixed w c s) m (flen q)) (updated (fixed w c s) n (flen r) m (flen q) ps)
+      → IsUpdated refusal (fixed w c s) n (elements (fixed w c s) n (flen r)) ps (elements (fixed w c s) m (flen q)) (container_update (fixed w c s) n (flen r) m (flen q) ps)
   updated_fixed w c s n m r q ps e f =
       let size : ℕ = element_size w c in
       let parts : List (List ℕ) = update (pieces size n r.items) ps (pieces size m q.items) in
@@ -106,7 +106,7 @@ module _ (refusal other : LengthRefusal) where
             ∙ ap₂ (λ xs ys. update xs ps ys) (sym (elements-pieces w c s n r)) (sym (elements-pieces w c s m q));
       }
 
-  updated_text : (n m : ℕ) (r q : Raw) (os us ps : List ℕ) → IsUpdated refusal text n (elements text n (vlen r os)) ps (elements text m (vlen q us)) (updated text n (vlen r os) m (vlen q us) ps)
+  updated_text : (n m : ℕ) (r q : Raw) (os us ps : List ℕ) → IsUpdated refusal text n (elements text n (vlen r os)) ps (elements text m (vlen q us)) (container_update text n (vlen r os) m (vlen q us) ps)
   updated_text n m r q os us ps =
       let parts : List (List ℕ) = update (cuts n os r.items) ps (cuts m us q.items) in
       let count : length parts ≡ n = length-update (cuts n os r.items) ps (cuts m us q.items) ∙ length-cuts n os r.items in
@@ -117,7 +117,7 @@ module _ (refusal other : LengthRefusal) where
       }
 
   updated_is : (t : ElementType) (n m : ℕ) (h g : Held) (ps : List ℕ) → levels_fit refusal t n h ≡ Ok tt → levels_fit other t m g ≡ Ok tt
-      → IsUpdated refusal t n (elements t n h) ps (elements t m g) (updated t n h m g ps)
+      → IsUpdated refusal t n (elements t n h) ps (elements t m g) (container_update t n h m g ps)
   updated_is (fixed w c s) n m (flen r) (flen q) ps e f = updated_fixed w c s n m r q ps (length_found refusal _ _ e) (length_found other _ _ f)
   updated_is text n m (vlen r os) (vlen q us) ps e f = updated_text n m r q os us ps
   updated_is bytes n m (vlen r os) (vlen q us) ps e f =
@@ -130,7 +130,7 @@ module _ (refusal other : LengthRefusal) where
       let count : length (update a.items ps b.items) ≡ n = length-update a.items ps b.items ∙ old in
       record {
         fits = then_ok _ _ (length_due refusal _ _ count) inner.fits;
-        are = elements-flags t n (updated t n h m g ps) (owned_bytes (update a.items ps b.items)) count ∙ ap (flags (update a.items ps b.items)) inner.are
+        are = elements-flags t n (container_update t n h m g ps) (owned_bytes (update a.items ps b.items)) count ∙ ap (flags (update a.items ps b.items)) inner.are
             ∙ flags-update a.items (elements t n h) ps b.items (elements t m g) (new ∙ sym (length-elements t m g))
             ∙ ap₂ (λ xs ys. update xs ps ys) (sym (elements-flags t n h a old)) (sym (elements-flags t m g b new));
       }
@@ -138,7 +138,7 @@ module _ (refusal other : LengthRefusal) where
 
 -- what an update leaves holds the updated chunk
 pub updated_holds : (t : ElementType) (n m : ℕ) (h g a : Held) (ps : List ℕ) (other : LengthRefusal) → levels_fit InvalidBytesLength t n h ≡ Ok tt → levels_fit other t m g ≡ Ok tt → sizes_fit t n ≡ Ok tt
-    → updated t n h m g ps ≡ a → Holds t a (update (elements t n h) ps (elements t m g))
+    → container_update t n h m g ps ≡ a → Holds t a (update (elements t n h) ps (elements t m g))
 updated_holds t n m h g a ps other e f sizes is =
     let both = updated_is InvalidBytesLength other t n m h g ps e f in
     let count : length (update (elements t n h) ps (elements t m g)) ≡ n = length-update (elements t n h) ps (elements t m g) ∙ length-elements t n h in

@@ -5,7 +5,7 @@ use Rattle.zarrs_data_type.specs.Element.{absent, Chunk, AreElements}
 use Rattle.zarrs_array_bytes.specs.Held.{Held}
 use Rattle.zarrs_array_bytes.specs.Elements.{select}
 use Rattle.zarrs_array_bytes.specs.Validity.{Holds}
-use Rattle.zarrs_array_bytes.specs.Updated.{update}
+use Rattle.zarrs_array_bytes.specs.Update.{update}
 
 -- What a container holds as elements of a type are elements of that type.
 abbrev pub HeldAreElements : Type 0

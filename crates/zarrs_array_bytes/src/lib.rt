@@ -21,4 +21,4 @@ pub use array_bytes::ArrayBytes;
 pub use array_bytes_offsets::ArrayBytesOffsets;
 pub use array_bytes_raw::ArrayBytesRaw;
 pub use repeat::append_copies;
-pub use update::update_array_bytes;
+pub use update::{update_array_bytes, update_runs};

@@ -2,4 +2,4 @@ use Rattle.zarrs_array_bytes.proofs.ElementLaw.{AreElements-held}
 use Rattle.zarrs_array_bytes.proofs.laws.held_are_elements.Goals as goal
 
 pub returns : goal.returns
-returns c = record { law = AreElements-held }
+returns c = record { elements = AreElements-held }

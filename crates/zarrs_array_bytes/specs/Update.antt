@@ -1,5 +1,5 @@
 -- Writes at places, the last one of a place standing.
-use Rattle.std.specs.Prelude.{ℕ, ◌+◌, ◌*◌, List, [], ◌∷◌, ◌++◌, length, map, take, drop, set}
+use Rattle.std.specs.Prelude.{ℕ, ◌+◌, ◌-◌, ◌*◌, List, [], ◌∷◌, ◌++◌, length, map, take, drop, set}
 use Rattle.std.specs.List.{concat, range_with_len}
 use Rattle.zarrs_data_type.specs.ElementType.{ElementType, fixed, text, bytes, optional, element_size}
 use Rattle.zarrs_array_bytes.specs.Held.{Held, flen, vlen, masked, owned_bytes}
@@ -17,23 +17,28 @@ abbrev pub cuts : ℕ → List ℕ → List ℕ → List (List ℕ)
 cuts count offsets items = map (cut offsets items) (range_with_len 0 count)
 
 -- the list with the items from here on replaced
-abbrev pub overwritten : List ℕ → ℕ → List ℕ → List ℕ
-overwritten old at new = take at old ++ (new ++ drop (at + length new) old)
+abbrev pub with_items_at : List ℕ → ℕ → List ℕ → List ℕ
+with_items_at old at new = take at old ++ (new ++ drop (at + length new) old)
 
 -- the bytes with those of each run of elements replaced by the next ones of the new bytes
-abbrev pub runs_written : ℕ → List ℕ → List (ℕ × ℕ) → List ℕ → List ℕ
-runs_written size old [] new = old
-runs_written size old (run ∷ runs) new =
-    runs_written size (overwritten old (run.0 * size) (take (run.1 * size) new)) runs (drop (run.1 * size) new)
+abbrev pub with_runs : ℕ → List ℕ → List (ℕ × ℕ) → List ℕ → List ℕ
+with_runs size old [] new = old
+with_runs size old (run ∷ runs) new =
+    with_runs size (with_items_at old (run.0 * size) (take (run.1 * size) new)) runs (drop (run.1 * size) new)
+
+-- the bytes and offsets of elements of any length, with the elements at the places replaced by the new ones
+abbrev pub cuts_update : List ℕ → List ℕ → List ℕ → List ℕ → List ℕ → List ℕ × List ℕ
+cuts_update offsets items new_offsets new_items places =
+    bytes_with_offsets (λ part. part) (update (cuts (length offsets - 1) offsets items) places (cuts (length new_offsets - 1) new_offsets new_items))
 
 -- the container with its elements at the places replaced by the new ones: the bytes of each element, and at each optional level the flags
-abbrev pub updated : ElementType → ℕ → Held → ℕ → Held → List ℕ → Held
-updated (fixed width components sign) count (flen raw) new_count (flen new) places =
+abbrev pub container_update : ElementType → ℕ → Held → ℕ → Held → List ℕ → Held
+container_update (fixed width components sign) count (flen raw) new_count (flen new) places =
     flen (owned_bytes (concat (update (pieces (element_size width components) count raw.items) places (pieces (element_size width components) new_count new.items))))
-updated text count (vlen raw offsets) new_count (vlen new new_offsets) places =
+container_update text count (vlen raw offsets) new_count (vlen new new_offsets) places =
     variable_of (bytes_with_offsets (λ part. part) (update (cuts count offsets raw.items) places (cuts new_count new_offsets new.items)))
-updated bytes count (vlen raw offsets) new_count (vlen new new_offsets) places =
+container_update bytes count (vlen raw offsets) new_count (vlen new new_offsets) places =
     variable_of (bytes_with_offsets (λ part. part) (update (cuts count offsets raw.items) places (cuts new_count new_offsets new.items)))
-updated (optional type) count (masked inner mask) new_count (masked new new_mask) places =
-    masked (updated type count inner new_count new places) (owned_bytes (update mask.items places new_mask.items))
-updated _ count held new_count new places = held
+container_update (optional type) count (masked inner mask) new_count (masked new new_mask) places =
+    masked (container_update type count inner new_count new places) (owned_bytes (update mask.items places new_mask.items))
+container_update _ count held new_count new places = held
