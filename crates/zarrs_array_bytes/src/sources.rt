@@ -9,6 +9,7 @@ ghost use Rattle.zarrs_array_bytes.specs.Update.{cuts_update};
 
 use crate::gather::cut_of;
 use crate::runs::places_of_runs;
+use crate::splice::{are_rising, splice_cuts};
 use std::alloc::Global;
 use zarrs_chunk::CodecError;
 
@@ -40,6 +41,9 @@ pub(crate) fn written_cuts(
         (Ok (cuts_update old_offsets.now old.now new_offsets.now new.now (joined_runs runs.now))) }
     ensures no_fault { is_fault result ≡ false }
 {
+    if are_rising(runs) {
+        return splice_cuts(alloc, old, old_offsets, new, new_offsets, runs);
+    }
     let places = places_of_runs(alloc, runs)?;
     let from = sources_of(alloc, old_offsets.len() - 1, places.as_slice())?;
     gather_sources(alloc, old, old_offsets, new, new_offsets, from.as_slice())
