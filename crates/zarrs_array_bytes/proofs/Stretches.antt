@@ -90,21 +90,23 @@ module _ (os bs : List ℕ) (rising : is_offsets os ≡ true) (ending : last_of 
       ∙ ap (λ xs. map move (take (suc len) xs)) (sym head)
 
 -- bytes and moved offsets that are put behind others are the elements' parts
-pub stretch_is : (os bs items numbers : List ℕ) (from to by : ℕ) → is_offsets os ≡ true → last_of os ≡ length bs → from ≤ to → to < length os
-    → slice_index os from < 2 ^ 64 → length (items ++ between (slice_index os from) (slice_index os to) bs) < 2 ^ 64 → by ≡ (length items + (2 ^ 64 - slice_index os from)) % 2 ^ 64
-    → (items ++ between (slice_index os from) (slice_index os to) bs, numbers ++ map (λ o. (o + by) % 2 ^ 64) (between (from + 1) (to + 1) os))
-    ≡ with_parts (items, numbers) (map (cut os bs) (range_with_len from (to - from)))
-stretch_is os bs items numbers from to by rising ending ordered inside small fits is =
+pub stretch_appended : (os bs items numbers out moved : List ℕ) (from to by : ℕ) → is_offsets os ≡ true → last_of os ≡ length bs → from ≤ to → to < length os
+    → slice_index os from < 2 ^ 64 → length out < 2 ^ 64 → by ≡ (length items + (2 ^ 64 - slice_index os from)) % 2 ^ 64
+    → out ≡ items ++ between (slice_index os from) (slice_index os to) bs → moved ≡ numbers ++ map (λ o. (o + by) % 2 ^ 64) (between (from + 1) (to + 1) os)
+    → (out, moved) ≡ with_parts (items, numbers) (map (cut os bs) (range_with_len from (to - from)))
+stretch_appended os bs items numbers out moved from to by rising ending ordered inside small fits is bytes-are moved-are =
     let len : ℕ = to - from in
+    let part : List ℕ = between (slice_index os from) (slice_index os to) bs in
     let at : from + len ≡ to = omega arith in
     let count : to + 1 - (from + 1) ≡ len = omega arith in
     let order : slice_index os from ≤ slice_index os to = rising_between os rising from to ordered inside in
-    let long : length (between (slice_index os from) (slice_index os to) bs) ≡ slice_index os to - slice_index os from =
+    let long : length part ≡ slice_index os to - slice_index os from =
     length_between (slice_index os from) (slice_index os to) bs order (omega (arith, rising_last os rising to inside, ending)) in
-    let total : length items + (slice_index os to - slice_index os from) < 2 ^ 64 = omega (arith, length-append items (between (slice_index os from) (slice_index os to) bs), long, fits) in
-    let bytes : between (slice_index os from) (slice_index os to) bs ≡ concat (map (cut os bs) (range_with_len from len)) =
+    let total : length items + (slice_index os to - slice_index os from) < 2 ^ 64 = omega (arith, ap length bytes-are, length-append items part, long, fits) in
+    let bytes : part ≡ concat (map (cut os bs) (range_with_len from len)) =
     sym (cuts_joined os bs rising ending from len (omega arith) ∙ ap (λ k. between (slice_index os from) (slice_index os k) bs) at) in
-    let moved : ends (length items) (map (cut os bs) (range_with_len from len)) ≡ map (λ o. (o + by) % 2 ^ 64) (take len (drop (from + 1) os)) =
+    let numbers-are : ends (length items) (map (cut os bs) (range_with_len from len)) ≡ map (λ o. (o + by) % 2 ^ 64) (take len (drop (from + 1) os)) =
     ends_moved os bs rising ending (λ o. (o + by) % 2 ^ 64) (length items) from len (omega arith) (λ o p q.
     wrapped (length items) (slice_index os from) o by small is p (let top : o ≤ slice_index os to = rw at at q in omega (arith, top, total))) in
-    ap₂ (λ xs ys. (items ++ xs, numbers ++ ys)) bytes (ap (λ k. map (λ o. (o + by) % 2 ^ 64) (take k (drop (from + 1) os))) count ∙ sym moved)
+    ap₂ (λ xs ys. (xs, ys)) (bytes-are ∙ ap (λ xs. items ++ xs) bytes)
+    (moved-are ∙ ap (λ k. numbers ++ map (λ o. (o + by) % 2 ^ 64) (take k (drop (from + 1) os))) count ∙ ap (λ ys. numbers ++ ys) (sym numbers-are))
