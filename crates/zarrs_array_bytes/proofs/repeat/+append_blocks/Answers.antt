@@ -1,7 +1,7 @@
 use Rattle.std.proofs.Common.{◌≡◌, ℕ, List, ◌++◌, ◌/◌, ◌%◌, OnOk, ap, ◌∙◌, subst, append_assoc}
 use Rattle.zarrs_array_bytes.specs.Filled.{copies}
 use Rattle.zarrs_array_bytes.proofs.FillLemmas.{replicate-copies, copies-blocks}
-use Rattle.zarrs_array_bytes.proofs.repeat.+append_copies.Goals as goal
+use Rattle.zarrs_array_bytes.proofs.repeat.+append_blocks.Goals as goal
 
 pub returns-in-len1 : goal.returns-in-len1
 returns-in-len1 t c = record {
@@ -19,8 +19,8 @@ returns t c =
     let rest = copies bytes (count % 16) in
     let is : block ≡ copies bytes 16
     = c.as_slice.ensures.value ∙ c.in_ok-append_each.ensures.appended ∙ ap (λ (xs : List ℕ). xs ++ copies bytes 16) c.in_ok-block.ensures.items in
-    let all : c.append_copies.new.out.items ++ rest ≡ old ++ copies bytes count
-    = ap (λ (xs : List ℕ). xs ++ rest) c.in_ok-append_copies.ensures.appended
+    let all : c.append_blocks.new.out.items ++ rest ≡ old ++ copies bytes count
+    = ap (λ (xs : List ℕ). xs ++ rest) c.in_ok-append_blocks.ensures.appended
       ∙ append_assoc old (copies block (count / 16)) rest
       ∙ ap (λ (xs : List ℕ). old ++ xs) (copies-blocks bytes block 16 count is) in
     record {
