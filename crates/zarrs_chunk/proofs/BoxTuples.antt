@@ -76,18 +76,6 @@ pub numbers_behind-start : (sizes starts lengths : List ℕ) → numbers_behind 
 numbers_behind-start sizes starts lengths =
     append-nil (map (number_behind 0 sizes) (box_tuples starts lengths)) ∙ number_from_zero sizes (box_tuples starts lengths)
 
--- the last axis: the rows are all that is left
-pub numbers_behind-last : (sizes starts lengths fronts : List ℕ) (last : ℕ) → length sizes ≡ last + 1 → length starts ≡ length sizes → length lengths ≡ length sizes → numbers_behind (drop last sizes) (drop last starts) (drop last lengths) fronts ≡ next_fronts (get_or sizes last 0) (get_or starts last 0) (get_or lengths last 0) fronts
-numbers_behind-last sizes starts lengths fronts last e f g =
-    numbers_behind-more sizes starts lengths fronts last (omega arith) (omega arith) (omega arith)
-    ∙ numbers_behind-end sizes starts (drop (last + 1) lengths) _ (last + 1) (omega arith) (omega arith)
-
--- without axes there is one place
-pub box_places-none : (sizes starts lengths : List ℕ) → length sizes ≡ 0 → length starts ≡ 0 → 0 ∷ [] ≡ box_places sizes starts lengths
-box_places-none [] [] lengths e f = refl
-box_places-none [] (start ∷ starts) lengths e f = absurd (omega arith)
-box_places-none (size ∷ sizes) starts lengths e f = absurd (omega arith)
-
 flat_map-nothing : {X A : Type 0} (f : X → List A) (xs : List X) → ((x : X) → f x ≡ []) → flat_map f xs ≡ []
 flat_map-nothing f [] h = refl
 flat_map-nothing f (x ∷ xs) h = rw (h x) (flat_map-nothing f xs h)

@@ -1,5 +1,5 @@
 -- Numbers of tuples, and tuples of numbers.
-use Rattle.std.proofs.Common.{◌≡◌, ℕ, zero, suc, ◌+◌, ◌*◌, ◌/◌, ◌%◌, ◌^◌, ◌<◌, ◌≤◌, ◌∙◌, true, false, Some, None, List, length, get_or, drop, set, nat_lt, arith, refl, ap, sym}
+use Rattle.std.proofs.Common.{◌≡◌, ℕ, ◌+◌, ◌*◌, ◌/◌, ◌%◌, ◌^◌, ◌<◌, ◌≤◌, ◌∙◌, true, false, Some, None, List, length, get_or, drop, set, nat_lt, arith, refl, ap, sym}
 use Rattle.std.specs.List.{All}
 use Rattle.std.proofs.lemmas.Bool.Decides.{nat_tests}
 use Rattle.std.proofs.lemmas.Bool.{and_from}
@@ -12,9 +12,6 @@ use Rattle.zarrs_chunk.specs.Tuples.{row_major, is_tuple_inside}
 use Rattle.zarrs_chunk.proofs.Inside.{is_tuple_inside-length, number_behind-more, number_behind-end, number_behind-drop-le}
 
 -- ---- ravel
-
-pub number_of_tuple-outside : (sizes tuple : List ℕ) → is_tuple_inside sizes tuple ≡ false → number_of_tuple sizes tuple ≡ None
-number_of_tuple-outside sizes tuple h = rw h refl
 
 pub number_of_tuple-inside : (sizes tuple : List ℕ) → is_tuple_inside sizes tuple ≡ true → row_major sizes tuple < 2 ^ 64 → number_of_tuple sizes tuple ≡ Some (row_major sizes tuple)
 number_of_tuple-inside sizes tuple h l =
@@ -58,18 +55,3 @@ unravel_inside sizes tuple axis rest h e positive inside =
     let below : rest % get_or sizes axis 0 < get_or sizes axis 0 = mod-lt rest (positive axis 0 h) in
     let t : nat_lt (rest % get_or sizes axis 0) (get_or sizes axis 0) ≡ true = grind (arith, nat_tests) in
     rw (drop_more sizes axis 0 h, drop-set tuple axis (rest % get_or sizes axis 0) (omega arith)) (and_from _ _ t inside)
-
--- with a rest, the number lies past the end
-pub unravel_past : (sizes tuple : List ℕ) (rest number : ℕ) → 0 < rest → number_behind rest sizes tuple ≡ number → product sizes ≤ number
-unravel_past sizes tuple rest number h e =
-    let one : 1 ≤ rest = omega arith in
-    omega (arith, mul_le rest (product sizes) one)
-  where
-    mul_le : (rest total : ℕ) → 1 ≤ rest → total ≤ rest * total
-    mul_le zero total h = absurd (omega arith)
-    mul_le (suc rest) total h = omega arith
-
-pub unravel_found : (sizes tuple : List ℕ) (rest number : ℕ) → rest ≡ 0 → number_behind rest sizes tuple ≡ number → row_major sizes tuple ≡ number
-unravel_found sizes tuple rest number h e =
-    let z : number_behind 0 sizes tuple ≡ number = ap (λ n. number_behind n sizes tuple) (sym h) ∙ e in
-    omega (arith, z)

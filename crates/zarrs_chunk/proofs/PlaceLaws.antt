@@ -41,6 +41,10 @@ places_below (indices tuples) sizes =
     where_passed (All (λ place. place < product sizes)) (list_all (λ tuple. length tuple == length sizes) tuples) (list_all (λ tuple. is_tuple_inside sizes tuple) tuples) (nat_lt (product sizes) (2 ^ 64)) IncompatibleDimensionality OutOfBounds Overflow (product sizes) (map (row_major sizes) tuples)
     (λ h _. tuples_below sizes tuples h)
 
+-- the same of places that are known
+pub known_below : (selection : Selection) (sizes places : List ℕ) → places_of selection sizes ≡ Ok places → All (λ place. place < product sizes) places
+known_below selection sizes places h = rw h at (places_below selection sizes)
+
 pub places_rise : (region : Region) (sizes : List ℕ) → IfOk (places_of (subset region) sizes) IsStrictlyIncreasing
 places_rise region sizes =
     subset_where_passed IsStrictlyIncreasing region sizes
@@ -56,5 +60,6 @@ places_few region sizes =
     (λ h fits. let room = Rises-room 0 (product sizes) (map (row_major sizes) (box_tuples region.starts region.lengths)) (Rises-box sizes region.starts region.lengths h) in
     omega (arith, room, from_fits (product sizes) (2 ^ 64) fits))
 
+-- the same of places that are known
 pub places_counted : (region : Region) (sizes places : List ℕ) → places_of (subset region) sizes ≡ Ok places → length places < 2 ^ 64
 places_counted region sizes places h = rw h at (places_few region sizes)

@@ -1,4 +1,4 @@
--- Axes at the end that a box covers whole: they join into runs.
+-- Axes at the end that a box covers whole join into runs.
 use Rattle.std.proofs.Common.{◌≡◌, ℕ, zero, suc, ◌+◌, ◌-◌, ◌*◌, ◌<◌, ◌≤◌, true, List, [], ◌∷◌, ◌++◌, length, get_or, drop, arith, refl, ap, ◌∙◌, sym}
 use Rattle.std.specs.List.{All, flat_map, range_with_len}
 use Rattle.std.proofs.lemmas.List.{drop_all}
@@ -10,22 +10,15 @@ use Rattle.zarrs_chunk.specs.Runs.{joined_runs}
 use Rattle.zarrs_chunk.specs.Tuples.{is_box_inside}
 use Rattle.std.proofs.lemmas.List.Elements.{All-push}
 use Rattle.zarrs_chunk.proofs.BoxTuples.{next_fronts, numbers_behind-more, numbers_behind-end, numbers_behind-start}
+use Rattle.zarrs_chunk.proofs.Consecutive.{range-append}
 use Rattle.zarrs_chunk.proofs.Inside.{is_box_inside-at}
 use Rattle.zarrs_chunk.proofs.Products.{product_drop}
 
-range-append : (a m n : ℕ) → range_with_len a (m + n) ≡ range_with_len a m ++ range_with_len (a + m) n
-range-append a zero n =
-    ap (range_with_len a) (let e : 0 + n ≡ n = omega arith in e) ∙ ap (λ b. range_with_len b n) (let e : a ≡ a + 0 = omega arith in e)
-range-append a (suc m) n =
-    ap (range_with_len a) (let e : suc m + n ≡ suc (m + n) = omega arith in e)
-    ∙ ap (λ ns. a ∷ ns) (range-append (a + 1) m n)
-    ∙ ap (λ b. a ∷ (range_with_len (a + 1) m ++ range_with_len b n)) (let e : a + 1 + m ≡ a + suc m = omega arith in e)
-
--- the numbers that each number of a list stands for
+-- the numbers that the numbers of a list stand for, as many as `whole` says for each
 abbrev pub spread : ℕ → List ℕ → List ℕ
 spread whole numbers = flat_map (λ number. range_with_len (number * whole) whole) numbers
 
--- a row for each front, of which each number stands for so many
+-- a row for each front, each number of which stands for as many as `whole` says
 abbrev pub spread_rows : ℕ → ℕ → ℕ → ℕ → List ℕ → List ℕ
 spread_rows size start len whole fronts = flat_map (λ front. range_with_len ((front * size + start) * whole) (len * whole)) fronts
 
@@ -72,7 +65,7 @@ whole_behind (suc n) axes sizes starts lengths fronts e f g w =
     ∙ whole_rows whole size fronts
     ∙ ap (λ t. spread t fronts) (sym (product_drop sizes axes (omega arith)))
 
--- rows of the last axis before those
+-- behind the fronts over the axes before `last` there are its rows, each number of which stands for all axes after it
 pub rows_before_whole : (sizes starts lengths fronts : List ℕ) (last axes : ℕ) → axes ≡ last + 1 → axes ≤ length sizes → length starts ≡ length sizes → length lengths ≡ length sizes → AreWhole axes (length sizes) sizes starts lengths → numbers_behind (drop last sizes) (drop last starts) (drop last lengths) fronts ≡ spread_rows (get_or sizes last 0) (get_or starts last 0) (get_or lengths last 0) (product (drop axes sizes)) fronts
 rows_before_whole sizes starts lengths fronts last axes e h f g w =
     let size = get_or sizes last 0 in
@@ -95,6 +88,7 @@ whole_row_fits sizes starts lengths fronts last axes k e h inside fitting l =
     (is_box_inside-at sizes starts lengths last inside h)
     (rw (← product_drop sizes last h) (fitting k l)))
 
+-- the product of the last axes is no more than that of all
 pub product_drop-le : (sizes : List ℕ) (axis : ℕ) → All (λ size. 0 < size) sizes → product (drop axis sizes) ≤ product sizes
 product_drop-le [] zero h = omega arith
 product_drop-le [] (suc axis) h = omega arith
@@ -104,7 +98,7 @@ product_drop-le (size ∷ sizes) (suc axis) h =
     let one : 1 ≤ size = h 0 0 (omega arith) in
     omega (arith, r, mul-le-mul_right (product sizes) one)
 
--- the row of one front
+-- what the row of one front stands for is no more than all elements
 pub whole_len_fits : (sizes starts lengths : List ℕ) (last axes : ℕ) → axes ≡ last + 1 → last < length sizes → is_box_inside sizes starts lengths ≡ true → All (λ size. 0 < size) sizes → get_or lengths last 0 * product (drop axes sizes) ≤ product sizes
 whole_len_fits sizes starts lengths last axes e h inside positive =
     let rest = product (drop (last + 1) sizes) in
@@ -119,9 +113,11 @@ all_whole sizes starts lengths axes e f g w =
     ∙ sym (whole_behind (length sizes) 0 sizes starts lengths (0 ∷ []) (omega arith) f g (λ k p q. w k (omega arith) q))
     ∙ numbers_behind-start sizes starts lengths
 
+-- one run that isn't empty
 pub one_filled : (len : ℕ) → 0 < len → All (λ (run : ℕ × ℕ). 0 < run.1) ((0, len) ∷ [])
 one_filled len h = All-push (λ (run : ℕ × ℕ). 0 < run.1) [] (0, len) (λ k d l. absurd (omega arith)) h
 
+-- a row that stands for something
 pub positive_whole : (a b : ℕ) → 0 < a → 0 < b → 0 < a * b
 positive_whole a b p q =
     let one : 1 ≤ a = p in

@@ -40,8 +40,18 @@ pub fn is_box_inside(sizes: &[u64], starts: &[u64], lengths: &[u64]) -> bool
     true
 }
 
-/// One axis more: each front over the axes before is followed by its row. What stood in `rows`
-/// before is gone; its room is used again.
+/// One axis more, on which the box has one index: each front gives way to the number behind it.
+fn step_fronts(fronts: &mut [u64], size: u64, start: u64)
+    requires { (k : ℕ) → k < length fronts.old → slice_index fronts.old k * size + start + 1 < 2 ^ 64 }
+    ensures { fronts.new ≡ flat_map (λ front. range_with_len (front * size + start) 1) fronts.old }
+{
+    for index in 0..fronts.len() {
+        fronts[index] = fronts[index] * size + start;
+    }
+}
+
+/// One axis more: each front is followed by its row. What stood in `rows` before is gone, and its
+/// room is used again.
 fn write_rows(
     rows: &mut Vec<u64>,
     fronts: &[u64],
@@ -58,6 +68,27 @@ fn write_rows(
         let row = *front * size + start;
         rows.extend(row..row + len)?;
     }
+    Ok(())
+}
+
+/// The fronts over one axis more. `rows` is room for them, which is left for the next axis. An axis
+/// with one index is done in place, since a shape may have very many of them.
+fn next_fronts(
+    fronts: &mut Vec<u64>,
+    rows: &mut Vec<u64>,
+    size: u64,
+    start: u64,
+    len: u64,
+) -> Result<(), AllocError>
+    requires { (k : ℕ) → k < length fronts.old.items → slice_index fronts.old.items k * size + start + len < 2 ^ 64 }
+    ensures { OnOk result (fronts.new.items ≡ flat_map (λ front. range_with_len (front * size + start) len) fronts.old.items) }
+{
+    if len == 1 {
+        step_fronts(fronts.as_mut_slice(), size, start);
+        return Ok(());
+    }
+    write_rows(rows, fronts.as_slice(), size, start, len)?;
+    mem::swap(fronts, rows);
     Ok(())
 }
 
@@ -82,14 +113,8 @@ fn box_fronts(
     let mut fronts = vec![in alloc; 0]?;
     let mut rows = Vec::new(alloc);
     for axis in 0..axes {
-        write_rows(
-            &mut rows,
-            fronts.as_slice(),
-            sizes[axis],
-            starts[axis],
-            lengths[axis],
-        )?;
-        mem::swap(&mut fronts, &mut rows);
+        let len = lengths[axis];
+        next_fronts(&mut fronts, &mut rows, sizes[axis], starts[axis], len)?;
     }
     Ok(fronts)
 }
@@ -115,8 +140,8 @@ pub fn box_places(
     box_fronts(alloc, sizes, starts, lengths, sizes.len())
 }
 
-/// How many of the first axes there are up to the last one that the box doesn't cover whole.
-fn axes_before_whole(sizes: &[u64], starts: &[u64], lengths: &[u64]) -> usize
+/// How many axes stand before those at the end that the box covers whole.
+fn outer_axes(sizes: &[u64], starts: &[u64], lengths: &[u64]) -> usize
     requires starts { length starts.now ≡ length sizes.now }
     requires lengths { length lengths.now ≡ length sizes.now }
     ensures axes { result ≤ length sizes.now }
@@ -131,8 +156,8 @@ fn axes_before_whole(sizes: &[u64], starts: &[u64], lengths: &[u64]) -> usize
     axes
 }
 
-/// The product of sizes that are part of a chunk that can be numbered.
-fn small_product(sizes: &[u64]) -> u64
+/// The product of sizes, where the caller knows that 64 bits hold it.
+fn known_product(sizes: &[u64]) -> u64
     requires { product sizes.now < 2 ^ 64 }
     ensures { result ≡ product sizes.now }
 {
@@ -142,8 +167,8 @@ fn small_product(sizes: &[u64]) -> u64
     }
 }
 
-/// The runs of a box inside the sizes. Axes at the end that the box covers whole join into one
-/// run; there is one run for each row of the last axis before them.
+/// The runs of a box inside the sizes. Axes at the end that the box covers whole join, so there is
+/// one run for each row of the last axis before them, or one alone where it covers all axes.
 pub fn box_runs(
     alloc: Global,
     sizes: &[u64],
@@ -162,17 +187,17 @@ pub fn box_runs(
     if lengths.contains(&0) {
         return Ok(Vec::new(alloc));
     }
-    let axes = axes_before_whole(sizes, starts, lengths);
+    let axes = outer_axes(sizes, starts, lengths);
     if axes == 0 {
         let mut runs = Vec::new(alloc);
-        runs.push((0, small_product(sizes)))?;
+        runs.push((0, known_product(sizes)))?;
         return Ok(runs);
     }
     let last = axes - 1;
     let fronts = box_fronts(alloc, sizes, starts, lengths, last)?;
     let size = sizes[last];
     let start = starts[last];
-    let whole = small_product(&sizes[axes..]);
+    let whole = known_product(&sizes[axes..]);
     let len = lengths[last] * whole;
     let mut runs = Vec::with_capacity(alloc, fronts.len())?;
     for front in &fronts {

@@ -1,4 +1,4 @@
-ghost use Rattle.std.specs.Prelude.{◌≡◌, ◌<◌, ◌^◌, true, option_map};
+ghost use Rattle.std.specs.Prelude.{◌≡◌, ◌<◌, ◌^◌, true, length, option_map, All, SomeIff};
 ghost use Rattle.zarrs_chunk.specs.Answer.{AnswersBy, memory, no_refusal};
 ghost use Rattle.zarrs_chunk.specs.ChunkShape.{product};
 ghost use Rattle.zarrs_chunk.specs.Indices.{number_of_tuple, IsTupleOfNumber};
@@ -26,18 +26,23 @@ pub fn is_tuple_inside(sizes: &[u64], tuple: &[u64]) -> bool
     true
 }
 
-/// The row-major number of a tuple that lies inside the sizes of a chunk that can be numbered.
-pub fn row_major(sizes: &[u64], tuple: &[u64]) -> u64
-    requires inside { tuple_inside sizes.now tuple.now ≡ true }
+/// The place of a tuple in a chunk whose elements 64 bits count, or `None` where it lies outside.
+pub fn place_inside(sizes: &[u64], tuple: &[u64]) -> Option<u64>
+    requires axes { length tuple.now ≡ length sizes.now }
+    requires positive { All (λ size. 0 < size) sizes.now }
     requires fits { product sizes.now < 2 ^ 64 }
-    ensures number { result ≡ row_major_of sizes.now tuple.now }
-    ensures below { result < product sizes.now }
+    ensures value { SomeIff result (tuple_inside sizes.now tuple.now ≡ true) (row_major_of sizes.now tuple.now) }
 {
-    let mut number = 0;
+    let mut place = 0;
     for axis in 0..sizes.len() {
-        number = number * sizes[axis] + tuple[axis];
+        let size = sizes[axis];
+        let index = tuple[axis];
+        if index >= size {
+            return None;
+        }
+        place = place * size + index;
     }
-    number
+    Some(place)
 }
 
 /// The row-major number of a tuple in a chunk. `None` where the tuple lies outside, or has another

@@ -8,6 +8,7 @@ mod array_subset;
 mod boxes;
 mod chunk_shape;
 mod codec_error;
+mod index_lists;
 mod indexer;
 mod indices;
 pub mod laws;
@@ -19,6 +20,3 @@ pub use codec_error::{CodecError, CodecName, StorageError};
 pub use indexer::Indexer;
 pub use indices::{ArrayIndices, ravel_indices, unravel_index};
 pub use runs::runs_of_places;
-
-#[cfg(test)]
-mod tests;

@@ -29,6 +29,19 @@ fn run_length(places: &[u64]) -> usize
     places.len()
 }
 
+/// How many runs these places make: one for each place that doesn't follow the one before it.
+fn count_runs(places: &[u64]) -> usize
+    ensures { result ≤ length places.now }
+{
+    let mut count = 0;
+    for index in 0..places.len() {
+        if index == 0 || !follows(places[index - 1], places[index]) {
+            count += 1;
+        }
+    }
+    count
+}
+
 /// These places in runs of a start and a length, in their order. Neighbours that follow one another
 /// are one run, so there are no more runs than places, and none is empty. Refusals: `OutOfMemory`.
 pub fn runs_of_places(alloc: Global, places: &[u64]) -> Result<Vec<(u64, u64)>, CodecError>
@@ -38,7 +51,7 @@ pub fn runs_of_places(alloc: Global, places: &[u64]) -> Result<Vec<(u64, u64)>, 
     ensures count { IfOk result (λ v. length v.items ≤ length places.now) }
     ensures no_fault { is_fault result ≡ false }
 {
-    let mut runs = Vec::new(alloc);
+    let mut runs = Vec::with_capacity(alloc, count_runs(places))?;
     let mut at = 0;
     while at < places.len() {
         let len = run_length(&places[at..]);

@@ -1,4 +1,4 @@
-use Rattle.std.proofs.Common.{◌≡◌, ◌+◌, ◌-◌, get_or, arith, refl}
+use Rattle.std.proofs.Common.{◌≡◌, ◌+◌, ◌-◌, get_or, arith}
 use Rattle.zarrs_chunk.proofs.Consecutive.{run_more}
 use Rattle.zarrs_chunk.proofs.runs.run_length.Goals as goal
 

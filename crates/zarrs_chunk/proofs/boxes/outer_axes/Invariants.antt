@@ -1,6 +1,6 @@
 use Rattle.std.proofs.Common.{◌≤◌}
 use Rattle.zarrs_chunk.specs.Levels.{AreWhole}
-use Rattle.zarrs_chunk.proofs.boxes.axes_before_whole.Given as goal
+use Rattle.zarrs_chunk.proofs.boxes.outer_axes.Given as goal
 
 abbrev pub invariant-loop-index : goal.invariant-loop-index
 invariant-loop-index l = record {
