@@ -7,7 +7,7 @@ use Rattle.std.proofs.lemmas.List.Sorted.{IsPermutation-refl, IsPermutation-sym,
 use Rattle.std.proofs.lemmas.List.{nil_from_length, get_or_default}
 use Rattle.std.proofs.lemmas.Bool.{cases_lt}
 
--- the list has each number from one on, so many of them
+-- the list has each of the `count` numbers from `from` on
 abbrev pub Names : ℕ → ℕ → List ℕ → Type 0
 Names from count xs = (q : ℕ) → from ≤ q → q < from + count → (k : ℕ) × (k < length xs) × (get_or xs k 0 ≡ q)
 
@@ -30,7 +30,7 @@ Names-remove from count xs i names l e = λ q low high.
           | inr more ↦ (let same : i ≡ suc k = omega arith in absurd (let g : get_or xs (suc k) 0 ≡ from = ap (λ n. get_or xs n 0) (sym same) ∙ e in omega arith))
         ]
 
--- a list that has each of as many numbers as it is long has them in another order
+-- a list that has each of as many numbers as it is long has them in some order
 pub named_permutation : (count from : ℕ) (xs : List ℕ) → length xs ≡ count → Names from count xs → IsPermutation (range_with_len from count) xs
 named_permutation zero from xs e names = IsPermutation-of_nil xs (nil_from_length xs e)
   where

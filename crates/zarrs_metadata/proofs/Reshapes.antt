@@ -1,7 +1,7 @@
 -- What the sizes of a reshape are.
 use Rattle.std.proofs.Common.{◌≡◌, ◌==◌, not, nat_le, ℕ, zero, suc, ◌<◌, ◌≤◌, true, List, [], ◌∷◌, Some, arith, refl, subst}
 use Rattle.std.specs.Prelude.{slice_get}
-use Rattle.std.proofs.lemmas.Bool.{and_parts, and_from}
+use Rattle.std.proofs.lemmas.Bool.{and_parts, and_from, leb-true, le-leb}
 use Rattle.std.proofs.lemmas.Bool.Decides.{nat_tests}
 use Rattle.zarrs_metadata.specs.Dims.{Dim, size, auto, input_dims, is_nonzero, has_no_zero, autos, is_reshape, IsReshape}
 
@@ -10,12 +10,6 @@ nonzero_positive n h = grind (arith, nat_tests)
 
 positive_nonzero : (n : ℕ) → 0 < n → not (n == 0) ≡ true
 positive_nonzero n h = grind (arith, nat_tests)
-
-le_true : (a b : ℕ) → nat_le a b ≡ true → a ≤ b
-le_true a b h = grind (arith, nat_tests)
-
-true_le : (a b : ℕ) → a ≤ b → nat_le a b ≡ true
-true_le a b h = grind (arith, nat_tests)
 
 -- ---- no number is zero
 
@@ -75,7 +69,7 @@ few_autos_from (auto ∷ dims) h =
 pub reshape_parts : (dims : List Dim) → is_reshape dims ≡ true → IsReshape dims
 reshape_parts dims h =
     let parts = and_parts (nat_le (autos dims) 1) (has_no_zero dims) h in
-    record { positive = positive_at dims parts.1; one_auto = one_auto_at dims (le_true (autos dims) 1 parts.0) }
+    record { positive = positive_at dims parts.1; one_auto = one_auto_at dims (leb-true (autos dims) 1 parts.0) }
 
 pub reshape_from : (dims : List Dim) → IsReshape dims → is_reshape dims ≡ true
-reshape_from dims r = and_from _ _ (true_le (autos dims) 1 (few_autos_from dims r.one_auto)) (no_zero_from dims r.positive)
+reshape_from dims r = and_from _ _ (le-leb (autos dims) 1 (few_autos_from dims r.one_auto)) (no_zero_from dims r.positive)
