@@ -1,14 +1,13 @@
 -- What a valid container holds are elements of its type.
-use Rattle.std.proofs.Common.{◌≡◌, ℕ, zero, suc, ◌<◌, List, length, map, get_or, slice_index, Ok, sym, subst, arith}
-use Rattle.std.specs.List.{All, range_with_len}
+use Rattle.std.proofs.Common.{◌≡◌, ℕ, zero, suc, ◌<◌, length, slice_index, Ok, sym, subst, arith}
 use Rattle.std.proofs.lemmas.List.FromFn.{get_or-map-range_with_len, length-map-range_with_len}
 use Rattle.std.proofs.lemmas.Nat.{row_fits}
 use Rattle.zarrs_chunk.specs.declared.codec_error.CodecError.TheVariants.{InvalidBytesLength}
 use Rattle.zarrs_data_type.specs.ElementType.{ElementType, fixed, text, bytes, optional, element_size}
-use Rattle.zarrs_data_type.specs.Element.{Element, absent, Chunk, IsElement, AreElements}
+use Rattle.zarrs_data_type.specs.Element.{Element, IsElement, AreElements}
 use Rattle.zarrs_array_bytes.specs.Held.{Held, flen, vlen, masked}
 use Rattle.zarrs_array_bytes.specs.Elements.{under_flag, element_at, elements}
-use Rattle.zarrs_array_bytes.specs.Validity.{LengthRefusal, levels_fit, Holds}
+use Rattle.zarrs_array_bytes.specs.Validity.{LengthRefusal, levels_fit}
 use Rattle.zarrs_array_bytes.specs.Laws.{HeldAreElements}
 use Rattle.zarrs_array_bytes.proofs.ElementLemmas.{length_piece}
 use Rattle.zarrs_array_bytes.proofs.ValidLemmas.{both_ok, length_found}

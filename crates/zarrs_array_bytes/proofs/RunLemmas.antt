@@ -127,9 +127,10 @@ run_offset : (offsets : List ℕ) (first count k d : ℕ) → first + count < le
     → (k < count) × (get_or (take (first + count + 1 - (first + 1)) (drop (first + 1) offsets)) k d ≡ slice_index offsets (first + 1 + k))
 run_offset offsets first count k d inside l =
     let n : first + count + 1 - (first + 1) ≡ count = omega arith in
-    let short : k < count = omega (arith, length-take (first + count + 1 - (first + 1)) (drop (first + 1) offsets)) in
-    (short,
-        get_or-take (first + count + 1 - (first + 1)) (drop (first + 1) offsets) k d (omega arith) ∙ get_or-drop (first + 1) offsets k d ∙ get_or_default_zero offsets (first + 1 + k) d (omega arith))
+    let short : k < count = omega (arith, length-take (first + count + 1 - (first + 1)) (drop (first + 1) offsets)) in (
+      short,
+      get_or-take (first + count + 1 - (first + 1)) (drop (first + 1) offsets) k d (omega arith) ∙ get_or-drop (first + 1) offsets k d ∙ get_or_default_zero offsets (first + 1 + k) d (omega arith),
+    )
 
 pub run_offsets_behind : (offsets : List ℕ) → is_offsets offsets ≡ true → (first count : ℕ) → first + count < length offsets
     → All (λ offset. slice_index offsets first ≤ offset) (take (first + count + 1 - (first + 1)) (drop (first + 1) offsets))

@@ -15,3 +15,6 @@ pub mod Sources
 pub mod Update
 pub mod Chunks
 pub mod Laws
+pub use Rattle.zarrs_chunk.specs.Answer
+pub use Rattle.zarrs_chunk.specs.Indexer
+pub use Rattle.zarrs_chunk.specs.Runs

@@ -73,8 +73,12 @@ impl<'a> ArrayBytes<'a> {
                 Ok(ArrayBytes::new_flen(CowSlice::Owned(bytes)))
             }
             Parts::Variable(bytes, offsets) => {
-                let (bytes, offsets) =
-                    gather_cuts(alloc, bytes.as_slice(), offsets.as_slice(), runs)?;
+                let (bytes, offsets) = gather_cuts(
+                    alloc,
+                    bytes.as_slice(),
+                    offsets.as_slice(),
+                    runs,
+                )?;
                 Ok(ArrayBytes::of_variable(bytes, offsets))
             }
             Parts::Optional(inner, mask) => {

@@ -63,7 +63,14 @@ pub(crate) fn gather_cuts(
     let mut ends = Vec::with_capacity(alloc, bytes_of_runs(runs, 1).saturating_add(1))?;
     ends.push(0)?;
     for run in runs {
-        append_cuts(&mut out, &mut ends, bytes, offsets, run.0 as usize, run.1 as usize)?;
+        append_cuts(
+            &mut out,
+            &mut ends,
+            bytes,
+            offsets,
+            run.0 as usize,
+            run.1 as usize,
+        )?;
     }
     Ok((out, ends))
 }

@@ -21,8 +21,8 @@ returns t c =
     = c.as_slice.ensures.value ∙ c.in_ok-append_each.ensures.appended ∙ ap (λ (xs : List ℕ). xs ++ copies bytes 16) c.in_ok-block.ensures.items in
     let all : c.append_blocks.new.out.items ++ rest ≡ old ++ copies bytes count
     = ap (λ (xs : List ℕ). xs ++ rest) c.in_ok-append_blocks.ensures.appended
-      ∙ append_assoc old (copies block (count / 16)) rest
-      ∙ ap (λ (xs : List ℕ). old ++ xs) (copies-blocks bytes block 16 count is) in
+    ∙ append_assoc old (copies block (count / 16)) rest
+    ∙ ap (λ (xs : List ℕ). old ++ xs) (copies-blocks bytes block 16 count is) in
     record {
       appended = subst (λ (xs : List ℕ). OnOk c.append_each-3.result (c.append_each-3.new.out.items ≡ xs)) all c.append_each-3.ensures.appended;
     }

@@ -1,4 +1,4 @@
-use Rattle.std.proofs.Common.{◌+◌, ◌*◌, ◌-◌, rules, arith}
+use Rattle.std.proofs.Common.{◌+◌, ◌*◌, rules, arith}
 use Rattle.std.proofs.lemmas.Iterator.{YieldsList-from_range, YieldsList-from_map}
 use Rattle.std.proofs.lemmas.Iterator.Adapters.{items_from_extend}
 use Rattle.zarrs_array_bytes.proofs.repeat.append_ends.Goals as goal

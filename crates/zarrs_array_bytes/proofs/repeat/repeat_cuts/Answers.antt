@@ -1,7 +1,6 @@
-use Rattle.std.proofs.Common.{◌≡◌, ℕ, List, [], ◌∷◌, ◌+◌, ◌*◌, ◌++◌, Ok, length, map, replicate, sym, ap, ap₂, ◌∙◌, arith}
+use Rattle.std.proofs.Common.{◌≡◌, ℕ, List, [], ◌∷◌, ◌+◌, ◌*◌, ◌++◌, Ok, length, map, sym, ap, ap₂, ◌∙◌, arith}
 use Rattle.std.specs.List.{range_with_len}
 use Rattle.zarrs_array_bytes.specs.Filled.{copies}
-use Rattle.zarrs_array_bytes.specs.Pieces.{ends}
 use Rattle.zarrs_array_bytes.proofs.FillLemmas.{length-copies, ends-replicate}
 use Rattle.zarrs_array_bytes.proofs.repeat.repeat_cuts.Goals as goal
 
