@@ -1,5 +1,5 @@
 ghost use Rattle.std.specs.Prelude.{◌≡◌};
-ghost use Rattle.zarrs_bytes.specs.BytesRepresentation.{greatest_size};
+ghost use Rattle.zarrs_codec.specs.BytesRepresentation.{greatest_size};
 
 /// How many bytes an encoded chunk has.
 #[derive(Clone, Copy, Debug, PartialEq, Eq)]
@@ -15,7 +15,7 @@ pub enum BytesRepresentation {
 impl BytesRepresentation {
     /// The number of bytes, or the greatest one; `None` where there is no bound.
     pub fn size(&self) -> Option<u64>
-        ensures { result ≡ greatest_size self.now }
+        ensures value { result ≡ greatest_size self.now }
     {
         match self {
             BytesRepresentation::FixedSize(size) | BytesRepresentation::BoundedSize(size) => {

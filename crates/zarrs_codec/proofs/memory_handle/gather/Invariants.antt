@@ -1,7 +1,7 @@
 use Rattle.std.proofs.Common.{◌≡◌, ◌++◌, drop, length, nat_le}
 use Rattle.std.specs.List.{list_all}
-use Rattle.zarrs_bytes.specs.ByteRanges.{bytes_in_ranges}
-use Rattle.zarrs_bytes.proofs.codec.memory_handle.gather.Given as goal
+use Rattle.zarrs_codec.specs.ByteRanges.{bytes_in_ranges}
+use Rattle.zarrs_codec.proofs.memory_handle.gather.Given as goal
 
 abbrev pub invariant-loop-range : goal.invariant-loop-range
 invariant-loop-range l = record {

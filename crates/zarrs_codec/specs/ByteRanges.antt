@@ -4,7 +4,7 @@ use Rattle.std.specs.List.{between, flat_map, list_all, range_with_len}
 use Rattle.zarrs_chunk.specs.Answer.{◌>>=◌, demand}
 use Rattle.zarrs_chunk.specs.declared.codec_error.CodecError.{CodecError}
 use Rattle.zarrs_chunk.specs.declared.codec_error.CodecError.TheVariants.{InvalidByteRange}
-use Rattle.zarrs_bytes.specs.ByteSpan.{ByteSpan}
+use Rattle.zarrs_codec.specs.ByteSpan.{ByteSpan}
 
 -- the numbers of the ranges' bytes, in order
 abbrev pub range_indices : List ByteSpan → List ℕ
@@ -14,13 +14,13 @@ range_indices ranges = flat_map (λ range. range_with_len range.start (range.end
 abbrev pub bytes_in_ranges : List ℕ → List ByteSpan → List ℕ
 bytes_in_ranges value ranges = flat_map (λ range. between range.start range.end value) ranges
 
--- the same, where each range ends inside the value
+-- what reading ranges of a value answers: their bytes, where each range ends inside it
 abbrev pub read_value : List ℕ → List ByteSpan → Result (List ℕ) CodecError
 read_value value ranges = do
   _ ← demand (list_all (λ range. nat_le range.end (length value)) ranges) InvalidByteRange
   Ok (bytes_in_ranges value ranges)
 
--- the same, where a value is stored
+-- what reading ranges of a handle answers: none, where nothing is stored
 abbrev pub read_ranges : Option (List ℕ) → List ByteSpan → Result (Option (List ℕ)) CodecError
 read_ranges None ranges = Ok None
 read_ranges (Some value) ranges = do

@@ -1,4 +1,9 @@
-//! What codecs to bytes share: ranges of bytes, representations, and storage handles.
+//! What all codecs share: storage handles and ranges of their bytes, and how long encoded bytes
+//! are.
+//!
+//! A coder that reads a chunk in part does so over a storage handle, a
+//! [`BytesPartialDecoderTraits`]. [`MemoryHandle`] is one whose value is in memory.
+#![tactic(auto)]
 
 mod byte_range;
 mod bytes_partial_decoder_traits;

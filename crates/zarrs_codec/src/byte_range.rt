@@ -12,7 +12,7 @@ pub struct ByteRange {
 
 impl Model for ByteRange {
     ghost use Rattle.std.specs.Prelude.{◌≤◌};
-    ghost use Rattle.zarrs_bytes.specs.ByteSpan.{ByteSpan};
+    ghost use Rattle.zarrs_codec.specs.ByteSpan.{ByteSpan};
 
     ghost Value = { ByteSpan };
 
@@ -26,7 +26,7 @@ impl Model for ByteRange {
 impl ByteRange {
     /// The range from `start`, up to and without `end`, or `None` where it ends before it starts.
     pub fn new(range: Range<u64>) -> Option<ByteRange>
-        ensures { MatchOption result (range.end < range.start) (λ made. made ≡ record { start = range.start; end = range.end }) }
+        ensures answer { MatchOption result (range.end < range.start) (λ made. made ≡ record { start = range.start; end = range.end }) }
     {
         if range.start <= range.end {
             Some(ByteRange {
@@ -40,7 +40,7 @@ impl ByteRange {
 
     /// The number of the first byte.
     pub fn start(&self) -> u64
-        ensures { result ≡ self.now.start }
+        ensures value { result ≡ self.now.start }
     {
         self.start
     }

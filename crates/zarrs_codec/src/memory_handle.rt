@@ -1,15 +1,18 @@
-ghost use Rattle.std.specs.Prelude.{◌≡◌, ◌++◌, OnOk, true, false, Some, None};
+ghost use Rattle.std.specs.Prelude.{◌≡◌, ◌++◌, IfOk, IfErr, OnOk, true, false, Some, None, length, nat_le};
+ghost use Rattle.std.specs.List.{between};
 ghost use Rattle.std.specs.Option.{option_map};
 ghost use Rattle.zarrs_chunk.specs.Answer.{Answers, memory, is_fault};
-ghost use Rattle.zarrs_bytes.specs.ByteRanges.{read_value};
+ghost use Rattle.zarrs_codec.specs.ByteRanges.{read_value};
 
-use crate::codec::byte_range::ByteRange;
-use crate::codec::bytes_partial_decoder_traits::BytesPartialDecoderTraits;
+use crate::byte_range::ByteRange;
+use crate::bytes_partial_decoder_traits::BytesPartialDecoderTraits;
 use std::alloc::{AllocError, Global};
 use zarrs_chunk::CodecError;
 
-/// How many bytes to reserve for ranges of a value of `len` bytes.
-fn room_of(len: usize, ranges: &[ByteRange]) -> usize {
+/// How many bytes to reserve for the ranges of a value of `len` bytes, so that the answer never
+/// grows: as many as the ranges have. None where one of them is to be refused, as then nothing is
+/// read.
+fn room_for(len: usize, ranges: &[ByteRange]) -> usize {
     let mut room: u64 = 0;
     for range in ranges {
         if range.end() > len as u64 {
@@ -20,7 +23,8 @@ fn room_of(len: usize, ranges: &[ByteRange]) -> usize {
     room as usize
 }
 
-/// Appends a piece. The sizes of most elements are constants here, so that one is a single move.
+/// Appends a piece. The sizes of most elements are constants here, so that each of these is a
+/// single move and no call to copy.
 #[inline(always)]
 fn append_piece(bytes: &mut Vec<u8>, piece: &[u8]) -> Result<(), AllocError>
     ensures { OnOk result (bytes.new.items ≡ bytes.old.items ++ piece.now) }
@@ -34,49 +38,59 @@ fn append_piece(bytes: &mut Vec<u8>, piece: &[u8]) -> Result<(), AllocError>
     }
 }
 
+/// A range's bytes of a value.
+#[inline(always)]
+fn piece_of<'a>(value: &'a [u8], range: &ByteRange) -> Result<&'a [u8], CodecError>
+    ensures inside { IfOk result (λ piece. (piece.now ≡ between range.now.start range.now.end value.now) × (nat_le range.now.end (length value.now) ≡ true)) }
+    ensures outside { IfErr result (λ error. (error ≡ CodecError.InvalidByteRange) × (nat_le range.now.end (length value.now) ≡ false)) }
+{
+    let start = range.start() as usize;
+    let end = range.end() as usize;
+    if value.len() < end {
+        return Err(CodecError::InvalidByteRange);
+    }
+    Ok(&value[start..end])
+}
+
 /// The ranges' bytes of a value, joined in order.
 fn gather(alloc: Global, value: &[u8], ranges: &[ByteRange]) -> Result<Vec<u8>, CodecError>
     ensures answer { Answers memory (λ bytes. bytes.items) result (read_value value.now ranges.now) }
     ensures no_fault { is_fault result ≡ false }
 {
-    let mut bytes = Vec::with_capacity(alloc, room_of(value.len(), ranges))?;
+    let mut bytes = Vec::with_capacity(alloc, room_for(value.len(), ranges))?;
     for range in ranges {
-        let start = range.start() as usize;
-        let end = range.end() as usize;
-        if value.len() < end {
-            return Err(CodecError::InvalidByteRange);
-        }
-        append_piece(&mut bytes, &value[start..end])?;
+        append_piece(&mut bytes, piece_of(value, range)?)?;
     }
     Ok(bytes)
 }
 
-/// A handle whose value is in memory. It never fails, but for want of memory.
+/// A handle whose value is in memory. It never fails, but for want of memory, so all of its bytes
+/// are sure.
 #[derive(Drop)]
 pub struct MemoryHandle {
     value: Option<Vec<u8>>,
 }
 
 impl MemoryHandle {
-    ghost use Rattle.zarrs_bytes.specs.MemoryHandle.{stored};
+    ghost use Rattle.zarrs_codec.specs.MemoryHandle.{stored};
 
     /// A handle without a value.
     pub fn new() -> MemoryHandle
-        ensures { stored result ≡ None }
+        ensures made { stored result ≡ None }
     {
         MemoryHandle { value: None }
     }
 
     /// A handle with this value.
     pub fn with_value(value: Vec<u8>) -> MemoryHandle
-        ensures { stored result ≡ Some value.items }
+        ensures made { stored result ≡ Some value.items }
     {
         MemoryHandle { value: Some(value) }
     }
 
     /// The value, or `None`.
     pub fn value(&self) -> Option<&[u8]>
-        ensures { option_map (λ bytes. bytes.now) result ≡ stored self.now }
+        ensures value { option_map (λ bytes. bytes.now) result ≡ stored self.now }
     {
         match &self.value {
             None => None,
@@ -86,15 +100,15 @@ impl MemoryHandle {
 
     /// The value, or `None`, without the handle.
     pub fn into_value(self) -> Option<Vec<u8>>
-        ensures { option_map (λ bytes. bytes.items) result ≡ stored self }
+        ensures value { option_map (λ bytes. bytes.items) result ≡ stored self }
     {
         self.value
     }
 }
 
 impl BytesPartialDecoderTraits for MemoryHandle {
-    ghost use Rattle.zarrs_bytes.specs.HandleState.{held_bytes};
-    ghost use Rattle.zarrs_bytes.specs.MemoryHandle.{stored, memory_state};
+    ghost use Rattle.zarrs_codec.specs.StorageState.{held_bytes};
+    ghost use Rattle.zarrs_codec.specs.MemoryHandle.{stored, memory_state};
 
     ghost state = { memory_state };
 

@@ -1,0 +1,6 @@
+pub mod ByteRanges
+pub mod ByteSpan
+pub mod BytesRepresentation
+pub mod MemoryHandle
+pub mod Refused
+pub mod StorageState
