@@ -19,10 +19,10 @@ use Rattle.zarrs_array_bytes.specs.Validity.{Holds}
 use Rattle.zarrs_array_bytes.specs.Pieces.{pieces}
 use Rattle.zarrs_array_bytes.proofs.Pieces.{AllSized, length-concat, pieces-concat}
 use Rattle.zarrs_bytes.specs.ByteOrder.{turned, ordered}
-use Rattle.zarrs_bytes.specs.ByteRanges.{range_indices, read_ranges}
+use Rattle.zarrs_codec.specs.ByteRanges.{range_indices, read_ranges}
 use Rattle.zarrs_bytes.specs.BytesCodec.{element_read, turn_size}
 use Rattle.zarrs_bytes.specs.PartialRead.{place_bytes, size_of, IsFilledType, read_places}
-use Rattle.zarrs_bytes.specs.ByteSpan.{ByteSpan}
+use Rattle.zarrs_codec.specs.ByteSpan.{ByteSpan}
 use Rattle.zarrs_bytes.proofs.Coding.{ok}
 use Rattle.zarrs_bytes.proofs.Ranges.{read_value-places}
 use Rattle.zarrs_bytes.proofs.Spelled.{length-turned, turned_is, Holds-pieces}

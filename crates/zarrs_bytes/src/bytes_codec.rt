@@ -8,11 +8,11 @@ ghost use Rattle.zarrs_bytes.specs.ByteOrder.{has_order};
 ghost use Rattle.zarrs_bytes.specs.BytesCodec.{value_length, encoded, decoded, turn_size as turn_size_of, needs_memory, Stands, Written};
 
 use crate::byte_order::turn;
-use crate::codec::BytesRepresentation;
 use std::alloc::Global;
 use std::marker::Model;
 use zarrs_array_bytes::{ArrayBytes, ArrayBytesRaw};
 use zarrs_chunk::{ChunkShape, CodecError, CodecName};
+use zarrs_codec::BytesRepresentation;
 use zarrs_data_type::{DataType, Endianness, FillValue, HasComponents};
 
 /// The array codec `bytes`: a chunk's value is its elements in row-major order, each component in

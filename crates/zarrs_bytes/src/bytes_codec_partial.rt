@@ -10,19 +10,19 @@ ghost use Rattle.zarrs_array_bytes.specs.Elements.{select};
 ghost use Rattle.zarrs_array_bytes.specs.Filled.{repeated};
 ghost use Rattle.zarrs_array_bytes.specs.Held.{raw_of};
 ghost use Rattle.zarrs_array_bytes.specs.Validity.{Holds};
-ghost use Rattle.zarrs_bytes.specs.ByteRanges.{range_indices};
+ghost use Rattle.zarrs_codec.specs.ByteRanges.{range_indices};
 ghost use Rattle.zarrs_bytes.specs.BytesCodec.{value_length, Stands};
-ghost use Rattle.zarrs_bytes.specs.HandleState.{after_reading};
+ghost use Rattle.zarrs_codec.specs.StorageState.{after_reading};
 ghost use Rattle.zarrs_bytes.specs.PartialRead.{place_bytes, planned, read, read_places, size_of, IsFilledType};
-ghost use Rattle.zarrs_bytes.specs.Refused.{outcome};
+ghost use Rattle.zarrs_codec.specs.Refused.{outcome};
 
 use crate::byte_order::turn;
 use crate::bytes_codec::BytesCodec;
-use crate::codec::{ByteRange, BytesPartialDecoderTraits, Refused};
 use std::alloc::{AllocError, Global};
 use std::borrow::CowSlice;
 use zarrs_array_bytes::ArrayBytes;
 use zarrs_chunk::{ChunkShape, CodecError, Indexer};
+use zarrs_codec::{ByteRange, BytesPartialDecoderTraits, Refused};
 use zarrs_data_type::{DataType, FillValue};
 
 /// Reads a chunk of [`BytesCodec`] in part, over a storage handle that it owns. A read looks at the

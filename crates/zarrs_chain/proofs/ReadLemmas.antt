@@ -10,7 +10,7 @@ use Rattle.zarrs_array_bytes.specs.Held.{Held}
 use Rattle.zarrs_array_bytes.specs.Validity.{Holds}
 use Rattle.zarrs_bytes.specs.BytesCodec.{value_length}
 use Rattle.zarrs_bytes.specs.BytesCodecPartial.{ChunkForm}
-use Rattle.zarrs_bytes.specs.HandleState.{count_if}
+use Rattle.zarrs_codec.specs.StorageState.{count_if}
 use Rattle.zarrs_bytes.specs.PartialRead.{read}
 use Rattle.zarrs_chain.specs.declared.refusal.Refusal.{Refusal}
 use Rattle.zarrs_chain.specs.Commands.{State, part_of, read_answer}

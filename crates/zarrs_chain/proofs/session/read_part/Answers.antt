@@ -2,7 +2,7 @@ use Rattle.std.proofs.Common.{◌≡◌, ap}
 use Rattle.zarrs_chunk.specs.Answer.{is_fault}
 use Rattle.zarrs_chunk.specs.Indexer.{selection_of}
 use Rattle.zarrs_bytes.specs.BytesCodecPartial.{form_of, handle_of}
-use Rattle.zarrs_bytes.specs.MemoryHandle.{stored}
+use Rattle.zarrs_codec.specs.MemoryHandle.{stored}
 use Rattle.zarrs_chain.proofs.ReadLemmas.{no_fault, part_read}
 use Rattle.zarrs_chain.proofs.session.read_part.Goals as goal
 
