@@ -11,9 +11,9 @@ ghost use Rattle.zarrs_array_bytes.specs.Filled.{repeated};
 ghost use Rattle.zarrs_array_bytes.specs.Held.{raw_of};
 ghost use Rattle.zarrs_array_bytes.specs.Validity.{Holds};
 ghost use Rattle.zarrs_codec.specs.ByteRanges.{range_indices};
-ghost use Rattle.zarrs_bytes.specs.BytesCodec.{value_length, Stands};
+ghost use Rattle.zarrs_bytes.specs.BytesCodec.{bytes_length, BytesStands};
 ghost use Rattle.zarrs_codec.specs.StorageState.{after_reading};
-ghost use Rattle.zarrs_bytes.specs.PartialRead.{place_bytes, planned, read, read_places, size_of, IsFilledType};
+ghost use Rattle.zarrs_bytes.specs.PartialRead.{place_bytes, bytes_plan, bytes_read, read_places, place_size, IsFilledType};
 ghost use Rattle.zarrs_codec.specs.Refused.{outcome};
 
 use crate::byte_order::turn;
@@ -35,7 +35,7 @@ pub struct BytesCodecPartial<H> {
     shape: ChunkShape,
     data_type: DataType,
     fill_value: FillValue,
-    ghost taken: { is_ok (value_length codec shape data_type fill_value) ≡ true },
+    ghost taken: { is_ok (bytes_length codec shape data_type fill_value) ≡ true },
 }
 
 /// One range of bytes for each run of elements of `size` bytes.
@@ -112,7 +112,7 @@ fn fill_runs(alloc: Global, fill: &[u8], runs: &[(u64, u64)]) -> Result<Vec<u8>,
 }
 
 impl BytesCodec {
-    ghost use Rattle.zarrs_bytes.specs.BytesCodecPartial.{form_of, handle_of};
+    ghost use Rattle.zarrs_bytes.specs.BytesCodecPartial.{bytes_form_of, bytes_handle_of};
 
     /// The elements at the places of these runs, by the ranges of their bytes.
     fn read_ranges<H: BytesPartialDecoderTraits>(
@@ -125,7 +125,7 @@ impl BytesCodec {
         ranges: &[ByteRange],
     ) -> Result<ArrayBytes<'static>, CodecError>
         requires fixed { IsFilledType data_type.now fill.now }
-        requires bytes { range_indices ranges.now ≡ place_bytes (size_of data_type.now) (joined_runs runs.now) }
+        requires bytes { range_indices ranges.now ≡ place_bytes (place_size data_type.now) (joined_runs runs.now) }
         requires filled { All (λ range. range.start < range.end) ranges.now }
         ensures answer { AnswersBy memory_or_fault (Holds data_type.now) result (read_places self.now data_type.now fill.now (H.state handle.old).value (joined_runs runs.now)) }
         ensures left { H.state handle.new ≡ after_reading result (H.state handle.old) }
@@ -151,8 +151,8 @@ impl BytesCodec {
         data_type: &DataType,
         fill_value: &FillValue,
     ) -> Result<(ChunkShape, DataType, FillValue), CodecError>
-        ensures answer { Answers memory (λ parts. parts) result (seen (λ _. (shape.now, data_type.now, fill_value.now)) (value_length self.now shape.now data_type.now fill_value.now)) }
-        ensures taken { IfOk result (λ parts. is_ok (value_length self.now parts.0 parts.1 parts.2) ≡ true) }
+        ensures answer { Answers memory (λ parts. parts) result (seen (λ _. (shape.now, data_type.now, fill_value.now)) (bytes_length self.now shape.now data_type.now fill_value.now)) }
+        ensures taken { IfOk result (λ parts. is_ok (bytes_length self.now parts.0 parts.1 parts.2) ≡ true) }
     {
         self.encoded_representation(shape, data_type, fill_value)?;
         let shape = shape.clone()?;
@@ -171,9 +171,9 @@ impl BytesCodec {
         data_type: &DataType,
         fill_value: &FillValue,
     ) -> Result<BytesCodecPartial<H>, Refused<H>>
-        ensures answer { Answers memory (λ made. made) (outcome result) (seen (λ _. tt) (value_length self.now shape.now data_type.now fill_value.now)) }
-        ensures form { IfOk result (λ decoder. form_of decoder ≡ record { order = self.now; sizes = shape.now; type = data_type.now; fill = fill_value.now }) }
-        ensures over { IfOk result (λ decoder. handle_of decoder ≡ handle) }
+        ensures answer { Answers memory (λ made. made) (outcome result) (seen (λ _. tt) (bytes_length self.now shape.now data_type.now fill_value.now)) }
+        ensures form { IfOk result (λ decoder. bytes_form_of decoder ≡ record { order = self.now; sizes = shape.now; type = data_type.now; fill = fill_value.now }) }
+        ensures over { IfOk result (λ decoder. bytes_handle_of decoder ≡ handle) }
         ensures handed_back { IfErr result (λ refused. refused.handle ≡ handle) }
     {
         match self.parts_of_decoder(shape, data_type, fill_value) {
@@ -190,11 +190,11 @@ impl BytesCodec {
 }
 
 impl<H: BytesPartialDecoderTraits> BytesCodecPartial<H> {
-    ghost use Rattle.zarrs_bytes.specs.BytesCodecPartial.{form_of, handle_of};
+    ghost use Rattle.zarrs_bytes.specs.BytesCodecPartial.{bytes_form_of, bytes_handle_of};
 
     /// The type of the elements.
     pub fn data_type(&self) -> &DataType
-        ensures { result.now ≡ (form_of self.now).type }
+        ensures { result.now ≡ (bytes_form_of self.now).type }
     {
         &self.data_type
     }
@@ -208,12 +208,12 @@ impl<H: BytesPartialDecoderTraits> BytesCodecPartial<H> {
         alloc: Global,
         indexer: &Indexer,
     ) -> Result<ArrayBytes<'static>, CodecError>
-        ensures selected { let form = form_of self.old in (value : List ℕ) (chunk : Chunk) → (H.state (handle_of self.old)).value ≡ Some value → Stands form.order form.sizes form.type form.fill value chunk → AnswersBy memory_or_fault (Holds form.type) result (seen (select chunk) (places_of (selection_of indexer.now) form.sizes)) }
-        ensures unstored { let form = form_of self.old in (H.state (handle_of self.old)).value ≡ None → AnswersBy memory_or_fault (Holds form.type) result (seen (map (λ _. fill_element form.type form.fill)) (places_of (selection_of indexer.now) form.sizes)) }
-        ensures answer { let form = form_of self.old in AnswersBy memory_or_fault (Holds form.type) result (read form.order form.sizes form.type form.fill (H.state (handle_of self.old)).value (selection_of indexer.now)) }
-        ensures left { H.state (handle_of self.new) ≡ after_reading result (H.state (handle_of self.old)) }
-        ensures same_reference { H.lent (handle_of self.new) ≡ H.lent (handle_of self.old) }
-        ensures form_kept { form_of self.new ≡ form_of self.old }
+        ensures selected { let form = bytes_form_of self.old in (value : List ℕ) (chunk : Chunk) → (H.state (bytes_handle_of self.old)).value ≡ Some value → BytesStands form.order form.sizes form.type form.fill value chunk → AnswersBy memory_or_fault (Holds form.type) result (seen (select chunk) (places_of (selection_of indexer.now) form.sizes)) }
+        ensures unstored { let form = bytes_form_of self.old in (H.state (bytes_handle_of self.old)).value ≡ None → AnswersBy memory_or_fault (Holds form.type) result (seen (map (λ _. fill_element form.type form.fill)) (places_of (selection_of indexer.now) form.sizes)) }
+        ensures answer { let form = bytes_form_of self.old in AnswersBy memory_or_fault (Holds form.type) result (bytes_read form.order form.sizes form.type form.fill (H.state (bytes_handle_of self.old)).value (selection_of indexer.now)) }
+        ensures left { H.state (bytes_handle_of self.new) ≡ after_reading result (H.state (bytes_handle_of self.old)) }
+        ensures same_reference { H.lent (bytes_handle_of self.new) ≡ H.lent (bytes_handle_of self.old) }
+        ensures form_kept { bytes_form_of self.new ≡ bytes_form_of self.old }
     {
         let runs = indexer.runs(alloc, &self.shape)?;
         let size = self.element_size();
@@ -236,9 +236,9 @@ impl<H: BytesPartialDecoderTraits> BytesCodecPartial<H> {
         alloc: Global,
         indexer: &Indexer,
     ) -> Result<Vec<ByteRange>, CodecError>
-        ensures bytes { let form = form_of self.now in Answers memory (λ ranges. range_indices ranges.items) result (planned form.sizes form.type (selection_of indexer.now)) }
+        ensures bytes { let form = bytes_form_of self.now in Answers memory (λ ranges. range_indices ranges.items) result (bytes_plan form.sizes form.type (selection_of indexer.now)) }
         ensures filled { IfOk result (λ ranges. All (λ range. range.start < range.end) ranges.items) }
-        ensures sum { let form = form_of self.now in IfOk result (λ ranges. IfOk (places_of (selection_of indexer.now) form.sizes) (λ places. sum_by (λ range. range.end - range.start) ranges.items ≡ length places * size_of form.type)) }
+        ensures sum { let form = bytes_form_of self.now in IfOk result (λ ranges. IfOk (places_of (selection_of indexer.now) form.sizes) (λ places. sum_by (λ range. range.end - range.start) ranges.items ≡ length places * place_size form.type)) }
     {
         let runs = indexer.runs(alloc, &self.shape)?;
         let ranges = run_ranges(alloc, self.element_size() as u64, runs.as_slice())?;
@@ -247,17 +247,17 @@ impl<H: BytesPartialDecoderTraits> BytesCodecPartial<H> {
 
     /// Whether a value is stored. Refusals: `Storage`.
     pub fn exists(&mut self) -> Result<bool, CodecError>
-        ensures answer { Answers fault (λ there. there) result (Ok (is_some (H.state (handle_of self.old)).value)) }
-        ensures left { H.state (handle_of self.new) ≡ after_reading result (H.state (handle_of self.old)) }
-        ensures same_reference { H.lent (handle_of self.new) ≡ H.lent (handle_of self.old) }
-        ensures form_kept { form_of self.new ≡ form_of self.old }
+        ensures answer { Answers fault (λ there. there) result (Ok (is_some (H.state (bytes_handle_of self.old)).value)) }
+        ensures left { H.state (bytes_handle_of self.new) ≡ after_reading result (H.state (bytes_handle_of self.old)) }
+        ensures same_reference { H.lent (bytes_handle_of self.new) ≡ H.lent (bytes_handle_of self.old) }
+        ensures form_kept { bytes_form_of self.new ≡ bytes_form_of self.old }
     {
         self.handle.exists()
     }
 
     /// The bytes that the handle keeps in memory.
     pub fn size_held(&self) -> usize
-        ensures { result ≡ H.held (handle_of self.now) }
+        ensures { result ≡ H.held (bytes_handle_of self.now) }
     {
         self.handle.size_held()
     }
@@ -271,13 +271,13 @@ impl<H: BytesPartialDecoderTraits> BytesCodecPartial<H> {
 }
 
 impl<H> BytesCodecPartial<H> {
-    ghost use Rattle.zarrs_bytes.specs.BytesCodecPartial.{form_of, handle_of};
+    ghost use Rattle.zarrs_bytes.specs.BytesCodecPartial.{bytes_form_of, bytes_handle_of};
 
     /// The bytes of an element. The codec takes fixed types alone.
     fn element_size(&self) -> usize
-        ensures size { result ≡ size_of (form_of self.now).type }
+        ensures size { result ≡ place_size (bytes_form_of self.now).type }
         ensures positive { 0 < result }
-        ensures fits { product (form_of self.now).sizes * result < 2 ^ 64 }
+        ensures fits { product (bytes_form_of self.now).sizes * result < 2 ^ 64 }
     {
         match self.data_type.fixed_size() {
             Some(size) => size,
@@ -287,7 +287,7 @@ impl<H> BytesCodecPartial<H> {
 
     /// The handle, as it stands.
     pub fn into_handle(self) -> H
-        ensures { result ≡ handle_of self }
+        ensures { result ≡ bytes_handle_of self }
     {
         let BytesCodecPartial {
             handle,
