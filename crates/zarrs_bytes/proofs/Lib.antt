@@ -8,3 +8,4 @@ pub mod Ranges
 pub mod Reading
 pub mod PartReads
 pub mod Spelled
+pub mod Taken
