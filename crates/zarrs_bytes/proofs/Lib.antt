@@ -1,3 +1,4 @@
+pub mod Alike
 pub mod CodecLaws
 pub mod Coding
 pub mod ReversedPieces

@@ -6,7 +6,8 @@ use Rattle.zarrs_data_type.specs.ElementType.{ElementType}
 use Rattle.zarrs_data_type.specs.declared.endianness.Endianness.{Endianness}
 use Rattle.zarrs_array_bytes.specs.Elements.{select}
 use Rattle.zarrs_bytes.specs.BytesCodec.{bytes_length, BytesStands, BytesWritten}
-use Rattle.zarrs_bytes.specs.PartialRead.{read_places}
+use Rattle.zarrs_codec.specs.ByteRanges.{SameByte}
+use Rattle.zarrs_bytes.specs.PartialRead.{place_bytes, place_size, read_places}
 
 -- A value that is written for a chunk stands for it.
 abbrev pub WrittenStands : Type 0
@@ -38,3 +39,10 @@ ReadSelects =
     (order : Option Endianness) (sizes : List ℕ) (type : ElementType) (fill value : List ℕ) (chunk : Chunk) (places : List ℕ)
     → BytesStands order sizes type fill value chunk → All (λ place. place < length chunk) places
     → read_places order type fill (Some value) places ≡ Ok (select chunk places)
+
+-- Two values that both have all bytes of these places, and the same ones there, are read alike at these places.
+abbrev pub ReadsAlike : Type 0
+ReadsAlike =
+    (order : Option Endianness) (type : ElementType) (fill value other places : List ℕ)
+    → All (SameByte value other) (place_bytes (place_size type) places)
+    → read_places order type fill (Some value) places ≡ read_places order type fill (Some other) places

@@ -1,5 +1,5 @@
 -- The bytes of a stored value, by ranges of them.
-use Rattle.std.specs.Prelude.{ℕ, ◌-◌, nat_le, Option, Some, None, List, length, Result, Ok}
+use Rattle.std.specs.Prelude.{◌≡◌, ℕ, ◌-◌, ◌<◌, nat_le, Option, Some, None, List, length, slice_index, Result, Ok}
 use Rattle.std.specs.List.{between, flat_map, list_all, range_with_len}
 use Rattle.zarrs_chunk.specs.Answer.{◌>>=◌, demand}
 use Rattle.zarrs_chunk.specs.declared.codec_error.CodecError.{CodecError}
@@ -26,3 +26,9 @@ read_ranges None ranges = Ok None
 read_ranges (Some value) ranges = do
   bytes ← read_value value ranges
   Ok (Some bytes)
+
+-- both values have the byte of this number, and it is the same
+pub record SameByte (value other : List ℕ) (number : ℕ) : Type 0 where
+  pub in_value : number < length value
+  pub in_other : number < length other
+  pub same : slice_index value number ≡ slice_index other number
