@@ -1,5 +1,5 @@
 -- Values are written and read exactly where the grammar says.
-use Rattle.std.proofs.Common.{◌≡◌, ℕ, zero, suc, ◌*◌, ◌<◌, ◌^◌, ◌==◌, Bool, true, Option, Result, Ok, Err, List, [], ◌∷◌, length, map, get_or, nat_lt, arith, refl, ap, sym, ◌∙◌, subst}
+use Rattle.std.proofs.Common.{◌≡◌, ℕ, suc, ◌*◌, ◌^◌, ◌==◌, Bool, true, Option, Result, Ok, Err, List, [], ◌∷◌, length, map, nat_lt, arith, refl, ap, sym, ◌∙◌, subst}
 use Rattle.std.specs.List.{concat, range_with_len}
 use Rattle.std.specs.Prelude.{IsOkAnd}
 use Rattle.std.proofs.lemmas.Simd.{map-map}
