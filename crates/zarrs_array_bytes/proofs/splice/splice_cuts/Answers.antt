@@ -8,8 +8,8 @@ use Rattle.zarrs_array_bytes.proofs.Stretches.{with_parts_is}
 use Rattle.zarrs_array_bytes.proofs.Splices.{spliced, spliced_step, rising_more, cuts_update-spliced}
 use Rattle.zarrs_array_bytes.proofs.splice.splice_cuts.Goals as goal
 
-pub overflow_sub-append_cuts-in-loop-run : goal.overflow_sub-append_cuts-in-loop-run
-overflow_sub-append_cuts-in-loop-run c = (rising_more c.loop-run.at c.args.runs.now c.loop-run.run-index c.loop-run-test.true c.loop-run.invariant.rising).0
+pub overflow_sub-start : goal.overflow_sub-start
+overflow_sub-start c = (rising_more c.loop-run.at c.args.runs.now c.loop-run.run-index c.loop-run-test.true c.loop-run.invariant.rising).0
 
 pub append_cuts-requires-in-loop-run-clause-inside : goal.append_cuts-requires-in-loop-run-clause-inside
 append_cuts-requires-in-loop-run-clause-inside c =
