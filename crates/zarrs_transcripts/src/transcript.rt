@@ -1,6 +1,6 @@
 //! A transcript's runs, and what comes back where it is played.
 use std::alloc::{AllocError, Global};
-use zarrs_chain::run::{RunEnd, run};
+use zarrs_chain_lines::run::{RunEnd, run};
 
 /// What came of a transcript.
 #[derive(Drop)]
