@@ -1,6 +1,6 @@
 -- Trees of texts, and objects with one key.
 use Rattle.std.proofs.Common.{◌≡◌, ℕ, suc, List, [], ◌∷◌, length, Bool, true, false, cond, Some, None, Ok, Err, refl, ap, arith}
-use Rattle.std.specs.Prelude.{option_and_then, IsUtf8, String}
+use Rattle.std.specs.Prelude.{option_and_then, ok_or, IsUtf8, String}
 use Rattle.std.specs.Str.{is_utf8}
 use Rattle.std.proofs.lemmas.Str.{IsUtf8-from_is_utf8, is_utf8-from_IsUtf8}
 use Rattle.std.proofs.Common.{Global}
@@ -11,7 +11,6 @@ use Rattle.serde_json.specs.Written.{has_float}
 use Rattle.serde_json.specs.View.{members_view}
 use Rattle.serde_json.specs.declared.value.Value.{Value}
 use Rattle.zarrs_chain_lines.specs.declared.refusal.Refusal.TheVariants.{Syntax}
-use Rattle.zarrs_chain_lines.specs.Refusal.{wanted}
 use Rattle.zarrs_chain_lines.specs.DataType.{member_count}
 use Rattle.zarrs_chain_lines.specs.Json.{tree_of, without_floats, only_member}
 
@@ -23,7 +22,7 @@ tree_of-read text tree utf8 at clean = rw (is_utf8-from_IsUtf8 text utf8, at, cl
 pub tree_of-float : (text : List ℕ) (tree : Data) → IsUtf8 text → read text ≡ Some tree → has_float tree ≡ true → tree_of text ≡ Err Syntax
 tree_of-float text tree utf8 at floats = rw (is_utf8-from_IsUtf8 text utf8, at, floats) refl
 
-unread_by : (text : List ℕ) (b : Bool) → is_utf8 text ≡ b → (IsUtf8 text → read text ≡ None) → wanted (cond b (option_and_then without_floats (read text)) None) ≡ Err Syntax
+unread_by : (text : List ℕ) (b : Bool) → is_utf8 text ≡ b → (IsUtf8 text → read text ≡ None) → ok_or (cond b (option_and_then without_floats (read text)) None) Syntax ≡ Err Syntax
 unread_by text false is h = refl
 unread_by text true is h = rw (h (IsUtf8-from_is_utf8 text is)) refl
 

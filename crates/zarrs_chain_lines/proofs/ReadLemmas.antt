@@ -1,4 +1,4 @@
--- Elements that a codec answers, told.
+-- Elements that a codec answers, shown.
 use Rattle.std.proofs.Common.{◌≡◌, ℕ, Bool, true, false, ◌||◌, List, Option, Result, Ok, Err, IsOkAnd, refl, sym, arith, subst}
 use Rattle.serde_json.specs.Data.{Data}
 use Rattle.zarrs_chunk.specs.Answer.{Answers, AnswersBy, Excused, memory, fault, memory_or_fault, is_fault, seen, ◌>>=◌}
@@ -18,7 +18,7 @@ use Rattle.zarrs_chain_lines.specs.Elements.{chunk_tree}
 use Rattle.zarrs_chain_lines.specs.Header.{Header}
 use Rattle.zarrs_chain_lines.specs.Json.{ok_line, tree_of}
 use Rattle.zarrs_chain_lines.specs.Indexer.{selection_in}
-use Rattle.zarrs_chain_lines.specs.Refusal.{coded, wants_memory}
+use Rattle.zarrs_chain_lines.specs.Refusal.{codec_answer, wants_memory}
 
 -- ---- a read by a decoder that is made for it
 
@@ -52,22 +52,22 @@ part_read header form stored value selection r same_form same_value made quiet h
     (sym (passes (value_length header.order header.sizes header.data_type header.fill) (read header.order header.sizes header.data_type header.fill stored selection) made))
     (without_faults header.data_type r (read header.order header.sizes header.data_type header.fill stored selection) quiet of_header)
 
--- ---- elements told
+-- ---- elements shown
 
-told_by : {T : Type 0} (items : T → List ℕ) (r : Result T Refusal) (line : List ℕ) (state : State) → Answers wants_memory items r (Ok line) → Answers {V = List ℕ × State} wants_memory (λ x. (items x, state)) r (Ok (line, state))
-told_by items (Ok x) line state h = cc
-told_by items (Err e) line state h = λ m. absurd (let wrong : Ok line ≡ Err e = h m in cc)
+shown_by : {T : Type 0} (items : T → List ℕ) (r : Result T Refusal) (line : List ℕ) (state : State) → Answers wants_memory items r (Ok line) → Answers {V = List ℕ × State} wants_memory (λ x. (items x, state)) r (Ok (line, state))
+shown_by items (Ok x) line state h = cc
+shown_by items (Err e) line state h = λ m. absurd (let wrong : Ok line ≡ Err e = h m in cc)
 
 -- the line that shows the elements which a container holds
-pub told_elements : {T : Type 0} (items : T → List ℕ) (type own : ElementType) (held : Held) (expected : Result Chunk CodecError) (r : Result T Refusal) (before after : State) → after ≡ before → own ≡ type →
+pub shown_elements : {T : Type 0} (items : T → List ℕ) (type own : ElementType) (held : Held) (expected : Result Chunk CodecError) (r : Result T Refusal) (before after : State) → after ≡ before → own ≡ type →
     IsOkAnd expected (Holds type held) → ((chunk : Chunk) → Holds own held chunk → Answers wants_memory items r (Ok (ok_line (chunk_tree chunk))))
-    → Answers {V = List ℕ × State} wants_memory (λ x. (items x, after)) r (coded expected >>= λ chunk. Ok (ok_line (chunk_tree chunk), before))
-told_elements items type own held (Ok chunk) r before after kept same holds shown =
+    → Answers {V = List ℕ × State} wants_memory (λ x. (items x, after)) r (codec_answer expected >>= λ chunk. Ok (ok_line (chunk_tree chunk), before))
+shown_elements items type own held (Ok chunk) r before after kept same holds shown =
     subst (λ (s : State). Answers {V = List ℕ × State} wants_memory (λ x. (items x, s)) r (Ok (ok_line (chunk_tree chunk), before))) (sym kept)
-    (told_by items r (ok_line (chunk_tree chunk)) before (shown chunk (subst (λ (t : ElementType). Holds t held chunk) (sym same) holds)))
-told_elements items type own held (Err e) r before after kept same holds shown = absurd holds
+    (shown_by items r (ok_line (chunk_tree chunk)) before (shown chunk (subst (λ (t : ElementType). Holds t held chunk) (sym same) holds)))
+shown_elements items type own held (Err e) r before after kept same holds shown = absurd holds
 
 -- what `read` answers to an indexer that reads
 pub read_answer-selection : (state : State) (text : List ℕ) (tree : Data) (selection : Selection) → tree_of text ≡ Ok tree → selection_in tree ≡ Ok selection
-    → read_answer state text ≡ (coded (part_of state.header state.stored selection) >>= λ chunk. Ok (ok_line (chunk_tree chunk), state))
+    → read_answer state text ≡ (codec_answer (part_of state.header state.stored selection) >>= λ chunk. Ok (ok_line (chunk_tree chunk), state))
 read_answer-selection state text tree selection reads means = rw (reads, means) refl

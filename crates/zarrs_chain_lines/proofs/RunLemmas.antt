@@ -7,9 +7,9 @@ use Rattle.zarrs_chain_lines.specs.declared.refusal.Refusal.{Refusal}
 use Rattle.zarrs_chain_lines.specs.declared.refusal.Refusal.TheVariants.{Codec}
 use Rattle.zarrs_chain_lines.specs.Refusal.{wants_memory, error_line}
 use Rattle.zarrs_chain_lines.specs.Lines.{filled_lines}
-use Rattle.zarrs_chain_lines.specs.Header.{Header, header_of}
-use Rattle.zarrs_chain_lines.specs.Commands.{State, opened, answer_to}
-use Rattle.zarrs_chain_lines.specs.Run.{told, out_of_memory, IsReply, ended, AreReplies, IsDone, IsRefusedHeader, IsBadHeader, EndsDone, EndsBad}
+use Rattle.zarrs_chain_lines.specs.Header.{Header, line_header}
+use Rattle.zarrs_chain_lines.specs.Commands.{State, first_state, answer_to}
+use Rattle.zarrs_chain_lines.specs.Run.{reply_of, out_of_memory, IsReply, output_line, AreReplies, IsDone, IsRefusedHeader, IsBadHeader, EndsDone, EndsBad}
 
 -- ---- the loop over the commands
 
@@ -40,17 +40,17 @@ pub so_far-start : (unread held : Option (List ℕ)) (state : State) → SoFar u
 so_far-start None held state = tt
 so_far-start (Some input) held state = (input, [], refl, appends-none held, λ more h. h)
 
-pub so_far-more : (unread left after held holds grown : Option (List ℕ)) (first now next : State) (line reply : List ℕ) → SoFar unread left held holds first now → Gives left after line → IsReply now line reply next → Appends holds grown (ended reply) → SoFar unread after held grown first next
+pub so_far-more : (unread left after held holds grown : Option (List ℕ)) (first now next : State) (line reply : List ℕ) → SoFar unread left held holds first now → Gives left after line → IsReply now line reply next → Appends holds grown (output_line reply) → SoFar unread after held grown first next
 so_far-more None left after held holds grown first now next line reply h given replied grew = tt
 so_far-more (Some input) left after held holds grown first now next line reply (rest, written, at, appended, all) given replied grew =
     let taken : (others : List ℕ) × (after ≡ Some others) × (filled_lines rest ≡ line ∷ filled_lines others) = subst (λ (known : Option (List ℕ)). Gives known after line) at given in (
       taken.0,
-      written ++ ended reply,
+      written ++ output_line reply,
       taken.1,
-      appends-more held holds grown written (ended reply) appended grew,
+      appends-more held holds grown written (output_line reply) appended grew,
       λ more h.
-          subst (λ out. AreReplies first (filled_lines input) out) (sym (append_assoc written (ended reply) more))
-          (all (ended reply ++ more) (subst (λ commands. AreReplies now commands (ended reply ++ more)) (sym taken.2) (reply, next, more, replied, refl, h))),
+          subst (λ out. AreReplies first (filled_lines input) out) (sym (append_assoc written (output_line reply) more))
+          (all (output_line reply ++ more) (subst (λ commands. AreReplies now commands (output_line reply ++ more)) (sym taken.2) (reply, next, more, replied, refl, h))),
     )
 
 pub so_far-end : (unread left after held holds : Option (List ℕ)) (first now : State) → SoFar unread left held holds first now → Ends left after → IfSome unread (λ input. (after ≡ Some []) × ((out : List ℕ) × Appends held holds out × AreReplies first (filled_lines input) out))
@@ -71,11 +71,11 @@ ends (Some input) after line false is (rest, at, (none, over)) = (rest, at, none
 ends (Some input) after line true is h = absurd (cc)
 
 -- the line and the answer as the calls saw them
-pub so_far-told : (unread left after held holds grown : Option (List ℕ)) (first now next : State) (line seen reply said : List ℕ) → seen ≡ line → said ≡ reply → SoFar unread left held holds first now → Gives left after line → IsReply now seen reply next → Appends holds grown (ended said) → SoFar unread after held grown first next
-so_far-told unread left after held holds grown first now next line seen reply said is_line is_reply h given replied grew =
+pub so_far-replied : (unread left after held holds grown : Option (List ℕ)) (first now next : State) (line seen reply said : List ℕ) → seen ≡ line → said ≡ reply → SoFar unread left held holds first now → Gives left after line → IsReply now seen reply next → Appends holds grown (output_line said) → SoFar unread after held grown first next
+so_far-replied unread left after held holds grown first now next line seen reply said is_line is_reply h given replied grew =
     so_far-more unread left after held holds grown first now next line reply h given
     (subst (λ (l : List ℕ). IsReply now l reply next) is_line replied)
-    (subst (λ (l : List ℕ). Appends holds grown (ended l)) is_reply grew)
+    (subst (λ (l : List ℕ). Appends holds grown (output_line l)) is_reply grew)
 
 appends-kept : (a b c : Option (List ℕ)) (x : List ℕ) → Appends a b x → Keeps b c → Appends a c x
 appends-kept None b c x p q = tt
@@ -87,16 +87,16 @@ appends-kept (Some xs) (Some ys) (Some zs) x p q = q ∙ p
 
 -- an answer that was given
 pub reply-given : (now next : State) (line reply : List ℕ) → answer_to now line ≡ Ok (reply, next) → IsReply now line reply next
-reply-given now next line reply h = inl (sym (ap (told now) h))
+reply-given now next line reply h = inl (sym (ap (reply_of now) h))
 
--- want of memory is told by its name
+-- want of memory is shown by its name
 error_line-memory : (refusal : Refusal) → wants_memory refusal ≡ true → error_line refusal ≡ out_of_memory
 error_line-memory (Codec OutOfMemory) h = refl
 error_line-memory _ h = absurd (cc)
 
 refused_by : (b : Bool) (now : State) (line : List ℕ) (refusal : Refusal) → wants_memory refusal ≡ b → Excused b (answer_to now line ≡ Err refusal) → IsReply now line (error_line refusal) now
 refused_by true now line refusal is h = inr (error_line-memory refusal is, refl)
-refused_by false now line refusal is h = inl (sym (ap (told now) (h refl)))
+refused_by false now line refusal is h = inl (sym (ap (reply_of now) (h refl)))
 
 -- a refusal that was given
 pub reply-refused : (now next : State) (line : List ℕ) (refusal : Refusal) → Excused (wants_memory refusal) (answer_to now line ≡ Err refusal) → next ≡ now → IsReply now line (error_line refusal) next
@@ -105,38 +105,38 @@ reply-refused now next line refusal h kept =
 
 -- ---- what a header is answered
 
-same_header : (header : Header) (state : State) → seen {E = Refusal} opened (Ok header) ≡ Ok state → opened header ≡ state
+same_header : (header : Header) (state : State) → seen {E = Refusal} first_state (Ok header) ≡ Ok state → first_state header ≡ state
 same_header header state h = cc
 
 -- what a good header opened
-opened_by : (line : List ℕ) (lines : List (List ℕ)) (output : List ℕ) (state : State) (r : Result Header Refusal) → header_of line ≡ r → seen opened r ≡ Ok state → AreReplies state lines output → IsDone (line ∷ lines) output
-opened_by line lines output state (Ok header) is h replies = (header, is, subst (λ (s : State). AreReplies s lines output) (sym (same_header header state h)) replies)
-opened_by line lines output state (Err refusal) is h replies = absurd (cc)
+opened_state : (line : List ℕ) (lines : List (List ℕ)) (output : List ℕ) (state : State) (r : Result Header Refusal) → line_header line ≡ r → seen first_state r ≡ Ok state → AreReplies state lines output → IsDone (line ∷ lines) output
+opened_state line lines output state (Ok header) is h replies = (header, is, subst (λ (s : State). AreReplies s lines output) (sym (same_header header state h)) replies)
+opened_state line lines output state (Err refusal) is h replies = absurd (cc)
 
-same_refusal : (x e : Refusal) → seen opened (Err x) ≡ Err e → x ≡ e
+same_refusal : (x e : Refusal) → seen first_state (Err x) ≡ Err e → x ≡ e
 same_refusal x e h = cc
 
-refused_header : (r : Result Header Refusal) (refusal : Refusal) → seen opened r ≡ Err refusal → IsRefusedHeader r (ended (error_line refusal))
+refused_header : (r : Result Header Refusal) (refusal : Refusal) → seen first_state r ≡ Err refusal → IsRefusedHeader r (output_line (error_line refusal))
 refused_header (Ok header) refusal h = absurd (cc)
-refused_header (Err x) refusal h = ap (λ (y : Refusal). ended (error_line y)) (sym (same_refusal x refusal h))
+refused_header (Err x) refusal h = ap (λ (y : Refusal). output_line (error_line y)) (sym (same_refusal x refusal h))
 
-bad_by : (b : Bool) (line : List ℕ) (refusal : Refusal) → wants_memory refusal ≡ b → Excused b (seen opened (header_of line) ≡ Err refusal) → IsBadHeader (line ∷ []) (ended (error_line refusal))
-bad_by true line refusal is h = inr (ap ended (error_line-memory refusal is))
-bad_by false line refusal is h = inl (refused_header (header_of line) refusal (h refl))
+bad_by : (b : Bool) (line : List ℕ) (refusal : Refusal) → wants_memory refusal ≡ b → Excused b (seen first_state (line_header line) ≡ Err refusal) → IsBadHeader (line ∷ []) (output_line (error_line refusal))
+bad_by true line refusal is h = inr (ap output_line (error_line-memory refusal is))
+bad_by false line refusal is h = inl (refused_header (line_header line) refusal (h refl))
 
 -- a header that was refused
-pub bad_header : (line : List ℕ) (refusal : Refusal) → Excused (wants_memory refusal) (seen opened (header_of line) ≡ Err refusal) → IsBadHeader (line ∷ []) (ended (error_line refusal))
+pub bad_header : (line : List ℕ) (refusal : Refusal) → Excused (wants_memory refusal) (seen first_state (line_header line) ≡ Err refusal) → IsBadHeader (line ∷ []) (output_line (error_line refusal))
 bad_header line refusal h = bad_by (wants_memory refusal) line refusal refl h
 
 -- ---- the endings
 
 -- after a good header and all commands
-pub ends_done : (unread mid left held holds : Option (List ℕ)) (line read : List ℕ) (state : State) → Gives unread mid line → read ≡ line → seen opened (header_of read) ≡ Ok state
+pub ends_done : (unread mid left held holds : Option (List ℕ)) (line read : List ℕ) (state : State) → Gives unread mid line → read ≡ line → seen first_state (line_header read) ≡ Ok state
     → IfSome mid (λ input. (left ≡ Some []) × ((output : List ℕ) × Appends held holds output × AreReplies state (filled_lines input) output)) → EndsDone unread left held holds
 ends_done None mid left held holds line read state given is good served = tt
 ends_done (Some input) mid left held holds line read state (rest, at, first) is good served =
     let all : (left ≡ Some []) × ((output : List ℕ) × Appends held holds output × AreReplies state (filled_lines rest) output) = subst (λ (known : Option (List ℕ)). IfSome known (λ others. (left ≡ Some []) × ((output : List ℕ) × Appends held holds output × AreReplies state (filled_lines others) output))) at served in
-    (all.0, (all.1.0, all.1.1, subst (λ (commands : List (List ℕ)). IsDone commands all.1.0) (sym first) (opened_by line (filled_lines rest) all.1.0 state (header_of line) refl (ap (λ l. seen opened (header_of l)) (sym is) ∙ good) all.1.2)))
+    (all.0, (all.1.0, all.1.1, subst (λ (commands : List (List ℕ)). IsDone commands all.1.0) (sym first) (opened_state line (filled_lines rest) all.1.0 state (line_header line) refl (ap (λ l. seen first_state (line_header l)) (sym is) ∙ good) all.1.2)))
 
 -- without a header
 pub ends_empty : (unread left held : Option (List ℕ)) → Ends unread left → EndsDone unread left held held
@@ -146,9 +146,9 @@ ends_empty (Some input) left held (rest, at, none, over) =
 
 -- after a bad header
 pub ends_bad : (unread mid held holds : Option (List ℕ)) (line read output : List ℕ) → Gives unread mid line → read ≡ line → IsBadHeader (read ∷ []) output → Appends held holds output → EndsBad unread held holds
-ends_bad None mid held holds line read output given is bad told = tt
-ends_bad (Some input) mid held holds line read output (rest, at, first) is bad told =
-    (output, told, subst (λ (commands : List (List ℕ)). IsBadHeader commands output) (sym first) (subst (λ (l : List ℕ). IsBadHeader (l ∷ filled_lines rest) output) is bad))
+ends_bad None mid held holds line read output given is bad replied = tt
+ends_bad (Some input) mid held holds line read output (rest, at, first) is bad replied =
+    (output, replied, subst (λ (commands : List (List ℕ)). IsBadHeader commands output) (sym first) (subst (λ (l : List ℕ). IsBadHeader (l ∷ filled_lines rest) output) is bad))
 
 -- what is flushed stays as it was written
 pub ends_done-flushed : (unread left held holds kept : Option (List ℕ)) → EndsDone unread left held holds → Keeps holds kept → EndsDone unread left held kept

@@ -1,5 +1,5 @@
 -- What each command answers, and what is stored afterwards.
-use Rattle.std.specs.Prelude.{◌==◌, ◌+◌, ℕ, List, take, drop, position, Option, Some, None, Result, Ok, Err, codes, if◌then◌else◌}
+use Rattle.std.specs.Prelude.{◌==◌, ◌+◌, ℕ, List, take, drop, position, Option, Some, None, ok_or, Result, Ok, Err, codes, if◌then◌else◌}
 use Rattle.std.specs.Str.{bytes_eq}
 use Rattle.zarrs_chunk.specs.Answer.{◌>>=◌}
 use Rattle.zarrs_chunk.specs.Selection.{Selection}
@@ -9,7 +9,7 @@ use Rattle.zarrs_bytes.specs.BytesCodec.{value_length, encoded, decoded}
 use Rattle.zarrs_bytes.specs.PartialRead.{read}
 use Rattle.zarrs_chain_lines.specs.declared.refusal.Refusal.{Refusal}
 use Rattle.zarrs_chain_lines.specs.declared.refusal.Refusal.TheVariants.{Syntax}
-use Rattle.zarrs_chain_lines.specs.Refusal.{wanted, coded}
+use Rattle.zarrs_chain_lines.specs.Refusal.{codec_answer}
 use Rattle.zarrs_chain_lines.specs.Json.{tree_of, hex_of, hex_tree, ok_line}
 use Rattle.zarrs_chain_lines.specs.Elements.{elements_of, container_of, chunk_tree}
 use Rattle.zarrs_chain_lines.specs.Indexer.{selection_in}
@@ -21,48 +21,48 @@ pub record State : Type 0 where
   pub stored : Option (List ℕ)
 
 -- at first nothing is stored
-abbrev pub opened : Header → State
-opened header = record { header = header; stored = None }
+abbrev pub first_state : Header → State
+first_state header = record { header = header; stored = None }
 
--- an answer, and the state after it; or why there is none
-abbrev pub Answered : Type 0
-Answered = Result (List ℕ × State) Refusal
+-- the answer to a line and the state after it, or why the line is refused
+abbrev pub LineAnswer : Type 0
+LineAnswer = Result (List ℕ × State) Refusal
 
 -- the answer where nothing is stored
 abbrev pub ok_none : List ℕ
 ok_none = codes "ok none"
 
+-- what a stored value is answered, or that there is none
+abbrev pub stored_answer : (State → List ℕ → LineAnswer) → State → Option (List ℕ) → LineAnswer
+stored_answer answer state None = Ok (ok_none, state)
+stored_answer answer state (Some value) = answer state value
+
 -- ---- the commands
 
 -- encode ELEMENTS: the value of the chunk of these elements, which isn't stored
-abbrev pub encode_answer : State → List ℕ → Answered
+abbrev pub encode_answer : State → List ℕ → LineAnswer
 encode_answer state text = do
   tree ← tree_of text
   chunk ← elements_of state.header.data_type tree
-  value ← coded (encoded state.header.order state.header.sizes state.header.data_type state.header.fill (container_of chunk))
+  value ← codec_answer (encoded state.header.order state.header.sizes state.header.data_type state.header.fill (container_of chunk))
   Ok (ok_line (hex_tree value), state)
 
 -- load "HEX": these bytes are stored
-abbrev pub load_answer : State → List ℕ → Answered
+abbrev pub load_answer : State → List ℕ → LineAnswer
 load_answer state text = do
   tree ← tree_of text
-  value ← wanted (hex_of tree)
+  value ← ok_or (hex_of tree) Syntax
   Ok (codes "ok", record { header = state.header; stored = Some value })
 
 -- the chunk that a value stands for
-abbrev pub decode_value : State → List ℕ → Answered
-decode_value state value = do
-  chunk ← coded (decoded state.header.order state.header.sizes state.header.data_type state.header.fill value)
+abbrev pub chunk_answer : State → List ℕ → LineAnswer
+chunk_answer state value = do
+  chunk ← codec_answer (decoded state.header.order state.header.sizes state.header.data_type state.header.fill value)
   Ok (ok_line (chunk_tree chunk), state)
 
--- the same, where a value is stored
-abbrev pub decode_stored : State → Option (List ℕ) → Answered
-decode_stored state None = Ok (ok_none, state)
-decode_stored state (Some value) = decode_value state value
-
 -- decode: the chunk that the stored value stands for, or none
-abbrev pub decode_answer : State → Answered
-decode_answer state = decode_stored state state.stored
+abbrev pub decode_answer : State → LineAnswer
+decode_answer state = stored_answer chunk_answer state state.stored
 
 -- the elements that an indexer means, by a decoder that is made for it: what refuses the decoder comes first
 abbrev pub part_of : Header → Option (List ℕ) → Selection → Result Chunk CodecError
@@ -71,21 +71,20 @@ part_of header stored selection = do
   read header.order header.sizes header.data_type header.fill stored selection
 
 -- read INDEXER: the elements that it means
-abbrev pub read_answer : State → List ℕ → Answered
+abbrev pub read_answer : State → List ℕ → LineAnswer
 read_answer state text = do
   tree ← tree_of text
   selection ← selection_in tree
-  chunk ← coded (part_of state.header state.stored selection)
+  chunk ← codec_answer (part_of state.header state.stored selection)
   Ok (ok_line (chunk_tree chunk), state)
 
--- a stored value in hex, where there is one
-abbrev pub value_stored : State → Option (List ℕ) → Answered
-value_stored state None = Ok (ok_none, state)
-value_stored state (Some value) = Ok (ok_line (hex_tree value), state)
+-- a value in hex
+abbrev pub hex_answer : State → List ℕ → LineAnswer
+hex_answer state value = Ok (ok_line (hex_tree value), state)
 
 -- value: the stored value, or none
-abbrev pub value_answer : State → Answered
-value_answer state = value_stored state state.stored
+abbrev pub value_answer : State → LineAnswer
+value_answer state = stored_answer hex_answer state state.stored
 
 -- ---- lines
 
@@ -118,7 +117,7 @@ abbrev pub command_of : List ℕ → Command
 command_of line = command_split (position (λ byte. byte == 32) line) line
 
 -- what a command answers; the word or its argument may be unknown
-abbrev pub command_answer : State → Command → Answered
+abbrev pub command_answer : State → Command → LineAnswer
 command_answer state (encode text) = encode_answer state text
 command_answer state (load text) = load_answer state text
 command_answer state (read_part text) = read_answer state text
@@ -127,5 +126,5 @@ command_answer state value = value_answer state
 command_answer state unknown = Err Syntax
 
 -- what a line answers
-unfoldable pub answer_to : State → List ℕ → Answered
+unfoldable pub answer_to : State → List ℕ → LineAnswer
 answer_to state line = command_answer state (command_of line)

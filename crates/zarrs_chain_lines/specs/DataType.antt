@@ -1,5 +1,5 @@
 -- The types of a header: by name, or {"components":{"bits":w,"count":c,"signed":b}}.
-use Rattle.std.specs.Prelude.{ℕ, suc, ◌==◌, Bool, true, false, List, Option, Some, None, option_and_then, Result, Err, codes, if◌then◌else◌}
+use Rattle.std.specs.Prelude.{ℕ, suc, ◌==◌, Bool, true, false, List, Option, Some, None, option_and_then, ok_or, Result, Err, codes, if◌then◌else◌}
 use Rattle.std.specs.Str.{bytes_eq}
 use Rattle.serde_json.specs.Data.{Data, null, boolean, number, string, array, object, Members, no_members, member}
 use Rattle.serde_json.specs.Find.{as_bool, as_number, as_object, as_u64, get_member}
@@ -7,7 +7,7 @@ use Rattle.zarrs_chunk.specs.Answer.{◌>>=◌, demand}
 use Rattle.zarrs_data_type.specs.ElementType.{ElementType, fixed, type_of_components}
 use Rattle.zarrs_chain_lines.specs.declared.refusal.Refusal.{Refusal}
 use Rattle.zarrs_chain_lines.specs.declared.refusal.Refusal.TheVariants.{Syntax}
-use Rattle.zarrs_chain_lines.specs.Refusal.{wanted, coded}
+use Rattle.zarrs_chain_lines.specs.Refusal.{codec_answer}
 use Rattle.zarrs_chain_lines.specs.Json.{only_member}
 
 -- a type of one component, by its name
@@ -45,18 +45,18 @@ truth_at key members = option_and_then as_bool (get_member key members)
 abbrev pub components_in : Members → Result ElementType Refusal
 components_in members = do
   _ ← demand (member_count members == 3) Syntax
-  bits ← wanted (number_at (codes "bits") members)
-  count ← wanted (number_at (codes "count") members)
-  signed ← wanted (truth_at (codes "signed") members)
-  coded (type_of_components bits count signed)
+  bits ← ok_or (number_at (codes "bits") members) Syntax
+  count ← ok_or (number_at (codes "count") members) Syntax
+  signed ← ok_or (truth_at (codes "signed") members) Syntax
+  codec_answer (type_of_components bits count signed)
 
 -- the type that a tree names; one without a fixed size doesn't read
-abbrev pub type_of : Data → Result ElementType Refusal
-type_of null = Err Syntax
-type_of (boolean truth) = Err Syntax
-type_of (number value) = Err Syntax
-type_of (string name) = wanted (type_named name)
-type_of (array items) = Err Syntax
-type_of (object members) = do
-  components ← wanted (option_and_then as_object (only_member (codes "components") members))
+abbrev pub type_in : Data → Result ElementType Refusal
+type_in null = Err Syntax
+type_in (boolean truth) = Err Syntax
+type_in (number value) = Err Syntax
+type_in (string name) = ok_or (type_named name) Syntax
+type_in (array items) = Err Syntax
+type_in (object members) = do
+  components ← ok_or (option_and_then as_object (only_member (codes "components") members)) Syntax
   components_in components

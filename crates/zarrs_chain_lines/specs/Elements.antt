@@ -1,5 +1,5 @@
 -- Elements as JSON: a list of them, each the hex text of its bytes.
-use Rattle.std.specs.Prelude.{ℕ, List, [], ◌∷◌, ◌==◌, length, map, Option, Some, None, Result, Ok, Err}
+use Rattle.std.specs.Prelude.{ℕ, List, [], ◌∷◌, ◌==◌, length, map, Option, Some, None, ok_or, Result, Ok, Err}
 use Rattle.std.specs.Result.{result_ok}
 use Rattle.std.specs.List.{concat}
 use Rattle.hex.specs.Hex.{decode_of}
@@ -14,7 +14,6 @@ use Rattle.zarrs_array_bytes.specs.Held.{Held, flen, owned}
 use Rattle.zarrs_bytes.specs.ByteOrder.{bytes_of}
 use Rattle.zarrs_chain_lines.specs.declared.refusal.Refusal.{Refusal}
 use Rattle.zarrs_chain_lines.specs.declared.refusal.Refusal.TheVariants.{Syntax, Codec}
-use Rattle.zarrs_chain_lines.specs.Refusal.{wanted}
 use Rattle.zarrs_chain_lines.specs.Json.{hex_tree}
 
 -- ---- read
@@ -31,7 +30,7 @@ element_in size null = Err (Codec ArrayBytesKind)
 element_in size (boolean truth) = Err Syntax
 element_in size (number value) = Err Syntax
 element_in size (string text) = do
-  bytes ← wanted (result_ok (decode_of text))
+  bytes ← ok_or (result_ok (decode_of text)) Syntax
   element_of_size size bytes
 element_in size (array items) = Err (Codec ArrayBytesKind)
 element_in size (object entries) = Err Syntax
@@ -52,7 +51,7 @@ elements_in type (item tree items) = do
 -- the elements of a type that a list shows
 abbrev pub elements_of : ElementType → Data → Result Chunk Refusal
 elements_of type tree = do
-  items ← wanted (as_array tree)
+  items ← ok_or (as_array tree) Syntax
   elements_in type items
 
 -- the bytes of elements of a fixed type, one after another

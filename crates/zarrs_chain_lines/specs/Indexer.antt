@@ -1,5 +1,5 @@
 -- Indexers as JSON: {"ranges":[[start,end],..]} or {"indices":[[..],..]}.
-use Rattle.std.specs.Prelude.{ℕ, List, [], ◌∷◌, Option, Some, None, option_map, option_and_then, Result, Ok, Err, codes}
+use Rattle.std.specs.Prelude.{ℕ, List, [], ◌∷◌, Option, Some, None, ok_or, Result, Ok, Err, codes}
 use Rattle.std.specs.declared.ops.Range.{Range}
 use Rattle.serde_json.specs.Data.{Data, Items, no_items, item}
 use Rattle.serde_json.specs.Find.{as_array, as_object}
@@ -8,8 +8,8 @@ use Rattle.zarrs_chunk.specs.ArraySubset.{subset_of_ranges}
 use Rattle.zarrs_chunk.specs.Selection.{Selection, subset, indices}
 use Rattle.zarrs_chain_lines.specs.declared.refusal.Refusal.{Refusal}
 use Rattle.zarrs_chain_lines.specs.declared.refusal.Refusal.TheVariants.{Syntax}
-use Rattle.zarrs_chain_lines.specs.Refusal.{wanted, coded}
-use Rattle.zarrs_chain_lines.specs.Json.{numbers_of, only_member}
+use Rattle.zarrs_chain_lines.specs.Refusal.{codec_answer}
+use Rattle.zarrs_chain_lines.specs.Json.{number_list, only_member}
 
 -- a start and an end
 abbrev pub range_between : List ℕ → Option (Range ℕ)
@@ -18,29 +18,41 @@ range_between (start ∷ []) = None
 range_between (start ∷ end ∷ []) = Some (record { start = start; end = end })
 range_between (start ∷ end ∷ more ∷ numbers) = None
 
--- a list of ranges, or none where something else stands in it
-abbrev pub ranges_in : Items → Option (List (Range ℕ))
-ranges_in no_items = Some []
-ranges_in (item tree items) =
-    option_and_then (λ range. option_map (λ ranges. range ∷ ranges) (ranges_in items)) (option_and_then range_between (numbers_of tree))
+-- a range, as a list of its start and its end
+abbrev pub range_in : Data → Result (Range ℕ) Refusal
+range_in tree = do
+  ends ← number_list tree
+  ok_or (range_between ends) Syntax
 
--- a list of index tuples, or none where something else stands in it
-abbrev pub tuples_in : Items → Option (List (List ℕ))
-tuples_in no_items = Some []
-tuples_in (item tree items) =
-    option_and_then (λ tuple. option_map (λ tuples. tuple ∷ tuples) (tuples_in items)) (numbers_of tree)
+-- the ranges of a list's items
+abbrev pub ranges_in : Items → Result (List (Range ℕ)) Refusal
+ranges_in no_items = Ok []
+ranges_in (item tree items) = do
+  range ← range_in tree
+  ranges ← ranges_in items
+  Ok (range ∷ ranges)
+
+-- the index tuples of a list's items
+abbrev pub tuples_in : Items → Result (List (List ℕ)) Refusal
+tuples_in no_items = Ok []
+tuples_in (item tree items) = do
+  tuple ← number_list tree
+  tuples ← tuples_in items
+  Ok (tuple ∷ tuples)
 
 -- the box of a list of ranges; all of them are read before one is found that ends before it starts
 abbrev pub ranges_selection : Data → Result Selection Refusal
 ranges_selection tree = do
-  ranges ← wanted (option_and_then ranges_in (as_array tree))
-  region ← coded (subset_of_ranges ranges)
+  items ← ok_or (as_array tree) Syntax
+  ranges ← ranges_in items
+  region ← codec_answer (subset_of_ranges ranges)
   Ok (subset region)
 
 -- a list of index tuples
 abbrev pub indices_selection : Data → Result Selection Refusal
 indices_selection tree = do
-  tuples ← wanted (option_and_then tuples_in (as_array tree))
+  items ← ok_or (as_array tree) Syntax
+  tuples ← tuples_in items
   Ok (indices tuples)
 
 -- by which of the two keys there is
@@ -52,5 +64,5 @@ selection_at None None = Err Syntax
 -- what an indexer means; it has one key alone
 abbrev pub selection_in : Data → Result Selection Refusal
 selection_in tree = do
-  members ← wanted (as_object tree)
+  members ← ok_or (as_object tree) Syntax
   selection_at (only_member (codes "ranges") members) (only_member (codes "indices") members)

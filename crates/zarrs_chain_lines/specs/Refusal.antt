@@ -1,5 +1,5 @@
--- Why a line is refused, and how that is told.
-use Rattle.std.specs.Prelude.{ℕ, ◌++◌, Bool, false, List, Option, Some, None, Result, Ok, Err, codes}
+-- Why a line is refused, and how an answer says so.
+use Rattle.std.specs.Prelude.{ℕ, ◌++◌, Bool, false, List, Result, Ok, Err, codes}
 use Rattle.zarrs_chunk.specs.Answer.{memory}
 use Rattle.zarrs_chunk.specs.CodecError.{name_of}
 use Rattle.zarrs_chunk.specs.declared.codec_error.CodecError.{CodecError}
@@ -13,22 +13,12 @@ wants_memory UnknownName = false
 wants_memory InvalidConfiguration = false
 wants_memory (Codec error) = memory error
 
--- what a codec answers, as a part of a line's answer
-abbrev pub coded : {A : Type 0} → Result A CodecError → Result A Refusal
-coded (Ok value) = Ok value
-coded (Err error) = Err (Codec error)
+-- a codec's answer as a part of a line's answer
+abbrev pub codec_answer : {A : Type 0} → Result A CodecError → Result A Refusal
+codec_answer (Ok value) = Ok value
+codec_answer (Err error) = Err (Codec error)
 
--- what has to be there for a line to read
-abbrev pub wanted : {A : Type 0} → Option A → Result A Refusal
-wanted (Some value) = Ok value
-wanted None = Err Syntax
-
--- what has to be there for a codec's metadata to read
-abbrev pub configured : {A : Type 0} → Option A → Result A Refusal
-configured (Some value) = Ok value
-configured None = Err InvalidConfiguration
-
--- the name that a refusal is told by
+-- the name that an answer has for a refusal
 abbrev pub refusal_name : Refusal → List ℕ
 refusal_name Syntax = codes "Syntax"
 refusal_name UnknownName = codes "UnknownName"

@@ -1,10 +1,9 @@
 //! The codec `bytes` read from a list of metadata.
-ghost use Rattle.std.specs.Prelude.{◌≡◌, option_map, option_and_then};
+ghost use Rattle.std.specs.Prelude.{◌≡◌, option_map, option_and_then, ok_or};
 ghost use Rattle.serde_json.specs.Find.{as_bool, as_object, as_str};
 ghost use Rattle.serde_json.specs.View.{view, items_view, members_view};
 ghost use Rattle.zarrs_chunk.specs.Answer.{seen};
-ghost use Rattle.zarrs_chain_lines.specs.Refusal.{configured};
-ghost use Rattle.zarrs_chain_lines.specs.Codec.{optional_key, metadata_in, metadata_of, are_metadata, order_named, order_of, is_bytes as is_bytes_name, codec_of, lone_of, lone_codec as lone_codec_of, codec_in};
+ghost use Rattle.zarrs_chain_lines.specs.Codec.{optional_key, metadata_in, metadata_of, are_metadata, order_named, order_of, is_bytes_name, codec_of, lone_item, lone_codec as lone_codec_of, codec_in};
 ghost use Rattle.zarrs_chain_lines.specs.Seen.{metadata_seen};
 
 use crate::json::{Members, member};
@@ -20,7 +19,7 @@ struct Metadata<'v> {
 }
 
 fn name(value: Option<&Value>) -> Result<&str, Refusal>
-    ensures { seen (λ name. name.now) result ≡ configured (option_and_then as_str (option_map (λ v. view v.now) value.entry)) }
+    ensures { seen (λ name. name.now) result ≡ ok_or (option_and_then as_str (option_map (λ v. view v.now) value.entry)) Refusal.InvalidConfiguration }
 {
     match value {
         Some(Value::String(name)) => Ok(name.as_str()),
@@ -134,7 +133,7 @@ fn byte_order(metadata: &Metadata<'_>) -> Result<Option<Endianness>, Refusal>
 }
 
 fn lone(items: &Vec<Value>) -> Option<&Value>
-    ensures { option_map (λ v. view v.now) result ≡ lone_of (items_view items.now.items) }
+    ensures { option_map (λ v. view v.now) result ≡ lone_item (items_view items.now.items) }
 {
     if items.len() == 1 {
         Some(&items[0])
@@ -157,7 +156,7 @@ fn lone_codec(value: Option<&Value>) -> Result<Option<Endianness>, Refusal>
 /// list hasn't one entry, or it names another codec; `InvalidConfiguration` where its configuration
 /// doesn't read.
 pub fn codec(items: &Vec<Value>) -> Result<Option<Endianness>, Refusal>
-    ensures { result ≡ codec_in (items_view items.now.items) }
+    ensures answer { result ≡ codec_in (items_view items.now.items) }
 {
     check_metadata(items)?;
     lone_codec(lone(items))

@@ -48,7 +48,7 @@ fn first_space(line: &[u8]) -> Option<usize>
 
 /// The command of a line: a word and, behind the first space, an argument.
 pub fn command_of(line: &[u8]) -> Command<'_>
-    ensures { command_seen result ≡ command_of_line line.now }
+    ensures value { command_seen result ≡ command_of_line line.now }
 {
     match first_space(line) {
         None => alone(line),

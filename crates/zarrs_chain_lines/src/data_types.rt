@@ -1,12 +1,11 @@
 //! Data types read from JSON.
-ghost use Rattle.std.specs.Prelude.{◌≡◌, option_and_then, true, IfOk, is_some, codes};
+ghost use Rattle.std.specs.Prelude.{◌≡◌, option_and_then, ok_or, true, IfOk, is_some, codes};
 ghost use Rattle.serde_json.specs.Find.{as_object};
 ghost use Rattle.serde_json.specs.View.{view, members_view};
 ghost use Rattle.zarrs_chunk.specs.Answer.{seen};
 ghost use Rattle.zarrs_data_type.specs.ElementType.{fixed_size_of};
-ghost use Rattle.zarrs_chain_lines.specs.Refusal.{wanted};
 ghost use Rattle.zarrs_chain_lines.specs.Json.{only_member as only_member_of};
-ghost use Rattle.zarrs_chain_lines.specs.DataType.{type_named, number_at, truth_at, components_in, type_of};
+ghost use Rattle.zarrs_chain_lines.specs.DataType.{type_named, number_at, truth_at, components_in, type_in};
 
 use crate::json::{Members, member, only_member};
 use crate::refusal::Refusal;
@@ -35,7 +34,7 @@ fn type_by_name(name: &str) -> Option<DataType>
 }
 
 fn number(members: &Members, key: &str) -> Result<u64, Refusal>
-    ensures { result ≡ wanted (number_at key.now (members_view members.now.entries)) }
+    ensures { result ≡ ok_or (number_at key.now (members_view members.now.entries)) Refusal.Syntax }
 {
     match member(members, key) {
         Some(Value::Number(number)) => number.as_u64().ok_or(Refusal::Syntax),
@@ -44,7 +43,7 @@ fn number(members: &Members, key: &str) -> Result<u64, Refusal>
 }
 
 fn truth(members: &Members, key: &str) -> Result<bool, Refusal>
-    ensures { result ≡ wanted (truth_at key.now (members_view members.now.entries)) }
+    ensures { result ≡ ok_or (truth_at key.now (members_view members.now.entries)) Refusal.Syntax }
 {
     match member(members, key) {
         Some(Value::Bool(truth)) => Ok(*truth),
@@ -68,7 +67,7 @@ fn components(members: &Members) -> Result<DataType, Refusal>
 
 fn components_of(members: &Members) -> Result<&Members, Refusal>
     ensures { seen (λ inner. members_view inner.now.entries) result
-        ≡ wanted (option_and_then as_object (only_member_of (codes "components") (members_view members.now.entries))) }
+        ≡ ok_or (option_and_then as_object (only_member_of (codes "components") (members_view members.now.entries))) Refusal.Syntax }
 {
     match only_member(members, "components") {
         Some(Value::Object(inner)) => Ok(inner),
@@ -79,7 +78,7 @@ fn components_of(members: &Members) -> Result<&Members, Refusal>
 /// The type that a tree names: one with a fixed size. Refusals: `Syntax` where the tree names none;
 /// `BitRange` or `Overflow` of components that are none.
 pub fn data_type(tree: &Value) -> Result<DataType, Refusal>
-    ensures answer { result ≡ type_of (view tree.now) }
+    ensures answer { result ≡ type_in (view tree.now) }
     ensures fixed { IfOk result (λ data_type. is_some (fixed_size_of data_type) ≡ true) }
 {
     match tree {

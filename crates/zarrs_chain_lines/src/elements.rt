@@ -71,7 +71,7 @@ pub fn elements(
     data_type: &DataType,
     tree: &Value,
 ) -> Result<ArrayBytes<'static>, Refusal>
-    ensures { Answers wants_memory (λ elements. elements) result (seen container_of (elements_of data_type.now (view tree.now))) }
+    ensures answer { Answers wants_memory (λ elements. elements) result (seen container_of (elements_of data_type.now (view tree.now))) }
 {
     match tree {
         Value::Array(items) => {
@@ -101,8 +101,8 @@ pub fn ok_elements(
     data_type: &DataType,
     elements: ArrayBytes<'_>,
 ) -> Result<Vec<u8>, Refusal>
-    requires { is_some (fixed_size_of data_type.now) ≡ true }
-    ensures { (chunk : Chunk) → Holds data_type.now elements.entry chunk → Answers wants_memory (λ line. line.items) result (Ok (line_of (chunk_tree chunk))) }
+    requires fixed { is_some (fixed_size_of data_type.now) ≡ true }
+    ensures answer { (chunk : Chunk) → Holds data_type.now elements.entry chunk → Answers wants_memory (λ line. line.items) result (Ok (line_of (chunk_tree chunk))) }
 {
     let size = data_type.fixed_size().unwrap();
     let bytes = elements.into_fixed()?;

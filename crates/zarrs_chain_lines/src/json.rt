@@ -1,11 +1,11 @@
 //! JSON texts read and shown.
-ghost use Rattle.std.specs.Prelude.{◌≡◌, option_map, IfOk, false};
+ghost use Rattle.std.specs.Prelude.{◌≡◌, option_map, option_and_then, ok_or, IfOk, false};
 ghost use Rattle.serde_json.specs.Written.{has_float, items_have_float, members_have_float};
 ghost use Rattle.serde_json.specs.View.{view, items_view, members_view};
-ghost use Rattle.serde_json.specs.Find.{get_member, as_object};
+ghost use Rattle.serde_json.specs.Find.{as_number, as_object, as_u64, get_member};
 ghost use Rattle.zarrs_chunk.specs.Answer.{Answers, seen};
-ghost use Rattle.zarrs_chain_lines.specs.Refusal.{wants_memory, wanted};
-ghost use Rattle.zarrs_chain_lines.specs.Json.{tree_of, numbers_of, numbers_in, hex_of, only_member as only_member_of, ok_line as line_of, hex_tree as hex_tree_of};
+ghost use Rattle.zarrs_chain_lines.specs.Refusal.{wants_memory};
+ghost use Rattle.zarrs_chain_lines.specs.Json.{tree_of, number_list, numbers_in, hex_of, only_member as only_member_of, ok_line as line_of, hex_tree as hex_tree_of};
 
 use crate::refusal::Refusal;
 use hex::FromHexError;
@@ -56,7 +56,7 @@ fn members_hold_float(members: &Members) -> bool
 /// The tree of a text. Refusals: `Syntax` where the text isn't UTF-8, isn't one JSON value, or has
 /// a float at any depth; `OutOfMemory`.
 pub fn tree(alloc: Global, text: &[u8]) -> Result<Value, Refusal>
-    ensures { Answers wants_memory view result (tree_of text.now) }
+    ensures answer { Answers wants_memory view result (tree_of text.now) }
 {
     match Value::from_slice(alloc, text) {
         Ok(tree) => {
@@ -78,7 +78,7 @@ pub fn tree(alloc: Global, text: &[u8]) -> Result<Value, Refusal>
 
 /// The members of an object. Refusals: `Syntax` for any other tree.
 pub fn object(tree: &Value) -> Result<&Members, Refusal>
-    ensures { seen (λ members. members_view members.now.entries) result ≡ wanted (as_object (view tree.now)) }
+    ensures answer { seen (λ members. members_view members.now.entries) result ≡ ok_or (as_object (view tree.now)) Refusal.Syntax }
 {
     match tree {
         Value::Object(members) => Ok(members),
@@ -88,14 +88,14 @@ pub fn object(tree: &Value) -> Result<&Members, Refusal>
 
 /// The value at a key of an object.
 pub fn member<'v>(members: &'v Members, name: &str) -> Option<&'v Value>
-    ensures { option_map (λ value. view value.now) result ≡ get_member name.now (members_view members.now.entries) }
+    ensures value { option_map (λ value. view value.now) result ≡ get_member name.now (members_view members.now.entries) }
 {
     members.get(name)
 }
 
 /// The value at a key of an object that has no other key.
 pub fn only_member<'v>(members: &'v Members, name: &str) -> Option<&'v Value>
-    ensures { option_map (λ value. view value.now) result ≡ only_member_of name.now (members_view members.now.entries) }
+    ensures value { option_map (λ value. view value.now) result ≡ only_member_of name.now (members_view members.now.entries) }
 {
     if members.len() == 1 {
         member(members, name)
@@ -104,32 +104,36 @@ pub fn only_member<'v>(members: &'v Members, name: &str) -> Option<&'v Value>
     }
 }
 
-/// The whole numbers of a list, or `None` where the tree is anything else.
-pub fn numbers(alloc: Global, tree: &Value) -> Result<Option<Vec<u64>>, AllocError>
-    ensures { IfOk result (λ numbers. option_map (λ v. v.items) numbers ≡ numbers_of (view tree.now)) }
+fn number(tree: &Value) -> Result<u64, Refusal>
+    ensures { result ≡ ok_or (option_and_then as_u64 (as_number (view tree.now))) Refusal.Syntax }
 {
-    match tree {
-        Value::Array(items) => numbers_among(alloc, items),
-        _ => Ok(None),
-    }
+    tree.as_u64().ok_or(Refusal::Syntax)
 }
 
-fn numbers_among(alloc: Global, items: &Vec<Value>) -> Result<Option<Vec<u64>>, AllocError>
-    ensures { IfOk result (λ numbers. option_map (λ v. v.items) numbers ≡ numbers_in (items_view items.now.items)) }
+fn numbers_among(alloc: Global, items: &Vec<Value>) -> Result<Vec<u64>, Refusal>
+    ensures { Answers wants_memory (λ numbers. numbers.items) result (numbers_in (items_view items.now.items)) }
 {
     let mut numbers = Vec::new(alloc);
     for item in items {
-        let Some(number) = item.as_u64() else {
-            return Ok(None);
-        };
+        let number = number(item)?;
         numbers.push(number)?;
     }
-    Ok(Some(numbers))
+    Ok(numbers)
+}
+
+/// The whole numbers of a list. Refusals: `Syntax` where the tree is anything else; `OutOfMemory`.
+pub fn numbers(alloc: Global, tree: &Value) -> Result<Vec<u64>, Refusal>
+    ensures answer { Answers wants_memory (λ numbers. numbers.items) result (number_list (view tree.now)) }
+{
+    match tree {
+        Value::Array(items) => numbers_among(alloc, items),
+        _ => Err(Refusal::Syntax),
+    }
 }
 
 /// The bytes of a hex text. Refusals: `Syntax` where the tree is anything else; `OutOfMemory`.
 pub fn hex_bytes(alloc: Global, tree: &Value) -> Result<Vec<u8>, Refusal>
-    ensures { Answers wants_memory (λ bytes. bytes.items) result (wanted (hex_of (view tree.now))) }
+    ensures answer { Answers wants_memory (λ bytes. bytes.items) result (ok_or (hex_of (view tree.now)) Refusal.Syntax) }
 {
     match tree {
         Value::String(text) => match hex::decode(alloc, text.as_str()) {
@@ -143,8 +147,8 @@ pub fn hex_bytes(alloc: Global, tree: &Value) -> Result<Vec<u8>, Refusal>
 
 /// The answer that shows a tree without floats.
 pub fn ok_line(alloc: Global, tree: &Value) -> Result<Vec<u8>, AllocError>
-    requires { has_float (view tree.now) ≡ false }
-    ensures { IfOk result (λ line. line.items ≡ line_of (view tree.now)) }
+    requires no_float { has_float (view tree.now) ≡ false }
+    ensures value { IfOk result (λ line. line.items ≡ line_of (view tree.now)) }
 {
     let mut line = Vec::from_slice(alloc, b"ok ")?;
     let text = tree.to_vec(alloc)?;
@@ -154,7 +158,7 @@ pub fn ok_line(alloc: Global, tree: &Value) -> Result<Vec<u8>, AllocError>
 
 /// The answer that shows bytes, in hex of lower case.
 pub fn ok_hex(alloc: Global, bytes: &[u8]) -> Result<Vec<u8>, AllocError>
-    ensures { IfOk result (λ line. line.items ≡ line_of (hex_tree_of bytes.now)) }
+    ensures value { IfOk result (λ line. line.items ≡ line_of (hex_tree_of bytes.now)) }
 {
     let tree = Value::String(hex::encode(alloc, bytes)?);
     ok_line(alloc, &tree)

@@ -14,5 +14,3 @@ mod lines;
 mod refusal;
 pub mod run;
 mod session;
-#[cfg(test)]
-mod tests;

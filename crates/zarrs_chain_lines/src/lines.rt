@@ -4,7 +4,7 @@ ghost use Rattle.std.specs.Io.BufRead.{strip_last};
 ghost use Rattle.std.specs.Io.KnownBytes.{Appends};
 ghost use Rattle.zarrs_chain_lines.specs.Lines.{lines_of, filled_lines};
 ghost use Rattle.zarrs_chain_lines.specs.Refusal.{error_line};
-ghost use Rattle.zarrs_chain_lines.specs.Run.{ended};
+ghost use Rattle.zarrs_chain_lines.specs.Run.{output_line};
 
 use crate::refusal::Refusal;
 use std::io;
@@ -35,7 +35,7 @@ fn next_line<R: BufRead>(reader: &mut R, line: &mut Vec<u8>) -> io::Result<bool>
 
 /// Reads lines until one isn't empty, or answers `false` where none is left.
 pub fn next_filled_line<R: BufRead>(reader: &mut R, line: &mut Vec<u8>) -> io::Result<bool>
-    ensures { IfOk result (λ is_read. IfSome (R.remaining reader.old) (λ input.
+    ensures next { IfOk result (λ is_read. IfSome (R.remaining reader.old) (λ input.
         (rest : List ℕ) × (R.remaining reader.new ≡ Some rest)
         × MatchBool is_read (filled_lines input ≡ line.new.items ∷ filled_lines rest) ((filled_lines input ≡ []) × (rest ≡ [])))) }
 {
@@ -52,7 +52,7 @@ pub fn next_filled_line<R: BufRead>(reader: &mut R, line: &mut Vec<u8>) -> io::R
 
 /// Writes an answer, and the line's end.
 pub fn write_line<W: Write>(writer: &mut W, answer: &[u8]) -> io::Result<()>
-    ensures { OnOk result (Appends (W.contents writer.old) (W.contents writer.new) (ended answer.now)) }
+    ensures written { OnOk result (Appends (W.contents writer.old) (W.contents writer.new) (output_line answer.now)) }
 {
     writer.write_all(answer)?;
     writer.write_all(b"\n")
@@ -60,7 +60,7 @@ pub fn write_line<W: Write>(writer: &mut W, answer: &[u8]) -> io::Result<()>
 
 /// Writes the answer to a line that is refused.
 pub fn write_refusal<W: Write>(writer: &mut W, refusal: Refusal) -> io::Result<()>
-    ensures { OnOk result (Appends (W.contents writer.old) (W.contents writer.new) (ended (error_line refusal))) }
+    ensures written { OnOk result (Appends (W.contents writer.old) (W.contents writer.new) (output_line (error_line refusal))) }
 {
     writer.write_all(b"error ")?;
     writer.write_all(refusal.name().as_bytes())?;

@@ -21,9 +21,9 @@ pub enum Refusal {
 }
 
 impl Refusal {
-    /// The name that a refusal is told by, without what it carries.
+    /// The name that an answer has for a refusal, without what it carries.
     pub fn name(&self) -> &'static str
-        ensures { result.now ≡ refusal_name self.now }
+        ensures value { result.now ≡ refusal_name self.now }
     {
         match self {
             Refusal::Syntax => "Syntax",

@@ -6,8 +6,8 @@ ghost use Rattle.zarrs_chunk.specs.Indexer.{selection_of};
 ghost use Rattle.zarrs_data_type.specs.ElementType.{fixed_size_of};
 ghost use Rattle.zarrs_array_bytes.specs.Validity.{Holds};
 ghost use Rattle.zarrs_bytes.specs.MemoryHandle.{stored};
-ghost use Rattle.zarrs_chain_lines.specs.Commands.{opened, part_of, encode_answer, load_answer, decode_value, decode_answer, read_answer, value_answer, answer_to};
-ghost use Rattle.zarrs_chain_lines.specs.Header.{shape_at, data_type_at, fill_value_at, codecs_at, header_in, header_of as header_of_line};
+ghost use Rattle.zarrs_chain_lines.specs.Commands.{first_state, part_of, encode_answer, load_answer, chunk_answer, decode_answer, read_answer, value_answer, answer_to};
+ghost use Rattle.zarrs_chain_lines.specs.Header.{shape_at, data_type_at, fill_value_at, codecs_at, header_in, line_header};
 ghost use Rattle.zarrs_chain_lines.specs.Refusal.{wants_memory};
 
 use crate::codec::codec;
@@ -42,9 +42,7 @@ fn shape(alloc: Global, tree: Option<&Value>) -> Result<ChunkShape, Refusal>
     let Some(tree) = tree else {
         return Err(Refusal::Syntax);
     };
-    let Some(sizes) = numbers(alloc, tree)? else {
-        return Err(Refusal::Syntax);
-    };
+    let sizes = numbers(alloc, tree)?;
     ChunkShape::new(sizes).ok_or(Refusal::Syntax)
 }
 
@@ -105,7 +103,7 @@ impl Session {
     ghost use Rattle.zarrs_chain_lines.specs.Session.{state_of};
 
     fn open_among(alloc: Global, members: &Members) -> Result<Session, Refusal>
-        ensures { Answers wants_memory state_of result (seen opened (header_in (members_view members.now.entries))) }
+        ensures { Answers wants_memory state_of result (seen first_state (header_in (members_view members.now.entries))) }
     {
         let shape = shape(alloc, member(members, "shape"))?;
         let data_type = named_type(member(members, "data_type"))?;
@@ -126,7 +124,7 @@ impl Session {
     /// `codecs` don't read, in this order and each with its own refusals; then those of the codec's
     /// representation; `OutOfMemory`.
     pub fn open(alloc: Global, header: &[u8]) -> Result<Session, Refusal>
-        ensures { Answers wants_memory state_of result (seen opened (header_of_line header.now)) }
+        ensures answer { Answers wants_memory state_of result (seen first_state (line_header header.now)) }
     {
         let tree = tree(alloc, header)?;
         let members = object(&tree)?;
@@ -161,7 +159,7 @@ impl Session {
     }
 
     fn decode_value(&self, alloc: Global, value: &[u8]) -> Result<Vec<u8>, Refusal>
-        ensures { Answers wants_memory (λ line. (line.items, state_of self.now)) result (decode_value (state_of self.now) value.now) }
+        ensures { Answers wants_memory (λ line. (line.items, state_of self.now)) result (chunk_answer (state_of self.now) value.now) }
     {
         let elements = self.codec.decode(
             alloc,
