@@ -19,10 +19,10 @@ use Rattle.zarrs_array_bytes.specs.Validity.{Holds}
 use Rattle.zarrs_array_bytes.specs.Pieces.{pieces}
 use Rattle.zarrs_array_bytes.proofs.Pieces.{AllSized, length-concat, pieces-concat}
 use Rattle.zarrs_bytes.specs.ByteOrder.{turned, ordered}
-use Rattle.zarrs_bytes.specs.ByteRanges.{range_indices, read_ranges}
-use Rattle.zarrs_bytes.specs.BytesCodec.{element_read, turn_size}
-use Rattle.zarrs_bytes.specs.PartialRead.{place_bytes, size_of, IsFilledType, read_places}
-use Rattle.zarrs_bytes.specs.ByteSpan.{ByteSpan}
+use Rattle.zarrs_codec.specs.ByteRanges.{range_indices, read_ranges}
+use Rattle.zarrs_bytes.specs.BytesCodec.{bytes_element, turn_size}
+use Rattle.zarrs_bytes.specs.PartialRead.{place_bytes, place_size, IsFilledType, read_places}
+use Rattle.zarrs_codec.specs.ByteSpan.{ByteSpan}
 use Rattle.zarrs_bytes.proofs.Coding.{ok}
 use Rattle.zarrs_bytes.proofs.Ranges.{read_value-places}
 use Rattle.zarrs_bytes.proofs.Spelled.{length-turned, turned_is, Holds-pieces}
@@ -42,7 +42,7 @@ places_sized size value (place ∷ places) h =
       places_sized size value places both.1,
     )
 
-read_map : (order : Option Endianness) (width components : ℕ) (sign : Bool) (value places : List ℕ) → map (λ piece. plain (ordered order width components piece)) (map (piece (element_size width components) value) places) ≡ map (element_read order (fixed width components sign) value) places
+read_map : (order : Option Endianness) (width components : ℕ) (sign : Bool) (value places : List ℕ) → map (λ piece. plain (ordered order width components piece)) (map (piece (element_size width components) value) places) ≡ map (bytes_element order (fixed width components sign) value) places
 read_map order width components sign value [] = refl
 read_map order width components sign value (place ∷ places) =
     ap (λ (rest : List Element). plain (ordered order width components (piece (element_size width components) value place)) ∷ rest) (read_map order width components sign value places)
@@ -89,14 +89,14 @@ ranges_are size value places ranges positive numbers filled =
     ap (λ (r : Result (List ℕ) CodecError). r >>= λ y. ok (Some y)) (read_value-places size value places ranges positive numbers filled)
 
 -- bytes that were read, turned round, hold the elements at the places
-pub at_some : (order : Option Endianness) (type : ElementType) (fill places bytes' : List ℕ) (stored : Option (List ℕ)) (ranges : List ByteSpan) (raw : Raw) → IsFilledType type fill → range_indices ranges ≡ place_bytes (size_of type) places → All (λ range. range.start < range.end) ranges
+pub at_some : (order : Option Endianness) (type : ElementType) (fill places bytes' : List ℕ) (stored : Option (List ℕ)) (ranges : List ByteSpan) (raw : Raw) → IsFilledType type fill → range_indices ranges ≡ place_bytes (place_size type) places → All (λ range. range.start < range.end) ranges
     → read_ranges stored ranges ≡ Ok (Some bytes') → raw.items ≡ turned (turn_size order type) bytes' → length bytes' < 2 ^ 64 → IsOkAnd (read_places order type fill stored places) (Holds type (flen raw))
 at_some order (fixed width components sign) fill places bytes' None ranges raw t numbers filled read is small = absurd cc
 at_some order (fixed width components sign) fill places bytes' (Some value) ranges raw t numbers filled read is small =
     let type = fixed width components sign in
     let size = element_size width components in
     let parts = map (piece size value) places in
-    some_if (test_of size value places) (concat parts) bytes' (map (element_read order type value) places) (Holds type (flen raw))
+    some_if (test_of size value places) (concat parts) bytes' (map (bytes_element order type value) places) (Holds type (flen raw))
     (sym (ranges_are size value places ranges t.1 numbers filled) ∙ read)
     (λ inside same.
     let sized = places_sized size value places inside in
@@ -110,19 +110,19 @@ at_some order bytes fill places bytes' stored ranges raw t numbers filled read i
 at_some order (optional type) fill places bytes' stored ranges raw t numbers filled read is small = absurd t
 
 -- a refused read is the refusal of the places
-pub at_err : (order : Option Endianness) (type : ElementType) (fill places : List ℕ) (stored : Option (List ℕ)) (ranges : List ByteSpan) (e : CodecError) → IsFilledType type fill → range_indices ranges ≡ place_bytes (size_of type) places → All (λ range. range.start < range.end) ranges
+pub at_err : (order : Option Endianness) (type : ElementType) (fill places : List ℕ) (stored : Option (List ℕ)) (ranges : List ByteSpan) (e : CodecError) → IsFilledType type fill → range_indices ranges ≡ place_bytes (place_size type) places → All (λ range. range.start < range.end) ranges
     → read_ranges stored ranges ≡ Err e → read_places order type fill stored places ≡ Err e
 at_err order (fixed width components sign) fill places None ranges e t numbers filled read = absurd cc
 at_err order (fixed width components sign) fill places (Some value) ranges e t numbers filled read =
     let size = element_size width components in
-    err_if (test_of size value places) (concat (map (piece size value) places)) (map (element_read order (fixed width components sign) value) places) e
+    err_if (test_of size value places) (concat (map (piece size value) places)) (map (bytes_element order (fixed width components sign) value) places) e
     (sym (ranges_are size value places ranges t.1 numbers filled) ∙ read)
 at_err order text fill places stored ranges e t numbers filled read = absurd t
 at_err order bytes fill places stored ranges e t numbers filled read = absurd t
 at_err order (optional type) fill places stored ranges e t numbers filled read = absurd t
 
 -- where nothing is stored, copies of the fill element hold the elements at the places
-pub at_none : (order : Option Endianness) (type : ElementType) (fill places : List ℕ) (stored : Option (List ℕ)) (ranges : List ByteSpan) (raw : Raw) → IsFilledType type fill → range_indices ranges ≡ place_bytes (size_of type) places → All (λ range. range.start < range.end) ranges
+pub at_none : (order : Option Endianness) (type : ElementType) (fill places : List ℕ) (stored : Option (List ℕ)) (ranges : List ByteSpan) (raw : Raw) → IsFilledType type fill → range_indices ranges ≡ place_bytes (place_size type) places → All (λ range. range.start < range.end) ranges
     → read_ranges stored ranges ≡ Ok None → raw.items ≡ flat_map (λ _. fill) places → length raw.items < 2 ^ 64 → IsOkAnd (read_places order type fill stored places) (Holds type (flen raw))
 at_none order (fixed width components sign) fill places None ranges raw t numbers filled read is small =
     let parts = map (λ _. fill) places in

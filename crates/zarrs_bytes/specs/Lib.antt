@@ -1,11 +1,5 @@
 pub mod ByteOrder
-pub mod ByteRanges
-pub mod ByteSpan
 pub mod BytesCodec
 pub mod BytesCodecPartial
-pub mod BytesRepresentation
-pub mod HandleState
 pub mod Laws
-pub mod MemoryHandle
 pub mod PartialRead
-pub mod Refused

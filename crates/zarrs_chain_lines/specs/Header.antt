@@ -6,7 +6,7 @@ use Rattle.zarrs_chunk.specs.Answer.{◌>>=◌}
 use Rattle.zarrs_chunk.specs.ChunkShape.{shape_of}
 use Rattle.zarrs_data_type.specs.ElementType.{ElementType}
 use Rattle.zarrs_data_type.specs.declared.endianness.Endianness.{Endianness}
-use Rattle.zarrs_bytes.specs.BytesCodec.{value_length}
+use Rattle.zarrs_bytes.specs.BytesCodec.{bytes_length}
 use Rattle.zarrs_chain_lines.specs.declared.refusal.Refusal.{Refusal}
 use Rattle.zarrs_chain_lines.specs.declared.refusal.Refusal.TheVariants.{Syntax}
 use Rattle.zarrs_chain_lines.specs.Refusal.{codec_answer}
@@ -54,7 +54,7 @@ header_in members = do
   data_type ← data_type_at (get_member (codes "data_type") members)
   fill ← fill_value_at (get_member (codes "fill_value") members)
   order ← codecs_at (get_member (codes "codecs") members)
-  _ ← codec_answer (value_length order sizes data_type fill)
+  _ ← codec_answer (bytes_length order sizes data_type fill)
   Ok (record { sizes = sizes; data_type = data_type; fill = fill; order = order })
 
 -- the header that a line is, a JSON object; keys that it doesn't need are passed over

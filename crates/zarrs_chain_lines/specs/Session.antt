@@ -1,5 +1,5 @@
 -- What a session is seen as.
-use Rattle.zarrs_bytes.specs.MemoryHandle.{stored}
+use Rattle.zarrs_codec.specs.MemoryHandle.{stored}
 use Rattle.zarrs_chain_lines.specs.Commands.{State}
 use Rattle.zarrs_chain_lines.specs.Header.{Header}
 use Rattle.zarrs_chain_lines.specs.declared.session.Session.{Session}

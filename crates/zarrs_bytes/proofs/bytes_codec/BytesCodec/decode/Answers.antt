@@ -3,7 +3,7 @@ use Rattle.std.specs.Prelude.{IsOkAnd}
 use Rattle.zarrs_array_bytes.specs.Held.{raw_of}
 use Rattle.zarrs_array_bytes.specs.Validity.{Holds}
 use Rattle.zarrs_bytes.specs.ByteOrder.{turned}
-use Rattle.zarrs_bytes.specs.BytesCodec.{decoded, turn_size}
+use Rattle.zarrs_bytes.specs.BytesCodec.{bytes_chunk, turn_size}
 use Rattle.zarrs_array_bytes.proofs.ValidLemmas.{raw_items}
 use Rattle.zarrs_bytes.proofs.Coding.{ok, decoded_holds}
 use Rattle.zarrs_bytes.proofs.Exact.{stands_length, holds_stands, holds_only}
@@ -12,7 +12,7 @@ use Rattle.zarrs_bytes.proofs.bytes_codec.BytesCodec.decode.Goals as goal
 items_are : (xs ys : List ℕ) → ok xs ≡ ok ys → ys ≡ xs
 items_are xs ys e = cc
 
-exactly : (c : goal.After-new_flen) → IsOkAnd (decoded c.args.self.now c.args.shape.now c.args.data_type.now c.args.fill_value.now (raw_of c.args.value).items) (Holds c.args.data_type.now c.new_flen.result)
+exactly : (c : goal.After-new_flen) → IsOkAnd (bytes_chunk c.args.self.now c.args.shape.now c.args.data_type.now c.args.fill_value.now (raw_of c.args.value).items) (Holds c.args.data_type.now c.new_flen.result)
 exactly c =
     let long : length (raw_of c.args.value).items ≡ c.in_ok-lengths.lengths.bytes = omega (arith, ap length (raw_items c.args.value)) in
     let is : (raw_of c.in_ok-elements.elements).items ≡ turned (turn_size c.args.self.now c.args.data_type.now) (raw_of c.args.value).items
