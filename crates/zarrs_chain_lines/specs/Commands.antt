@@ -107,14 +107,14 @@ command_named word (Some argument) =
     else if bytes_eq word (codes "read") then read_part argument
     else unknown
 
--- the text before a space at this place and the text behind it; all of it is the word where there is none
-abbrev pub command_split : Option ℕ → List ℕ → Command
-command_split None line = command_named line None
-command_split (Some at) line = command_named (take at line) (Some (drop (at + 1) line))
+-- the command of a line with its first space at this place: a word before it and an argument behind it, or a word alone
+abbrev pub command_at : Option ℕ → List ℕ → Command
+command_at None line = command_named line None
+command_at (Some at) line = command_named (take at line) (Some (drop (at + 1) line))
 
 -- a line is a word and, behind the first space, an argument
 abbrev pub command_of : List ℕ → Command
-command_of line = command_split (position (λ byte. byte == 32) line) line
+command_of line = command_at (position (λ byte. byte == 32) line) line
 
 -- what a command answers; the word or its argument may be unknown
 abbrev pub command_answer : State → Command → LineAnswer

@@ -1,4 +1,5 @@
-//! Plays the transcripts of the tool that lie in the folder that the program is run in.
+//! Plays the transcripts of the tool that lie in the folder that the argument names, or without one
+//! in the folder that the program is run in.
 //!
 //! A transcript is a file NAME.txt that reads like a page of a manual: lines that are sent, and below
 //! each the line that has to come back. How its lines begin:
@@ -19,9 +20,17 @@
 mod transcript;
 
 use std::process::ExitCode;
-use std::rt::Files;
-use std::{fs, io};
+use std::rt::{Env, Files};
+use std::{env, fs, io};
 use transcript::{Difference, first_difference};
+
+/// Goes to the folder that the argument names, if there is one.
+fn enter_folder<R: Env + AllocGlobal>(rt: &R) -> io::Result<()> {
+    match env::args(rt)?.nth(1) {
+        Some(folder) => env::set_current_dir(rt, folder.as_str()),
+        None => Ok(()),
+    }
+}
 
 /// The names of the transcripts in the folder, in order.
 fn names<R: Files + AllocGlobal + Clone + Drop>(rt: &R) -> io::Result<Vec<String>> {
@@ -77,6 +86,7 @@ fn play_all<R: Files + Print + AllocGlobal + Clone + Drop>(rt: &R) -> io::Result
 }
 
 fn main(rt: HostRuntime) -> io::Result<ExitCode> {
+    enter_folder(&rt)?;
     if play_all(&rt)? {
         Ok(ExitCode::SUCCESS)
     } else {
