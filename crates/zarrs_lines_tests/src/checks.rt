@@ -10,7 +10,7 @@ pub const HEADER: &str =
     r#"{"shape":[1],"data_type":"uint8","fill_value":"00","codecs":["bytes"]}"#;
 
 /// What came is what is wanted.
-pub fn is<R: Abort, T: PartialEq + Debug + ?Sized>(rt: &R, what: &str, came: &T, wanted: &T) {
+pub fn is<R: Abort, T: PartialEq + Debug>(rt: &R, what: &str, came: &T, wanted: &T) {
     assert_eq!(rt; came, wanted, "{what}");
 }
 
@@ -33,5 +33,5 @@ pub fn check_run<R: Abort + AllocGlobal, B: BufRead>(
     let mut written = Vec::new(rt.alloc());
     let ended = run(rt.alloc(), reader, &mut written);
     is(rt, what, &ended, &end);
-    is(rt, what, written.as_slice(), answers);
+    is(rt, what, &written.as_slice(), &answers);
 }
