@@ -11,5 +11,6 @@ pub mod FilledLemmas
 pub mod WriteLemmas
 pub mod UpdatedLemmas
 pub mod UpdateCalls
+pub mod ElementLaw
 pub mod UpdateLaw
 pub mod AnswerLemmas

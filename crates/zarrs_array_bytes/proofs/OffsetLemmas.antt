@@ -1,9 +1,9 @@
 -- What follows from offsets that rise.
-use Rattle.std.proofs.Common.{◌≡◌, ℕ, zero, suc, ◌+◌, ◌<◌, ◌≤◌, Bool, true, false, List, [], ◌∷◌, length, map, slice_index, get_or, ◌&&◌, refl, ◌∙◌, arith, leb-true, le-leb, add-one, sub-one, zero-add, length-append}
+use Rattle.std.proofs.Common.{◌≡◌, ℕ, zero, suc, ◌+◌, ◌<◌, ◌≤◌, Bool, true, false, List, [], ◌∷◌, length, map, slice_index, get_or, ◌&&◌, ◌++◌, refl, ap, ◌∙◌, arith, leb-true, le-leb, add-one, sub-one, zero-add, length-append}
 use Rattle.std.proofs.lemmas.Bool.{false≢true}
 use Rattle.std.specs.List.{flat_map}
 use Rattle.zarrs_array_bytes.specs.Offsets.{rises, is_offsets, last_of}
-use Rattle.zarrs_array_bytes.specs.Pieces.{ends, gathered}
+use Rattle.zarrs_array_bytes.specs.Pieces.{ends, bytes_with_offsets}
 
 pub both_true : (a b : Bool) → a && b ≡ true → (a ≡ true) × (b ≡ true)
 both_true true b h = (refl, h)
@@ -44,10 +44,17 @@ last_of-ends : {X : Type 0} (f : X → List ℕ) (at : ℕ) (ps : List X) → la
 last_of-ends f at ps = rw sub-one (at_end f at ps)
 
 -- what is gathered has offsets that rise to its end
-pub gathered_rises : {X : Type 0} (f : X → List ℕ) (xs : List X) → is_offsets (gathered f xs).1 ≡ true
-gathered_rises f xs = ends_rise 0 (map f xs)
+pub offsets_rise : {X : Type 0} (f : X → List ℕ) (xs : List X) → is_offsets (bytes_with_offsets f xs).1 ≡ true
+offsets_rise f xs = ends_rise 0 (map f xs)
 
-pub gathered_ends : {X : Type 0} (f : X → List ℕ) (xs : List X) → last_of (gathered f xs).1 ≡ length (gathered f xs).0
-gathered_ends f xs = last_of-ends f 0 xs ∙ zero-add _
+pub offsets_end : {X : Type 0} (f : X → List ℕ) (xs : List X) → last_of (bytes_with_offsets f xs).1 ≡ length (bytes_with_offsets f xs).0
+offsets_end f xs = last_of-ends f 0 xs ∙ zero-add _
+
+-- the ends of some lists, and those of the lists behind them
+pub ends-append : {X : Type 0} (f : X → List ℕ) (start : ℕ) (ps qs : List X) → ends start (map f (ps ++ qs)) ≡ ends start (map f ps) ++ ends (start + length (flat_map f ps)) (map f qs)
+ends-append f start [] qs = ap (λ n. ends n (map f qs)) (let e : start ≡ start + 0 = omega arith in e)
+ends-append f start (p ∷ ps) qs =
+    let e : start + length (f p) + length (flat_map f ps) ≡ start + length (f p ++ flat_map f ps) = omega (arith, length-append (f p) (flat_map f ps)) in
+    ap (λ ns. (start + length (f p)) ∷ ns) (ends-append f (start + length (f p)) ps qs ∙ ap (λ n. ends (start + length (f p)) (map f ps) ++ ends n (map f qs)) e)
 
 pub ruleset offsets_facts = (rising_steps, rising_last)

@@ -3,8 +3,9 @@ ghost use Rattle.zarrs_chunk.specs.Answer.{Answers, memory, is_fault};
 ghost use Rattle.zarrs_chunk.specs.Runs.{joined_runs};
 ghost use Rattle.zarrs_array_bytes.specs.Elements.{cut};
 ghost use Rattle.zarrs_array_bytes.specs.Offsets.{is_offsets, last_of};
-ghost use Rattle.zarrs_array_bytes.specs.Pieces.{gathered};
-ghost use Rattle.zarrs_array_bytes.specs.Sources.{sources, chosen, IsSourceOf};
+ghost use Rattle.zarrs_array_bytes.specs.Pieces.{bytes_with_offsets};
+ghost use Rattle.zarrs_array_bytes.specs.Sources.{sources, source_bytes, IsSourceOf};
+ghost use Rattle.zarrs_array_bytes.specs.Update.{cuts_update};
 
 use crate::gather::cut_of;
 use crate::runs::places_of_runs;
@@ -36,7 +37,7 @@ pub(crate) fn written_cuts(
     requires inside { All (λ run. run.0 + run.1 ≤ length old_offsets.now - 1) runs.now }
     requires enough { length new_offsets.now ≡ length (joined_runs runs.now) + 1 }
     ensures exact { Answers memory (λ parts. (parts.0.items, parts.1.items)) result
-        (Ok (gathered (chosen (cut old_offsets.now old.now) (cut new_offsets.now new.now)) (sources (length old_offsets.now - 1) (joined_runs runs.now)))) }
+        (Ok (cuts_update old_offsets.now old.now new_offsets.now new.now (joined_runs runs.now))) }
     ensures no_fault { is_fault result ≡ false }
 {
     let places = places_of_runs(alloc, runs)?;
@@ -77,19 +78,36 @@ fn gather_sources(
     requires new_ending { last_of new_offsets.now ≡ length new.now }
     requires known { All (IsSourceOf (length old_offsets.now - 1) (length new_offsets.now - 1)) from.now }
     ensures exact { Answers memory (λ parts. (parts.0.items, parts.1.items)) result
-        (Ok (gathered (chosen (cut old_offsets.now old.now) (cut new_offsets.now new.now)) from.now)) }
+        (Ok (bytes_with_offsets (source_bytes (cut old_offsets.now old.now) (cut new_offsets.now new.now)) from.now)) }
     ensures no_fault { is_fault result ≡ false }
 {
     let mut out = Vec::new(alloc);
     let mut ends = Vec::with_capacity(alloc, from.len().saturating_add(1))?;
     ends.push(0)?;
     for source in from {
-        let part = match *source {
-            Source::Old(place) => cut_of(old, old_offsets, place),
-            Source::New(place) => cut_of(new, new_offsets, place),
-        };
-        out.extend_from_slice(part)?;
+        out.extend_from_slice(bytes_at(old, old_offsets, new, new_offsets, *source))?;
         ends.push(out.len())?;
     }
     Ok((out, ends))
+}
+
+/// The bytes of the element at a source.
+fn bytes_at<'a>(
+    old: &'a [u8],
+    old_offsets: &[usize],
+    new: &'a [u8],
+    new_offsets: &[usize],
+    source: Source,
+) -> &'a [u8]
+    requires old_rising { is_offsets old_offsets.now ≡ true }
+    requires old_ending { last_of old_offsets.now ≡ length old.now }
+    requires new_rising { is_offsets new_offsets.now ≡ true }
+    requires new_ending { last_of new_offsets.now ≡ length new.now }
+    requires known { IsSourceOf (length old_offsets.now - 1) (length new_offsets.now - 1) source }
+    ensures bytes { result.now ≡ source_bytes (cut old_offsets.now old.now) (cut new_offsets.now new.now) source }
+{
+    match source {
+        Source::Old(place) => cut_of(old, old_offsets, place),
+        Source::New(place) => cut_of(new, new_offsets, place),
+    }
 }

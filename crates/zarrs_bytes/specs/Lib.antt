@@ -3,3 +3,18 @@ pub mod BytesCodec
 pub mod BytesCodecPartial
 pub mod Laws
 pub mod PartialRead
+
+pub use Rattle.zarrs_chunk.specs.Answer
+pub use Rattle.zarrs_chunk.specs.ChunkShape
+pub use Rattle.zarrs_chunk.specs.Indexer
+pub use Rattle.zarrs_chunk.specs.Runs
+pub use Rattle.zarrs_chunk.specs.Selection
+pub use Rattle.zarrs_data_type.specs.Element
+pub use Rattle.zarrs_data_type.specs.ElementType
+pub use Rattle.zarrs_data_type.specs.FillValue
+pub use Rattle.zarrs_array_bytes.specs.Elements
+pub use Rattle.zarrs_array_bytes.specs.Held
+pub use Rattle.zarrs_array_bytes.specs.Validity
+pub use Rattle.zarrs_codec.specs.ByteRanges
+pub use Rattle.zarrs_codec.specs.Refused
+pub use Rattle.zarrs_codec.specs.StorageState

@@ -290,9 +290,9 @@ impl<H: BytesPartialDecoderTraits> BytesCodecPartial<H> {
         ensures sum { let form = bytes_form_of self.now in IfOk result (λ ranges. IfOk (places_of (selection_of indexer.now) form.sizes) (λ places. sum_by (λ range. range.end - range.start) ranges.items ≡ length places * place_size form.type)) }
         ensures no_fault { is_fault result ≡ false }
     {
-        let runs = indexer.runs(alloc, &self.shape)?;
+        let asked = indexer.runs(alloc, &self.shape)?;
         let size = element_size(&self.data_type, &self.fill_value);
-        let ranges = run_ranges(alloc, size as u64, runs.as_slice())?;
+        let ranges = run_ranges(alloc, size as u64, asked.as_slice())?;
         Ok(ranges)
     }
 

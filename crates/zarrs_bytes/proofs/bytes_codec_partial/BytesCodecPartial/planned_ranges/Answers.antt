@@ -13,11 +13,11 @@ pub run_ranges-requires-clause-ends : goal.run_ranges-requires-clause-ends
 run_ranges-requires-clause-ends g c =
     let form = c.args.self.now in
     let small = taken_small form.codec form.shape form.data_type form.fill_value form.taken in
-    rw (c.as_slice.ensures.value, c.element_size-size.ensures.size) (runs_fit c.in_ok-runs.runs.items (product form.shape) (place_size form.data_type) c.in_ok-runs.ensures.below small)
+    rw (c.as_slice.ensures.value, c.element_size-size.ensures.size) (runs_fit c.in_ok-asked.asked.items (product form.shape) (place_size form.data_type) c.in_ok-asked.ensures.below small)
 
 pub returns-clause-sum : goal.returns-clause-sum
 returns-clause-sum g c =
     let size = place_size c.args.self.now.data_type in
-    let places = joined_runs c.in_ok-runs.runs.items in
+    let places = joined_runs c.in_ok-asked.asked.items in
     let sum = ranges_sum size places c.in_ok-ranges.ranges.items (c.in_ok-ranges.ensures.bytes ∙ (λ i. place_bytes (c.element_size-size.ensures.size i) (joined_runs (c.as_slice.ensures.value i)))) in
-    subst (λ (r : Result (List ℕ) CodecError). IfOk r (λ ps. sum_by (λ range. range.end - range.start) c.in_ok-ranges.ranges.items ≡ length ps * size)) (sym c.in_ok-runs.ensures.places) sum
+    subst (λ (r : Result (List ℕ) CodecError). IfOk r (λ ps. sum_by (λ range. range.end - range.start) c.in_ok-ranges.ranges.items ≡ length ps * size)) (sym c.in_ok-asked.ensures.places) sum
