@@ -10,7 +10,7 @@ use Rattle.zarrs_chunk.specs.Answer.{◌>>=◌, demand}
 use Rattle.zarrs_chunk.specs.declared.codec_error.CodecError.TheVariants.{ArrayBytesKind, InvalidBytesLength}
 use Rattle.zarrs_data_type.specs.Element.{Element, plain, absent, present, Chunk}
 use Rattle.zarrs_data_type.specs.ElementType.{ElementType, fixed_size_of}
-use Rattle.zarrs_array_bytes.specs.Held.{Held, flen, owned}
+use Rattle.zarrs_array_bytes.specs.Held.{Held, flen, owned_bytes}
 use Rattle.zarrs_bytes.specs.ByteOrder.{bytes_of}
 use Rattle.zarrs_chain_lines.specs.declared.refusal.Refusal.{Refusal}
 use Rattle.zarrs_chain_lines.specs.declared.refusal.Refusal.TheVariants.{Syntax, Codec}
@@ -60,7 +60,7 @@ chunk_bytes chunk = concat (map bytes_of chunk)
 
 -- a container of elements of a fixed type
 abbrev pub container_of : Chunk → Held
-container_of chunk = flen (owned (chunk_bytes chunk))
+container_of chunk = flen (owned_bytes (chunk_bytes chunk))
 
 -- ---- shown
 

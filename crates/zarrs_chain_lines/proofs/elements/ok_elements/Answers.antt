@@ -27,6 +27,6 @@ returns c =
     let positive : 0 < size = positive_size c.fixed_size.result size c.unwrap-size.ensures c.fixed_size.ensures.positive in
     record {
       answer = λ chunk holds.
-          let pieces = held_pieces c.args.data_type.now c.args.elements raw size chunk holds sized (sym c.in_ok-bytes.ensures) positive in
+          let pieces = held_pieces c.args.data_type.now c.args.elements raw size chunk holds sized (sym c.in_ok-bytes.ensures.answer) positive in
           ap Ok (shown_line chunk c.in_ok-items.items c.in_ok-line.line.items c.as_slice.result.now raw.items size pieces (c.as_slice.ensures.value ∙ raw_items c.in_ok-bytes.bytes) c.in_ok-items.ensures c.in_ok-line.ensures.value);
     }
