@@ -1,7 +1,7 @@
 -- What follows from offsets that rise.
 use Rattle.std.proofs.Common.{◌≡◌, ℕ, zero, suc, ◌+◌, ◌<◌, ◌≤◌, Bool, true, false, List, [], ◌∷◌, length, map, slice_index, get_or, ◌&&◌, ◌++◌, refl, ap, ◌∙◌, arith, leb-true, le-leb, add-one, sub-one, zero-add, length-append}
 use Rattle.std.proofs.lemmas.Bool.{false≢true}
-use Rattle.std.specs.List.{flat_map}
+use Rattle.std.specs.List.{concat, flat_map}
 use Rattle.zarrs_array_bytes.specs.Offsets.{rises, is_offsets, last_of}
 use Rattle.zarrs_array_bytes.specs.Pieces.{ends, bytes_with_offsets}
 
@@ -50,11 +50,16 @@ offsets_rise f xs = ends_rise 0 (map f xs)
 pub offsets_end : {X : Type 0} (f : X → List ℕ) (xs : List X) → last_of (bytes_with_offsets f xs).1 ≡ length (bytes_with_offsets f xs).0
 offsets_end f xs = last_of-ends f 0 xs ∙ zero-add _
 
+-- the bytes that a function gives are its lists, joined
+pub flat_map-concat : {X : Type 0} (f : X → List ℕ) (xs : List X) → flat_map f xs ≡ concat (map f xs)
+flat_map-concat f [] = refl
+flat_map-concat f (x ∷ xs) = ap (λ ys. f x ++ ys) (flat_map-concat f xs)
+
 -- the ends of some lists, and those of the lists behind them
-pub ends-append : {X : Type 0} (f : X → List ℕ) (start : ℕ) (ps qs : List X) → ends start (map f (ps ++ qs)) ≡ ends start (map f ps) ++ ends (start + length (flat_map f ps)) (map f qs)
-ends-append f start [] qs = ap (λ n. ends n (map f qs)) (let e : start ≡ start + 0 = omega arith in e)
-ends-append f start (p ∷ ps) qs =
-    let e : start + length (f p) + length (flat_map f ps) ≡ start + length (f p ++ flat_map f ps) = omega (arith, length-append (f p) (flat_map f ps)) in
-    ap (λ ns. (start + length (f p)) ∷ ns) (ends-append f (start + length (f p)) ps qs ∙ ap (λ n. ends (start + length (f p)) (map f ps) ++ ends n (map f qs)) e)
+pub ends-append : (start : ℕ) (xs ys : List (List ℕ)) → ends start (xs ++ ys) ≡ ends start xs ++ ends (start + length (concat xs)) ys
+ends-append start [] ys = let e : start ≡ start + 0 = omega arith in ap (λ n. ends n ys) e
+ends-append start (x ∷ xs) ys =
+    let e : start + length x + length (concat xs) ≡ start + length (x ++ concat xs) = omega (arith, length-append x (concat xs)) in
+    ap (λ ns. (start + length x) ∷ ns) (ends-append (start + length x) xs ys ∙ ap (λ n. ends (start + length x) xs ++ ends n ys) e)
 
 pub ruleset offsets_facts = (rising_steps, rising_last)

@@ -90,14 +90,14 @@ All-update P xs (p ∷ ps) (y ∷ ys) h e = All-update P (set xs p y) ps ys (All
 pub sources_known : (n : ℕ) (ps : List ℕ) → All (IsSourceOf n (length ps)) (sources n ps)
 sources_known n ps = All-update (IsSourceOf n (length ps)) (map Old (range_with_len 0 n)) ps (map New (range_with_len 0 (length ps))) (old_sources n (length ps) 0 n (omega arith)) (new_sources n (length ps) 0 (length ps) (omega arith))
 
-gathered-map : {X : Type 0} (f : X → List ℕ) (xs : List X) → bytes_with_offsets f xs ≡ bytes_with_offsets (λ (part : List ℕ). part) (map f xs)
-gathered-map f xs = ap₂ (λ bs parts. (bs, 0 ∷ ends 0 parts)) (sym (flat_map-map (λ (part : List ℕ). part) f xs)) (sym (map-id (map f xs)))
+bytes_with_offsets-map : {X : Type 0} (f : X → List ℕ) (xs : List X) → bytes_with_offsets f xs ≡ bytes_with_offsets (λ (part : List ℕ). part) (map f xs)
+bytes_with_offsets-map f xs = ap₂ (λ bs parts. (bs, 0 ∷ ends 0 parts)) (sym (flat_map-map (λ (part : List ℕ). part) f xs)) (sym (map-id (map f xs)))
 
 -- what the sources give is an update of what they are taken from
-pub gathered-sources : (f g : ℕ → List ℕ) (n : ℕ) (ps : List ℕ)
+pub bytes_with_offsets-sources : (f g : ℕ → List ℕ) (n : ℕ) (ps : List ℕ)
     → bytes_with_offsets (source_bytes f g) (sources n ps) ≡ bytes_with_offsets (λ (part : List ℕ). part) (update (map f (range_with_len 0 n)) ps (map g (range_with_len 0 (length ps))))
-gathered-sources f g n ps =
-    gathered-map (source_bytes f g) (sources n ps)
+bytes_with_offsets-sources f g n ps =
+    bytes_with_offsets-map (source_bytes f g) (sources n ps)
     ∙ ap (λ parts. bytes_with_offsets (λ (part : List ℕ). part) parts) (map-update (source_bytes f g) (map Old (range_with_len 0 n)) ps (map New (range_with_len 0 (length ps)))
     ∙ ap₂ (λ xs ys. update xs ps ys) (map-map (source_bytes f g) Old (range_with_len 0 n)) (map-map (source_bytes f g) New (range_with_len 0 (length ps))))
 
@@ -165,5 +165,5 @@ pub cuts_update-sources : (os old us new ps : List ℕ) → length us ≡ length
     → bytes_with_offsets (source_bytes (cut os old) (cut us new)) (sources (length os - 1) ps) ≡ cuts_update os old us new ps
 cuts_update-sources os old us new ps e =
     let count : length ps ≡ length us - 1 = omega (arith, e) in
-    gathered-sources (cut os old) (cut us new) (length os - 1) ps
+    bytes_with_offsets-sources (cut os old) (cut us new) (length os - 1) ps
     ∙ ap (λ m. bytes_with_offsets (λ (part : List ℕ). part) (update (cuts (length os - 1) os old) ps (cuts m us new))) count

@@ -24,14 +24,14 @@ map-update f xs (p ∷ ps) [] = refl
 map-update f xs (p ∷ ps) (y ∷ ys) = map-update f (set xs p y) ps ys ∙ ap (λ zs. update zs ps (map f ys)) (map-set f xs p y)
 
 -- one list of writes behind another
-update-append : {A : Type 0} (xs : List A) (ps qs : List ℕ) (ys zs : List A) → length ps ≡ length ys → update xs (ps ++ qs) (ys ++ zs) ≡ update (update xs ps ys) qs zs
+pub update-append : {A : Type 0} (xs : List A) (ps qs : List ℕ) (ys zs : List A) → length ps ≡ length ys → update xs (ps ++ qs) (ys ++ zs) ≡ update (update xs ps ys) qs zs
 update-append xs [] qs [] zs e = refl
 update-append xs [] qs (y ∷ ys) zs e = absurd (omega arith)
 update-append xs (p ∷ ps) qs [] zs e = absurd (omega arith)
 update-append xs (p ∷ ps) qs (y ∷ ys) zs e = update-append (set xs p y) ps qs ys zs (omega arith)
 
 -- writes at consecutive places replace a part
-update-run : {A : Type 0} (front mid back new : List A) (at : ℕ) → length front ≡ at → length mid ≡ length new
+pub update-run : {A : Type 0} (front mid back new : List A) (at : ℕ) → length front ≡ at → length mid ≡ length new
     → update (front ++ (mid ++ back)) (range_with_len at (length new)) new ≡ front ++ (new ++ back)
 update-run front [] back [] at e f = refl
 update-run front (m ∷ mid) back [] at e f = absurd (omega arith)

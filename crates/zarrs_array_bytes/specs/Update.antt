@@ -1,10 +1,10 @@
 -- Writes at places, the last one of a place standing.
-use Rattle.std.specs.Prelude.{ℕ, ◌+◌, ◌-◌, ◌*◌, List, [], ◌∷◌, ◌++◌, length, map, take, drop, set}
+use Rattle.std.specs.Prelude.{ℕ, ◌+◌, ◌-◌, ◌*◌, Bool, true, nat_le, ◌&&◌, List, [], ◌∷◌, ◌++◌, length, map, take, drop, set}
 use Rattle.std.specs.List.{concat, range_with_len}
 use Rattle.zarrs_data_type.specs.ElementType.{ElementType, fixed, text, bytes, optional, element_size}
 use Rattle.zarrs_array_bytes.specs.Held.{Held, flen, vlen, masked, owned_bytes}
 use Rattle.zarrs_array_bytes.specs.Elements.{cut}
-use Rattle.zarrs_array_bytes.specs.Pieces.{pieces, bytes_with_offsets, variable_of}
+use Rattle.zarrs_array_bytes.specs.Pieces.{pieces, ends, bytes_with_offsets, variable_of}
 
 -- the list with the item at the first place replaced by the first new one, then the item at the second place by the second, and so on
 abbrev pub update : {A : Type 0} → List A → List ℕ → List A → List A
@@ -15,6 +15,15 @@ update old (place ∷ places) (item ∷ new) = update (set old place item) place
 -- the bytes between each offset and the next, of so many elements
 abbrev pub cuts : ℕ → List ℕ → List ℕ → List (List ℕ)
 cuts count offsets items = map (cut offsets items) (range_with_len 0 count)
+
+-- the runs begin at this place or behind it, and none before the end of the one before
+abbrev pub is_rising : ℕ → List (ℕ × ℕ) → Bool
+is_rising at [] = true
+is_rising at (run ∷ runs) = nat_le at run.0 && is_rising (run.0 + run.1) runs
+
+-- bytes and offsets with more parts behind them
+abbrev pub with_parts : List ℕ × List ℕ → List (List ℕ) → List ℕ × List ℕ
+with_parts parts more = (parts.0 ++ concat more, parts.1 ++ ends (length parts.0) more)
 
 -- the list with the items from here on replaced
 abbrev pub with_items_at : List ℕ → ℕ → List ℕ → List ℕ

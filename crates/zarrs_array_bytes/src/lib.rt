@@ -13,6 +13,7 @@ pub mod laws;
 mod repeat;
 mod runs;
 mod sources;
+mod splice;
 mod update;
 mod validate;
 mod write;

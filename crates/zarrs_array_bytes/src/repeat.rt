@@ -7,12 +7,19 @@ ghost use Rattle.zarrs_array_bytes.specs.Pieces.{bytes_with_offsets};
 use std::alloc::{AllocError, Global};
 use zarrs_chunk::CodecError;
 
-/// Appends these bytes `count` times. Where that is refused, some of the copies may stand behind the
-/// old bytes. Refusals: `AllocError`.
-///
-/// One byte is written as by `memset`. Many copies of a few bytes are made by blocks of 16 copies,
-/// and those by blocks again, since each append costs as much as the copy of some dozen bytes.
+/// Appends these bytes `count` times. Room for all of them is made first. Where that is refused, some
+/// of the copies may stand behind the old bytes. Refusals: `AllocError`.
 pub fn append_copies(out: &mut Vec<u8>, bytes: &[u8], count: u64) -> Result<(), AllocError>
+    ensures appended { OnOk result (out.new.items ≡ out.old.items ++ copies bytes.now count) }
+{
+    out.reserve(bytes.len().saturating_mul(count as usize))?;
+    append_blocks(out, bytes, count)
+}
+
+/// Appends the bytes `count` times: one byte as by `memset`, many copies of a few bytes by blocks of
+/// 16 copies, and those by blocks again, since each append costs as much as the copy of some dozen
+/// bytes.
+fn append_blocks(out: &mut Vec<u8>, bytes: &[u8], count: u64) -> Result<(), AllocError>
     ensures appended { OnOk result (out.new.items ≡ out.old.items ++ copies bytes.now count) }
 {
     if let [byte] = bytes {
@@ -23,7 +30,7 @@ pub fn append_copies(out: &mut Vec<u8>, bytes: &[u8], count: u64) -> Result<(), 
     }
     let mut block = Vec::with_capacity(*out.allocator(), bytes.len() * 16)?;
     append_each(&mut block, bytes, 16)?;
-    append_copies(out, block.as_slice(), count / 16)?;
+    append_blocks(out, block.as_slice(), count / 16)?;
     append_each(out, bytes, count % 16)
 }
 

@@ -9,6 +9,7 @@ ghost use Rattle.zarrs_array_bytes.specs.Update.{cuts_update};
 
 use crate::gather::cut_of;
 use crate::runs::places_of_runs;
+use crate::splice::{are_rising, splice_cuts};
 use std::alloc::Global;
 use zarrs_chunk::CodecError;
 
@@ -40,6 +41,9 @@ pub(crate) fn written_cuts(
         (Ok (cuts_update old_offsets.now old.now new_offsets.now new.now (joined_runs runs.now))) }
     ensures no_fault { is_fault result ≡ false }
 {
+    if are_rising(runs) {
+        return splice_cuts(alloc, old, old_offsets, new, new_offsets, runs);
+    }
     let places = places_of_runs(alloc, runs)?;
     let from = sources_of(alloc, old_offsets.len() - 1, places.as_slice())?;
     gather_sources(alloc, old, old_offsets, new, new_offsets, from.as_slice())
@@ -47,7 +51,7 @@ pub(crate) fn written_cuts(
 
 /// For each of `count` places, where its element comes from after writes at these places.
 fn sources_of(alloc: Global, count: usize, places: &[u64]) -> Result<Vec<Source>, CodecError>
-    requires { All (λ place. place < count) places.now }
+    requires inside { All (λ place. place < count) places.now }
     ensures exact { Answers memory (λ v. v.items) result (Ok (sources count places.now)) }
     ensures no_fault { is_fault result ≡ false }
 {
@@ -81,7 +85,8 @@ fn gather_sources(
         (Ok (bytes_with_offsets (source_bytes (cut old_offsets.now old.now) (cut new_offsets.now new.now)) from.now)) }
     ensures no_fault { is_fault result ≡ false }
 {
-    let mut out = Vec::new(alloc);
+    let room = bytes_of_sources(old, old_offsets, new, new_offsets, from);
+    let mut out = Vec::with_capacity(alloc, room)?;
     let mut ends = Vec::with_capacity(alloc, from.len().saturating_add(1))?;
     ends.push(0)?;
     for source in from {
@@ -89,6 +94,28 @@ fn gather_sources(
         ends.push(out.len())?;
     }
     Ok((out, ends))
+}
+
+/// How many bytes to reserve for the elements at these sources.
+fn bytes_of_sources(
+    old: &[u8],
+    old_offsets: &[usize],
+    new: &[u8],
+    new_offsets: &[usize],
+    from: &[Source],
+) -> usize
+    requires old_rising { is_offsets old_offsets.now ≡ true }
+    requires old_ending { last_of old_offsets.now ≡ length old.now }
+    requires new_rising { is_offsets new_offsets.now ≡ true }
+    requires new_ending { last_of new_offsets.now ≡ length new.now }
+    requires known { All (IsSourceOf (length old_offsets.now - 1) (length new_offsets.now - 1)) from.now }
+{
+    let mut len: usize = 0;
+    for source in from {
+        let part = bytes_at(old, old_offsets, new, new_offsets, *source);
+        len = len.saturating_add(part.len());
+    }
+    len
 }
 
 /// The bytes of the element at a source.

@@ -1,5 +1,5 @@
 -- Values are written and read exactly where the grammar says.
-use Rattle.std.proofs.Common.{◌≡◌, ℕ, zero, suc, ◌*◌, ◌<◌, ◌^◌, ◌==◌, Bool, true, Option, Result, Ok, Err, List, [], ◌∷◌, length, map, get_or, nat_lt, arith, refl, ap, sym, ◌∙◌, subst}
+use Rattle.std.proofs.Common.{◌≡◌, ℕ, suc, ◌*◌, ◌^◌, ◌==◌, Bool, true, Option, Result, Ok, Err, List, [], ◌∷◌, length, map, nat_lt, arith, refl, ap, sym, ◌∙◌, subst}
 use Rattle.std.specs.List.{concat, range_with_len}
 use Rattle.std.specs.Prelude.{IsOkAnd}
 use Rattle.std.proofs.lemmas.Simd.{map-map}
@@ -13,14 +13,15 @@ use Rattle.zarrs_data_type.specs.Element.{Element, plain, absent, present, Chunk
 use Rattle.zarrs_data_type.specs.ElementType.{ElementType, fixed, text, bytes, optional, element_size}
 use Rattle.zarrs_data_type.specs.declared.endianness.Endianness.{Endianness}
 use Rattle.zarrs_array_bytes.specs.Elements.{elements}
-use Rattle.zarrs_array_bytes.specs.Held.{Held, flen, vlen, masked}
+use Rattle.zarrs_array_bytes.specs.Held.{Held, flen, vlen, masked, owned_bytes}
 use Rattle.zarrs_array_bytes.specs.Validity.{Holds, validity}
 use Rattle.zarrs_array_bytes.specs.Pieces.{pieces}
+use Rattle.zarrs_array_bytes.proofs.ElementLaw.{AreElements-held}
 use Rattle.zarrs_array_bytes.proofs.Pieces.{AllSized, length-pieces, pieces_sized, length-concat, pieces-concat, concat-pieces, elements-pieces, read_pieces}
 use Rattle.zarrs_bytes.specs.ByteOrder.{ordered, spelled_chunk}
 use Rattle.zarrs_bytes.specs.BytesCodec.{bytes_length, spelling, bytes_value, bytes_chunk, bytes_element, BytesStands, BytesWritten}
 use Rattle.zarrs_bytes.proofs.Coding.{bind_ok, demand_ok, ok, two_steps, taken}
-use Rattle.zarrs_bytes.proofs.Spelled.{ordered_twice, ordered_sized, spelled_chunk-plain}
+use Rattle.zarrs_bytes.proofs.Spelled.{Holds-pieces, ordered_twice, ordered_sized, spelled_chunk-plain}
 
 -- ---- a chunk of a fixed type and its elements' bytes
 
@@ -46,14 +47,6 @@ pub pieces_of : (width components : ℕ) (sign : Bool) (chunk : Chunk) → AreEl
 pieces_of width components sign [] h = record { parts = []; are = refl; sized = tt }
 pieces_of width components sign (element ∷ chunk) h =
     one_piece width components sign element chunk (h 0 absent (omega arith)) (pieces_of width components sign chunk (AreElements-tail (fixed width components sign) element chunk h))
-
-pub AreElements-plain : (width components : ℕ) (sign : Bool) (parts : List (List ℕ)) → AllSized (element_size width components) parts → AreElements (fixed width components sign) (map plain parts)
-AreElements-plain width components sign [] h = λ k d l. absurd (omega arith)
-AreElements-plain width components sign (piece ∷ parts) h = λ k d.
-    elim k as (λ j. j < length (map plain (piece ∷ parts)) → IsElement (fixed width components sign) (get_or (map plain (piece ∷ parts)) j d)) [
-      | zero ↦ (λ l. h.0)
-      | suc j ↦ (λ l. AreElements-plain width components sign parts h.1 j d (omega arith))
-    ]
 
 ordered_back : (order : Option Endianness) (width components : ℕ) (parts : List (List ℕ)) → AllSized (element_size width components) parts → map (ordered order width components) (map (ordered order width components) parts) ≡ parts
 ordered_back order width components [] h = refl
@@ -93,6 +86,10 @@ encoded_found order sizes (fixed width components sign) fill value (flen raw) e 
     let are = elements-pieces width components sign n raw in
     let chunk = elements type n (flen raw) in
     let count : length chunk ≡ n = ap length are ∙ length-map parts plain ∙ length-pieces size n raw.items in
+    let holds : Holds type (flen raw) chunk = record {
+      valid = ap (λ k. validity type k (flen raw)) count ∙ b.1;
+      elements_are = ap (λ k. elements type k (flen raw)) count;
+    } in
     let spelt : value ≡ spelled_chunk order width components chunk = bytes_are (spelled_chunk order width components chunk) value b.2 in
     let bytes_long : length (spelled_chunk order width components chunk) ≡ n * size
     = ap (λ (c : Chunk). length (spelled_chunk order width components c)) are
@@ -100,14 +97,11 @@ encoded_found order sizes (fixed width components sign) fill value (flen raw) e 
     ∙ length-concat size (map (ordered order width components) parts) (ordered_sized order width components parts sized)
     ∙ ap (λ k. k * size) (length-map parts (ordered order width components) ∙ length-pieces size n raw.items) in (
       chunk,
-      record {
-        valid = ap (λ k. validity type k (flen raw)) count ∙ b.1;
-        elements_are = ap (λ k. elements type k (flen raw)) count;
-      },
+      holds,
       record {
         len = a.0;
         taken = a.1;
-        elements = record { count_is = count; each = subst (AreElements type) (sym are) (AreElements-plain width components sign parts sized) };
+        elements = record { count_is = count; each = AreElements-held type (flen raw) chunk holds };
         spelt = spelt;
         small = omega (arith, ap length spelt, bytes_long, t.len_is, t.small);
       },
@@ -145,14 +139,19 @@ decoded_found order sizes (fixed width components sign) fill value chunk e =
     let parts = pieces size n value in
     let sized = pieces_sized size n value (omega (arith, long)) in
     let turned_pieces = map (ordered order width components) parts in
-    let are : chunk ≡ map plain turned_pieces
-    = chunk_are _ chunk b.2 ∙ read_pieces (λ piece. plain (ordered order width components piece)) size n value ∙ sym (map-map plain (ordered order width components) parts) in
+    let all_sized = ordered_sized order width components parts sized in
+    let number : length turned_pieces ≡ n = length-map parts (ordered order width components) ∙ length-pieces size n value in
+    let turned_long : length (concat turned_pieces) ≡ n * size = length-concat size turned_pieces all_sized ∙ ap (λ k. k * size) number in
+    let holds = Holds-pieces order width components sign (owned_bytes (concat turned_pieces)) parts sized refl (omega (arith, turned_long, t.len_is, t.small)) in
+    let read_so : chunk ≡ map (λ piece. plain (ordered order width components piece)) parts
+    = chunk_are _ chunk b.2 ∙ read_pieces (λ piece. plain (ordered order width components piece)) size n value in
+    let are : chunk ≡ map plain turned_pieces = read_so ∙ sym (map-map plain (ordered order width components) parts) in
     record {
       len = a.0;
       taken = a.1;
       elements = record {
-        count_is = ap length are ∙ length-map turned_pieces plain ∙ length-map parts (ordered order width components) ∙ length-pieces size n value;
-        each = subst (AreElements type) (sym are) (AreElements-plain width components sign turned_pieces (ordered_sized order width components parts sized));
+        count_is = ap length are ∙ length-map turned_pieces plain ∙ number;
+        each = subst (AreElements type) (sym read_so) (AreElements-held type (flen (owned_bytes (concat turned_pieces))) (map (λ piece. plain (ordered order width components piece)) parts) holds);
       };
       spelt = sym (ap (spelled_chunk order width components) are ∙ spelled_chunk-plain order width components turned_pieces ∙ ap concat (ordered_back order width components parts sized) ∙ concat-pieces size n value long);
     }

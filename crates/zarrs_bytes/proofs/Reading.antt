@@ -1,11 +1,10 @@
 -- What is read through a handle is what the definitions of a partial read say.
-use Rattle.std.proofs.Common.{◌≡◌, ℕ, zero, suc, ◌+◌, ◌-◌, ◌*◌, ◌<◌, ◌≤◌, ◌^◌, Bool, true, false, nat_le, Option, Some, None, Result, Ok, Err, List, [], ◌∷◌, ◌++◌, length, take, drop, map, arith, refl, ap, sym, ◌∙◌, subst}
-use Rattle.std.specs.List.{All, concat, flat_map, list_all, range_with_len}
+use Rattle.std.proofs.Common.{◌≡◌, ℕ, ◌+◌, ◌-◌, ◌*◌, ◌<◌, ◌≤◌, ◌^◌, Bool, true, false, nat_le, Option, Some, None, Result, Ok, Err, List, [], ◌∷◌, ◌++◌, length, take, drop, map, arith, refl, ap, sym, ◌∙◌, subst}
+use Rattle.std.specs.List.{All, concat, flat_map, list_all}
 use Rattle.std.specs.Prelude.{IsOkAnd}
 use Rattle.std.proofs.lemmas.Bool.{and_parts}
 use Rattle.std.proofs.lemmas.Bool.Decides.{nat_tests}
 use Rattle.std.proofs.lemmas.List.{length-drop, length-take-le}
-use Rattle.std.proofs.lemmas.List.Concat.{flat_map-append}
 use Rattle.zarrs_chunk.specs.Answer.{◌>>=◌, demand, Excused}
 use Rattle.zarrs_chunk.specs.declared.codec_error.CodecError.{CodecError}
 use Rattle.zarrs_chunk.specs.declared.codec_error.CodecError.TheVariants.{InvalidByteRange}
@@ -13,7 +12,7 @@ use Rattle.zarrs_data_type.specs.Element.{Element, plain, Chunk}
 use Rattle.zarrs_data_type.specs.ElementType.{ElementType, fixed, text, bytes, optional, element_size}
 use Rattle.zarrs_data_type.specs.declared.endianness.Endianness.{Endianness}
 use Rattle.zarrs_array_bytes.specs.Elements.{piece}
-use Rattle.zarrs_array_bytes.specs.Filled.{repeated}
+use Rattle.zarrs_array_bytes.specs.Filled.{copies}
 use Rattle.zarrs_array_bytes.specs.Held.{Raw, flen}
 use Rattle.zarrs_array_bytes.specs.Validity.{Holds}
 use Rattle.zarrs_array_bytes.specs.Pieces.{pieces}
@@ -140,28 +139,7 @@ Excused-weaker test f h = λ e. f (h e)
 
 -- ---- fill elements
 
-const_flat_map : (fill : List ℕ) (a b n : ℕ) → flat_map (λ _. fill) (range_with_len a n) ≡ flat_map (λ _. fill) (range_with_len b n)
-const_flat_map fill a b zero = refl
-const_flat_map fill a b (suc n) = ap (λ (rest : List ℕ). fill ++ rest) (const_flat_map fill (a + 1) (b + 1) n)
-
--- copies for one run more
-pub fills_more : (fill : List ℕ) (done joined : List ℕ) (start len : ℕ) (before after : List ℕ) → before ≡ flat_map (λ _. fill) done → after ≡ before ++ flat_map (λ _. fill) (range_with_len 0 len) → joined ≡ done ++ range_with_len start len → after ≡ flat_map (λ _. fill) joined
-fills_more fill done joined start len before after e f g =
-    f ∙ ap (λ (l : List ℕ). l ++ flat_map (λ _. fill) (range_with_len 0 len)) e
-    ∙ ap (λ (l : List ℕ). flat_map (λ _. fill) done ++ l) (const_flat_map fill 0 start len)
-    ∙ sym (flat_map-append (λ _. fill) done (range_with_len start len))
-    ∙ ap (flat_map (λ _. fill)) (sym g)
-
-copies_repeated : (fill : List ℕ) (a n : ℕ) → flat_map (λ _. fill) (range_with_len a n) ≡ repeated fill n
-copies_repeated fill a zero = refl
-copies_repeated fill a (suc n) = ap (λ (rest : List ℕ). fill ++ rest) (copies_repeated fill (a + 1) n)
-
 -- a copy for each place
-pub copies_of_places : (fill places : List ℕ) → repeated fill (length places) ≡ flat_map (λ _. fill) places
+pub copies_of_places : (fill places : List ℕ) → copies fill (length places) ≡ flat_map (λ _. fill) places
 copies_of_places fill [] = refl
 copies_of_places fill (place ∷ places) = ap (λ (rest : List ℕ). fill ++ rest) (copies_of_places fill places)
-
--- copies for one run more, told by their number
-pub copies_more : (fill : List ℕ) (done joined : List ℕ) (start len : ℕ) (before after : List ℕ) → before ≡ flat_map (λ _. fill) done → after ≡ before ++ repeated fill len → joined ≡ done ++ range_with_len start len → after ≡ flat_map (λ _. fill) joined
-copies_more fill done joined start len before after e f g =
-    fills_more fill done joined start len before after e (f ∙ ap (λ (l : List ℕ). before ++ l) (sym (copies_repeated fill 0 len))) g

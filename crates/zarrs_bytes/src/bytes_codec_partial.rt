@@ -1,4 +1,4 @@
-ghost use Rattle.std.specs.Prelude.{◌≡◌, ◌<◌, ◌+◌, ◌*◌, ◌-◌, ◌^◌, ◌++◌, ℕ, true, false, List, Some, None, Ok, IfOk, OnOk, IfErr, All, IfSome, is_some, is_ok, map, sum_by, length};
+ghost use Rattle.std.specs.Prelude.{◌≡◌, ◌<◌, ◌+◌, ◌*◌, ◌-◌, ◌^◌, ℕ, true, false, List, Some, None, Ok, IfOk, IfErr, All, is_some, min, is_ok, map, sum_by, length};
 ghost use Rattle.std.specs.List.{flat_map};
 ghost use Rattle.zarrs_chunk.specs.ChunkShape.{product};
 ghost use Rattle.zarrs_chunk.specs.Answer.{Answers, AnswersBy, fault, is_fault, memory, memory_or_fault, seen};
@@ -9,7 +9,6 @@ ghost use Rattle.zarrs_data_type.specs.Element.{Chunk, fill_element};
 ghost use Rattle.zarrs_data_type.specs.ElementType.{fixed_size_of};
 ghost use Rattle.zarrs_data_type.specs.FillValue.{fill_fits};
 ghost use Rattle.zarrs_array_bytes.specs.Elements.{select};
-ghost use Rattle.zarrs_array_bytes.specs.Filled.{repeated};
 ghost use Rattle.zarrs_array_bytes.specs.Held.{raw_of};
 ghost use Rattle.zarrs_array_bytes.specs.Validity.{Holds};
 ghost use Rattle.zarrs_codec.specs.ByteRanges.{range_indices};
@@ -22,7 +21,7 @@ use crate::byte_order::turn;
 use crate::bytes_codec::BytesCodec;
 use std::alloc::{AllocError, Global};
 use std::borrow::CowSlice;
-use zarrs_array_bytes::ArrayBytes;
+use zarrs_array_bytes::{ArrayBytes, append_copies};
 use zarrs_chunk::{ChunkShape, CodecError, Indexer};
 use zarrs_codec::{ByteRange, BytesPartialDecoderTraits, Refused};
 use zarrs_data_type::{DataType, FillValue};
@@ -73,57 +72,27 @@ fn run_ranges(alloc: Global, size: u64, runs: &[(u64, u64)]) -> Result<Vec<ByteR
     Ok(ranges)
 }
 
-/// Appends so many copies of the bytes.
-fn append_copies(bytes: &mut Vec<u8>, part: &[u8], count: u64) -> Result<(), AllocError>
-    ensures { OnOk result (bytes.new.items ≡ bytes.old.items ++ repeated part.now count) }
-{
-    for _copy in 0..count {
-        bytes.extend_from_slice(part)?;
-    }
-    Ok(())
-}
-
-/// So many copies of the bytes. Many are made by blocks of 256, since each append costs as much as
-/// some dozen bytes.
-fn copies(alloc: Global, part: &[u8], count: u64) -> Result<Vec<u8>, AllocError>
-    ensures { IfOk result (λ bytes. bytes.items ≡ repeated part.now count) }
-{
-    let mut bytes = Vec::with_capacity(alloc, part.len().saturating_mul(count as usize))?;
-    if count < 1024 {
-        append_copies(&mut bytes, part, count)?;
-        return Ok(bytes);
-    }
-    let mut few = Vec::new(alloc);
-    append_copies(&mut few, part, 16)?;
-    let mut block = Vec::new(alloc);
-    append_copies(&mut block, few.as_slice(), 16)?;
-    append_copies(&mut bytes, block.as_slice(), count / 256)?;
-    append_copies(&mut bytes, part, count % 256)?;
-    Ok(bytes)
-}
-
-/// How many places the runs have, where 64 bits count them.
-fn count_of(runs: &[(u64, u64)]) -> Option<u64>
-    ensures { IfSome result (λ count. count ≡ length (joined_runs runs.now)) }
+/// How many places the runs have, or `u64::MAX` where they have more.
+fn count_of(runs: &[(u64, u64)]) -> u64
+    ensures { result ≡ min (length (joined_runs runs.now)) (2 ^ 64 - 1) }
 {
     let mut count: u64 = 0;
     for (_, len) in runs {
-        count = count.checked_add(*len)?;
+        count = count.saturating_add(*len);
     }
-    Some(count)
+    count
 }
 
-/// The fill element for each place of the runs.
+/// The fill element for each place of the runs. It is the same for each, so the places are counted,
+/// and nothing is made run by run. No memory has room for `u64::MAX` of them.
 fn fill_runs(alloc: Global, fill: &[u8], runs: &[(u64, u64)]) -> Result<Vec<u8>, AllocError>
+    requires { 0 < length fill.now }
     ensures { IfOk result (λ bytes. bytes.items ≡ flat_map (λ _. fill.now) (joined_runs runs.now)) }
 {
-    if let Some(count) = count_of(runs) {
-        return copies(alloc, fill, count);
-    }
-    let mut bytes = Vec::new(alloc);
-    for (_, len) in runs {
-        append_copies(&mut bytes, fill, *len)?;
-    }
+    let count = count_of(runs);
+    let room = fill.len().saturating_mul(count as usize);
+    let mut bytes = Vec::with_capacity(alloc, room)?;
+    append_copies(&mut bytes, fill, count)?;
     Ok(bytes)
 }
 

@@ -1,9 +1,10 @@
 use Rattle.std.proofs.Common.{◌≡◌, ℕ, List, ◌++◌, ◌∷◌, length, map, get_or, take, zero-add, ap, sym, ◌∙◌}
-use Rattle.std.specs.List.{flat_map, range_with_len}
+use Rattle.std.specs.List.{concat, flat_map, range_with_len}
+use Rattle.std.proofs.lemmas.List.{map-append}
 use Rattle.zarrs_chunk.specs.Runs.{joined_runs}
 use Rattle.zarrs_array_bytes.specs.Elements.{cut}
 use Rattle.zarrs_array_bytes.specs.Pieces.{ends}
-use Rattle.zarrs_array_bytes.proofs.OffsetLemmas.{ends-append}
+use Rattle.zarrs_array_bytes.proofs.OffsetLemmas.{flat_map-concat, ends-append}
 use Rattle.zarrs_array_bytes.proofs.RunLemmas.{joined_runs-take_more, flat_map-take_runs}
 use Rattle.zarrs_array_bytes.proofs.gather.gather_cuts.Goals as goal
 
@@ -24,7 +25,8 @@ loop-run-preserved c =
           c.in_ok-append_cuts.ensures.ends
           ∙ ap (λ (xs : List ℕ). xs ++ ends (length c.loop-run.out.items) (map f places)) c.loop-run.invariant.ends_so_far
           ∙ ap (λ (xs : List ℕ). (0 ∷ ends 0 (map f done)) ++ ends (length xs) (map f places)) c.loop-run.invariant.bytes_so_far
-          ∙ ap (λ (n : ℕ). 0 ∷ (ends 0 (map f done) ++ ends n (map f places))) (sym (zero-add (length (flat_map f done))))
-          ∙ ap (λ (ns : List ℕ). 0 ∷ ns) (sym (ends-append f 0 done places))
+          ∙ ap (λ (n : ℕ). 0 ∷ (ends 0 (map f done) ++ ends n (map f places))) (ap length (flat_map-concat f done) ∙ sym (zero-add (length (concat (map f done)))))
+          ∙ ap (λ (ns : List ℕ). 0 ∷ ns) (sym (ends-append 0 (map f done) (map f places)))
+          ∙ ap (λ (ps : List (List ℕ)). 0 ∷ ends 0 ps) (sym (map-append f done places))
           ∙ ap (λ ps. 0 ∷ ends 0 (map f ps)) (sym (joined_runs-take_more runs i c.loop-run-test.true));
     }

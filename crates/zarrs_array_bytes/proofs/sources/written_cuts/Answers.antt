@@ -16,7 +16,7 @@ sources_of-requires c =
     let n = length c.args.old_offsets.now - 1 in
     let places : joined_runs c.args.runs.now ≡ c.in_ok-places.places.items = cc (c.in_ok-places.ensures.exact) in
     let items : joined_runs c.args.runs.now ≡ c.as_slice.result.now = places ∙ sym c.as_slice.ensures.value in
-    subst (λ xs. All (λ place. place < n) xs) items (places_below n c.args.runs.now c.requires.inside)
+    record { inside = subst (λ xs. All (λ place. place < n) xs) items (places_below n c.args.runs.now c.requires.inside) }
 
 pub gather_sources-requires-clause-known : goal.gather_sources-requires-clause-known
 gather_sources-requires-clause-known c =

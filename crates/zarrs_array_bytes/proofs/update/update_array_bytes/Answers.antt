@@ -13,7 +13,7 @@ use Rattle.zarrs_array_bytes.proofs.update.update_array_bytes.Goals as goal
 pub update_runs-requires : goal.update_runs-requires
 update_runs-requires c =
     let total = product c.args.shape.now in
-    let count : total ≡ c.in_ok-count.count = checked_is total c.in_ok-count.count (sym (c.in_ok-count.ensures {u = tt})) in
+    let count : total ≡ c.in_ok-count.count = checked_is total c.in_ok-count.count (sym (c.in_ok-count.ensures {u = tt}).answer) in
     let below : All (λ run. run.0 + run.1 ≤ total) c.in_ok-runs.runs.items = (c.in_ok-runs.ensures {u = tt}).below in
     record {
       inside = subst (λ n. All (λ run. run.0 + run.1 ≤ n) c.as_slice.result.now) count
@@ -28,7 +28,7 @@ returns-clause-exact c =
     let old = c.args.array in
     let new = c.args.new.now in
     let places : places_of (selection_of c.args.indexer.now) c.args.shape.now ≡ Ok (joined_runs runs) = (c.in_ok-runs.ensures {u = tt}).places in
-    let count : total ≡ c.in_ok-count.count = checked_is total c.in_ok-count.count (sym (c.in_ok-count.ensures {u = tt})) in
+    let count : total ≡ c.in_ok-count.count = checked_is total c.in_ok-count.count (sym (c.in_ok-count.ensures {u = tt}).answer) in
     let listed : AnswersBy memory (Holds type) c.update_runs.result (update_at_places type c.in_ok-count.count (joined_runs runs) old new) =
     subst (λ rs. AnswersBy memory (Holds type) c.update_runs.result (update_at_places type c.in_ok-count.count (joined_runs rs) old new)) c.as_slice.ensures.value c.update_runs.ensures.answer in
     let gives : AnswersBy memory (Holds type) c.update_runs.result (update_at_places type total (joined_runs runs) old new) =

@@ -15,7 +15,7 @@ returns-clause-exact c =
     let total = product c.args.shape.now in
     let places = joined_runs c.in_ok-runs.runs.items in
     let are : places_of (selection_of c.args.indexer.now) c.args.shape.now ≡ Ok places = (c.in_ok-runs.ensures {u = tt}).places in
-    let count : total ≡ c.in_ok-count.count = checked_is total c.in_ok-count.count (sym (c.in_ok-count.ensures {u = tt})) in
+    let count : total ≡ c.in_ok-count.count = checked_is total c.in_ok-count.count (sym (c.in_ok-count.ensures {u = tt}).answer) in
     let at : AnswersBy memory (Holds type) c.extract_runs.result (chunk_at type c.in_ok-count.count places c.args.self.now) =
     subst (λ rs. AnswersBy memory (Holds type) c.extract_runs.result (chunk_at type c.in_ok-count.count (joined_runs rs) c.args.self.now)) c.as_slice.ensures.value c.extract_runs.ensures.answer in
     selected_answers type c.args.shape.now (selection_of c.args.indexer.now) c.args.self.now places c.extract_runs.result are

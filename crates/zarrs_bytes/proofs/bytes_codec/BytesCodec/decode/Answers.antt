@@ -17,7 +17,7 @@ exactly c =
     let long : length (raw_of c.args.value).items ≡ c.in_ok-lengths.lengths.bytes = omega (arith, ap length (raw_items c.args.value)) in
     let is : (raw_of c.in_ok-elements.elements).items ≡ turned (turn_size c.args.self.now c.args.data_type.now) (raw_of c.args.value).items
     = items_are _ _ c.in_ok-elements.ensures.exact ∙ ap (λ s. turned s (raw_of c.args.value).items) c.turn_size.ensures.size in
-    rw c.new_flen.ensures (decoded_holds c.args.self.now c.args.shape.now c.args.data_type.now c.args.fill_value.now (raw_of c.args.value).items (raw_of c.in_ok-elements.elements) c.in_ok-lengths.lengths.bytes (sym c.in_ok-lengths.ensures.answer) long is)
+    rw c.new_flen.ensures.made (decoded_holds c.args.self.now c.args.shape.now c.args.data_type.now c.args.fill_value.now (raw_of c.args.value).items (raw_of c.in_ok-elements.elements) c.in_ok-lengths.lengths.bytes (sym c.in_ok-lengths.ensures.answer) long is)
 
 pub returns-then-found-lengths-clause-only : goal.returns-then-found-lengths-clause-only
 returns-then-found-lengths-clause-only c = λ chunk stands _.
