@@ -23,7 +23,7 @@ pub returns : goal.returns
 returns c =
     let size = c.unwrap-size.result in
     let raw = raw_of c.in_ok-bytes.bytes in
-    let sized : fixed_size_of c.args.data_type.now ≡ Some size = sym c.fixed_size.ensures.size ∙ c.unwrap-size.ensures in
+    let sized : fixed_size_of c.args.data_type.now ≡ Some size = sym c.fixed_size.ensures.value ∙ c.unwrap-size.ensures in
     let positive : 0 < size = positive_size c.fixed_size.result size c.unwrap-size.ensures c.fixed_size.ensures.positive in
     record {
       answer = λ chunk holds.
