@@ -8,7 +8,7 @@ use std::io;
 use std::io::{BufReader, BufWriter};
 use std::process::ExitCode;
 use thiserror::Error;
-use zarrs_chain::run::{RunEnd, run};
+use zarrs_chain_lines::run::{RunEnd, run};
 
 /// What stopped the program.
 #[derive(Debug, Drop, Error)]

@@ -1,20 +1,36 @@
-//! Plays the transcripts that lie in the folder that the program is run in.
+//! Plays the transcripts of the tool that lie in the folder that the argument names, or without one
+//! in the folder that the program is run in.
 //!
-//! A transcript is a file NAME.txt with one run of the tool or more, blank lines between them. In a run
-//! a line `> LINE` is sent, and the other lines are what has to come back, in order. A line
-//! `= bad header` or `= fault` says that the run ends so; without one it reads its input to the
-//! end. A line that begins with `#` is a remark.
+//! A transcript is a file NAME.txt that reads like a page of a manual: lines that are sent, and below
+//! each the line that has to come back. How its lines begin:
 //!
-//! For each file, by name, the program prints `ok NAME` or the first difference, and it fails where
-//! there was one, or no file.
+//! - `> ` sends what stands behind it, `>` alone an empty line, and `>| ` a last line that has no end.
+//! - `#` is a remark.
+//! - `= bad header` or `= fault` says how the run has to end; without one it has to read all that is
+//!   sent.
+//! - Any other line has to come back, as the answer to the line above it. Where none stands below a
+//!   line, nothing may come back to it.
+//!
+//! An empty line ends a run, and the next one begins with a header of its own.
+//!
+//! The program prints one line for each file, in the order of their names: `ok NAME`, or the first
+//! difference. Its status is 0 where all are ok.
 #![tactic(auto)]
 
 mod transcript;
 
 use std::process::ExitCode;
-use std::rt::Files;
-use std::{fs, io};
-use transcript::{Outcome, play_runs};
+use std::rt::{Env, Files};
+use std::{env, fs, io};
+use transcript::{Difference, first_difference};
+
+/// Goes to the folder that the argument names, if there is one.
+fn enter_folder<R: Env + AllocGlobal>(rt: &R) -> io::Result<()> {
+    match env::args(rt)?.nth(1) {
+        Some(folder) => env::set_current_dir(rt, folder.as_str()),
+        None => Ok(()),
+    }
+}
 
 /// The names of the transcripts in the folder, in order.
 fn names<R: Files + AllocGlobal + Clone + Drop>(rt: &R) -> io::Result<Vec<String>> {
@@ -29,21 +45,35 @@ fn names<R: Files + AllocGlobal + Clone + Drop>(rt: &R) -> io::Result<Vec<String
     Ok(names)
 }
 
-/// Plays a file and prints what came of it: whether all went as the file says.
+/// How an answer is shown in a difference.
+fn shown(answer: &str) -> &str {
+    if answer.is_empty() { "nothing" } else { answer }
+}
+
+fn report<R: Print>(rt: &R, name: &str, difference: &Difference<'_>) -> io::Result<()> {
+    let number = difference.number;
+    let sent = difference.sent;
+    let came = shown(difference.came.as_str());
+    let wanted = shown(difference.wanted);
+    println!(rt; "{name}, line {number}: to `{sent}` came `{came}`, and `{wanted}` is wanted")
+}
+
+/// Plays a file and prints what came of it: whether all went as it says.
 fn play<R: Files + Print + AllocGlobal>(rt: &R, name: &str) -> io::Result<bool> {
     let text = fs::read_to_string(rt, name)?;
-    match play_runs(rt.alloc(), text.as_str())? {
-        Outcome::Same => {
+    match first_difference(rt.alloc(), text.as_str())? {
+        None => {
             println!(rt; "ok {name}")?;
             Ok(true)
         }
-        Outcome::Differs { run, wanted, came } => {
-            println!(rt; "{name}: in run {run} came `{came}` where `{wanted}` is wanted")?;
+        Some(difference) => {
+            report(rt, name, &difference)?;
             Ok(false)
         }
     }
 }
 
+/// Plays all files: whether there was one, and all went as they say.
 fn play_all<R: Files + Print + AllocGlobal + Clone + Drop>(rt: &R) -> io::Result<bool> {
     let names = names(rt)?;
     let mut are_all_same = !names.is_empty();
@@ -56,6 +86,7 @@ fn play_all<R: Files + Print + AllocGlobal + Clone + Drop>(rt: &R) -> io::Result
 }
 
 fn main(rt: HostRuntime) -> io::Result<ExitCode> {
+    enter_folder(&rt)?;
     if play_all(&rt)? {
         Ok(ExitCode::SUCCESS)
     } else {

@@ -1,8 +1,0 @@
-use Rattle.std.proofs.Common.{◌≡◌, ◌++◌, drop, option_map}
-use Rattle.serde_json.specs.View.{items_view}
-use Rattle.zarrs_chain.specs.Json.{numbers_in}
-use Rattle.zarrs_chain.proofs.json.numbers_among.Given as goal
-
--- the numbers so far and those to come are all
-abbrev pub invariant-loop-item : goal.invariant-loop-item
-invariant-loop-item l = option_map (λ ns. l.numbers.items ++ ns) (numbers_in (items_view (drop l.item-index l.item-items))) ≡ numbers_in (items_view l.item-items)

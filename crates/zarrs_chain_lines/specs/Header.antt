@@ -1,0 +1,65 @@
+-- What a header opens.
+use Rattle.std.specs.Prelude.{ℕ, List, Option, Some, None, option_and_then, ok_or, Result, Ok, Err, codes}
+use Rattle.serde_json.specs.Data.{Data, Members}
+use Rattle.serde_json.specs.Find.{as_array, as_object, get_member}
+use Rattle.zarrs_chunk.specs.Answer.{◌>>=◌}
+use Rattle.zarrs_chunk.specs.ChunkShape.{shape_of}
+use Rattle.zarrs_data_type.specs.ElementType.{ElementType}
+use Rattle.zarrs_data_type.specs.declared.endianness.Endianness.{Endianness}
+use Rattle.zarrs_bytes.specs.BytesCodec.{bytes_length}
+use Rattle.zarrs_chain_lines.specs.declared.refusal.Refusal.{Refusal}
+use Rattle.zarrs_chain_lines.specs.declared.refusal.Refusal.TheVariants.{Syntax}
+use Rattle.zarrs_chain_lines.specs.Refusal.{codec_answer}
+use Rattle.zarrs_chain_lines.specs.Json.{tree_of, number_list, hex_of}
+use Rattle.zarrs_chain_lines.specs.DataType.{type_in}
+use Rattle.zarrs_chain_lines.specs.Codec.{codec_in}
+
+-- a chunk's shape, type and fill value, and the byte order of its codec
+pub record Header : Type 0 where
+  pub sizes : List ℕ
+  pub data_type : ElementType
+  pub fill : List ℕ
+  pub order : Option Endianness
+
+-- ---- its keys
+
+-- the sizes, none of them zero
+abbrev pub shape_at : Option Data → Result (List ℕ) Refusal
+shape_at None = Err Syntax
+shape_at (Some tree) = do
+  sizes ← number_list tree
+  ok_or (shape_of sizes) Syntax
+
+-- a type of a fixed size
+abbrev pub data_type_at : Option Data → Result ElementType Refusal
+data_type_at None = Err Syntax
+data_type_at (Some tree) = type_in tree
+
+-- hex, whether or not it fits the type
+abbrev pub fill_value_at : Option Data → Result (List ℕ) Refusal
+fill_value_at tree = ok_or (option_and_then hex_of tree) Syntax
+
+-- the byte order of the one codec
+abbrev pub codecs_at : Option Data → Result (Option Endianness) Refusal
+codecs_at tree = do
+  codecs ← ok_or (option_and_then as_array tree) Syntax
+  codec_in codecs
+
+-- ---- the header
+
+-- The keys in this order, and then whether the codec takes such chunks. The first fault answers.
+abbrev pub header_in : Members → Result Header Refusal
+header_in members = do
+  sizes ← shape_at (get_member (codes "shape") members)
+  data_type ← data_type_at (get_member (codes "data_type") members)
+  fill ← fill_value_at (get_member (codes "fill_value") members)
+  order ← codecs_at (get_member (codes "codecs") members)
+  _ ← codec_answer (bytes_length order sizes data_type fill)
+  Ok (record { sizes = sizes; data_type = data_type; fill = fill; order = order })
+
+-- the header that a line is, a JSON object; keys that it doesn't need are passed over
+abbrev pub line_header : List ℕ → Result Header Refusal
+line_header line = do
+  tree ← tree_of line
+  members ← ok_or (as_object tree) Syntax
+  header_in members

@@ -1,0 +1,14 @@
+-- What a session is seen as.
+use Rattle.zarrs_codec.specs.MemoryHandle.{stored}
+use Rattle.zarrs_chain_lines.specs.Commands.{State}
+use Rattle.zarrs_chain_lines.specs.Header.{Header}
+use Rattle.zarrs_chain_lines.specs.declared.session.Session.{Session}
+
+-- the header that opened it
+abbrev pub header_of : Session → Header
+header_of session =
+    record { sizes = session.shape; data_type = session.data_type; fill = session.fill_value; order = session.codec }
+
+-- the header, and what is stored since
+abbrev pub state_of : Session → State
+state_of session = record { header = header_of session; stored = stored session.handle }

@@ -1,0 +1,57 @@
+//! A line's command.
+ghost use Rattle.std.specs.Prelude.{◌≡◌, ◌==◌, position, Some, None};
+ghost use Rattle.zarrs_chain_lines.specs.Commands.{command_of as command_of_line, command_named};
+ghost use Rattle.zarrs_chain_lines.specs.Seen.{command_seen};
+
+/// A command and its argument.
+#[derive(Clone, Copy)]
+pub enum Command<'a> {
+    Encode(&'a [u8]),
+    Load(&'a [u8]),
+    Read(&'a [u8]),
+    Decode,
+    Value,
+    Unknown,
+}
+
+fn with_argument<'a>(word: &[u8], argument: &'a [u8]) -> Command<'a>
+    ensures { command_seen result ≡ command_named word.now (Some argument.now) }
+{
+    if word == b"encode".as_slice() {
+        Command::Encode(argument)
+    } else if word == b"load".as_slice() {
+        Command::Load(argument)
+    } else if word == b"read".as_slice() {
+        Command::Read(argument)
+    } else {
+        Command::Unknown
+    }
+}
+
+fn alone(word: &[u8]) -> Command<'static>
+    ensures { command_seen result ≡ command_named word.now None }
+{
+    if word == b"decode".as_slice() {
+        Command::Decode
+    } else if word == b"value".as_slice() {
+        Command::Value
+    } else {
+        Command::Unknown
+    }
+}
+
+fn first_space(line: &[u8]) -> Option<usize>
+    ensures { result ≡ position (λ byte. byte == 32) line.now }
+{
+    line.iter().position(|byte| *byte == b' ')
+}
+
+/// The command of a line: a word and, behind the first space, an argument.
+pub fn command_of(line: &[u8]) -> Command<'_>
+    ensures value { command_seen result ≡ command_of_line line.now }
+{
+    match first_space(line) {
+        None => alone(line),
+        Some(at) => with_argument(&line[..at], &line[at + 1..]),
+    }
+}

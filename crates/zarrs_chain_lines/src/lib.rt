@@ -1,0 +1,16 @@
+//! Answers commands on one chunk: encodes, decodes and reads it, by lines.
+//!
+//! The first line is the header, a JSON object with the chunk's `shape`, `data_type`, `fill_value`
+//! and `codecs`. Each line after it is a command, which one line answers.
+#![tactic(auto)]
+
+mod codec;
+mod command;
+mod data_types;
+mod elements;
+mod indexers;
+mod json;
+mod lines;
+mod refusal;
+pub mod run;
+mod session;

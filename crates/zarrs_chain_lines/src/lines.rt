@@ -1,0 +1,68 @@
+//! Lines read and written.
+ghost use Rattle.std.specs.Prelude.{◌≡◌, ℕ, List, [], ◌∷◌, Some, IfOk, OnOk, IfSome, MatchBool};
+ghost use Rattle.std.specs.Io.BufRead.{strip_last};
+ghost use Rattle.std.specs.Io.KnownBytes.{Appends};
+ghost use Rattle.zarrs_chain_lines.specs.Lines.{lines_of, filled_lines};
+ghost use Rattle.zarrs_chain_lines.specs.Refusal.{error_line};
+ghost use Rattle.zarrs_chain_lines.specs.Run.{output_line};
+
+use crate::refusal::Refusal;
+use std::io;
+use std::io::{BufRead, ErrorKind, Write};
+
+fn drop_line_end(line: &mut Vec<u8>)
+    ensures { line.new.items ≡ strip_last 10 line.old.items }
+{
+    let len = line.len();
+    if len > 0 && line[len - 1] == b'\n' {
+        line.truncate(len - 1);
+    }
+}
+
+/// Reads the next line, without its end, or answers `false` where there is none.
+fn next_line<R: BufRead>(reader: &mut R, line: &mut Vec<u8>) -> io::Result<bool>
+    ensures { IfOk result (λ is_read. IfSome (R.remaining reader.old) (λ input.
+        (rest : List ℕ) × (R.remaining reader.new ≡ Some rest)
+        × MatchBool is_read (lines_of input ≡ line.new.items ∷ lines_of rest) ((input ≡ []) × (rest ≡ [])))) }
+{
+    line.clear();
+    if reader.read_until(b'\n', line)? == 0 {
+        return Ok(false);
+    }
+    drop_line_end(line);
+    Ok(true)
+}
+
+/// Reads lines until one isn't empty, or answers `false` where none is left.
+pub fn next_filled_line<R: BufRead>(reader: &mut R, line: &mut Vec<u8>) -> io::Result<bool>
+    ensures next { IfOk result (λ is_read. IfSome (R.remaining reader.old) (λ input.
+        (rest : List ℕ) × (R.remaining reader.new ≡ Some rest)
+        × MatchBool is_read (filled_lines input ≡ line.new.items ∷ filled_lines rest) ((filled_lines input ≡ []) × (rest ≡ [])))) }
+{
+    'lines: for _ in 0..u64::MAX {
+        if !next_line(reader, line)? {
+            return Ok(false);
+        }
+        if !line.is_empty() {
+            return Ok(true);
+        }
+    }
+    Err(ErrorKind::TimedOut.into())
+}
+
+/// Writes an answer, and the line's end.
+pub fn write_line<W: Write>(writer: &mut W, answer: &[u8]) -> io::Result<()>
+    ensures written { OnOk result (Appends (W.contents writer.old) (W.contents writer.new) (output_line answer.now)) }
+{
+    writer.write_all(answer)?;
+    writer.write_all(b"\n")
+}
+
+/// Writes the answer to a line that is refused.
+pub fn write_refusal<W: Write>(writer: &mut W, refusal: Refusal) -> io::Result<()>
+    ensures written { OnOk result (Appends (W.contents writer.old) (W.contents writer.new) (output_line (error_line refusal))) }
+{
+    writer.write_all(b"error ")?;
+    writer.write_all(refusal.name().as_bytes())?;
+    writer.write_all(b"\n")
+}

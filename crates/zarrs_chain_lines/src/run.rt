@@ -1,0 +1,99 @@
+//! Answers the lines of a reader.
+ghost use Rattle.std.specs.Prelude.{◌≡◌, ℕ, List, [], Some, Ok, OnOk, IfSome, true, false};
+ghost use Rattle.std.specs.Io.KnownBytes.{Appends};
+ghost use Rattle.zarrs_chain_lines.specs.Lines.{filled_lines};
+ghost use Rattle.zarrs_chain_lines.specs.Run.{AreReplies, EndsDone, EndsBad};
+ghost use Rattle.zarrs_chain_lines.specs.Session.{state_of};
+
+use crate::lines::{next_filled_line, write_line, write_refusal};
+use crate::session::Session;
+use std::alloc::Global;
+use std::io;
+use std::io::{BufRead, ErrorKind, Write};
+
+/// How a run ended.
+#[derive(Clone, Copy, Debug, PartialEq, Eq)]
+pub enum RunEnd {
+    /// The reader was read to its end, and each line that isn't empty is answered.
+    Done,
+    /// The header opened nothing; its one answer is written.
+    BadHeader,
+    /// Reading or writing failed, or a line didn't fit into memory.
+    Fault,
+}
+
+/// Answers the lines that are left.
+fn serve<R: BufRead, W: Write>(
+    alloc: Global,
+    session: &mut Session,
+    reader: &mut R,
+    writer: &mut W,
+    line: &mut Vec<u8>,
+) -> io::Result<()>
+    ensures { OnOk result (IfSome (R.remaining reader.old) (λ input. (R.remaining reader.new ≡ Some [])
+        × ((output : List ℕ) × Appends (W.contents writer.old) (W.contents writer.new) output
+        × AreReplies (state_of session.old) (filled_lines input) output))) }
+{
+    'commands: for _ in 0..u64::MAX {
+        if !next_filled_line(reader, line)? {
+            return Ok(());
+        }
+        match session.answer(alloc, line) {
+            Ok(answer) => write_line(writer, &answer)?,
+            Err(refusal) => write_refusal(writer, refusal)?,
+        }
+    }
+    Err(ErrorKind::TimedOut.into())
+}
+
+/// Answers the header and the lines after it: whether the header was good, or there was none.
+fn try_run<R: BufRead, W: Write>(alloc: Global, reader: &mut R, writer: &mut W) -> io::Result<bool>
+    ensures done { result ≡ Ok true → EndsDone (R.remaining reader.old) (R.remaining reader.new) (W.contents writer.old) (W.contents writer.new) }
+    ensures bad { result ≡ Ok false → EndsBad (R.remaining reader.old) (W.contents writer.old) (W.contents writer.new) }
+{
+    let mut line = Vec::new(alloc);
+    if !next_filled_line(reader, &mut line)? {
+        return Ok(true);
+    }
+    match Session::open(alloc, &line) {
+        Ok(mut session) => {
+            serve(alloc, &mut session, reader, writer, &mut line)?;
+            Ok(true)
+        }
+        Err(refusal) => {
+            write_refusal(writer, refusal)?;
+            Ok(false)
+        }
+    }
+}
+
+/// As `try_run`; whatever came of it, what was written is flushed.
+fn run_and_flush<R: BufRead, W: Write>(
+    alloc: Global,
+    reader: &mut R,
+    writer: &mut W,
+) -> io::Result<bool>
+    ensures done { result ≡ Ok true → EndsDone (R.remaining reader.old) (R.remaining reader.new) (W.contents writer.old) (W.contents writer.new) }
+    ensures bad { result ≡ Ok false → EndsBad (R.remaining reader.old) (W.contents writer.old) (W.contents writer.new) }
+{
+    let is_header_good = try_run(alloc, reader, writer);
+    writer.flush()?;
+    is_header_good
+}
+
+/// Answers the lines of a reader up to its end, or its header alone where that is bad. Lines end in
+/// LF, which the last one may lack; empty ones are passed over. The first of the others is the
+/// header, and each one after it is a command that has one answer line. The writer is flushed in
+/// every ending.
+///
+/// A line may be answered `error OutOfMemory` where memory is wanting; what is stored stays.
+pub fn run<R: BufRead, W: Write>(alloc: Global, reader: &mut R, writer: &mut W) -> RunEnd
+    ensures done { result ≡ RunEnd.Done → EndsDone (R.remaining reader.old) (R.remaining reader.new) (W.contents writer.old) (W.contents writer.new) }
+    ensures bad { result ≡ RunEnd.BadHeader → EndsBad (R.remaining reader.old) (W.contents writer.old) (W.contents writer.new) }
+{
+    match run_and_flush(alloc, reader, writer) {
+        Ok(true) => RunEnd::Done,
+        Ok(false) => RunEnd::BadHeader,
+        Err(_) => RunEnd::Fault,
+    }
+}

@@ -1,0 +1,238 @@
+//! A session: what a header opened, and the stored value.
+ghost use Rattle.std.specs.Prelude.{◌≡◌, OnErr, IfOk, option_map, is_some, true};
+ghost use Rattle.serde_json.specs.View.{view, members_view};
+ghost use Rattle.zarrs_chunk.specs.Answer.{Answers, AnswersBy, memory, seen};
+ghost use Rattle.zarrs_chunk.specs.Indexer.{selection_of};
+ghost use Rattle.zarrs_data_type.specs.ElementType.{fixed_size_of};
+ghost use Rattle.zarrs_array_bytes.specs.Validity.{Holds};
+ghost use Rattle.zarrs_codec.specs.MemoryHandle.{stored};
+ghost use Rattle.zarrs_chain_lines.specs.Commands.{first_state, part_of, encode_answer, load_answer, chunk_answer, decode_answer, read_answer, value_answer, answer_to};
+ghost use Rattle.zarrs_chain_lines.specs.Header.{shape_at, data_type_at, fill_value_at, codecs_at, header_in, line_header};
+ghost use Rattle.zarrs_chain_lines.specs.Refusal.{wants_memory};
+
+use crate::codec::codec;
+use crate::command::{Command, command_of};
+use crate::data_types::data_type;
+use crate::elements::{elements, ok_elements};
+use crate::indexers::indexer;
+use crate::json::{Members, hex_bytes, member, numbers, object, ok_hex, tree};
+use crate::refusal::Refusal;
+use serde_json::Value;
+use std::alloc::Global;
+use std::borrow::CowSlice;
+use zarrs_array_bytes::ArrayBytes;
+use zarrs_bytes::BytesCodec;
+use zarrs_chunk::{ChunkShape, CodecError, Indexer};
+use zarrs_codec::MemoryHandle;
+use zarrs_data_type::{DataType, FillValue};
+
+/// What a header opened, and what is stored since.
+#[derive(Drop)]
+pub struct Session {
+    codec: BytesCodec,
+    shape: ChunkShape,
+    data_type: DataType,
+    fill_value: FillValue,
+    handle: MemoryHandle,
+    ghost fixed: { is_some (fixed_size_of data_type) ≡ true },
+}
+
+fn shape(alloc: Global, tree: Option<&Value>) -> Result<ChunkShape, Refusal>
+    ensures { Answers wants_memory (λ shape. shape) result (shape_at (option_map (λ v. view v.now) tree.entry)) }
+{
+    let Some(tree) = tree else {
+        return Err(Refusal::Syntax);
+    };
+    let sizes = numbers(alloc, tree)?;
+    ChunkShape::new(sizes).ok_or(Refusal::Syntax)
+}
+
+fn named_type(tree: Option<&Value>) -> Result<DataType, Refusal>
+    ensures answer { result ≡ data_type_at (option_map (λ v. view v.now) tree.entry) }
+    ensures fixed { IfOk result (λ data_type. is_some (fixed_size_of data_type) ≡ true) }
+{
+    match tree {
+        Some(tree) => data_type(tree),
+        None => Err(Refusal::Syntax),
+    }
+}
+
+fn fill_value(alloc: Global, tree: Option<&Value>) -> Result<FillValue, Refusal>
+    ensures { Answers wants_memory (λ fill. fill) result (fill_value_at (option_map (λ v. view v.now) tree.entry)) }
+{
+    let Some(tree) = tree else {
+        return Err(Refusal::Syntax);
+    };
+    let bytes = hex_bytes(alloc, tree)?;
+    Ok(FillValue::new(bytes))
+}
+
+fn bytes_codec(tree: Option<&Value>) -> Result<BytesCodec, Refusal>
+    ensures { result ≡ codecs_at (option_map (λ v. view v.now) tree.entry) }
+{
+    match tree {
+        Some(Value::Array(items)) => Ok(BytesCodec::new(codec(items)?)),
+        _ => Err(Refusal::Syntax),
+    }
+}
+
+/// The elements that an indexer means, by a decoder that is made for this call.
+fn read_part(
+    handle: &mut MemoryHandle,
+    alloc: Global,
+    codec: &BytesCodec,
+    shape: &ChunkShape,
+    data_type: &DataType,
+    fill_value: &FillValue,
+    indexer: &Indexer,
+) -> Result<ArrayBytes<'static>, CodecError>
+    ensures answer { AnswersBy memory (Holds data_type.now) result
+        (part_of (record { sizes = shape.now; data_type = data_type.now; fill = fill_value.now; order = codec.now }) (stored handle.old) (selection_of indexer.now)) }
+    ensures kept { stored handle.new ≡ stored handle.old }
+{
+    match codec.partial_decoder(alloc, handle, shape, data_type, fill_value) {
+        Err(refused) => Err(refused.error),
+        Ok(mut decoder) => {
+            let elements = decoder.partial_decode(alloc, indexer);
+            let _ = decoder.into_handle();
+            elements
+        }
+    }
+}
+
+impl Session {
+    ghost use Rattle.zarrs_chain_lines.specs.Session.{state_of};
+
+    fn open_among(alloc: Global, members: &Members) -> Result<Session, Refusal>
+        ensures { Answers wants_memory state_of result (seen first_state (header_in (members_view members.now.entries))) }
+    {
+        let shape = shape(alloc, member(members, "shape"))?;
+        let data_type = named_type(member(members, "data_type"))?;
+        let fill_value = fill_value(alloc, member(members, "fill_value"))?;
+        let codec = bytes_codec(member(members, "codecs"))?;
+        codec.encoded_representation(&shape, &data_type, &fill_value)?;
+        Ok(Session {
+            codec,
+            shape,
+            data_type,
+            fill_value,
+            handle: MemoryHandle::new(),
+        })
+    }
+
+    /// The session that a header opens, with nothing stored. Refusals, the first that holds:
+    /// `Syntax` where the line is no JSON object, or its `shape`, `data_type`, `fill_value` or
+    /// `codecs` don't read, in this order and each with its own refusals; then those of the codec's
+    /// representation; `OutOfMemory`.
+    pub fn open(alloc: Global, header: &[u8]) -> Result<Session, Refusal>
+        ensures answer { Answers wants_memory state_of result (seen first_state (line_header header.now)) }
+    {
+        let tree = tree(alloc, header)?;
+        let members = object(&tree)?;
+        Session::open_among(alloc, members)
+    }
+
+    fn encode(&self, alloc: Global, text: &[u8]) -> Result<Vec<u8>, Refusal>
+        ensures { Answers wants_memory (λ line. (line.items, state_of self.now)) result (encode_answer (state_of self.now) text.now) }
+    {
+        let tree = tree(alloc, text)?;
+        let elements = elements(alloc, &self.data_type, &tree)?;
+        let value = self.codec.encode(
+            alloc,
+            elements,
+            &self.shape,
+            &self.data_type,
+            &self.fill_value,
+        )?;
+        let line = ok_hex(alloc, value.as_slice())?;
+        Ok(line)
+    }
+
+    fn load(&mut self, alloc: Global, text: &[u8]) -> Result<Vec<u8>, Refusal>
+        ensures answer { Answers wants_memory (λ line. (line.items, state_of self.new)) result (load_answer (state_of self.old) text.now) }
+        ensures kept { OnErr result (state_of self.new ≡ state_of self.old) }
+    {
+        let tree = tree(alloc, text)?;
+        let value = hex_bytes(alloc, &tree)?;
+        let line = Vec::from_slice(alloc, b"ok")?;
+        self.handle = MemoryHandle::with_value(value);
+        Ok(line)
+    }
+
+    fn decode_value(&self, alloc: Global, value: &[u8]) -> Result<Vec<u8>, Refusal>
+        ensures { Answers wants_memory (λ line. (line.items, state_of self.now)) result (chunk_answer (state_of self.now) value.now) }
+    {
+        let elements = self.codec.decode(
+            alloc,
+            CowSlice::Borrowed(value),
+            &self.shape,
+            &self.data_type,
+            &self.fill_value,
+        )?;
+        ok_elements(alloc, &self.data_type, elements)
+    }
+
+    fn decode(&self, alloc: Global) -> Result<Vec<u8>, Refusal>
+        ensures { Answers wants_memory (λ line. (line.items, state_of self.now)) result (decode_answer (state_of self.now)) }
+    {
+        match self.handle.value() {
+            None => Ok(Vec::from_slice(alloc, b"ok none")?),
+            Some(value) => self.decode_value(alloc, value),
+        }
+    }
+
+    fn selected(
+        &mut self,
+        alloc: Global,
+        indexer: &Indexer,
+    ) -> Result<ArrayBytes<'static>, CodecError>
+        ensures answer { let state = state_of self.old in AnswersBy memory (Holds state.header.data_type) result (part_of state.header state.stored (selection_of indexer.now)) }
+        ensures kept { state_of self.new ≡ state_of self.old }
+    {
+        read_part(
+            &mut self.handle,
+            alloc,
+            &self.codec,
+            &self.shape,
+            &self.data_type,
+            &self.fill_value,
+            indexer,
+        )
+    }
+
+    fn read(&mut self, alloc: Global, text: &[u8]) -> Result<Vec<u8>, Refusal>
+        ensures answer { Answers wants_memory (λ line. (line.items, state_of self.new)) result (read_answer (state_of self.old) text.now) }
+        ensures kept { state_of self.new ≡ state_of self.old }
+    {
+        let tree = tree(alloc, text)?;
+        let indexer = indexer(alloc, &tree)?;
+        let elements = self.selected(alloc, &indexer)?;
+        ok_elements(alloc, &self.data_type, elements)
+    }
+
+    fn value(&self, alloc: Global) -> Result<Vec<u8>, Refusal>
+        ensures { Answers wants_memory (λ line. (line.items, state_of self.now)) result (value_answer (state_of self.now)) }
+    {
+        match self.handle.value() {
+            None => Ok(Vec::from_slice(alloc, b"ok none")?),
+            Some(value) => Ok(ok_hex(alloc, value)?),
+        }
+    }
+
+    /// The answer to a line, without its end. A refused command leaves what is stored. Refusals are
+    /// those of the command; `Syntax` where the line is no command; `OutOfMemory`.
+    #[tactic(auto, unfolding(crate::specs::Commands::answer_to))]
+    pub fn answer(&mut self, alloc: Global, line: &[u8]) -> Result<Vec<u8>, Refusal>
+        ensures answer { Answers wants_memory (λ answer. (answer.items, state_of self.new)) result (answer_to (state_of self.old) line.now) }
+        ensures kept { OnErr result (state_of self.new ≡ state_of self.old) }
+    {
+        match command_of(line) {
+            Command::Encode(text) => self.encode(alloc, text),
+            Command::Load(text) => self.load(alloc, text),
+            Command::Read(text) => self.read(alloc, text),
+            Command::Decode => self.decode(alloc),
+            Command::Value => self.value(alloc),
+            Command::Unknown => Err(Refusal::Syntax),
+        }
+    }
+}

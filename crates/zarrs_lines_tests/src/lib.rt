@@ -1,0 +1,14 @@
+//! Tests of `run` over what no transcript shows: bytes that are no text, readers that fail, and
+//! writers that fail or are flushed. Without tests the crate is empty.
+//!
+//! What lines are answered is in the transcripts of `zarrs_transcripts`.
+#![tactic(auto)]
+
+#[cfg(test)]
+mod checks;
+#[cfg(test)]
+mod readers;
+#[cfg(test)]
+mod texts;
+#[cfg(test)]
+mod writers;
