@@ -3,7 +3,6 @@ pub mod BytesCodec
 pub mod BytesCodecPartial
 pub mod Laws
 pub mod PartialRead
-
 pub use Rattle.zarrs_chunk.specs.Answer
 pub use Rattle.zarrs_chunk.specs.ChunkShape
 pub use Rattle.zarrs_chunk.specs.Indexer
