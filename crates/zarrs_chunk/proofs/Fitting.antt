@@ -30,11 +30,18 @@ IsFitting-next total rest size start len (front ∷ fronts) h p =
     (IsFitting-range total rest len (front * size + start) size front (p 0 (omega arith)) (omega (arith, h)))
     (IsFitting-next total rest size start len fronts h (λ k l. p (suc k) (omega arith)))
 
-room_below : (place size rest start len total : ℕ) → 0 < rest → start + len ≤ size → (place + 1) * (size * rest) ≤ total → place * size + start + len ≤ total
+-- the row of one number ends below the total, where behind it there is room for a whole axis and the axes after it
+pub room_below : (place size rest start len total : ℕ) → 0 < rest → start + len ≤ size → (place + 1) * (size * rest) ≤ total → place * size + start + len ≤ total
 room_below place size rest start len total pos h room =
     let m : place * size + start + len ≤ (place + 1) * size = omega arith in
     let n : 1 ≤ rest = pos in
     omega (arith, mul-le-mul_left ((place + 1) * size) n)
+
+-- one number of that row has room for the axes after it
+pub room_next : (place size rest index total : ℕ) → index < size → (place + 1) * (size * rest) ≤ total → (place * size + index + 1) * rest ≤ total
+room_next place size rest index total h room =
+    let m : place * size + index + 1 ≤ (place + 1) * size = omega arith in
+    omega (arith, mul-le-mul_right rest m)
 
 -- a row behind a front that fits ends within the elements
 pub row_fits : (sizes starts lengths fronts : List ℕ) (axis k : ℕ) → axis < length sizes → is_box_inside sizes starts lengths ≡ true → All (λ size. 0 < size) sizes → IsFitting (product sizes) (product (drop axis sizes)) fronts → k < length fronts → get_or fronts k 0 * get_or sizes axis 0 + get_or starts axis 0 + get_or lengths axis 0 ≤ product sizes

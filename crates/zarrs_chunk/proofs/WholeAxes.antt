@@ -1,31 +1,24 @@
--- Axes at the end that a box covers whole: they join into runs.
+-- Axes at the end that a box covers whole join into runs.
 use Rattle.std.proofs.Common.{◌≡◌, ℕ, zero, suc, ◌+◌, ◌-◌, ◌*◌, ◌<◌, ◌≤◌, true, List, [], ◌∷◌, ◌++◌, length, get_or, drop, arith, refl, ap, ◌∙◌, sym}
 use Rattle.std.specs.List.{All, flat_map, range_with_len}
 use Rattle.std.proofs.lemmas.List.{drop_all}
 use Rattle.std.proofs.lemmas.List.Concat.{flat_map-append}
 use Rattle.std.proofs.Math.Nat.{mul-le-mul_right}
 use Rattle.zarrs_chunk.specs.ChunkShape.{product}
-use Rattle.zarrs_chunk.specs.Levels.{behind_fronts, box_places, IsFitting, AreWhole}
+use Rattle.zarrs_chunk.specs.Levels.{numbers_behind, box_places, IsFitting, AreWhole}
 use Rattle.zarrs_chunk.specs.Runs.{joined_runs}
 use Rattle.zarrs_chunk.specs.Tuples.{is_box_inside}
 use Rattle.std.proofs.lemmas.List.Elements.{All-push}
-use Rattle.zarrs_chunk.proofs.BoxTuples.{next_fronts, behind_fronts-more, behind_fronts-end, behind_fronts-start}
+use Rattle.zarrs_chunk.proofs.BoxTuples.{next_fronts, numbers_behind-more, numbers_behind-end, numbers_behind-start}
+use Rattle.zarrs_chunk.proofs.Consecutive.{range-append}
 use Rattle.zarrs_chunk.proofs.Inside.{is_box_inside-at}
 use Rattle.zarrs_chunk.proofs.Products.{product_drop}
 
-range-append : (a m n : ℕ) → range_with_len a (m + n) ≡ range_with_len a m ++ range_with_len (a + m) n
-range-append a zero n =
-    ap (range_with_len a) (let e : 0 + n ≡ n = omega arith in e) ∙ ap (λ b. range_with_len b n) (let e : a ≡ a + 0 = omega arith in e)
-range-append a (suc m) n =
-    ap (range_with_len a) (let e : suc m + n ≡ suc (m + n) = omega arith in e)
-    ∙ ap (λ ns. a ∷ ns) (range-append (a + 1) m n)
-    ∙ ap (λ b. a ∷ (range_with_len (a + 1) m ++ range_with_len b n)) (let e : a + 1 + m ≡ a + suc m = omega arith in e)
-
--- the numbers that each number of a list stands for
+-- the numbers that the numbers of a list stand for, as many as `whole` says for each
 abbrev pub spread : ℕ → List ℕ → List ℕ
 spread whole numbers = flat_map (λ number. range_with_len (number * whole) whole) numbers
 
--- a row for each front, of which each number stands for so many
+-- a row for each front, each number of which stands for as many as `whole` says
 abbrev pub spread_rows : ℕ → ℕ → ℕ → ℕ → List ℕ → List ℕ
 spread_rows size start len whole fronts = flat_map (λ front. range_with_len ((front * size + start) * whole) (len * whole)) fronts
 
@@ -56,15 +49,15 @@ spread-one (number ∷ numbers) =
     ap (λ b. b ∷ spread 1 numbers) (let e : number * 1 ≡ number = omega arith in e) ∙ ap (λ ns. number ∷ ns) (spread-one numbers)
 
 -- behind fronts, axes that are covered whole have all numbers
-pub whole_behind : (n axes : ℕ) (sizes starts lengths fronts : List ℕ) → axes + n ≡ length sizes → length starts ≡ length sizes → length lengths ≡ length sizes → AreWhole axes (length sizes) sizes starts lengths → behind_fronts (drop axes sizes) (drop axes starts) (drop axes lengths) fronts ≡ spread (product (drop axes sizes)) fronts
+pub whole_behind : (n axes : ℕ) (sizes starts lengths fronts : List ℕ) → axes + n ≡ length sizes → length starts ≡ length sizes → length lengths ≡ length sizes → AreWhole axes (length sizes) sizes starts lengths → numbers_behind (drop axes sizes) (drop axes starts) (drop axes lengths) fronts ≡ spread (product (drop axes sizes)) fronts
 whole_behind zero axes sizes starts lengths fronts e f g w =
-    behind_fronts-end sizes starts (drop axes lengths) fronts axes (omega arith) (omega arith)
+    numbers_behind-end sizes starts (drop axes lengths) fronts axes (omega arith) (omega arith)
     ∙ sym (ap (λ (ns : List ℕ). spread (product ns) fronts) (drop_all axes sizes (omega arith)) ∙ spread-one fronts)
 whole_behind (suc n) axes sizes starts lengths fronts e f g w =
     let size = get_or sizes axes 0 in
     let whole = product (drop (axes + 1) sizes) in
     let is = w axes (omega arith) (omega arith) in
-    behind_fronts-more sizes starts lengths fronts axes (omega arith) (omega arith) (omega arith)
+    numbers_behind-more sizes starts lengths fronts axes (omega arith) (omega arith) (omega arith)
     ∙ whole_behind n (axes + 1) sizes starts lengths (next_fronts size (get_or starts axes 0) (get_or lengths axes 0) fronts) (omega arith) f g (λ k p q. w k (omega arith) q)
     ∙ ap (λ start. spread whole (next_fronts size start (get_or lengths axes 0) fronts)) is.0
     ∙ ap (λ len. spread whole (next_fronts size 0 len fronts)) is.1
@@ -72,14 +65,14 @@ whole_behind (suc n) axes sizes starts lengths fronts e f g w =
     ∙ whole_rows whole size fronts
     ∙ ap (λ t. spread t fronts) (sym (product_drop sizes axes (omega arith)))
 
--- rows of the last axis before those
-pub rows_before_whole : (sizes starts lengths fronts : List ℕ) (last axes : ℕ) → axes ≡ last + 1 → axes ≤ length sizes → length starts ≡ length sizes → length lengths ≡ length sizes → AreWhole axes (length sizes) sizes starts lengths → behind_fronts (drop last sizes) (drop last starts) (drop last lengths) fronts ≡ spread_rows (get_or sizes last 0) (get_or starts last 0) (get_or lengths last 0) (product (drop axes sizes)) fronts
+-- behind the fronts over the axes before `last` there are its rows, each number of which stands for all axes after it
+pub rows_before_whole : (sizes starts lengths fronts : List ℕ) (last axes : ℕ) → axes ≡ last + 1 → axes ≤ length sizes → length starts ≡ length sizes → length lengths ≡ length sizes → AreWhole axes (length sizes) sizes starts lengths → numbers_behind (drop last sizes) (drop last starts) (drop last lengths) fronts ≡ spread_rows (get_or sizes last 0) (get_or starts last 0) (get_or lengths last 0) (product (drop axes sizes)) fronts
 rows_before_whole sizes starts lengths fronts last axes e h f g w =
     let size = get_or sizes last 0 in
     let start = get_or starts last 0 in
     let len = get_or lengths last 0 in
-    behind_fronts-more sizes starts lengths fronts last (omega arith) (omega arith) (omega arith)
-    ∙ ap (λ n. behind_fronts (drop n sizes) (drop n starts) (drop n lengths) (next_fronts size start len fronts)) (sym e)
+    numbers_behind-more sizes starts lengths fronts last (omega arith) (omega arith) (omega arith)
+    ∙ ap (λ n. numbers_behind (drop n sizes) (drop n starts) (drop n lengths) (next_fronts size start len fronts)) (sym e)
     ∙ whole_behind (length sizes - axes) axes sizes starts lengths (next_fronts size start len fronts) (omega arith) f g w
     ∙ spread-rows (product (drop axes sizes)) size start len fronts
 
@@ -95,6 +88,7 @@ whole_row_fits sizes starts lengths fronts last axes k e h inside fitting l =
     (is_box_inside-at sizes starts lengths last inside h)
     (rw (← product_drop sizes last h) (fitting k l)))
 
+-- the product of the last axes is no more than that of all
 pub product_drop-le : (sizes : List ℕ) (axis : ℕ) → All (λ size. 0 < size) sizes → product (drop axis sizes) ≤ product sizes
 product_drop-le [] zero h = omega arith
 product_drop-le [] (suc axis) h = omega arith
@@ -104,7 +98,7 @@ product_drop-le (size ∷ sizes) (suc axis) h =
     let one : 1 ≤ size = h 0 0 (omega arith) in
     omega (arith, r, mul-le-mul_right (product sizes) one)
 
--- the row of one front
+-- what the row of one front stands for is no more than all elements
 pub whole_len_fits : (sizes starts lengths : List ℕ) (last axes : ℕ) → axes ≡ last + 1 → last < length sizes → is_box_inside sizes starts lengths ≡ true → All (λ size. 0 < size) sizes → get_or lengths last 0 * product (drop axes sizes) ≤ product sizes
 whole_len_fits sizes starts lengths last axes e h inside positive =
     let rest = product (drop (last + 1) sizes) in
@@ -117,11 +111,13 @@ pub all_whole : (sizes starts lengths : List ℕ) (axes : ℕ) → axes ≡ 0 �
 all_whole sizes starts lengths axes e f g w =
     ap (λ b. range_with_len b (product sizes) ++ []) (let z : 0 ≡ 0 * product sizes = omega arith in z)
     ∙ sym (whole_behind (length sizes) 0 sizes starts lengths (0 ∷ []) (omega arith) f g (λ k p q. w k (omega arith) q))
-    ∙ behind_fronts-start sizes starts lengths
+    ∙ numbers_behind-start sizes starts lengths
 
+-- one run that isn't empty
 pub one_filled : (len : ℕ) → 0 < len → All (λ (run : ℕ × ℕ). 0 < run.1) ((0, len) ∷ [])
 one_filled len h = All-push (λ (run : ℕ × ℕ). 0 < run.1) [] (0, len) (λ k d l. absurd (omega arith)) h
 
+-- a row that stands for something
 pub positive_whole : (a b : ℕ) → 0 < a → 0 < b → 0 < a * b
 positive_whole a b p q =
     let one : 1 ≤ a = p in

@@ -2,7 +2,7 @@
 ghost use Rattle.std.specs.Prelude.{◌≡◌, ◌<◌, ◌≤◌, ◌^◌, ◌+◌, ◌*◌, ℕ, length, drop, slice_index, true, IfOk, OnOk, SomeIff, All};
 ghost use Rattle.std.specs.List.{flat_map, range_with_len};
 ghost use Rattle.zarrs_chunk.specs.ChunkShape.{product};
-ghost use Rattle.zarrs_chunk.specs.Levels.{behind_fronts, box_places as places_of_box, IsFitting};
+ghost use Rattle.zarrs_chunk.specs.Levels.{numbers_behind, box_places as places_of_box, IsFitting};
 ghost use Rattle.zarrs_chunk.specs.Runs.{joined_runs};
 ghost use Rattle.zarrs_chunk.specs.Levels.{AreWhole};
 ghost use Rattle.zarrs_chunk.specs.Tuples.{is_box_inside as box_inside};
@@ -12,7 +12,7 @@ use std::mem;
 
 /// The product of the sizes, where it fits. With a zero among them it is 0.
 pub fn checked_product(sizes: &[u64]) -> Option<u64>
-    ensures { SomeIff result (product sizes.now < 2 ^ 64) (product sizes.now) }
+    ensures value { SomeIff result (product sizes.now < 2 ^ 64) (product sizes.now) }
 {
     if sizes.contains(&0) {
         return Some(0);
@@ -28,7 +28,7 @@ pub fn checked_product(sizes: &[u64]) -> Option<u64>
 pub fn is_box_inside(sizes: &[u64], starts: &[u64], lengths: &[u64]) -> bool
     requires starts { length starts.now ≡ length sizes.now }
     requires lengths { length lengths.now ≡ length sizes.now }
-    ensures { result ≡ box_inside sizes.now starts.now lengths.now }
+    ensures value { result ≡ box_inside sizes.now starts.now lengths.now }
 {
     for axis in 0..sizes.len() {
         let size = sizes[axis];
@@ -40,8 +40,18 @@ pub fn is_box_inside(sizes: &[u64], starts: &[u64], lengths: &[u64]) -> bool
     true
 }
 
-/// One axis more: each front over the axes before is followed by its row. What stood in `rows`
-/// before is gone; its room is used again.
+/// One axis more, on which the box has one index: each front gives way to the number behind it.
+fn step_fronts(fronts: &mut [u64], size: u64, start: u64)
+    requires { (k : ℕ) → k < length fronts.old → slice_index fronts.old k * size + start + 1 < 2 ^ 64 }
+    ensures { fronts.new ≡ flat_map (λ front. range_with_len (front * size + start) 1) fronts.old }
+{
+    for index in 0..fronts.len() {
+        fronts[index] = fronts[index] * size + start;
+    }
+}
+
+/// One axis more: each front is followed by its row. What stood in `rows` before is gone, and its
+/// room is used again.
 fn write_rows(
     rows: &mut Vec<u64>,
     fronts: &[u64],
@@ -61,6 +71,27 @@ fn write_rows(
     Ok(())
 }
 
+/// The fronts over one axis more. `rows` is room for them, which is left for the next axis. An axis
+/// with one index is done in place, since a shape may have very many of them.
+fn next_fronts(
+    fronts: &mut Vec<u64>,
+    rows: &mut Vec<u64>,
+    size: u64,
+    start: u64,
+    len: u64,
+) -> Result<(), AllocError>
+    requires { (k : ℕ) → k < length fronts.old.items → slice_index fronts.old.items k * size + start + len < 2 ^ 64 }
+    ensures { OnOk result (fronts.new.items ≡ flat_map (λ front. range_with_len (front * size + start) len) fronts.old.items) }
+{
+    if len == 1 {
+        step_fronts(fronts.as_mut_slice(), size, start);
+        return Ok(());
+    }
+    write_rows(rows, fronts.as_slice(), size, start, len)?;
+    mem::swap(fronts, rows);
+    Ok(())
+}
+
 /// The numbers of a box's tuples over its first `axes` axes alone. As no range is empty, no level
 /// has more numbers than the last.
 fn box_fronts(
@@ -76,20 +107,14 @@ fn box_fronts(
     requires inside { box_inside sizes.now starts.now lengths.now ≡ true }
     requires positive { All (λ size. 0 < size) sizes.now }
     requires fits { product sizes.now < 2 ^ 64 }
-    ensures level { IfOk result (λ v. behind_fronts (drop axes sizes.now) (drop axes starts.now) (drop axes lengths.now) v.items ≡ places_of_box sizes.now starts.now lengths.now) }
+    ensures level { IfOk result (λ v. numbers_behind (drop axes sizes.now) (drop axes starts.now) (drop axes lengths.now) v.items ≡ places_of_box sizes.now starts.now lengths.now) }
     ensures fits { IfOk result (λ v. IsFitting (product sizes.now) (product (drop axes sizes.now)) v.items) }
 {
     let mut fronts = vec![in alloc; 0]?;
     let mut rows = Vec::new(alloc);
     for axis in 0..axes {
-        write_rows(
-            &mut rows,
-            fronts.as_slice(),
-            sizes[axis],
-            starts[axis],
-            lengths[axis],
-        )?;
-        mem::swap(&mut fronts, &mut rows);
+        let len = lengths[axis];
+        next_fronts(&mut fronts, &mut rows, sizes[axis], starts[axis], len)?;
     }
     Ok(fronts)
 }
@@ -115,8 +140,8 @@ pub fn box_places(
     box_fronts(alloc, sizes, starts, lengths, sizes.len())
 }
 
-/// How many of the first axes there are up to the last one that the box doesn't cover whole.
-fn axes_before_whole(sizes: &[u64], starts: &[u64], lengths: &[u64]) -> usize
+/// How many axes stand before those at the end that the box covers whole.
+fn outer_axes(sizes: &[u64], starts: &[u64], lengths: &[u64]) -> usize
     requires starts { length starts.now ≡ length sizes.now }
     requires lengths { length lengths.now ≡ length sizes.now }
     ensures axes { result ≤ length sizes.now }
@@ -131,8 +156,8 @@ fn axes_before_whole(sizes: &[u64], starts: &[u64], lengths: &[u64]) -> usize
     axes
 }
 
-/// The product of sizes that are part of a chunk that can be numbered.
-fn small_product(sizes: &[u64]) -> u64
+/// The product of sizes, where the caller knows that 64 bits hold it.
+fn known_product(sizes: &[u64]) -> u64
     requires { product sizes.now < 2 ^ 64 }
     ensures { result ≡ product sizes.now }
 {
@@ -142,8 +167,8 @@ fn small_product(sizes: &[u64]) -> u64
     }
 }
 
-/// The runs of a box inside the sizes. Axes at the end that the box covers whole join into one
-/// run; there is one run for each row of the last axis before them.
+/// The runs of a box inside the sizes. Axes at the end that the box covers whole join, so there is
+/// one run for each row of the last axis before them, or one alone where it covers all axes.
 pub fn box_runs(
     alloc: Global,
     sizes: &[u64],
@@ -162,17 +187,17 @@ pub fn box_runs(
     if lengths.contains(&0) {
         return Ok(Vec::new(alloc));
     }
-    let axes = axes_before_whole(sizes, starts, lengths);
+    let axes = outer_axes(sizes, starts, lengths);
     if axes == 0 {
         let mut runs = Vec::new(alloc);
-        runs.push((0, small_product(sizes)))?;
+        runs.push((0, known_product(sizes)))?;
         return Ok(runs);
     }
     let last = axes - 1;
     let fronts = box_fronts(alloc, sizes, starts, lengths, last)?;
     let size = sizes[last];
     let start = starts[last];
-    let whole = small_product(&sizes[axes..]);
+    let whole = known_product(&sizes[axes..]);
     let len = lengths[last] * whole;
     let mut runs = Vec::with_capacity(alloc, fronts.len())?;
     for front in &fronts {

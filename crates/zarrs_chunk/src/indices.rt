@@ -1,7 +1,7 @@
-ghost use Rattle.std.specs.Prelude.{◌≡◌, ◌<◌, ◌^◌, true, option_map};
-ghost use Rattle.zarrs_chunk.specs.Answer.{AnswersBy, memory, unrefused};
+ghost use Rattle.std.specs.Prelude.{◌≡◌, ◌<◌, ◌^◌, true, length, option_map, All, SomeIff};
+ghost use Rattle.zarrs_chunk.specs.Answer.{AnswersBy, memory, no_refusal};
 ghost use Rattle.zarrs_chunk.specs.ChunkShape.{product};
-ghost use Rattle.zarrs_chunk.specs.Indices.{raveled, IsUnraveled};
+ghost use Rattle.zarrs_chunk.specs.Indices.{number_of_tuple, IsTupleOfNumber};
 ghost use Rattle.zarrs_chunk.specs.Tuples.{row_major as row_major_of, is_tuple_inside as tuple_inside};
 
 use crate::chunk_shape::ChunkShape;
@@ -13,7 +13,7 @@ pub type ArrayIndices = Vec<u64>;
 
 /// Whether a tuple has one number an axis, and each lies inside the axis's size.
 pub fn is_tuple_inside(sizes: &[u64], tuple: &[u64]) -> bool
-    ensures { result ≡ tuple_inside sizes.now tuple.now }
+    ensures value { result ≡ tuple_inside sizes.now tuple.now }
 {
     if tuple.len() != sizes.len() {
         return false;
@@ -26,24 +26,29 @@ pub fn is_tuple_inside(sizes: &[u64], tuple: &[u64]) -> bool
     true
 }
 
-/// The row-major number of a tuple that lies inside the sizes of a chunk that can be numbered.
-pub fn row_major(sizes: &[u64], tuple: &[u64]) -> u64
-    requires inside { tuple_inside sizes.now tuple.now ≡ true }
+/// The place of a tuple in a chunk whose elements 64 bits count, or `None` where it lies outside.
+pub fn place_inside(sizes: &[u64], tuple: &[u64]) -> Option<u64>
+    requires axes { length tuple.now ≡ length sizes.now }
+    requires positive { All (λ size. 0 < size) sizes.now }
     requires fits { product sizes.now < 2 ^ 64 }
-    ensures number { result ≡ row_major_of sizes.now tuple.now }
-    ensures below { result < product sizes.now }
+    ensures value { SomeIff result (tuple_inside sizes.now tuple.now ≡ true) (row_major_of sizes.now tuple.now) }
 {
-    let mut number = 0;
+    let mut place = 0;
     for axis in 0..sizes.len() {
-        number = number * sizes[axis] + tuple[axis];
+        let size = sizes[axis];
+        let index = tuple[axis];
+        if index >= size {
+            return None;
+        }
+        place = place * size + index;
     }
-    number
+    Some(place)
 }
 
 /// The row-major number of a tuple in a chunk. `None` where the tuple lies outside, or has another
 /// number of axes, or where its number passes `2^64 - 1`.
 pub fn ravel_indices(indices: &[u64], shape: &ChunkShape) -> Option<u64>
-    ensures { result ≡ raveled shape.now indices.now }
+    ensures answer { result ≡ number_of_tuple shape.now indices.now }
 {
     let sizes = shape.as_slice();
     if !is_tuple_inside(sizes, indices) {
@@ -63,7 +68,7 @@ pub fn unravel_index(
     index: u64,
     shape: &ChunkShape,
 ) -> Result<Option<ArrayIndices>, CodecError>
-    ensures { AnswersBy memory (λ found _. IsUnraveled shape.now index (option_map (λ tuple. tuple.items) found)) result unrefused }
+    ensures answer { AnswersBy memory (λ found _. IsTupleOfNumber shape.now index (option_map (λ tuple. tuple.items) found)) result no_refusal }
 {
     let sizes = shape.as_slice();
     let mut indices = vec![in alloc; 0; sizes.len()]?;

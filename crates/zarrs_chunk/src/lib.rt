@@ -8,15 +8,15 @@ mod array_subset;
 mod boxes;
 mod chunk_shape;
 mod codec_error;
+mod index_lists;
 mod indexer;
 mod indices;
 pub mod laws;
+mod runs;
 
 pub use array_subset::ArraySubset;
 pub use chunk_shape::ChunkShape;
 pub use codec_error::{CodecError, CodecName, StorageError};
 pub use indexer::Indexer;
 pub use indices::{ArrayIndices, ravel_indices, unravel_index};
-
-#[cfg(test)]
-mod tests;
+pub use runs::runs_of_places;

@@ -20,62 +20,62 @@ pub returns-then-axes-eq0-clause-places : goal.returns-then-axes-eq0-clause-plac
 returns-then-axes-eq0-clause-places c =
     let sizes = c.args.sizes.now in
     let runs : c.push.new.self.items ≡ (0, product sizes) ∷ []
-    = c.in_ok-push.ensures.items ∙ ap (λ (xs : List (ℕ × ℕ)). xs ++ (0, c.small_product.result) ∷ []) c.new-runs.ensures.items ∙ ap (λ n. (0, n) ∷ []) c.small_product.ensures in
+    = c.in_ok-push.ensures.items ∙ ap (λ (xs : List (ℕ × ℕ)). xs ++ (0, c.known_product.result) ∷ []) c.new-runs.ensures.items ∙ ap (λ n. (0, n) ∷ []) c.known_product.ensures in
     ap joined_runs runs
-    ∙ all_whole sizes c.args.starts.now c.args.lengths.now c.axes_before_whole-axes.result c.if-axes-eq0.true c.requires.starts c.requires.lengths c.axes_before_whole-axes.ensures.whole
+    ∙ all_whole sizes c.args.starts.now c.args.lengths.now c.outer_axes-axes.result c.if-axes-eq0.true c.requires.starts c.requires.lengths c.outer_axes-axes.ensures.whole
 
 pub returns-then-axes-eq0-clause-filled : goal.returns-then-axes-eq0-clause-filled
 returns-then-axes-eq0-clause-filled c =
     let sizes = c.args.sizes.now in
     let runs : c.push.new.self.items ≡ (0, product sizes) ∷ []
-    = c.in_ok-push.ensures.items ∙ ap (λ (xs : List (ℕ × ℕ)). xs ++ (0, c.small_product.result) ∷ []) c.new-runs.ensures.items ∙ ap (λ n. (0, n) ∷ []) c.small_product.ensures in
+    = c.in_ok-push.ensures.items ∙ ap (λ (xs : List (ℕ × ℕ)). xs ++ (0, c.known_product.result) ∷ []) c.new-runs.ensures.items ∙ ap (λ n. (0, n) ∷ []) c.known_product.ensures in
     rw runs (one_filled (product sizes) (product_positive sizes c.requires.positive))
 
-pub small_product-whole-requires : goal.small_product-whole-requires
-small_product-whole-requires c =
+pub known_product-whole-requires : goal.known_product-whole-requires
+known_product-whole-requires c =
     let sizes = c.args.sizes.now in
-    let axes = c.axes_before_whole-axes.result in
+    let axes = c.outer_axes-axes.result in
     rw (take_rest sizes axes) (omega (arith, product_drop-le sizes axes c.requires.positive, c.requires.fits))
 
 pub overflow_mul-len : goal.overflow_mul-len
 overflow_mul-len c =
     let sizes = c.args.sizes.now in
-    let axes = c.axes_before_whole-axes.result in
-    let whole : c.small_product-whole.result ≡ product (drop axes sizes) = c.small_product-whole.ensures ∙ ap product (take_rest sizes axes) in
+    let axes = c.outer_axes-axes.result in
+    let whole : c.known_product-whole.result ≡ product (drop axes sizes) = c.known_product-whole.ensures ∙ ap product (take_rest sizes axes) in
     let room = whole_len_fits sizes c.args.starts.now c.args.lengths.now (axes - 1) axes (omega arith) (omega arith) c.requires.inside c.requires.positive in
     rw whole (omega (arith, room, c.requires.fits))
 
 pub overflow_mul-front : goal.overflow_mul-front
 overflow_mul-front c =
     let items = c.deref-front-items.ensures.value in
-    let last = c.axes_before_whole-axes.result - 1 in
+    let last = c.outer_axes-axes.result - 1 in
     let room = row_fits c.args.sizes.now c.args.starts.now c.args.lengths.now c.in_ok-fronts.fronts.items last c.loop-front.front-index (omega arith) c.requires.inside c.requires.positive c.in_ok-fronts.ensures.fits (omega arith) in
     rw items (omega (arith, room, c.requires.fits))
 
 pub overflow_add-front : goal.overflow_add-front
 overflow_add-front c =
     let items = c.deref-front-items.ensures.value in
-    let last = c.axes_before_whole-axes.result - 1 in
+    let last = c.outer_axes-axes.result - 1 in
     let room = row_fits c.args.sizes.now c.args.starts.now c.args.lengths.now c.in_ok-fronts.fronts.items last c.loop-front.front-index (omega arith) c.requires.inside c.requires.positive c.in_ok-fronts.ensures.fits (omega arith) in
     rw items (omega (arith, room, c.requires.fits))
 
 pub overflow_mul-front-in-loop-front : goal.overflow_mul-front-in-loop-front
 overflow_mul-front-in-loop-front c =
     let sizes = c.args.sizes.now in
-    let axes = c.axes_before_whole-axes.result in
+    let axes = c.outer_axes-axes.result in
     let items = c.deref-front-items.ensures.value in
-    let whole : c.small_product-whole.result ≡ product (drop axes sizes) = c.small_product-whole.ensures ∙ ap product (take_rest sizes axes) in
+    let whole : c.known_product-whole.result ≡ product (drop axes sizes) = c.known_product-whole.ensures ∙ ap product (take_rest sizes axes) in
     let room = whole_row_fits sizes c.args.starts.now c.args.lengths.now c.in_ok-fronts.fronts.items (axes - 1) axes c.loop-front.front-index (omega arith) (omega arith) c.requires.inside c.in_ok-fronts.ensures.fits (omega arith) in
     rw (items, whole) (omega (arith, room, c.requires.fits))
 
 pub loop-front-preserved : goal.loop-front-preserved
 loop-front-preserved c =
     let sizes = c.args.sizes.now in
-    let axes = c.axes_before_whole-axes.result in
+    let axes = c.outer_axes-axes.result in
     let last = axes - 1 in
     let items = c.deref-front-items.ensures.value in
-    let whole = c.small_product-whole.result in
-    let whole_is : whole ≡ product (drop axes sizes) = c.small_product-whole.ensures ∙ ap product (take_rest sizes axes) in
+    let whole = c.known_product-whole.result in
+    let whole_is : whole ≡ product (drop axes sizes) = c.known_product-whole.ensures ∙ ap product (take_rest sizes axes) in
     let start = (get_or c.deref-front-items.result.now c.loop-front.front-index 0 * get_or sizes last 0 + get_or c.args.starts.now last 0) * whole in
     let len = get_or c.args.lengths.now last 0 * whole in
     let more = flat_map-take_more (λ front. range_with_len ((front * get_or sizes last 0 + get_or c.args.starts.now last 0) * whole) len) c.deref-front-items.result.now c.loop-front.front-index 0 (omega arith) in
@@ -93,12 +93,12 @@ loop-front-preserved c =
 pub returns-clause-places : goal.returns-clause-places
 returns-clause-places c =
     let sizes = c.args.sizes.now in
-    let axes = c.axes_before_whole-axes.result in
+    let axes = c.outer_axes-axes.result in
     let last = axes - 1 in
-    let whole_is : c.small_product-whole.result ≡ product (drop axes sizes) = c.small_product-whole.ensures ∙ ap product (take_rest sizes axes) in
+    let whole_is : c.known_product-whole.result ≡ product (drop axes sizes) = c.known_product-whole.ensures ∙ ap product (take_rest sizes axes) in
     let rows = spread_rows (get_or sizes last 0) (get_or c.args.starts.now last 0) (get_or c.args.lengths.now last 0) in
     c.loop-front.invariant.places
-    ∙ ap (rows c.small_product-whole.result) (take_all c.loop-front.front-index c.deref-front-items.result.now (omega arith) ∙ c.deref-front-items.ensures.value)
+    ∙ ap (rows c.known_product-whole.result) (take_all c.loop-front.front-index c.deref-front-items.result.now (omega arith) ∙ c.deref-front-items.ensures.value)
     ∙ ap (λ whole. rows whole c.in_ok-fronts.fronts.items) whole_is
-    ∙ sym (rows_before_whole sizes c.args.starts.now c.args.lengths.now c.in_ok-fronts.fronts.items last axes (omega arith) (omega arith) c.requires.starts c.requires.lengths c.axes_before_whole-axes.ensures.whole)
+    ∙ sym (rows_before_whole sizes c.args.starts.now c.args.lengths.now c.in_ok-fronts.fronts.items last axes (omega arith) (omega arith) c.requires.starts c.requires.lengths c.outer_axes-axes.ensures.whole)
     ∙ c.in_ok-fronts.ensures.level
