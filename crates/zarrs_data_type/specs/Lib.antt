@@ -5,3 +5,4 @@ pub mod SameType
 pub mod SameTypeLaws
 pub mod FillValue
 pub mod Element
+pub use Rattle.zarrs_chunk.specs.Answer
