@@ -12,6 +12,9 @@ pub mod Pieces
 pub mod Extracted
 pub mod Filled
 pub mod Sources
-pub mod Updated
+pub mod Update
 pub mod Chunks
 pub mod Laws
+pub use Rattle.zarrs_chunk.specs.Answer
+pub use Rattle.zarrs_chunk.specs.Indexer
+pub use Rattle.zarrs_chunk.specs.Runs
