@@ -1,0 +1,18 @@
+//! What all codecs share: storage handles and ranges of their bytes, and how long encoded bytes
+//! are.
+//!
+//! A coder that reads a chunk in part does so over a storage handle, a
+//! [`BytesPartialDecoderTraits`]. [`MemoryHandle`] is one whose value is in memory.
+#![tactic(auto)]
+
+mod byte_range;
+mod bytes_partial_decoder_traits;
+mod bytes_representation;
+mod memory_handle;
+mod refused;
+
+pub use byte_range::ByteRange;
+pub use bytes_partial_decoder_traits::BytesPartialDecoderTraits;
+pub use bytes_representation::BytesRepresentation;
+pub use memory_handle::MemoryHandle;
+pub use refused::Refused;
