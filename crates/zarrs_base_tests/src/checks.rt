@@ -50,7 +50,7 @@ pub(crate) enum Asked<'a> {
     Tuples(&'a [&'a [u64]]),
 }
 
-pub(crate) fn indexer(alloc: Global, asked: Asked<'_>) -> Result<Indexer, CodecError> {
+pub(crate) fn indexer(alloc: Global, asked: &Asked<'_>) -> Result<Indexer, CodecError> {
     match asked {
         Asked::Ranges(ranges) => subset(alloc, ranges),
         Asked::Tuples(tuples) => list(alloc, tuples),

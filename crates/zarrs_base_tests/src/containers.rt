@@ -21,13 +21,13 @@ pub(crate) enum Type {
     Nested(u64),
 }
 
-pub(crate) fn data_type(alloc: Global, told: Type) -> Result<DataType, CodecError> {
+pub(crate) fn data_type(alloc: Global, told: &Type) -> Result<DataType, CodecError> {
     match told {
-        Type::Bytes(count) => DataType::components(8, count, false),
+        Type::Bytes(count) => DataType::components(8, *count, false),
         Type::Text => Ok(DataType::string()),
-        Type::Optional(count) => optional_type(alloc, count),
+        Type::Optional(count) => optional_type(alloc, *count),
         Type::OptionalText => DataType::optional(alloc, DataType::string()),
-        Type::Nested(count) => DataType::optional(alloc, optional_type(alloc, count)?),
+        Type::Nested(count) => DataType::optional(alloc, optional_type(alloc, *count)?),
     }
 }
 
@@ -64,7 +64,7 @@ fn masked(alloc: Global, mask: &[u8], inner: ArrayBytes<'static>) -> Elements {
 }
 
 /// The container, with bytes of its own.
-pub(crate) fn container(alloc: Global, held: Held<'_>) -> Elements {
+pub(crate) fn container(alloc: Global, held: &Held<'_>) -> Elements {
     match held {
         Held::Fixed(bytes) => fixed(alloc, bytes),
         Held::Texts(bytes, offsets) => texts(alloc, bytes, offsets),
@@ -84,9 +84,19 @@ pub(crate) fn holds(
     alloc: Global,
     about: &str,
     answer: Elements,
-    wanted: Held<'_>,
+    wanted: &Held<'_>,
 ) -> Result<(), Fail> {
-    is(rt, about, &answer?, &container(alloc, wanted)?);
+    equals(rt, alloc, about, &answer?, wanted)
+}
+
+fn equals(
+    rt: &impl Abort,
+    alloc: Global,
+    about: &str,
+    came: &ArrayBytes<'static>,
+    wanted: &Held<'_>,
+) -> Result<(), Fail> {
+    is(rt, about, came, &container(alloc, wanted)?);
     Ok(())
 }
 

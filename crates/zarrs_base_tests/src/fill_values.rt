@@ -29,7 +29,7 @@ const FITTING: [(Type, &'static [u8], bool); 16] = [
 fn fits(
     rt: &impl Abort,
     alloc: Global,
-    told: Type,
+    told: &Type,
     bytes: &[u8],
     wanted: bool,
 ) -> Result<(), Fail> {
@@ -48,7 +48,7 @@ fn fits(
 #[test]
 fn fits_a_type_or_not(rt: HostRuntime) -> Result<(), Fail> {
     for (told, bytes, wanted) in FITTING.iter() {
-        fits(&rt, rt.alloc(), *told, bytes, *wanted)?;
+        fits(&rt, rt.alloc(), told, bytes, *wanted)?;
     }
     Ok(())
 }

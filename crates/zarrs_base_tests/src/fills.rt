@@ -1,14 +1,14 @@
 use crate::checks::{are, is_refused};
-use crate::containers::{Elements, Held, Type, data_type, holds, repeated};
+use crate::containers::{Elements, Held, Type, data_type, holds, numbered, repeated};
 use Held::{Fixed, Masked, MaskedTexts, Nested, Texts};
 use std::alloc::Global;
 use std::process::Abort;
 use std::test::Fail;
-use zarrs_array_bytes::ArrayBytes;
+use zarrs_array_bytes::{ArrayBytes, append_copies};
 use zarrs_chunk::CodecError;
 use zarrs_data_type::FillValue;
 
-fn filled(alloc: Global, told: Type, count: u64, fill: &[u8]) -> Elements {
+fn filled(alloc: Global, told: &Type, count: u64, fill: &[u8]) -> Elements {
     let fill_value = FillValue::new(fill.to_vec(alloc)?);
     ArrayBytes::new_fill_value(alloc, &data_type(alloc, told)?, count, &fill_value)
 }
@@ -33,7 +33,7 @@ const REFUSED: [(Type, u64, &'static [u8], CodecError); 3] = [
 #[test]
 fn is_refused_by_the_first_cause(rt: HostRuntime) -> Result<(), Fail> {
     for (told, count, fill, cause) in REFUSED.iter() {
-        is_refused(&rt, "fill", filled(rt.alloc(), *told, *count, fill), *cause)?;
+        is_refused(&rt, "fill", filled(rt.alloc(), told, *count, fill), *cause)?;
     }
     Ok(())
 }
@@ -68,14 +68,17 @@ const FILLED: [(Type, u64, &'static [u8], Held<'static>); 12] = [
 #[test]
 fn fills_elements_of_each_kind(rt: HostRuntime) -> Result<(), Fail> {
     for (told, count, fill, wanted) in FILLED.iter() {
-        let answer = filled(rt.alloc(), *told, *count, fill);
-        holds(&rt, rt.alloc(), "filled", answer, *wanted)?;
+        let answer = filled(rt.alloc(), told, *count, fill);
+        holds(&rt, rt.alloc(), "filled", answer, wanted)?;
     }
     Ok(())
 }
 
 /// Counts on both sides of where copies begin to be made by blocks, and of the blocks' edges.
-const COUNTS: [usize; 10] = [0, 1, 127, 128, 2047, 2048, 2049, 2175, 2176, 2177];
+const COUNTS: [usize; 22] = [
+    0, 1, 15, 16, 17, 63, 64, 65, 79, 80, 81, 127, 128, 1023, 1024, 1025, 1039, 1040, 1041, 2047,
+    2048, 2177,
+];
 
 const FILLS: [&'static [u8]; 6] = [
     &[7],
@@ -87,9 +90,9 @@ const FILLS: [&'static [u8]; 6] = [
 ];
 
 fn fills(rt: &impl Abort, alloc: Global, fill: &[u8], count: usize) -> Result<(), Fail> {
-    let answer = filled(alloc, Type::Bytes(fill.len() as u64), count as u64, fill);
+    let answer = filled(alloc, &Type::Bytes(fill.len() as u64), count as u64, fill);
     let wanted = repeated(alloc, fill, count)?;
-    holds(rt, alloc, "filled", answer, Fixed(wanted.as_slice()))
+    holds(rt, alloc, "filled", answer, &Fixed(wanted.as_slice()))
 }
 
 #[test]
@@ -98,6 +101,18 @@ fn fills_with_each_width(rt: HostRuntime) -> Result<(), Fail> {
         for count in COUNTS.iter() {
             fills(&rt, rt.alloc(), fill, *count)?;
         }
+    }
+    Ok(())
+}
+
+/// Widths of fill values on both sides of one that blocks are no longer made of.
+const WIDE: [usize; 3] = [255, 256, 257];
+
+#[test]
+fn fills_with_wide_elements(rt: HostRuntime) -> Result<(), Fail> {
+    for size in WIDE.iter() {
+        let fill = numbered(rt.alloc(), *size)?;
+        fills(&rt, rt.alloc(), fill.as_slice(), 81)?;
     }
     Ok(())
 }
@@ -112,21 +127,11 @@ fn steps(alloc: Global, size: usize, count: usize) -> Result<Vec<usize>, Fail> {
 }
 
 fn fills_texts(rt: &impl Abort, alloc: Global, fill: &[u8], count: usize) -> Result<(), Fail> {
-    let answer = filled(alloc, Type::Text, count as u64, fill)?;
-    let (bytes, offsets) = answer.into_variable()?;
-    are(
-        rt,
-        "bytes",
-        bytes.as_slice(),
-        repeated(alloc, fill, count)?.as_slice(),
-    );
-    are(
-        rt,
-        "offsets",
-        offsets.as_slice(),
-        steps(alloc, fill.len(), count)?.as_slice(),
-    );
-    Ok(())
+    let bytes = repeated(alloc, fill, count)?;
+    let offsets = steps(alloc, fill.len(), count)?;
+    let answer = filled(alloc, &Type::Text, count as u64, fill);
+    let wanted = Texts(bytes.as_slice(), offsets.as_slice());
+    holds(rt, alloc, "filled", answer, &wanted)
 }
 
 #[test]
@@ -134,6 +139,25 @@ fn fills_texts_of_each_length(rt: HostRuntime) -> Result<(), Fail> {
     for fill in FILLS.iter() {
         for count in COUNTS.iter() {
             fills_texts(&rt, rt.alloc(), fill, *count)?;
+        }
+    }
+    Ok(())
+}
+
+/// Copies behind one that stands.
+fn appends(rt: &impl Abort, alloc: Global, fill: &[u8], count: usize) -> Result<(), Fail> {
+    let mut bytes = fill.to_vec(alloc)?;
+    append_copies(&mut bytes, fill, count as u64)?;
+    let wanted = repeated(alloc, fill, count.saturating_add(1))?;
+    are(rt, "appended", bytes.as_slice(), wanted.as_slice());
+    Ok(())
+}
+
+#[test]
+fn appends_copies_of_each_width(rt: HostRuntime) -> Result<(), Fail> {
+    for fill in FILLS.iter() {
+        for count in COUNTS.iter() {
+            appends(&rt, rt.alloc(), fill, *count)?;
         }
     }
     Ok(())

@@ -5,7 +5,13 @@ use std::process::Abort;
 use std::test::Fail;
 use zarrs_chunk::{ArraySubset, ChunkShape, CodecError, Indexer};
 
-/// The indexer has these places in a chunk of this shape, and its copy is equal.
+/// An equal copy can be made.
+fn is_copied(rt: &impl Abort, indexer: &Indexer) -> Result<(), Fail> {
+    is(rt, "copy", &indexer.clone()?, indexer);
+    Ok(())
+}
+
+/// The indexer has these places in a chunk of this shape.
 fn has_places(
     rt: &impl Abort,
     alloc: Global,
@@ -15,7 +21,6 @@ fn has_places(
 ) -> Result<(), Fail> {
     is(rt, "check", &indexer.check(chunk), &Ok(()));
     is(rt, "len", &indexer.len(), &Ok(places.len() as u64));
-    is(rt, "copy", &indexer.clone()?, indexer);
     are(
         rt,
         "places",
@@ -93,12 +98,13 @@ fn covers(
     rt: &impl Abort,
     alloc: Global,
     sizes: &[u64],
-    asked: Asked<'_>,
+    asked: &Asked<'_>,
     places: &[u64],
     runs: &[(u64, u64)],
 ) -> Result<(), Fail> {
     let chunk = shape(alloc, sizes)?;
     let asked = indexer(alloc, asked)?;
+    is_copied(rt, &asked)?;
     has_places(rt, alloc, &chunk, &asked, places)?;
     has_runs(rt, alloc, &chunk, &asked, runs)
 }
@@ -106,7 +112,7 @@ fn covers(
 #[test]
 fn subsets_have_places_and_runs(rt: HostRuntime) -> Result<(), Fail> {
     for (sizes, asked, places, runs) in BOXES.iter() {
-        covers(&rt, rt.alloc(), sizes, *asked, places, runs)?;
+        covers(&rt, rt.alloc(), sizes, asked, places, runs)?;
     }
     Ok(())
 }
@@ -166,11 +172,12 @@ fn lists(
     rt: &impl Abort,
     alloc: Global,
     sizes: &[u64],
-    asked: Asked<'_>,
+    asked: &Asked<'_>,
     places: &[u64],
 ) -> Result<(), Fail> {
     let chunk = shape(alloc, sizes)?;
     let asked = indexer(alloc, asked)?;
+    is_copied(rt, &asked)?;
     has_places(rt, alloc, &chunk, &asked, places)?;
     covers_together(rt, alloc, &chunk, &asked, places)
 }
@@ -178,7 +185,7 @@ fn lists(
 #[test]
 fn lists_have_places_in_their_order(rt: HostRuntime) -> Result<(), Fail> {
     for (sizes, asked, places) in LISTS.iter() {
-        lists(&rt, rt.alloc(), sizes, *asked, places)?;
+        lists(&rt, rt.alloc(), sizes, asked, places)?;
     }
     Ok(())
 }
@@ -217,7 +224,7 @@ fn refuses(
     rt: &impl Abort,
     alloc: Global,
     sizes: &[u64],
-    asked: Asked<'_>,
+    asked: &Asked<'_>,
     checked: Result<(), CodecError>,
     cause: CodecError,
 ) -> Result<(), Fail> {
@@ -231,7 +238,7 @@ fn refuses(
 #[test]
 fn is_refused_by_the_first_cause(rt: HostRuntime) -> Result<(), Fail> {
     for (sizes, asked, cause) in REFUSED.iter() {
-        refuses(&rt, rt.alloc(), sizes, *asked, Err(*cause), *cause)?;
+        refuses(&rt, rt.alloc(), sizes, asked, Err(*cause), *cause)?;
     }
     Ok(())
 }
@@ -247,7 +254,7 @@ const INSIDE: [Asked<'static>; 4] = [
 #[test]
 fn is_refused_where_the_elements_are_too_many(rt: HostRuntime) -> Result<(), Fail> {
     for asked in INSIDE.iter() {
-        refuses(&rt, rt.alloc(), WIDE, *asked, Ok(()), CodecError::Overflow)?;
+        refuses(&rt, rt.alloc(), WIDE, asked, Ok(()), CodecError::Overflow)?;
     }
     Ok(())
 }
@@ -263,7 +270,7 @@ const UNLIKE: [Asked<'static>; 8] = [
     Ranges(&[1..3, 0..2]),
 ];
 
-fn differs(rt: &impl Abort, alloc: Global, one: Asked<'_>, other: Asked<'_>) -> Result<(), Fail> {
+fn differs(rt: &impl Abort, alloc: Global, one: &Asked<'_>, other: &Asked<'_>) -> Result<(), Fail> {
     is_not(
         rt,
         "another",
@@ -277,7 +284,7 @@ fn differs(rt: &impl Abort, alloc: Global, one: Asked<'_>, other: Asked<'_>) -> 
 fn differs_by_kind_and_content(rt: HostRuntime) -> Result<(), Fail> {
     for (place, one) in UNLIKE.iter().enumerate() {
         for other in UNLIKE.iter().take(place) {
-            differs(&rt, rt.alloc(), *one, *other)?;
+            differs(&rt, rt.alloc(), one, other)?;
         }
     }
     Ok(())

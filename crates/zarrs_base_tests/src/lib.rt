@@ -1,5 +1,5 @@
 //! Tests of the crates below all codecs, over their public calls: `zarrs_chunk`,
-//! `zarrs_data_type` and `zarrs_array_bytes`. Without tests the crate is empty.
+//! `zarrs_data_type`, `zarrs_metadata` and `zarrs_array_bytes`. Without tests the crate is empty.
 //!
 //! Answers are written by hand, or made by a plain slow rule that stands beside them. A want of
 //! memory ends a test with that error and is never compared, so a run in which an allocation fails
@@ -11,6 +11,8 @@
 
 #[cfg(test)]
 mod array_bytes;
+#[cfg(test)]
+mod borrowed_parts;
 #[cfg(test)]
 mod checks;
 #[cfg(test)]
@@ -30,8 +32,16 @@ mod indexers;
 #[cfg(test)]
 mod numbers;
 #[cfg(test)]
+mod plugin_errors;
+#[cfg(test)]
+mod reshape_shapes;
+#[cfg(test)]
+mod runs;
+#[cfg(test)]
 mod selections;
 #[cfg(test)]
 mod subsets;
+#[cfg(test)]
+mod transpose_orders;
 #[cfg(test)]
 mod updates;

@@ -9,10 +9,10 @@ use zarrs_chunk::CodecError;
 
 fn selected(
     alloc: Global,
-    told: Type,
-    held: Held<'_>,
+    told: &Type,
+    held: &Held<'_>,
     sizes: &[u64],
-    asked: Asked<'_>,
+    asked: &Asked<'_>,
 ) -> Elements {
     let array = container(alloc, held)?;
     let asked = indexer(alloc, asked)?;
@@ -180,8 +180,8 @@ const SELECTED: [(
 #[test]
 fn selects_in_the_order_asked_for(rt: HostRuntime) -> Result<(), Fail> {
     for (told, held, sizes, asked, wanted) in SELECTED.iter() {
-        let answer = selected(rt.alloc(), *told, *held, sizes, *asked);
-        holds(&rt, rt.alloc(), "selected", answer, *wanted)?;
+        let answer = selected(rt.alloc(), told, held, sizes, asked);
+        holds(&rt, rt.alloc(), "selected", answer, wanted)?;
     }
     Ok(())
 }
@@ -222,7 +222,7 @@ const REFUSED: [(Type, Held<'static>, Asked<'static>, CodecError); 5] = [
 #[test]
 fn is_refused_by_the_first_cause(rt: HostRuntime) -> Result<(), Fail> {
     for (told, held, asked, cause) in REFUSED.iter() {
-        let answer = selected(rt.alloc(), *told, *held, &[4, 4], *asked);
+        let answer = selected(rt.alloc(), told, held, &[4, 4], asked);
         is_refused(&rt, "selected", answer, *cause)?;
     }
     Ok(())
@@ -244,21 +244,21 @@ fn selects_width(
     rt: &impl Abort,
     alloc: Global,
     size: usize,
-    asked: Asked<'_>,
+    asked: &Asked<'_>,
     places: &[u64],
 ) -> Result<(), Fail> {
     let bytes = numbered(alloc, size.saturating_mul(15))?;
     let wanted = elements_at(alloc, bytes.as_slice(), size, places)?;
     let held = Fixed(bytes.as_slice());
-    let answer = selected(alloc, Type::Bytes(size as u64), held, &[3, 5], asked);
-    holds(rt, alloc, "selected", answer, Fixed(wanted.as_slice()))
+    let answer = selected(alloc, &Type::Bytes(size as u64), &held, &[3, 5], asked);
+    holds(rt, alloc, "selected", answer, &Fixed(wanted.as_slice()))
 }
 
 #[test]
 fn selects_elements_of_each_width(rt: HostRuntime) -> Result<(), Fail> {
     for size in WIDTHS.iter() {
         for (asked, places) in PLACES.iter() {
-            selects_width(&rt, rt.alloc(), *size, *asked, places)?;
+            selects_width(&rt, rt.alloc(), *size, asked, places)?;
         }
     }
     Ok(())

@@ -13,11 +13,11 @@ use zarrs_chunk::CodecError;
 
 fn updated(
     alloc: Global,
-    told: Type,
-    old: Held<'_>,
+    told: &Type,
+    old: &Held<'_>,
     sizes: &[u64],
-    asked: Asked<'_>,
-    new: Held<'_>,
+    asked: &Asked<'_>,
+    new: &Held<'_>,
 ) -> Elements {
     let old = container(alloc, old)?;
     let new = container(alloc, new)?;
@@ -26,10 +26,10 @@ fn updated(
 
 fn written(
     alloc: Global,
-    told: Type,
+    told: &Type,
     old: ArrayBytes<'_>,
     sizes: &[u64],
-    asked: Asked<'_>,
+    asked: &Asked<'_>,
     new: &ArrayBytes<'_>,
 ) -> Elements {
     let chunk = shape(alloc, sizes)?;
@@ -197,8 +197,8 @@ const UPDATED: [(
 #[test]
 fn updates_in_the_order_asked_for(rt: HostRuntime) -> Result<(), Fail> {
     for (told, old, sizes, asked, new, wanted) in UPDATED.iter() {
-        let answer = updated(rt.alloc(), *told, *old, sizes, *asked, *new);
-        holds(&rt, rt.alloc(), "updated", answer, *wanted)?;
+        let answer = updated(rt.alloc(), told, old, sizes, asked, new);
+        holds(&rt, rt.alloc(), "updated", answer, wanted)?;
     }
     Ok(())
 }
@@ -255,7 +255,7 @@ const REFUSED: [(
 #[test]
 fn is_refused_by_the_first_cause(rt: HostRuntime) -> Result<(), Fail> {
     for (told, old, asked, new, cause) in REFUSED.iter() {
-        let answer = updated(rt.alloc(), *told, *old, &[2, 2], *asked, *new);
+        let answer = updated(rt.alloc(), told, old, &[2, 2], asked, new);
         is_refused(&rt, "updated", answer, *cause)?;
     }
     Ok(())
@@ -277,7 +277,7 @@ fn updates_width(
     rt: &impl Abort,
     alloc: Global,
     size: usize,
-    asked: Asked<'_>,
+    asked: &Asked<'_>,
     places: &[u64],
 ) -> Result<(), Fail> {
     let old = repeated(alloc, &[255], size.saturating_mul(15))?;
@@ -297,22 +297,22 @@ fn becomes(
     rt: &impl Abort,
     alloc: Global,
     size: usize,
-    asked: Asked<'_>,
+    asked: &Asked<'_>,
     places: &[u64],
     old: &[u8],
     new: &[u8],
 ) -> Result<(), Fail> {
     let told = Type::Bytes(size as u64);
-    let answer = updated(alloc, told, Fixed(old), &[3, 5], asked, Fixed(new));
+    let answer = updated(alloc, &told, &Fixed(old), &[3, 5], asked, &Fixed(new));
     let wanted = elements_after(alloc, old, size, places, new)?;
-    holds(rt, alloc, "updated", answer, Fixed(wanted.as_slice()))
+    holds(rt, alloc, "updated", answer, &Fixed(wanted.as_slice()))
 }
 
 #[test]
 fn updates_elements_of_each_width(rt: HostRuntime) -> Result<(), Fail> {
     for size in WIDTHS.iter() {
         for (asked, places) in PLACES.iter() {
-            updates_width(&rt, rt.alloc(), *size, *asked, places)?;
+            updates_width(&rt, rt.alloc(), *size, asked, places)?;
         }
     }
     Ok(())
@@ -323,8 +323,8 @@ fn updates_borrowed_bytes(rt: HostRuntime) -> Result<(), Fail> {
     let old = ArrayBytes::new_flen(CowSlice::Borrowed([1, 2, 3, 4].as_slice()));
     let new = ArrayBytes::new_flen(CowSlice::Borrowed([5, 6].as_slice()));
     let second = Ranges(&[1..2]);
-    let after = written(rt.alloc(), Type::Bytes(2), old, &[2], second, &new)?;
-    let wanted = container(rt.alloc(), Fixed(&[1, 2, 5, 6]))?;
+    let after = written(rt.alloc(), &Type::Bytes(2), old, &[2], &second, &new)?;
+    let wanted = container(rt.alloc(), &Fixed(&[1, 2, 5, 6]))?;
     is(&rt, "updated", &after, &wanted);
     Ok(())
 }
