@@ -283,7 +283,9 @@ fn refuses_what_lies_outside(rt: HostRuntime) -> Result<(), Fail> {
 
 /// Counts on both sides of where copies of the fill value begin to be made by blocks, and of the
 /// blocks' edges.
-const COUNTS: [u64; 12] = [0, 1, 15, 16, 17, 255, 256, 257, 1023, 1024, 1025, 1280];
+const COUNTS: [u64; 14] = [
+    0, 1, 15, 16, 17, 63, 64, 65, 255, 256, 257, 1023, 1024, 1040,
+];
 
 const FILLS: [&'static [u8]; 6] = [
     &[7],

@@ -172,3 +172,14 @@ fn turns_blocks_and_what_is_left(rt: HostRuntime) -> Result<(), Fail> {
     }
     Ok(())
 }
+
+/// Bytes of a component on both sides of a block.
+const WIDE: [usize; 3] = [3071, 3072, 3073];
+
+#[test]
+fn turns_components_as_wide_as_a_block(rt: HostRuntime) -> Result<(), Fail> {
+    for size in WIDE.iter() {
+        components(&rt, rt.alloc(), *size, 3)?;
+    }
+    Ok(())
+}
