@@ -1,0 +1,66 @@
+use crate::checks::{are, is, is_not};
+use std::alloc::Global;
+use std::process::Abort;
+use std::test::Fail;
+use zarrs_metadata::{PluginCreateError, TransposeOrder};
+
+/// Orders of axes, no two of them equal.
+const ORDERS: [&'static [usize]; 6] = [&[], &[0], &[0, 1], &[1, 0], &[2, 0, 1], &[1, 2, 0]];
+
+/// What is no order: an axis comes twice, or is none of as many as the list is long.
+const REFUSED: [&'static [usize]; 6] = [
+    &[1],
+    &[0, 0],
+    &[0, 2],
+    &[1, 2],
+    &[2, 0, 2],
+    &[0, 1, 18446744073709551615],
+];
+
+fn has_axes(rt: &impl Abort, alloc: Global, axes: &[usize]) -> Result<(), Fail> {
+    let order = TransposeOrder::new(alloc, axes)?;
+    are(rt, "axes", order.as_slice(), axes);
+    is(rt, "copy", &order.clone()?, &order);
+    Ok(())
+}
+
+fn is_refused(rt: &impl Abort, alloc: Global, axes: &[usize]) -> Result<(), Fail> {
+    let came = TransposeOrder::new(alloc, axes).err();
+    if came == Some(PluginCreateError::OutOfMemory) {
+        return Err(PluginCreateError::OutOfMemory)?;
+    }
+    is(
+        rt,
+        "refused",
+        &came,
+        &Some(PluginCreateError::NotAPermutation),
+    );
+    Ok(())
+}
+
+fn differs(rt: &impl Abort, alloc: Global, one: &[usize], other: &[usize]) -> Result<(), Fail> {
+    let order = TransposeOrder::new(alloc, one)?;
+    is_not(rt, "another", &order, &TransposeOrder::new(alloc, other)?);
+    Ok(())
+}
+
+#[test]
+fn names_each_axis_once(rt: HostRuntime) -> Result<(), Fail> {
+    for axes in ORDERS.iter() {
+        has_axes(&rt, rt.alloc(), axes)?;
+    }
+    for axes in REFUSED.iter() {
+        is_refused(&rt, rt.alloc(), axes)?;
+    }
+    Ok(())
+}
+
+#[test]
+fn differs_by_its_axes(rt: HostRuntime) -> Result<(), Fail> {
+    for (place, one) in ORDERS.iter().enumerate() {
+        for other in ORDERS.iter().take(place) {
+            differs(&rt, rt.alloc(), one, other)?;
+        }
+    }
+    Ok(())
+}

@@ -1,0 +1,101 @@
+use crate::checks::is;
+use std::alloc::Global;
+use std::process::Abort;
+use std::test::Fail;
+use zarrs_codec::{ByteRange, BytesRepresentation};
+
+const LAST: u64 = 18446744073709551615;
+
+/// Starts and ends of ranges, no two of them equal.
+const RANGES: [(u64, u64); 6] = [(0, 0), (3, 7), (3, 8), (2, 7), (0, LAST), (LAST, LAST)];
+
+fn has_ends(rt: &impl Abort, alloc: Global, start: u64, end: u64) -> Result<(), Fail> {
+    let range = ByteRange::new(start..end).ok_or("no range")?;
+    is(rt, "start", &range.start(), &start);
+    is(rt, "end", &range.end(), &end);
+    is(rt, "copy", &range.clone()?, &range);
+    is(
+        rt,
+        "shown",
+        &format!(in alloc; "{range:?}")?.contains("start"),
+        &true,
+    );
+    Ok(())
+}
+
+#[test]
+fn has_a_start_and_an_end(rt: HostRuntime) -> Result<(), Fail> {
+    for (start, end) in RANGES.iter() {
+        has_ends(&rt, rt.alloc(), *start, *end)?;
+    }
+    Ok(())
+}
+
+#[test]
+fn differs_by_its_ends(rt: HostRuntime) {
+    for (place, (start, end)) in RANGES.iter().enumerate() {
+        for (other_place, (other_start, other_end)) in RANGES.iter().enumerate() {
+            let same = ByteRange::new(*start..*end) == ByteRange::new(*other_start..*other_end);
+            is(&rt, "same", &same, &(place == other_place));
+        }
+    }
+}
+
+#[test]
+fn never_ends_before_it_starts(rt: HostRuntime) {
+    is(&rt, "one", &ByteRange::new(1..0), &None);
+    is(&rt, "more", &ByteRange::new(7..3), &None);
+    is(&rt, "most", &ByteRange::new(LAST..0), &None);
+}
+
+/// Representations, no two of them equal, their greatest sizes, and what `Debug` writes.
+const REPRESENTATIONS: [(BytesRepresentation, Option<u64>, &'static str); 5] = [
+    (BytesRepresentation::FixedSize(4), Some(4), "FixedSize(4)"),
+    (BytesRepresentation::FixedSize(9), Some(9), "FixedSize(9)"),
+    (
+        BytesRepresentation::BoundedSize(4),
+        Some(4),
+        "BoundedSize(4)",
+    ),
+    (
+        BytesRepresentation::BoundedSize(9),
+        Some(9),
+        "BoundedSize(9)",
+    ),
+    (BytesRepresentation::UnboundedSize, None, "UnboundedSize"),
+];
+
+fn has_size(
+    rt: &impl Abort,
+    alloc: Global,
+    representation: BytesRepresentation,
+    size: Option<u64>,
+    text: &str,
+) -> Result<(), Fail> {
+    is(rt, text, &representation.size(), &size);
+    is(rt, text, &representation.clone()?, &representation);
+    is(
+        rt,
+        text,
+        &format!(in alloc; "{representation:?}")?.as_str(),
+        &text,
+    );
+    Ok(())
+}
+
+#[test]
+fn representations_have_a_greatest_size(rt: HostRuntime) -> Result<(), Fail> {
+    for (representation, size, text) in REPRESENTATIONS.iter() {
+        has_size(&rt, rt.alloc(), *representation, *size, text)?;
+    }
+    Ok(())
+}
+
+#[test]
+fn representations_differ_by_kind_and_size(rt: HostRuntime) {
+    for (place, (one, _, text)) in REPRESENTATIONS.iter().enumerate() {
+        for (other_place, (other, _, _)) in REPRESENTATIONS.iter().enumerate() {
+            is(&rt, text, &(one == other), &(place == other_place));
+        }
+    }
+}

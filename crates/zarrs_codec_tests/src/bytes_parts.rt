@@ -1,0 +1,387 @@
+use crate::checks::{Asked, are, indexer, is, is_refused, is_value, stored};
+use crate::forms::{Told, Type, chunk_form, decoder, repeated};
+use Asked::{Ranges, Tuples};
+use std::alloc::{AllocError, Global};
+use std::process::Abort;
+use std::test::Fail;
+use zarrs_array_bytes::ArrayBytes;
+use zarrs_bytes::BytesCodec;
+use zarrs_chunk::CodecError;
+use zarrs_codec::{ByteRange, BytesPartialDecoderTraits, MemoryHandle};
+use zarrs_data_type::Endianness;
+
+/// The starts and ends of ranges.
+fn ends(alloc: Global, ranges: &[ByteRange]) -> Result<Vec<(u64, u64)>, AllocError> {
+    let mut ends = Vec::new(alloc);
+    for range in ranges {
+        ends.push((range.start(), range.end()))?;
+    }
+    Ok(ends)
+}
+
+/// The ranges that a read plans.
+fn plans(
+    rt: &impl Abort,
+    alloc: Global,
+    told: &Told<'_>,
+    asked: &Asked<'_>,
+    ranges: &[(u64, u64)],
+) -> Result<(), Fail> {
+    let decoder = decoder(alloc, BytesCodec::big(), told, MemoryHandle::new())?;
+    let planned = decoder.planned_ranges(alloc, &indexer(alloc, asked)?)?;
+    are(
+        rt,
+        "planned",
+        ends(alloc, planned.as_slice())?.as_slice(),
+        ranges,
+    );
+    Ok(())
+}
+
+/// A read over what is stored, which stays.
+pub(crate) fn reads(
+    rt: &impl Abort,
+    alloc: Global,
+    codec: BytesCodec,
+    told: &Told<'_>,
+    value: Option<&[u8]>,
+    asked: &Asked<'_>,
+    elements: &[u8],
+) -> Result<(), Fail> {
+    let mut decoder = decoder(alloc, codec, told, stored(alloc, value)?)?;
+    let part = decoder.partial_decode(alloc, &indexer(alloc, asked)?)?;
+    are(rt, "read", part.into_fixed()?.as_slice(), elements);
+    is_value(rt, "stored", decoder.into_handle().value(), value);
+    Ok(())
+}
+
+/// A read that is refused by this cause, over what is stored, which stays.
+fn refuses(
+    rt: &impl Abort,
+    alloc: Global,
+    told: &Told<'_>,
+    value: &[u8],
+    asked: &Asked<'_>,
+    cause: CodecError,
+) -> Result<(), Fail> {
+    let mut decoder = decoder(alloc, BytesCodec::big(), told, stored(alloc, Some(value))?)?;
+    let answer = decoder.partial_decode(alloc, &indexer(alloc, asked)?);
+    is_refused(rt, "read", answer, cause)?;
+    is_value(rt, "stored", decoder.into_handle().value(), Some(value));
+    Ok(())
+}
+
+const SQUARE: Told<'static> = (&[4, 4], Type::Bits(8, 1), &[99]);
+
+const FOUR: Told<'static> = (&[4], Type::Bits(8, 1), &[7]);
+
+const WORDS: Told<'static> = (&[2, 2], Type::Bits(16, 1), &[1, 2]);
+
+const LONGEST: Told<'static> = (&[18446744073709551615], Type::Bits(8, 1), &[42]);
+
+const MOST_WORDS: Told<'static> = (&[9223372036854775807], Type::Bits(16, 1), &[1, 2]);
+
+const COLUMN: Asked<'static> = Ranges(&[1..3, 0..1]);
+
+const RIGHT: Asked<'static> = Ranges(&[0..2, 1..2]);
+
+const AGAIN: Asked<'static> = Tuples(&[&[1, 1], &[0, 0], &[1, 1]]);
+
+const LAST: Asked<'static> = Ranges(&[18446744073709551614..18446744073709551615]);
+
+const LAST_WORD: Asked<'static> = Tuples(&[&[9223372036854775806]]);
+
+/// Chunks, what is asked for, and the ranges of bytes that a read asks for.
+const PLANNED: [(Told<'static>, Asked<'static>, &'static [(u64, u64)]); 13] = [
+    (SQUARE, COLUMN, &[(4, 5), (8, 9)]),
+    (SQUARE, Ranges(&[0..4, 0..4]), &[(0, 16)]),
+    (SQUARE, Ranges(&[1..3, 0..4]), &[(4, 12)]),
+    (FOUR, Ranges(&[0..2]), &[(0, 2)]),
+    (FOUR, Ranges(&[2..4]), &[(2, 4)]),
+    (FOUR, Ranges(&[1..1]), &[]),
+    (FOUR, Ranges(&[4..4]), &[]),
+    (FOUR, Tuples(&[]), &[]),
+    (WORDS, RIGHT, &[(2, 4), (6, 8)]),
+    (WORDS, AGAIN, &[(6, 8), (0, 2), (6, 8)]),
+    (LONGEST, Ranges(&[0..1]), &[(0, 1)]),
+    (
+        LONGEST,
+        LAST,
+        &[(18446744073709551614, 18446744073709551615)],
+    ),
+    (
+        MOST_WORDS,
+        LAST_WORD,
+        &[(18446744073709551612, 18446744073709551614)],
+    ),
+];
+
+#[test]
+fn plans_the_bytes_of_the_places_alone(rt: HostRuntime) -> Result<(), Fail> {
+    for (told, asked, ranges) in PLANNED.iter() {
+        plans(&rt, rt.alloc(), told, asked, ranges)?;
+    }
+    Ok(())
+}
+
+const LITTLE: Option<Endianness> = Some(Endianness::Little);
+
+const BIG: Option<Endianness> = Some(Endianness::Big);
+
+/// Byte orders, chunks, stored values, what is asked for, and the elements. The bytes of other places
+/// may be missing, and more may follow. The fill value stands in memory's order, whatever the codec's
+/// is.
+const READ: [(
+    Option<Endianness>,
+    Told<'static>,
+    Option<&'static [u8]>,
+    Asked<'static>,
+    &'static [u8],
+); 21] = [
+    (
+        None,
+        SQUARE,
+        Some(&[0, 1, 2, 3, 4, 5, 6, 7, 8, 9, 10, 11, 12, 13, 14, 15]),
+        COLUMN,
+        &[4, 8],
+    ),
+    (
+        None,
+        SQUARE,
+        Some(&[0, 1, 2, 3, 4, 5, 6, 7, 8]),
+        COLUMN,
+        &[4, 8],
+    ),
+    (None, SQUARE, Some(&[9; 20]), COLUMN, &[9, 9]),
+    (None, SQUARE, None, COLUMN, &[99, 99]),
+    (None, FOUR, Some(&[10, 11, 12]), Ranges(&[0..2]), &[10, 11]),
+    (None, FOUR, None, Ranges(&[0..2]), &[7, 7]),
+    (None, FOUR, Some(&[10, 11, 12]), Ranges(&[1..1]), &[]),
+    (None, FOUR, None, Ranges(&[4..4]), &[]),
+    (None, FOUR, Some(&[]), Tuples(&[]), &[]),
+    (
+        None,
+        FOUR,
+        Some(&[10, 11, 12]),
+        Tuples(&[&[2], &[0], &[2]]),
+        &[12, 10, 12],
+    ),
+    (None, FOUR, None, Tuples(&[&[2], &[0], &[2]]), &[7, 7, 7]),
+    (None, FOUR, None, Ranges(&[2..4]), &[7, 7]),
+    (
+        LITTLE,
+        WORDS,
+        Some(&[10, 11, 20, 21, 30, 31, 40, 41]),
+        RIGHT,
+        &[20, 21, 40, 41],
+    ),
+    (
+        BIG,
+        WORDS,
+        Some(&[10, 11, 20, 21, 30, 31, 40, 41]),
+        RIGHT,
+        &[21, 20, 41, 40],
+    ),
+    (
+        LITTLE,
+        WORDS,
+        Some(&[10, 11, 20, 21, 30, 31, 40, 41]),
+        AGAIN,
+        &[40, 41, 10, 11, 40, 41],
+    ),
+    (
+        BIG,
+        WORDS,
+        Some(&[10, 11, 20, 21, 30, 31, 40, 41]),
+        AGAIN,
+        &[41, 40, 11, 10, 41, 40],
+    ),
+    (LITTLE, WORDS, None, RIGHT, &[1, 2, 1, 2]),
+    (BIG, WORDS, None, AGAIN, &[1, 2, 1, 2, 1, 2]),
+    (BIG, LONGEST, None, Ranges(&[0..1]), &[42]),
+    (BIG, LONGEST, None, LAST, &[42]),
+    (BIG, MOST_WORDS, None, LAST_WORD, &[1, 2]),
+];
+
+#[test]
+fn reads_the_bytes_of_the_places_alone(rt: HostRuntime) -> Result<(), Fail> {
+    for (order, told, value, asked, elements) in READ.iter() {
+        reads(
+            &rt,
+            rt.alloc(),
+            BytesCodec::new(*order),
+            told,
+            *value,
+            asked,
+            elements,
+        )?;
+    }
+    Ok(())
+}
+
+/// Chunks, stored values that lack a byte of what is asked for, and what that is.
+const LACKING: [(Told<'static>, &'static [u8], Asked<'static>); 7] = [
+    (SQUARE, &[0, 1, 2, 3, 4, 5, 6, 7], COLUMN),
+    (FOUR, &[10, 11, 12], Ranges(&[2..4])),
+    (WORDS, &[10, 11, 20, 21, 30, 31, 40], RIGHT),
+    (WORDS, &[10, 11, 20, 21, 30, 31, 40], AGAIN),
+    (LONGEST, &[], Ranges(&[0..1])),
+    (LONGEST, &[], LAST),
+    (MOST_WORDS, &[], LAST_WORD),
+];
+
+#[test]
+fn refuses_values_that_lack_a_byte(rt: HostRuntime) -> Result<(), Fail> {
+    for (told, value, asked) in LACKING.iter() {
+        refuses(
+            &rt,
+            rt.alloc(),
+            told,
+            value,
+            asked,
+            CodecError::InvalidByteRange,
+        )?;
+    }
+    Ok(())
+}
+
+const AXES: CodecError = CodecError::IncompatibleDimensionality;
+
+const OUTSIDE: CodecError = CodecError::OutOfBounds;
+
+/// What is asked for of a chunk of 4 by 4, and why it is refused. The indexer comes first: the value
+/// that is stored has none of the bytes.
+const REFUSED: [(Asked<'static>, CodecError); 7] = [
+    (Ranges(&[0..1]), AXES),
+    (Ranges(&[9..10]), AXES),
+    (Ranges(&[0..5, 0..4]), OUTSIDE),
+    (Ranges(&[5..5, 0..1]), OUTSIDE),
+    (Tuples(&[&[0, 0], &[0]]), AXES),
+    (Tuples(&[&[9, 9], &[0, 0, 0]]), AXES),
+    (Tuples(&[&[0, 0], &[0, 4]]), OUTSIDE),
+];
+
+fn plans_nothing(
+    rt: &impl Abort,
+    alloc: Global,
+    asked: &Asked<'_>,
+    cause: CodecError,
+) -> Result<(), Fail> {
+    let decoder = decoder(alloc, BytesCodec::little(), &SQUARE, MemoryHandle::new())?;
+    let answer = decoder.planned_ranges(alloc, &indexer(alloc, asked)?);
+    is_refused(rt, "planned", answer, cause)
+}
+
+#[test]
+fn refuses_what_lies_outside(rt: HostRuntime) -> Result<(), Fail> {
+    for (asked, cause) in REFUSED.iter() {
+        refuses(&rt, rt.alloc(), &SQUARE, &[], asked, *cause)?;
+        plans_nothing(&rt, rt.alloc(), asked, *cause)?;
+    }
+    Ok(())
+}
+
+/// Counts on both sides of where copies of the fill value begin to be made by blocks, and of the
+/// blocks' edges.
+const COUNTS: [u64; 14] = [
+    0, 1, 15, 16, 17, 63, 64, 65, 255, 256, 257, 1023, 1024, 1040,
+];
+
+const FILLS: [&'static [u8]; 6] = [
+    &[7],
+    &[1, 2],
+    &[1, 2, 3],
+    &[1, 2, 3, 4],
+    &[1, 2, 3, 4, 5, 6, 7, 8],
+    &[1, 2, 3, 4, 5, 6, 7, 8, 9, 10, 11, 12, 13, 14, 15, 16],
+];
+
+/// The first elements of a chunk of which nothing is stored.
+fn reads_fill(rt: &impl Abort, alloc: Global, fill: &[u8], count: u64) -> Result<(), Fail> {
+    let told: Told = (&[1500], Type::Bits(8, fill.len() as u64), fill);
+    let wanted = repeated(alloc, fill, count as usize)?;
+    let asked = [0..count];
+    reads(
+        rt,
+        alloc,
+        BytesCodec::big(),
+        &told,
+        None,
+        &Ranges(&asked),
+        wanted.as_slice(),
+    )
+}
+
+/// As many first elements of three rows.
+fn reads_fill_of_rows(rt: &impl Abort, alloc: Global, fill: &[u8], count: u64) -> Result<(), Fail> {
+    let told: Told = (&[3, 1500], Type::Bits(8, fill.len() as u64), fill);
+    let wanted = repeated(alloc, fill, (count as usize).saturating_mul(3))?;
+    let asked = [0..3, 0..count];
+    reads(
+        rt,
+        alloc,
+        BytesCodec::big(),
+        &told,
+        None,
+        &Ranges(&asked),
+        wanted.as_slice(),
+    )
+}
+
+#[test]
+fn reads_the_fill_value_of_each_width(rt: HostRuntime) -> Result<(), Fail> {
+    for fill in FILLS.iter() {
+        for count in COUNTS.iter() {
+            reads_fill(&rt, rt.alloc(), fill, *count)?;
+            reads_fill_of_rows(&rt, rt.alloc(), fill, *count)?;
+        }
+    }
+    Ok(())
+}
+
+const THREE: Told<'static> = (&[3], Type::Bits(16, 1), &[0, 0]);
+
+/// A part, read by a decoder that is made for it, and the handle afterwards.
+fn read_once<H: BytesPartialDecoderTraits + Drop>(
+    rt: &impl Abort,
+    alloc: Global,
+    handle: H,
+) -> Result<H, Fail> {
+    let mut decoder = decoder(alloc, BytesCodec::big(), &THREE, handle)?;
+    is(
+        rt,
+        "type",
+        decoder.data_type(),
+        &chunk_form(alloc, &THREE)?.data_type,
+    );
+    is(rt, "in part", &decoder.supports_partial_decode(), &true);
+    is(rt, "held", &decoder.size_held(), &6);
+    is(rt, "there", &decoder.exists(), &Ok(true));
+    let part = decoder.partial_decode(alloc, &indexer(alloc, &Ranges(&[1..3]))?)?;
+    has_bytes(rt, part, &[4, 3, 6, 5])?;
+    Ok(decoder.into_handle())
+}
+
+fn has_bytes(rt: &impl Abort, part: ArrayBytes<'_>, bytes: &[u8]) -> Result<(), Fail> {
+    are(rt, "read", part.into_fixed()?.as_slice(), bytes);
+    Ok(())
+}
+
+#[test]
+fn borrows_or_owns_its_handle(rt: HostRuntime) -> Result<(), Fail> {
+    let value: &[u8] = &[1, 2, 3, 4, 5, 6];
+    let mut handle = stored(rt.alloc(), Some(value))?;
+    read_once(&rt, rt.alloc(), &mut handle)?;
+    is_value(&rt, "lent", handle.value(), Some(value));
+    let handle = read_once(&rt, rt.alloc(), handle)?;
+    is_value(&rt, "owned", handle.value(), Some(value));
+    Ok(())
+}
+
+#[test]
+fn tells_that_nothing_is_stored(rt: HostRuntime) -> Result<(), Fail> {
+    let mut decoder = decoder(rt.alloc(), BytesCodec::big(), &THREE, MemoryHandle::new())?;
+    is(&rt, "there", &decoder.exists(), &Ok(false));
+    is(&rt, "held", &decoder.size_held(), &0);
+    Ok(())
+}

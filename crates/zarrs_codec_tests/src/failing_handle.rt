@@ -1,0 +1,168 @@
+//! A handle of the tests' own, which fails in the middle.
+ghost use Rattle.std.specs.Prelude.{◌≡◌, Ok};
+ghost use Rattle.zarrs_chunk.specs.Answer.{Answers, fault, is_fault};
+ghost use Rattle.zarrs_codec.specs.StorageState.{count_if, last_failure};
+
+use crate::checks::{Asked, are, indexer, is, is_refused, stored};
+use crate::forms::{Told, Type, decoder};
+use std::alloc::Global;
+use std::process::Abort;
+use std::test::Fail;
+use zarrs_bytes::{BytesCodec, BytesCodecPartial};
+use zarrs_chunk::{CodecError, StorageError};
+use zarrs_codec::{ByteRange, BytesPartialDecoderTraits, MemoryHandle};
+
+/// A handle over memory of which one call fails: the one behind so many others.
+#[derive(Drop)]
+struct FailingHandle {
+    memory: MemoryHandle,
+    calls_before: u64,
+    faults: u64,
+    failure: Option<StorageError>,
+}
+
+impl FailingHandle {
+    /// Counts a call, and refuses it where it is the one that fails.
+    fn pass(&mut self) -> Result<(), CodecError>
+        ensures memory { self.new.memory ≡ self.old.memory }
+        ensures answer { Answers fault (λ passed. passed) result (Ok tt) }
+        ensures faults { self.new.faults ≡ count_if (is_fault result) self.old.faults }
+        ensures failure { self.new.failure ≡ last_failure result self.old.failure }
+    {
+        if self.calls_before == 0 {
+            let failure = StorageError { code: 7 };
+            self.calls_before = u64::MAX;
+            self.faults = self.faults.wrapping_add(1);
+            self.failure = Some(failure);
+            return Err(CodecError::Storage(failure));
+        }
+        self.calls_before -= 1;
+        Ok(())
+    }
+}
+
+impl BytesPartialDecoderTraits for FailingHandle {
+    ghost use Rattle.std.specs.Prelude.{true, None};
+    ghost use Rattle.zarrs_codec.specs.StorageState.{held_bytes};
+    ghost use Rattle.zarrs_codec.specs.MemoryHandle.{stored as stored_bytes};
+
+    ghost state = { λ handle. record { value = stored_bytes handle.memory; sure = None; faults = handle.faults; failure = handle.failure; writes = 0 } };
+
+    ghost lent = { λ _. None };
+
+    ghost held = { λ handle. held_bytes (stored_bytes handle.memory) };
+
+    ghost reads_ranges = { true };
+
+    fn exists(&mut self) -> Result<bool, CodecError> {
+        self.pass()?;
+        self.memory.exists()
+    }
+
+    fn size_held(&self) -> usize {
+        self.memory.size_held()
+    }
+
+    fn partial_decode_many(
+        &mut self,
+        alloc: Global,
+        ranges: &[ByteRange],
+    ) -> Result<Option<Vec<u8>>, CodecError> {
+        self.pass()?;
+        self.memory.partial_decode_many(alloc, ranges)
+    }
+
+    fn decode(&mut self, alloc: Global) -> Result<Option<Vec<u8>>, CodecError> {
+        self.pass()?;
+        self.memory.decode(alloc)
+    }
+
+    fn supports_partial_decode(&self) -> bool {
+        true
+    }
+}
+
+const WORDS: Told<'static> = (&[3], Type::Bits(16, 1), &[9, 9]);
+
+const FIRST: Asked<'static> = Asked::Ranges(&[0..1]);
+
+const OUTSIDE: Asked<'static> = Asked::Ranges(&[0..4]);
+
+const FAILED: CodecError = CodecError::Storage(StorageError { code: 7 });
+
+/// A decoder over this value, the second call of whose handle fails.
+fn failing(alloc: Global, value: Option<&[u8]>) -> Result<BytesCodecPartial<FailingHandle>, Fail> {
+    let handle = FailingHandle {
+        memory: stored(alloc, value)?,
+        calls_before: 1,
+        faults: 0,
+        failure: None,
+    };
+    Ok(decoder(alloc, BytesCodec::big(), &WORDS, handle)?)
+}
+
+fn refuses(
+    rt: &impl Abort,
+    alloc: Global,
+    decoder: &mut BytesCodecPartial<FailingHandle>,
+    asked: &Asked<'_>,
+    cause: CodecError,
+) -> Result<(), Fail> {
+    let asked = indexer(alloc, asked)?;
+    is_refused(rt, "refused", decoder.partial_decode(alloc, &asked), cause)
+}
+
+fn reads_first(
+    rt: &impl Abort,
+    alloc: Global,
+    decoder: &mut BytesCodecPartial<FailingHandle>,
+    elements: &[u8],
+) -> Result<(), Fail> {
+    let part = decoder.partial_decode(alloc, &indexer(alloc, &FIRST)?)?;
+    are(rt, "read", part.into_fixed()?.as_slice(), elements);
+    Ok(())
+}
+
+/// The read behind the first call is refused, and the next one isn't.
+fn fails_once(
+    rt: &impl Abort,
+    alloc: Global,
+    mut decoder: BytesCodecPartial<FailingHandle>,
+    is_there: bool,
+    elements: &[u8],
+) -> Result<(), Fail> {
+    is(rt, "there", &decoder.exists(), &Ok(is_there));
+    refuses(rt, alloc, &mut decoder, &FIRST, FAILED)?;
+    reads_first(rt, alloc, &mut decoder, elements)?;
+    is(rt, "faults", &decoder.into_handle().faults, &1);
+    Ok(())
+}
+
+#[test]
+fn a_failing_read_is_refused(rt: HostRuntime) -> Result<(), Fail> {
+    let stored = failing(rt.alloc(), Some(&[1, 2]))?;
+    fails_once(&rt, rt.alloc(), stored, true, &[2, 1])?;
+    let unstored = failing(rt.alloc(), None)?;
+    fails_once(&rt, rt.alloc(), unstored, false, &[9, 9])
+}
+
+/// No call of the handle is made for an indexer that lies outside, or for the plan.
+fn is_not_asked_in_vain(
+    rt: &impl Abort,
+    alloc: Global,
+    mut decoder: BytesCodecPartial<FailingHandle>,
+) -> Result<(), Fail> {
+    refuses(rt, alloc, &mut decoder, &OUTSIDE, CodecError::OutOfBounds)?;
+    let planned = decoder.planned_ranges(alloc, &indexer(alloc, &OUTSIDE)?);
+    is_refused(rt, "planned", planned, CodecError::OutOfBounds)?;
+    is(rt, "there", &decoder.exists(), &Ok(false));
+    is(rt, "failed", &decoder.exists(), &Err(FAILED));
+    is(rt, "faults", &decoder.into_handle().faults, &1);
+    Ok(())
+}
+
+#[test]
+fn an_indexer_is_refused_before_the_handle_is_asked(rt: HostRuntime) -> Result<(), Fail> {
+    let decoder = failing(rt.alloc(), None)?;
+    is_not_asked_in_vain(&rt, rt.alloc(), decoder)
+}
