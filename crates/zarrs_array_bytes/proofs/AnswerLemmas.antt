@@ -9,6 +9,7 @@ use Rattle.zarrs_chunk.specs.declared.codec_error.CodecError.TheVariants.{Overfl
 use Rattle.zarrs_data_type.specs.ElementType.{ElementType}
 use Rattle.zarrs_data_type.specs.FillValue.{fill_fits}
 use Rattle.zarrs_array_bytes.specs.Held.{Held}
+use Rattle.zarrs_array_bytes.specs.Elements.{elements, select}
 use Rattle.zarrs_array_bytes.specs.Validity.{sizes_fit, validity, data_fit, data_mismatch, Holds}
 use Rattle.zarrs_array_bytes.specs.Extracted.{extracted, IsSmall}
 use Rattle.zarrs_array_bytes.specs.Filled.{filled}
@@ -40,6 +41,13 @@ selected_answers t sizes selection h ps (Ok a) places valid inside small gives =
     let is : extracted t h ps ≡ a = cc gives in
     rw (places, valid) (small_holds t (product sizes) h a ps (both_ok _ _ valid).1 inside small is)
 selected_answers t sizes selection h ps (Err e) places valid inside small gives = λ ne. let never : ⊥ = cc (gives ne) in absurd never
+
+pub extracted_answers : (t : ElementType) (n : ℕ) (h : Held) (ps : List ℕ) (r : Result Held CodecError) → validity t n h ≡ Ok tt → All (λ p. p < n) ps → IfOk r IsSmall → Answers memory (λ (a : Held). a) r (Ok (extracted t h ps))
+    → AnswersBy memory (Holds t) r (Ok (select (elements t n h) ps))
+extracted_answers t n h ps (Ok a) valid inside small gives =
+    let is : extracted t h ps ≡ a = cc gives in
+    small_holds t n h a ps (both_ok _ _ valid).1 inside small is
+extracted_answers t n h ps (Err e) valid inside small gives = λ ne. let never : ⊥ = cc (gives ne) in absurd never
 
 pub updated_answers : (t : ElementType) (sizes : List ℕ) (selection : Selection) (h g : Held) (ps : List ℕ) (r : Result Held CodecError) → places_of selection sizes ≡ Ok ps → validity t (product sizes) h ≡ Ok tt → data_fit t (length ps) g ≡ Ok tt
     → Answers memory (λ (a : Held). a) r (Ok (updated t (product sizes) h (length ps) g ps)) → AnswersBy memory (Holds t) r (updated_chunk t sizes selection h g)

@@ -3,9 +3,10 @@ ghost use Rattle.zarrs_chunk.specs.declared.codec_error.CodecError.TheVariants.{
 ghost use Rattle.zarrs_chunk.specs.Answer.{Answers, AnswersBy, memory, is_fault};
 ghost use Rattle.zarrs_chunk.specs.Indexer.{selection_of};
 ghost use Rattle.zarrs_chunk.specs.Runs.{joined_runs};
-ghost use Rattle.zarrs_array_bytes.specs.Validity.{Holds, levels_fit};
+ghost use Rattle.zarrs_array_bytes.specs.Validity.{Holds, levels_fit, validity};
 ghost use Rattle.zarrs_array_bytes.specs.Extracted.{extracted, IsSmall};
 ghost use Rattle.zarrs_array_bytes.specs.Chunks.{selected_chunk};
+ghost use Rattle.zarrs_array_bytes.specs.Elements.{elements, select};
 
 use crate::array_bytes::{ArrayBytes, Parts};
 use crate::gather::{gather_cuts, gather_flags, gather_pieces};
@@ -36,14 +37,32 @@ impl<'a> ArrayBytes<'a> {
         self.at_runs(alloc, runs.as_slice(), count, data_type)
     }
 
-    #[tactic(auto, using(crate::proofs::ExtractCalls::extract_calls))]
-    fn at_runs(
+    /// The elements of a chunk at the runs of places, in their order, for callers that know that the
+    /// container holds `count` elements of the type. Elements of one size are copied a run at a time.
+    /// Refusals: `OutOfMemory`.
+    pub fn extract_runs<'b>(
         &self,
         alloc: Global,
         runs: &[(u64, u64)],
         count: u64,
         data_type: &DataType,
-    ) -> Result<ArrayBytes<'static>, CodecError>
+    ) -> Result<ArrayBytes<'b>, CodecError>
+        requires valid { validity data_type.now count self.now ≡ Ok tt }
+        requires inside { All (λ run. run.0 + run.1 ≤ count) runs.now }
+        ensures exact { AnswersBy memory (Holds data_type.now) result (Ok (select (elements data_type.now count self.now) (joined_runs runs.now))) }
+        ensures no_fault { is_fault result ≡ false }
+    {
+        self.at_runs(alloc, runs, count, data_type)
+    }
+
+    #[tactic(auto, using(crate::proofs::ExtractCalls::extract_calls))]
+    fn at_runs<'b>(
+        &self,
+        alloc: Global,
+        runs: &[(u64, u64)],
+        count: u64,
+        data_type: &DataType,
+    ) -> Result<ArrayBytes<'b>, CodecError>
         requires valid { levels_fit InvalidBytesLength data_type.now count self.now ≡ Ok tt }
         requires inside { All (λ run. run.0 + run.1 ≤ count) runs.now }
         ensures small { IfOk result IsSmall }
