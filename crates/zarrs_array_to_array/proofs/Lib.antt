@@ -1,0 +1,16 @@
+pub mod Chains
+pub mod CodecAnswers
+pub mod CoordinateMaps
+pub mod Folded
+pub mod MovedPlaces
+pub mod MovedTuples
+pub mod Orders
+pub mod Reshaping
+pub mod Rows
+pub mod Squeezing
+pub mod Steps
+pub mod Transposition
+pub mod TransposedRuns
+pub mod Unraveled
+pub mod BoxNumbers
+pub mod Images
