@@ -1,10 +1,9 @@
 -- Which elements of an encoded chunk are those that are meant of the decoded one.
-use Rattle.std.specs.Prelude.{◌≡◌, ◌==◌, ◌&&◌, ◌||◌, ℕ, Bool, false, List, [], ◌∷◌, map, length, replicate, Result, Ok, if◌then◌else◌}
-use Rattle.zarrs_chunk.specs.Answer.{◌>>=◌}
+use Rattle.std.specs.Prelude.{◌==◌, ◌&&◌, ℕ, Bool, List, map, length, replicate, if◌then◌else◌}
+use Rattle.std.specs.List.{list_any, zip}
 use Rattle.zarrs_chunk.specs.Region.{Region}
-use Rattle.zarrs_chunk.specs.Selection.{Selection, subset, indices, tuples_of, bounds_of, len_of}
+use Rattle.zarrs_chunk.specs.Selection.{Selection, subset, indices, tuples_of}
 use Rattle.zarrs_chunk.specs.Tuples.{row_major}
-use Rattle.zarrs_chunk.specs.declared.codec_error.CodecError.{CodecError}
 use Rattle.zarrs_array_to_array.specs.ArrayToArrayCodec.{ArrayMapping, transpose, reshape, squeeze}
 use Rattle.zarrs_array_to_array.specs.Orders.{permuted}
 use Rattle.zarrs_array_to_array.specs.Squeeze.{kept_indices, or_zero, or_one, squeezed_tuple}
@@ -12,8 +11,7 @@ use Rattle.zarrs_array_to_array.specs.Unraveled.{unraveled}
 
 -- one of the axes that a squeeze drops has an empty range
 abbrev pub drops_empty_range : List ℕ → List ℕ → Bool
-drops_empty_range (size ∷ sizes) (len ∷ lengths) = size == 1 && len == 0 || drops_empty_range sizes lengths
-drops_empty_range sizes lengths = false
+drops_empty_range sizes lengths = list_any (λ axis. axis.0 == 1 && axis.1 == 0) (zip sizes lengths)
 
 -- the lengths along the axes that stay, all of them zero where a dropped range is empty
 abbrev pub squeezed_lengths : List ℕ → List ℕ → List ℕ

@@ -1,5 +1,5 @@
 -- The places of a selection in an encoded chunk.
-use Rattle.std.specs.Prelude.{◌≡◌, ℕ, List, map, Result, Ok}
+use Rattle.std.specs.Prelude.{◌≡◌, ℕ, List, map, Result, Ok, IsOkAnd}
 use Rattle.zarrs_chunk.specs.Answer.{◌>>=◌}
 use Rattle.zarrs_chunk.specs.Selection.{Selection, tuples_of, bounds_of, len_of}
 use Rattle.zarrs_chunk.specs.Tuples.{row_major}
@@ -18,3 +18,7 @@ image_of coordinates asked sizes selection = do
   m ← coordinates
   _ ← len_of selection
   Ok (asked m.encoded selection)
+
+-- the image by what a codec does, where it does it
+abbrev pub IsImageBy : Result CoordinateMap CodecError → List ℕ → Selection → Selection → Type 0
+IsImageBy coordinates sizes selection image = IsOkAnd coordinates (λ m. IsImage sizes m selection image)

@@ -2,6 +2,7 @@
 #![tactic(auto)]
 
 mod array_to_array_codec;
+mod boxes;
 pub mod laws;
 mod plugin_create_error;
 mod reshape;
