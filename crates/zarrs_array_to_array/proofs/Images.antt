@@ -1,5 +1,5 @@
 -- What the codecs ask for of their encoded chunks lies inside them, at the mapped places.
-use Rattle.std.proofs.Common.{◌≡◌, ◌==◌, ◌&&◌, ◌||◌, nat_lt, nat_le, ℕ, zero, suc, ◌+◌, ◌*◌, ◌<◌, ◌≤◌, Bool, true, false, List, [], ◌∷◌, ◌++◌, length, replicate, map, Ok, arith, refl, ap, ap₂, ◌∙◌, sym, inl, inr}
+use Rattle.std.proofs.Common.{◌≡◌, ◌==◌, ◌&&◌, ◌||◌, nat_lt, nat_le, ℕ, zero, suc, ◌+◌, ◌*◌, ◌<◌, ◌≤◌, Bool, true, false, List, [], ◌∷◌, ◌++◌, length, get_or, replicate, map, Ok, Vec, Global, arith, refl, ap, ap₂, ◌∙◌, sym, inl, inr}
 use Rattle.std.specs.List.{flat_map, range_with_len, list_all, list_any}
 use Rattle.std.proofs.lemmas.Bool.{cases_Bool, and_parts, and_from}
 use Rattle.std.proofs.lemmas.Bool.Decides.{nat_tests}
@@ -79,6 +79,11 @@ indices_inside tuples sizes h =
 pub selection_inside : (selection : Selection) (sizes : List ℕ) → bounds_of selection sizes ≡ Ok tt → list_all (λ tuple. is_tuple_inside sizes tuple) (tuples_of selection) ≡ true
 selection_inside (subset region) sizes h = box_inside sizes region.starts region.lengths (subset_inside region sizes h)
 selection_inside (indices tuples) sizes h = indices_inside tuples sizes h
+
+pub tuple_inside-at : (sizes : List ℕ) (tuples : List (Vec ℕ Global)) (i : ℕ) (d : Vec ℕ Global) → list_all (λ tuple. is_tuple_inside sizes tuple.items) tuples ≡ true → i < length tuples → is_tuple_inside sizes (get_or tuples i d).items ≡ true
+tuple_inside-at sizes [] i d h l = absurd (omega arith)
+tuple_inside-at sizes (tuple ∷ tuples) zero d h l = (and_parts (is_tuple_inside sizes tuple.items) (list_all (λ t. is_tuple_inside sizes t.items) tuples) h).0
+tuple_inside-at sizes (tuple ∷ tuples) (suc i) d h l = tuple_inside-at sizes tuples i d (and_parts (is_tuple_inside sizes tuple.items) (list_all (λ t. is_tuple_inside sizes t.items) tuples) h).1 (omega arith)
 
 tuples_have_axes : (sizes : List ℕ) (tuples : List (List ℕ)) → list_all (λ tuple. is_tuple_inside sizes tuple) tuples ≡ true → list_all (λ tuple. length tuple == length sizes) tuples ≡ true
 tuples_have_axes sizes [] h = refl
@@ -242,7 +247,7 @@ length-or_one [] (len ∷ lengths) e = absurd (omega arith)
 length-or_one (start ∷ starts) [] e = absurd (omega arith)
 length-or_one (start ∷ starts) (len ∷ lengths) e = e
 
-length-zeros : (n : ℕ) → length (replicate n 0) ≡ n
+length-zeros : (n : ℕ) → length {A = ℕ} (replicate n 0) ≡ n
 length-zeros zero = refl
 length-zeros (suc n) = ap suc (length-zeros n)
 
@@ -308,5 +313,5 @@ squeezed_image_subset sizes region h =
     record {
       inside = rw (eq_from _ _ axes.0, inside) refl;
       places = ap (map (row_major (squeezed sizes))) (squeezed_box sizes region.starts region.lengths box)
-        ∙ each_number sizes (squeezed sizes) (same_places (squeezed sizes)).to (squeezed_tuple sizes) (squeezed_goes sizes) (box_tuples region.starts region.lengths) (box_inside sizes region.starts region.lengths box);
+          ∙ each_number sizes (squeezed sizes) (same_places (squeezed sizes)).to (squeezed_tuple sizes) (squeezed_goes sizes) (box_tuples region.starts region.lengths) (box_inside sizes region.starts region.lengths box);
     }

@@ -14,3 +14,4 @@ pub mod TransposedRuns
 pub mod Unraveled
 pub mod BoxNumbers
 pub mod Images
+pub mod Indexers
