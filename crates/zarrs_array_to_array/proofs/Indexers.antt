@@ -6,7 +6,7 @@ use Rattle.std.proofs.lemmas.Bool.Decides.{nat_tests}
 use Rattle.std.proofs.lemmas.List.{append_assoc, drop_more}
 use Rattle.std.proofs.lemmas.List.Elements.{All-cons}
 use Rattle.std.proofs.lemmas.Simd.{map-map}
-use Rattle.zarrs_chunk.specs.Answer.{◌>>=◌, demand, checked_u64}
+use Rattle.zarrs_chunk.specs.Answer.{◌>>=◌, demand, checked_u64, seen}
 use Rattle.zarrs_chunk.specs.AnswerLaws.{step_ok}
 use Rattle.zarrs_chunk.specs.ArraySubset.{ends_fit, subset_of_start_shape}
 use Rattle.zarrs_chunk.specs.ChunkShape.{product}
@@ -16,17 +16,20 @@ use Rattle.zarrs_chunk.specs.Tuples.{row_major, box_tuples, is_box_inside, is_tu
 use Rattle.zarrs_chunk.specs.declared.codec_error.CodecError.{CodecError}
 use Rattle.zarrs_chunk.specs.declared.codec_error.CodecError.TheVariants.{Overflow, ReshapeElements}
 use Rattle.zarrs_chunk.proofs.BoxTuples.{length-box_tuples}
-use Rattle.zarrs_chunk.proofs.Inside.{is_box_inside-lengths}
-use Rattle.zarrs_array_to_array.specs.ArrayToArrayCodec.{ArrayMapping, transpose, reshape, squeeze, coordinates}
+use Rattle.zarrs_chunk.proofs.Inside.{is_box_inside-lengths, is_tuple_inside-length}
+use Rattle.zarrs_chunk.proofs.TupleLists.{tuples_inside}
+use Rattle.zarrs_array_to_array.specs.ArrayToArrayCodec.{ArrayMapping, IsMapping, transpose, reshape, squeeze, coordinates}
 use Rattle.zarrs_array_to_array.specs.Boxes.{EndsFit}
-use Rattle.zarrs_array_to_array.specs.CoordinateMap.{CoordinateMap, same_places}
+use Rattle.zarrs_array_to_array.specs.CoordinateMap.{CoordinateMap, same_places, IsMapTo}
 use Rattle.zarrs_array_to_array.specs.EncodedSelection.{squeezed_lengths, squeezed_region, selection_in}
-use Rattle.zarrs_array_to_array.specs.MappedSelection.{IsImage, image_of}
+use Rattle.zarrs_array_to_array.specs.MappedSelection.{IsImage, IsImageBy, image_of}
 use Rattle.zarrs_array_to_array.specs.Orders.{is_order, permuted}
-use Rattle.zarrs_array_to_array.specs.Reshape.{Dim, reshaped, is_reshape, dims_told, counts_agree, others_of, sizes_with}
+use Rattle.zarrs_array_to_array.specs.Reshape.{Dim, reshaped, dims_told, counts_agree, others_of, sizes_with}
 use Rattle.zarrs_array_to_array.specs.Squeeze.{above_one, or_one, squeezed, kept_indices, or_zero, squeezed_tuple}
 use Rattle.zarrs_array_to_array.specs.Unraveled.{unraveled}
-use Rattle.zarrs_array_to_array.proofs.Images.{subset_inside, squeezed_box_inside, squeezed_image_subset, squeezed_image_indices}
+use Rattle.zarrs_array_to_array.proofs.Chains.{codec_map}
+use Rattle.zarrs_array_to_array.proofs.Images.{subset_inside, squeezed_box_inside, squeezed_image_subset, squeezed_image_indices, transposed_image, reshaped_image}
+use Rattle.zarrs_array_to_array.proofs.Orders.{order_parts}
 
 -- ---- numbers that fit
 
@@ -136,3 +139,58 @@ places_known dims sizes encoded selection h inside = rw (inside, (reshaped_count
 
 pub image_is : (codec : ArrayMapping) (sizes : List ℕ) (m : CoordinateMap) (selection : Selection) (n : ℕ) → bounds_of selection sizes ≡ Ok tt → coordinates codec sizes ≡ Ok m → len_of selection ≡ Ok n → image_of (coordinates codec sizes) (selection_in codec sizes) sizes selection ≡ Ok (selection_in codec sizes m.encoded selection)
 image_is codec sizes m selection n inside takes count = rw (inside, takes, count) refl
+
+-- ---- a shape that a codec takes
+
+pub reshaped_seen : (dims : List Dim) (sizes : List ℕ) → seen (λ m. m.encoded) (coordinates (reshape dims) sizes) ≡ reshaped dims sizes
+reshaped_seen dims sizes = go (reshaped dims sizes)
+  where
+    go : (r : Result (List ℕ) CodecError) → seen (λ m. m.encoded) (r >>= λ encoded. Ok (same_places encoded)) ≡ r
+    go (Ok encoded) = refl
+    go (Err e) = refl
+
+pub map_to : (codec : ArrayMapping) (sizes next : List ℕ) → IsMapping codec → All (λ size. 0 < size) sizes → seen (λ m. m.encoded) (coordinates codec sizes) ≡ Ok next → IsMapTo (coordinates codec sizes) sizes next
+map_to codec sizes next is positive h = go (coordinates codec sizes) refl h
+  where
+    go : (r : Result CoordinateMap CodecError) → coordinates codec sizes ≡ r → seen (λ m. m.encoded) r ≡ Ok next → IsMapTo (coordinates codec sizes) sizes next
+    go (Ok m) e h = rw e (cc, codec_map codec sizes m is positive e)
+    go (Err x) e h = absurd (cc)
+
+-- ---- transposition
+
+eq_test : (a b : ℕ) → a ≡ b → (a == b) ≡ true
+eq_test a b h = grind (arith, nat_tests)
+
+pub transposed_image_by : (order sizes : List ℕ) (selection : Selection) → is_order order ≡ true → length order ≡ length sizes → bounds_of selection sizes ≡ Ok tt → IsImageBy (coordinates (transpose order) sizes) sizes selection (indices (map (permuted order) (tuples_of selection)))
+transposed_image_by order sizes selection o axes h = rw (eq_test (length order) (length sizes) axes) (transposed_image order sizes selection (order_parts order o) axes h)
+
+pub lists_have_axes : (order sizes : List ℕ) (tuples : List (Vec ℕ Global)) → length order ≡ length sizes → bounds_of (indices (map (λ tuple. tuple.items) tuples)) sizes ≡ Ok tt → list_all (λ tuple. length tuple.items == length order) tuples ≡ true
+lists_have_axes order sizes tuples axes h = go tuples (tuples_inside tuples sizes (sym h))
+  where
+    go : (tuples : List (Vec ℕ Global)) → list_all (λ tuple. is_tuple_inside sizes tuple.items) tuples ≡ true → list_all (λ tuple. length tuple.items == length order) tuples ≡ true
+    go [] h = refl
+    go (tuple ∷ tuples) h =
+        let parts = and_parts (is_tuple_inside sizes tuple.items) (list_all (λ t. is_tuple_inside sizes t.items) tuples) h in
+        and_from _ _ (eq_test (length tuple.items) (length order) (is_tuple_inside-length sizes tuple.items parts.0 ∙ sym axes)) (go tuples parts.1)
+
+pub ordered_list : (order : List ℕ) (tuples made : List (Vec ℕ Global)) → map (λ tuple. tuple.items) made ≡ map (λ tuple. permuted order tuple.items) tuples → indices (map (permuted order) (map (λ tuple. tuple.items) tuples)) ≡ indices (map (λ tuple. tuple.items) made)
+ordered_list order tuples made h = ap (λ ts. indices ts) (map-map (permuted order) (λ (tuple : Vec ℕ Global). tuple.items) tuples ∙ sym h)
+
+-- ---- reshaping
+
+pub map_count : (r : Result CoordinateMap CodecError) (sizes next : List ℕ) → IsMapTo r sizes next → product next ≡ product sizes
+map_count (Ok m) sizes next h = ap product (sym h.0) ∙ h.1.count
+map_count (Err e) sizes next h = absurd h
+
+module _ (dims : List Dim) (sizes encoded places : List ℕ) (selection : Selection) (inside : bounds_of selection sizes ≡ Ok tt) (takes : seen (λ m. m.encoded) (coordinates (reshape dims) sizes) ≡ Ok encoded) (at : places_of selection sizes ≡ Ok places) where
+  takes_shape : reshaped dims sizes ≡ Ok encoded
+  takes_shape = sym (reshaped_seen dims sizes) ∙ takes
+
+  places_are : places ≡ map (row_major sizes) (tuples_of selection)
+  places_are = let known = places_known dims sizes encoded selection takes_shape inside in cc
+
+  pub reshaped_asked : (n : ℕ) → len_of selection ≡ Ok n → image_of (coordinates (reshape dims) sizes) (selection_in (reshape dims) sizes) sizes selection ≡ Ok (indices (map (unraveled encoded) places))
+  reshaped_asked n count = rw (inside, takes_shape, count) (ap (λ ps. Ok (indices (map (unraveled encoded) ps))) (sym places_are))
+
+  pub reshaped_image_by : product encoded ≡ product sizes → IsImageBy (coordinates (reshape dims) sizes) sizes selection (indices (map (unraveled encoded) places))
+  reshaped_image_by same = rw (takes_shape, places_are) (reshaped_image sizes encoded selection same inside)

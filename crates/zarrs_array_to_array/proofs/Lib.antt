@@ -15,3 +15,4 @@ pub mod Unraveled
 pub mod BoxNumbers
 pub mod Images
 pub mod Indexers
+pub mod Refusals
