@@ -7,7 +7,8 @@ use Rattle.std.proofs.lemmas.List.{append-nil, map-append}
 use Rattle.std.proofs.lemmas.List.Folds.{list_all-append}
 use Rattle.std.proofs.lemmas.Simd.{map-map}
 use Rattle.zarrs_chunk.specs.Answer.{demand, ◌>>=◌}
-use Rattle.zarrs_chunk.specs.AnswerLaws.{step_ok, demand_ok}
+use Rattle.zarrs_chunk.specs.AnswerLaws.{demand_ok}
+use Rattle.zarrs_array_to_array.proofs.AnswerSteps.{step_ok}
 use Rattle.zarrs_chunk.specs.ChunkShape.{product}
 use Rattle.zarrs_chunk.specs.Region.{Region}
 use Rattle.zarrs_chunk.specs.Selection.{Selection, subset, indices, tuples_of, bounds_of}
@@ -18,7 +19,7 @@ use Rattle.zarrs_chunk.proofs.Inside.{is_tuple_inside-length, row_major-below, i
 use Rattle.zarrs_array_to_array.specs.CoordinateMap.{CoordinateMap, same_places}
 use Rattle.zarrs_array_to_array.specs.EncodedSelection.{drops_empty_range, squeezed_lengths, squeezed_region}
 use Rattle.zarrs_array_to_array.specs.MappedSelection.{IsImage}
-use Rattle.zarrs_array_to_array.specs.OrderLaws.{IsOrder}
+use Rattle.zarrs_metadata.specs.Orders.{IsOrder}
 use Rattle.zarrs_array_to_array.specs.Orders.{permuted}
 use Rattle.zarrs_array_to_array.specs.Squeeze.{above_one, or_one, squeezed, kept_indices, or_zero, squeezed_tuple}
 use Rattle.zarrs_array_to_array.specs.Transpose.{transposition}

@@ -7,7 +7,7 @@ use Rattle.std.proofs.lemmas.List.{append_assoc, drop_more}
 use Rattle.std.proofs.lemmas.List.Elements.{All-cons}
 use Rattle.std.proofs.lemmas.Simd.{map-map}
 use Rattle.zarrs_chunk.specs.Answer.{◌>>=◌, demand, checked_u64, seen}
-use Rattle.zarrs_chunk.specs.AnswerLaws.{step_ok}
+use Rattle.zarrs_array_to_array.proofs.AnswerSteps.{step_ok}
 use Rattle.zarrs_chunk.specs.ArraySubset.{ends_fit, subset_of_start_shape}
 use Rattle.zarrs_chunk.specs.ChunkShape.{product}
 use Rattle.zarrs_chunk.specs.Region.{Region}
@@ -23,13 +23,15 @@ use Rattle.zarrs_array_to_array.specs.Boxes.{EndsFit}
 use Rattle.zarrs_array_to_array.specs.CoordinateMap.{CoordinateMap, same_places, IsMapTo}
 use Rattle.zarrs_array_to_array.specs.EncodedSelection.{squeezed_lengths, squeezed_region, selection_in}
 use Rattle.zarrs_array_to_array.specs.MappedSelection.{IsImage, IsImageBy, image_of}
-use Rattle.zarrs_array_to_array.specs.Orders.{is_order, permuted}
-use Rattle.zarrs_array_to_array.specs.Reshape.{Dim, reshaped, dims_told, counts_agree, others_of, sizes_with}
+use Rattle.zarrs_metadata.specs.Orders.{is_order}
+use Rattle.zarrs_array_to_array.specs.Orders.{permuted}
+use Rattle.zarrs_metadata.specs.Dims.{Dim}
+use Rattle.zarrs_array_to_array.specs.Reshape.{reshaped, dims_told, counts_agree, others_of, sizes_with}
 use Rattle.zarrs_array_to_array.specs.Squeeze.{above_one, or_one, squeezed, kept_indices, or_zero, squeezed_tuple}
 use Rattle.zarrs_array_to_array.specs.Unraveled.{unraveled}
 use Rattle.zarrs_array_to_array.proofs.Chains.{codec_map}
 use Rattle.zarrs_array_to_array.proofs.Images.{subset_inside, squeezed_box_inside, squeezed_image_subset, squeezed_image_indices, transposed_image, reshaped_image}
-use Rattle.zarrs_array_to_array.proofs.Orders.{order_parts}
+use Rattle.zarrs_metadata.proofs.Orders.{order_parts}
 
 -- ---- numbers that fit
 

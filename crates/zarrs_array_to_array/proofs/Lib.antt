@@ -16,3 +16,4 @@ pub mod BoxNumbers
 pub mod Images
 pub mod Indexers
 pub mod Refusals
+pub mod AnswerSteps

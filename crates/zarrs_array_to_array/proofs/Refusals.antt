@@ -6,7 +6,8 @@ use Rattle.zarrs_chunk.specs.ChunkShape.{product}
 use Rattle.zarrs_chunk.specs.declared.codec_error.CodecError.{CodecError}
 use Rattle.zarrs_chunk.specs.declared.codec_error.CodecError.TheVariants.{Overflow, ReshapeDimension, ReshapeElements, Storage}
 use Rattle.zarrs_array_to_array.specs.Orders.{permuted}
-use Rattle.zarrs_array_to_array.specs.Reshape.{Dim, size, auto, axes, reshaped, axes_product, dims_told, counts_agree, others_of, sizes_with}
+use Rattle.zarrs_metadata.specs.Dims.{Dim, size, auto, input_dims}
+use Rattle.zarrs_array_to_array.specs.Reshape.{reshaped, axes_product, dims_told, counts_agree, others_of, sizes_with}
 
 pub no_fault_from : {T V : Type 0} (view : T → V) (r : Result T CodecError) (expected : Result V CodecError) → Answers memory view r expected → is_fault expected ≡ false → is_fault r ≡ false
 no_fault_from view (Ok x) expected h n = refl
@@ -39,7 +40,7 @@ told_no_fault : (sizes : List ℕ) (dims : List Dim) → is_fault (dims_told siz
 told_no_fault sizes [] = refl
 told_no_fault sizes (size n ∷ dims) = told_no_fault sizes dims
 told_no_fault sizes (auto ∷ dims) = told_no_fault sizes dims
-told_no_fault sizes (axes named ∷ dims) = bind_no_fault (axes_product named sizes) (λ _. dims_told sizes dims) (axes_no_fault named sizes) (λ _. told_no_fault sizes dims)
+told_no_fault sizes (input_dims named ∷ dims) = bind_no_fault (axes_product named sizes) (λ _. dims_told sizes dims) (axes_no_fault named sizes) (λ _. told_no_fault sizes dims)
 
 pub reshaped_no_fault : (dims : List Dim) (sizes : List ℕ) → is_fault (reshaped dims sizes) ≡ false
 reshaped_no_fault dims sizes =
@@ -47,4 +48,3 @@ reshaped_no_fault dims sizes =
     (λ _. bind_no_fault (checked_u64 (product sizes)) (λ _. checked_u64 (others_of sizes dims) >>= λ _. demand (counts_agree sizes dims) ReshapeElements >>= λ _. Ok (sizes_with (product sizes / others_of sizes dims) sizes dims)) (checked_no_fault (product sizes))
     (λ _. bind_no_fault (checked_u64 (others_of sizes dims)) (λ _. demand (counts_agree sizes dims) ReshapeElements >>= λ _. Ok (sizes_with (product sizes / others_of sizes dims) sizes dims)) (checked_no_fault (others_of sizes dims))
     (λ _. bind_no_fault (demand (counts_agree sizes dims) ReshapeElements) (λ _. Ok (sizes_with (product sizes / others_of sizes dims) sizes dims)) (demand_no_fault (counts_agree sizes dims) ReshapeElements refl) (λ _. refl))))
-

@@ -10,10 +10,7 @@ pub mod Squeeze
 pub mod ArrayToArrayCodec
 pub mod ChainLaws
 pub mod Strides
-pub mod PluginCreateError
-pub mod TransposeOrder
 pub mod TransposeCodec
-pub mod ReshapeShape
 pub mod Mapping
 pub mod TupleLaws
 pub mod MappedSelection

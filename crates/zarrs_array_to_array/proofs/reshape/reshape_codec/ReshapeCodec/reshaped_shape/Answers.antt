@@ -1,8 +1,9 @@
 use Rattle.std.proofs.Common.{◌≡◌, ◌<◌, ◌/◌, Ok, Some, map, refl, arith, sym, ap, ◌∙◌}
 use Rattle.zarrs_chunk.specs.Answer.{checked_u64}
 use Rattle.zarrs_chunk.specs.ChunkShape.{product}
-use Rattle.zarrs_array_to_array.specs.Reshape.{autos, told_sizes, reshaped}
-use Rattle.zarrs_array_to_array.specs.ReshapeShape.{dim_of}
+use Rattle.zarrs_metadata.specs.Dims.{autos}
+use Rattle.zarrs_array_to_array.specs.Reshape.{told_sizes, reshaped}
+use Rattle.zarrs_metadata.specs.ReshapeShape.{dim_of}
 use Rattle.zarrs_array_to_array.proofs.Reshaping.{shape_of-told, told_positive, checked_positive, quotient_positive, reshaped_plain}
 use Rattle.zarrs_array_to_array.proofs.reshape.reshape_codec.ReshapeCodec.reshaped_shape.Goals as goal
 
@@ -24,7 +25,7 @@ returns-then-count_autos-eq0 c =
     let output : checked_u64 (product made) ≡ Ok c.in_ok-known.known = ap (λ s. checked_u64 (product s)) (sym others) ∙ sym (c.in_ok-known.ensures {u = tt}) in
     let none : autos dims ≡ 0 = sym c.count_autos.ensures ∙ c.if-count_autos-eq0.true in
     let answer : reshaped dims sizes ≡ Ok made = reshaped_plain dims sizes made c.in_ok-count.count c.in_ok-known.known told input output none c.if-count-known.false in
-    let dims_are : dims ≡ c.args.self.now = c.as_slice-dims.ensures.dims ∙ c.self.view_is in
+    let dims_are : dims ≡ c.args.self.now = c.as_slice-dims.ensures.value ∙ c.self.view_is in
     rw (← dims_are, ← c.as_slice-sizes.ensures.sizes, others) answer
 
 pub nonzero_rem-count : goal.nonzero_rem-count

@@ -5,7 +5,8 @@ use Rattle.zarrs_chunk.specs.Indexer.{selection_of}
 use Rattle.zarrs_chunk.specs.Selection.{indices, tuples_of, bounds_of}
 use Rattle.zarrs_array_to_array.specs.ArrayToArrayCodec.{coordinates, transpose}
 use Rattle.zarrs_array_to_array.specs.MappedSelection.{IsImageBy}
-use Rattle.zarrs_array_to_array.specs.Orders.{is_order, permuted}
+use Rattle.zarrs_metadata.specs.Orders.{is_order}
+use Rattle.zarrs_array_to_array.specs.Orders.{permuted}
 use Rattle.zarrs_array_to_array.proofs.CodecAnswers.{axes_of}
 use Rattle.zarrs_array_to_array.proofs.Indexers.{transposed_image_by}
 use Rattle.zarrs_array_to_array.proofs.transpose.transpose_codec.TransposeCodec.encoded_indexer.Goals as goal
@@ -16,8 +17,8 @@ returns-clause-places c =
     let sizes = c.args.shape.now in
     let selection = selection_of c.args.indexer.now in
     let inside : bounds_of selection sizes ≡ Ok tt = sym (c.in_ok-check.ensures {u = tt}) in
-    let seen_order : c.as_slice-order.result.now ≡ order = c.as_slice-order.ensures.axes ∙ c.self.view_is in
-    let is : is_order order ≡ true = rw (← seen_order) c.as_slice-order.ensures.order in
+    let seen_order : c.as_slice-order.result.now ≡ order = c.as_slice-order.ensures.value ∙ c.self.view_is in
+    let is : is_order order ≡ true = rw (← seen_order) c.as_slice-order.ensures.sound in
     let axes : length order ≡ length sizes = axes_of order sizes (rw (seen_order, c.as_slice-sizes.ensures.sizes) at (sym (c.in_ok-check_axes.ensures {u = tt}))) in
     let asked = rw seen_order at c.ordered_indexer.ensures.answer in
     found_from memory selection_of c.ordered_indexer.result (Ok (indices (map (permuted order) (tuples_of selection)))) (λ image. IsImageBy (coordinates (transpose order) sizes) sizes selection image) asked

@@ -1,0 +1,14 @@
+-- What a handle in memory is seen as.
+use Rattle.std.specs.Prelude.{ℕ, true, Option, Some, None, List}
+use Rattle.std.specs.Option.{option_map}
+use Rattle.zarrs_codec.specs.StorageState.{StorageState}
+use Rattle.zarrs_codec.specs.declared.memory_handle.MemoryHandle.{MemoryHandle}
+
+-- its value, or none
+abbrev pub stored : MemoryHandle → Option (List ℕ)
+stored handle = option_map (λ value. value.items) handle.value
+
+-- its state: all bytes are sure, since it never fails
+abbrev pub memory_state : MemoryHandle → StorageState
+memory_state handle =
+    record { value = stored handle; sure = Some (λ _. true); faults = 0; failure = None; writes = 0 }

@@ -1,0 +1,45 @@
+-- What contracts see of a storage handle.
+use Rattle.std.specs.Prelude.{ℕ, ◌+◌, ◌%◌, ◌^◌, Bool, true, false, Option, Some, None, List, [], length, Result, Err}
+use Rattle.std.specs.List.{list_all, range_with_len}
+use Rattle.zarrs_chunk.specs.Answer.{is_fault}
+use Rattle.zarrs_chunk.specs.declared.codec_error.CodecError.{CodecError}
+use Rattle.zarrs_chunk.specs.declared.codec_error.CodecError.TheVariants.{Storage}
+use Rattle.zarrs_chunk.specs.declared.codec_error.StorageError.{StorageError}
+
+-- The stored value, or none; which of its bytes, by their numbers, are sure to be read without a failure, where the handle promises that of any; the calls so far that failed, and what the last of them answered; the calls so far that write. Both counts are modulo 2^64.
+pub record StorageState : Type 0 where
+  pub value : Option (List ℕ)
+  pub sure : Option (ℕ → Bool)
+  pub faults : ℕ
+  pub failure : Option StorageError
+  pub writes : ℕ
+
+-- all bytes with these numbers are sure to be read; never where the handle promises nothing
+abbrev pub are_sure : Option (ℕ → Bool) → List ℕ → Bool
+are_sure None numbers = false
+are_sure (Some sure) numbers = list_all sure numbers
+
+-- the numbers of a value's bytes
+abbrev pub value_indices : Option (List ℕ) → List ℕ
+value_indices None = []
+value_indices (Some value) = range_with_len 0 (length value)
+
+-- a count modulo 2^64, one more where the test passes
+abbrev pub count_if : Bool → ℕ → ℕ
+count_if true count = (count + 1) % 2 ^ 64
+count_if false count = count
+
+-- the failure that a call answers, else the one before it
+abbrev pub last_failure : {T : Type 0} → Result T CodecError → Option StorageError → Option StorageError
+last_failure (Err (Storage failure)) before = Some failure
+last_failure _ before = before
+
+-- what a reading call leaves: all as it was, but for the failure that it answers
+abbrev pub after_reading : {T : Type 0} → Result T CodecError → StorageState → StorageState
+after_reading result state =
+    record state { faults = count_if (is_fault result) state.faults; failure = last_failure result state.failure }
+
+-- how many bytes of a value a handle keeps in memory that keeps all of it there
+abbrev pub held_bytes : Option (List ℕ) → ℕ
+held_bytes None = 0
+held_bytes (Some value) = length value

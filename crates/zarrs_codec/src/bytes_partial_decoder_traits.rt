@@ -1,0 +1,104 @@
+ghost use Rattle.std.specs.Prelude.{◌≡◌, ℕ, Bool, true, false, Option, Some, Ok, is_some};
+ghost use Rattle.std.specs.Option.{option_map};
+ghost use Rattle.std.specs.Borrow.{GName};
+ghost use Rattle.zarrs_chunk.specs.Answer.{Answers, fault, memory_or_fault, is_fault};
+ghost use Rattle.zarrs_codec.specs.ByteRanges.{range_indices, read_ranges};
+ghost use Rattle.zarrs_codec.specs.StorageState.{StorageState, after_reading, are_sure, value_indices};
+
+use crate::byte_range::ByteRange;
+use std::alloc::Global;
+use zarrs_chunk::CodecError;
+
+/// A storage handle that can be read: a place that keeps one value, a list of bytes, or none.
+///
+/// Reading leaves the value as it is. A call answers `Storage` exactly where the handle failed in
+/// that call, with what the handle said. An implementer keeps how many of its calls have failed
+/// (modulo 2^64) and what the last of them answered: both are part of its `state`, and what each
+/// call leaves of the state speaks of them. It may keep them in fields of its own, or leave them
+/// as they began where it never fails.
+///
+/// A handle may say that some bytes, by their numbers, are **sure**: then neither `exists` nor a
+/// read of such bytes alone answers `Storage`. Bytes past the value's end may be sure too.
+pub trait BytesPartialDecoderTraits {
+    // The value, the sure bytes, the failures, and the count of writing calls.
+    ghost state: { Self → StorageState };
+
+    // The name of the reference that the handle is, where it is one: by it the lender learns what became of its own.
+    ghost lent: { Self → Option GName };
+
+    // How many bytes the handle keeps in memory.
+    ghost held: { Self → ℕ };
+
+    // Whether the handle reads ranges without the rest.
+    ghost reads_ranges: { Bool };
+
+    /// Whether there is a value. Refusals: `Storage`, but never where the handle has sure bytes.
+    fn exists(&mut self) -> Result<bool, CodecError>
+        ensures answer { Answers fault (λ there. there) result (Ok (is_some (state self.old).value)) }
+        ensures sure { is_some (state self.old).sure ≡ true → is_fault result ≡ false }
+        ensures left { state self.new ≡ after_reading result (state self.old) }
+        ensures same_reference { lent self.new ≡ lent self.old };
+
+    /// How many bytes the handle keeps in memory.
+    fn size_held(&self) -> usize
+        ensures value { result ≡ held self.now };
+
+    /// The ranges' bytes, joined in order, or `None` where there is no value. Refusals:
+    /// `InvalidByteRange` where a range ends past the value; `OutOfMemory` and `Storage`, which may
+    /// come before. `Storage` never comes where all bytes of the ranges are sure.
+    fn partial_decode_many(
+        &mut self,
+        alloc: Global,
+        ranges: &[ByteRange],
+    ) -> Result<Option<Vec<u8>>, CodecError>
+        ensures answer { Answers memory_or_fault (option_map (λ bytes. bytes.items)) result (read_ranges (state self.old).value ranges.now) }
+        ensures sure { are_sure (state self.old).sure (range_indices ranges.now) ≡ true → is_fault result ≡ false }
+        ensures left { state self.new ≡ after_reading result (state self.old) }
+        ensures same_reference { lent self.new ≡ lent self.old };
+
+    /// The whole value, or `None`. Refusals: `OutOfMemory`; `Storage`, but never where all bytes of
+    /// the value are sure.
+    fn decode(&mut self, alloc: Global) -> Result<Option<Vec<u8>>, CodecError>
+        ensures answer { Answers memory_or_fault (option_map (λ bytes. bytes.items)) result (Ok (state self.old).value) }
+        ensures sure { are_sure (state self.old).sure (value_indices (state self.old).value) ≡ true → is_fault result ≡ false }
+        ensures left { state self.new ≡ after_reading result (state self.old) }
+        ensures same_reference { lent self.new ≡ lent self.old };
+
+    /// Whether the handle reads ranges without the rest of the value.
+    fn supports_partial_decode(&self) -> bool
+        ensures value { result ≡ reads_ranges };
+}
+
+impl<H: BytesPartialDecoderTraits> BytesPartialDecoderTraits for &mut H {
+    ghost state = { λ handle. H.state handle.now };
+
+    ghost lent = { λ handle. Some handle.ghost_name };
+
+    ghost held = { λ handle. H.held handle.now };
+
+    ghost reads_ranges = { H.reads_ranges };
+
+    fn exists(&mut self) -> Result<bool, CodecError> {
+        (**self).exists()
+    }
+
+    fn size_held(&self) -> usize {
+        (**self).size_held()
+    }
+
+    fn partial_decode_many(
+        &mut self,
+        alloc: Global,
+        ranges: &[ByteRange],
+    ) -> Result<Option<Vec<u8>>, CodecError> {
+        (**self).partial_decode_many(alloc, ranges)
+    }
+
+    fn decode(&mut self, alloc: Global) -> Result<Option<Vec<u8>>, CodecError> {
+        (**self).decode(alloc)
+    }
+
+    fn supports_partial_decode(&self) -> bool {
+        (**self).supports_partial_decode()
+    }
+}

@@ -1,0 +1,153 @@
+ghost use Rattle.std.specs.Prelude.{◌≡◌, ◌++◌, IfOk, IfErr, OnOk, true, false, Some, None, length, nat_le};
+ghost use Rattle.std.specs.List.{between};
+ghost use Rattle.std.specs.Option.{option_map};
+ghost use Rattle.zarrs_chunk.specs.Answer.{Answers, memory, is_fault};
+ghost use Rattle.zarrs_codec.specs.ByteRanges.{read_value};
+
+use crate::byte_range::ByteRange;
+use crate::bytes_partial_decoder_traits::BytesPartialDecoderTraits;
+use std::alloc::{AllocError, Global};
+use zarrs_chunk::CodecError;
+
+/// How many bytes to reserve for the ranges of a value of `len` bytes, so that the answer never
+/// grows: as many as the ranges have. None where one of them is to be refused, as then nothing is
+/// read.
+fn room_for(len: usize, ranges: &[ByteRange]) -> usize {
+    let mut room: u64 = 0;
+    for range in ranges {
+        if range.end() > len as u64 {
+            return 0;
+        }
+        room = room.saturating_add(range.end() - range.start());
+    }
+    room as usize
+}
+
+/// Appends a piece. The sizes of most elements are constants here, so that each of these is a
+/// single move and no call to copy.
+#[inline(always)]
+fn append_piece(bytes: &mut Vec<u8>, piece: &[u8]) -> Result<(), AllocError>
+    ensures { OnOk result (bytes.new.items ≡ bytes.old.items ++ piece.now) }
+{
+    match piece.len() {
+        1 => bytes.extend_from_slice(&piece[..1]),
+        2 => bytes.extend_from_slice(&piece[..2]),
+        4 => bytes.extend_from_slice(&piece[..4]),
+        8 => bytes.extend_from_slice(&piece[..8]),
+        _ => bytes.extend_from_slice(piece),
+    }
+}
+
+/// A range's bytes of a value.
+#[inline(always)]
+fn piece_of<'a>(value: &'a [u8], range: &ByteRange) -> Result<&'a [u8], CodecError>
+    ensures inside { IfOk result (λ piece. (piece.now ≡ between range.now.start range.now.end value.now) × (nat_le range.now.end (length value.now) ≡ true)) }
+    ensures outside { IfErr result (λ error. (error ≡ CodecError.InvalidByteRange) × (nat_le range.now.end (length value.now) ≡ false)) }
+{
+    let start = range.start() as usize;
+    let end = range.end() as usize;
+    if value.len() < end {
+        return Err(CodecError::InvalidByteRange);
+    }
+    Ok(&value[start..end])
+}
+
+/// The ranges' bytes of a value, joined in order.
+fn gather(alloc: Global, value: &[u8], ranges: &[ByteRange]) -> Result<Vec<u8>, CodecError>
+    ensures answer { Answers memory (λ bytes. bytes.items) result (read_value value.now ranges.now) }
+    ensures no_fault { is_fault result ≡ false }
+{
+    let mut bytes = Vec::with_capacity(alloc, room_for(value.len(), ranges))?;
+    for range in ranges {
+        append_piece(&mut bytes, piece_of(value, range)?)?;
+    }
+    Ok(bytes)
+}
+
+/// A handle whose value is in memory. It never fails, but for want of memory, so all of its bytes
+/// are sure.
+#[derive(Drop)]
+pub struct MemoryHandle {
+    value: Option<Vec<u8>>,
+}
+
+impl MemoryHandle {
+    ghost use Rattle.zarrs_codec.specs.MemoryHandle.{stored};
+
+    /// A handle without a value.
+    pub fn new() -> MemoryHandle
+        ensures made { stored result ≡ None }
+    {
+        MemoryHandle { value: None }
+    }
+
+    /// A handle with this value.
+    pub fn with_value(value: Vec<u8>) -> MemoryHandle
+        ensures made { stored result ≡ Some value.items }
+    {
+        MemoryHandle { value: Some(value) }
+    }
+
+    /// The value, or `None`.
+    pub fn value(&self) -> Option<&[u8]>
+        ensures value { option_map (λ bytes. bytes.now) result ≡ stored self.now }
+    {
+        match &self.value {
+            None => None,
+            Some(value) => Some(value.as_slice()),
+        }
+    }
+
+    /// The value, or `None`, without the handle.
+    pub fn into_value(self) -> Option<Vec<u8>>
+        ensures value { option_map (λ bytes. bytes.items) result ≡ stored self }
+    {
+        self.value
+    }
+}
+
+impl BytesPartialDecoderTraits for MemoryHandle {
+    ghost use Rattle.zarrs_codec.specs.StorageState.{held_bytes};
+    ghost use Rattle.zarrs_codec.specs.MemoryHandle.{stored, memory_state};
+
+    ghost state = { memory_state };
+
+    ghost lent = { λ _. None };
+
+    ghost held = { λ handle. held_bytes (stored handle) };
+
+    ghost reads_ranges = { true };
+
+    fn exists(&mut self) -> Result<bool, CodecError> {
+        Ok(self.value.is_some())
+    }
+
+    fn size_held(&self) -> usize {
+        match &self.value {
+            None => 0,
+            Some(value) => value.len(),
+        }
+    }
+
+    fn partial_decode_many(
+        &mut self,
+        alloc: Global,
+        ranges: &[ByteRange],
+    ) -> Result<Option<Vec<u8>>, CodecError> {
+        match &self.value {
+            None => Ok(None),
+            Some(value) => Ok(Some(gather(alloc, value.as_slice(), ranges)?)),
+        }
+    }
+
+    fn decode(&mut self, alloc: Global) -> Result<Option<Vec<u8>>, CodecError> {
+        match &self.value {
+            None => Ok(None),
+            Some(value) => Ok(Some(Vec::from_slice(alloc, value.as_slice())?)),
+        }
+    }
+
+    fn supports_partial_decode(&self) -> bool {
+        true
+    }
+}

@@ -1,0 +1,9 @@
+pub mod Dims
+pub mod Laws
+pub mod Orders
+pub mod PluginCreateError
+pub mod ReshapeShape
+pub mod SameDim
+pub mod SameDimLaws
+pub mod TransposeOrder
+pub use Rattle.zarrs_chunk.specs.Answer

@@ -1,0 +1,21 @@
+-- The refusals of reading metadata and of making codecs.
+use Rattle.std.specs.Prelude.{ℕ, Bool, true, false, List, codes}
+use Rattle.zarrs_metadata.specs.declared.plugin_create_error.PluginCreateError.{PluginCreateError}
+use Rattle.zarrs_metadata.specs.declared.plugin_create_error.PluginCreateError.TheVariants.{OutOfMemory, UnknownName, InvalidConfiguration, MissingArrayToBytes, MultipleArrayToBytes, BitOrder, MultipleAuto, ZeroSize, NotAPermutation}
+
+-- a growth was refused, which a call that takes memory may answer at any time
+abbrev pub plugin_memory : PluginCreateError → Bool
+plugin_memory OutOfMemory = true
+plugin_memory _ = false
+
+-- the variant's name, as its bytes
+abbrev pub plugin_name_of : PluginCreateError → List ℕ
+plugin_name_of OutOfMemory = codes "OutOfMemory"
+plugin_name_of UnknownName = codes "UnknownName"
+plugin_name_of InvalidConfiguration = codes "InvalidConfiguration"
+plugin_name_of MissingArrayToBytes = codes "MissingArrayToBytes"
+plugin_name_of MultipleArrayToBytes = codes "MultipleArrayToBytes"
+plugin_name_of BitOrder = codes "BitOrder"
+plugin_name_of MultipleAuto = codes "MultipleAuto"
+plugin_name_of ZeroSize = codes "ZeroSize"
+plugin_name_of NotAPermutation = codes "NotAPermutation"

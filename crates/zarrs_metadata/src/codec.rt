@@ -1,0 +1,3 @@
+//! What the configurations of codecs hold, a module for each codec.
+pub mod reshape;
+pub mod transpose;

@@ -1,0 +1,14 @@
+//! The parts of codec metadata that hold a condition by their type, and the one error of reading
+//! metadata and of making codecs from it.
+//!
+//! Zarr v3 codec `transpose` (its key `order`) and zarr-extensions' codec `reshape` (its key
+//! `shape`).
+#![tactic(auto)]
+
+mod codec;
+pub mod laws;
+mod plugin_create_error;
+
+pub use codec::reshape::{ReshapeDim, ReshapeShape};
+pub use codec::transpose::TransposeOrder;
+pub use plugin_create_error::PluginCreateError;
