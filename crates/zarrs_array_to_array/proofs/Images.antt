@@ -16,9 +16,9 @@ use Rattle.zarrs_chunk.specs.Tuples.{row_major, box_tuples, is_box_inside, is_tu
 use Rattle.zarrs_chunk.specs.declared.codec_error.CodecError.TheVariants.{IncompatibleDimensionality, OutOfBounds}
 use Rattle.zarrs_chunk.proofs.BoxTuples.{box_tuples-nothing}
 use Rattle.zarrs_chunk.proofs.Inside.{is_tuple_inside-length, row_major-below, is_box_inside-lengths}
-use Rattle.zarrs_array_to_array.specs.CoordinateMap.{CoordinateMap, same_places}
+use Rattle.zarrs_codec.specs.CoordinateMap.{CoordinateMap, same_places}
 use Rattle.zarrs_array_to_array.specs.EncodedSelection.{drops_empty_range, squeezed_lengths, squeezed_region}
-use Rattle.zarrs_array_to_array.specs.MappedSelection.{IsImage}
+use Rattle.zarrs_codec.specs.MappedSelection.{IsImage}
 use Rattle.zarrs_metadata.specs.Orders.{IsOrder}
 use Rattle.zarrs_array_to_array.specs.Orders.{permuted}
 use Rattle.zarrs_array_to_array.specs.Squeeze.{above_one, or_one, squeezed, kept_indices, or_zero, squeezed_tuple}

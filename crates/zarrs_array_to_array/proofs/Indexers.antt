@@ -20,9 +20,9 @@ use Rattle.zarrs_chunk.proofs.Inside.{is_box_inside-lengths, is_tuple_inside-len
 use Rattle.zarrs_chunk.proofs.TupleLists.{tuples_inside}
 use Rattle.zarrs_array_to_array.specs.ArrayToArrayCodec.{ArrayMapping, IsMapping, transpose, reshape, squeeze, coordinates}
 use Rattle.zarrs_array_to_array.specs.Boxes.{EndsFit}
-use Rattle.zarrs_array_to_array.specs.CoordinateMap.{CoordinateMap, same_places, IsMapTo}
+use Rattle.zarrs_codec.specs.CoordinateMap.{CoordinateMap, same_places, IsMapTo}
 use Rattle.zarrs_array_to_array.specs.EncodedSelection.{squeezed_lengths, squeezed_region, selection_in}
-use Rattle.zarrs_array_to_array.specs.MappedSelection.{IsImage, IsImageBy, image_of}
+use Rattle.zarrs_codec.specs.MappedSelection.{IsImage, IsImageBy, image_of}
 use Rattle.zarrs_metadata.specs.Orders.{is_order}
 use Rattle.zarrs_array_to_array.specs.Orders.{permuted}
 use Rattle.zarrs_metadata.specs.Dims.{Dim}
@@ -196,3 +196,9 @@ module _ (dims : List Dim) (sizes encoded places : List ℕ) (selection : Select
 
   pub reshaped_image_by : product encoded ≡ product sizes → IsImageBy (coordinates (reshape dims) sizes) sizes selection (indices (map (unraveled encoded) places))
   reshaped_image_by same = rw (takes_shape, places_are) (reshaped_image sizes encoded selection same inside)
+
+pub transposed_to : (order sizes next : List ℕ) → is_order order ≡ true → length order ≡ length sizes → All (λ size. 0 < size) sizes → ◌≡◌ {A = Result (List ℕ) CodecError} (Ok (permuted order sizes)) (Ok next) → IsMapTo (coordinates (transpose order) sizes) sizes next
+transposed_to order sizes next o axes positive e = map_to (transpose order) sizes next o positive (rw (eq_test (length order) (length sizes) axes) e)
+
+pub squeezed_to : (sizes next : List ℕ) → All (λ size. 0 < size) sizes → squeezed sizes ≡ next → IsMapTo (coordinates squeeze sizes) sizes next
+squeezed_to sizes next positive e = map_to squeeze sizes next tt positive (ap (λ s. Ok s) e)

@@ -17,3 +17,4 @@ pub mod Images
 pub mod Indexers
 pub mod Refusals
 pub mod AnswerSteps
+pub mod MappedChunks

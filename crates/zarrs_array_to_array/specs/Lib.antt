@@ -1,7 +1,6 @@
 pub mod Orders
 pub mod OrderLaws
 pub mod Unraveled
-pub mod CoordinateMap
 pub mod CoordinateLaws
 pub mod Transpose
 pub mod TransposeLaws
@@ -13,6 +12,9 @@ pub mod Strides
 pub mod TransposeCodec
 pub mod Mapping
 pub mod TupleLaws
-pub mod MappedSelection
 pub mod EncodedSelection
 pub mod Boxes
+pub mod CodecAnswers
+pub use Rattle.zarrs_codec.specs.CoordinateMap
+pub use Rattle.zarrs_codec.specs.MappedChunk
+pub use Rattle.zarrs_codec.specs.MappedSelection

@@ -4,7 +4,6 @@ pub mod BytesRepresentation
 pub mod MemoryHandle
 pub mod Refused
 pub mod StorageState
-
 pub use Rattle.zarrs_chunk.specs.Answer
 pub mod CoordinateMap
 pub mod MappedChunk

@@ -4,17 +4,17 @@ use Rattle.zarrs_chunk.specs.AnswerLaws.{found_from}
 use Rattle.zarrs_chunk.specs.Indexer.{selection_of}
 use Rattle.zarrs_chunk.specs.Selection.{indices, tuples_of, bounds_of}
 use Rattle.zarrs_array_to_array.specs.ArrayToArrayCodec.{coordinates, transpose}
-use Rattle.zarrs_array_to_array.specs.MappedSelection.{IsImageBy}
+use Rattle.zarrs_codec.specs.MappedSelection.{IsImageBy}
 use Rattle.zarrs_metadata.specs.Orders.{is_order}
 use Rattle.zarrs_array_to_array.specs.Orders.{permuted}
 use Rattle.zarrs_array_to_array.proofs.CodecAnswers.{axes_of}
 use Rattle.zarrs_array_to_array.proofs.Indexers.{transposed_image_by}
-use Rattle.zarrs_array_to_array.proofs.transpose.transpose_codec.TransposeCodec.encoded_indexer.Goals as goal
+use Rattle.zarrs_array_to_array.proofs.transpose.transpose_codec.TransposeCodecArrayToArrayCodecTraits.encoded_indexer.Goals as goal
 
 pub returns-clause-places : goal.returns-clause-places
 returns-clause-places c =
     let order = c.args.self.now in
-    let sizes = c.args.shape.now in
+    let sizes = c.args.decoded_shape.now in
     let selection = selection_of c.args.indexer.now in
     let inside : bounds_of selection sizes ≡ Ok tt = sym (c.in_ok-check.ensures {u = tt}) in
     let seen_order : c.as_slice-order.result.now ≡ order = c.as_slice-order.ensures.value ∙ c.self.view_is in

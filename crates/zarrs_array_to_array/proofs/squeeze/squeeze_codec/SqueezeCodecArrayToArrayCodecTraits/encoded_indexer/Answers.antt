@@ -5,14 +5,14 @@ use Rattle.zarrs_chunk.specs.Indexer.{selection_of}
 use Rattle.zarrs_chunk.specs.Selection.{bounds_of}
 use Rattle.zarrs_array_to_array.specs.ArrayToArrayCodec.{coordinates, squeeze}
 use Rattle.zarrs_array_to_array.specs.EncodedSelection.{selection_in}
-use Rattle.zarrs_array_to_array.specs.MappedSelection.{IsImageBy}
+use Rattle.zarrs_codec.specs.MappedSelection.{IsImageBy}
 use Rattle.zarrs_array_to_array.specs.Squeeze.{squeezed}
 use Rattle.zarrs_array_to_array.proofs.Indexers.{squeezed_image}
-use Rattle.zarrs_array_to_array.proofs.squeeze.squeeze_codec.SqueezeCodec.encoded_indexer.Goals as goal
+use Rattle.zarrs_array_to_array.proofs.squeeze.squeeze_codec.SqueezeCodecArrayToArrayCodecTraits.encoded_indexer.Goals as goal
 
 pub returns-clause-places : goal.returns-clause-places
 returns-clause-places c =
-    let sizes = c.args.shape.now in
+    let sizes = c.args.decoded_shape.now in
     let selection = selection_of c.args.indexer.now in
     let inside : bounds_of selection sizes ≡ Ok tt = sym (c.in_ok-check.ensures {u = tt}) in
     let asked = rw c.as_slice.ensures.sizes at c.squeezed_indexer.ensures in
