@@ -22,7 +22,7 @@ use Rattle.zarrs_array_to_array.specs.Orders.{permuted, inverse}
 use Rattle.zarrs_array_to_array.specs.Reshape.{reshaped}
 use Rattle.zarrs_array_to_array.specs.Squeeze.{squeezed}
 use Rattle.zarrs_array_to_array.specs.Transpose.{transposition}
-use Rattle.zarrs_array_to_array.specs.TransposeCodec.{axes_fit, transpose_encoded, transpose_decoded}
+use Rattle.zarrs_array_to_array.specs.TransposeCodec.{axes_fit, transpose_takes, transpose_encoded, transpose_decoded}
 use Rattle.zarrs_array_to_array.proofs.AnswerSteps.{step_ok}
 use Rattle.zarrs_array_to_array.proofs.CodecAnswers.{axes_of}
 use Rattle.zarrs_array_to_array.proofs.CoordinateMaps.{kept_places}
@@ -49,6 +49,16 @@ transpose_encoded-chunk order sizes type held =
 pub transpose_decoded-chunk : (order sizes : List ℕ) (type : ElementType) (held : Held) → transpose_decoded order type sizes held ≡ decoded_chunk (type_taken (transpose order) type) (coordinates (transpose order) sizes) type sizes held
 transpose_decoded-chunk order sizes type held =
     one_chain (type_taken (transpose order) type) (axes_fit order sizes) (validity type (product sizes) held) (checked_u64 (product sizes)) (transposition order sizes) (λ m. moved (undone sizes m) (elements type (product sizes) held))
+
+pub encoded_refused : (order sizes : List ℕ) (type : ElementType) (held : Held) (e : CodecError) (P : Chunk → Type 0) → transpose_takes order type sizes held ≡ Err e → IfOk (encoded_chunk (type_taken (transpose order) type) (coordinates (transpose order) sizes) type sizes held) P
+encoded_refused order sizes type held e P h =
+    let refused : transpose_encoded order type sizes held ≡ Err e = rw h refl in
+    rw (sym (transpose_encoded-chunk order sizes type held) ∙ refused) tt
+
+pub decoded_refused : (order sizes : List ℕ) (type : ElementType) (held : Held) (e : CodecError) (P : Chunk → Type 0) → transpose_takes order type sizes held ≡ Err e → IfOk (decoded_chunk (type_taken (transpose order) type) (coordinates (transpose order) sizes) type sizes held) P
+decoded_refused order sizes type held e P h =
+    let refused : transpose_decoded order type sizes held ≡ Err e = rw h refl in
+    rw (sym (transpose_decoded-chunk order sizes type held) ∙ refused) tt
 
 -- ---- elements that keep their places
 

@@ -3,7 +3,7 @@ use Rattle.zarrs_chunk.specs.Answer.{memory, AnswersBy}
 use Rattle.zarrs_codec.specs.MappedChunk.{encoded_chunk}
 use Rattle.zarrs_array_to_array.specs.ArrayToArrayCodec.{coordinates, transpose}
 use Rattle.zarrs_array_to_array.specs.CodecAnswers.{type_taken}
-use Rattle.zarrs_array_to_array.proofs.MappedChunks.{where_expected, transpose_encoded-chunk}
+use Rattle.zarrs_array_to_array.proofs.MappedChunks.{where_expected, transpose_encoded-chunk, encoded_refused}
 use Rattle.zarrs_array_to_array.proofs.AnswerSteps.{found_by}
 use Rattle.zarrs_array_bytes.specs.Elements.{elements}
 use Rattle.zarrs_array_bytes.specs.Validity.{Holds}
@@ -33,3 +33,7 @@ returns-clause-moved c =
     let held = c.args.bytes in
     where_expected (Holds type) c.transposed.result (encoded_chunk (type_taken (transpose order) type) (coordinates (transpose order) sizes) type sizes held)
     (subst (λ expected. AnswersBy memory (Holds type) c.transposed.result expected) (transpose_encoded-chunk order sizes type held) (returns-clause-exact c))
+
+pub returns-in_err-count-clause-moved : goal.returns-in_err-count-clause-moved
+returns-in_err-count-clause-moved c =
+    encoded_refused c.args.self.now c.args.decoded_shape.now c.args.decoded_data_type.now c.args.bytes c.in_err-count.field-0.0 _ (sym (c.in_err-count.ensures {u = tt}).exact)
