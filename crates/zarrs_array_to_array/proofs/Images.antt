@@ -1,12 +1,12 @@
 -- What the codecs ask for of their encoded chunks lies inside them, at the mapped places.
-use Rattle.std.proofs.Common.{◌≡◌, ◌==◌, ◌&&◌, ◌||◌, nat_lt, nat_le, ℕ, zero, suc, ◌+◌, ◌*◌, ◌<◌, ◌≤◌, Bool, true, false, List, [], ◌∷◌, ◌++◌, length, get_or, replicate, map, Ok, Vec, Global, arith, refl, ap, ap₂, ◌∙◌, sym, inl, inr}
+use Rattle.std.proofs.Common.{◌≡◌, ◌==◌, ◌&&◌, ◌||◌, nat_lt, nat_le, ℕ, zero, suc, ◌+◌, ◌<◌, ◌≤◌, Bool, true, false, List, [], ◌∷◌, ◌++◌, length, get_or, replicate, map, Ok, Vec, Global, arith, refl, ap, ap₂, ◌∙◌, sym, inl, inr}
 use Rattle.std.specs.List.{flat_map, range_with_len, list_all, list_any}
 use Rattle.std.proofs.lemmas.Bool.{cases_Bool, and_parts, and_from}
 use Rattle.std.proofs.lemmas.Bool.Decides.{nat_tests}
 use Rattle.std.proofs.lemmas.List.{append-nil, map-append}
 use Rattle.std.proofs.lemmas.List.Folds.{list_all-append}
 use Rattle.std.proofs.lemmas.Simd.{map-map}
-use Rattle.zarrs_chunk.specs.Answer.{demand, ◌>>=◌}
+use Rattle.zarrs_chunk.specs.Answer.{demand}
 use Rattle.zarrs_chunk.specs.AnswerLaws.{demand_ok}
 use Rattle.zarrs_array_to_array.proofs.AnswerSteps.{step_ok}
 use Rattle.zarrs_chunk.specs.ChunkShape.{product}
@@ -16,7 +16,7 @@ use Rattle.zarrs_chunk.specs.Tuples.{row_major, box_tuples, is_box_inside, is_tu
 use Rattle.zarrs_chunk.specs.declared.codec_error.CodecError.TheVariants.{IncompatibleDimensionality, OutOfBounds}
 use Rattle.zarrs_chunk.proofs.BoxTuples.{box_tuples-nothing}
 use Rattle.zarrs_chunk.proofs.Inside.{is_tuple_inside-length, row_major-below, is_box_inside-lengths}
-use Rattle.zarrs_codec.specs.CoordinateMap.{CoordinateMap, same_places}
+use Rattle.zarrs_codec.specs.CoordinateMap.{same_places}
 use Rattle.zarrs_array_to_array.specs.EncodedSelection.{drops_empty_range, squeezed_lengths, squeezed_region}
 use Rattle.zarrs_codec.specs.MappedSelection.{IsImage}
 use Rattle.zarrs_metadata.specs.Orders.{IsOrder}

@@ -1,6 +1,6 @@
 -- What encoded indexers answer.
-use Rattle.std.proofs.Common.{◌≡◌, ◌==◌, ◌&&◌, nat_lt, nat_le, ℕ, zero, suc, ◌+◌, ◌<◌, ◌≤◌, ◌^◌, ◌/◌, Bool, true, false, List, [], ◌∷◌, ◌++◌, length, get_or, map, drop, Ok, Err, Result, Vec, Global, arith, refl, ap, ap₂, ◌∙◌, sym, inl, inr, if◌then◌else◌}
-use Rattle.std.specs.List.{All, list_all, zip}
+use Rattle.std.proofs.Common.{◌≡◌, ◌==◌, nat_lt, nat_le, ℕ, zero, suc, ◌+◌, ◌<◌, ◌≤◌, ◌^◌, ◌/◌, Bool, true, false, List, [], ◌∷◌, ◌++◌, length, get_or, map, drop, Ok, Err, Result, Vec, Global, arith, refl, ap, ap₂, ◌∙◌, sym, inl, inr, if◌then◌else◌}
+use Rattle.std.specs.List.{All, list_all}
 use Rattle.std.proofs.lemmas.Bool.{cases_Bool, and_parts, and_from}
 use Rattle.std.proofs.lemmas.Bool.Decides.{nat_tests}
 use Rattle.std.proofs.lemmas.List.{append_assoc, drop_more}
@@ -30,7 +30,7 @@ use Rattle.zarrs_array_to_array.specs.Reshape.{reshaped, dims_told, counts_agree
 use Rattle.zarrs_array_to_array.specs.Squeeze.{above_one, or_one, squeezed, kept_indices, or_zero, squeezed_tuple}
 use Rattle.zarrs_array_to_array.specs.Unraveled.{unraveled}
 use Rattle.zarrs_array_to_array.proofs.Chains.{codec_map}
-use Rattle.zarrs_array_to_array.proofs.Images.{subset_inside, squeezed_box_inside, squeezed_image_subset, squeezed_image_indices, transposed_image, reshaped_image}
+use Rattle.zarrs_array_to_array.proofs.Images.{squeezed_box_inside, squeezed_image_subset, squeezed_image_indices, transposed_image, reshaped_image}
 use Rattle.zarrs_metadata.proofs.Orders.{order_parts}
 
 -- ---- numbers that fit

@@ -1,23 +1,21 @@
 -- Encoded and decoded chunks, in the words that all codecs share.
-use Rattle.std.proofs.Common.{◌≡◌, ◌==◌, ◌<◌, not, is_some, ℕ, true, List, length, map, Ok, Err, Result, Some, None, refl, ap, sym, ◌∙◌, IfOk}
-use Rattle.std.specs.List.{All, range_with_len}
+use Rattle.std.proofs.Common.{◌≡◌, ◌==◌, ℕ, true, List, length, Ok, Err, Result, Some, refl, ap, sym, ◌∙◌, IfOk}
 use Rattle.std.proofs.lemmas.List.FromFn.{length-map-range_with_len}
-use Rattle.zarrs_chunk.specs.Answer.{◌>>=◌, demand, checked_u64, AnswersBy, memory, seen}
+use Rattle.zarrs_chunk.specs.Answer.{◌>>=◌, demand, checked_u64, AnswersBy, memory}
 use Rattle.zarrs_chunk.specs.ChunkShape.{product}
 use Rattle.zarrs_chunk.specs.declared.codec_error.CodecError.{CodecError}
-use Rattle.zarrs_chunk.specs.declared.codec_error.CodecError.TheVariants.{UnsupportedDataType, IncompatibleDimensionality}
-use Rattle.zarrs_chunk.specs.declared.codec_error.CodecName.TheVariants.{Transpose}
-use Rattle.zarrs_data_type.specs.ElementType.{ElementType, inner_of}
+use Rattle.zarrs_chunk.specs.declared.codec_error.CodecError.TheVariants.{IncompatibleDimensionality}
+use Rattle.zarrs_data_type.specs.ElementType.{ElementType}
 use Rattle.zarrs_data_type.specs.Element.{Chunk}
 use Rattle.zarrs_array_bytes.specs.Held.{Held}
 use Rattle.zarrs_array_bytes.specs.Elements.{element_at, elements}
 use Rattle.zarrs_array_bytes.specs.Validity.{Holds, validity}
-use Rattle.zarrs_codec.specs.CoordinateMap.{CoordinateMap, IsCoordinateMap, same_places, moved, undone}
-use Rattle.zarrs_codec.specs.MappedChunk.{map_for, encoded_chunk, decoded_chunk, IsSource}
+use Rattle.zarrs_codec.specs.CoordinateMap.{CoordinateMap, same_places, moved, undone}
+use Rattle.zarrs_codec.specs.MappedChunk.{encoded_chunk, decoded_chunk, IsSource}
 use Rattle.zarrs_metadata.specs.Dims.{Dim, is_reshape}
 use Rattle.zarrs_metadata.specs.Orders.{IsOrder}
-use Rattle.zarrs_array_to_array.specs.ArrayToArrayCodec.{ArrayMapping, transpose, reshape, squeeze, coordinates}
-use Rattle.zarrs_array_to_array.specs.CodecAnswers.{type_taken, sizes_before}
+use Rattle.zarrs_array_to_array.specs.ArrayToArrayCodec.{transpose, reshape, squeeze, coordinates}
+use Rattle.zarrs_array_to_array.specs.CodecAnswers.{type_taken}
 use Rattle.zarrs_array_to_array.specs.Orders.{permuted, inverse}
 use Rattle.zarrs_array_to_array.specs.Reshape.{reshaped}
 use Rattle.zarrs_array_to_array.specs.Squeeze.{squeezed}

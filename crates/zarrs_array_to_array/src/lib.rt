@@ -1,4 +1,8 @@
-//! Codecs that move the elements of a chunk.
+//! Codecs that move the elements of a chunk: `transpose` (Zarr v3), `reshape` (zarr-extensions) and
+//! `squeeze` (codec.zarrs.dev).
+//!
+//! Each is a coordinate map: every element of a chunk goes to a place of its own in the encoded
+//! chunk. [`encoded_places`] says where through several codecs, one after another.
 #![tactic(auto)]
 
 mod array_to_array_codec;

@@ -1,4 +1,4 @@
-use Rattle.std.proofs.Common.{◌≡◌, Ok, Some, map, length, refl, ap, sym, ◌∙◌}
+use Rattle.std.proofs.Common.{◌≡◌, Ok, Some, map, refl, ap, sym, ◌∙◌}
 use Rattle.zarrs_chunk.specs.ChunkShape.{shape_of}
 use Rattle.zarrs_array_to_array.proofs.BoxNumbers.{box_empty, shape_of-filled}
 use Rattle.zarrs_array_to_array.proofs.boxes.ordered_box.Goals as goal

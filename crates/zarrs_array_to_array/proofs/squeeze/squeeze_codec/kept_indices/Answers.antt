@@ -1,4 +1,4 @@
-use Rattle.std.proofs.Common.{◌≡◌, ◌<◌, ◌++◌, ◌∷◌, [], length, get_or, drop, ◌+◌, arith, ap, ◌∙◌}
+use Rattle.std.proofs.Common.{◌<◌, ◌++◌, length, drop, ◌+◌, arith, ap, ◌∙◌}
 use Rattle.zarrs_array_to_array.specs.Squeeze.{kept_indices}
 use Rattle.zarrs_array_to_array.proofs.Indexers.{kept_dropped, kept_pushed}
 use Rattle.zarrs_array_to_array.proofs.squeeze.squeeze_codec.kept_indices.Goals as goal

@@ -1,4 +1,4 @@
-use Rattle.std.proofs.Common.{◌≡◌, Ok, map, sym, ap, ◌∙◌}
+use Rattle.std.proofs.Common.{Ok, map, sym, ap, ◌∙◌}
 use Rattle.zarrs_chunk.specs.Indexer.{selection_of}
 use Rattle.zarrs_chunk.proofs.TupleLists.{tuples_inside}
 use Rattle.zarrs_array_to_array.specs.ArrayToArrayCodec.{squeeze}

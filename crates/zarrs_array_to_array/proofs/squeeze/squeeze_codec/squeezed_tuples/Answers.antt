@@ -1,4 +1,4 @@
-use Rattle.std.proofs.Common.{◌≡◌, length, arith, ap, ◌∙◌}
+use Rattle.std.proofs.Common.{length, arith, ap, ◌∙◌}
 use Rattle.zarrs_chunk.proofs.Inside.{is_tuple_inside-length}
 use Rattle.zarrs_array_to_array.proofs.Images.{tuple_inside-at}
 use Rattle.zarrs_array_to_array.proofs.squeeze.squeeze_codec.squeezed_tuples.Goals as goal

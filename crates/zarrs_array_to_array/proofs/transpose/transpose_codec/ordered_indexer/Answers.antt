@@ -1,8 +1,8 @@
-use Rattle.std.proofs.Common.{◌≡◌, ◌<◌, ◌^◌, Ok, map, length, get_or, arith, sym, ap, ◌∙◌, Vec, Global}
+use Rattle.std.proofs.Common.{◌<◌, ◌^◌, Ok, map, arith, ap, ◌∙◌}
 use Rattle.std.specs.List.{All}
 use Rattle.std.proofs.lemmas.List.{get_or_default}
 use Rattle.zarrs_chunk.specs.Indexer.{selection_of}
-use Rattle.zarrs_chunk.specs.Selection.{indices, tuples_of, len_of, bounds_of}
+use Rattle.zarrs_chunk.specs.Selection.{indices, tuples_of}
 use Rattle.zarrs_array_to_array.specs.Orders.{permuted}
 use Rattle.zarrs_array_to_array.proofs.Images.{subset_inside}
 use Rattle.zarrs_array_to_array.proofs.Indexers.{box_fits, box_count, lists_have_axes, ordered_list}

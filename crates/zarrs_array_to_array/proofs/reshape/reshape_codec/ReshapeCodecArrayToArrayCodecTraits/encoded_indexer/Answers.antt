@@ -1,8 +1,7 @@
 use Rattle.std.proofs.Common.{◌≡◌, Ok, map, sym, ap, ◌∙◌}
-use Rattle.zarrs_chunk.specs.Answer.{seen}
 use Rattle.zarrs_chunk.specs.ChunkShape.{product}
 use Rattle.zarrs_chunk.specs.Indexer.{selection_of}
-use Rattle.zarrs_chunk.specs.Selection.{bounds_of, indices}
+use Rattle.zarrs_chunk.specs.Selection.{indices}
 use Rattle.zarrs_array_to_array.specs.ArrayToArrayCodec.{reshape, coordinates}
 use Rattle.zarrs_array_to_array.specs.Unraveled.{unraveled}
 use Rattle.zarrs_array_to_array.proofs.Indexers.{map_count, reshaped_asked, reshaped_image_by}

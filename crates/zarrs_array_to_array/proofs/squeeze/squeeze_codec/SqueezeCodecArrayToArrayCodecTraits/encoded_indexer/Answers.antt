@@ -1,4 +1,4 @@
-use Rattle.std.proofs.Common.{◌≡◌, Ok, sym, ap, ◌∙◌}
+use Rattle.std.proofs.Common.{◌≡◌, Ok, sym}
 use Rattle.zarrs_chunk.specs.Answer.{memory}
 use Rattle.zarrs_chunk.specs.AnswerLaws.{found_from}
 use Rattle.zarrs_chunk.specs.Indexer.{selection_of}

@@ -1,4 +1,4 @@
-use Rattle.std.proofs.Common.{◌≡◌, Ok, true, map, length, ap, sym, ◌∙◌}
+use Rattle.std.proofs.Common.{◌≡◌, Ok, true, map, length, sym, ◌∙◌}
 use Rattle.zarrs_chunk.specs.Answer.{memory}
 use Rattle.zarrs_chunk.specs.AnswerLaws.{found_from}
 use Rattle.zarrs_chunk.specs.Indexer.{selection_of}
