@@ -18,3 +18,4 @@ pub mod Indexers
 pub mod Refusals
 pub mod AnswerSteps
 pub mod MappedChunks
+pub mod Stages

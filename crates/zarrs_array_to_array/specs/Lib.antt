@@ -18,3 +18,4 @@ pub mod CodecAnswers
 pub use Rattle.zarrs_codec.specs.CoordinateMap
 pub use Rattle.zarrs_codec.specs.MappedChunk
 pub use Rattle.zarrs_codec.specs.MappedSelection
+pub mod ArrayToArrayCodecPartial

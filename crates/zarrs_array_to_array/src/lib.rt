@@ -6,6 +6,7 @@
 #![tactic(auto)]
 
 mod array_to_array_codec;
+mod array_to_array_codec_partial;
 mod axis_positions;
 mod boxes;
 pub mod laws;
@@ -15,6 +16,7 @@ mod strides;
 mod transpose;
 
 pub use array_to_array_codec::{ArrayToArrayCodec, encoded_places};
+pub use array_to_array_codec_partial::ArrayToArrayCodecPartial;
 pub use reshape::reshape_codec::ReshapeCodec;
 pub use squeeze::squeeze_codec::SqueezeCodec;
 pub use transpose::transpose_codec::TransposeCodec;

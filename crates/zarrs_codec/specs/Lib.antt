@@ -1,3 +1,4 @@
+pub mod ArrayReader
 pub mod ByteRanges
 pub mod ByteSpan
 pub mod BytesRepresentation

@@ -5,6 +5,7 @@
 //! [`BytesPartialDecoderTraits`]. [`MemoryHandle`] is one whose value is in memory.
 #![tactic(auto)]
 
+mod array_partial_decoder_traits;
 mod array_to_array_codec_traits;
 mod byte_range;
 mod bytes_partial_decoder_traits;
@@ -14,6 +15,7 @@ mod codec_traits;
 mod memory_handle;
 mod refused;
 
+pub use array_partial_decoder_traits::ArrayPartialDecoderTraits;
 pub use array_to_array_codec_traits::ArrayToArrayCodecTraits;
 pub use byte_range::ByteRange;
 pub use bytes_partial_decoder_traits::BytesPartialDecoderTraits;
