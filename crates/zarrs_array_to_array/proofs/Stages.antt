@@ -1,6 +1,6 @@
 -- Readers over the readers of encoded chunks.
-use Rattle.std.proofs.Common.{◌≡◌, Bool, true, false, Result, Ok, Err, List, ℕ, refl, sym, ap, ◌∙◌, IfErr, ◌||◌}
-use Rattle.zarrs_chunk.specs.Answer.{◌>>=◌, Answers, AnswersBy, memory, fault, memory_or_fault, is_fault}
+use Rattle.std.proofs.Common.{◌≡◌, Bool, true, false, Result, Ok, Err, List, ℕ, refl, sym, ◌∙◌, IfErr, ◌||◌}
+use Rattle.zarrs_chunk.specs.Answer.{◌>>=◌, AnswersBy, memory, fault, memory_or_fault}
 use Rattle.zarrs_chunk.specs.Selection.{Selection, bounds_of}
 use Rattle.zarrs_chunk.specs.declared.codec_error.CodecError.{CodecError}
 use Rattle.zarrs_chunk.specs.declared.codec_error.CodecError.TheVariants.{Storage}

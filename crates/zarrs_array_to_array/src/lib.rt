@@ -18,5 +18,8 @@ mod transpose;
 pub use array_to_array_codec::{ArrayToArrayCodec, encoded_places};
 pub use array_to_array_codec_partial::ArrayToArrayCodecPartial;
 pub use reshape::reshape_codec::ReshapeCodec;
+pub use reshape::reshape_codec_partial::ReshapeCodecPartial;
 pub use squeeze::squeeze_codec::SqueezeCodec;
+pub use squeeze::squeeze_codec_partial::SqueezeCodecPartial;
 pub use transpose::transpose_codec::TransposeCodec;
+pub use transpose::transpose_codec_partial::TransposeCodecPartial;
