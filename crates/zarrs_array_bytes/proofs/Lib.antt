@@ -11,5 +11,8 @@ pub mod FilledLemmas
 pub mod WriteLemmas
 pub mod UpdatedLemmas
 pub mod UpdateCalls
+pub mod ElementLaw
+pub mod Stretches
+pub mod Splices
 pub mod UpdateLaw
 pub mod AnswerLemmas

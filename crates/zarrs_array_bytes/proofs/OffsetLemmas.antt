@@ -1,9 +1,9 @@
 -- What follows from offsets that rise.
-use Rattle.std.proofs.Common.{◌≡◌, ℕ, zero, suc, ◌+◌, ◌<◌, ◌≤◌, Bool, true, false, List, [], ◌∷◌, length, map, slice_index, get_or, ◌&&◌, refl, ◌∙◌, arith, leb-true, le-leb, add-one, sub-one, zero-add, length-append}
+use Rattle.std.proofs.Common.{◌≡◌, ℕ, zero, suc, ◌+◌, ◌<◌, ◌≤◌, Bool, true, false, List, [], ◌∷◌, length, map, slice_index, get_or, ◌&&◌, ◌++◌, refl, ap, ◌∙◌, arith, leb-true, le-leb, add-one, sub-one, zero-add, length-append}
 use Rattle.std.proofs.lemmas.Bool.{false≢true}
-use Rattle.std.specs.List.{flat_map}
+use Rattle.std.specs.List.{concat, flat_map}
 use Rattle.zarrs_array_bytes.specs.Offsets.{rises, is_offsets, last_of}
-use Rattle.zarrs_array_bytes.specs.Pieces.{ends, gathered}
+use Rattle.zarrs_array_bytes.specs.Pieces.{ends, bytes_with_offsets}
 
 pub both_true : (a b : Bool) → a && b ≡ true → (a ≡ true) × (b ≡ true)
 both_true true b h = (refl, h)
@@ -44,10 +44,22 @@ last_of-ends : {X : Type 0} (f : X → List ℕ) (at : ℕ) (ps : List X) → la
 last_of-ends f at ps = rw sub-one (at_end f at ps)
 
 -- what is gathered has offsets that rise to its end
-pub gathered_rises : {X : Type 0} (f : X → List ℕ) (xs : List X) → is_offsets (gathered f xs).1 ≡ true
-gathered_rises f xs = ends_rise 0 (map f xs)
+pub offsets_rise : {X : Type 0} (f : X → List ℕ) (xs : List X) → is_offsets (bytes_with_offsets f xs).1 ≡ true
+offsets_rise f xs = ends_rise 0 (map f xs)
 
-pub gathered_ends : {X : Type 0} (f : X → List ℕ) (xs : List X) → last_of (gathered f xs).1 ≡ length (gathered f xs).0
-gathered_ends f xs = last_of-ends f 0 xs ∙ zero-add _
+pub offsets_end : {X : Type 0} (f : X → List ℕ) (xs : List X) → last_of (bytes_with_offsets f xs).1 ≡ length (bytes_with_offsets f xs).0
+offsets_end f xs = last_of-ends f 0 xs ∙ zero-add _
+
+-- the bytes that a function gives are its lists, joined
+pub flat_map-concat : {X : Type 0} (f : X → List ℕ) (xs : List X) → flat_map f xs ≡ concat (map f xs)
+flat_map-concat f [] = refl
+flat_map-concat f (x ∷ xs) = ap (λ ys. f x ++ ys) (flat_map-concat f xs)
+
+-- the ends of some lists, and those of the lists behind them
+pub ends-append : (start : ℕ) (xs ys : List (List ℕ)) → ends start (xs ++ ys) ≡ ends start xs ++ ends (start + length (concat xs)) ys
+ends-append start [] ys = let e : start ≡ start + 0 = omega arith in ap (λ n. ends n ys) e
+ends-append start (x ∷ xs) ys =
+    let e : start + length x + length (concat xs) ≡ start + length (x ++ concat xs) = omega (arith, length-append x (concat xs)) in
+    ap (λ ns. (start + length x) ∷ ns) (ends-append (start + length x) xs ys ∙ ap (λ n. ends (start + length x) xs ++ ends n ys) e)
 
 pub ruleset offsets_facts = (rising_steps, rising_last)

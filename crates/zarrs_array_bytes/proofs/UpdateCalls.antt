@@ -1,22 +1,22 @@
 -- What the calls of an update require, at each kind.
-use Rattle.std.proofs.Common.{◌≡◌, ℕ, suc, ◌+◌, ◌*◌, ◌<◌, ◌≤◌, Bool, true, List, [], ◌∷◌, length, map, map-id, set, Some, Ok, IsOk, refl, sym, ap, ap₂, ◌∙◌, arith, zero}
+use Rattle.std.proofs.Common.{◌≡◌, ℕ, suc, ◌+◌, ◌-◌, ◌*◌, ◌<◌, ◌≤◌, Bool, true, List, [], ◌∷◌, length, map, map-id, set, Some, Ok, IsOk, refl, sym, ap, ap₂, ◌∙◌, arith, zero}
 use Rattle.std.specs.List.{All, concat, list_all, range_with_len}
 use Rattle.std.proofs.lemmas.Simd.{map-map}
 use Rattle.std.proofs.lemmas.List.Folds.{flat_map-map}
 use Rattle.std.proofs.lemmas.List.Elements.{All-cons, All-tail, All-set}
 use Rattle.zarrs_chunk.specs.Runs.{joined_runs}
 use Rattle.zarrs_data_type.specs.ElementType.{ElementType, fixed, text, bytes, optional, element_size, fixed_size_of, inner_of}
-use Rattle.zarrs_array_bytes.specs.Held.{Raw, Held, flen, vlen, masked, owned}
+use Rattle.zarrs_array_bytes.specs.Held.{Raw, Held, flen, vlen, masked, owned_bytes}
 use Rattle.zarrs_array_bytes.specs.Parts.{fixed_part, variable_part, optional_part, bytes_in, offsets_in, inner_in}
 use Rattle.zarrs_array_bytes.specs.Elements.{cut}
-use Rattle.zarrs_array_bytes.specs.Pieces.{pieces, ends, gathered, variable_of}
+use Rattle.zarrs_array_bytes.specs.Pieces.{pieces, ends, bytes_with_offsets, variable_of}
 use Rattle.zarrs_array_bytes.specs.Validity.{LengthRefusal, levels_fit}
-use Rattle.zarrs_array_bytes.specs.Updated.{update, cuts, updated, runs_written}
-use Rattle.zarrs_array_bytes.specs.Sources.{sources, chosen, IsSourceOf}
+use Rattle.zarrs_array_bytes.specs.Update.{update, cuts, cuts_update, container_update, with_runs}
+use Rattle.zarrs_array_bytes.specs.Sources.{sources, source_bytes, IsSourceOf}
 use Rattle.zarrs_array_bytes.specs.declared.sources.Source.TheVariants.{Old, New}
-use Rattle.zarrs_array_bytes.proofs.OffsetLemmas.{gathered_rises, gathered_ends, both_true}
+use Rattle.zarrs_array_bytes.proofs.OffsetLemmas.{offsets_rise, offsets_end, both_true}
 use Rattle.zarrs_array_bytes.proofs.ValidLemmas.{raw_items, fixed_fits, variable_fits, masked_fits, inner_fits}
-use Rattle.zarrs_array_bytes.proofs.WriteLemmas.{map-update, runs_written-update}
+use Rattle.zarrs_array_bytes.proofs.WriteLemmas.{map-update, with_runs-update}
 
 -- two containers of one type have one kind
 pub fixed_too : (r e : LengthRefusal) (t : ElementType) (n m : ℕ) (raw : Raw) (g : Held) → levels_fit r t n (flen raw) ≡ Ok tt → levels_fit e t m g ≡ Ok tt → IsOk (fixed_part g)
@@ -90,19 +90,19 @@ All-update P xs (p ∷ ps) (y ∷ ys) h e = All-update P (set xs p y) ps ys (All
 pub sources_known : (n : ℕ) (ps : List ℕ) → All (IsSourceOf n (length ps)) (sources n ps)
 sources_known n ps = All-update (IsSourceOf n (length ps)) (map Old (range_with_len 0 n)) ps (map New (range_with_len 0 (length ps))) (old_sources n (length ps) 0 n (omega arith)) (new_sources n (length ps) 0 (length ps) (omega arith))
 
-gathered-map : {X : Type 0} (f : X → List ℕ) (xs : List X) → gathered f xs ≡ gathered (λ (part : List ℕ). part) (map f xs)
-gathered-map f xs = ap₂ (λ bs parts. (bs, 0 ∷ ends 0 parts)) (sym (flat_map-map (λ (part : List ℕ). part) f xs)) (sym (map-id (map f xs)))
+bytes_with_offsets-map : {X : Type 0} (f : X → List ℕ) (xs : List X) → bytes_with_offsets f xs ≡ bytes_with_offsets (λ (part : List ℕ). part) (map f xs)
+bytes_with_offsets-map f xs = ap₂ (λ bs parts. (bs, 0 ∷ ends 0 parts)) (sym (flat_map-map (λ (part : List ℕ). part) f xs)) (sym (map-id (map f xs)))
 
 -- what the sources give is an update of what they are taken from
-pub gathered-sources : (f g : ℕ → List ℕ) (n : ℕ) (ps : List ℕ)
-    → gathered (chosen f g) (sources n ps) ≡ gathered (λ (part : List ℕ). part) (update (map f (range_with_len 0 n)) ps (map g (range_with_len 0 (length ps))))
-gathered-sources f g n ps =
-    gathered-map (chosen f g) (sources n ps)
-    ∙ ap (λ parts. gathered (λ (part : List ℕ). part) parts) (map-update (chosen f g) (map Old (range_with_len 0 n)) ps (map New (range_with_len 0 (length ps)))
-    ∙ ap₂ (λ xs ys. update xs ps ys) (map-map (chosen f g) Old (range_with_len 0 n)) (map-map (chosen f g) New (range_with_len 0 (length ps))))
+pub bytes_with_offsets-sources : (f g : ℕ → List ℕ) (n : ℕ) (ps : List ℕ)
+    → bytes_with_offsets (source_bytes f g) (sources n ps) ≡ bytes_with_offsets (λ (part : List ℕ). part) (update (map f (range_with_len 0 n)) ps (map g (range_with_len 0 (length ps))))
+bytes_with_offsets-sources f g n ps =
+    bytes_with_offsets-map (source_bytes f g) (sources n ps)
+    ∙ ap (λ parts. bytes_with_offsets (λ (part : List ℕ). part) parts) (map-update (source_bytes f g) (map Old (range_with_len 0 n)) ps (map New (range_with_len 0 (length ps)))
+    ∙ ap₂ (λ xs ys. update xs ps ys) (map-map (source_bytes f g) Old (range_with_len 0 n)) (map-map (source_bytes f g) New (range_with_len 0 (length ps))))
 
 pub updated_variable : (r e : LengthRefusal) (t : ElementType) (n m : ℕ) (raw : Raw) (os : List ℕ) (g : Held) (ps : List ℕ) → levels_fit r t n (vlen raw os) ≡ Ok tt → levels_fit e t m g ≡ Ok tt
-    → updated t n (vlen raw os) m g ps ≡ variable_of (gathered (λ (part : List ℕ). part) (update (cuts n os raw.items) ps (cuts m (offsets_in g) (bytes_in g))))
+    → container_update t n (vlen raw os) m g ps ≡ variable_of (bytes_with_offsets (λ (part : List ℕ). part) (update (cuts n os raw.items) ps (cuts m (offsets_in g) (bytes_in g))))
 updated_variable r e text n m raw os (vlen q us) ps a b = refl
 updated_variable r e text n m raw os (flen q) ps a b = cc
 updated_variable r e text n m raw os (masked g k) ps a b = cc
@@ -126,15 +126,15 @@ list_all-update test xs [] ys h e = h
 list_all-update test xs (p ∷ ps) [] h e = h
 list_all-update test xs (p ∷ ps) (y ∷ ys) h e = list_all-update test (set xs p y) ps ys (all_set test xs p y h (both_true _ _ e).0) (both_true _ _ e).1
 
-pub ruleset update_calls = (fixed_too, variable_too, optional_too, gathered_rises, gathered_ends, inner_fits, inner_count, raw_items)
+pub ruleset update_calls = (fixed_too, variable_too, optional_too, offsets_rise, offsets_end, inner_fits, inner_count, raw_items)
 
 -- ---- what each kind's call gives
 
 updated_pieces : (r e : LengthRefusal) (t : ElementType) (n m : ℕ) (raw : Raw) (g : Held) (ps : List ℕ) (size : ℕ) → levels_fit r t n (flen raw) ≡ Ok tt → levels_fit e t m g ≡ Ok tt → fixed_size_of t ≡ Some size
-    → updated t n (flen raw) m g ps ≡ flen (owned (concat (update (pieces size n raw.items) ps (pieces size m (bytes_in g)))))
+    → container_update t n (flen raw) m g ps ≡ flen (owned_bytes (concat (update (pieces size n raw.items) ps (pieces size m (bytes_in g)))))
 updated_pieces r e (fixed w c s) n m raw (flen q) ps size a b i =
     let is : element_size w c ≡ size = cc in
-    ap (λ k. flen (owned (concat (update (pieces k n raw.items) ps (pieces k m q.items))))) is
+    ap (λ k. flen (owned_bytes (concat (update (pieces k n raw.items) ps (pieces k m q.items))))) is
 updated_pieces r e (fixed w c s) n m raw (vlen q us) ps size a b i = cc
 updated_pieces r e (fixed w c s) n m raw (masked g k) ps size a b i = cc
 updated_pieces r e text n m raw g ps size a b i = cc
@@ -144,14 +144,26 @@ updated_pieces r e (optional t) n m raw g ps size a b i = cc
 -- runs of bytes that are written make the updated container
 pub written_fixed : (r e : LengthRefusal) (t : ElementType) (n : ℕ) (raw : Raw) (g : Held) (runs : List (ℕ × ℕ)) (size : ℕ) → levels_fit r t n (flen raw) ≡ Ok tt → levels_fit e t (length (joined_runs runs)) g ≡ Ok tt
     → fixed_size_of t ≡ Some size → All (λ run. run.0 + run.1 ≤ n) runs
-    → updated t n (flen raw) (length (joined_runs runs)) g (joined_runs runs) ≡ flen (owned (runs_written size raw.items runs (bytes_in g)))
+    → container_update t n (flen raw) (length (joined_runs runs)) g (joined_runs runs) ≡ flen (owned_bytes (with_runs size raw.items runs (bytes_in g)))
 written_fixed r e t n raw g runs size a b i inside =
     let new : length (bytes_in g) ≡ length (joined_runs runs) * size = fixed_count e t (length (joined_runs runs)) g size b i in
     updated_pieces r e t n (length (joined_runs runs)) raw g (joined_runs runs) size a b i
-    ∙ ap (λ xs. flen (owned xs)) (sym (runs_written-update size n raw.items runs (bytes_in g) (fixed_fits r t n raw size a i) inside (omega arith)))
+    ∙ ap (λ xs. flen (owned_bytes xs)) (sym (with_runs-update size n raw.items runs (bytes_in g) (fixed_fits r t n raw size a i) inside (omega arith)))
 
--- what is gathered from sources makes the updated container
+-- an update of the bytes between offsets makes the updated container
 pub written_variable : (r e : LengthRefusal) (t : ElementType) (n : ℕ) (raw : Raw) (os : List ℕ) (g : Held) (ps : List ℕ) → levels_fit r t n (vlen raw os) ≡ Ok tt → levels_fit e t (length ps) g ≡ Ok tt
-    → updated t n (vlen raw os) (length ps) g ps ≡ variable_of (gathered (chosen (cut os raw.items) (cut (offsets_in g) (bytes_in g))) (sources n ps))
+    → container_update t n (vlen raw os) (length ps) g ps ≡ variable_of (cuts_update os raw.items (offsets_in g) (bytes_in g) ps)
 written_variable r e t n raw os g ps a b =
-    updated_variable r e t n (length ps) raw os g ps a b ∙ ap variable_of (sym (gathered-sources (cut os raw.items) (cut (offsets_in g) (bytes_in g)) n ps))
+    let kind : IsOk (variable_part g) = variable_too r e t n (length ps) raw os g a b in
+    let old : n ≡ length os - 1 = omega (arith, variable_fits r t n raw os a) in
+    let new : length ps ≡ length (offsets_in g) - 1 = omega (arith, variable_count e t (length ps) g b kind) in
+    updated_variable r e t n (length ps) raw os g ps a b
+    ∙ ap₂ (λ k m. variable_of (bytes_with_offsets (λ (part : List ℕ). part) (update (cuts k os raw.items) ps (cuts m (offsets_in g) (bytes_in g))))) old new
+
+-- what the sources give is the update
+pub cuts_update-sources : (os old us new ps : List ℕ) → length us ≡ length ps + 1
+    → bytes_with_offsets (source_bytes (cut os old) (cut us new)) (sources (length os - 1) ps) ≡ cuts_update os old us new ps
+cuts_update-sources os old us new ps e =
+    let count : length ps ≡ length us - 1 = omega (arith, e) in
+    bytes_with_offsets-sources (cut os old) (cut us new) (length os - 1) ps
+    ∙ ap (λ m. bytes_with_offsets (λ (part : List ℕ). part) (update (cuts (length os - 1) os old) ps (cuts m us new))) count

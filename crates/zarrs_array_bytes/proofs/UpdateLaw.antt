@@ -1,7 +1,7 @@
 -- What an update leaves at a place: the data written last there, or the old element.
 use Rattle.std.proofs.Common.{◌≡◌, ◌≢◌, ℕ, zero, suc, ◌<◌, List, [], ◌∷◌, length, set, get_or, refl, sym, ◌∙◌, arith, get_or-set_other, get_or-set_same}
 use Rattle.std.proofs.lemmas.List.{length-set}
-use Rattle.zarrs_array_bytes.specs.Updated.{update}
+use Rattle.zarrs_array_bytes.specs.Update.{update}
 
 pub untouched : {A : Type 0} (c d : List A) (ps : List ℕ) (q : ℕ) (e : A) → ((k : ℕ) → k < length ps → get_or ps k 0 ≢ q) → get_or (update c ps d) q e ≡ get_or c q e
 untouched c d [] q e other = refl

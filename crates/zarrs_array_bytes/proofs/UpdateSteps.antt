@@ -2,7 +2,7 @@
 use Rattle.std.proofs.Common.{◌≡◌, ℕ, zero, suc, ◌+◌, ◌-◌, ◌<◌, List, [], ◌∷◌, ◌++◌, length, map, drop, take, set, get_or, ap, ◌∙◌, ◌*◌, arith, drop-drop}
 use Rattle.std.specs.List.{range_with_len}
 use Rattle.std.proofs.lemmas.List.{drop_more, map-append}
-use Rattle.zarrs_array_bytes.specs.Updated.{update, overwritten, runs_written}
+use Rattle.zarrs_array_bytes.specs.Update.{update, with_items_at, with_runs}
 
 range_more : (a n : ℕ) → range_with_len a (n + 1) ≡ range_with_len a n ++ (a + n) ∷ []
 range_more a zero = let e : a ≡ a + 0 = omega arith in ap (λ x. x ∷ []) e
@@ -26,10 +26,10 @@ update_step f xs ps i next l =
     ∙ ap (λ qs. update xs qs (f next ∷ map f (range_with_len (next + 1) (length ps - (i + 1))))) (drop_more ps i 0 l)
 
 -- one run more
-pub runs_written-step : (size : ℕ) (bytes : List ℕ) (runs : List (ℕ × ℕ)) (new : List ℕ) (i done : ℕ) → i < length runs
-    → runs_written size bytes (drop i runs) (drop done new)
-    ≡ runs_written size (overwritten bytes ((get_or runs i (0, 0)).0 * size) (take ((get_or runs i (0, 0)).1 * size) (drop done new))) (drop (i + 1) runs) (drop (done + (get_or runs i (0, 0)).1 * size) new)
-runs_written-step size bytes runs new i done l =
+pub with_runs-step : (size : ℕ) (bytes : List ℕ) (runs : List (ℕ × ℕ)) (new : List ℕ) (i done : ℕ) → i < length runs
+    → with_runs size bytes (drop i runs) (drop done new)
+    ≡ with_runs size (with_items_at bytes ((get_or runs i (0, 0)).0 * size) (take ((get_or runs i (0, 0)).1 * size) (drop done new))) (drop (i + 1) runs) (drop (done + (get_or runs i (0, 0)).1 * size) new)
+with_runs-step size bytes runs new i done l =
     let run = get_or runs i (0, 0) in
-    ap (λ rs. runs_written size bytes rs (drop done new)) (drop_more runs i (0, 0) l)
-    ∙ ap (λ ns. runs_written size (overwritten bytes (run.0 * size) (take (run.1 * size) (drop done new))) (drop (i + 1) runs) ns) (drop-drop (run.1 * size) done new)
+    ap (λ rs. with_runs size bytes rs (drop done new)) (drop_more runs i (0, 0) l)
+    ∙ ap (λ ns. with_runs size (with_items_at bytes (run.0 * size) (take (run.1 * size) (drop done new))) (drop (i + 1) runs) ns) (drop-drop (run.1 * size) done new)

@@ -8,8 +8,8 @@ use Rattle.std.proofs.lemmas.List.Elements.{All-tail}
 use Rattle.std.proofs.lemmas.List.FromFn.{length-range_with_len}
 use Rattle.zarrs_chunk.specs.Runs.{joined_runs}
 use Rattle.zarrs_array_bytes.specs.Pieces.{pieces}
-use Rattle.zarrs_array_bytes.specs.Updated.{update, overwritten, runs_written}
-use Rattle.zarrs_array_bytes.proofs.Pieces.{length-pieces, pieces-split, pieces-take, pieces-front, concat-pieces}
+use Rattle.zarrs_array_bytes.specs.Update.{update, with_items_at, with_runs}
+use Rattle.zarrs_array_bytes.proofs.Pieces.{length-pieces, pieces-suc, pieces-split, pieces-take, pieces-front, concat-pieces}
 
 -- ---- updates
 
@@ -24,14 +24,14 @@ map-update f xs (p ∷ ps) [] = refl
 map-update f xs (p ∷ ps) (y ∷ ys) = map-update f (set xs p y) ps ys ∙ ap (λ zs. update zs ps (map f ys)) (map-set f xs p y)
 
 -- one list of writes behind another
-update-append : {A : Type 0} (xs : List A) (ps qs : List ℕ) (ys zs : List A) → length ps ≡ length ys → update xs (ps ++ qs) (ys ++ zs) ≡ update (update xs ps ys) qs zs
+pub update-append : {A : Type 0} (xs : List A) (ps qs : List ℕ) (ys zs : List A) → length ps ≡ length ys → update xs (ps ++ qs) (ys ++ zs) ≡ update (update xs ps ys) qs zs
 update-append xs [] qs [] zs e = refl
 update-append xs [] qs (y ∷ ys) zs e = absurd (omega arith)
 update-append xs (p ∷ ps) qs [] zs e = absurd (omega arith)
 update-append xs (p ∷ ps) qs (y ∷ ys) zs e = update-append (set xs p y) ps qs ys zs (omega arith)
 
 -- writes at consecutive places replace a part
-update-run : {A : Type 0} (front mid back new : List A) (at : ℕ) → length front ≡ at → length mid ≡ length new
+pub update-run : {A : Type 0} (front mid back new : List A) (at : ℕ) → length front ≡ at → length mid ≡ length new
     → update (front ++ (mid ++ back)) (range_with_len at (length new)) new ≡ front ++ (new ++ back)
 update-run front [] back [] at e f = refl
 update-run front (m ∷ mid) back [] at e f = absurd (omega arith)
@@ -43,9 +43,9 @@ update-run front (m ∷ mid) back (n ∷ new) at e f =
     ∙ append_assoc front (n ∷ []) (new ++ back)
 
 -- the pieces behind a run that is written
-pieces-overwritten : (size n start len : ℕ) (old new : List ℕ) → length old ≡ n * size → start + len ≤ n → length new ≡ len * size
-    → pieces size n (overwritten old (start * size) new) ≡ update (pieces size n old) (range_with_len start len) (pieces size len new)
-pieces-overwritten size n start len old new whole inside long =
+pieces-with_items_at : (size n start len : ℕ) (old new : List ℕ) → length old ≡ n * size → start + len ≤ n → length new ≡ len * size
+    → pieces size n (with_items_at old (start * size) new) ≡ update (pieces size n old) (range_with_len start len) (pieces size len new)
+pieces-with_items_at size n start len old new whole inside long =
     let rest : ℕ = n - start - len in
     let count : n ≡ start + (len + rest) = omega arith in
     let room : (start + len) * size ≤ n * size = mul-le-mul_right size inside in
@@ -70,10 +70,10 @@ pieces-overwritten size n start len old new whole inside long =
     ∙ ap₂ (λ xs k. update xs (range_with_len start k) (pieces size len new)) (sym olds) lens
 
 -- writing runs is an update of the pieces
-pub runs_written-update : (size n : ℕ) (old : List ℕ) (runs : List (ℕ × ℕ)) (new : List ℕ) → length old ≡ n * size → All (λ run. run.0 + run.1 ≤ n) runs → length (joined_runs runs) * size ≤ length new
-    → runs_written size old runs new ≡ concat (update (pieces size n old) (joined_runs runs) (pieces size (length (joined_runs runs)) new))
-runs_written-update size n old [] new whole inside enough = sym (concat-pieces size n old whole)
-runs_written-update size n old (run ∷ runs) new whole inside enough =
+pub with_runs-update : (size n : ℕ) (old : List ℕ) (runs : List (ℕ × ℕ)) (new : List ℕ) → length old ≡ n * size → All (λ run. run.0 + run.1 ≤ n) runs → length (joined_runs runs) * size ≤ length new
+    → with_runs size old runs new ≡ concat (update (pieces size n old) (joined_runs runs) (pieces size (length (joined_runs runs)) new))
+with_runs-update size n old [] new whole inside enough = sym (concat-pieces size n old whole)
+with_runs-update size n old (run ∷ runs) new whole inside enough =
     let places : List ℕ = range_with_len run.0 run.1 in
     let m : ℕ = length (joined_runs runs) in
     let places-len : length places ≡ run.1 = length-range_with_len run.0 run.1 in
@@ -87,15 +87,15 @@ runs_written-update size n old (run ∷ runs) new whole inside enough =
     let here : run.0 + run.1 ≤ n = inside 0 run (omega arith) in
     let room : (run.0 + run.1) * size ≤ n * size = mul-le-mul_right size here in
     let apart : (run.0 + run.1) * size ≡ run.0 * size + run.1 * size = omega arith in
-    let wrote : List ℕ = overwritten old (run.0 * size) part in
+    let wrote : List ℕ = with_items_at old (run.0 * size) part in
     let front-len : length (take (run.0 * size) old) ≡ run.0 * size = length-take-le (run.0 * size) old (omega arith) in
     let wrote-len : length wrote ≡ n * size =
     omega (arith, length-append (take (run.0 * size) old) (part ++ drop (run.0 * size + length part) old), length-append part (drop (run.0 * size + length part) old), length-drop (run.0 * size + length part) old, front-len, part-len) in
     let news : pieces size (run.1 + m) new ≡ pieces size run.1 part ++ pieces size m rest =
     pieces-split size run.1 m new ∙ ap (λ ps. ps ++ pieces size m rest) (sym (pieces-take size run.1 new)) in
     let lens : length places ≡ length (pieces size run.1 part) = places-len ∙ sym (length-pieces size run.1 part) in
-    runs_written-update size n wrote runs rest wrote-len (All-tail (λ (r : ℕ × ℕ). r.0 + r.1 ≤ n) run runs inside) rest-len
-    ∙ ap (λ ps. concat (update ps (joined_runs runs) (pieces size m rest))) (pieces-overwritten size n run.0 run.1 old part whole here part-len)
+    with_runs-update size n wrote runs rest wrote-len (All-tail (λ (r : ℕ × ℕ). r.0 + r.1 ≤ n) run runs inside) rest-len
+    ∙ ap (λ ps. concat (update ps (joined_runs runs) (pieces size m rest))) (pieces-with_items_at size n run.0 run.1 old part whole here part-len)
     ∙ ap concat (sym (update-append (pieces size n old) places (joined_runs runs) (pieces size run.1 part) (pieces size m rest) lens))
     ∙ ap (λ ps. concat (update (pieces size n old) (places ++ joined_runs runs) ps)) (sym news)
     ∙ ap (λ k. concat (update (pieces size n old) (places ++ joined_runs runs) (pieces size k new))) (sym count)
@@ -110,13 +110,13 @@ pieces-single : (xs : List ℕ) (n : ℕ) → length xs ≡ n → pieces 1 n xs 
 pieces-single [] zero e = refl
 pieces-single [] (suc n) e = absurd (omega arith)
 pieces-single (x ∷ xs) zero e = absurd (omega arith)
-pieces-single (x ∷ xs) (suc n) e = ap (λ ps. (x ∷ []) ∷ ps) (pieces-single xs n (omega arith))
+pieces-single (x ∷ xs) (suc n) e = pieces-suc 1 n (x ∷ xs) ∙ ap (λ ps. (x ∷ []) ∷ ps) (pieces-single xs n (omega arith))
 
 -- writing runs of flags is an update
 pub flags_written-update : (n : ℕ) (old : List ℕ) (runs : List (ℕ × ℕ)) (new : List ℕ) → length old ≡ n → All (λ run. run.0 + run.1 ≤ n) runs → length new ≡ length (joined_runs runs)
-    → runs_written 1 old runs new ≡ update old (joined_runs runs) new
+    → with_runs 1 old runs new ≡ update old (joined_runs runs) new
 flags_written-update n old runs new whole inside long =
     let places : List ℕ = joined_runs runs in
-    runs_written-update 1 n old runs new (omega arith) inside (omega arith)
+    with_runs-update 1 n old runs new (omega arith) inside (omega arith)
     ∙ ap₂ (λ xs ys. concat (update xs places ys)) (pieces-single old n whole) (pieces-single new (length places) long)
     ∙ ap concat (sym (map-update (λ x. x ∷ []) old places new)) ∙ concat-single (update old places new)

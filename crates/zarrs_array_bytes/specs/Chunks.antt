@@ -11,7 +11,7 @@ use Rattle.zarrs_data_type.specs.Element.{Chunk, fill_element}
 use Rattle.zarrs_array_bytes.specs.Held.{Held}
 use Rattle.zarrs_array_bytes.specs.Elements.{elements, select}
 use Rattle.zarrs_array_bytes.specs.Validity.{sizes_fit, validity, data_fit}
-use Rattle.zarrs_array_bytes.specs.Updated.{update}
+use Rattle.zarrs_array_bytes.specs.Update.{update}
 
 -- so many fill elements, or the first cause why they can't be made
 abbrev pub fill_chunk : ElementType → ℕ → List ℕ → Result Chunk CodecError
@@ -20,17 +20,32 @@ fill_chunk type count fill = do
   _ ← sizes_fit type count
   Ok (replicate count (fill_element type fill))
 
+-- the elements at these places of a container of so many, or the first cause why there are none
+abbrev pub chunk_at : ElementType → ℕ → List ℕ → Held → Result Chunk CodecError
+chunk_at type count places held = do
+  _ ← validity type count held
+  Ok (select (elements type count held) places)
+
 -- the selection at the selected places, or the first cause why there is none
 abbrev pub selected_chunk : ElementType → List ℕ → Selection → Held → Result Chunk CodecError
 selected_chunk type sizes selection held = do
   places ← places_of selection sizes
-  _ ← validity type (product sizes) held
-  Ok (select (elements type (product sizes) held) places)
+  chunk_at type (product sizes) places held
+
+-- the old elements have the type and their count, and there is one new element of the type for each place, or the first cause why not
+abbrev pub update_fit : ElementType → ℕ → List ℕ → Held → Held → Result (Unit {0}) CodecError
+update_fit type count places held new = do
+  _ ← validity type count held
+  data_fit type (length places) new
+
+-- the chunk with the elements at these places replaced by the new ones, or the first cause why it can't be made
+abbrev pub update_at_places : ElementType → ℕ → List ℕ → Held → Held → Result Chunk CodecError
+update_at_places type count places held new = do
+  _ ← update_fit type count places held new
+  Ok (update (elements type count held) places (elements type (length places) new))
 
 -- the chunk with the elements at the selected places replaced by the new ones, or the first cause why it can't be made
-abbrev pub updated_chunk : ElementType → List ℕ → Selection → Held → Held → Result Chunk CodecError
-updated_chunk type sizes selection held new = do
+abbrev pub chunk_update : ElementType → List ℕ → Selection → Held → Held → Result Chunk CodecError
+chunk_update type sizes selection held new = do
   places ← places_of selection sizes
-  _ ← validity type (product sizes) held
-  _ ← data_fit type (length places) new
-  Ok (update (elements type (product sizes) held) places (elements type (length places) new))
+  update_at_places type (product sizes) places held new

@@ -5,7 +5,7 @@ use Rattle.zarrs_data_type.specs.ElementType.{ElementType, fixed, text, bytes, o
 use Rattle.zarrs_data_type.specs.Element.{Element, plain, absent, present, Chunk}
 use Rattle.zarrs_array_bytes.specs.Held.{Held, flen, vlen, masked}
 
--- the bytes of the element at a place, where each has so many
+-- the bytes of the element at a place, where each element has `size` of them
 abbrev pub piece : ℕ → List ℕ → ℕ → List ℕ
 piece size items place = between (place * size) (place * size + size) items
 
@@ -13,10 +13,10 @@ piece size items place = between (place * size) (place * size + size) items
 abbrev pub cut : List ℕ → List ℕ → ℕ → List ℕ
 cut offsets items place = between (slice_index offsets place) (slice_index offsets (place + 1)) items
 
--- what a mask byte makes of an element: 0 is absent
-abbrev pub flagged : ℕ → Element → Element
-flagged zero element = absent
-flagged (suc byte) element = present element
+-- an optional element, by its mask byte and the element under it: absent where the byte is 0
+abbrev pub under_flag : ℕ → Element → Element
+under_flag zero element = absent
+under_flag (suc byte) element = present element
 
 -- the element at a place
 abbrev pub element_at : ElementType → Held → ℕ → Element
@@ -24,7 +24,7 @@ element_at (fixed width count sign) (flen raw) place = plain (piece (element_siz
 element_at text (vlen raw offsets) place = plain (cut offsets raw.items place)
 element_at bytes (vlen raw offsets) place = plain (cut offsets raw.items place)
 element_at (optional type) (masked inner mask) place =
-    flagged (slice_index mask.items place) (element_at type inner place)
+    under_flag (slice_index mask.items place) (element_at type inner place)
 element_at _ _ place = absent
 
 -- the elements at so many places, in order

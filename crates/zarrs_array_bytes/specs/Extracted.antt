@@ -2,19 +2,19 @@
 use Rattle.std.specs.Prelude.{ℕ, ◌<◌, ◌^◌, List, length, map, slice_index}
 use Rattle.std.specs.List.{flat_map}
 use Rattle.zarrs_data_type.specs.ElementType.{ElementType, fixed, text, bytes, optional, element_size}
-use Rattle.zarrs_array_bytes.specs.Held.{Held, flen, vlen, masked, owned}
+use Rattle.zarrs_array_bytes.specs.Held.{Held, flen, vlen, masked, owned_bytes}
 use Rattle.zarrs_array_bytes.specs.Elements.{piece, cut}
-use Rattle.zarrs_array_bytes.specs.Pieces.{gathered, variable_of}
+use Rattle.zarrs_array_bytes.specs.Pieces.{bytes_with_offsets, variable_of}
 
--- the bytes at the places, one after another, and at each optional level the flags
-abbrev pub extracted : ElementType → Held → List ℕ → Held
-extracted (fixed width count sign) (flen raw) places =
-    flen (owned (flat_map (piece (element_size width count) raw.items) places))
-extracted text (vlen raw offsets) places = variable_of (gathered (cut offsets raw.items) places)
-extracted bytes (vlen raw offsets) places = variable_of (gathered (cut offsets raw.items) places)
-extracted (optional type) (masked inner mask) places =
-    masked (extracted type inner places) (owned (map (slice_index mask.items) places))
-extracted _ held places = held
+-- a container of the elements at the places: their bytes one after another, and at each optional level their mask bytes
+abbrev pub container_selection : ElementType → Held → List ℕ → Held
+container_selection (fixed width count sign) (flen raw) places =
+    flen (owned_bytes (flat_map (piece (element_size width count) raw.items) places))
+container_selection text (vlen raw offsets) places = variable_of (bytes_with_offsets (cut offsets raw.items) places)
+container_selection bytes (vlen raw offsets) places = variable_of (bytes_with_offsets (cut offsets raw.items) places)
+container_selection (optional type) (masked inner mask) places =
+    masked (container_selection type inner places) (owned_bytes (map (slice_index mask.items) places))
+container_selection _ held places = held
 
 -- what is kept in memory has fewer than 2 ^ 64 bytes, and fewer than 2 ^ 64 offsets
 abbrev pub IsSmall : Held → Type 0

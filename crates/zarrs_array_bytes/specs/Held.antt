@@ -16,8 +16,8 @@ raw_of (cow.Borrowed r) = record { items = r.now; is_owned = false }
 raw_of (cow.Owned v) = record { items = v.items; is_owned = true }
 
 -- bytes that the container owns
-abbrev pub owned : List ℕ → Raw
-owned items = record { items = items; is_owned = true }
+abbrev pub owned_bytes : List ℕ → Raw
+owned_bytes items = record { items = items; is_owned = true }
 
 -- Elements of one size, one after another; elements of any length, one after another, with where each begins and the last one ends; or elements under a mask with one byte for each, 0 for absent and 1 for present.
 pub data Held : Type 0 where
@@ -31,11 +31,11 @@ mask_levels (flen raw) = 0
 mask_levels (vlen raw offsets) = 0
 mask_levels (masked inner mask) = mask_levels inner + 1
 
--- the bytes, plus 8 for each offset, plus one for each mask byte
-abbrev pub size_of : Held → ℕ
-size_of (flen raw) = length raw.items
-size_of (vlen raw offsets) = length raw.items + 8 * length offsets
-size_of (masked inner mask) = size_of inner + length mask.items
+-- how many bytes a container takes: those of its elements, 8 for each offset, one for each mask byte
+abbrev pub byte_count : Held → ℕ
+byte_count (flen raw) = length raw.items
+byte_count (vlen raw offsets) = length raw.items + 8 * length offsets
+byte_count (masked inner mask) = byte_count inner + length mask.items
 
 -- bytes are stored as a pair
 abbrev raw_code : Coded Raw

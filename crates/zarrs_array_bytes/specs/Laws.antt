@@ -1,8 +1,15 @@
 -- Laws over the definitions alone.
 use Rattle.std.specs.Prelude.{◌≡◌, ◌≢◌, ℕ, ◌<◌, List, length, get_or}
-use Rattle.zarrs_data_type.specs.Element.{absent, Chunk}
+use Rattle.zarrs_data_type.specs.ElementType.{ElementType}
+use Rattle.zarrs_data_type.specs.Element.{absent, Chunk, AreElements}
+use Rattle.zarrs_array_bytes.specs.Held.{Held}
 use Rattle.zarrs_array_bytes.specs.Elements.{select}
-use Rattle.zarrs_array_bytes.specs.Updated.{update}
+use Rattle.zarrs_array_bytes.specs.Validity.{Holds}
+use Rattle.zarrs_array_bytes.specs.Update.{update}
+
+-- What a container holds as elements of a type are elements of that type.
+abbrev pub HeldAreElements : Type 0
+HeldAreElements = (type : ElementType) (held : Held) (chunk : Chunk) → Holds type held chunk → AreElements type chunk
 
 -- no write is at the place
 abbrev pub IsUntouched : List ℕ → ℕ → Type 0

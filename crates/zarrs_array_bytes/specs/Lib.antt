@@ -12,6 +12,6 @@ pub mod Pieces
 pub mod Extracted
 pub mod Filled
 pub mod Sources
-pub mod Updated
+pub mod Update
 pub mod Chunks
 pub mod Laws

@@ -1,22 +1,22 @@
 -- Byte lists that stand one after another.
-use Rattle.std.specs.Prelude.{ℕ, zero, suc, ◌+◌, List, [], ◌∷◌, length, map, take, drop}
-use Rattle.std.specs.List.{flat_map}
-use Rattle.zarrs_array_bytes.specs.Held.{Held, vlen, owned}
+use Rattle.std.specs.Prelude.{ℕ, ◌+◌, List, [], ◌∷◌, length, map}
+use Rattle.std.specs.List.{flat_map, range_with_len}
+use Rattle.zarrs_array_bytes.specs.Held.{Held, vlen, owned_bytes}
+use Rattle.zarrs_array_bytes.specs.Elements.{piece}
 
--- so many pieces of a size, from the front
+-- the first `count` pieces of `size` items
 abbrev pub pieces : ℕ → ℕ → List ℕ → List (List ℕ)
-pieces size zero items = []
-pieces size (suc count) items = take size items ∷ pieces size count (drop size items)
+pieces size count items = map (piece size items) (range_with_len 0 count)
 
--- where each list ends, if the first one begins here
+-- where each list ends, if the first one begins at `start`
 abbrev pub ends : ℕ → List (List ℕ) → List ℕ
-ends at [] = []
-ends at (first ∷ rest) = (at + length first) ∷ ends (at + length first) rest
+ends start [] = []
+ends start (first ∷ rest) = (start + length first) ∷ ends (start + length first) rest
 
--- the bytes that a function gives, one after another, and where each begins and the last one ends
-abbrev pub gathered : {X : Type 0} → (X → List ℕ) → List X → List ℕ × List ℕ
-gathered f xs = (flat_map f xs, 0 ∷ ends 0 (map f xs))
+-- the bytes that a function gives for each of the items, one after another, and their offsets: where each begins, and where the last one ends
+abbrev pub bytes_with_offsets : {X : Type 0} → (X → List ℕ) → List X → List ℕ × List ℕ
+bytes_with_offsets f xs = (flat_map f xs, 0 ∷ ends 0 (map f xs))
 
 -- a container of bytes and offsets
 abbrev pub variable_of : List ℕ × List ℕ → Held
-variable_of parts = vlen (owned parts.0) parts.1
+variable_of parts = vlen (owned_bytes parts.0) parts.1

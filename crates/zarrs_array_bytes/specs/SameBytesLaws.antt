@@ -3,14 +3,14 @@ use Rattle.std.proofs.Common.{◌≡◌, ℕ, Bool, true, false, List, [], ◌�
 use Rattle.std.proofs.lemmas.Bool.{false≢true}
 use Rattle.std.specs.Cmp.{IsEquivalence, both_ways}
 use Rattle.std.specs.Cmp.Lexicographic.{pointwise}
-use Rattle.zarrs_array_bytes.specs.Held.{Held, flen, vlen, masked, owned}
+use Rattle.zarrs_array_bytes.specs.Held.{Held, flen, vlen, masked, owned_bytes}
 use Rattle.zarrs_array_bytes.specs.SameBytes.{is_same_raw, is_same_held}
 
--- the container with its bytes owned
+-- the container with its bytes owned_bytes
 abbrev contents : Held → Held
-contents (flen r) = flen (owned r.items)
-contents (vlen r os) = vlen (owned r.items) os
-contents (masked h m) = masked (contents h) (owned m.items)
+contents (flen r) = flen (owned_bytes r.items)
+contents (vlen r os) = vlen (owned_bytes r.items) os
+contents (masked h m) = masked (contents h) (owned_bytes m.items)
 
 both_true : (a b : Bool) → a && b ≡ true → (a ≡ true) × (b ≡ true)
 both_true true b h = (refl, h)
@@ -28,17 +28,17 @@ numbers_same [] = refl
 numbers_same (x ∷ xs) = ap (λ b. b && pointwise nat_eq xs xs) (eq-eqb x x refl) ∙ numbers_same xs
 
 same_contents : (h g : Held) → is_same_held h g ≡ true → contents h ≡ contents g
-same_contents (flen r) (flen q) e = ap (λ xs. flen (owned xs)) (same_numbers _ _ e)
+same_contents (flen r) (flen q) e = ap (λ xs. flen (owned_bytes xs)) (same_numbers _ _ e)
 same_contents (flen r) (vlen q us) e = absurd (false≢true e)
 same_contents (flen r) (masked g k) e = absurd (false≢true e)
 same_contents (vlen r os) (flen q) e = absurd (false≢true e)
 same_contents (vlen r os) (vlen q us) e =
-    ap (λ xs. vlen (owned xs) os) (same_numbers _ _ (both_true _ _ e).0) ∙ ap (vlen (owned q.items)) (same_numbers _ _ (both_true _ _ e).1)
+    ap (λ xs. vlen (owned_bytes xs) os) (same_numbers _ _ (both_true _ _ e).0) ∙ ap (vlen (owned_bytes q.items)) (same_numbers _ _ (both_true _ _ e).1)
 same_contents (vlen r os) (masked g k) e = absurd (false≢true e)
 same_contents (masked h m) (flen q) e = absurd (false≢true e)
 same_contents (masked h m) (vlen q us) e = absurd (false≢true e)
 same_contents (masked h m) (masked g k) e =
-    ap (λ x. masked x (owned m.items)) (same_contents h g (both_true _ _ e).0) ∙ ap (λ xs. masked (contents g) (owned xs)) (same_numbers _ _ (both_true _ _ e).1)
+    ap (λ x. masked x (owned_bytes m.items)) (same_contents h g (both_true _ _ e).0) ∙ ap (λ xs. masked (contents g) (owned_bytes xs)) (same_numbers _ _ (both_true _ _ e).1)
 
 same_itself : (h : Held) → is_same_held h h ≡ true
 same_itself (flen r) = numbers_same r.items

@@ -1,7 +1,7 @@
 -- Where each element of an updated container comes from.
 use Rattle.std.specs.Prelude.{ℕ, ◌<◌, List, length, map}
 use Rattle.std.specs.List.{range_with_len}
-use Rattle.zarrs_array_bytes.specs.Updated.{update}
+use Rattle.zarrs_array_bytes.specs.Update.{update}
 use Rattle.zarrs_array_bytes.specs.declared.sources.Source.{Source}
 use Rattle.zarrs_array_bytes.specs.declared.sources.Source.TheVariants.{Old, New}
 
@@ -10,9 +10,9 @@ abbrev pub sources : ℕ → List ℕ → List Source
 sources count places = update (map Old (range_with_len 0 count)) places (map New (range_with_len 0 (length places)))
 
 -- what the source gives, from the old elements or the new ones
-abbrev pub chosen : (ℕ → List ℕ) → (ℕ → List ℕ) → Source → List ℕ
-chosen old new (Old place) = old place
-chosen old new (New place) = new place
+abbrev pub source_bytes : (ℕ → List ℕ) → (ℕ → List ℕ) → Source → List ℕ
+source_bytes old new (Old place) = old place
+source_bytes old new (New place) = new place
 
 -- the source is one of so many old or new elements
 abbrev pub IsSourceOf : ℕ → ℕ → Source → Type 0

@@ -15,11 +15,11 @@ sizes_fit text count = demand (nat_lt (count + 1) (2 ^ 64)) Overflow
 sizes_fit bytes count = demand (nat_lt (count + 1) (2 ^ 64)) Overflow
 sizes_fit (optional type) count = sizes_fit type count
 
--- what a length that is found in place of the one that is due is refused as
+-- the refusal of a wrong length, made from the length that was found and the one that was due
 abbrev pub LengthRefusal : Type 0
 LengthRefusal = ℕ → ℕ → CodecError
 
--- the length that is found is the one that is due
+-- the length that was found is the one that was due
 abbrev pub length_is : LengthRefusal → ℕ → ℕ → Result (Unit {0}) CodecError
 length_is refusal found expected = demand (found == expected) (refusal found expected)
 

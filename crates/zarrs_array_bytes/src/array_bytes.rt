@@ -1,7 +1,7 @@
-ghost use Rattle.std.specs.Prelude.{◌≡◌, ◌<◌, ◌^◌, Ok, IfOk, IsOk, true, false, min, length};
+ghost use Rattle.std.specs.Prelude.{◌≡◌, ◌<◌, ◌^◌, ℕ, List, Ok, IfOk, true, false, min, length};
 ghost use Rattle.std.specs.Cmp.{partial_equiv_from_equiv};
 ghost use Rattle.zarrs_chunk.specs.Answer.{Answers, memory, seen, is_fault};
-ghost use Rattle.zarrs_array_bytes.specs.Held.{flen, vlen, masked, owned, raw_of, size_of};
+ghost use Rattle.zarrs_array_bytes.specs.Held.{Held, flen, vlen, masked, owned_bytes, raw_of, byte_count, mask_levels};
 ghost use Rattle.zarrs_array_bytes.specs.Offsets.{is_offsets, last_of};
 ghost use Rattle.zarrs_array_bytes.specs.Extracted.{IsSmall};
 ghost use Rattle.zarrs_array_bytes.specs.SameBytes.{is_same_held};
@@ -62,7 +62,7 @@ impl<'a> Model for ArrayBytes<'a> {
 impl<'a> ArrayBytes<'a> {
     /// Elements of one size, one after another.
     pub fn new_flen(bytes: ArrayBytesRaw<'a>) -> ArrayBytes<'a>
-        ensures { result ≡ flen (raw_of bytes.entry) }
+        ensures made { result ≡ flen (raw_of bytes.entry) }
     {
         ArrayBytes {
             parts: Parts::Fixed(bytes),
@@ -76,7 +76,7 @@ impl<'a> ArrayBytes<'a> {
         bytes: ArrayBytesRaw<'a>,
         offsets: ArrayBytesOffsets,
     ) -> Result<ArrayBytes<'a>, CodecError>
-        ensures { result ≡ with_offsets (raw_of bytes.entry) offsets }
+        ensures answer { result ≡ with_offsets (raw_of bytes.entry) offsets }
     {
         let ends = offsets.as_slice();
         if ends[ends.len() - 1] != bytes.len() {
@@ -94,7 +94,7 @@ impl<'a> ArrayBytes<'a> {
         alloc: Global,
         mask: ArrayBytesRaw<'a>,
     ) -> Result<ArrayBytes<'a>, CodecError>
-        ensures { Answers memory (λ array. array) result (with_mask self.entry (raw_of mask.entry)) }
+        ensures answer { Answers memory (λ array. array) result (with_mask self.entry (raw_of mask.entry)) }
     {
         if !is_mask(mask.as_slice()) {
             return Err(CodecError::MaskValue);
@@ -107,7 +107,7 @@ impl<'a> ArrayBytes<'a> {
     pub(crate) fn of_variable(bytes: Vec<u8>, offsets: Vec<usize>) -> ArrayBytes<'a>
         requires rising { is_offsets offsets.items ≡ true }
         requires ending { last_of offsets.items ≡ length bytes.items }
-        ensures { result ≡ vlen (owned bytes.items) offsets.items }
+        ensures { result ≡ vlen (owned_bytes bytes.items) offsets.items }
     {
         ArrayBytes {
             parts: Parts::Variable(
@@ -124,7 +124,7 @@ impl<'a> ArrayBytes<'a> {
     ) -> Result<ArrayBytes<'a>, CodecError>
         requires { list_all (λ byte. nat_lt byte 2) mask.items ≡ true }
         ensures small { IfOk result (λ array. IsSmall inner.entry → IsSmall array) }
-        ensures exact { Answers memory (λ array. array) result (Ok (masked inner.entry (owned mask.items))) }
+        ensures exact { Answers memory (λ array. array) result (Ok (masked inner.entry (owned_bytes mask.items))) }
         ensures no_fault { is_fault result ≡ false }
     {
         Ok(ArrayBytes {
@@ -134,7 +134,7 @@ impl<'a> ArrayBytes<'a> {
 
     /// The bytes of elements of one size. Refusals: `ArrayBytesKind` for any other elements.
     pub fn into_fixed(self) -> Result<ArrayBytesRaw<'a>, CodecError>
-        ensures { seen raw_of result ≡ fixed_part self.entry }
+        ensures answer { seen raw_of result ≡ fixed_part self.entry }
     {
         match self.parts {
             Parts::Fixed(bytes) => Ok(bytes),
@@ -145,7 +145,7 @@ impl<'a> ArrayBytes<'a> {
     /// The bytes and offsets of elements of any length. Refusals: `ArrayBytesKind` for any other
     /// elements.
     pub fn into_variable(self) -> Result<(ArrayBytesRaw<'a>, ArrayBytesOffsets), CodecError>
-        ensures { seen (λ parts. (raw_of parts.0, parts.1)) result ≡ variable_part self.entry }
+        ensures answer { seen (λ parts. (raw_of parts.0, parts.1)) result ≡ variable_part self.entry }
     {
         match self.parts {
             Parts::Variable(bytes, offsets) => Ok((bytes, offsets)),
@@ -156,7 +156,7 @@ impl<'a> ArrayBytes<'a> {
     /// What stands under the outermost mask, and that mask. Refusals: `ArrayBytesKind` for elements
     /// without a mask.
     pub fn into_optional(self) -> Result<(Box<ArrayBytes<'a>>, ArrayBytesRaw<'a>), CodecError>
-        ensures { seen (λ parts. (parts.0.value, raw_of parts.1)) result ≡ optional_part self.entry }
+        ensures answer { seen (λ parts. (parts.0.value, raw_of parts.1)) result ≡ optional_part self.entry }
     {
         match self.parts {
             Parts::Optional(inner, mask) => Ok((inner, mask)),
@@ -164,10 +164,45 @@ impl<'a> ArrayBytes<'a> {
         }
     }
 
-    /// The bytes, plus 8 for each offset, plus one for each mask byte; `usize::MAX` where the sum
-    /// passes it.
+    /// The bytes of elements of one size, lent. Refusals: `ArrayBytesKind` for any other elements.
+    pub fn as_fixed(&self) -> Result<&[u8], CodecError>
+        ensures answer { seen (λ bytes. bytes.now) result ≡ seen (λ raw. raw.items) (fixed_part self.now) }
+    {
+        match &self.parts {
+            Parts::Fixed(bytes) => Ok(bytes.as_slice()),
+            _ => Err(CodecError::ArrayBytesKind),
+        }
+    }
+
+    /// The bytes and offsets of elements of any length, lent. Refusals: `ArrayBytesKind` for any other
+    /// elements.
+    pub fn as_variable(&self) -> Result<(&[u8], &ArrayBytesOffsets), CodecError>
+        ensures answer { seen {Y = List ℕ × List ℕ} (λ parts. (parts.0.now, parts.1.now)) result ≡ seen (λ parts. (parts.0.items, parts.1)) (variable_part self.now) }
+        ensures ending { IfOk result (λ parts. last_of parts.1.now ≡ length parts.0.now) }
+    {
+        match &self.parts {
+            Parts::Variable(bytes, offsets) => Ok((bytes.as_slice(), offsets)),
+            _ => Err(CodecError::ArrayBytesKind),
+        }
+    }
+
+    /// What stands under the outermost mask, and that mask, lent: a byte for each element, 0 for
+    /// absent and 1 for present. Refusals: `ArrayBytesKind` for elements without a mask.
+    pub fn as_optional(&self) -> Result<(&ArrayBytes<'a>, &[u8]), CodecError>
+        ensures answer { seen {Y = Held × List ℕ} (λ parts. (parts.0.now, parts.1.now)) result ≡ seen (λ parts. (parts.0, parts.1.items)) (optional_part self.now) }
+        ensures mask { IfOk result (λ parts. list_all (λ byte. nat_lt byte 2) parts.1.now ≡ true) }
+        ensures inside { IfOk result (λ parts. mask_levels parts.0.now < mask_levels self.now) }
+    {
+        match &self.parts {
+            Parts::Optional(inner, mask) => Ok((inner, mask.as_slice())),
+            _ => Err(CodecError::ArrayBytesKind),
+        }
+    }
+
+    /// How many bytes these are: those of the elements, 8 for each offset, and one for each mask byte;
+    /// `usize::MAX` where the sum passes it.
     pub fn size(&self) -> usize
-        ensures { result ≡ min (size_of self.now) usize.MAX }
+        ensures value { result ≡ min (byte_count self.now) usize.MAX }
     {
         match &self.parts {
             Parts::Fixed(bytes) => bytes.len(),
@@ -237,7 +272,7 @@ impl<'a> ArrayBytes<'a> {
 
     /// An equal container, in which borrowed bytes stay borrowed. Refusals: `OutOfMemory`.
     pub fn clone(&self) -> Result<ArrayBytes<'a>, CodecError>
-        ensures { Answers memory (λ copy. copy) result (Ok self.now) }
+        ensures copy { Answers memory (λ copy. copy) result (Ok self.now) }
     {
         let parts = match &self.parts {
             Parts::Fixed(bytes) => Parts::Fixed(clone_raw(bytes)?),

@@ -31,7 +31,7 @@ impl ArrayBytesOffsets {
     /// The offsets, one more than elements. Refusals: `InvalidOffsets` where there is none, or one
     /// is less than the one before.
     pub fn new(offsets: Vec<usize>) -> Result<ArrayBytesOffsets, CodecError>
-        ensures { result ≡ offsets_of offsets.items }
+        ensures answer { result ≡ offsets_of offsets.items }
     {
         if !are_rising(offsets.as_slice()) {
             return Err(CodecError::InvalidOffsets);
@@ -56,7 +56,7 @@ impl ArrayBytesOffsets {
 
     /// Equal offsets. Refusals: `OutOfMemory`.
     pub fn clone(&self) -> Result<ArrayBytesOffsets, CodecError>
-        ensures { Answers memory (λ copy. copy) result (Ok self.now) }
+        ensures copy { Answers memory (λ copy. copy) result (Ok self.now) }
     {
         let offsets = self.offsets.clone()?;
         Ok(ArrayBytesOffsets { offsets })

@@ -3,22 +3,20 @@ ghost use Rattle.zarrs_chunk.specs.declared.codec_error.CodecError.TheVariants.{
 ghost use Rattle.zarrs_chunk.specs.Answer.{Answers, AnswersBy, memory, is_fault};
 ghost use Rattle.zarrs_chunk.specs.Indexer.{selection_of};
 ghost use Rattle.zarrs_chunk.specs.Runs.{joined_runs};
-ghost use Rattle.zarrs_array_bytes.specs.Validity.{Holds, levels_fit, validity};
-ghost use Rattle.zarrs_array_bytes.specs.Extracted.{extracted, IsSmall};
-ghost use Rattle.zarrs_array_bytes.specs.Chunks.{selected_chunk};
-ghost use Rattle.zarrs_array_bytes.specs.Elements.{elements, select};
+ghost use Rattle.zarrs_array_bytes.specs.Validity.{Holds, levels_fit};
+ghost use Rattle.zarrs_array_bytes.specs.Extracted.{container_selection, IsSmall};
+ghost use Rattle.zarrs_array_bytes.specs.Chunks.{chunk_at, selected_chunk};
 
 use crate::array_bytes::{ArrayBytes, Parts};
 use crate::gather::{gather_cuts, gather_flags, gather_pieces};
-use crate::runs::places_of_runs;
 use std::alloc::Global;
 use std::borrow::CowSlice;
 use zarrs_chunk::{ChunkShape, CodecError, Indexer};
 use zarrs_data_type::DataType;
 
 impl<'a> ArrayBytes<'a> {
-    /// The elements of a chunk of this shape and type at the indexer's tuples, in their order. Elements
-    /// of one size are copied a run at a time. Refusals, the first that holds, `OutOfMemory` aside:
+    /// The elements of a chunk of this shape and type at the indexer's tuples, in their order. The bytes
+    /// of a run are copied at once. Refusals, the first that holds, `OutOfMemory` aside:
     /// those of the indexer (`IncompatibleDimensionality`, `OutOfBounds`, and `Overflow` where the
     /// shape has `2^64` elements or more), and then those of `validate` at the shape's element count.
     pub fn extract_array_subset(
@@ -33,13 +31,12 @@ impl<'a> ArrayBytes<'a> {
     {
         let runs = indexer.runs(alloc, shape)?;
         let count = shape.num_elements()?;
-        self.validate(count, data_type)?;
-        self.at_runs(alloc, runs.as_slice(), count, data_type)
+        self.extract_runs(alloc, runs.as_slice(), count, data_type)
     }
 
-    /// The elements of a chunk at the runs of places, in their order, for callers that know that the
-    /// container holds `count` elements of the type. Elements of one size are copied a run at a time.
-    /// Refusals: `OutOfMemory`.
+    /// The elements at the places of the runs, each a start and a length, in their order, of a chunk of
+    /// `count` elements of the type. The bytes of a run are copied at once. Refusals, the first that
+    /// holds, `OutOfMemory` aside: those of `validate` at `count`.
     pub fn extract_runs<'b>(
         &self,
         alloc: Global,
@@ -47,11 +44,11 @@ impl<'a> ArrayBytes<'a> {
         count: u64,
         data_type: &DataType,
     ) -> Result<ArrayBytes<'b>, CodecError>
-        requires valid { validity data_type.now count self.now ≡ Ok tt }
         requires inside { All (λ run. run.0 + run.1 ≤ count) runs.now }
-        ensures exact { AnswersBy memory (Holds data_type.now) result (Ok (select (elements data_type.now count self.now) (joined_runs runs.now))) }
+        ensures answer { AnswersBy memory (Holds data_type.now) result (chunk_at data_type.now count (joined_runs runs.now) self.now) }
         ensures no_fault { is_fault result ≡ false }
     {
+        self.validate(count, data_type)?;
         self.at_runs(alloc, runs, count, data_type)
     }
 
@@ -66,7 +63,7 @@ impl<'a> ArrayBytes<'a> {
         requires valid { levels_fit InvalidBytesLength data_type.now count self.now ≡ Ok tt }
         requires inside { All (λ run. run.0 + run.1 ≤ count) runs.now }
         ensures small { IfOk result IsSmall }
-        ensures exact { Answers memory (λ array. array) result (Ok (extracted data_type.now self.now (joined_runs runs.now))) }
+        ensures exact { Answers memory (λ array. array) result (Ok (container_selection data_type.now self.now (joined_runs runs.now))) }
         ensures no_fault { is_fault result ≡ false }
     {
         match &self.parts {
@@ -76,13 +73,8 @@ impl<'a> ArrayBytes<'a> {
                 Ok(ArrayBytes::new_flen(CowSlice::Owned(bytes)))
             }
             Parts::Variable(bytes, offsets) => {
-                let places = places_of_runs(alloc, runs)?;
-                let (bytes, offsets) = gather_cuts(
-                    alloc,
-                    bytes.as_slice(),
-                    offsets.as_slice(),
-                    places.as_slice(),
-                )?;
+                let (bytes, offsets) =
+                    gather_cuts(alloc, bytes.as_slice(), offsets.as_slice(), runs)?;
                 Ok(ArrayBytes::of_variable(bytes, offsets))
             }
             Parts::Optional(inner, mask) => {

@@ -2,7 +2,7 @@ ghost use Rattle.std.specs.Prelude.{◌≡◌, Ok, IfOk, false};
 ghost use Rattle.zarrs_chunk.specs.Answer.{Answers, AnswersBy, memory, is_fault};
 ghost use Rattle.zarrs_array_bytes.specs.Validity.{Holds, sizes_fit};
 ghost use Rattle.zarrs_array_bytes.specs.Extracted.{IsSmall};
-ghost use Rattle.zarrs_array_bytes.specs.Filled.{blank_elements as blank_of, filled as filled_of};
+ghost use Rattle.zarrs_array_bytes.specs.Filled.{blank_elements as blank_of, container_fill};
 ghost use Rattle.zarrs_array_bytes.specs.Chunks.{fill_chunk};
 
 use crate::array_bytes::ArrayBytes;
@@ -24,6 +24,7 @@ impl<'a> ArrayBytes<'a> {
         fill_value: &FillValue,
     ) -> Result<ArrayBytes<'a>, CodecError>
         ensures exact { AnswersBy memory (Holds data_type.now) result (fill_chunk data_type.now count fill_value.now) }
+        ensures held { IfOk result (λ array. array ≡ container_fill data_type.now count fill_value.now) }
         ensures no_fault { is_fault result ≡ false }
     {
         if !fill_value.fits(data_type) {
@@ -69,7 +70,7 @@ fn fill_elements<'a>(
 ) -> Result<ArrayBytes<'a>, CodecError>
     requires { sizes_fit data_type.now count ≡ Ok tt }
     ensures small { IfOk result IsSmall }
-    ensures exact { Answers memory (λ array. array) result (Ok (filled_of data_type.now count fill.now)) }
+    ensures exact { Answers memory (λ array. array) result (Ok (container_fill data_type.now count fill.now)) }
     ensures no_fault { is_fault result ≡ false }
 {
     if let Some(inner) = data_type.as_optional() {

@@ -1,13 +1,13 @@
-ghost use Rattle.std.specs.Prelude.{◌≡◌, ◌+◌, ◌-◌, ◌*◌, ◌<◌, ◌^◌, ◌≤◌, All, Ok, IfOk, length, map, slice_index, true, false};
-ghost use Rattle.std.specs.List.{flat_map};
+ghost use Rattle.std.specs.Prelude.{◌≡◌, ◌+◌, ◌-◌, ◌*◌, ◌<◌, ◌^◌, ◌≤◌, ◌++◌, All, Ok, IfOk, OnOk, length, map, slice_index, true, false};
+ghost use Rattle.std.specs.List.{flat_map, range_with_len};
 ghost use Rattle.zarrs_chunk.specs.Answer.{Answers, memory, is_fault};
 ghost use Rattle.zarrs_chunk.specs.Runs.{joined_runs};
 ghost use Rattle.zarrs_array_bytes.specs.Elements.{piece, cut};
 ghost use Rattle.zarrs_array_bytes.specs.Offsets.{is_offsets, last_of};
-ghost use Rattle.zarrs_array_bytes.specs.Pieces.{gathered};
+ghost use Rattle.zarrs_array_bytes.specs.Pieces.{bytes_with_offsets, ends as ends_of};
 
-use crate::runs::bytes_of_runs;
-use std::alloc::Global;
+use crate::runs::{bytes_of_cuts, bytes_of_runs};
+use std::alloc::{AllocError, Global};
 use zarrs_chunk::CodecError;
 
 /// The bytes of the elements of `size` at the runs, one copy a run.
@@ -31,7 +31,7 @@ pub(crate) fn gather_pieces(
     Ok(out)
 }
 
-/// The flags at the runs.
+/// The mask bytes at the runs.
 pub(crate) fn gather_flags(
     alloc: Global,
     flags: &[u8],
@@ -44,28 +44,76 @@ pub(crate) fn gather_flags(
     gather_pieces(alloc, flags, 1, runs)
 }
 
-/// The bytes between the offsets at these places, and where each then begins and ends.
+/// The bytes of the elements between the offsets at the runs, and their offsets: one copy of bytes and
+/// one of offsets a run.
 pub(crate) fn gather_cuts(
     alloc: Global,
     bytes: &[u8],
     offsets: &[usize],
-    places: &[u64],
+    runs: &[(u64, u64)],
 ) -> Result<(Vec<u8>, Vec<usize>), CodecError>
     requires rising { is_offsets offsets.now ≡ true }
     requires ending { last_of offsets.now ≡ length bytes.now }
-    requires known { All (λ place. place < length offsets.now - 1) places.now }
+    requires inside { All (λ run. run.0 + run.1 < length offsets.now) runs.now }
     ensures small { IfOk result (λ parts. length parts.1.items < 2 ^ 64) }
-    ensures exact { Answers memory (λ parts. (parts.0.items, parts.1.items)) result (Ok (gathered (cut offsets.now bytes.now) places.now)) }
+    ensures exact { Answers memory (λ parts. (parts.0.items, parts.1.items)) result (Ok (bytes_with_offsets (cut offsets.now bytes.now) (joined_runs runs.now))) }
     ensures no_fault { is_fault result ≡ false }
 {
-    let mut out = Vec::new(alloc);
-    let mut ends = Vec::with_capacity(alloc, places.len().saturating_add(1))?;
+    let mut out = Vec::with_capacity(alloc, bytes_of_cuts(runs, offsets))?;
+    let mut ends = Vec::with_capacity(alloc, bytes_of_runs(runs, 1).saturating_add(1))?;
     ends.push(0)?;
-    for place in places {
-        out.extend_from_slice(cut_of(bytes, offsets, *place as usize))?;
-        ends.push(out.len())?;
+    for run in runs {
+        append_cuts(&mut out, &mut ends, bytes, offsets, run.0 as usize, run.1 as usize)?;
     }
     Ok((out, ends))
+}
+
+/// Appends the bytes of the `count` elements from `first` on, which stand one behind another, and
+/// where each ends behind the bytes that are there already.
+pub(crate) fn append_cuts(
+    out: &mut Vec<u8>,
+    ends: &mut Vec<usize>,
+    bytes: &[u8],
+    offsets: &[usize],
+    first: usize,
+    count: usize,
+) -> Result<(), AllocError>
+    requires rising { is_offsets offsets.now ≡ true }
+    requires ending { last_of offsets.now ≡ length bytes.now }
+    requires inside { first + count < length offsets.now }
+    ensures bytes { OnOk result (out.new.items ≡ out.old.items ++ flat_map (cut offsets.now bytes.now) (range_with_len first count)) }
+    ensures ends { OnOk result (ends.new.items ≡ ends.old.items ++ ends_of (length out.old.items) (map (cut offsets.now bytes.now) (range_with_len first count))) }
+{
+    let start = out.len();
+    let from = offsets[first];
+    out.extend_from_slice(bytes_of_run(bytes, offsets, first, count))?;
+    append_moved(ends, &offsets[first + 1..first + count + 1], from, start)
+}
+
+/// The bytes of the `count` elements from `first` on.
+#[tactic(auto, using(crate::proofs::RunLemmas::run_facts))]
+fn bytes_of_run<'a>(bytes: &'a [u8], offsets: &[usize], first: usize, count: usize) -> &'a [u8]
+    requires rising { is_offsets offsets.now ≡ true }
+    requires ending { last_of offsets.now ≡ length bytes.now }
+    requires inside { first + count < length offsets.now }
+    ensures bytes { result.now ≡ flat_map (cut offsets.now bytes.now) (range_with_len first count) }
+    ensures len { length result.now ≡ slice_index offsets.now (first + count) - slice_index offsets.now first }
+{
+    &bytes[offsets[first]..offsets[first + count]]
+}
+
+/// Appends the offsets, counted from `start` where they were counted from `from`.
+fn append_moved(
+    out: &mut Vec<usize>,
+    offsets: &[usize],
+    from: usize,
+    start: usize,
+) -> Result<(), AllocError>
+    requires behind { All (λ offset. from ≤ offset) offsets.now }
+    requires fits { All (λ offset. offset - from + start < 2 ^ 64) offsets.now }
+    ensures appended { OnOk result (out.new.items ≡ out.old.items ++ map (λ offset. offset - from + start) offsets.now) }
+{
+    out.extend(offsets.iter().map(|offset| *offset - from + start))
 }
 
 /// The bytes between two offsets.

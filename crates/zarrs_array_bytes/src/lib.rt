@@ -13,6 +13,7 @@ pub mod laws;
 mod repeat;
 mod runs;
 mod sources;
+mod splice;
 mod update;
 mod validate;
 mod write;
@@ -20,7 +21,5 @@ mod write;
 pub use array_bytes::ArrayBytes;
 pub use array_bytes_offsets::ArrayBytesOffsets;
 pub use array_bytes_raw::ArrayBytesRaw;
-pub use update::update_array_bytes;
-
-#[cfg(test)]
-mod tests;
+pub use repeat::append_copies;
+pub use update::{update_array_bytes, update_runs};

@@ -1,69 +1,93 @@
-ghost use Rattle.std.specs.Prelude.{◌≡◌, ℕ, ◌^◌, ◌<◌, ◌++◌, Ok, IfOk, OnOk, length, replicate, false};
+ghost use Rattle.std.specs.Prelude.{◌≡◌, ◌+◌, ◌*◌, ◌^◌, ◌<◌, ◌++◌, Ok, IfOk, OnOk, length, map, replicate, false};
+ghost use Rattle.std.specs.List.{range_with_len};
 ghost use Rattle.zarrs_chunk.specs.Answer.{Answers, memory, is_fault};
-ghost use Rattle.zarrs_array_bytes.specs.Filled.{repeated, same};
-ghost use Rattle.zarrs_array_bytes.specs.Pieces.{gathered};
+ghost use Rattle.zarrs_array_bytes.specs.Filled.{copies};
+ghost use Rattle.zarrs_array_bytes.specs.Pieces.{bytes_with_offsets};
 
 use std::alloc::{AllocError, Global};
 use zarrs_chunk::CodecError;
 
-/// The bytes, `count` times.
-pub(crate) fn repeat_bytes(alloc: Global, bytes: &[u8], count: u64) -> Result<Vec<u8>, CodecError>
-    ensures small { IfOk result (λ v. length v.items < 2 ^ 64) }
-    ensures exact { Answers memory (λ v. v.items) result (Ok (repeated bytes.now count)) }
-    ensures no_fault { is_fault result ≡ false }
+/// Appends these bytes `count` times. Room for all of them is made first. Where that is refused, some
+/// of the copies may stand behind the old bytes. Refusals: `AllocError`.
+pub fn append_copies(out: &mut Vec<u8>, bytes: &[u8], count: u64) -> Result<(), AllocError>
+    ensures appended { OnOk result (out.new.items ≡ out.old.items ++ copies bytes.now count) }
 {
-    match bytes {
-        [byte] => same_bytes(alloc, *byte, count),
-        _ => repeat_slice(alloc, bytes, count),
+    out.reserve(bytes.len().saturating_mul(count as usize))?;
+    append_blocks(out, bytes, count)
+}
+
+/// Appends the bytes `count` times: one byte as by `memset`, many copies of a few bytes by blocks of
+/// 16 copies, and those by blocks again, since each append costs as much as the copy of some dozen
+/// bytes.
+fn append_blocks(out: &mut Vec<u8>, bytes: &[u8], count: u64) -> Result<(), AllocError>
+    ensures appended { OnOk result (out.new.items ≡ out.old.items ++ copies bytes.now count) }
+{
+    if let [byte] = bytes {
+        return append_byte(out, *byte, count);
+    }
+    if count < 64 || 256 <= bytes.len() {
+        return append_each(out, bytes, count);
+    }
+    let mut block = Vec::with_capacity(*out.allocator(), bytes.len() * 16)?;
+    append_each(&mut block, bytes, 16)?;
+    append_blocks(out, block.as_slice(), count / 16)?;
+    append_each(out, bytes, count % 16)
+}
+
+/// Appends the byte `count` times.
+fn append_byte(out: &mut Vec<u8>, byte: u8, count: u64) -> Result<(), AllocError>
+    ensures appended { OnOk result (out.new.items ≡ out.old.items ++ replicate count byte) }
+{
+    match out.len().checked_add(count as usize) {
+        Some(len) => out.resize(len, byte),
+        None => append_each(out, &[byte], count),
     }
 }
 
-/// Appends the bytes `count` times.
-fn append_copies(out: &mut Vec<u8>, bytes: &[u8], count: u64) -> Result<(), AllocError>
-    ensures { OnOk result (out.new.items ≡ out.old.items ++ repeated bytes.now count) }
+/// Appends the bytes `count` times, one by one.
+fn append_each(out: &mut Vec<u8>, bytes: &[u8], count: u64) -> Result<(), AllocError>
+    ensures appended { OnOk result (out.new.items ≡ out.old.items ++ copies bytes.now count) }
 {
-    for _i in 0..count {
+    for _copy in 0..count {
         out.extend_from_slice(bytes)?;
     }
     Ok(())
 }
 
-/// Many copies are made by blocks of 128, since each append costs as much as some dozen bytes.
-fn repeat_slice(alloc: Global, bytes: &[u8], count: u64) -> Result<Vec<u8>, CodecError>
+/// The bytes, `count` times.
+pub(crate) fn repeat_bytes(alloc: Global, bytes: &[u8], count: u64) -> Result<Vec<u8>, CodecError>
     ensures small { IfOk result (λ v. length v.items < 2 ^ 64) }
-    ensures exact { Answers memory (λ v. v.items) result (Ok (repeated bytes.now count)) }
+    ensures exact { Answers memory (λ v. v.items) result (Ok (copies bytes.now count)) }
     ensures no_fault { is_fault result ≡ false }
 {
     let mut out = Vec::with_capacity(alloc, bytes.len().saturating_mul(count as usize))?;
-    if count < 2048 {
-        append_copies(&mut out, bytes, count)?;
-        return Ok(out);
-    }
-    let mut block = Vec::with_capacity(alloc, bytes.len().saturating_mul(128))?;
-    append_copies(&mut block, bytes, 128)?;
-    append_copies(&mut out, block.as_slice(), count / 128)?;
-    append_copies(&mut out, bytes, count % 128)?;
+    append_copies(&mut out, bytes, count)?;
     Ok(out)
 }
 
-/// `count` elements of these bytes, and where each begins and ends.
+/// `count` elements of these bytes, and their offsets.
 pub(crate) fn repeat_cuts(
     alloc: Global,
     bytes: &[u8],
     count: u64,
 ) -> Result<(Vec<u8>, Vec<usize>), CodecError>
     ensures small { IfOk result (λ parts. length parts.1.items < 2 ^ 64) }
-    ensures exact { Answers memory (λ parts. (parts.0.items, parts.1.items)) result (Ok (gathered (same bytes.now) (replicate count 0))) }
+    ensures exact { Answers memory (λ parts. (parts.0.items, parts.1.items)) result (Ok (bytes_with_offsets (λ part. part) (replicate count bytes.now))) }
     ensures no_fault { is_fault result ≡ false }
 {
-    let mut out = Vec::with_capacity(alloc, bytes.len().saturating_mul(count as usize))?;
+    let out = repeat_bytes(alloc, bytes, count)?;
     let mut ends = Vec::with_capacity(alloc, (count as usize).saturating_add(1))?;
     ends.push(0)?;
-    for _i in 0..count {
-        out.extend_from_slice(bytes)?;
-        ends.push(out.len())?;
-    }
+    append_ends(&mut ends, bytes.len(), count as usize)?;
     Ok((out, ends))
+}
+
+/// Appends where each of `count` elements of `size` bytes ends, if the first one begins at 0.
+fn append_ends(ends: &mut Vec<usize>, size: usize, count: usize) -> Result<(), AllocError>
+    requires fits { count * size < 2 ^ 64 }
+    ensures appended { OnOk result (ends.new.items ≡ ends.old.items ++ map (λ place. place * size + size) (range_with_len 0 count)) }
+{
+    ends.extend((0..count).map(|place| place * size + size))
 }
 
 /// `count` such bytes.

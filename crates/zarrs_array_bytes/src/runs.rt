@@ -25,6 +25,19 @@ pub(crate) fn bytes_of_runs(runs: &[(u64, u64)], size: usize) -> usize {
     (count as usize).saturating_mul(size)
 }
 
+/// How many bytes to reserve for the elements between the offsets at the runs.
+pub(crate) fn bytes_of_cuts(runs: &[(u64, u64)], offsets: &[usize]) -> usize
+    requires { All (λ run. run.0 + run.1 < length offsets.now) runs.now }
+{
+    let mut count: usize = 0;
+    for run in runs {
+        let from = run.0 as usize;
+        let to = from + run.1 as usize;
+        count = count.saturating_add(offsets[to].saturating_sub(offsets[from]));
+    }
+    count
+}
+
 /// The places of the runs, in order.
 pub(crate) fn places_of_runs(alloc: Global, runs: &[(u64, u64)]) -> Result<Vec<u64>, CodecError>
     requires { All (λ run. run.0 + run.1 < 2 ^ 64) runs.now }

@@ -3,11 +3,13 @@ ghost use Rattle.zarrs_chunk.specs.Answer.{Answers, memory, is_fault};
 ghost use Rattle.zarrs_chunk.specs.Runs.{joined_runs};
 ghost use Rattle.zarrs_array_bytes.specs.Elements.{cut};
 ghost use Rattle.zarrs_array_bytes.specs.Offsets.{is_offsets, last_of};
-ghost use Rattle.zarrs_array_bytes.specs.Pieces.{gathered};
-ghost use Rattle.zarrs_array_bytes.specs.Sources.{sources, chosen, IsSourceOf};
+ghost use Rattle.zarrs_array_bytes.specs.Pieces.{bytes_with_offsets};
+ghost use Rattle.zarrs_array_bytes.specs.Sources.{sources, source_bytes, IsSourceOf};
+ghost use Rattle.zarrs_array_bytes.specs.Update.{cuts_update};
 
 use crate::gather::cut_of;
 use crate::runs::places_of_runs;
+use crate::splice::{are_rising, splice_cuts};
 use std::alloc::Global;
 use zarrs_chunk::CodecError;
 
@@ -36,9 +38,12 @@ pub(crate) fn written_cuts(
     requires inside { All (λ run. run.0 + run.1 ≤ length old_offsets.now - 1) runs.now }
     requires enough { length new_offsets.now ≡ length (joined_runs runs.now) + 1 }
     ensures exact { Answers memory (λ parts. (parts.0.items, parts.1.items)) result
-        (Ok (gathered (chosen (cut old_offsets.now old.now) (cut new_offsets.now new.now)) (sources (length old_offsets.now - 1) (joined_runs runs.now)))) }
+        (Ok (cuts_update old_offsets.now old.now new_offsets.now new.now (joined_runs runs.now))) }
     ensures no_fault { is_fault result ≡ false }
 {
+    if are_rising(runs) {
+        return splice_cuts(alloc, old, old_offsets, new, new_offsets, runs);
+    }
     let places = places_of_runs(alloc, runs)?;
     let from = sources_of(alloc, old_offsets.len() - 1, places.as_slice())?;
     gather_sources(alloc, old, old_offsets, new, new_offsets, from.as_slice())
@@ -46,7 +51,7 @@ pub(crate) fn written_cuts(
 
 /// For each of `count` places, where its element comes from after writes at these places.
 fn sources_of(alloc: Global, count: usize, places: &[u64]) -> Result<Vec<Source>, CodecError>
-    requires { All (λ place. place < count) places.now }
+    requires inside { All (λ place. place < count) places.now }
     ensures exact { Answers memory (λ v. v.items) result (Ok (sources count places.now)) }
     ensures no_fault { is_fault result ≡ false }
 {
@@ -77,19 +82,59 @@ fn gather_sources(
     requires new_ending { last_of new_offsets.now ≡ length new.now }
     requires known { All (IsSourceOf (length old_offsets.now - 1) (length new_offsets.now - 1)) from.now }
     ensures exact { Answers memory (λ parts. (parts.0.items, parts.1.items)) result
-        (Ok (gathered (chosen (cut old_offsets.now old.now) (cut new_offsets.now new.now)) from.now)) }
+        (Ok (bytes_with_offsets (source_bytes (cut old_offsets.now old.now) (cut new_offsets.now new.now)) from.now)) }
     ensures no_fault { is_fault result ≡ false }
 {
-    let mut out = Vec::new(alloc);
+    let room = bytes_of_sources(old, old_offsets, new, new_offsets, from);
+    let mut out = Vec::with_capacity(alloc, room)?;
     let mut ends = Vec::with_capacity(alloc, from.len().saturating_add(1))?;
     ends.push(0)?;
     for source in from {
-        let part = match *source {
-            Source::Old(place) => cut_of(old, old_offsets, place),
-            Source::New(place) => cut_of(new, new_offsets, place),
-        };
-        out.extend_from_slice(part)?;
+        out.extend_from_slice(bytes_at(old, old_offsets, new, new_offsets, *source))?;
         ends.push(out.len())?;
     }
     Ok((out, ends))
+}
+
+/// How many bytes to reserve for the elements at these sources.
+fn bytes_of_sources(
+    old: &[u8],
+    old_offsets: &[usize],
+    new: &[u8],
+    new_offsets: &[usize],
+    from: &[Source],
+) -> usize
+    requires old_rising { is_offsets old_offsets.now ≡ true }
+    requires old_ending { last_of old_offsets.now ≡ length old.now }
+    requires new_rising { is_offsets new_offsets.now ≡ true }
+    requires new_ending { last_of new_offsets.now ≡ length new.now }
+    requires known { All (IsSourceOf (length old_offsets.now - 1) (length new_offsets.now - 1)) from.now }
+{
+    let mut len: usize = 0;
+    for source in from {
+        let part = bytes_at(old, old_offsets, new, new_offsets, *source);
+        len = len.saturating_add(part.len());
+    }
+    len
+}
+
+/// The bytes of the element at a source.
+fn bytes_at<'a>(
+    old: &'a [u8],
+    old_offsets: &[usize],
+    new: &'a [u8],
+    new_offsets: &[usize],
+    source: Source,
+) -> &'a [u8]
+    requires old_rising { is_offsets old_offsets.now ≡ true }
+    requires old_ending { last_of old_offsets.now ≡ length old.now }
+    requires new_rising { is_offsets new_offsets.now ≡ true }
+    requires new_ending { last_of new_offsets.now ≡ length new.now }
+    requires known { IsSourceOf (length old_offsets.now - 1) (length new_offsets.now - 1) source }
+    ensures bytes { result.now ≡ source_bytes (cut old_offsets.now old.now) (cut new_offsets.now new.now) source }
+{
+    match source {
+        Source::Old(place) => cut_of(old, old_offsets, place),
+        Source::New(place) => cut_of(new, new_offsets, place),
+    }
 }

@@ -1,17 +1,20 @@
-ghost use Rattle.std.specs.Prelude.{◌≡◌, ◌+◌, ◌≤◌, ◌<◌, Ok, IsOk, IfOk, All, length, nat_lt, true, false};
+ghost use Rattle.std.specs.Prelude.{◌≡◌, ◌+◌, ◌*◌, ◌-◌, ◌≤◌, ◌<◌, Ok, IsOk, All, length, nat_lt, true, false};
 ghost use Rattle.std.specs.List.{list_all};
 ghost use Rattle.zarrs_chunk.specs.declared.codec_error.CodecError.TheVariants.{InvalidBytesLength};
 ghost use Rattle.zarrs_chunk.specs.Answer.{Answers, AnswersBy, memory, is_fault};
 ghost use Rattle.zarrs_chunk.specs.Indexer.{selection_of};
 ghost use Rattle.zarrs_chunk.specs.Runs.{joined_runs};
-ghost use Rattle.zarrs_array_bytes.specs.Held.{mask_levels};
+ghost use Rattle.zarrs_array_bytes.specs.Held.{flen, masked, owned_bytes, mask_levels, raw_of};
 ghost use Rattle.zarrs_array_bytes.specs.Offsets.{is_offsets, last_of};
 ghost use Rattle.zarrs_array_bytes.specs.Parts.{fixed_part, variable_part, optional_part, bytes_in, offsets_in, inner_in};
+ghost use Rattle.zarrs_array_bytes.specs.Pieces.{variable_of};
 ghost use Rattle.zarrs_array_bytes.specs.Validity.{Holds, levels_fit, data_fit};
-ghost use Rattle.zarrs_array_bytes.specs.Updated.{updated};
-ghost use Rattle.zarrs_array_bytes.specs.Chunks.{updated_chunk};
+ghost use Rattle.zarrs_array_bytes.specs.Update.{update, with_runs, cuts_update, container_update};
+ghost use Rattle.zarrs_array_bytes.specs.Chunks.{update_fit, update_at_places, chunk_update};
 
 use crate::array_bytes::{ArrayBytes, Parts};
+use crate::array_bytes_offsets::ArrayBytesOffsets;
+use crate::array_bytes_raw::ArrayBytesRaw;
 use crate::runs::count_places;
 use crate::sources::written_cuts;
 use crate::validate::WrongLength;
@@ -36,14 +39,49 @@ pub fn update_array_bytes(
     new: &ArrayBytes<'_>,
     data_type: &DataType,
 ) -> Result<ArrayBytes<'static>, CodecError>
-    ensures exact { AnswersBy memory (Holds data_type.now) result (updated_chunk data_type.now shape.now (selection_of indexer.now) array.entry new.now) }
+    ensures exact { AnswersBy memory (Holds data_type.now) result (chunk_update data_type.now shape.now (selection_of indexer.now) array.entry new.now) }
     ensures no_fault { is_fault result ≡ false }
 {
     let runs = indexer.runs(alloc, shape)?;
     let count = shape.num_elements()?;
+    update_runs(alloc, array, count, runs.as_slice(), new, data_type)
+}
+
+/// The `count` elements of the type, with those at the places of the runs, each a start and a
+/// length, replaced by the new ones, one after another: where a place comes twice, the last one
+/// stands. Elements of one size are written into the old bytes where those are owned, a run at a
+/// time. Refusals, the first that holds, `OutOfMemory` aside: those of `validate` of the old elements
+/// at `count`; those of `validate_data` of the new ones at the number of the runs' places.
+pub fn update_runs(
+    alloc: Global,
+    array: ArrayBytes<'_>,
+    count: u64,
+    runs: &[(u64, u64)],
+    new: &ArrayBytes<'_>,
+    data_type: &DataType,
+) -> Result<ArrayBytes<'static>, CodecError>
+    requires inside { All (λ run. run.0 + run.1 ≤ count) runs.now }
+    ensures answer { AnswersBy memory (Holds data_type.now) result (update_at_places data_type.now count (joined_runs runs.now) array.entry new.now) }
+    ensures no_fault { is_fault result ≡ false }
+{
+    check_update(&array, count, runs, new, data_type)?;
+    write_elements(alloc, array, count, new, runs, data_type)
+}
+
+/// Whether the old elements are `count` of the type, and the new ones have one for each place of the
+/// runs.
+fn check_update(
+    array: &ArrayBytes<'_>,
+    count: u64,
+    runs: &[(u64, u64)],
+    new: &ArrayBytes<'_>,
+    data_type: &DataType,
+) -> Result<(), CodecError>
+    ensures exact { result ≡ update_fit data_type.now count (joined_runs runs.now) array.now new.now }
+    ensures no_fault { is_fault result ≡ false }
+{
     array.validate(count, data_type)?;
-    check_data(new, runs.as_slice(), data_type)?;
-    write_elements(alloc, array, count, new, runs.as_slice(), data_type)
+    check_data(new, runs, data_type)
 }
 
 /// Whether the new data have one element of the type for each place of the runs.
@@ -72,42 +110,95 @@ fn write_elements(
     requires data_valid { data_fit data_type.now (length (joined_runs runs.now)) new.now ≡ Ok tt }
     requires inside { All (λ run. run.0 + run.1 ≤ count) runs.now }
     ensures exact { Answers memory (λ array. array) result
-        (Ok (updated data_type.now count array.entry (length (joined_runs runs.now)) new.now (joined_runs runs.now))) }
+        (Ok (container_update data_type.now count array.entry (length (joined_runs runs.now)) new.now (joined_runs runs.now))) }
     ensures no_fault { is_fault result ≡ false }
 {
     match array.parts {
         Parts::Fixed(old) => {
             let size = data_type.fixed_size().unwrap();
-            let bytes = written_elements(alloc, old, new.fixed_bytes(), size, runs)?;
-            Ok(ArrayBytes::new_flen(CowSlice::Owned(bytes)))
+            write_fixed(alloc, old, new, size, runs)
         }
-        Parts::Variable(old, old_offsets) => {
-            let (new, new_offsets) = new.variable_parts();
-            let (bytes, offsets) = written_cuts(
-                alloc,
-                old.as_slice(),
-                old_offsets.as_slice(),
-                new,
-                new_offsets,
-                runs,
-            )?;
-            Ok(ArrayBytes::of_variable(bytes, offsets))
-        }
-        Parts::Optional(old, old_mask) => {
+        Parts::Variable(old, offsets) => write_variable(alloc, old, offsets, new, runs),
+        Parts::Optional(old, mask) => {
             let (new, new_mask) = new.optional_parts();
             let inner_type = data_type.as_optional().unwrap();
-            let old = Box::into_inner(old);
-            let inner = write_elements(alloc, old, count, new, runs, inner_type)?;
-            let mask = written_flags(alloc, old_mask, new_mask, runs)?;
-            ArrayBytes::of_masked(alloc, inner, mask)
+            let inner = write_elements(alloc, Box::into_inner(old), count, new, runs, inner_type)?;
+            write_mask(alloc, inner, mask, new_mask, runs)
         }
     }
 }
 
+/// Elements of `size` with those at the runs replaced by the new ones.
+fn write_fixed(
+    alloc: Global,
+    old: ArrayBytesRaw<'_>,
+    new: &ArrayBytes<'_>,
+    size: usize,
+    runs: &[(u64, u64)],
+) -> Result<ArrayBytes<'static>, CodecError>
+    requires kind { IsOk (fixed_part new.now) }
+    requires inside { All (λ run. (run.0 + run.1) * size ≤ length (raw_of old).items) runs.now }
+    requires enough { length (joined_runs runs.now) * size ≤ length (bytes_in new.now) }
+    ensures exact { Answers memory (λ array. array) result (Ok (flen (owned_bytes (with_runs size (raw_of old.entry).items runs.now (bytes_in new.now))))) }
+    ensures no_fault { is_fault result ≡ false }
+{
+    let bytes = written_elements(alloc, old, new.fixed_bytes(), size, runs)?;
+    Ok(ArrayBytes::new_flen(CowSlice::Owned(bytes)))
+}
+
+/// Elements of any length with those at the runs replaced by the new ones.
+#[tactic(auto, using(crate::proofs::UpdateCalls::update_calls))]
+fn write_variable(
+    alloc: Global,
+    old: ArrayBytesRaw<'_>,
+    offsets: ArrayBytesOffsets,
+    new: &ArrayBytes<'_>,
+    runs: &[(u64, u64)],
+) -> Result<ArrayBytes<'static>, CodecError>
+    requires kind { IsOk (variable_part new.now) }
+    requires ending { last_of offsets ≡ length (raw_of old).items }
+    requires inside { All (λ run. run.0 + run.1 ≤ length offsets - 1) runs.now }
+    requires enough { length (offsets_in new.now) ≡ length (joined_runs runs.now) + 1 }
+    ensures exact { Answers memory (λ array. array) result
+        (Ok (variable_of (cuts_update offsets (raw_of old.entry).items (offsets_in new.now) (bytes_in new.now) (joined_runs runs.now)))) }
+    ensures no_fault { is_fault result ≡ false }
+{
+    let (new, new_offsets) = new.variable_parts();
+    let (bytes, offsets) = written_cuts(
+        alloc,
+        old.as_slice(),
+        offsets.as_slice(),
+        new,
+        new_offsets,
+        runs,
+    )?;
+    Ok(ArrayBytes::of_variable(bytes, offsets))
+}
+
+/// Elements under a mask with those at the runs replaced by the new ones, where the elements below
+/// it are written already.
+fn write_mask(
+    alloc: Global,
+    inner: ArrayBytes<'static>,
+    mask: ArrayBytesRaw<'_>,
+    new_mask: &[u8],
+    runs: &[(u64, u64)],
+) -> Result<ArrayBytes<'static>, CodecError>
+    requires old_flags { list_all (λ byte. nat_lt byte 2) (raw_of mask).items ≡ true }
+    requires new_flags { list_all (λ byte. nat_lt byte 2) new_mask.now ≡ true }
+    requires inside { All (λ run. run.0 + run.1 ≤ length (raw_of mask).items) runs.now }
+    requires enough { length new_mask.now ≡ length (joined_runs runs.now) }
+    ensures exact { Answers memory (λ array. array) result (Ok (masked inner.entry (owned_bytes (update (raw_of mask.entry).items (joined_runs runs.now) new_mask.now)))) }
+    ensures no_fault { is_fault result ≡ false }
+{
+    let mask = written_flags(alloc, mask, new_mask, runs)?;
+    ArrayBytes::of_masked(alloc, inner, mask)
+}
+
 impl<'a> ArrayBytes<'a> {
     fn fixed_bytes(&self) -> &[u8]
-        requires { IsOk (fixed_part self.now) }
-        ensures { result.now ≡ bytes_in self.now }
+        requires kind { IsOk (fixed_part self.now) }
+        ensures bytes { result.now ≡ bytes_in self.now }
     {
         match &self.parts {
             Parts::Fixed(bytes) => bytes.as_slice(),
@@ -117,7 +208,7 @@ impl<'a> ArrayBytes<'a> {
     }
 
     fn variable_parts(&self) -> (&[u8], &[usize])
-        requires { IsOk (variable_part self.now) }
+        requires kind { IsOk (variable_part self.now) }
         ensures bytes { result.0.now ≡ bytes_in self.now }
         ensures offsets { result.1.now ≡ offsets_in self.now }
         ensures rising { is_offsets result.1.now ≡ true }
@@ -131,7 +222,7 @@ impl<'a> ArrayBytes<'a> {
     }
 
     fn optional_parts(&self) -> (&ArrayBytes<'a>, &[u8])
-        requires { IsOk (optional_part self.now) }
+        requires kind { IsOk (optional_part self.now) }
         ensures inner { result.0.now ≡ inner_in self.now }
         ensures bytes { result.1.now ≡ bytes_in self.now }
         ensures mask { list_all (λ byte. nat_lt byte 2) result.1.now ≡ true }

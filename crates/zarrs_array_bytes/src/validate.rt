@@ -20,8 +20,8 @@ pub(crate) fn check_length(
     size: usize,
     wrong: WrongLength,
 ) -> Result<(), CodecError>
-    requires { wrong ≡ WrongLength.InvalidBytesLength → count * size < 2 ^ 64 }
-    ensures { result ≡ length_is (refusal_of wrong) found (count * size) }
+    requires counted { wrong ≡ WrongLength.InvalidBytesLength → count * size < 2 ^ 64 }
+    ensures answer { result ≡ length_is (refusal_of wrong) found (count * size) }
 {
     if count.checked_mul(size as u128) == Some(found as u128) {
         return Ok(());
@@ -40,8 +40,8 @@ pub(crate) fn check_length(
 
 /// Whether as many offsets are found as `count` elements have.
 pub(crate) fn check_offsets(found: usize, count: u128, wrong: WrongLength) -> Result<(), CodecError>
-    requires { wrong ≡ WrongLength.InvalidBytesLength → count + 1 < 2 ^ 64 }
-    ensures { result ≡ length_is (refusal_of wrong) found (count + 1) }
+    requires counted { wrong ≡ WrongLength.InvalidBytesLength → count + 1 < 2 ^ 64 }
+    ensures answer { result ≡ length_is (refusal_of wrong) found (count + 1) }
 {
     if count.checked_add(1) == Some(found as u128) {
         return Ok(());

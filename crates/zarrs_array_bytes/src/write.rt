@@ -2,7 +2,7 @@ ghost use Rattle.std.specs.Prelude.{◌≡◌, ◌+◌, ◌*◌, ◌≤◌, All,
 ghost use Rattle.zarrs_chunk.specs.Answer.{Answers, memory, is_fault};
 ghost use Rattle.zarrs_chunk.specs.Runs.{joined_runs};
 ghost use Rattle.zarrs_array_bytes.specs.Held.{raw_of};
-ghost use Rattle.zarrs_array_bytes.specs.Updated.{overwritten, runs_written, update};
+ghost use Rattle.zarrs_array_bytes.specs.Update.{with_items_at, with_runs, update};
 
 use crate::array_bytes_raw::{ArrayBytesRaw, owned_bytes};
 use std::alloc::Global;
@@ -19,7 +19,7 @@ pub(crate) fn written_elements(
 ) -> Result<Vec<u8>, CodecError>
     requires inside { All (λ run. (run.0 + run.1) * size ≤ length (raw_of raw).items) runs.now }
     requires enough { length (joined_runs runs.now) * size ≤ length new.now }
-    ensures exact { Answers memory (λ v. v.items) result (Ok (runs_written size (raw_of raw.entry).items runs.now new.now)) }
+    ensures exact { Answers memory (λ v. v.items) result (Ok (with_runs size (raw_of raw.entry).items runs.now new.now)) }
     ensures no_fault { is_fault result ≡ false }
 {
     let mut bytes = owned_bytes(alloc, raw)?;
@@ -45,7 +45,7 @@ pub(crate) fn written_flags(
 fn write_runs(bytes: &mut [u8], new: &[u8], size: usize, runs: &[(u64, u64)])
     requires inside { All (λ run. (run.0 + run.1) * size ≤ length bytes.old) runs.now }
     requires enough { length (joined_runs runs.now) * size ≤ length new.now }
-    ensures written { bytes.new ≡ runs_written size bytes.old runs.now new.now }
+    ensures written { bytes.new ≡ with_runs size bytes.old runs.now new.now }
     ensures len { length bytes.new ≡ length bytes.old }
 {
     let mut done = 0;
@@ -58,8 +58,8 @@ fn write_runs(bytes: &mut [u8], new: &[u8], size: usize, runs: &[(u64, u64)])
 }
 
 fn overwrite(bytes: &mut [u8], at: usize, new: &[u8])
-    requires { at + length new.now ≤ length bytes.old }
-    ensures { bytes.new ≡ overwritten bytes.old at new.now }
+    requires inside { at + length new.now ≤ length bytes.old }
+    ensures written { bytes.new ≡ with_items_at bytes.old at new.now }
 {
     bytes[at..at + new.len()].copy_from_slice(new);
 }

@@ -1,5 +1,5 @@
 -- Values are written and read exactly where the grammar says.
-use Rattle.std.proofs.Common.{◌≡◌, ℕ, zero, suc, ◌*◌, ◌<◌, ◌^◌, ◌==◌, Bool, true, Option, Result, Ok, Err, List, [], ◌∷◌, length, map, get_or, nat_lt, arith, refl, ap, sym, ◌∙◌, subst}
+use Rattle.std.proofs.Common.{◌≡◌, ℕ, suc, ◌*◌, ◌^◌, ◌==◌, Bool, true, Option, Result, Ok, Err, List, [], ◌∷◌, length, map, nat_lt, arith, refl, ap, sym, ◌∙◌, subst}
 use Rattle.std.specs.List.{concat, range_with_len}
 use Rattle.std.specs.Prelude.{IsOkAnd}
 use Rattle.std.proofs.lemmas.Simd.{map-map}
@@ -13,14 +13,15 @@ use Rattle.zarrs_data_type.specs.Element.{Element, plain, absent, present, Chunk
 use Rattle.zarrs_data_type.specs.ElementType.{ElementType, fixed, text, bytes, optional, element_size}
 use Rattle.zarrs_data_type.specs.declared.endianness.Endianness.{Endianness}
 use Rattle.zarrs_array_bytes.specs.Elements.{elements}
-use Rattle.zarrs_array_bytes.specs.Held.{Held, flen, vlen, masked}
+use Rattle.zarrs_array_bytes.specs.Held.{Held, flen, vlen, masked, owned_bytes}
 use Rattle.zarrs_array_bytes.specs.Validity.{Holds, validity}
 use Rattle.zarrs_array_bytes.specs.Pieces.{pieces}
+use Rattle.zarrs_array_bytes.proofs.ElementLaw.{AreElements-held}
 use Rattle.zarrs_array_bytes.proofs.Pieces.{AllSized, length-pieces, pieces_sized, length-concat, pieces-concat, concat-pieces, elements-pieces, read_pieces}
-use Rattle.zarrs_bytes.specs.ByteOrder.{ordered, spelled}
-use Rattle.zarrs_bytes.specs.BytesCodec.{value_length, spelling, encoded, decoded, element_read, Stands, Written}
+use Rattle.zarrs_bytes.specs.ByteOrder.{ordered, spelled_chunk}
+use Rattle.zarrs_bytes.specs.BytesCodec.{bytes_length, spelling, bytes_value, bytes_chunk, bytes_element, BytesStands, BytesWritten}
 use Rattle.zarrs_bytes.proofs.Coding.{bind_ok, demand_ok, ok, two_steps, taken}
-use Rattle.zarrs_bytes.proofs.Spelled.{ordered_twice, ordered_sized, spelled-plain}
+use Rattle.zarrs_bytes.proofs.Spelled.{Holds-pieces, ordered_twice, ordered_sized, spelled_chunk-plain}
 
 -- ---- a chunk of a fixed type and its elements' bytes
 
@@ -47,42 +48,34 @@ pieces_of width components sign [] h = record { parts = []; are = refl; sized = 
 pieces_of width components sign (element ∷ chunk) h =
     one_piece width components sign element chunk (h 0 absent (omega arith)) (pieces_of width components sign chunk (AreElements-tail (fixed width components sign) element chunk h))
 
-pub AreElements-plain : (width components : ℕ) (sign : Bool) (parts : List (List ℕ)) → AllSized (element_size width components) parts → AreElements (fixed width components sign) (map plain parts)
-AreElements-plain width components sign [] h = λ k d l. absurd (omega arith)
-AreElements-plain width components sign (piece ∷ parts) h = λ k d.
-    elim k as (λ j. j < length (map plain (piece ∷ parts)) → IsElement (fixed width components sign) (get_or (map plain (piece ∷ parts)) j d)) [
-      | zero ↦ (λ l. h.0)
-      | suc j ↦ (λ l. AreElements-plain width components sign parts h.1 j d (omega arith))
-    ]
-
 ordered_back : (order : Option Endianness) (width components : ℕ) (parts : List (List ℕ)) → AllSized (element_size width components) parts → map (ordered order width components) (map (ordered order width components) parts) ≡ parts
 ordered_back order width components [] h = refl
 ordered_back order width components (piece ∷ parts) h = λ i. ordered_twice order width components piece h.0 i ∷ ordered_back order width components parts h.1 i
 
 -- ---- encoding
 
-pub encoded_only : (order : Option Endianness) (sizes : List ℕ) (type : ElementType) (fill value : List ℕ) (held : Held) (chunk : Chunk) → Holds type held chunk → Written order sizes type fill value chunk → encoded order sizes type fill held ≡ Ok value
+pub encoded_only : (order : Option Endianness) (sizes : List ℕ) (type : ElementType) (fill value : List ℕ) (held : Held) (chunk : Chunk) → Holds type held chunk → BytesWritten order sizes type fill value chunk → bytes_value order sizes type fill held ≡ Ok value
 encoded_only order sizes (fixed width components sign) fill value held chunk holds written =
     let type = fixed width components sign in
     let count = written.elements.count_is in
     let valid : validity type (product sizes) held ≡ Ok tt = ap (λ n. validity type n held) (sym count) ∙ holds.valid in
     let same : elements type (product sizes) held ≡ chunk = ap (λ n. elements type n held) (sym count) ∙ holds.elements_are in
-    two_steps (value_length order sizes type fill) (validity type (product sizes) held) written.len tt (spelling order type (elements type (product sizes) held)) written.taken valid
-    ∙ ap (λ (c : Chunk). ok (spelled order width components c)) same
-    ∙ ap ok (sym written.content.spelt)
-encoded_only order sizes text fill value held chunk holds written = absurd written.content
-encoded_only order sizes bytes fill value held chunk holds written = absurd written.content
-encoded_only order sizes (optional type) fill value held chunk holds written = absurd written.content
+    two_steps (bytes_length order sizes type fill) (validity type (product sizes) held) written.len tt (spelling order type (elements type (product sizes) held)) written.taken valid
+    ∙ ap (λ (c : Chunk). ok (spelled_chunk order width components c)) same
+    ∙ ap ok (sym written.spelt)
+encoded_only order sizes text fill value held chunk holds written = absurd cc
+encoded_only order sizes bytes fill value held chunk holds written = absurd cc
+encoded_only order sizes (optional type) fill value held chunk holds written = absurd cc
 
 bytes_are : (x y : List ℕ) → ok x ≡ ok y → y ≡ x
 bytes_are x y e = cc
 
-pub encoded_found : (order : Option Endianness) (sizes : List ℕ) (type : ElementType) (fill value : List ℕ) (held : Held) → encoded order sizes type fill held ≡ Ok value → (chunk : Chunk) × Holds type held chunk × Written order sizes type fill value chunk
+pub encoded_found : (order : Option Endianness) (sizes : List ℕ) (type : ElementType) (fill value : List ℕ) (held : Held) → bytes_value order sizes type fill held ≡ Ok value → (chunk : Chunk) × Holds type held chunk × BytesWritten order sizes type fill value chunk
 encoded_found order sizes (fixed width components sign) fill value (flen raw) e =
     let type = fixed width components sign in
     let size = element_size width components in
     let n = product sizes in
-    let a = bind_ok (value_length order sizes type fill) _ value e in
+    let a = bind_ok (bytes_length order sizes type fill) _ value e in
     let b = bind_ok (validity type n (flen raw)) _ value a.2 in
     let t = taken order sizes width components sign fill a.0 a.1 in
     let v = bind_ok (demand (nat_lt (n * size) (2 ^ 64)) Overflow) _ tt b.1 in
@@ -93,31 +86,33 @@ encoded_found order sizes (fixed width components sign) fill value (flen raw) e 
     let are = elements-pieces width components sign n raw in
     let chunk = elements type n (flen raw) in
     let count : length chunk ≡ n = ap length are ∙ length-map parts plain ∙ length-pieces size n raw.items in
-    let spelt : value ≡ spelled order width components chunk = bytes_are (spelled order width components chunk) value b.2 in
-    let bytes_long : length (spelled order width components chunk) ≡ n * size
-    = ap (λ (c : Chunk). length (spelled order width components c)) are
-    ∙ ap length (spelled-plain order width components parts)
+    let holds : Holds type (flen raw) chunk = record {
+      valid = ap (λ k. validity type k (flen raw)) count ∙ b.1;
+      elements_are = ap (λ k. elements type k (flen raw)) count;
+    } in
+    let spelt : value ≡ spelled_chunk order width components chunk = bytes_are (spelled_chunk order width components chunk) value b.2 in
+    let bytes_long : length (spelled_chunk order width components chunk) ≡ n * size
+    = ap (λ (c : Chunk). length (spelled_chunk order width components c)) are
+    ∙ ap length (spelled_chunk-plain order width components parts)
     ∙ length-concat size (map (ordered order width components) parts) (ordered_sized order width components parts sized)
     ∙ ap (λ k. k * size) (length-map parts (ordered order width components) ∙ length-pieces size n raw.items) in (
       chunk,
-      record {
-        valid = ap (λ k. validity type k (flen raw)) count ∙ b.1;
-        elements_are = ap (λ k. elements type k (flen raw)) count;
-      },
+      holds,
       record {
         len = a.0;
         taken = a.1;
-        elements = record { count_is = count; each = subst (AreElements type) (sym are) (AreElements-plain width components sign parts sized) };
-        content = record { small = omega (arith, ap length spelt, bytes_long, t.len_is, t.small); spelt = spelt };
+        elements = record { count_is = count; each = AreElements-held type (flen raw) chunk holds };
+        spelt = spelt;
+        small = omega (arith, ap length spelt, bytes_long, t.len_is, t.small);
       },
     )
 encoded_found order sizes (fixed width components sign) fill value (vlen raw offsets) e =
-    let a = bind_ok (value_length order sizes (fixed width components sign) fill) _ value e in
+    let a = bind_ok (bytes_length order sizes (fixed width components sign) fill) _ value e in
     let b = bind_ok (validity (fixed width components sign) (product sizes) (vlen raw offsets)) _ value a.2 in
     let v = bind_ok (demand (nat_lt (product sizes * element_size width components) (2 ^ 64)) Overflow) _ tt b.1 in
     absurd (let w = v.2 in cc)
 encoded_found order sizes (fixed width components sign) fill value (masked inner mask) e =
-    let a = bind_ok (value_length order sizes (fixed width components sign) fill) _ value e in
+    let a = bind_ok (bytes_length order sizes (fixed width components sign) fill) _ value e in
     let b = bind_ok (validity (fixed width components sign) (product sizes) (masked inner mask)) _ value a.2 in
     let v = bind_ok (demand (nat_lt (product sizes * element_size width components) (2 ^ 64)) Overflow) _ tt b.1 in
     absurd (let w = v.2 in cc)
@@ -130,12 +125,12 @@ encoded_found order sizes (optional type) fill value held e = absurd cc
 chunk_are : (x y : Chunk) → ok x ≡ ok y → y ≡ x
 chunk_are x y e = cc
 
-pub decoded_found : (order : Option Endianness) (sizes : List ℕ) (type : ElementType) (fill value : List ℕ) (chunk : Chunk) → decoded order sizes type fill value ≡ Ok chunk → Stands order sizes type fill value chunk
+pub decoded_found : (order : Option Endianness) (sizes : List ℕ) (type : ElementType) (fill value : List ℕ) (chunk : Chunk) → bytes_chunk order sizes type fill value ≡ Ok chunk → BytesStands order sizes type fill value chunk
 decoded_found order sizes (fixed width components sign) fill value chunk e =
     let type = fixed width components sign in
     let size = element_size width components in
     let n = product sizes in
-    let a = bind_ok (value_length order sizes type fill) _ chunk e in
+    let a = bind_ok (bytes_length order sizes type fill) _ chunk e in
     let b = bind_ok (demand (length value == a.0) (InvalidBytesLength (length value) a.0)) _ chunk a.2 in
     let t = taken order sizes width components sign fill a.0 a.1 in
     let long_test = demand_ok (length value == a.0) (InvalidBytesLength (length value) a.0) b.0 b.1 in
@@ -144,18 +139,21 @@ decoded_found order sizes (fixed width components sign) fill value chunk e =
     let parts = pieces size n value in
     let sized = pieces_sized size n value (omega (arith, long)) in
     let turned_pieces = map (ordered order width components) parts in
-    let are : chunk ≡ map plain turned_pieces
-    = chunk_are _ chunk b.2 ∙ read_pieces (λ piece. plain (ordered order width components piece)) size n value ∙ sym (map-map plain (ordered order width components) parts) in
+    let all_sized = ordered_sized order width components parts sized in
+    let number : length turned_pieces ≡ n = length-map parts (ordered order width components) ∙ length-pieces size n value in
+    let turned_long : length (concat turned_pieces) ≡ n * size = length-concat size turned_pieces all_sized ∙ ap (λ k. k * size) number in
+    let holds = Holds-pieces order width components sign (owned_bytes (concat turned_pieces)) parts sized refl (omega (arith, turned_long, t.len_is, t.small)) in
+    let read_so : chunk ≡ map (λ piece. plain (ordered order width components piece)) parts
+    = chunk_are _ chunk b.2 ∙ read_pieces (λ piece. plain (ordered order width components piece)) size n value in
+    let are : chunk ≡ map plain turned_pieces = read_so ∙ sym (map-map plain (ordered order width components) parts) in
     record {
       len = a.0;
       taken = a.1;
-      content = record {
-        elements = record {
-          count_is = ap length are ∙ length-map turned_pieces plain ∙ length-map parts (ordered order width components) ∙ length-pieces size n value;
-          each = subst (AreElements type) (sym are) (AreElements-plain width components sign turned_pieces (ordered_sized order width components parts sized));
-        };
-        spelt = sym (ap (spelled order width components) are ∙ spelled-plain order width components turned_pieces ∙ ap concat (ordered_back order width components parts sized) ∙ concat-pieces size n value long);
+      elements = record {
+        count_is = ap length are ∙ length-map turned_pieces plain ∙ number;
+        each = subst (AreElements type) (sym read_so) (AreElements-held type (flen (owned_bytes (concat turned_pieces))) (map (λ piece. plain (ordered order width components piece)) parts) holds);
       };
+      spelt = sym (ap (spelled_chunk order width components) are ∙ spelled_chunk-plain order width components turned_pieces ∙ ap concat (ordered_back order width components parts sized) ∙ concat-pieces size n value long);
     }
 decoded_found order sizes text fill value chunk e = absurd cc
 decoded_found order sizes bytes fill value chunk e = absurd cc
@@ -171,40 +169,40 @@ two_tests (Ok n) test cause x len e t =
     number_is n m e = cc
 two_tests (Err d) test cause x len e t = absurd cc
 
-pub decoded_only : (order : Option Endianness) (sizes : List ℕ) (type : ElementType) (fill value : List ℕ) (chunk : Chunk) → Stands order sizes type fill value chunk → decoded order sizes type fill value ≡ Ok chunk
+pub decoded_only : (order : Option Endianness) (sizes : List ℕ) (type : ElementType) (fill value : List ℕ) (chunk : Chunk) → BytesStands order sizes type fill value chunk → bytes_chunk order sizes type fill value ≡ Ok chunk
 decoded_only order sizes (fixed width components sign) fill value chunk stands =
     let type = fixed width components sign in
     let size = element_size width components in
     let n = product sizes in
     let t = taken order sizes width components sign fill stands.len stands.taken in
-    let p = pieces_of width components sign chunk stands.content.elements.each in
+    let p = pieces_of width components sign chunk stands.elements.each in
     let turned_pieces = map (ordered order width components) p.parts in
     let sized = ordered_sized order width components p.parts p.sized in
-    let value_is : value ≡ concat turned_pieces = stands.content.spelt ∙ ap (spelled order width components) p.are ∙ spelled-plain order width components p.parts in
+    let value_is : value ≡ concat turned_pieces = stands.spelt ∙ ap (spelled_chunk order width components) p.are ∙ spelled_chunk-plain order width components p.parts in
     let number : length turned_pieces ≡ n
-    = length-map p.parts (ordered order width components) ∙ sym (length-map p.parts plain) ∙ sym (ap length p.are) ∙ stands.content.elements.count_is in
+    = length-map p.parts (ordered order width components) ∙ sym (length-map p.parts plain) ∙ sym (ap length p.are) ∙ stands.elements.count_is in
     let long : length value ≡ n * size = ap length value_is ∙ length-concat size turned_pieces sized ∙ ap (λ k. k * size) number in
     let found : length value ≡ stands.len = long ∙ sym t.len_is in
     let passed : (length value == stands.len) ≡ true = grind (arith, nat_tests) in
     let cut : pieces size n value ≡ turned_pieces = ap (pieces size n) value_is ∙ ap (λ k. pieces size k (concat turned_pieces)) (sym number) ∙ pieces-concat size turned_pieces sized in
-    let read : map (element_read order type value) (range_with_len 0 n) ≡ chunk
+    let read : map (bytes_element order type value) (range_with_len 0 n) ≡ chunk
     = read_pieces (λ piece. plain (ordered order width components piece)) size n value
     ∙ ap (map (λ piece. plain (ordered order width components piece))) cut
     ∙ sym (map-map plain (ordered order width components) turned_pieces)
     ∙ ap (map plain) (ordered_back order width components p.parts p.sized)
     ∙ sym p.are in
-    two_tests (value_length order sizes type fill) (λ l. length value == l) (λ l. InvalidBytesLength (length value) l) (map (element_read order type value) (range_with_len 0 n)) stands.len stands.taken passed
+    two_tests (bytes_length order sizes type fill) (λ l. length value == l) (λ l. InvalidBytesLength (length value) l) (map (bytes_element order type value) (range_with_len 0 n)) stands.len stands.taken passed
     ∙ ap ok read
-decoded_only order sizes text fill value chunk stands = absurd stands.content
-decoded_only order sizes bytes fill value chunk stands = absurd stands.content
-decoded_only order sizes (optional type) fill value chunk stands = absurd stands.content
+decoded_only order sizes text fill value chunk stands = absurd cc
+decoded_only order sizes bytes fill value chunk stands = absurd cc
+decoded_only order sizes (optional type) fill value chunk stands = absurd cc
 
 -- ---- at the calls
 
 -- a value that stands for a chunk has the chunk's length
-pub stands_length : (order : Option Endianness) (sizes : List ℕ) (type : ElementType) (fill value : List ℕ) (chunk : Chunk) (len : ℕ) → Stands order sizes type fill value chunk → value_length order sizes type fill ≡ Ok len → length value ≡ len
+pub stands_length : (order : Option Endianness) (sizes : List ℕ) (type : ElementType) (fill value : List ℕ) (chunk : Chunk) (len : ℕ) → BytesStands order sizes type fill value chunk → bytes_length order sizes type fill ≡ Ok len → length value ≡ len
 stands_length order sizes type fill value chunk len stands e =
-    let a = bind_ok (value_length order sizes type fill) _ chunk (decoded_only order sizes type fill value chunk stands) in
+    let a = bind_ok (bytes_length order sizes type fill) _ chunk (decoded_only order sizes type fill value chunk stands) in
     let b = bind_ok (demand (length value == a.0) (InvalidBytesLength (length value) a.0)) _ chunk a.2 in
     let long_test = demand_ok (length value == a.0) (InvalidBytesLength (length value) a.0) b.0 b.1 in
     let long : length value ≡ a.0 = grind (arith, nat_tests) in
@@ -215,13 +213,13 @@ stands_length order sizes type fill value chunk len stands e =
     ok_number n m e = cc
 
 -- a container that holds what the value was decoded to
-pub holds_stands : (order : Option Endianness) (sizes : List ℕ) (type : ElementType) (fill value : List ℕ) (held : Held) → IsOkAnd (decoded order sizes type fill value) (Holds type held) → (chunk : Chunk) × Holds type held chunk × Stands order sizes type fill value chunk
-holds_stands order sizes type fill value held h = by_answer (decoded order sizes type fill value) refl h
+pub holds_stands : (order : Option Endianness) (sizes : List ℕ) (type : ElementType) (fill value : List ℕ) (held : Held) → IsOkAnd (bytes_chunk order sizes type fill value) (Holds type held) → (chunk : Chunk) × Holds type held chunk × BytesStands order sizes type fill value chunk
+holds_stands order sizes type fill value held h = by_answer (bytes_chunk order sizes type fill value) refl h
   where
-    by_answer : (r : Result Chunk CodecError) → decoded order sizes type fill value ≡ r → IsOkAnd r (Holds type held) → (chunk : Chunk) × Holds type held chunk × Stands order sizes type fill value chunk
+    by_answer : (r : Result Chunk CodecError) → bytes_chunk order sizes type fill value ≡ r → IsOkAnd r (Holds type held) → (chunk : Chunk) × Holds type held chunk × BytesStands order sizes type fill value chunk
     by_answer (Ok chunk) e h = (chunk, h, decoded_found order sizes type fill value chunk e)
     by_answer (Err d) e h = absurd h
 
-pub holds_only : (order : Option Endianness) (sizes : List ℕ) (type : ElementType) (fill value : List ℕ) (held : Held) (chunk : Chunk) → IsOkAnd (decoded order sizes type fill value) (Holds type held) → Stands order sizes type fill value chunk → Holds type held chunk
+pub holds_only : (order : Option Endianness) (sizes : List ℕ) (type : ElementType) (fill value : List ℕ) (held : Held) (chunk : Chunk) → IsOkAnd (bytes_chunk order sizes type fill value) (Holds type held) → BytesStands order sizes type fill value chunk → Holds type held chunk
 holds_only order sizes type fill value held chunk h stands =
     subst (λ (r : Result Chunk CodecError). IsOkAnd r (Holds type held)) (decoded_only order sizes type fill value chunk stands) h

@@ -1,3 +1,4 @@
+pub mod Alike
 pub mod CodecLaws
 pub mod Coding
 pub mod ReversedPieces
@@ -8,3 +9,4 @@ pub mod Ranges
 pub mod Reading
 pub mod PartReads
 pub mod Spelled
+pub mod Taken

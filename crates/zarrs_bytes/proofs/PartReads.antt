@@ -8,10 +8,10 @@ use Rattle.zarrs_chunk.specs.ChunkShape.{product}
 use Rattle.zarrs_chunk.specs.Runs.{joined_runs}
 use Rattle.zarrs_chunk.specs.declared.codec_error.CodecError.{CodecError}
 use Rattle.zarrs_data_type.specs.Element.{Chunk, fill_element}
-use Rattle.zarrs_data_type.specs.ElementType.{ElementType, fixed, text, bytes, optional}
+use Rattle.zarrs_data_type.specs.ElementType.{ElementType}
 use Rattle.zarrs_data_type.specs.declared.endianness.Endianness.{Endianness}
 use Rattle.zarrs_array_bytes.specs.Elements.{select}
-use Rattle.zarrs_bytes.specs.BytesCodec.{Stands}
+use Rattle.zarrs_bytes.specs.BytesCodec.{BytesStands}
 use Rattle.zarrs_bytes.specs.PartialRead.{read_places}
 use Rattle.zarrs_bytes.proofs.CodecLaws.{read_selects}
 
@@ -27,16 +27,10 @@ runs_below limit (run ∷ runs) h =
     (All-from limit run.0 run.1 (h 0 run (omega arith)))
     (runs_below limit runs (λ k d l. h (suc k) d (omega arith)))
 
-stands_count : (order : Option Endianness) (sizes : List ℕ) (type : ElementType) (fill value : List ℕ) (chunk : Chunk) → Stands order sizes type fill value chunk → length chunk ≡ product sizes
-stands_count order sizes (fixed width components sign) fill value chunk stands = stands.content.elements.count_is
-stands_count order sizes text fill value chunk stands = absurd stands.content
-stands_count order sizes bytes fill value chunk stands = absurd stands.content
-stands_count order sizes (optional type) fill value chunk stands = absurd stands.content
-
 -- what is read of runs inside the shape is the chunk's selection
-pub runs_select : (order : Option Endianness) (sizes : List ℕ) (type : ElementType) (fill given : List ℕ) (stored : Option (List ℕ)) (runs slice : List (ℕ × ℕ)) (places : Result (List ℕ) CodecError) → given ≡ fill → slice ≡ runs → All (λ run. run.0 + run.1 ≤ product sizes) runs → places ≡ Ok (joined_runs runs) → (value : List ℕ) (chunk : Chunk) → stored ≡ Some value → Stands order sizes type fill value chunk → read_places order type given stored (joined_runs slice) ≡ seen (select chunk) places
+pub runs_select : (order : Option Endianness) (sizes : List ℕ) (type : ElementType) (fill given : List ℕ) (stored : Option (List ℕ)) (runs slice : List (ℕ × ℕ)) (places : Result (List ℕ) CodecError) → given ≡ fill → slice ≡ runs → All (λ run. run.0 + run.1 ≤ product sizes) runs → places ≡ Ok (joined_runs runs) → (value : List ℕ) (chunk : Chunk) → stored ≡ Some value → BytesStands order sizes type fill value chunk → read_places order type given stored (joined_runs slice) ≡ seen (select chunk) places
 runs_select order sizes type fill given stored runs slice places same view below is value chunk here stands =
-    let count = stands_count order sizes type fill value chunk stands in
+    let count = stands.elements.count_is in
     let inside : All (λ place. place < length chunk) (joined_runs runs) = subst (λ k. All (λ place. place < k) (joined_runs runs)) (sym count) (runs_below (product sizes) runs below) in
     rw same (rw view (rw here (rw is (read_selects order sizes type fill value chunk (joined_runs runs) stands inside))))
 

@@ -14,9 +14,9 @@ use Rattle.zarrs_chunk.specs.Runs.{joined_runs}
 use Rattle.zarrs_chunk.specs.declared.codec_error.CodecError.{CodecError}
 use Rattle.zarrs_chunk.specs.declared.codec_error.CodecError.TheVariants.{InvalidByteRange}
 use Rattle.zarrs_array_bytes.specs.Elements.{piece}
-use Rattle.zarrs_bytes.specs.ByteRanges.{range_indices, bytes_in_ranges, read_value}
+use Rattle.zarrs_codec.specs.ByteRanges.{range_indices, bytes_in_ranges, read_value}
 use Rattle.zarrs_bytes.specs.PartialRead.{place_bytes}
-use Rattle.zarrs_bytes.specs.ByteSpan.{ByteSpan}
+use Rattle.zarrs_codec.specs.ByteSpan.{ByteSpan}
 
 -- ---- bytes by number
 

@@ -1,11 +1,10 @@
 -- What is read through a handle is what the definitions of a partial read say.
-use Rattle.std.proofs.Common.{◌≡◌, ℕ, zero, suc, ◌+◌, ◌-◌, ◌*◌, ◌<◌, ◌≤◌, ◌^◌, Bool, true, false, nat_le, Option, Some, None, Result, Ok, Err, List, [], ◌∷◌, ◌++◌, length, take, drop, map, arith, refl, ap, sym, ◌∙◌, subst}
-use Rattle.std.specs.List.{All, concat, flat_map, list_all, range_with_len}
+use Rattle.std.proofs.Common.{◌≡◌, ℕ, ◌+◌, ◌-◌, ◌*◌, ◌<◌, ◌≤◌, ◌^◌, Bool, true, false, nat_le, Option, Some, None, Result, Ok, Err, List, [], ◌∷◌, ◌++◌, length, take, drop, map, arith, refl, ap, sym, ◌∙◌, subst}
+use Rattle.std.specs.List.{All, concat, flat_map, list_all}
 use Rattle.std.specs.Prelude.{IsOkAnd}
 use Rattle.std.proofs.lemmas.Bool.{and_parts}
 use Rattle.std.proofs.lemmas.Bool.Decides.{nat_tests}
 use Rattle.std.proofs.lemmas.List.{length-drop, length-take-le}
-use Rattle.std.proofs.lemmas.List.Concat.{flat_map-append}
 use Rattle.zarrs_chunk.specs.Answer.{◌>>=◌, demand, Excused}
 use Rattle.zarrs_chunk.specs.declared.codec_error.CodecError.{CodecError}
 use Rattle.zarrs_chunk.specs.declared.codec_error.CodecError.TheVariants.{InvalidByteRange}
@@ -13,16 +12,16 @@ use Rattle.zarrs_data_type.specs.Element.{Element, plain, Chunk}
 use Rattle.zarrs_data_type.specs.ElementType.{ElementType, fixed, text, bytes, optional, element_size}
 use Rattle.zarrs_data_type.specs.declared.endianness.Endianness.{Endianness}
 use Rattle.zarrs_array_bytes.specs.Elements.{piece}
-use Rattle.zarrs_array_bytes.specs.Filled.{repeated}
+use Rattle.zarrs_array_bytes.specs.Filled.{copies}
 use Rattle.zarrs_array_bytes.specs.Held.{Raw, flen}
 use Rattle.zarrs_array_bytes.specs.Validity.{Holds}
 use Rattle.zarrs_array_bytes.specs.Pieces.{pieces}
 use Rattle.zarrs_array_bytes.proofs.Pieces.{AllSized, length-concat, pieces-concat}
 use Rattle.zarrs_bytes.specs.ByteOrder.{turned, ordered}
-use Rattle.zarrs_bytes.specs.ByteRanges.{range_indices, read_ranges}
-use Rattle.zarrs_bytes.specs.BytesCodec.{element_read, turn_size}
-use Rattle.zarrs_bytes.specs.PartialRead.{place_bytes, size_of, IsFilledType, read_places}
-use Rattle.zarrs_bytes.specs.ByteSpan.{ByteSpan}
+use Rattle.zarrs_codec.specs.ByteRanges.{range_indices, read_ranges}
+use Rattle.zarrs_bytes.specs.BytesCodec.{bytes_element, turn_size}
+use Rattle.zarrs_bytes.specs.PartialRead.{place_bytes, place_size, IsFilledType, read_places}
+use Rattle.zarrs_codec.specs.ByteSpan.{ByteSpan}
 use Rattle.zarrs_bytes.proofs.Coding.{ok}
 use Rattle.zarrs_bytes.proofs.Ranges.{read_value-places}
 use Rattle.zarrs_bytes.proofs.Spelled.{length-turned, turned_is, Holds-pieces}
@@ -42,7 +41,7 @@ places_sized size value (place ∷ places) h =
       places_sized size value places both.1,
     )
 
-read_map : (order : Option Endianness) (width components : ℕ) (sign : Bool) (value places : List ℕ) → map (λ piece. plain (ordered order width components piece)) (map (piece (element_size width components) value) places) ≡ map (element_read order (fixed width components sign) value) places
+read_map : (order : Option Endianness) (width components : ℕ) (sign : Bool) (value places : List ℕ) → map (λ piece. plain (ordered order width components piece)) (map (piece (element_size width components) value) places) ≡ map (bytes_element order (fixed width components sign) value) places
 read_map order width components sign value [] = refl
 read_map order width components sign value (place ∷ places) =
     ap (λ (rest : List Element). plain (ordered order width components (piece (element_size width components) value place)) ∷ rest) (read_map order width components sign value places)
@@ -89,14 +88,14 @@ ranges_are size value places ranges positive numbers filled =
     ap (λ (r : Result (List ℕ) CodecError). r >>= λ y. ok (Some y)) (read_value-places size value places ranges positive numbers filled)
 
 -- bytes that were read, turned round, hold the elements at the places
-pub at_some : (order : Option Endianness) (type : ElementType) (fill places bytes' : List ℕ) (stored : Option (List ℕ)) (ranges : List ByteSpan) (raw : Raw) → IsFilledType type fill → range_indices ranges ≡ place_bytes (size_of type) places → All (λ range. range.start < range.end) ranges
+pub at_some : (order : Option Endianness) (type : ElementType) (fill places bytes' : List ℕ) (stored : Option (List ℕ)) (ranges : List ByteSpan) (raw : Raw) → IsFilledType type fill → range_indices ranges ≡ place_bytes (place_size type) places → All (λ range. range.start < range.end) ranges
     → read_ranges stored ranges ≡ Ok (Some bytes') → raw.items ≡ turned (turn_size order type) bytes' → length bytes' < 2 ^ 64 → IsOkAnd (read_places order type fill stored places) (Holds type (flen raw))
 at_some order (fixed width components sign) fill places bytes' None ranges raw t numbers filled read is small = absurd cc
 at_some order (fixed width components sign) fill places bytes' (Some value) ranges raw t numbers filled read is small =
     let type = fixed width components sign in
     let size = element_size width components in
     let parts = map (piece size value) places in
-    some_if (test_of size value places) (concat parts) bytes' (map (element_read order type value) places) (Holds type (flen raw))
+    some_if (test_of size value places) (concat parts) bytes' (map (bytes_element order type value) places) (Holds type (flen raw))
     (sym (ranges_are size value places ranges t.1 numbers filled) ∙ read)
     (λ inside same.
     let sized = places_sized size value places inside in
@@ -110,19 +109,19 @@ at_some order bytes fill places bytes' stored ranges raw t numbers filled read i
 at_some order (optional type) fill places bytes' stored ranges raw t numbers filled read is small = absurd t
 
 -- a refused read is the refusal of the places
-pub at_err : (order : Option Endianness) (type : ElementType) (fill places : List ℕ) (stored : Option (List ℕ)) (ranges : List ByteSpan) (e : CodecError) → IsFilledType type fill → range_indices ranges ≡ place_bytes (size_of type) places → All (λ range. range.start < range.end) ranges
+pub at_err : (order : Option Endianness) (type : ElementType) (fill places : List ℕ) (stored : Option (List ℕ)) (ranges : List ByteSpan) (e : CodecError) → IsFilledType type fill → range_indices ranges ≡ place_bytes (place_size type) places → All (λ range. range.start < range.end) ranges
     → read_ranges stored ranges ≡ Err e → read_places order type fill stored places ≡ Err e
 at_err order (fixed width components sign) fill places None ranges e t numbers filled read = absurd cc
 at_err order (fixed width components sign) fill places (Some value) ranges e t numbers filled read =
     let size = element_size width components in
-    err_if (test_of size value places) (concat (map (piece size value) places)) (map (element_read order (fixed width components sign) value) places) e
+    err_if (test_of size value places) (concat (map (piece size value) places)) (map (bytes_element order (fixed width components sign) value) places) e
     (sym (ranges_are size value places ranges t.1 numbers filled) ∙ read)
 at_err order text fill places stored ranges e t numbers filled read = absurd t
 at_err order bytes fill places stored ranges e t numbers filled read = absurd t
 at_err order (optional type) fill places stored ranges e t numbers filled read = absurd t
 
 -- where nothing is stored, copies of the fill element hold the elements at the places
-pub at_none : (order : Option Endianness) (type : ElementType) (fill places : List ℕ) (stored : Option (List ℕ)) (ranges : List ByteSpan) (raw : Raw) → IsFilledType type fill → range_indices ranges ≡ place_bytes (size_of type) places → All (λ range. range.start < range.end) ranges
+pub at_none : (order : Option Endianness) (type : ElementType) (fill places : List ℕ) (stored : Option (List ℕ)) (ranges : List ByteSpan) (raw : Raw) → IsFilledType type fill → range_indices ranges ≡ place_bytes (place_size type) places → All (λ range. range.start < range.end) ranges
     → read_ranges stored ranges ≡ Ok None → raw.items ≡ flat_map (λ _. fill) places → length raw.items < 2 ^ 64 → IsOkAnd (read_places order type fill stored places) (Holds type (flen raw))
 at_none order (fixed width components sign) fill places None ranges raw t numbers filled read is small =
     let parts = map (λ _. fill) places in
@@ -140,28 +139,7 @@ Excused-weaker test f h = λ e. f (h e)
 
 -- ---- fill elements
 
-const_flat_map : (fill : List ℕ) (a b n : ℕ) → flat_map (λ _. fill) (range_with_len a n) ≡ flat_map (λ _. fill) (range_with_len b n)
-const_flat_map fill a b zero = refl
-const_flat_map fill a b (suc n) = ap (λ (rest : List ℕ). fill ++ rest) (const_flat_map fill (a + 1) (b + 1) n)
-
--- copies for one run more
-pub fills_more : (fill : List ℕ) (done joined : List ℕ) (start len : ℕ) (before after : List ℕ) → before ≡ flat_map (λ _. fill) done → after ≡ before ++ flat_map (λ _. fill) (range_with_len 0 len) → joined ≡ done ++ range_with_len start len → after ≡ flat_map (λ _. fill) joined
-fills_more fill done joined start len before after e f g =
-    f ∙ ap (λ (l : List ℕ). l ++ flat_map (λ _. fill) (range_with_len 0 len)) e
-    ∙ ap (λ (l : List ℕ). flat_map (λ _. fill) done ++ l) (const_flat_map fill 0 start len)
-    ∙ sym (flat_map-append (λ _. fill) done (range_with_len start len))
-    ∙ ap (flat_map (λ _. fill)) (sym g)
-
-copies_repeated : (fill : List ℕ) (a n : ℕ) → flat_map (λ _. fill) (range_with_len a n) ≡ repeated fill n
-copies_repeated fill a zero = refl
-copies_repeated fill a (suc n) = ap (λ (rest : List ℕ). fill ++ rest) (copies_repeated fill (a + 1) n)
-
 -- a copy for each place
-pub copies_of_places : (fill places : List ℕ) → repeated fill (length places) ≡ flat_map (λ _. fill) places
+pub copies_of_places : (fill places : List ℕ) → copies fill (length places) ≡ flat_map (λ _. fill) places
 copies_of_places fill [] = refl
 copies_of_places fill (place ∷ places) = ap (λ (rest : List ℕ). fill ++ rest) (copies_of_places fill places)
-
--- copies for one run more, told by their number
-pub copies_more : (fill : List ℕ) (done joined : List ℕ) (start len : ℕ) (before after : List ℕ) → before ≡ flat_map (λ _. fill) done → after ≡ before ++ repeated fill len → joined ≡ done ++ range_with_len start len → after ≡ flat_map (λ _. fill) joined
-copies_more fill done joined start len before after e f g =
-    fills_more fill done joined start len before after e (f ∙ ap (λ (l : List ℕ). before ++ l) (sym (copies_repeated fill 0 len))) g

@@ -4,7 +4,7 @@ use Rattle.std.specs.List.{concat}
 use Rattle.std.proofs.lemmas.List.{append-nil, map-append, length-map, length-reverse, nil_from_length}
 use Rattle.std.proofs.lemmas.List.Folds.{concat-append}
 use Rattle.zarrs_array_bytes.specs.Pieces.{pieces}
-use Rattle.zarrs_array_bytes.proofs.Pieces.{AllSized, length-pieces, pieces_sized, length-concat, concat-pieces, pieces-split, pieces-take}
+use Rattle.zarrs_array_bytes.proofs.Pieces.{AllSized, length-pieces, pieces_sized, length-concat, concat-pieces, pieces-split, pieces-suc, pieces-take}
 use Rattle.zarrs_bytes.specs.ByteOrder.{reversed_pieces}
 
 pub reverse_sized : (size : ℕ) (parts : List (List ℕ)) → AllSized size parts → AllSized size (map reverse parts)
@@ -21,7 +21,7 @@ length-reversed_pieces size count bytes h =
 pub reversed_pieces-more : (size count : ℕ) (bytes : List ℕ) → reversed_pieces size (count + 1) bytes ≡ reversed_pieces size count bytes ++ reverse (take size (drop (count * size) bytes))
 reversed_pieces-more size count bytes =
     let last = take size (drop (count * size) bytes) in
-    ap (λ (parts : List (List ℕ)). concat (map reverse parts)) (pieces-split size count 1 bytes)
+    ap (λ (parts : List (List ℕ)). concat (map reverse parts)) (pieces-split size count 1 bytes ∙ ap (λ (parts : List (List ℕ)). pieces size count bytes ++ parts) (pieces-suc size 0 (drop (count * size) bytes)))
     ∙ ap concat (map-append reverse (pieces size count bytes) (last ∷ []))
     ∙ concat-append (map reverse (pieces size count bytes)) (reverse last ∷ [])
     ∙ ap (λ (tail : List ℕ). reversed_pieces size count bytes ++ tail) (append-nil (reverse last))
@@ -39,15 +39,23 @@ reversed_pieces-groups size group (suc count) bytes =
     ∙ concat-append (map reverse first) (map reverse rest)
     ∙ ap (λ (parts : List (List ℕ)). concat (map reverse parts) ++ concat (map reverse rest)) (sym (pieces-take size group bytes))
     ∙ ap (λ (tail : List ℕ). reversed_pieces size group (take (group * size) bytes) ++ tail) (reversed_pieces-groups size group count (drop (group * size) bytes))
+    ∙ sym (ap (λ (parts : List (List ℕ)). concat (map (reversed_pieces size group) parts)) (pieces-suc (group * size) count bytes))
+
+reverse_first : (bytes : List ℕ) → reverse (take 1 bytes) ≡ take 1 bytes
+reverse_first [] = refl
+reverse_first (b ∷ bytes) = refl
 
 singles : (count : ℕ) (bytes : List ℕ) → map reverse (pieces 1 count bytes) ≡ pieces 1 count bytes
 singles zero bytes = refl
-singles (suc count) [] = ap (λ (parts : List (List ℕ)). [] ∷ parts) (singles count [])
-singles (suc count) (b ∷ bytes) = ap (λ (parts : List (List ℕ)). (b ∷ []) ∷ parts) (singles count bytes)
+singles (suc count) bytes =
+    ap (map reverse) (pieces-suc 1 count bytes)
+    ∙ (λ i. reverse_first bytes i ∷ singles count (drop 1 bytes) i)
+    ∙ sym (pieces-suc 1 count bytes)
 
 nothing : (count : ℕ) (bytes : List ℕ) → concat (map reverse (pieces 0 count bytes)) ≡ []
 nothing zero bytes = refl
-nothing (suc count) bytes = nothing count bytes
+nothing (suc count) bytes =
+    ap (λ (parts : List (List ℕ)). concat (map reverse parts)) (pieces-suc 0 count bytes) ∙ nothing count (drop 0 bytes)
 
 -- pieces of one byte at most are what they were when they are turned round
 pub reversed_pieces-single : (size count : ℕ) (bytes : List ℕ) → size ≤ 1 → length bytes ≡ count * size → reversed_pieces size count bytes ≡ bytes

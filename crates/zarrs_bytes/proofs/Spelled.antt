@@ -15,7 +15,7 @@ use Rattle.zarrs_array_bytes.specs.Held.{Raw, flen}
 use Rattle.zarrs_array_bytes.specs.Validity.{Holds}
 use Rattle.zarrs_array_bytes.specs.Pieces.{pieces}
 use Rattle.zarrs_array_bytes.proofs.Pieces.{AllSized, length-pieces, pieces_sized, length-concat, pieces-concat, concat-pieces, elements-pieces}
-use Rattle.zarrs_bytes.specs.ByteOrder.{reversed_pieces, turned, ordered, spelled}
+use Rattle.zarrs_bytes.specs.ByteOrder.{reversed_pieces, turned, ordered, spelled_chunk}
 use Rattle.zarrs_bytes.specs.BytesCodec.{turn_size}
 use Rattle.zarrs_bytes.proofs.ReversedPieces.{reverse_sized, length-reversed_pieces, reversed_pieces-groups, reversed_pieces-single}
 
@@ -89,10 +89,10 @@ turned_is (Some Big) width components sign count items h =
 
 -- ---- elements in a container
 
-pub spelled-plain : (order : Option Endianness) (width components : ℕ) (parts : List (List ℕ)) → spelled order width components (map plain parts) ≡ concat (map (ordered order width components) parts)
-spelled-plain order width components [] = refl
-spelled-plain order width components (piece ∷ parts) =
-    ap (λ (rest : List ℕ). ordered order width components piece ++ rest) (spelled-plain order width components parts)
+pub spelled_chunk-plain : (order : Option Endianness) (width components : ℕ) (parts : List (List ℕ)) → spelled_chunk order width components (map plain parts) ≡ concat (map (ordered order width components) parts)
+spelled_chunk-plain order width components [] = refl
+spelled_chunk-plain order width components (piece ∷ parts) =
+    ap (λ (rest : List ℕ). ordered order width components piece ++ rest) (spelled_chunk-plain order width components parts)
 
 -- a container of pieces in the byte order holds the elements that the pieces are read as
 pub Holds-pieces : (order : Option Endianness) (width components : ℕ) (sign : Bool) (raw : Raw) (parts : List (List ℕ)) → AllSized (element_size width components) parts → raw.items ≡ concat (map (ordered order width components) parts) → length raw.items < 2 ^ 64

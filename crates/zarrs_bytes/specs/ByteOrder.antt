@@ -7,36 +7,33 @@ use Rattle.zarrs_data_type.specs.declared.endianness.Endianness.{Endianness}
 use Rattle.zarrs_data_type.specs.declared.endianness.Endianness.TheVariants.{Little, Big}
 use Rattle.zarrs_array_bytes.specs.Pieces.{pieces}
 
--- so many pieces of a size, each turned round
+-- so many pieces of a size, each turned round, joined in order
 abbrev pub reversed_pieces : ℕ → ℕ → List ℕ → List ℕ
 reversed_pieces size count bytes = concat (map reverse (pieces size count bytes))
 
--- the bytes of an element with each of its components turned round
-abbrev pub reversed : ℕ → ℕ → List ℕ → List ℕ
-reversed width components bytes = reversed_pieces (component_bytes width) components bytes
-
--- the bytes of an element with each of its components, which is lowest byte first in memory, in the byte order; turned twice, they are what they were
+-- An element's bytes with its components in the byte order: as they are for little, each component turned round for big. In memory each component has its lowest byte first, so the same step leads from memory to a value and back.
 abbrev pub ordered : Option Endianness → ℕ → ℕ → List ℕ → List ℕ
 ordered None width components bytes = bytes
 ordered (Some Little) width components bytes = bytes
-ordered (Some Big) width components bytes = reversed width components bytes
+ordered (Some Big) width components bytes = reversed_pieces (component_bytes width) components bytes
 
--- the bytes with each whole piece of a size turned round, where one is given; what is left over stays
+-- where a size is given, each whole piece of that size reversed; the bytes left over at the end stay
 abbrev pub turned : Option ℕ → List ℕ → List ℕ
 turned None bytes = bytes
 turned (Some size) bytes =
     reversed_pieces size (length bytes / size) bytes ++ drop (length bytes / size * size) bytes
 
--- without a byte order a component has one byte at most
+-- a component has a byte order, or one byte at most and so needs none
 abbrev pub has_order : Option Endianness → ℕ → Bool
 has_order None width = nat_le (component_bytes width) 1
 has_order (Some order) width = true
 
--- the bytes of an element that is present
+-- the bytes of a plain element; none of any other
 abbrev pub bytes_of : Element → List ℕ
 bytes_of (plain bytes) = bytes
 bytes_of element = []
 
--- the elements of a chunk in order, each component in the byte order
-abbrev pub spelled : Option Endianness → ℕ → ℕ → Chunk → List ℕ
-spelled order width components chunk = concat (map (λ element. ordered order width components (bytes_of element)) chunk)
+-- the bytes of a chunk's elements in order, each component in the byte order
+abbrev pub spelled_chunk : Option Endianness → ℕ → ℕ → Chunk → List ℕ
+spelled_chunk order width components chunk =
+    concat (map (λ element. ordered order width components (bytes_of element)) chunk)

@@ -4,17 +4,18 @@ use Rattle.zarrs_data_type.specs.ElementType.{ElementType}
 use Rattle.zarrs_data_type.specs.declared.endianness.Endianness.{Endianness}
 use Rattle.zarrs_bytes.specs.declared.bytes_codec_partial.BytesCodecPartial.{BytesCodecPartial}
 
--- the chunk that a decoder reads: the byte order, the shape, the type and the fill value
-pub record ChunkForm : Type 0 where
+-- the chunks that a decoder reads: the byte order, the shape, the type and the fill value
+pub record BytesForm : Type 0 where
   pub order : Option Endianness
   pub sizes : List ℕ
   pub type : ElementType
   pub fill : List ℕ
 
-abbrev pub form_of : {H : Type 0} → BytesCodecPartial H → ChunkForm
-form_of decoder =
+-- the form of a decoder's chunk
+abbrev pub bytes_form_of : {H : Type 0} → BytesCodecPartial H → BytesForm
+bytes_form_of decoder =
     record { order = decoder.codec; sizes = decoder.shape; type = decoder.data_type; fill = decoder.fill_value }
 
--- the handle that it reads
-abbrev pub handle_of : {H : Type 0} → BytesCodecPartial H → H
-handle_of decoder = decoder.handle
+-- the handle that a decoder reads
+abbrev pub bytes_handle_of : {H : Type 0} → BytesCodecPartial H → H
+bytes_handle_of decoder = decoder.handle

@@ -5,36 +5,44 @@ use Rattle.zarrs_data_type.specs.Element.{Chunk}
 use Rattle.zarrs_data_type.specs.ElementType.{ElementType}
 use Rattle.zarrs_data_type.specs.declared.endianness.Endianness.{Endianness}
 use Rattle.zarrs_array_bytes.specs.Elements.{select}
-use Rattle.zarrs_bytes.specs.BytesCodec.{value_length, Stands, Written}
-use Rattle.zarrs_bytes.specs.PartialRead.{read_places}
+use Rattle.zarrs_bytes.specs.BytesCodec.{bytes_length, BytesStands, BytesWritten}
+use Rattle.zarrs_codec.specs.ByteRanges.{SameByte}
+use Rattle.zarrs_bytes.specs.PartialRead.{place_bytes, place_size, read_places}
 
 -- A value that is written for a chunk stands for it.
 abbrev pub WrittenStands : Type 0
 WrittenStands =
     (order : Option Endianness) (sizes : List ℕ) (type : ElementType) (fill value : List ℕ) (chunk : Chunk)
-    → Written order sizes type fill value chunk → Stands order sizes type fill value chunk
+    → BytesWritten order sizes type fill value chunk → BytesStands order sizes type fill value chunk
 
 -- A value stands for at most one chunk.
 abbrev pub StandsForOne : Type 0
 StandsForOne =
     (order : Option Endianness) (sizes : List ℕ) (type : ElementType) (fill value : List ℕ) (chunk other : Chunk)
-    → Stands order sizes type fill value chunk → Stands order sizes type fill value other → chunk ≡ other
+    → BytesStands order sizes type fill value chunk → BytesStands order sizes type fill value other → chunk ≡ other
 
 -- Two chunks are written alike exactly if they are equal.
 abbrev pub WrittenAlike : Type 0
 WrittenAlike =
     (order : Option Endianness) (sizes : List ℕ) (type : ElementType) (fill value other_value : List ℕ) (chunk other : Chunk)
-    → Written order sizes type fill value chunk → Written order sizes type fill other_value other → (value ≡ other_value) ↔ (chunk ≡ other)
+    → BytesWritten order sizes type fill value chunk → BytesWritten order sizes type fill other_value other → (value ≡ other_value) ↔ (chunk ≡ other)
 
 -- A written value has the length that the representation says.
 abbrev pub HasRepresentedLength : Type 0
 HasRepresentedLength =
     (order : Option Endianness) (sizes : List ℕ) (type : ElementType) (fill value : List ℕ) (chunk : Chunk) (len : ℕ)
-    → Written order sizes type fill value chunk → value_length order sizes type fill ≡ Ok len → length value ≡ len
+    → BytesWritten order sizes type fill value chunk → bytes_length order sizes type fill ≡ Ok len → length value ≡ len
 
 -- Of a value that stands for a chunk, a read of places inside selects the chunk's elements.
 abbrev pub ReadSelects : Type 0
 ReadSelects =
     (order : Option Endianness) (sizes : List ℕ) (type : ElementType) (fill value : List ℕ) (chunk : Chunk) (places : List ℕ)
-    → Stands order sizes type fill value chunk → All (λ place. place < length chunk) places
+    → BytesStands order sizes type fill value chunk → All (λ place. place < length chunk) places
     → read_places order type fill (Some value) places ≡ Ok (select chunk places)
+
+-- Two values that both have all bytes of these places, and the same ones there, are read alike at these places.
+abbrev pub ReadsAlike : Type 0
+ReadsAlike =
+    (order : Option Endianness) (type : ElementType) (fill value other places : List ℕ)
+    → All (SameByte value other) (place_bytes (place_size type) places)
+    → read_places order type fill (Some value) places ≡ read_places order type fill (Some other) places

@@ -8,20 +8,20 @@ use Rattle.zarrs_chunk.specs.declared.codec_error.CodecError.TheVariants.{Invali
 use Rattle.zarrs_data_type.specs.Element.{Chunk, fill_element}
 use Rattle.zarrs_data_type.specs.ElementType.{ElementType, fixed, text, bytes, optional, element_size}
 use Rattle.zarrs_data_type.specs.declared.endianness.Endianness.{Endianness}
-use Rattle.zarrs_bytes.specs.BytesCodec.{element_read}
+use Rattle.zarrs_bytes.specs.BytesCodec.{bytes_element}
 
 -- the numbers of the bytes of elements of one size at these places, in order
 abbrev pub place_bytes : ℕ → List ℕ → List ℕ
 place_bytes size places = flat_map (λ place. range_with_len (place * size) size) places
 
--- the bytes of an element of a fixed type
-abbrev pub size_of : ElementType → ℕ
-size_of (fixed width components sign) = element_size width components
-size_of text = 0
-size_of bytes = 0
-size_of (optional type) = 0
+-- how many bytes an element of a fixed type has; none of any other type
+abbrev pub place_size : ElementType → ℕ
+place_size (fixed width components sign) = element_size width components
+place_size text = 0
+place_size bytes = 0
+place_size (optional type) = 0
 
--- a fixed type, and the bytes of one of its elements, which has at least one
+-- the type is fixed, an element has at least one byte, and `fill` is as long as one
 abbrev pub IsFilledType : ElementType → List ℕ → Type 0
 IsFilledType (fixed width components sign) fill =
     (length fill ≡ element_size width components) × (0 < element_size width components)
@@ -31,21 +31,21 @@ IsFilledType (optional type) fill = ⊥
 
 -- the value has all bytes of the place
 abbrev pub has_place : ElementType → List ℕ → ℕ → Bool
-has_place type value place = nat_le (place * size_of type + size_of type) (length value)
+has_place type value place = nat_le (place * place_size type + place_size type) (length value)
 
--- the elements at these places: of a value, where it has their bytes; the fill element at each, where nothing is stored
+-- the elements at these places: those of the stored value, where it has all their bytes; the fill element at each, where nothing is stored
 abbrev pub read_places : Option Endianness → ElementType → List ℕ → Option (List ℕ) → List ℕ → Result Chunk CodecError
 read_places order type fill None places = Ok (map (λ _. fill_element type fill) places)
 read_places order type fill (Some value) places = do
   _ ← demand (list_all (has_place type value) places) InvalidByteRange
-  Ok (map (element_read order type value) places)
+  Ok (map (bytes_element order type value) places)
 
--- the elements that a selection means, of what is stored
-abbrev pub read : Option Endianness → List ℕ → ElementType → List ℕ → Option (List ℕ) → Selection → Result Chunk CodecError
-read order sizes type fill stored selection = do
+-- the elements that a selection means, of what is stored, or the first refusal
+abbrev pub bytes_read : Option Endianness → List ℕ → ElementType → List ℕ → Option (List ℕ) → Selection → Result Chunk CodecError
+bytes_read order sizes type fill stored selection = do
   places ← places_of selection sizes
   read_places order type fill stored places
 
--- the numbers of the bytes that such a read asks for
-abbrev pub planned : List ℕ → ElementType → Selection → Result (List ℕ) CodecError
-planned sizes type selection = seen (place_bytes (size_of type)) (places_of selection sizes)
+-- the numbers of the bytes that such a read asks for, or the first refusal
+abbrev pub bytes_plan : List ℕ → ElementType → Selection → Result (List ℕ) CodecError
+bytes_plan sizes type selection = seen (place_bytes (place_size type)) (places_of selection sizes)

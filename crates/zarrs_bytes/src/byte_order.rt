@@ -1,4 +1,7 @@
-//! Components turned round in place.
+//! Components turned round: from little endian, as they are in memory, to big endian, or back.
+//!
+//! A loop of single swaps would be built byte by byte, so the bytes are turned in groups whose
+//! swaps are all constants, which compile to one shuffle of a register.
 ghost use Rattle.std.specs.Prelude.{◌≡◌, ◌<◌, ◌*◌, ◌/◌, ◌++◌, length, IfOk, OnOk, Ok, Some, None, IsOk, reverse, true, false};
 ghost use Rattle.zarrs_chunk.specs.Answer.{Answers, memory, is_fault, seen};
 ghost use Rattle.zarrs_array_bytes.specs.Held.{raw_of};
@@ -9,8 +12,15 @@ use std::borrow::CowSlice;
 use zarrs_array_bytes::ArrayBytesRaw;
 use zarrs_chunk::CodecError;
 
-/// Turns the bytes of a piece round. Pieces of 2, 3, 4 and 8 bytes are swapped one pair after
-/// another, which compiles to a few moves where the size is known.
+/// How many bytes a group has: as many as a register.
+const GROUP: usize = 16;
+
+/// How many bytes are copied before they are turned round: few enough that they are still in the
+/// nearest cache then.
+const BLOCK: usize = 3072;
+
+/// Turns a piece round. Pieces of 2, 3, 4 and 8 bytes are swapped pair by pair, which compiles to
+/// a few moves where the size is known.
 #[inline(always)]
 fn reverse_piece(piece: &mut [u8])
     ensures { piece.new ≡ reverse piece.old }
@@ -32,6 +42,7 @@ fn reverse_piece(piece: &mut [u8])
     }
 }
 
+/// Turns each piece of `size` bytes round, one after another. What is left over stays.
 #[inline(always)]
 fn reverse_pieces(bytes: &mut [u8], size: usize)
     requires { 0 < size }
@@ -43,8 +54,8 @@ fn reverse_pieces(bytes: &mut [u8], size: usize)
     }
 }
 
-/// Turns each piece of 16 bytes round. Pieces of 2, 4 and 8 bytes are swapped pair by pair, which
-/// compiles to one shuffle of the whole where the size is known.
+/// Turns each piece of `size` bytes of a group round. Pieces of 2, 4 and 8 bytes are swapped pair
+/// by pair, which compiles to one shuffle of the whole where the size is known.
 #[inline(always)]
 fn reverse_group(group: &mut [u8], size: usize)
     requires len { length group.now ≡ 16 }
@@ -86,23 +97,23 @@ fn reverse_group(group: &mut [u8], size: usize)
     }
 }
 
-/// Turns each piece of `size` bytes round, 16 bytes at a time.
+/// Turns each piece of `size` bytes round, a group at a time, and those left over one by one.
 #[inline(always)]
 fn reverse_groups(bytes: &mut [u8], size: usize)
     requires positive { 0 < size }
     requires divides { 16 / size * size ≡ 16 }
     ensures { bytes.new ≡ turned (Some size) bytes.old }
 {
-    let groups = bytes.len() / 16;
+    let groups = bytes.len() / GROUP;
     for index in 0..groups {
-        let start = index * 16;
-        reverse_group(&mut bytes[start..start + 16], size);
+        let start = index * GROUP;
+        reverse_group(&mut bytes[start..start + GROUP], size);
     }
-    reverse_pieces(&mut bytes[groups * 16..], size);
+    reverse_pieces(&mut bytes[groups * GROUP..], size);
 }
 
-/// Turns each piece of `size` bytes round. The usual sizes are constants here, so that each gets
-/// a loop of its own.
+/// Turns each piece of `size` bytes round. What is left over stays. The usual sizes are constants
+/// here, so that each gets a loop of its own.
 pub fn reverse_each(bytes: &mut [u8], size: usize)
     requires { 0 < size }
     ensures { bytes.new ≡ turned (Some size) bytes.old }
@@ -127,23 +138,33 @@ fn append_turned(copy: &mut Vec<u8>, part: &[u8], size: usize) -> Result<(), All
     Ok(())
 }
 
-/// The bytes with each piece of `size` bytes turned round. They are copied and turned a block at a
-/// time where whole pieces make up a block, so that it is turned while it is in the nearest cache.
+/// How many bytes of whole pieces are copied and turned round at a time.
+fn block_of(size: usize) -> usize
+    requires { 0 < size }
+    ensures positive { 0 < result }
+    ensures whole { result / size * size ≡ result }
+{
+    if size < BLOCK {
+        BLOCK / size * size
+    } else {
+        size
+    }
+}
+
+/// A copy of the bytes with each piece of `size` bytes turned round. It is made block by block, so
+/// that the bytes go through memory once.
 fn turned_copy(alloc: Global, bytes: &[u8], size: usize) -> Result<Vec<u8>, AllocError>
     requires { 0 < size }
     ensures { IfOk result (λ copy. copy.items ≡ turned (Some size) bytes.now) }
 {
+    let block = block_of(size);
+    let blocks = bytes.len() / block;
     let mut copy = Vec::with_capacity(alloc, bytes.len())?;
-    if 3072 / size * size != 3072 {
-        append_turned(&mut copy, bytes, size)?;
-        return Ok(copy);
-    }
-    let blocks = bytes.len() / 3072;
     for index in 0..blocks {
-        let start = index * 3072;
-        append_turned(&mut copy, &bytes[start..start + 3072], size)?;
+        let start = index * block;
+        append_turned(&mut copy, &bytes[start..start + block], size)?;
     }
-    append_turned(&mut copy, &bytes[blocks * 3072..], size)?;
+    append_turned(&mut copy, &bytes[blocks * block..], size)?;
     Ok(copy)
 }
 

@@ -1,18 +1,18 @@
 ghost use Rattle.std.specs.Prelude.{◌≡◌, ◌<◌, ℕ, List, Ok, Some, None, IfOk, IfSome, false};
-ghost use Rattle.zarrs_chunk.specs.Answer.{Answers, AnswersBy, memory, never, seen};
+ghost use Rattle.zarrs_chunk.specs.Answer.{Answers, AnswersBy, is_fault, memory, never, seen};
 ghost use Rattle.zarrs_chunk.specs.ChunkShape.{product};
 ghost use Rattle.zarrs_data_type.specs.Element.{Chunk};
 ghost use Rattle.zarrs_array_bytes.specs.Held.{flen, raw_of};
 ghost use Rattle.zarrs_array_bytes.specs.Validity.{Holds};
 ghost use Rattle.zarrs_bytes.specs.ByteOrder.{has_order};
-ghost use Rattle.zarrs_bytes.specs.BytesCodec.{value_length, encoded, decoded, turn_size as turn_size_of, needs_memory, Stands, Written};
+ghost use Rattle.zarrs_bytes.specs.BytesCodec.{bytes_length, bytes_value, bytes_chunk, turn_size as turn_size_of, needs_memory, BytesStands, BytesWritten};
 
 use crate::byte_order::turn;
-use crate::codec::BytesRepresentation;
 use std::alloc::Global;
 use std::marker::Model;
 use zarrs_array_bytes::{ArrayBytes, ArrayBytesRaw};
 use zarrs_chunk::{ChunkShape, CodecError, CodecName};
+use zarrs_codec::BytesRepresentation;
 use zarrs_data_type::{DataType, Endianness, FillValue, HasComponents};
 
 /// The array codec `bytes`: a chunk's value is its elements in row-major order, each component in
@@ -43,28 +43,28 @@ struct ChunkLengths {
 impl BytesCodec {
     /// The codec with this byte order. Without one it takes only components of one byte.
     pub fn new(endianness: Option<Endianness>) -> BytesCodec
-        ensures { result ≡ endianness }
+        ensures made { result ≡ endianness }
     {
         BytesCodec { endianness }
     }
 
     /// The codec that writes the lowest byte of each component first.
     pub fn little() -> BytesCodec
-        ensures { result ≡ Some Endianness.Little }
+        ensures made { result ≡ Some Endianness.Little }
     {
         BytesCodec::new(Some(Endianness::Little))
     }
 
     /// The codec that writes the highest byte of each component first.
     pub fn big() -> BytesCodec
-        ensures { result ≡ Some Endianness.Big }
+        ensures made { result ≡ Some Endianness.Big }
     {
         BytesCodec::new(Some(Endianness::Big))
     }
 
     /// Whether the codec takes components of so many bits.
     fn takes(&self, component_size_bits: u64) -> bool
-        ensures { result ≡ has_order self.now component_size_bits }
+        ensures value { result ≡ has_order self.now component_size_bits }
     {
         match self.endianness {
             None => component_size_bits <= 8,
@@ -72,7 +72,8 @@ impl BytesCodec {
         }
     }
 
-    /// The bytes of the components that are turned round, or `None` where all stay in their places.
+    /// How many bytes the components have that are turned round, or `None` where all bytes stay in
+    /// their places.
     pub(crate) fn turn_size(&self, data_type: &DataType) -> Option<usize>
         ensures size { result ≡ turn_size_of self.now data_type.now }
         ensures positive { IfSome result (λ size. 0 < size) }
@@ -87,14 +88,16 @@ impl BytesCodec {
         Some(components.component_size_bits.div_ceil(8) as usize)
     }
 
+    /// How long a chunk of this form is. Refusals are those of `encoded_representation`.
     fn lengths(
         &self,
         shape: &ChunkShape,
         data_type: &DataType,
         fill_value: &FillValue,
     ) -> Result<ChunkLengths, CodecError>
-        ensures answer { seen (λ lengths. lengths.bytes) result ≡ value_length self.now shape.now data_type.now fill_value.now }
+        ensures answer { seen (λ lengths. lengths.bytes) result ≡ bytes_length self.now shape.now data_type.now fill_value.now }
         ensures elements { IfOk result (λ lengths. lengths.elements ≡ product shape.now) }
+        ensures no_fault { is_fault result ≡ false }
     {
         let Some(components) = HasComponents::components(data_type) else {
             return Err(CodecError::UnsupportedDataType(CodecName::Bytes));
@@ -123,7 +126,7 @@ impl BytesCodec {
         data_type: &DataType,
         fill_value: &FillValue,
     ) -> Result<BytesRepresentation, CodecError>
-        ensures { result ≡ seen BytesRepresentation.FixedSize (value_length self.now shape.now data_type.now fill_value.now) }
+        ensures answer { result ≡ seen BytesRepresentation.FixedSize (bytes_length self.now shape.now data_type.now fill_value.now) }
     {
         let lengths = self.lengths(shape, data_type, fill_value)?;
         Ok(BytesRepresentation::FixedSize(lengths.bytes))
@@ -142,11 +145,12 @@ impl BytesCodec {
         data_type: &DataType,
         fill_value: &FillValue,
     ) -> Result<ArrayBytesRaw<'a>, CodecError>
-        ensures found { IfOk result (λ value. (chunk : Chunk) × Holds data_type.now elements.entry chunk × Written self.now shape.now data_type.now fill_value.now (raw_of value).items chunk) }
-        ensures only { (chunk : Chunk) (value : List ℕ) → Holds data_type.now elements.entry chunk → Written self.now shape.now data_type.now fill_value.now value chunk → Answers memory (λ bytes. (raw_of bytes).items) result (Ok value) }
-        ensures exact { Answers memory (λ value. (raw_of value).items) result (encoded self.now shape.now data_type.now fill_value.now elements.entry) }
-        ensures in_place { needs_memory self.now data_type.now elements.entry ≡ false → seen (λ value. (raw_of value).items) result ≡ encoded self.now shape.now data_type.now fill_value.now elements.entry }
+        ensures found { IfOk result (λ value. (chunk : Chunk) × Holds data_type.now elements.entry chunk × BytesWritten self.now shape.now data_type.now fill_value.now (raw_of value).items chunk) }
+        ensures only { (chunk : Chunk) (value : List ℕ) → Holds data_type.now elements.entry chunk → BytesWritten self.now shape.now data_type.now fill_value.now value chunk → Answers memory (λ bytes. (raw_of bytes).items) result (Ok value) }
+        ensures exact { Answers memory (λ value. (raw_of value).items) result (bytes_value self.now shape.now data_type.now fill_value.now elements.entry) }
+        ensures in_place { needs_memory self.now data_type.now elements.entry ≡ false → seen (λ value. (raw_of value).items) result ≡ bytes_value self.now shape.now data_type.now fill_value.now elements.entry }
         ensures kept { turn_size_of self.now data_type.now ≡ None → IfOk result (λ value. elements.entry ≡ flen (raw_of value)) }
+        ensures no_fault { is_fault result ≡ false }
     {
         let lengths = self.lengths(shape, data_type, fill_value)?;
         elements.validate(lengths.elements, data_type)?;
@@ -168,11 +172,12 @@ impl BytesCodec {
         data_type: &DataType,
         fill_value: &FillValue,
     ) -> Result<ArrayBytes<'a>, CodecError>
-        ensures found { IfOk result (λ elements. (chunk : Chunk) × Holds data_type.now elements chunk × Stands self.now shape.now data_type.now fill_value.now (raw_of value.entry).items chunk) }
-        ensures only { (chunk : Chunk) → Stands self.now shape.now data_type.now fill_value.now (raw_of value.entry).items chunk → AnswersBy memory (Holds data_type.now) result (Ok chunk) }
-        ensures exact { AnswersBy memory (Holds data_type.now) result (decoded self.now shape.now data_type.now fill_value.now (raw_of value.entry).items) }
-        ensures in_place { needs_memory self.now data_type.now (flen (raw_of value.entry)) ≡ false → AnswersBy never (Holds data_type.now) result (decoded self.now shape.now data_type.now fill_value.now (raw_of value.entry).items) }
+        ensures found { IfOk result (λ elements. (chunk : Chunk) × Holds data_type.now elements chunk × BytesStands self.now shape.now data_type.now fill_value.now (raw_of value.entry).items chunk) }
+        ensures only { (chunk : Chunk) → BytesStands self.now shape.now data_type.now fill_value.now (raw_of value.entry).items chunk → AnswersBy memory (Holds data_type.now) result (Ok chunk) }
+        ensures exact { AnswersBy memory (Holds data_type.now) result (bytes_chunk self.now shape.now data_type.now fill_value.now (raw_of value.entry).items) }
+        ensures in_place { needs_memory self.now data_type.now (flen (raw_of value.entry)) ≡ false → AnswersBy never (Holds data_type.now) result (bytes_chunk self.now shape.now data_type.now fill_value.now (raw_of value.entry).items) }
         ensures kept { turn_size_of self.now data_type.now ≡ None → IfOk result (λ elements. elements ≡ flen (raw_of value.entry)) }
+        ensures no_fault { is_fault result ≡ false }
     {
         let lengths = self.lengths(shape, data_type, fill_value)?;
         let found = value.len() as u64;
@@ -190,7 +195,7 @@ impl BytesCodec {
 impl Default for BytesCodec {
     /// The codec in the native byte order, which is little.
     fn default() -> BytesCodec
-        ensures { result ≡ Some Endianness.Little }
+        ensures made { result ≡ Some Endianness.Little }
     {
         BytesCodec::new(Some(Endianness::native()))
     }

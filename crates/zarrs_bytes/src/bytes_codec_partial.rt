@@ -1,28 +1,29 @@
-ghost use Rattle.std.specs.Prelude.{◌≡◌, ◌<◌, ◌+◌, ◌*◌, ◌-◌, ◌^◌, ◌++◌, ℕ, true, List, Some, None, Ok, IfOk, OnOk, IfErr, All, IfSome, is_some, is_ok, map, sum_by, length};
+ghost use Rattle.std.specs.Prelude.{◌≡◌, ◌<◌, ◌+◌, ◌*◌, ◌-◌, ◌^◌, ℕ, true, false, List, Some, None, Ok, IfOk, IfErr, All, is_some, min, is_ok, map, sum_by, length};
 ghost use Rattle.std.specs.List.{flat_map};
 ghost use Rattle.zarrs_chunk.specs.ChunkShape.{product};
-ghost use Rattle.zarrs_chunk.specs.Answer.{Answers, AnswersBy, fault, memory, memory_or_fault, seen};
+ghost use Rattle.zarrs_chunk.specs.Answer.{Answers, AnswersBy, fault, is_fault, memory, memory_or_fault, seen};
 ghost use Rattle.zarrs_chunk.specs.Indexer.{selection_of};
 ghost use Rattle.zarrs_chunk.specs.Runs.{joined_runs};
 ghost use Rattle.zarrs_chunk.specs.Selection.{places_of};
 ghost use Rattle.zarrs_data_type.specs.Element.{Chunk, fill_element};
+ghost use Rattle.zarrs_data_type.specs.ElementType.{fixed_size_of};
+ghost use Rattle.zarrs_data_type.specs.FillValue.{fill_fits};
 ghost use Rattle.zarrs_array_bytes.specs.Elements.{select};
-ghost use Rattle.zarrs_array_bytes.specs.Filled.{repeated};
 ghost use Rattle.zarrs_array_bytes.specs.Held.{raw_of};
 ghost use Rattle.zarrs_array_bytes.specs.Validity.{Holds};
-ghost use Rattle.zarrs_bytes.specs.ByteRanges.{range_indices};
-ghost use Rattle.zarrs_bytes.specs.BytesCodec.{value_length, Stands};
-ghost use Rattle.zarrs_bytes.specs.HandleState.{after_reading};
-ghost use Rattle.zarrs_bytes.specs.PartialRead.{place_bytes, planned, read, read_places, size_of, IsFilledType};
-ghost use Rattle.zarrs_bytes.specs.Refused.{outcome};
+ghost use Rattle.zarrs_codec.specs.ByteRanges.{range_indices};
+ghost use Rattle.zarrs_bytes.specs.BytesCodec.{bytes_length, BytesStands};
+ghost use Rattle.zarrs_codec.specs.StorageState.{after_reading, are_sure};
+ghost use Rattle.zarrs_bytes.specs.PartialRead.{place_bytes, bytes_plan, bytes_read, read_places, place_size, IsFilledType};
+ghost use Rattle.zarrs_codec.specs.Refused.{outcome};
 
 use crate::byte_order::turn;
 use crate::bytes_codec::BytesCodec;
-use crate::codec::{ByteRange, BytesPartialDecoderTraits, Refused};
 use std::alloc::{AllocError, Global};
 use std::borrow::CowSlice;
-use zarrs_array_bytes::ArrayBytes;
+use zarrs_array_bytes::{ArrayBytes, append_copies};
 use zarrs_chunk::{ChunkShape, CodecError, Indexer};
+use zarrs_codec::{ByteRange, BytesPartialDecoderTraits, Refused};
 use zarrs_data_type::{DataType, FillValue};
 
 /// Reads a chunk of [`BytesCodec`] in part, over a storage handle that it owns. A read looks at the
@@ -35,7 +36,21 @@ pub struct BytesCodecPartial<H> {
     shape: ChunkShape,
     data_type: DataType,
     fill_value: FillValue,
-    ghost taken: { is_ok (value_length codec shape data_type fill_value) ≡ true },
+    ghost taken: { is_ok (bytes_length codec shape data_type fill_value) ≡ true },
+}
+
+/// How many bytes an element of a fixed type has.
+fn element_size(data_type: &DataType, fill_value: &FillValue) -> usize
+    requires fixed { is_some (fixed_size_of data_type.now) ≡ true }
+    requires fits { fill_fits data_type.now fill_value.now ≡ true }
+    ensures size { result ≡ place_size data_type.now }
+    ensures positive { 0 < result }
+    ensures filled { IsFilledType data_type.now fill_value.now }
+{
+    match data_type.fixed_size() {
+        Some(size) => size,
+        None => unreachable!(),
+    }
 }
 
 /// One range of bytes for each run of elements of `size` bytes.
@@ -57,62 +72,32 @@ fn run_ranges(alloc: Global, size: u64, runs: &[(u64, u64)]) -> Result<Vec<ByteR
     Ok(ranges)
 }
 
-/// Appends so many copies of the bytes.
-fn append_copies(bytes: &mut Vec<u8>, part: &[u8], count: u64) -> Result<(), AllocError>
-    ensures { OnOk result (bytes.new.items ≡ bytes.old.items ++ repeated part.now count) }
-{
-    for _copy in 0..count {
-        bytes.extend_from_slice(part)?;
-    }
-    Ok(())
-}
-
-/// So many copies of the bytes. Many are made by blocks of 256, since each append costs as much as
-/// some dozen bytes.
-fn copies(alloc: Global, part: &[u8], count: u64) -> Result<Vec<u8>, AllocError>
-    ensures { IfOk result (λ bytes. bytes.items ≡ repeated part.now count) }
-{
-    let mut bytes = Vec::with_capacity(alloc, part.len().saturating_mul(count as usize))?;
-    if count < 1024 {
-        append_copies(&mut bytes, part, count)?;
-        return Ok(bytes);
-    }
-    let mut few = Vec::new(alloc);
-    append_copies(&mut few, part, 16)?;
-    let mut block = Vec::new(alloc);
-    append_copies(&mut block, few.as_slice(), 16)?;
-    append_copies(&mut bytes, block.as_slice(), count / 256)?;
-    append_copies(&mut bytes, part, count % 256)?;
-    Ok(bytes)
-}
-
-/// How many places the runs have, where 64 bits count them.
-fn count_of(runs: &[(u64, u64)]) -> Option<u64>
-    ensures { IfSome result (λ count. count ≡ length (joined_runs runs.now)) }
+/// How many places the runs have, or `u64::MAX` where they have more.
+fn count_of(runs: &[(u64, u64)]) -> u64
+    ensures { result ≡ min (length (joined_runs runs.now)) (2 ^ 64 - 1) }
 {
     let mut count: u64 = 0;
     for (_, len) in runs {
-        count = count.checked_add(*len)?;
+        count = count.saturating_add(*len);
     }
-    Some(count)
+    count
 }
 
-/// The fill element for each place of the runs.
+/// The fill element for each place of the runs. It is the same for each, so the places are counted,
+/// and nothing is made run by run. No memory has room for `u64::MAX` of them.
 fn fill_runs(alloc: Global, fill: &[u8], runs: &[(u64, u64)]) -> Result<Vec<u8>, AllocError>
+    requires { 0 < length fill.now }
     ensures { IfOk result (λ bytes. bytes.items ≡ flat_map (λ _. fill.now) (joined_runs runs.now)) }
 {
-    if let Some(count) = count_of(runs) {
-        return copies(alloc, fill, count);
-    }
-    let mut bytes = Vec::new(alloc);
-    for (_, len) in runs {
-        append_copies(&mut bytes, fill, *len)?;
-    }
+    let count = count_of(runs);
+    let room = fill.len().saturating_mul(count as usize);
+    let mut bytes = Vec::with_capacity(alloc, room)?;
+    append_copies(&mut bytes, fill, count)?;
     Ok(bytes)
 }
 
 impl BytesCodec {
-    ghost use Rattle.zarrs_bytes.specs.BytesCodecPartial.{form_of, handle_of};
+    ghost use Rattle.zarrs_bytes.specs.BytesCodecPartial.{bytes_form_of, bytes_handle_of};
 
     /// The elements at the places of these runs, by the ranges of their bytes.
     fn read_ranges<H: BytesPartialDecoderTraits>(
@@ -125,9 +110,10 @@ impl BytesCodec {
         ranges: &[ByteRange],
     ) -> Result<ArrayBytes<'static>, CodecError>
         requires fixed { IsFilledType data_type.now fill.now }
-        requires bytes { range_indices ranges.now ≡ place_bytes (size_of data_type.now) (joined_runs runs.now) }
+        requires bytes { range_indices ranges.now ≡ place_bytes (place_size data_type.now) (joined_runs runs.now) }
         requires filled { All (λ range. range.start < range.end) ranges.now }
         ensures answer { AnswersBy memory_or_fault (Holds data_type.now) result (read_places self.now data_type.now fill.now (H.state handle.old).value (joined_runs runs.now)) }
+        ensures sure { are_sure (H.state handle.old).sure (range_indices ranges.now) ≡ true → is_fault result ≡ false }
         ensures left { H.state handle.new ≡ after_reading result (H.state handle.old) }
         ensures same_reference { H.lent handle.new ≡ H.lent handle.old }
     {
@@ -144,6 +130,36 @@ impl BytesCodec {
         }
     }
 
+    /// The elements at the places of these runs, each a start and a length, in order, over a handle
+    /// that keeps a chunk's value: those of the stored value by the places' bytes alone, and the fill
+    /// value at each place where nothing is stored. The type is fixed and the fill value one of its
+    /// elements, no run is empty, and 64 bits count the bytes up to the end of each. Refusals:
+    /// `InvalidByteRange` where a place's bytes lie past the value's end; `OutOfMemory` and
+    /// `Storage`, which may come before. `Storage` never comes where all bytes of the places are
+    /// sure.
+    pub fn read_runs<H: BytesPartialDecoderTraits>(
+        &self,
+        alloc: Global,
+        handle: &mut H,
+        data_type: &DataType,
+        fill_value: &FillValue,
+        runs: &[(u64, u64)],
+    ) -> Result<ArrayBytes<'static>, CodecError>
+        requires fixed { is_some (fixed_size_of data_type.now) ≡ true }
+        requires fits { fill_fits data_type.now fill_value.now ≡ true }
+        requires filled { All (λ run. 0 < run.1) runs.now }
+        requires ends { All (λ run. (run.0 + run.1) * place_size data_type.now < 2 ^ 64) runs.now }
+        ensures answer { AnswersBy memory_or_fault (Holds data_type.now) result (read_places self.now data_type.now fill_value.now (H.state handle.old).value (joined_runs runs.now)) }
+        ensures sure { are_sure (H.state handle.old).sure (place_bytes (place_size data_type.now) (joined_runs runs.now)) ≡ true → is_fault result ≡ false }
+        ensures left { H.state handle.new ≡ after_reading result (H.state handle.old) }
+        ensures same_reference { H.lent handle.new ≡ H.lent handle.old }
+    {
+        let size = element_size(data_type, fill_value);
+        let ranges = run_ranges(alloc, size as u64, runs)?;
+        let fill = fill_value.as_ne_bytes();
+        self.read_ranges(alloc, handle, data_type, fill, runs, ranges.as_slice())
+    }
+
     /// What a partial decoder keeps of a chunk that the codec takes.
     fn parts_of_decoder(
         &self,
@@ -151,8 +167,9 @@ impl BytesCodec {
         data_type: &DataType,
         fill_value: &FillValue,
     ) -> Result<(ChunkShape, DataType, FillValue), CodecError>
-        ensures answer { Answers memory (λ parts. parts) result (seen (λ _. (shape.now, data_type.now, fill_value.now)) (value_length self.now shape.now data_type.now fill_value.now)) }
-        ensures taken { IfOk result (λ parts. is_ok (value_length self.now parts.0 parts.1 parts.2) ≡ true) }
+        ensures answer { Answers memory (λ parts. parts) result (seen (λ _. (shape.now, data_type.now, fill_value.now)) (bytes_length self.now shape.now data_type.now fill_value.now)) }
+        ensures taken { IfOk result (λ parts. is_ok (bytes_length self.now parts.0 parts.1 parts.2) ≡ true) }
+        ensures no_fault { is_fault result ≡ false }
     {
         self.encoded_representation(shape, data_type, fill_value)?;
         let shape = shape.clone()?;
@@ -171,10 +188,11 @@ impl BytesCodec {
         data_type: &DataType,
         fill_value: &FillValue,
     ) -> Result<BytesCodecPartial<H>, Refused<H>>
-        ensures answer { Answers memory (λ made. made) (outcome result) (seen (λ _. tt) (value_length self.now shape.now data_type.now fill_value.now)) }
-        ensures form { IfOk result (λ decoder. form_of decoder ≡ record { order = self.now; sizes = shape.now; type = data_type.now; fill = fill_value.now }) }
-        ensures over { IfOk result (λ decoder. handle_of decoder ≡ handle) }
+        ensures answer { Answers memory (λ made. made) (outcome result) (seen (λ _. tt) (bytes_length self.now shape.now data_type.now fill_value.now)) }
+        ensures form { IfOk result (λ decoder. bytes_form_of decoder ≡ record { order = self.now; sizes = shape.now; type = data_type.now; fill = fill_value.now }) }
+        ensures over { IfOk result (λ decoder. bytes_handle_of decoder ≡ handle) }
         ensures handed_back { IfErr result (λ refused. refused.handle ≡ handle) }
+        ensures no_fault { is_fault (outcome result) ≡ false }
     {
         match self.parts_of_decoder(shape, data_type, fill_value) {
             Ok((shape, data_type, fill_value)) => Ok(BytesCodecPartial {
@@ -190,11 +208,11 @@ impl BytesCodec {
 }
 
 impl<H: BytesPartialDecoderTraits> BytesCodecPartial<H> {
-    ghost use Rattle.zarrs_bytes.specs.BytesCodecPartial.{form_of, handle_of};
+    ghost use Rattle.zarrs_bytes.specs.BytesCodecPartial.{bytes_form_of, bytes_handle_of};
 
     /// The type of the elements.
     pub fn data_type(&self) -> &DataType
-        ensures { result.now ≡ (form_of self.now).type }
+        ensures value { result.now ≡ (bytes_form_of self.now).type }
     {
         &self.data_type
     }
@@ -202,29 +220,29 @@ impl<H: BytesPartialDecoderTraits> BytesCodecPartial<H> {
     /// The elements that the indexer means, in its order: those of the stored value by the places'
     /// bytes alone, and the fill value at each place where nothing is stored. Refusals, the first
     /// that holds: those of `Indexer::places`; `InvalidByteRange` where a place's bytes lie past the
-    /// value's end; `OutOfMemory` and `Storage`.
+    /// value's end; `OutOfMemory` and `Storage`. `Storage` comes after the refusals of the indexer,
+    /// and never where all bytes of the places are sure.
     pub fn partial_decode(
         &mut self,
         alloc: Global,
         indexer: &Indexer,
     ) -> Result<ArrayBytes<'static>, CodecError>
-        ensures selected { let form = form_of self.old in (value : List ℕ) (chunk : Chunk) → (H.state (handle_of self.old)).value ≡ Some value → Stands form.order form.sizes form.type form.fill value chunk → AnswersBy memory_or_fault (Holds form.type) result (seen (select chunk) (places_of (selection_of indexer.now) form.sizes)) }
-        ensures unstored { let form = form_of self.old in (H.state (handle_of self.old)).value ≡ None → AnswersBy memory_or_fault (Holds form.type) result (seen (map (λ _. fill_element form.type form.fill)) (places_of (selection_of indexer.now) form.sizes)) }
-        ensures answer { let form = form_of self.old in AnswersBy memory_or_fault (Holds form.type) result (read form.order form.sizes form.type form.fill (H.state (handle_of self.old)).value (selection_of indexer.now)) }
-        ensures left { H.state (handle_of self.new) ≡ after_reading result (H.state (handle_of self.old)) }
-        ensures same_reference { H.lent (handle_of self.new) ≡ H.lent (handle_of self.old) }
-        ensures form_kept { form_of self.new ≡ form_of self.old }
+        ensures selected { let form = bytes_form_of self.old in (value : List ℕ) (chunk : Chunk) → (H.state (bytes_handle_of self.old)).value ≡ Some value → BytesStands form.order form.sizes form.type form.fill value chunk → AnswersBy memory_or_fault (Holds form.type) result (seen (select chunk) (places_of (selection_of indexer.now) form.sizes)) }
+        ensures unstored { let form = bytes_form_of self.old in (H.state (bytes_handle_of self.old)).value ≡ None → AnswersBy memory_or_fault (Holds form.type) result (seen (map (λ _. fill_element form.type form.fill)) (places_of (selection_of indexer.now) form.sizes)) }
+        ensures answer { let form = bytes_form_of self.old in AnswersBy memory_or_fault (Holds form.type) result (bytes_read form.order form.sizes form.type form.fill (H.state (bytes_handle_of self.old)).value (selection_of indexer.now)) }
+        ensures indexer_first { is_ok (places_of (selection_of indexer.now) (bytes_form_of self.old).sizes) ≡ false → is_fault result ≡ false }
+        ensures sure { let form = bytes_form_of self.old in IfOk (bytes_plan form.sizes form.type (selection_of indexer.now)) (λ numbers. are_sure (H.state (bytes_handle_of self.old)).sure numbers ≡ true → is_fault result ≡ false) }
+        ensures left { H.state (bytes_handle_of self.new) ≡ after_reading result (H.state (bytes_handle_of self.old)) }
+        ensures same_reference { H.lent (bytes_handle_of self.new) ≡ H.lent (bytes_handle_of self.old) }
+        ensures form_kept { bytes_form_of self.new ≡ bytes_form_of self.old }
     {
         let runs = indexer.runs(alloc, &self.shape)?;
-        let size = self.element_size();
-        let ranges = run_ranges(alloc, size as u64, runs.as_slice())?;
-        self.codec.read_ranges(
+        self.codec.read_runs(
             alloc,
             &mut self.handle,
             &self.data_type,
-            self.fill_value.as_ne_bytes(),
+            &self.fill_value,
             runs.as_slice(),
-            ranges.as_slice(),
         )
     }
 
@@ -236,58 +254,49 @@ impl<H: BytesPartialDecoderTraits> BytesCodecPartial<H> {
         alloc: Global,
         indexer: &Indexer,
     ) -> Result<Vec<ByteRange>, CodecError>
-        ensures bytes { let form = form_of self.now in Answers memory (λ ranges. range_indices ranges.items) result (planned form.sizes form.type (selection_of indexer.now)) }
+        ensures bytes { let form = bytes_form_of self.now in Answers memory (λ ranges. range_indices ranges.items) result (bytes_plan form.sizes form.type (selection_of indexer.now)) }
         ensures filled { IfOk result (λ ranges. All (λ range. range.start < range.end) ranges.items) }
-        ensures sum { let form = form_of self.now in IfOk result (λ ranges. IfOk (places_of (selection_of indexer.now) form.sizes) (λ places. sum_by (λ range. range.end - range.start) ranges.items ≡ length places * size_of form.type)) }
+        ensures sum { let form = bytes_form_of self.now in IfOk result (λ ranges. IfOk (places_of (selection_of indexer.now) form.sizes) (λ places. sum_by (λ range. range.end - range.start) ranges.items ≡ length places * place_size form.type)) }
+        ensures no_fault { is_fault result ≡ false }
     {
-        let runs = indexer.runs(alloc, &self.shape)?;
-        let ranges = run_ranges(alloc, self.element_size() as u64, runs.as_slice())?;
+        let asked = indexer.runs(alloc, &self.shape)?;
+        let size = element_size(&self.data_type, &self.fill_value);
+        let ranges = run_ranges(alloc, size as u64, asked.as_slice())?;
         Ok(ranges)
     }
 
-    /// Whether a value is stored. Refusals: `Storage`.
+    /// Whether a value is stored. Refusals: `Storage`, but never where the handle has sure bytes.
     pub fn exists(&mut self) -> Result<bool, CodecError>
-        ensures answer { Answers fault (λ there. there) result (Ok (is_some (H.state (handle_of self.old)).value)) }
-        ensures left { H.state (handle_of self.new) ≡ after_reading result (H.state (handle_of self.old)) }
-        ensures same_reference { H.lent (handle_of self.new) ≡ H.lent (handle_of self.old) }
-        ensures form_kept { form_of self.new ≡ form_of self.old }
+        ensures answer { Answers fault (λ there. there) result (Ok (is_some (H.state (bytes_handle_of self.old)).value)) }
+        ensures sure { is_some (H.state (bytes_handle_of self.old)).sure ≡ true → is_fault result ≡ false }
+        ensures left { H.state (bytes_handle_of self.new) ≡ after_reading result (H.state (bytes_handle_of self.old)) }
+        ensures same_reference { H.lent (bytes_handle_of self.new) ≡ H.lent (bytes_handle_of self.old) }
+        ensures form_kept { bytes_form_of self.new ≡ bytes_form_of self.old }
     {
         self.handle.exists()
     }
 
-    /// The bytes that the handle keeps in memory.
+    /// How many bytes the handle keeps in memory.
     pub fn size_held(&self) -> usize
-        ensures { result ≡ H.held (handle_of self.now) }
+        ensures value { result ≡ H.held (bytes_handle_of self.now) }
     {
         self.handle.size_held()
     }
 
     /// Whether a part is read without the rest: where the handle reads ranges by themselves.
     pub fn supports_partial_decode(&self) -> bool
-        ensures { result ≡ H.reads_ranges }
+        ensures value { result ≡ H.reads_ranges }
     {
         self.handle.supports_partial_decode()
     }
 }
 
 impl<H> BytesCodecPartial<H> {
-    ghost use Rattle.zarrs_bytes.specs.BytesCodecPartial.{form_of, handle_of};
-
-    /// The bytes of an element. The codec takes fixed types alone.
-    fn element_size(&self) -> usize
-        ensures size { result ≡ size_of (form_of self.now).type }
-        ensures positive { 0 < result }
-        ensures fits { product (form_of self.now).sizes * result < 2 ^ 64 }
-    {
-        match self.data_type.fixed_size() {
-            Some(size) => size,
-            None => unreachable!(),
-        }
-    }
+    ghost use Rattle.zarrs_bytes.specs.BytesCodecPartial.{bytes_handle_of};
 
     /// The handle, as it stands.
     pub fn into_handle(self) -> H
-        ensures { result ≡ handle_of self }
+        ensures value { result ≡ bytes_handle_of self }
     {
         let BytesCodecPartial {
             handle,

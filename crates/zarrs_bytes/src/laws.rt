@@ -1,27 +1,33 @@
 //! Laws of the codec, over its definitions. The functions do nothing; their contracts are the laws.
-ghost use Rattle.zarrs_bytes.specs.Laws.{WrittenStands, StandsForOne, WrittenAlike, HasRepresentedLength, ReadSelects};
+ghost use Rattle.zarrs_bytes.specs.Laws.{WrittenStands, StandsForOne, WrittenAlike, HasRepresentedLength, ReadSelects, ReadsAlike};
 
 /// A value that is written for a chunk stands for it.
 pub fn written_stands()
-    ensures { WrittenStands }
+    ensures law { WrittenStands }
 {}
 
 /// A value stands for at most one chunk.
 pub fn stands_for_one()
-    ensures { StandsForOne }
+    ensures law { StandsForOne }
 {}
 
 /// Two chunks are written alike exactly if they are equal.
 pub fn written_alike()
-    ensures { WrittenAlike }
+    ensures law { WrittenAlike }
 {}
 
 /// A written value has the length that the representation says.
 pub fn has_represented_length()
-    ensures { HasRepresentedLength }
+    ensures law { HasRepresentedLength }
 {}
 
 /// Of a value that stands for a chunk, a read of places inside selects the chunk's elements.
 pub fn read_selects()
-    ensures { ReadSelects }
+    ensures law { ReadSelects }
+{}
+
+/// A read rests on the bytes of its places alone: two values that both have these bytes, and the
+/// same ones, are read alike.
+pub fn reads_alike()
+    ensures law { ReadsAlike }
 {}

@@ -2,18 +2,13 @@
 //! order (Zarr v3 codec `bytes`).
 //!
 //! [`BytesCodec`] encodes and decodes whole chunks, [`BytesCodecPartial`] reads a chunk in part,
-//! over a storage handle. The module [`codec`] has what all codecs to bytes share.
+//! over a storage handle.
 #![tactic(auto)]
 
 mod byte_order;
 mod bytes_codec;
 mod bytes_codec_partial;
-pub mod codec;
 pub mod laws;
 
 pub use bytes_codec::BytesCodec;
 pub use bytes_codec_partial::BytesCodecPartial;
-pub use codec::{ByteRange, BytesPartialDecoderTraits, BytesRepresentation, MemoryHandle, Refused};
-
-#[cfg(test)]
-mod tests;

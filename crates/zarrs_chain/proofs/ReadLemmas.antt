@@ -8,10 +8,10 @@ use Rattle.zarrs_data_type.specs.Element.{Chunk}
 use Rattle.zarrs_data_type.specs.ElementType.{ElementType}
 use Rattle.zarrs_array_bytes.specs.Held.{Held}
 use Rattle.zarrs_array_bytes.specs.Validity.{Holds}
-use Rattle.zarrs_bytes.specs.BytesCodec.{value_length}
-use Rattle.zarrs_bytes.specs.BytesCodecPartial.{ChunkForm}
-use Rattle.zarrs_bytes.specs.HandleState.{count_if}
-use Rattle.zarrs_bytes.specs.PartialRead.{read}
+use Rattle.zarrs_bytes.specs.BytesCodec.{bytes_length}
+use Rattle.zarrs_bytes.specs.BytesCodecPartial.{BytesForm}
+use Rattle.zarrs_codec.specs.StorageState.{count_if}
+use Rattle.zarrs_bytes.specs.PartialRead.{bytes_read}
 use Rattle.zarrs_chain.specs.declared.refusal.Refusal.{Refusal}
 use Rattle.zarrs_chain.specs.Commands.{State, part_of, read_answer}
 use Rattle.zarrs_chain.specs.Elements.{chunk_tree}
@@ -41,16 +41,16 @@ passes (Ok a) x h = refl
 passes (Err e) x h = absurd (cc)
 
 -- what a decoder of the header's chunks answers
-pub part_read : (header : Header) (form : ChunkForm) (stored value : Option (List ℕ)) (selection : Selection) (r : Result Held CodecError) →
-    form ≡ record { order = header.order; sizes = header.sizes; type = header.data_type; fill = header.fill } → value ≡ stored → seen (λ _. tt {0}) (value_length header.order header.sizes header.data_type header.fill) ≡ Ok tt
-    → is_fault r ≡ false → AnswersBy memory_or_fault (Holds form.type) r (read form.order form.sizes form.type form.fill value selection) → AnswersBy memory (Holds header.data_type) r (part_of header stored selection)
+pub part_read : (header : Header) (form : BytesForm) (stored value : Option (List ℕ)) (selection : Selection) (r : Result Held CodecError) →
+    form ≡ record { order = header.order; sizes = header.sizes; type = header.data_type; fill = header.fill } → value ≡ stored → seen (λ _. tt {0}) (bytes_length header.order header.sizes header.data_type header.fill) ≡ Ok tt
+    → is_fault r ≡ false → AnswersBy memory_or_fault (Holds form.type) r (bytes_read form.order form.sizes form.type form.fill value selection) → AnswersBy memory (Holds header.data_type) r (part_of header stored selection)
 part_read header form stored value selection r same_form same_value made quiet h =
-    let of_header : AnswersBy memory_or_fault (Holds header.data_type) r (read header.order header.sizes header.data_type header.fill stored selection) =
-    subst (λ (v : Option (List ℕ)). AnswersBy memory_or_fault (Holds header.data_type) r (read header.order header.sizes header.data_type header.fill v selection)) same_value
-    (subst (λ (f : ChunkForm). AnswersBy memory_or_fault (Holds f.type) r (read f.order f.sizes f.type f.fill value selection)) same_form h) in
+    let of_header : AnswersBy memory_or_fault (Holds header.data_type) r (bytes_read header.order header.sizes header.data_type header.fill stored selection) =
+    subst (λ (v : Option (List ℕ)). AnswersBy memory_or_fault (Holds header.data_type) r (bytes_read header.order header.sizes header.data_type header.fill v selection)) same_value
+    (subst (λ (f : BytesForm). AnswersBy memory_or_fault (Holds f.type) r (bytes_read f.order f.sizes f.type f.fill value selection)) same_form h) in
     subst (λ (y : Result Chunk CodecError). AnswersBy memory (Holds header.data_type) r y)
-    (sym (passes (value_length header.order header.sizes header.data_type header.fill) (read header.order header.sizes header.data_type header.fill stored selection) made))
-    (without_faults header.data_type r (read header.order header.sizes header.data_type header.fill stored selection) quiet of_header)
+    (sym (passes (bytes_length header.order header.sizes header.data_type header.fill) (bytes_read header.order header.sizes header.data_type header.fill stored selection) made))
+    (without_faults header.data_type r (bytes_read header.order header.sizes header.data_type header.fill stored selection) quiet of_header)
 
 -- ---- elements told
 

@@ -5,8 +5,8 @@ use Rattle.zarrs_chunk.specs.Answer.{◌>>=◌}
 use Rattle.zarrs_chunk.specs.Selection.{Selection}
 use Rattle.zarrs_chunk.specs.declared.codec_error.CodecError.{CodecError}
 use Rattle.zarrs_data_type.specs.Element.{Chunk}
-use Rattle.zarrs_bytes.specs.BytesCodec.{value_length, encoded, decoded}
-use Rattle.zarrs_bytes.specs.PartialRead.{read}
+use Rattle.zarrs_bytes.specs.BytesCodec.{bytes_length, bytes_value, bytes_chunk}
+use Rattle.zarrs_bytes.specs.PartialRead.{bytes_read}
 use Rattle.zarrs_chain.specs.declared.refusal.Refusal.{Refusal}
 use Rattle.zarrs_chain.specs.declared.refusal.Refusal.TheVariants.{Syntax}
 use Rattle.zarrs_chain.specs.Refusal.{wanted, coded}
@@ -39,7 +39,7 @@ abbrev pub encode_answer : State → List ℕ → Answered
 encode_answer state text = do
   tree ← tree_of text
   chunk ← elements_of state.header.data_type tree
-  value ← coded (encoded state.header.order state.header.sizes state.header.data_type state.header.fill (container_of chunk))
+  value ← coded (bytes_value state.header.order state.header.sizes state.header.data_type state.header.fill (container_of chunk))
   Ok (ok_line (hex_tree value), state)
 
 -- load "HEX": these bytes are stored
@@ -52,7 +52,7 @@ load_answer state text = do
 -- the chunk that a value stands for
 abbrev pub decode_value : State → List ℕ → Answered
 decode_value state value = do
-  chunk ← coded (decoded state.header.order state.header.sizes state.header.data_type state.header.fill value)
+  chunk ← coded (bytes_chunk state.header.order state.header.sizes state.header.data_type state.header.fill value)
   Ok (ok_line (chunk_tree chunk), state)
 
 -- the same, where a value is stored
@@ -67,8 +67,8 @@ decode_answer state = decode_stored state state.stored
 -- the elements that an indexer means, by a decoder that is made for it: what refuses the decoder comes first
 abbrev pub part_of : Header → Option (List ℕ) → Selection → Result Chunk CodecError
 part_of header stored selection = do
-  _ ← value_length header.order header.sizes header.data_type header.fill
-  read header.order header.sizes header.data_type header.fill stored selection
+  _ ← bytes_length header.order header.sizes header.data_type header.fill
+  bytes_read header.order header.sizes header.data_type header.fill stored selection
 
 -- read INDEXER: the elements that it means
 abbrev pub read_answer : State → List ℕ → Answered

@@ -6,7 +6,7 @@ use Rattle.zarrs_chunk.specs.Answer.{◌>>=◌}
 use Rattle.zarrs_chunk.specs.ChunkShape.{shape_of}
 use Rattle.zarrs_data_type.specs.ElementType.{ElementType}
 use Rattle.zarrs_data_type.specs.declared.endianness.Endianness.{Endianness}
-use Rattle.zarrs_bytes.specs.BytesCodec.{value_length}
+use Rattle.zarrs_bytes.specs.BytesCodec.{bytes_length}
 use Rattle.zarrs_chain.specs.declared.refusal.Refusal.{Refusal}
 use Rattle.zarrs_chain.specs.declared.refusal.Refusal.TheVariants.{Syntax}
 use Rattle.zarrs_chain.specs.Refusal.{wanted, coded}
@@ -51,7 +51,7 @@ header_in members = do
   data_type ← data_type_at (get_member (codes "data_type") members)
   fill ← fill_value_at (get_member (codes "fill_value") members)
   order ← codecs_at (get_member (codes "codecs") members)
-  _ ← coded (value_length order sizes data_type fill)
+  _ ← coded (bytes_length order sizes data_type fill)
   Ok (record { sizes = sizes; data_type = data_type; fill = fill; order = order })
 
 -- a header is an object; keys that it doesn't need are passed over

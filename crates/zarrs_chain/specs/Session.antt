@@ -1,5 +1,5 @@
 -- What a session is seen as.
-use Rattle.zarrs_bytes.specs.MemoryHandle.{stored}
+use Rattle.zarrs_codec.specs.MemoryHandle.{stored}
 use Rattle.zarrs_chain.specs.Commands.{State}
 use Rattle.zarrs_chain.specs.Header.{Header}
 use Rattle.zarrs_chain.specs.declared.session.Session.{Session}

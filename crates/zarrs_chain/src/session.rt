@@ -5,7 +5,7 @@ ghost use Rattle.zarrs_chunk.specs.Answer.{Answers, AnswersBy, memory, seen};
 ghost use Rattle.zarrs_chunk.specs.Indexer.{selection_of};
 ghost use Rattle.zarrs_data_type.specs.ElementType.{fixed_size_of};
 ghost use Rattle.zarrs_array_bytes.specs.Validity.{Holds};
-ghost use Rattle.zarrs_bytes.specs.MemoryHandle.{stored};
+ghost use Rattle.zarrs_codec.specs.MemoryHandle.{stored};
 ghost use Rattle.zarrs_chain.specs.Commands.{opened, part_of, encode_answer, load_answer, decode_value, decode_answer, read_answer, value_answer, answer_to};
 ghost use Rattle.zarrs_chain.specs.Header.{shape_at, data_type_at, fill_value_at, codecs_at, header_in, header_of as header_of_line};
 ghost use Rattle.zarrs_chain.specs.Refusal.{wants_memory};
@@ -21,8 +21,9 @@ use serde_json::Value;
 use std::alloc::Global;
 use std::borrow::CowSlice;
 use zarrs_array_bytes::ArrayBytes;
-use zarrs_bytes::{BytesCodec, MemoryHandle};
+use zarrs_bytes::BytesCodec;
 use zarrs_chunk::{ChunkShape, CodecError, Indexer};
+use zarrs_codec::MemoryHandle;
 use zarrs_data_type::{DataType, FillValue};
 
 /// What a header opened, and what is stored since.

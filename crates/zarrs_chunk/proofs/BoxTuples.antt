@@ -5,7 +5,7 @@ use Rattle.std.proofs.lemmas.Bool.Decides.{nat_tests}
 use Rattle.std.proofs.lemmas.List.{take_more, append-nil, map-append, drop_more, drop_all, length-append, length-map}
 use Rattle.std.proofs.lemmas.List.Concat.{flat_map-append}
 use Rattle.zarrs_chunk.specs.ChunkShape.{product}
-use Rattle.zarrs_chunk.specs.Levels.{number_behind, behind_fronts, box_places}
+use Rattle.zarrs_chunk.specs.Levels.{number_behind, numbers_behind, box_places}
 use Rattle.zarrs_chunk.specs.Runs.{joined_runs}
 use Rattle.zarrs_chunk.specs.Tuples.{row_major, box_tuples}
 
@@ -40,30 +40,30 @@ row_level front size sizes tuples (suc len) start b e =
     ∙ ap (λ ns. map (number_behind b sizes) tuples ++ ns) (row_level front size sizes tuples len (start + 1) (b + 1) (omega (arith, e)))
 
 -- the next axis, behind all fronts
-pub behind_fronts-next : (size start len : ℕ) (sizes starts lengths fronts : List ℕ) → behind_fronts (size ∷ sizes) (start ∷ starts) (len ∷ lengths) fronts ≡ behind_fronts sizes starts lengths (next_fronts size start len fronts)
-behind_fronts-next size start len sizes starts lengths [] = refl
-behind_fronts-next size start len sizes starts lengths (front ∷ fronts) =
-    ap (λ ns. ns ++ behind_fronts (size ∷ sizes) (start ∷ starts) (len ∷ lengths) fronts) (row_level front size sizes (box_tuples starts lengths) len start (front * size + start) refl)
-    ∙ ap (λ ns. behind_fronts sizes starts lengths (range_with_len (front * size + start) len) ++ ns) (behind_fronts-next size start len sizes starts lengths fronts)
+pub numbers_behind-next : (size start len : ℕ) (sizes starts lengths fronts : List ℕ) → numbers_behind (size ∷ sizes) (start ∷ starts) (len ∷ lengths) fronts ≡ numbers_behind sizes starts lengths (next_fronts size start len fronts)
+numbers_behind-next size start len sizes starts lengths [] = refl
+numbers_behind-next size start len sizes starts lengths (front ∷ fronts) =
+    ap (λ ns. ns ++ numbers_behind (size ∷ sizes) (start ∷ starts) (len ∷ lengths) fronts) (row_level front size sizes (box_tuples starts lengths) len start (front * size + start) refl)
+    ∙ ap (λ ns. numbers_behind sizes starts lengths (range_with_len (front * size + start) len) ++ ns) (numbers_behind-next size start len sizes starts lengths fronts)
     ∙ sym (flat_map-append (λ front. map (number_behind front sizes) (box_tuples starts lengths)) (range_with_len (front * size + start) len) (next_fronts size start len fronts))
 
 -- the step of a loop over the axes
-pub behind_fronts-more : (sizes starts lengths fronts : List ℕ) (axis : ℕ) → axis < length sizes → axis < length starts → axis < length lengths → behind_fronts (drop axis sizes) (drop axis starts) (drop axis lengths) fronts ≡ behind_fronts (drop (axis + 1) sizes) (drop (axis + 1) starts) (drop (axis + 1) lengths) (next_fronts (get_or sizes axis 0) (get_or starts axis 0) (get_or lengths axis 0) fronts)
-behind_fronts-more sizes starts lengths fronts axis p q r =
-    rw (drop_more sizes axis 0 p, drop_more starts axis 0 q, drop_more lengths axis 0 r) (behind_fronts-next (get_or sizes axis 0) (get_or starts axis 0) (get_or lengths axis 0) (drop (axis + 1) sizes) (drop (axis + 1) starts) (drop (axis + 1) lengths) fronts)
+pub numbers_behind-more : (sizes starts lengths fronts : List ℕ) (axis : ℕ) → axis < length sizes → axis < length starts → axis < length lengths → numbers_behind (drop axis sizes) (drop axis starts) (drop axis lengths) fronts ≡ numbers_behind (drop (axis + 1) sizes) (drop (axis + 1) starts) (drop (axis + 1) lengths) (next_fronts (get_or sizes axis 0) (get_or starts axis 0) (get_or lengths axis 0) fronts)
+numbers_behind-more sizes starts lengths fronts axis p q r =
+    rw (drop_more sizes axis 0 p, drop_more starts axis 0 q, drop_more lengths axis 0 r) (numbers_behind-next (get_or sizes axis 0) (get_or starts axis 0) (get_or lengths axis 0) (drop (axis + 1) sizes) (drop (axis + 1) starts) (drop (axis + 1) lengths) fronts)
 
 -- with no axis left the fronts are the numbers
-behind_fronts-nil : (lengths fronts : List ℕ) → behind_fronts [] [] lengths fronts ≡ fronts
-behind_fronts-nil lengths [] = refl
-behind_fronts-nil lengths (front ∷ fronts) =
+numbers_behind-nil : (lengths fronts : List ℕ) → numbers_behind [] [] lengths fronts ≡ fronts
+numbers_behind-nil lengths [] = refl
+numbers_behind-nil lengths (front ∷ fronts) =
     let e : front * 1 + 0 ≡ front = omega arith in
-    ap (λ n. n ∷ behind_fronts [] [] lengths fronts) e ∙ ap (λ ns. front ∷ ns) (behind_fronts-nil lengths fronts)
+    ap (λ n. n ∷ numbers_behind [] [] lengths fronts) e ∙ ap (λ ns. front ∷ ns) (numbers_behind-nil lengths fronts)
 
-pub behind_fronts-end : (sizes starts lengths fronts : List ℕ) (axis : ℕ) → length sizes ≤ axis → length starts ≤ axis → behind_fronts (drop axis sizes) (drop axis starts) lengths fronts ≡ fronts
-behind_fronts-end sizes starts lengths fronts axis p q =
-    ap (λ ns. behind_fronts ns (drop axis starts) lengths fronts) (drop_all axis sizes p)
-    ∙ ap (λ ns. behind_fronts [] ns lengths fronts) (drop_all axis starts q)
-    ∙ behind_fronts-nil lengths fronts
+pub numbers_behind-end : (sizes starts lengths fronts : List ℕ) (axis : ℕ) → length sizes ≤ axis → length starts ≤ axis → numbers_behind (drop axis sizes) (drop axis starts) lengths fronts ≡ fronts
+numbers_behind-end sizes starts lengths fronts axis p q =
+    ap (λ ns. numbers_behind ns (drop axis starts) lengths fronts) (drop_all axis sizes p)
+    ∙ ap (λ ns. numbers_behind [] ns lengths fronts) (drop_all axis starts q)
+    ∙ numbers_behind-nil lengths fronts
 
 number_from_zero : (sizes : List ℕ) (tuples : List (List ℕ)) → map (number_behind 0 sizes) tuples ≡ map (row_major sizes) tuples
 number_from_zero sizes [] = refl
@@ -72,15 +72,15 @@ number_from_zero sizes (tuple ∷ tuples) =
     ap (λ n. n ∷ map (number_behind 0 sizes) tuples) e ∙ ap (λ ns. row_major sizes tuple ∷ ns) (number_from_zero sizes tuples)
 
 -- before the first axis
-pub behind_fronts-start : (sizes starts lengths : List ℕ) → behind_fronts sizes starts lengths (0 ∷ []) ≡ box_places sizes starts lengths
-behind_fronts-start sizes starts lengths =
+pub numbers_behind-start : (sizes starts lengths : List ℕ) → numbers_behind sizes starts lengths (0 ∷ []) ≡ box_places sizes starts lengths
+numbers_behind-start sizes starts lengths =
     append-nil (map (number_behind 0 sizes) (box_tuples starts lengths)) ∙ number_from_zero sizes (box_tuples starts lengths)
 
 -- the last axis: the rows are all that is left
-pub behind_fronts-last : (sizes starts lengths fronts : List ℕ) (last : ℕ) → length sizes ≡ last + 1 → length starts ≡ length sizes → length lengths ≡ length sizes → behind_fronts (drop last sizes) (drop last starts) (drop last lengths) fronts ≡ next_fronts (get_or sizes last 0) (get_or starts last 0) (get_or lengths last 0) fronts
-behind_fronts-last sizes starts lengths fronts last e f g =
-    behind_fronts-more sizes starts lengths fronts last (omega arith) (omega arith) (omega arith)
-    ∙ behind_fronts-end sizes starts (drop (last + 1) lengths) _ (last + 1) (omega arith) (omega arith)
+pub numbers_behind-last : (sizes starts lengths fronts : List ℕ) (last : ℕ) → length sizes ≡ last + 1 → length starts ≡ length sizes → length lengths ≡ length sizes → numbers_behind (drop last sizes) (drop last starts) (drop last lengths) fronts ≡ next_fronts (get_or sizes last 0) (get_or starts last 0) (get_or lengths last 0) fronts
+numbers_behind-last sizes starts lengths fronts last e f g =
+    numbers_behind-more sizes starts lengths fronts last (omega arith) (omega arith) (omega arith)
+    ∙ numbers_behind-end sizes starts (drop (last + 1) lengths) _ (last + 1) (omega arith) (omega arith)
 
 -- without axes there is one place
 pub box_places-none : (sizes starts lengths : List ℕ) → length sizes ≡ 0 → length starts ≡ 0 → 0 ∷ [] ≡ box_places sizes starts lengths

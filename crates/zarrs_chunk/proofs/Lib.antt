@@ -1,5 +1,7 @@
 pub mod BoxLaws
 pub mod BoxTuples
+pub mod Consecutive
+pub mod Ends
 pub mod Fitting
 pub mod Inside
 pub mod NumberLaws

@@ -87,7 +87,7 @@ Rises-increasing low high (x ∷ y ∷ xs) r = λ k.
       | suc j ↦ (λ l. rw add-one (rw add-one at (Rises-increasing (x + 1) high (y ∷ xs) r.2 j (omega arith))))
     ]
 
-Rises-room : (low high : ℕ) (xs : List ℕ) → Rises low high xs → low + length xs ≤ high
+pub Rises-room : (low high : ℕ) (xs : List ℕ) → Rises low high xs → low + length xs ≤ high
 Rises-room low high [] r = omega arith
 Rises-room low high (x ∷ xs) r = let rest = Rises-room (x + 1) high xs r.2 in omega arith
 

@@ -5,11 +5,11 @@ use Rattle.std.proofs.lemmas.List.{drop_all}
 use Rattle.std.proofs.lemmas.List.Concat.{flat_map-append}
 use Rattle.std.proofs.Math.Nat.{mul-le-mul_right}
 use Rattle.zarrs_chunk.specs.ChunkShape.{product}
-use Rattle.zarrs_chunk.specs.Levels.{behind_fronts, box_places, IsFitting, AreWhole}
+use Rattle.zarrs_chunk.specs.Levels.{numbers_behind, box_places, IsFitting, AreWhole}
 use Rattle.zarrs_chunk.specs.Runs.{joined_runs}
 use Rattle.zarrs_chunk.specs.Tuples.{is_box_inside}
 use Rattle.std.proofs.lemmas.List.Elements.{All-push}
-use Rattle.zarrs_chunk.proofs.BoxTuples.{next_fronts, behind_fronts-more, behind_fronts-end, behind_fronts-start}
+use Rattle.zarrs_chunk.proofs.BoxTuples.{next_fronts, numbers_behind-more, numbers_behind-end, numbers_behind-start}
 use Rattle.zarrs_chunk.proofs.Inside.{is_box_inside-at}
 use Rattle.zarrs_chunk.proofs.Products.{product_drop}
 
@@ -56,15 +56,15 @@ spread-one (number ∷ numbers) =
     ap (λ b. b ∷ spread 1 numbers) (let e : number * 1 ≡ number = omega arith in e) ∙ ap (λ ns. number ∷ ns) (spread-one numbers)
 
 -- behind fronts, axes that are covered whole have all numbers
-pub whole_behind : (n axes : ℕ) (sizes starts lengths fronts : List ℕ) → axes + n ≡ length sizes → length starts ≡ length sizes → length lengths ≡ length sizes → AreWhole axes (length sizes) sizes starts lengths → behind_fronts (drop axes sizes) (drop axes starts) (drop axes lengths) fronts ≡ spread (product (drop axes sizes)) fronts
+pub whole_behind : (n axes : ℕ) (sizes starts lengths fronts : List ℕ) → axes + n ≡ length sizes → length starts ≡ length sizes → length lengths ≡ length sizes → AreWhole axes (length sizes) sizes starts lengths → numbers_behind (drop axes sizes) (drop axes starts) (drop axes lengths) fronts ≡ spread (product (drop axes sizes)) fronts
 whole_behind zero axes sizes starts lengths fronts e f g w =
-    behind_fronts-end sizes starts (drop axes lengths) fronts axes (omega arith) (omega arith)
+    numbers_behind-end sizes starts (drop axes lengths) fronts axes (omega arith) (omega arith)
     ∙ sym (ap (λ (ns : List ℕ). spread (product ns) fronts) (drop_all axes sizes (omega arith)) ∙ spread-one fronts)
 whole_behind (suc n) axes sizes starts lengths fronts e f g w =
     let size = get_or sizes axes 0 in
     let whole = product (drop (axes + 1) sizes) in
     let is = w axes (omega arith) (omega arith) in
-    behind_fronts-more sizes starts lengths fronts axes (omega arith) (omega arith) (omega arith)
+    numbers_behind-more sizes starts lengths fronts axes (omega arith) (omega arith) (omega arith)
     ∙ whole_behind n (axes + 1) sizes starts lengths (next_fronts size (get_or starts axes 0) (get_or lengths axes 0) fronts) (omega arith) f g (λ k p q. w k (omega arith) q)
     ∙ ap (λ start. spread whole (next_fronts size start (get_or lengths axes 0) fronts)) is.0
     ∙ ap (λ len. spread whole (next_fronts size 0 len fronts)) is.1
@@ -73,13 +73,13 @@ whole_behind (suc n) axes sizes starts lengths fronts e f g w =
     ∙ ap (λ t. spread t fronts) (sym (product_drop sizes axes (omega arith)))
 
 -- rows of the last axis before those
-pub rows_before_whole : (sizes starts lengths fronts : List ℕ) (last axes : ℕ) → axes ≡ last + 1 → axes ≤ length sizes → length starts ≡ length sizes → length lengths ≡ length sizes → AreWhole axes (length sizes) sizes starts lengths → behind_fronts (drop last sizes) (drop last starts) (drop last lengths) fronts ≡ spread_rows (get_or sizes last 0) (get_or starts last 0) (get_or lengths last 0) (product (drop axes sizes)) fronts
+pub rows_before_whole : (sizes starts lengths fronts : List ℕ) (last axes : ℕ) → axes ≡ last + 1 → axes ≤ length sizes → length starts ≡ length sizes → length lengths ≡ length sizes → AreWhole axes (length sizes) sizes starts lengths → numbers_behind (drop last sizes) (drop last starts) (drop last lengths) fronts ≡ spread_rows (get_or sizes last 0) (get_or starts last 0) (get_or lengths last 0) (product (drop axes sizes)) fronts
 rows_before_whole sizes starts lengths fronts last axes e h f g w =
     let size = get_or sizes last 0 in
     let start = get_or starts last 0 in
     let len = get_or lengths last 0 in
-    behind_fronts-more sizes starts lengths fronts last (omega arith) (omega arith) (omega arith)
-    ∙ ap (λ n. behind_fronts (drop n sizes) (drop n starts) (drop n lengths) (next_fronts size start len fronts)) (sym e)
+    numbers_behind-more sizes starts lengths fronts last (omega arith) (omega arith) (omega arith)
+    ∙ ap (λ n. numbers_behind (drop n sizes) (drop n starts) (drop n lengths) (next_fronts size start len fronts)) (sym e)
     ∙ whole_behind (length sizes - axes) axes sizes starts lengths (next_fronts size start len fronts) (omega arith) f g w
     ∙ spread-rows (product (drop axes sizes)) size start len fronts
 
@@ -117,7 +117,7 @@ pub all_whole : (sizes starts lengths : List ℕ) (axes : ℕ) → axes ≡ 0 �
 all_whole sizes starts lengths axes e f g w =
     ap (λ b. range_with_len b (product sizes) ++ []) (let z : 0 ≡ 0 * product sizes = omega arith in z)
     ∙ sym (whole_behind (length sizes) 0 sizes starts lengths (0 ∷ []) (omega arith) f g (λ k p q. w k (omega arith) q))
-    ∙ behind_fronts-start sizes starts lengths
+    ∙ numbers_behind-start sizes starts lengths
 
 pub one_filled : (len : ℕ) → 0 < len → All (λ (run : ℕ × ℕ). 0 < run.1) ((0, len) ∷ [])
 one_filled len h = All-push (λ (run : ℕ × ℕ). 0 < run.1) [] (0, len) (λ k d l. absurd (omega arith)) h

@@ -14,8 +14,8 @@ abbrev pub demand : {E : Type 0} → Bool → E → Result (Unit {0}) E
 demand passed cause = if passed then Ok tt else Err cause
 
 -- no refusal is due
-abbrev pub unrefused : {E : Type 0} → Result (Unit {0}) E
-unrefused = Ok tt
+abbrev pub no_refusal : {E : Type 0} → Result (Unit {0}) E
+no_refusal = Ok tt
 
 -- a result with its value viewed
 abbrev pub seen : {E X Y : Type 0} → (X → Y) → Result X E → Result Y E

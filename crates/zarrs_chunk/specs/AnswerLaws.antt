@@ -2,28 +2,17 @@
 use Rattle.std.specs.Prelude.{◌≡◌, Bool, true, false, Result, Ok, Err, IsOk, IfOk}
 use Rattle.std.proofs.Common.{refl, sym}
 use Rattle.std.proofs.lemmas.Bool.{false≢true}
-use Rattle.zarrs_chunk.specs.Answer.{◌>>=◌, demand, seen, Answers, AnswersBy}
+use Rattle.zarrs_chunk.specs.Answer.{demand, seen, Answers}
 
 -- what holds of each expected value holds of the value that was answered
 pub found_from : {E T V : Type 0} (excuse : E → Bool) (view : T → V) (r : Result T E) (expected : Result V E) (P : V → Type 0) → Answers excuse view r expected → ((v : V) → expected ≡ Ok v → P v) → IfOk r (λ x. P (view x))
 found_from excuse view (Ok x) expected P h f = f (view x) h
 found_from excuse view (Err e) expected P h f = tt
 
--- the same, where a relation is promised of the value
-pub found_by : {E T V : Type 0} (excuse : E → Bool) (R : T → V → Type 0) (r : Result T E) (expected : Result V E) (P : V → Type 0) → AnswersBy excuse R r expected → ((v : V) → expected ≡ Ok v → P v) → IfOk r (λ x. (v : V) × R x v × P v)
-found_by excuse R (Ok x) (Ok v) P h f = (v, h, f v refl)
-found_by excuse R (Ok x) (Err e) P h f = absurd h
-found_by excuse R (Err e) expected P h f = tt
-
 -- a call that is Ok answers just what is expected
 pub seen_from : {E T V : Type 0} (excuse : E → Bool) (view : T → V) (r : Result T E) (expected : Result V E) → IsOk r → Answers excuse view r expected → seen view r ≡ expected
 seen_from excuse view (Ok x) expected ok h = sym h
 seen_from excuse view (Err e) expected ok h = absurd (false≢true ok)
-
--- the value of a step that wasn't refused
-pub step_ok : {E A B : Type 0} (r : Result A E) (f : A → Result B E) (y : B) → (r >>= f) ≡ Ok y → (x : A) × (r ≡ Ok x) × (f x ≡ Ok y)
-step_ok (Ok x) f y h = (x, refl, h)
-step_ok (Err e) f y h = absurd (cc)
 
 -- a test that didn't refuse
 pub demand_ok : {E : Type 0} (passed : Bool) (cause : E) → demand passed cause ≡ Ok tt → passed ≡ true

@@ -3,12 +3,12 @@ use Rattle.std.specs.Prelude.{◌≡◌, ℕ, ◌^◌, ◌≤◌, ◌&&◌, true
 use Rattle.zarrs_chunk.specs.ChunkShape.{product}
 use Rattle.zarrs_chunk.specs.Tuples.{row_major, is_tuple_inside}
 
--- the number of a tuple that lies inside, where 64 bits hold it
-abbrev pub raveled : List ℕ → List ℕ → Option ℕ
-raveled sizes tuple =
+-- the row-major number of a tuple that lies inside, where 64 bits hold it
+abbrev pub number_of_tuple : List ℕ → List ℕ → Option ℕ
+number_of_tuple sizes tuple =
     if is_tuple_inside sizes tuple && nat_lt (row_major sizes tuple) (2 ^ 64) then Some (row_major sizes tuple) else None
 
--- the tuple inside that has this number; none, where the number lies past the chunk's end
-abbrev pub IsUnraveled : List ℕ → ℕ → Option (List ℕ) → Type 0
-IsUnraveled sizes number None = product sizes ≤ number
-IsUnraveled sizes number (Some tuple) = (is_tuple_inside sizes tuple ≡ true) × (row_major sizes tuple ≡ number)
+-- what was found is the tuple inside that has this number; nothing, where the number lies past the chunk's end
+abbrev pub IsTupleOfNumber : List ℕ → ℕ → Option (List ℕ) → Type 0
+IsTupleOfNumber sizes number None = product sizes ≤ number
+IsTupleOfNumber sizes number (Some tuple) = (is_tuple_inside sizes tuple ≡ true) × (row_major sizes tuple ≡ number)

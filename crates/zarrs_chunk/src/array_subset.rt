@@ -1,4 +1,4 @@
-ghost use Rattle.std.specs.Prelude.{◌≡◌, Ok, length, ◌&&◌};
+ghost use Rattle.std.specs.Prelude.{◌≡◌, ◌<◌, ◌+◌, ◌^◌, ℕ, Ok, length, slice_index, ◌&&◌};
 ghost use Rattle.std.specs.Bool.{nat_eq};
 ghost use Rattle.std.specs.Cmp.Lexicographic.{pointwise};
 ghost use Rattle.std.specs.Cmp.Rules.{comparing};
@@ -14,7 +14,7 @@ use std::alloc::Global;
 use std::marker::Model;
 use std::ops::Range;
 
-/// A box of index tuples: one range an axis, which may be empty.
+/// A box of index tuples: one range an axis, which may be empty, and which ends below `2^64`.
 #[derive(Debug, Drop)]
 pub struct ArraySubset {
     starts: Vec<u64>,
@@ -22,14 +22,13 @@ pub struct ArraySubset {
 }
 
 impl Model for ArraySubset {
-    ghost use Rattle.std.specs.Prelude.{◌≡◌, length};
-    ghost use Rattle.zarrs_chunk.specs.Region.{Region};
+    ghost use Rattle.zarrs_chunk.specs.Region.{Region, IsRegion};
 
     ghost Value = { Region };
 
     ghost view = { λ subset. record { starts = subset.starts.items; lengths = subset.lengths.items } };
 
-    ghost invariant = { λ subset. length subset.starts.items ≡ length subset.lengths.items };
+    ghost invariant = { λ subset. IsRegion subset.starts.items subset.lengths.items };
 }
 
 /// Whether each range of a box ends where 64 bits hold it.
@@ -46,10 +45,10 @@ impl ArraySubset {
     /// The box of these ranges, one an axis. Refusals: `OutOfMemory`; `ReversedRange` where a range
     /// ends before it starts.
     pub fn new_with_ranges(alloc: Global, ranges: &[Range<u64>]) -> Result<ArraySubset, CodecError>
-        ensures { Answers memory (λ subset. subset) result (subset_of_ranges ranges.now) }
+        ensures answer { Answers memory (λ subset. subset) result (subset_of_ranges ranges.now) }
     {
-        let mut starts = Vec::new(alloc);
-        let mut lengths = Vec::new(alloc);
+        let mut starts = Vec::with_capacity(alloc, ranges.len())?;
+        let mut lengths = Vec::with_capacity(alloc, ranges.len())?;
         for range in ranges {
             if range.start > range.end {
                 return Err(CodecError::ReversedRange);
@@ -64,7 +63,7 @@ impl ArraySubset {
     /// first that holds: `IncompatibleDimensionality` where their axes differ; `Overflow` where a
     /// range ends past `2^64 - 1`.
     pub fn new_with_start_shape(start: Vec<u64>, shape: Vec<u64>) -> Result<ArraySubset, CodecError>
-        ensures { result ≡ subset_of_start_shape start.items shape.items }
+        ensures answer { result ≡ subset_of_start_shape start.items shape.items }
     {
         if start.len() != shape.len() {
             return Err(CodecError::IncompatibleDimensionality);
@@ -80,7 +79,7 @@ impl ArraySubset {
 
     /// The box of all tuples of `shape`. Refusals: `OutOfMemory`.
     pub fn new_with_shape(alloc: Global, shape: Vec<u64>) -> Result<ArraySubset, CodecError>
-        ensures { Answers memory (λ subset. subset) result (Ok (subset_of_shape shape.items)) }
+        ensures made { Answers memory (λ subset. subset) result (Ok (subset_of_shape shape.items)) }
     {
         let starts = vec![in alloc; 0; shape.len()]?;
         Ok(ArraySubset {
@@ -91,15 +90,16 @@ impl ArraySubset {
 
     /// Where each range begins.
     pub fn start(&self) -> &[u64]
-        ensures { result.now ≡ self.now.starts }
+        ensures value { result.now ≡ self.now.starts }
     {
         self.starts.as_slice()
     }
 
-    /// How long each range is.
+    /// How long each range is. There is a length for each start, and their sum is below `2^64`.
     pub fn shape(&self) -> &[u64]
         ensures lengths { result.now ≡ self.now.lengths }
         ensures axes { length self.now.starts ≡ length self.now.lengths }
+        ensures ends { (axis : ℕ) → axis < length self.now.starts → slice_index self.now.starts axis + slice_index self.now.lengths axis < 2 ^ 64 }
     {
         self.lengths.as_slice()
     }
@@ -114,7 +114,7 @@ impl ArraySubset {
 
     /// An equal subset. Refusals: `OutOfMemory`.
     pub fn clone(&self) -> Result<ArraySubset, CodecError>
-        ensures { Answers memory (λ copy. copy) result (Ok self.now) }
+        ensures copy { Answers memory (λ copy. copy) result (Ok self.now) }
     {
         let starts = self.starts.clone()?;
         let lengths = self.lengths.clone()?;

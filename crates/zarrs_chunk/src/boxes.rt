@@ -2,7 +2,7 @@
 ghost use Rattle.std.specs.Prelude.{◌≡◌, ◌<◌, ◌≤◌, ◌^◌, ◌+◌, ◌*◌, ℕ, length, drop, slice_index, true, IfOk, OnOk, SomeIff, All};
 ghost use Rattle.std.specs.List.{flat_map, range_with_len};
 ghost use Rattle.zarrs_chunk.specs.ChunkShape.{product};
-ghost use Rattle.zarrs_chunk.specs.Levels.{behind_fronts, box_places as places_of_box, IsFitting};
+ghost use Rattle.zarrs_chunk.specs.Levels.{numbers_behind, box_places as places_of_box, IsFitting};
 ghost use Rattle.zarrs_chunk.specs.Runs.{joined_runs};
 ghost use Rattle.zarrs_chunk.specs.Levels.{AreWhole};
 ghost use Rattle.zarrs_chunk.specs.Tuples.{is_box_inside as box_inside};
@@ -12,7 +12,7 @@ use std::mem;
 
 /// The product of the sizes, where it fits. With a zero among them it is 0.
 pub fn checked_product(sizes: &[u64]) -> Option<u64>
-    ensures { SomeIff result (product sizes.now < 2 ^ 64) (product sizes.now) }
+    ensures value { SomeIff result (product sizes.now < 2 ^ 64) (product sizes.now) }
 {
     if sizes.contains(&0) {
         return Some(0);
@@ -28,7 +28,7 @@ pub fn checked_product(sizes: &[u64]) -> Option<u64>
 pub fn is_box_inside(sizes: &[u64], starts: &[u64], lengths: &[u64]) -> bool
     requires starts { length starts.now ≡ length sizes.now }
     requires lengths { length lengths.now ≡ length sizes.now }
-    ensures { result ≡ box_inside sizes.now starts.now lengths.now }
+    ensures value { result ≡ box_inside sizes.now starts.now lengths.now }
 {
     for axis in 0..sizes.len() {
         let size = sizes[axis];
@@ -76,7 +76,7 @@ fn box_fronts(
     requires inside { box_inside sizes.now starts.now lengths.now ≡ true }
     requires positive { All (λ size. 0 < size) sizes.now }
     requires fits { product sizes.now < 2 ^ 64 }
-    ensures level { IfOk result (λ v. behind_fronts (drop axes sizes.now) (drop axes starts.now) (drop axes lengths.now) v.items ≡ places_of_box sizes.now starts.now lengths.now) }
+    ensures level { IfOk result (λ v. numbers_behind (drop axes sizes.now) (drop axes starts.now) (drop axes lengths.now) v.items ≡ places_of_box sizes.now starts.now lengths.now) }
     ensures fits { IfOk result (λ v. IsFitting (product sizes.now) (product (drop axes sizes.now)) v.items) }
 {
     let mut fronts = vec![in alloc; 0]?;

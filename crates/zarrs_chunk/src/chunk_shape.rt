@@ -29,7 +29,7 @@ impl Model for ChunkShape {
 impl ChunkShape {
     /// The shape of these sizes, or `None` where one of them is zero.
     pub fn new(sizes: Vec<u64>) -> Option<ChunkShape>
-        ensures { result ≡ shape_of sizes.items }
+        ensures answer { result ≡ shape_of sizes.items }
     {
         if sizes.contains(&0) {
             return None;
@@ -47,14 +47,14 @@ impl ChunkShape {
 
     /// The product of the sizes. Refusals: `Overflow`.
     pub fn num_elements(&self) -> Result<u64, CodecError>
-        ensures { result ≡ checked_u64 (product self.now) }
+        ensures answer { result ≡ checked_u64 (product self.now) }
     {
         checked_product(self.as_slice()).ok_or(CodecError::Overflow)
     }
 
     /// An equal shape. Refusals: `OutOfMemory`.
     pub fn clone(&self) -> Result<ChunkShape, CodecError>
-        ensures { Answers memory (λ copy. copy) result (Ok self.now) }
+        ensures copy { Answers memory (λ copy. copy) result (Ok self.now) }
     {
         let sizes = self.sizes.clone()?;
         Ok(ChunkShape { sizes })

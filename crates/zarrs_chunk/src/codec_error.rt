@@ -87,7 +87,7 @@ pub enum CodecError {
 impl CodecError {
     /// The variant's name, without what it carries.
     pub fn name(&self) -> &'static str
-        ensures { result.now ≡ name_of self.now }
+        ensures value { result.now ≡ name_of self.now }
     {
         match self {
             CodecError::OutOfMemory => "OutOfMemory",

@@ -100,6 +100,7 @@ fn subset_places(
 ) -> Result<Vec<u64>, CodecError>
     ensures places { Answers memory (λ v. v.items) result (places_of (subset_of subset.now) shape.now) }
     ensures below { IfOk result (λ v. All (λ place. place < product shape.now) v.items) }
+    ensures count { IfOk result (λ v. length v.items < 2 ^ 64) }
     ensures no_fault { is_fault result ≡ false }
 {
     let sizes = shape.as_slice();
@@ -116,6 +117,7 @@ fn indices_places(
 ) -> Result<Vec<u64>, CodecError>
     ensures places { Answers memory (λ v. v.items) result (places_of (indices_of (map (λ tuple. tuple.items) tuples.now)) shape.now) }
     ensures below { IfOk result (λ v. All (λ place. place < product shape.now) v.items) }
+    ensures count { IfOk result (λ v. length v.items < 2 ^ 64) }
     ensures no_fault { is_fault result ≡ false }
 {
     let sizes = shape.as_slice();
@@ -133,6 +135,7 @@ fn subset_runs(
     ensures places { Answers memory (λ v. joined_runs v.items) result (places_of (subset_of subset.now) shape.now) }
     ensures filled { IfOk result (λ v. All (λ run. 0 < run.1) v.items) }
     ensures below { IfOk result (λ v. All (λ run. run.0 + run.1 ≤ product shape.now) v.items) }
+    ensures count { IfOk result (λ v. length (joined_runs v.items) < 2 ^ 64) }
     ensures no_fault { is_fault result ≡ false }
 {
     let sizes = shape.as_slice();
@@ -150,6 +153,7 @@ fn indices_runs(
     ensures places { Answers memory (λ v. joined_runs v.items) result (places_of (indices_of (map (λ tuple. tuple.items) tuples.now)) shape.now) }
     ensures filled { IfOk result (λ v. All (λ run. 0 < run.1) v.items) }
     ensures below { IfOk result (λ v. All (λ run. run.0 + run.1 ≤ product shape.now) v.items) }
+    ensures count { IfOk result (λ v. length (joined_runs v.items) < 2 ^ 64) }
     ensures no_fault { is_fault result ≡ false }
 {
     let places = indices_places(alloc, shape, tuples)?;
@@ -162,7 +166,7 @@ impl Indexer {
     /// empty, and has to lie inside too; an empty list fits every shape.
     /// Refusals, the first that holds: `IncompatibleDimensionality`, `OutOfBounds`.
     pub fn check(&self, shape: &ChunkShape) -> Result<(), CodecError>
-        ensures { result ≡ bounds_of (selection_of self.now) shape.now }
+        ensures answer { result ≡ bounds_of (selection_of self.now) shape.now }
     {
         match self {
             Indexer::Subset(subset) => check_subset(shape.as_slice(), subset),
@@ -172,7 +176,7 @@ impl Indexer {
 
     /// How many elements are meant, repeated ones counted each time. Refusals: `Overflow`.
     pub fn len(&self) -> Result<u64, CodecError>
-        ensures { result ≡ len_of (selection_of self.now) }
+        ensures answer { result ≡ len_of (selection_of self.now) }
     {
         match self {
             Indexer::Subset(subset) => subset.num_elements(),
@@ -186,6 +190,7 @@ impl Indexer {
     pub fn places(&self, alloc: Global, shape: &ChunkShape) -> Result<Vec<u64>, CodecError>
         ensures places { Answers memory (λ v. v.items) result (places_of (selection_of self.now) shape.now) }
         ensures below { IfOk result (λ v. All (λ place. place < product shape.now) v.items) }
+        ensures count { IfOk result (λ v. length v.items < 2 ^ 64) }
         ensures no_fault { is_fault result ≡ false }
     {
         match self {
@@ -200,6 +205,7 @@ impl Indexer {
         ensures places { Answers memory (λ v. joined_runs v.items) result (places_of (selection_of self.now) shape.now) }
         ensures filled { IfOk result (λ v. All (λ run. 0 < run.1) v.items) }
         ensures below { IfOk result (λ v. All (λ run. run.0 + run.1 ≤ product shape.now) v.items) }
+        ensures count { IfOk result (λ v. length (joined_runs v.items) < 2 ^ 64) }
         ensures no_fault { is_fault result ≡ false }
     {
         match self {
@@ -210,7 +216,7 @@ impl Indexer {
 
     /// An equal indexer. Refusals: `OutOfMemory`.
     pub fn clone(&self) -> Result<Indexer, CodecError>
-        ensures { Answers memory selection_of result (Ok (selection_of self.now)) }
+        ensures copy { Answers memory selection_of result (Ok (selection_of self.now)) }
     {
         match self {
             Indexer::Subset(subset) => Ok(Indexer::Subset(subset.clone()?)),

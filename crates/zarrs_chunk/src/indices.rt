@@ -1,7 +1,7 @@
 ghost use Rattle.std.specs.Prelude.{◌≡◌, ◌<◌, ◌^◌, true, option_map};
-ghost use Rattle.zarrs_chunk.specs.Answer.{AnswersBy, memory, unrefused};
+ghost use Rattle.zarrs_chunk.specs.Answer.{AnswersBy, memory, no_refusal};
 ghost use Rattle.zarrs_chunk.specs.ChunkShape.{product};
-ghost use Rattle.zarrs_chunk.specs.Indices.{raveled, IsUnraveled};
+ghost use Rattle.zarrs_chunk.specs.Indices.{number_of_tuple, IsTupleOfNumber};
 ghost use Rattle.zarrs_chunk.specs.Tuples.{row_major as row_major_of, is_tuple_inside as tuple_inside};
 
 use crate::chunk_shape::ChunkShape;
@@ -13,7 +13,7 @@ pub type ArrayIndices = Vec<u64>;
 
 /// Whether a tuple has one number an axis, and each lies inside the axis's size.
 pub fn is_tuple_inside(sizes: &[u64], tuple: &[u64]) -> bool
-    ensures { result ≡ tuple_inside sizes.now tuple.now }
+    ensures value { result ≡ tuple_inside sizes.now tuple.now }
 {
     if tuple.len() != sizes.len() {
         return false;
@@ -43,7 +43,7 @@ pub fn row_major(sizes: &[u64], tuple: &[u64]) -> u64
 /// The row-major number of a tuple in a chunk. `None` where the tuple lies outside, or has another
 /// number of axes, or where its number passes `2^64 - 1`.
 pub fn ravel_indices(indices: &[u64], shape: &ChunkShape) -> Option<u64>
-    ensures { result ≡ raveled shape.now indices.now }
+    ensures answer { result ≡ number_of_tuple shape.now indices.now }
 {
     let sizes = shape.as_slice();
     if !is_tuple_inside(sizes, indices) {
@@ -63,7 +63,7 @@ pub fn unravel_index(
     index: u64,
     shape: &ChunkShape,
 ) -> Result<Option<ArrayIndices>, CodecError>
-    ensures { AnswersBy memory (λ found _. IsUnraveled shape.now index (option_map (λ tuple. tuple.items) found)) result unrefused }
+    ensures answer { AnswersBy memory (λ found _. IsTupleOfNumber shape.now index (option_map (λ tuple. tuple.items) found)) result no_refusal }
 {
     let sizes = shape.as_slice();
     let mut indices = vec![in alloc; 0; sizes.len()]?;

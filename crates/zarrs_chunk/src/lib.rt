@@ -11,12 +11,14 @@ mod codec_error;
 mod indexer;
 mod indices;
 pub mod laws;
+mod runs;
 
 pub use array_subset::ArraySubset;
 pub use chunk_shape::ChunkShape;
 pub use codec_error::{CodecError, CodecName, StorageError};
 pub use indexer::Indexer;
 pub use indices::{ArrayIndices, ravel_indices, unravel_index};
+pub use runs::runs_of_places;
 
 #[cfg(test)]
 mod tests;

@@ -13,7 +13,7 @@ pub data Element : Type 0 where
 abbrev pub Chunk : Type 0
 Chunk = List Element
 
--- of a fixed type as many bytes as its size says, of a variable type any bytes, of an optional type absent, or present with an element of the type inside
+-- The element is of the type: of a fixed type as many bytes as its size says, of a variable type any bytes, of an optional type absent, or present with an element of the type inside.
 abbrev pub IsElement : ElementType → Element → Type 0
 IsElement (fixed width count sign) (plain items) = length items ≡ element_size width count
 IsElement text (plain items) = Unit {0}
@@ -22,7 +22,7 @@ IsElement (optional type) absent = Unit {0}
 IsElement (optional type) (present element) = IsElement type element
 IsElement _ _ = ⊥
 
--- all elements of the chunk are of the type
+-- each element of the chunk is of the type
 abbrev pub AreElements : ElementType → Chunk → Type 0
 AreElements type chunk = All (IsElement type) chunk
 

@@ -14,30 +14,22 @@ pub data ElementType : Type 0 where
   bytes : ElementType
   optional : ElementType → ElementType
 
--- the type of a mask's elements
-abbrev pub bool_type : ElementType
-bool_type = fixed 1 1 false
-
--- the type of single bytes
-abbrev pub byte_type : ElementType
-byte_type = fixed 8 1 false
-
--- the bytes of a component
+-- how many bytes a component of so many bits takes
 abbrev pub component_bytes : ℕ → ℕ
 component_bytes width = (width + 7) / 8
 
--- the bytes of an element of a fixed type
+-- how many bytes an element of so many components takes
 abbrev pub element_size : ℕ → ℕ → ℕ
 element_size width count = count * component_bytes width
 
--- the bytes of an element, where all elements have as many
+-- how many bytes an element takes, where the type is fixed
 abbrev pub fixed_size_of : ElementType → Option ℕ
 fixed_size_of (fixed width count sign) = Some (element_size width count)
 fixed_size_of text = None
 fixed_size_of bytes = None
 fixed_size_of (optional type) = None
 
--- the components of an element of a fixed type
+-- the components of an element, where the type is fixed
 abbrev pub components_of : ElementType → Option Components
 components_of (fixed width count sign) =
     Some (record { component_size_bits = width; num_components = count; sign_extension = sign })
@@ -52,48 +44,49 @@ is_variable text = true
 is_variable bytes = true
 is_variable (optional type) = false
 
--- the type of the elements that are present
+-- the type inside, where the type is optional: that of the elements that are present
 abbrev pub inner_of : ElementType → Option ElementType
 inner_of (fixed width count sign) = None
 inner_of text = None
 inner_of bytes = None
 inner_of (optional type) = Some type
 
--- a component has bits, an element has components, and its bytes are counted by 64 bits
+-- a fixed type has a bit in each component, a component in each element, and fewer than 2^64 bytes in an element
 pub record IsFixedType (width count : ℕ) : Type 0 where
   pub bits : 0 < width
   pub components : 0 < count
   pub size : element_size width count < 2 ^ 64
 
--- the type of so many components of so many bits, or why there is none
+-- the type of elements of `count` components of `width` bits, or the first cause why there is none
 abbrev pub type_of_components : ℕ → ℕ → Bool → Result ElementType CodecError
 type_of_components width count sign = do
   _ ← demand (nat_lt 0 width && nat_lt 0 count) BitRange
   _ ← demand (nat_lt (element_size width count) (2 ^ 64)) Overflow
   Ok (fixed width count sign)
 
--- how many optional types stand one in another
+-- how many optional types stand one in another, before the type inside is none
 abbrev pub optional_levels : ElementType → ℕ
 optional_levels (fixed width count sign) = 0
 optional_levels text = 0
 optional_levels bytes = 0
 optional_levels (optional type) = optional_levels type + 1
 
--- a type as numbers: how many optional types stand one in another, and then which type stands inside, 0 fixed, 1 text, 2 bytes
+-- A type as plain numbers: how many optional types stand one in another; which type stands inside, 0 fixed, 1 text, 2 bytes; and of a fixed one its width, count and sign.
 abbrev TypeNumbers : Type 0
 TypeNumbers = ℕ × (ℕ × (ℕ × (ℕ × Bool)))
 
-abbrev pub numbers_of : ElementType → TypeNumbers
-numbers_of (fixed width count sign) = (0, (0, (width, (count, sign))))
-numbers_of text = (0, (1, (0, (0, false))))
-numbers_of bytes = (0, (2, (0, (0, false))))
-numbers_of (optional type) = (suc (numbers_of type).0, (numbers_of type).1)
+-- the plain numbers of a type
+abbrev pub numbers_of_type : ElementType → TypeNumbers
+numbers_of_type (fixed width count sign) = (0, (0, (width, (count, sign))))
+numbers_of_type text = (0, (1, (0, (0, false))))
+numbers_of_type bytes = (0, (2, (0, (0, false))))
+numbers_of_type (optional type) = (suc (numbers_of_type type).0, (numbers_of_type type).1)
 
--- the type that is no optional one, of its numbers
+-- the type inside all optional ones, of its numbers
 abbrev innermost_of_numbers : ℕ × (ℕ × (ℕ × Bool)) → ElementType
 innermost_of_numbers n = cond (n.0 == 0) (fixed n.1.0 n.1.1.0 n.1.1.1) (cond (n.0 == 1) text bytes)
 
--- a type inside so many optional types
+-- the type with so many optional types round it
 abbrev optional_times : ℕ → ElementType → ElementType
 optional_times zero type = type
 optional_times (suc levels) type = optional (optional_times levels type)
@@ -102,14 +95,14 @@ optional_times (suc levels) type = optional (optional_times levels type)
 abbrev pub type_of_numbers : TypeNumbers → ElementType
 type_of_numbers n = optional_times n.0 (innermost_of_numbers n.1)
 
--- the numbers give the type back
-pub type_of_numbers-numbers_of : (type : ElementType) → type_of_numbers (numbers_of type) ≡ type
-type_of_numbers-numbers_of (fixed width count sign) = refl
-type_of_numbers-numbers_of text = refl
-type_of_numbers-numbers_of bytes = refl
-type_of_numbers-numbers_of (optional type) = ap optional (type_of_numbers-numbers_of type)
+-- a type's numbers give the type back
+pub type_of_numbers-numbers_of_type : (type : ElementType) → type_of_numbers (numbers_of_type type) ≡ type
+type_of_numbers-numbers_of_type (fixed width count sign) = refl
+type_of_numbers-numbers_of_type text = refl
+type_of_numbers-numbers_of_type bytes = refl
+type_of_numbers-numbers_of_type (optional type) = ap optional (type_of_numbers-numbers_of_type type)
 
--- a type is stored as its numbers
+-- types are told apart by their numbers
 abbrev pub type_code : Coded ElementType
 type_code =
-    code_by TypeNumbers (coded× coded_ℕ (coded× coded_ℕ (coded× coded_ℕ (coded× coded_ℕ coded_bool)))) numbers_of type_of_numbers type_of_numbers-numbers_of
+    code_by TypeNumbers (coded× coded_ℕ (coded× coded_ℕ (coded× coded_ℕ (coded× coded_ℕ coded_bool)))) numbers_of_type type_of_numbers type_of_numbers-numbers_of_type

@@ -1,13 +1,9 @@
--- Types are the same where they are equal.
+-- Types are the same just where they are equal.
 use Rattle.std.proofs.Common.{◌≡◌, Bool, true, false, ◌&&◌, refl, ap, ◌∙◌, ◌==◌, subst, eqb-true, eq-eqb}
-use Rattle.std.proofs.lemmas.Bool.{false≢true}
+use Rattle.std.proofs.lemmas.Bool.{false≢true, and_parts}
 use Rattle.std.specs.Cmp.{IsEquivalence, both_ways}
 use Rattle.zarrs_data_type.specs.ElementType.{ElementType, fixed, text, bytes, optional}
 use Rattle.zarrs_data_type.specs.SameType.{is_same_sign, is_same_type}
-
-both_true : (a b : Bool) → a && b ≡ true → (a ≡ true) × (b ≡ true)
-both_true true b h = (refl, h)
-both_true false b h = absurd (false≢true h)
 
 is_same_sign-equal : (s r : Bool) → is_same_sign s r ≡ true → s ≡ r
 is_same_sign-equal true true h = refl
@@ -17,8 +13,8 @@ is_same_sign-equal false false h = refl
 
 pub is_same_type-equal : (t u : ElementType) → is_same_type t u ≡ true → t ≡ u
 is_same_type-equal (fixed w c s) (fixed v d r) h =
-    let sign = both_true _ _ h in
-    let sizes = both_true _ _ sign.0 in
+    let sign = and_parts _ _ h in
+    let sizes = and_parts _ _ sign.0 in
     let w-is = eqb-true w v sizes.0 in
     let c-is = eqb-true c d sizes.1 in
     let s-is = is_same_sign-equal s r sign.1 in

@@ -20,6 +20,6 @@ pub trait HasComponents {
 
     /// The components of an element, or `None` for a type that is not fixed.
     fn components(&self) -> Option<Components>
-        ensures components { result ≡ components_of (element_type self.now) }
+        ensures value { result ≡ components_of (element_type self.now) }
         ensures sound { IfSome result (λ c. IsFixedType c.component_size_bits c.num_components) };
 }

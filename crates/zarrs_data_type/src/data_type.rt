@@ -1,11 +1,10 @@
-ghost use Rattle.std.specs.Prelude.{◌≡◌, ◌<◌, ℕ, false, true, Option, Ok, IfSome, is_some, OnSome, IsTrue};
+ghost use Rattle.std.specs.Prelude.{◌≡◌, ◌<◌, false, true, IfSome, is_some};
 ghost use Rattle.std.specs.Option.{option_map};
 ghost use Rattle.std.specs.Cmp.{partial_equiv_from_equiv};
 ghost use Rattle.zarrs_chunk.specs.Answer.{Answers, memory};
-ghost use Rattle.zarrs_data_type.specs.ElementType.{fixed, text, bytes, optional, IsFixedType, fixed_size_of, components_of, type_of_components, inner_of, is_variable, optional_levels, element_size};
+ghost use Rattle.zarrs_data_type.specs.ElementType.{fixed, text, bytes, optional, IsFixedType, fixed_size_of, components_of, type_of_components, inner_of, is_variable};
 ghost use Rattle.zarrs_data_type.specs.SameType.{is_same_type};
 ghost use Rattle.zarrs_data_type.specs.FillValue.{fill_fits};
-ghost use Rattle.zarrs_data_type.specs.Element.{IsElement, fill_element};
 ghost use Rattle.zarrs_data_type.specs.SameTypeLaws.{is_same_type-equivalence};
 
 use crate::components::{Components, HasComponents};
@@ -40,17 +39,17 @@ impl Model for DataType {
 
     ghost coded = { type_code };
 
-    ghost use Rattle.zarrs_data_type.specs.DataType.{type_of, KindIsSound};
+    ghost use Rattle.zarrs_data_type.specs.DataType.{type_of_kind, IsSoundKind};
 
-    ghost view = { λ data_type. type_of data_type.kind };
+    ghost view = { λ data_type. type_of_kind data_type.kind };
 
-    ghost invariant = { λ data_type. KindIsSound data_type.kind };
+    ghost invariant = { λ data_type. IsSoundKind data_type.kind };
 
     ghost size = { optional_levels };
 
-    ghost use Rattle.zarrs_data_type.specs.InnerType.{type_of-optional_levels};
+    ghost use Rattle.zarrs_data_type.specs.InnerType.{type_of_kind-optional_levels};
 
-    ghost size_decreases = { λ data_type _. type_of-optional_levels data_type.kind };
+    ghost size_decreases = { λ data_type _. type_of_kind-optional_levels data_type.kind };
 }
 
 impl DataType {
@@ -76,91 +75,91 @@ impl DataType {
 
     /// A truth value. Any byte is an element of it; only the masks of optional elements are 0 or 1.
     pub fn bool() -> DataType
-        ensures { result ≡ fixed 1 1 false }
+        ensures made { result ≡ fixed 1 1 false }
     {
         DataType::single(1, false)
     }
 
     /// A signed number of two bits.
     pub fn int2() -> DataType
-        ensures { result ≡ fixed 2 1 true }
+        ensures made { result ≡ fixed 2 1 true }
     {
         DataType::single(2, true)
     }
 
     /// A signed number of four bits.
     pub fn int4() -> DataType
-        ensures { result ≡ fixed 4 1 true }
+        ensures made { result ≡ fixed 4 1 true }
     {
         DataType::single(4, true)
     }
 
     /// An unsigned number of two bits.
     pub fn uint2() -> DataType
-        ensures { result ≡ fixed 2 1 false }
+        ensures made { result ≡ fixed 2 1 false }
     {
         DataType::single(2, false)
     }
 
     /// An unsigned number of four bits.
     pub fn uint4() -> DataType
-        ensures { result ≡ fixed 4 1 false }
+        ensures made { result ≡ fixed 4 1 false }
     {
         DataType::single(4, false)
     }
 
     /// A signed number of one byte.
     pub fn int8() -> DataType
-        ensures { result ≡ fixed 8 1 true }
+        ensures made { result ≡ fixed 8 1 true }
     {
         DataType::single(8, true)
     }
 
     /// A signed number of two bytes.
     pub fn int16() -> DataType
-        ensures { result ≡ fixed 16 1 true }
+        ensures made { result ≡ fixed 16 1 true }
     {
         DataType::single(16, true)
     }
 
     /// A signed number of four bytes.
     pub fn int32() -> DataType
-        ensures { result ≡ fixed 32 1 true }
+        ensures made { result ≡ fixed 32 1 true }
     {
         DataType::single(32, true)
     }
 
     /// A signed number of eight bytes.
     pub fn int64() -> DataType
-        ensures { result ≡ fixed 64 1 true }
+        ensures made { result ≡ fixed 64 1 true }
     {
         DataType::single(64, true)
     }
 
     /// An unsigned number of one byte.
     pub fn uint8() -> DataType
-        ensures { result ≡ fixed 8 1 false }
+        ensures made { result ≡ fixed 8 1 false }
     {
         DataType::single(8, false)
     }
 
     /// An unsigned number of two bytes.
     pub fn uint16() -> DataType
-        ensures { result ≡ fixed 16 1 false }
+        ensures made { result ≡ fixed 16 1 false }
     {
         DataType::single(16, false)
     }
 
     /// An unsigned number of four bytes.
     pub fn uint32() -> DataType
-        ensures { result ≡ fixed 32 1 false }
+        ensures made { result ≡ fixed 32 1 false }
     {
         DataType::single(32, false)
     }
 
     /// An unsigned number of eight bytes.
     pub fn uint64() -> DataType
-        ensures { result ≡ fixed 64 1 false }
+        ensures made { result ≡ fixed 64 1 false }
     {
         DataType::single(64, false)
     }
@@ -173,7 +172,7 @@ impl DataType {
         num_components: u64,
         sign_extension: bool,
     ) -> Result<DataType, CodecError>
-        ensures { result ≡ type_of_components component_size_bits num_components sign_extension }
+        ensures answer { result ≡ type_of_components component_size_bits num_components sign_extension }
     {
         if component_size_bits == 0 || num_components == 0 {
             return Err(CodecError::BitRange);
@@ -188,21 +187,21 @@ impl DataType {
 
     /// Text of any length. That it is UTF-8 is not checked.
     pub fn string() -> DataType
-        ensures { result ≡ text }
+        ensures made { result ≡ text }
     {
         DataType { kind: Kind::Text }
     }
 
     /// Bytes of any length.
     pub fn bytes() -> DataType
-        ensures { result ≡ bytes }
+        ensures made { result ≡ bytes }
     {
         DataType { kind: Kind::Bytes }
     }
 
     /// Elements of `inner` that may be absent. Refusals: `OutOfMemory`.
     pub fn optional(alloc: Global, inner: DataType) -> Result<DataType, CodecError>
-        ensures { Answers memory (λ data_type. data_type) result (Ok (optional inner)) }
+        ensures answer { Answers memory (λ data_type. data_type) result (Ok (optional inner)) }
     {
         Ok(DataType {
             kind: Kind::Optional(Box::new(alloc, inner)?),
@@ -211,7 +210,7 @@ impl DataType {
 
     /// The bytes of an element of a fixed type, at least 1, or `None` for any other type.
     pub fn fixed_size(&self) -> Option<usize>
-        ensures size { result ≡ fixed_size_of self.now }
+        ensures value { result ≡ fixed_size_of self.now }
         ensures positive { IfSome result (λ size. 0 < size) }
     {
         match &self.kind {
@@ -224,21 +223,21 @@ impl DataType {
 
     /// Whether elements are bytes of any length.
     pub fn is_variable(&self) -> bool
-        ensures { result ≡ is_variable self.now }
+        ensures value { result ≡ is_variable self.now }
     {
         matches!(&self.kind, Kind::Text | Kind::Bytes)
     }
 
     /// Whether elements may be absent.
     pub fn is_optional(&self) -> bool
-        ensures { result ≡ is_some (inner_of self.now) }
+        ensures value { result ≡ is_some (inner_of self.now) }
     {
         matches!(&self.kind, Kind::Optional(_))
     }
 
     /// The type inside an optional type, or `None` for any other type.
     pub fn as_optional(&self) -> Option<&DataType>
-        ensures { option_map (λ r. r.now) result ≡ inner_of self.now }
+        ensures value { option_map (λ r. r.now) result ≡ inner_of self.now }
     {
         match &self.kind {
             Kind::Optional(inner) => Some(inner),
@@ -263,9 +262,10 @@ impl DataType {
         }
     }
 
-    /// An equal type. Refusals: `OutOfMemory`.
+    /// An equal type. Refusals: `OutOfMemory`, of an optional type alone.
     pub fn clone(&self) -> Result<DataType, CodecError>
-        ensures { Answers memory (λ copy. copy) result (Ok self.now) }
+        ensures copy { Answers memory (λ copy. copy) result (Ok self.now) }
+        ensures in_place { inner_of self.now ≡ None → result ≡ Ok self.now }
     {
         let kind = match &self.kind {
             Kind::Fixed(components) => Kind::Fixed(*components),

@@ -12,7 +12,7 @@ pub enum Endianness {
 impl Endianness {
     /// The order of elements in memory: the lowest byte first, on every machine.
     pub fn native() -> Endianness
-        ensures { result ≡ Endianness.Little }
+        ensures value { result ≡ Endianness.Little }
     {
         Endianness::Little
     }

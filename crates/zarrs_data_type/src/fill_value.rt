@@ -1,4 +1,4 @@
-ghost use Rattle.std.specs.Prelude.{◌≡◌, [], ◌∷◌, ◌++◌, Ok, IsTrue};
+ghost use Rattle.std.specs.Prelude.{◌≡◌, [], ◌∷◌, ◌++◌, IsTrue};
 ghost use Rattle.std.specs.Bool.{nat_eq};
 ghost use Rattle.std.specs.Cmp.Lexicographic.{pointwise};
 ghost use Rattle.std.specs.Cmp.Rules.{comparing};
@@ -32,21 +32,21 @@ impl Model for FillValue {
 impl FillValue {
     /// The fill value of these bytes, whether or not they fit a type.
     pub fn new(bytes: Vec<u8>) -> FillValue
-        ensures { result ≡ bytes.items }
+        ensures made { result ≡ bytes.items }
     {
         FillValue { bytes }
     }
 
     /// The absent fill value of an optional type. Refusals: `OutOfMemory`.
     pub fn new_optional_null(alloc: Global) -> Result<FillValue, CodecError>
-        ensures { Answers memory (λ fill. fill) result (Ok (0 ∷ [])) }
+        ensures answer { Answers memory (λ fill. fill) result (Ok (0 ∷ [])) }
     {
         Ok(FillValue::new(vec![in alloc; 0u8; 1]?))
     }
 
     /// The fill value as a present one of the optional type round its own. Refusals: `OutOfMemory`.
     pub fn into_optional(self) -> Result<FillValue, CodecError>
-        ensures { Answers memory (λ fill. fill) result (Ok (self ++ 1 ∷ [])) }
+        ensures answer { Answers memory (λ fill. fill) result (Ok (self ++ 1 ∷ [])) }
     {
         let mut bytes = self.bytes;
         bytes.push(1)?;
@@ -55,14 +55,14 @@ impl FillValue {
 
     /// The bytes, those of a component lowest first.
     pub fn as_ne_bytes(&self) -> &[u8]
-        ensures { result.now ≡ self.now }
+        ensures value { result.now ≡ self.now }
     {
         self.bytes.as_slice()
     }
 
     /// Whether the bytes are a fill value of this type.
     pub fn fits(&self, data_type: &DataType) -> bool
-        ensures fits { result ≡ fill_fits data_type.now self.now }
+        ensures value { result ≡ fill_fits data_type.now self.now }
         ensures element { IsTrue result → IsElement data_type.now (fill_element data_type.now self.now) }
     {
         data_type.accepts(self.as_ne_bytes())
@@ -70,7 +70,7 @@ impl FillValue {
 
     /// An equal fill value. Refusals: `OutOfMemory`.
     pub fn clone(&self) -> Result<FillValue, CodecError>
-        ensures { Answers memory (λ copy. copy) result (Ok self.now) }
+        ensures copy { Answers memory (λ copy. copy) result (Ok self.now) }
     {
         Ok(FillValue::new(self.bytes.clone()?))
     }

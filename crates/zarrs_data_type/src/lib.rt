@@ -14,6 +14,3 @@ pub use components::{Components, HasComponents};
 pub use data_type::DataType;
 pub use endianness::Endianness;
 pub use fill_value::FillValue;
-
-#[cfg(test)]
-mod tests;

@@ -1,9 +1,8 @@
-use Rattle.std.proofs.Common.{arith}
-use Rattle.std.proofs.lemmas.Grind.{common_steps}
-use Rattle.zarrs_array_bytes.proofs.FillLemmas.{repeated_left}
+use Rattle.std.proofs.Common.{◌≡◌, ℕ, List, ◌++◌, OnOk, subst}
+use Rattle.zarrs_array_bytes.specs.Filled.{copies}
 use Rattle.zarrs_array_bytes.proofs.repeat.append_copies.Goals as goal
 
-pub loop-i-preserved : goal.loop-i-preserved
-loop-i-preserved c =
-    let step = repeated_left c.args.bytes.now c.args.count c.loop-i._i c.loop-i-test.true in
-    grind (arith, common_steps)
+pub returns : goal.returns
+returns c = record {
+  appended = subst (λ (xs : List ℕ). OnOk c.append_blocks.result (c.append_blocks.new.out.items ≡ xs ++ copies c.args.bytes.now c.args.count)) c.in_ok-reserve.ensures.items c.append_blocks.ensures.appended;
+}

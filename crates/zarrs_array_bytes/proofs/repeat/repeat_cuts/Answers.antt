@@ -1,10 +1,22 @@
-use Rattle.std.proofs.Common.{arith, length}
-use Rattle.std.proofs.lemmas.Grind.{common_steps}
-use Rattle.zarrs_array_bytes.proofs.FillLemmas.{repeated_left, ends_left}
+use Rattle.std.proofs.Common.{◌≡◌, ℕ, List, [], ◌∷◌, ◌+◌, ◌*◌, ◌++◌, Ok, length, map, replicate, sym, ap, ap₂, ◌∙◌, arith}
+use Rattle.std.specs.List.{range_with_len}
+use Rattle.zarrs_array_bytes.specs.Filled.{copies}
+use Rattle.zarrs_array_bytes.specs.Pieces.{ends}
+use Rattle.zarrs_array_bytes.proofs.FillLemmas.{length-copies, ends-replicate}
 use Rattle.zarrs_array_bytes.proofs.repeat.repeat_cuts.Goals as goal
 
-pub loop-i-preserved : goal.loop-i-preserved
-loop-i-preserved c =
-    let step = repeated_left c.args.bytes.now c.args.count c.loop-i._i c.loop-i-test.true in
-    let end = ends_left c.args.bytes.now (length c.loop-i.out.items) c.args.count c.loop-i._i c.loop-i-test.true in
-    record { told = grind (arith, common_steps); ended = grind (arith, common_steps) }
+pub append_ends-requires : goal.append_ends-requires
+append_ends-requires c =
+    let is : copies c.args.bytes.now c.args.count ≡ c.in_ok-out.out.items = cc (c.in_ok-out.ensures.exact) in
+    record { fits = omega (arith, length-copies c.args.bytes.now c.args.count, ap length is, c.in_ok-out.ensures.small) }
+
+pub returns-clause-exact : goal.returns-clause-exact
+returns-clause-exact c =
+    let bytes = c.args.bytes.now in
+    let count = c.args.count in
+    let is : copies bytes count ≡ c.in_ok-out.out.items = cc (c.in_ok-out.ensures.exact) in
+    let one : c.push.new.self.items ≡ 0 ∷ [] = c.in_ok-push.ensures.items ∙ ap (λ (xs : List ℕ). xs ++ 0 ∷ []) c.in_ok-ends.ensures.items in
+    let all : c.append_ends.new.ends.items ≡ 0 ∷ map (λ place. place * length bytes + length bytes) (range_with_len 0 count)
+    = c.in_ok-append_ends.ensures.appended ∙ ap (λ (xs : List ℕ). xs ++ map (λ place. place * length bytes + length bytes) (range_with_len 0 count)) one in
+    let begins : 0 ≡ 0 * length bytes = omega arith in
+    ap₂ (λ (xs ns : List ℕ). Ok (xs, ns)) is (ap (λ (ns : List ℕ). 0 ∷ ns) (ends-replicate bytes 0 0 count begins) ∙ sym all)

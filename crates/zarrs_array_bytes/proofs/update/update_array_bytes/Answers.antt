@@ -1,28 +1,36 @@
-use Rattle.std.proofs.Common.{◌≡◌, Ok, length, sym, subst, ap, ◌∙◌}
-use Rattle.zarrs_chunk.specs.Answer.{Answers, memory}
+use Rattle.std.proofs.Common.{◌≡◌, ◌+◌, ◌≤◌, List, ℕ, Ok, sym, subst}
+use Rattle.std.specs.List.{All}
+use Rattle.zarrs_chunk.specs.Answer.{AnswersBy, memory}
 use Rattle.zarrs_chunk.specs.ChunkShape.{product}
 use Rattle.zarrs_chunk.specs.Indexer.{selection_of}
 use Rattle.zarrs_chunk.specs.Selection.{places_of}
 use Rattle.zarrs_chunk.specs.Runs.{joined_runs}
-use Rattle.zarrs_array_bytes.specs.Held.{Held}
-use Rattle.zarrs_array_bytes.specs.Updated.{updated}
-use Rattle.zarrs_array_bytes.specs.Validity.{validity, data_fit}
-use Rattle.zarrs_array_bytes.proofs.AnswerLemmas.{checked_is, updated_answers}
+use Rattle.zarrs_array_bytes.specs.Validity.{Holds}
+use Rattle.zarrs_array_bytes.specs.Chunks.{update_at_places}
+use Rattle.zarrs_array_bytes.proofs.AnswerLemmas.{checked_is, update_answers}
 use Rattle.zarrs_array_bytes.proofs.update.update_array_bytes.Goals as goal
+
+pub update_runs-requires : goal.update_runs-requires
+update_runs-requires c =
+    let total = product c.args.shape.now in
+    let count : total ≡ c.in_ok-count.count = checked_is total c.in_ok-count.count (sym (c.in_ok-count.ensures {u = tt}).answer) in
+    let below : All (λ run. run.0 + run.1 ≤ total) c.in_ok-runs.runs.items = (c.in_ok-runs.ensures {u = tt}).below in
+    record {
+      inside = subst (λ n. All (λ run. run.0 + run.1 ≤ n) c.as_slice.result.now) count
+          (subst (λ (rs : List (ℕ × ℕ)). All (λ run. run.0 + run.1 ≤ total) rs) (sym c.as_slice.ensures.value) below);
+    }
 
 pub returns-clause-exact : goal.returns-clause-exact
 returns-clause-exact c =
     let type = c.args.data_type.now in
     let total = product c.args.shape.now in
     let runs = c.in_ok-runs.runs.items in
-    let ps = joined_runs runs in
+    let old = c.args.array in
     let new = c.args.new.now in
-    let places : places_of (selection_of c.args.indexer.now) c.args.shape.now ≡ Ok ps = (c.in_ok-runs.ensures {u = tt}).places in
-    let count : total ≡ c.in_ok-count.count = checked_is total c.in_ok-count.count (sym (c.in_ok-count.ensures {u = tt})) in
-    let valid : validity type total c.args.array ≡ Ok tt = rw count (sym (c.in_ok-validate.ensures {u = tt}).exact) in
-    let fits : data_fit type (length ps) new ≡ Ok tt = sym ((c.in_ok-check_data.ensures {u = tt}).exact ∙ ap (λ rs. data_fit type (length (joined_runs rs)) new) c.as_slice.ensures.value) in
-    let wrote : Answers memory (λ (a : Held). a) c.write_elements.result (Ok (updated type c.in_ok-count.count c.args.array (length ps) new ps)) =
-    subst (λ rs. Answers memory (λ (a : Held). a) c.write_elements.result (Ok (updated type c.in_ok-count.count c.args.array (length (joined_runs rs)) new (joined_runs rs)))) c.as_slice-2.ensures.value c.write_elements.ensures.exact in
-    let gives : Answers memory (λ (a : Held). a) c.write_elements.result (Ok (updated type total c.args.array (length ps) new ps)) =
-    subst (λ n. Answers memory (λ (a : Held). a) c.write_elements.result (Ok (updated type n c.args.array (length ps) new ps))) (sym count) wrote in
-    updated_answers type c.args.shape.now (selection_of c.args.indexer.now) c.args.array new ps c.write_elements.result places valid fits gives
+    let places : places_of (selection_of c.args.indexer.now) c.args.shape.now ≡ Ok (joined_runs runs) = (c.in_ok-runs.ensures {u = tt}).places in
+    let count : total ≡ c.in_ok-count.count = checked_is total c.in_ok-count.count (sym (c.in_ok-count.ensures {u = tt}).answer) in
+    let listed : AnswersBy memory (Holds type) c.update_runs.result (update_at_places type c.in_ok-count.count (joined_runs runs) old new) =
+    subst (λ rs. AnswersBy memory (Holds type) c.update_runs.result (update_at_places type c.in_ok-count.count (joined_runs rs) old new)) c.as_slice.ensures.value c.update_runs.ensures.answer in
+    let gives : AnswersBy memory (Holds type) c.update_runs.result (update_at_places type total (joined_runs runs) old new) =
+    subst (λ n. AnswersBy memory (Holds type) c.update_runs.result (update_at_places type n (joined_runs runs) old new)) (sym count) listed in
+    update_answers type c.args.shape.now (selection_of c.args.indexer.now) old new (joined_runs runs) c.update_runs.result places gives

@@ -7,6 +7,8 @@ returns c =
     let new = c.args.new.now in
     let at = c.args.at in
     let len : at + length new - at ≡ length new = omega arith in
-    ap (λ ys. take at old ++ (ys ++ drop (at + length new - at) (drop at old))) c.copy_from_slice.ensures.after
-    ∙ ap (λ n. take at old ++ (new ++ drop n (drop at old))) len
-    ∙ ap (λ ys. take at old ++ (new ++ ys)) (drop-drop (length new) at old)
+    record {
+      written = ap (λ ys. take at old ++ (ys ++ drop (at + length new - at) (drop at old))) c.copy_from_slice.ensures.after
+          ∙ ap (λ n. take at old ++ (new ++ drop n (drop at old))) len
+          ∙ ap (λ ys. take at old ++ (new ++ ys)) (drop-drop (length new) at old);
+    }

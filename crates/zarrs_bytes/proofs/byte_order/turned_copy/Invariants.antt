@@ -3,4 +3,4 @@ use Rattle.zarrs_bytes.specs.ByteOrder.{turned}
 use Rattle.zarrs_bytes.proofs.byte_order.turned_copy.Given as goal
 
 abbrev pub invariant-loop-index : goal.invariant-loop-index
-invariant-loop-index l = l.copy.items ≡ turned (Some l.size) (take (l.index * 3072) l.bytes)
+invariant-loop-index l = l.copy.items ≡ turned (Some l.size) (take (l.index * l.block) l.bytes)

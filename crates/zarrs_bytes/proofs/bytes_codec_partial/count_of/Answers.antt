@@ -5,4 +5,4 @@ use Rattle.zarrs_bytes.proofs.bytes_codec_partial.count_of.Goals as goal
 pub loop-len-preserved : goal.loop-len-preserved
 loop-len-preserved c =
     let more = length-take_runs c.args.runs.now c.loop-len.len-index (omega arith) in
-    omega (arith, more, c.loop-len.invariant, c.in_ok-count.ensures.1)
+    omega (arith, more, c.loop-len.invariant, c.saturating_add-count.ensures)

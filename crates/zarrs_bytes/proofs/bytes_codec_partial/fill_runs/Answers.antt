@@ -1,19 +1,19 @@
-use Rattle.std.proofs.Common.{◌≡◌, ◌∙◌, ℕ, Vec, Global, ap, get_or, take, arith}
-use Rattle.std.specs.List.{flat_map}
-use Rattle.std.proofs.lemmas.Result.{IfOk-weaker}
-use Rattle.zarrs_array_bytes.specs.Filled.{repeated}
+use Rattle.std.proofs.Common.{◌≡◌, ◌∙◌, ◌++◌, ◌*◌, ◌≤◌, ap, length, arith}
+use Rattle.std.proofs.Math.Nat.{mul-le-mul_left}
+use Rattle.zarrs_array_bytes.specs.Filled.{copies}
+use Rattle.zarrs_array_bytes.proofs.FillLemmas.{length-copies}
 use Rattle.zarrs_chunk.specs.Runs.{joined_runs}
-use Rattle.zarrs_bytes.proofs.Ranges.{joined_runs-more}
-use Rattle.zarrs_bytes.proofs.Reading.{copies_more, copies_of_places}
+use Rattle.zarrs_bytes.proofs.Reading.{copies_of_places}
 use Rattle.zarrs_bytes.proofs.bytes_codec_partial.fill_runs.Goals as goal
 
-pub loop-len-preserved : goal.loop-len-preserved
-loop-len-preserved c =
-    let run = get_or c.args.runs.now c.loop-len.len-index (0, 0) in
-    copies_more c.args.fill.now (joined_runs (take c.loop-len.len-index c.args.runs.now)) _ run.0 run.1 c.loop-len.bytes.items _ c.loop-len.invariant c.in_ok-append_copies.ensures (joined_runs-more c.args.runs.now c.loop-len.len-index (0, 0) (omega arith))
-
-pub returns-in-Some : goal.returns-in-Some
-returns-in-Some c =
+pub returns : goal.returns
+returns c =
     let fill = c.args.fill.now in
     let places = joined_runs c.args.runs.now in
-    IfOk-weaker c.copies.result (λ (v : Vec ℕ Global). v.items ≡ repeated fill c.in-Some.count) (λ (v : Vec ℕ Global). v.items ≡ flat_map (λ _. fill) places) (λ v h. h ∙ ap (repeated fill) c.in-Some.ensures ∙ copies_of_places fill places) c.copies.ensures
+    let count = c.count_of-count.result in
+    let bytes = c.append_copies.new.out in
+    let is : bytes.items ≡ copies fill count = c.in_ok-append_copies.ensures.appended ∙ ap (λ xs. xs ++ copies fill count) c.in_ok-bytes.ensures.items in
+    let one : 1 ≤ length fill = omega arith in
+    let more : count * 1 ≤ count * length fill = mul-le-mul_left count one in
+    let exact : count ≡ length places = omega (arith, more, ap length is, length-copies fill count, bytes.ok, bytes.small, c.count_of-count.ensures) in
+    is ∙ ap (copies fill) exact ∙ copies_of_places fill places

@@ -1,7 +1,7 @@
 use Rattle.std.proofs.Common.{◌≡◌, ◌+◌, ◌*◌, ◌<◌, ◌≤◌, get_or, arith, ap}
 use Rattle.std.proofs.Math.Nat.{mul-le-mul_left}
 use Rattle.std.proofs.lemmas.List.Elements.{All-push}
-use Rattle.zarrs_bytes.specs.ByteSpan.{ByteSpan}
+use Rattle.zarrs_codec.specs.ByteSpan.{ByteSpan}
 use Rattle.zarrs_bytes.proofs.Ranges.{ranges_more}
 use Rattle.zarrs_bytes.proofs.bytes_codec_partial.run_ranges.Goals as goal
 
@@ -9,8 +9,8 @@ pub loop-start-preserved : goal.loop-start-preserved
 loop-start-preserved c =
     let run = get_or c.args.runs.now c.loop-start.start-index (0, 0) in
     let range = c.in-Some.range in
-    let start : range.start ≡ run.0 * c.args.size = ap (λ (s : ByteSpan). s.start) c.in-Some.ensures in
-    let end : range.end ≡ run.0 * c.args.size + run.1 * c.args.size = ap (λ (s : ByteSpan). s.end) c.in-Some.ensures in
+    let start : range.start ≡ run.0 * c.args.size = ap (λ (s : ByteSpan). s.start) c.in-Some.ensures.answer in
+    let end : range.end ≡ run.0 * c.args.size + run.1 * c.args.size = ap (λ (s : ByteSpan). s.end) c.in-Some.ensures.answer in
     let positive : 0 < (get_or c.args.runs.now c.loop-start.start-index (0, 0)).1 = c.requires.filled c.loop-start.start-index (0, 0) (omega arith) in
     let one : 1 ≤ c.args.size = omega arith in
     let grows : run.1 * 1 ≤ run.1 * c.args.size = mul-le-mul_left run.1 one in

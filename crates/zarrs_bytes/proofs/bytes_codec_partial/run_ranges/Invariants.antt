@@ -1,7 +1,7 @@
 use Rattle.std.proofs.Common.{◌≡◌, ◌<◌, take}
 use Rattle.std.specs.List.{All}
 use Rattle.zarrs_chunk.specs.Runs.{joined_runs}
-use Rattle.zarrs_bytes.specs.ByteRanges.{range_indices}
+use Rattle.zarrs_codec.specs.ByteRanges.{range_indices}
 use Rattle.zarrs_bytes.specs.PartialRead.{place_bytes}
 use Rattle.zarrs_bytes.proofs.bytes_codec_partial.run_ranges.Given as goal
 

@@ -2,4 +2,4 @@ use Rattle.zarrs_bytes.proofs.CodecLaws.{has_represented_length}
 use Rattle.zarrs_bytes.proofs.laws.has_represented_length.Goals as goal
 
 pub returns : goal.returns
-returns c = has_represented_length
+returns c = record { law = has_represented_length }

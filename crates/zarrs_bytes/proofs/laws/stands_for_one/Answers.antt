@@ -2,4 +2,4 @@ use Rattle.zarrs_bytes.proofs.CodecLaws.{stands_for_one}
 use Rattle.zarrs_bytes.proofs.laws.stands_for_one.Goals as goal
 
 pub returns : goal.returns
-returns c = stands_for_one
+returns c = record { law = stands_for_one }

@@ -2,4 +2,4 @@ use Rattle.zarrs_bytes.proofs.CodecLaws.{written_alike}
 use Rattle.zarrs_bytes.proofs.laws.written_alike.Goals as goal
 
 pub returns : goal.returns
-returns c = written_alike
+returns c = record { law = written_alike }

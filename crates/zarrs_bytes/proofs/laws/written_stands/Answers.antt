@@ -2,4 +2,4 @@ use Rattle.zarrs_bytes.proofs.CodecLaws.{written_stands}
 use Rattle.zarrs_bytes.proofs.laws.written_stands.Goals as goal
 
 pub returns : goal.returns
-returns c = written_stands
+returns c = record { law = written_stands }

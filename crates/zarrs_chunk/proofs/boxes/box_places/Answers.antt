@@ -3,9 +3,9 @@ use Rattle.std.specs.List.{All}
 use Rattle.std.proofs.lemmas.List.{drop_all, get_or_default}
 use Rattle.std.proofs.lemmas.Result.{IfOk-weaker}
 use Rattle.zarrs_chunk.specs.ChunkShape.{product}
-use Rattle.zarrs_chunk.specs.Levels.{behind_fronts, box_places, IsFitting}
+use Rattle.zarrs_chunk.specs.Levels.{numbers_behind, box_places, IsFitting}
 use Rattle.zarrs_chunk.specs.Tuples.{row_major}
-use Rattle.zarrs_chunk.proofs.BoxTuples.{box_tuples-nothing, behind_fronts-end}
+use Rattle.zarrs_chunk.proofs.BoxTuples.{box_tuples-nothing, numbers_behind-end}
 use Rattle.zarrs_chunk.proofs.boxes.box_places.Goals as goal
 
 pub returns-then-contains-clause-places : goal.returns-then-contains-clause-places
@@ -16,9 +16,9 @@ returns-then-contains-clause-places c =
 pub returns-clause-places : goal.returns-clause-places
 returns-clause-places c =
     let n = length c.args.sizes.now in
-    let P = λ (v : Vec ℕ Global). behind_fronts (drop n c.args.sizes.now) (drop n c.args.starts.now) (drop n c.args.lengths.now) v.items ≡ box_places c.args.sizes.now c.args.starts.now c.args.lengths.now in
+    let P = λ (v : Vec ℕ Global). numbers_behind (drop n c.args.sizes.now) (drop n c.args.starts.now) (drop n c.args.lengths.now) v.items ≡ box_places c.args.sizes.now c.args.starts.now c.args.lengths.now in
     let Q = λ (v : Vec ℕ Global). v.items ≡ box_places c.args.sizes.now c.args.starts.now c.args.lengths.now in
-    IfOk-weaker c.box_fronts.result P Q (λ v h. sym (behind_fronts-end c.args.sizes.now c.args.starts.now _ v.items n (omega arith) (omega arith)) ∙ h) c.box_fronts.ensures.level
+    IfOk-weaker c.box_fronts.result P Q (λ v h. sym (numbers_behind-end c.args.sizes.now c.args.starts.now _ v.items n (omega arith) (omega arith)) ∙ h) c.box_fronts.ensures.level
 
 fitting_below : (total rest : ℕ) (xs : List ℕ) → rest ≡ 1 → IsFitting total rest xs → All (λ p. p < total) xs
 fitting_below total rest xs e h = λ k d l.

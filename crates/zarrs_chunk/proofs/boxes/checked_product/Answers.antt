@@ -7,14 +7,14 @@ use Rattle.zarrs_chunk.proofs.boxes.checked_product.Goals as goal
 pub returns-then-contains : goal.returns-then-contains
 returns-then-contains c =
     let e = product_zero c.args.sizes.now (sym c.contains.ensures.value ∙ c.if-contains.true) in
-    (omega (arith, e), sym e)
+    record { value = (omega (arith, e), sym e) }
 
 pub returns-in_err-count : goal.returns-in_err-count
 returns-in_err-count c =
     let positive = All-positive c.args.sizes.now (sym c.contains.ensures.value ∙ c.if-contains.false) in
     let e = product_more-le c.args.sizes.now c.loop-size.size-index c.loop-size.count _ (omega arith) refl positive c.loop-size.invariant.is in
     let h = c.in_err-count.ensures in
-    rw c.from_residual.ensures (λ fits. absurd (h (omega (arith, e, fits))))
+    rw c.from_residual.ensures (record { value = λ fits. absurd (h (omega (arith, e, fits))) })
 
 pub loop-size-preserved : goal.loop-size-preserved
 loop-size-preserved c =
@@ -29,4 +29,4 @@ returns c =
     let e = ap product (drop_all c.loop-size.size-index c.args.sizes.now (omega arith)) in
     let is : c.loop-size.count * product (drop c.loop-size.size-index c.args.sizes.now) ≡ product c.args.sizes.now = c.loop-size.invariant.is in
     let same : c.loop-size.count ≡ product c.args.sizes.now = omega (arith, ap (λ n. c.loop-size.count * n) e, is) in
-    (omega (arith, same), same)
+    record { value = (omega (arith, same), same) }

@@ -2,7 +2,7 @@ use Rattle.std.proofs.Common.{◌≡◌, ◌+◌, ◌-◌, ◌%◌, get_or, drop
 use Rattle.std.proofs.lemmas.List.{length-set}
 use Rattle.zarrs_chunk.specs.Levels.{number_behind}
 use Rattle.zarrs_chunk.specs.Tuples.{is_tuple_inside}
-use Rattle.zarrs_chunk.proofs.Numbers.{unraveled_number, unraveled_inside}
+use Rattle.zarrs_chunk.proofs.Numbers.{unravel_number, unravel_inside}
 use Rattle.zarrs_chunk.proofs.indices.unravel_index.Goals as goal
 
 pub loop-axis-preserved : goal.loop-axis-preserved
@@ -17,8 +17,8 @@ loop-axis-preserved c =
     let inside : is_tuple_inside (drop (axis + 1) sizes) (drop (axis + 1) items) ≡ true
     = ap (λ n. is_tuple_inside (drop n sizes) (drop n items)) (sym back) ∙ c.loop-axis.invariant.inside in
     record {
-      number = unraveled_number sizes items axis rest (omega arith) c.loop-axis.invariant.len ∙ number;
-      inside = unraveled_inside sizes items axis rest (omega arith) c.loop-axis.invariant.len c.as_slice-sizes.ensures.positive inside;
+      number = unravel_number sizes items axis rest (omega arith) c.loop-axis.invariant.len ∙ number;
+      inside = unravel_inside sizes items axis rest (omega arith) c.loop-axis.invariant.len c.as_slice-sizes.ensures.positive inside;
       len = length-set items axis (rest % get_or sizes axis 0) ∙ c.loop-axis.invariant.len;
       axes = omega arith;
     }

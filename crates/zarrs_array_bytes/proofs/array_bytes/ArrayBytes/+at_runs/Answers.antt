@@ -5,22 +5,19 @@ use Rattle.zarrs_chunk.specs.declared.codec_error.CodecError.TheVariants.{Invali
 use Rattle.zarrs_array_bytes.specs.Held.{vlen, masked, raw_of}
 use Rattle.zarrs_array_bytes.specs.ArrayBytes.{held_of}
 use Rattle.zarrs_array_bytes.specs.Elements.{cut}
-use Rattle.zarrs_array_bytes.specs.Pieces.{gathered, variable_of}
-use Rattle.zarrs_array_bytes.specs.Extracted.{extracted}
+use Rattle.zarrs_array_bytes.specs.Pieces.{bytes_with_offsets, variable_of}
+use Rattle.zarrs_array_bytes.specs.Extracted.{container_selection}
 use Rattle.zarrs_array_bytes.proofs.RunLemmas.{places_below}
 use Rattle.zarrs_array_bytes.proofs.ValidLemmas.{raw_items, variable_fits, masked_fits, list_all-picked}
 use Rattle.zarrs_array_bytes.proofs.ExtractCalls.{extracted_variable}
 use Rattle.zarrs_array_bytes.proofs.array_bytes.ArrayBytes.+at_runs.Goals as goal
 
-pub gather_cuts-requires-clause-known : goal.gather_cuts-requires-clause-known
-gather_cuts-requires-clause-known t c =
+pub gather_cuts-requires-clause-inside : goal.gather_cuts-requires-clause-inside
+gather_cuts-requires-clause-inside t c = λ k d l.
     let seen : c.args.self.now ≡ vlen (raw_of c.in-Variable.bytes) c.in-Variable.offsets = sym c.self.view_is ∙ ap held_of c.in-Variable.is in
     let count : length c.in-Variable.offsets ≡ c.args.count + 1 = variable_fits InvalidBytesLength c.args.data_type.now c.args.count _ _ (rw seen at c.requires.valid) in
-    let places : joined_runs c.args.runs.now ≡ c.in_ok-places-in-Variable.places.items = cc (c.in_ok-places-in-Variable.ensures.exact) in
-    let items : c.as_slice-in-Variable-3.result.now ≡ joined_runs c.args.runs.now = c.as_slice-in-Variable-3.ensures.value ∙ sym places in
     let ends : length c.as_slice-in-Variable-2.result.now ≡ length c.in-Variable.offsets = ap length c.as_slice-in-Variable-2.ensures.offsets in
-    let limit : c.args.count ≡ length c.as_slice-in-Variable-2.result.now - 1 = omega arith in
-    subst (λ n. All (λ place. place < n) c.as_slice-in-Variable-3.result.now) limit (subst (λ xs. All (λ place. place < c.args.count) xs) (sym items) (places_below c.args.count c.args.runs.now c.requires.inside))
+    omega (arith, c.requires.inside k d l)
 
 pub of_masked-requires : goal.of_masked-requires
 of_masked-requires t c =
@@ -38,12 +35,10 @@ pub returns-in_ok-bytes-in-Variable-clause-exact : goal.returns-in_ok-bytes-in-V
 returns-in_ok-bytes-in-Variable-clause-exact t c =
     let seen : c.args.self.now ≡ vlen (raw_of c.in-Variable.bytes) c.in-Variable.offsets = sym c.self.view_is ∙ ap held_of c.in-Variable.is in
     let items : c.as_slice-in-Variable.result.now ≡ (raw_of c.in-Variable.bytes).items = c.as_slice-in-Variable.ensures.value ∙ raw_items c.in-Variable.bytes in
-    let runs = joined_runs c.args.runs.now in
-    let places : runs ≡ c.in_ok-places-in-Variable.places.items = cc (c.in_ok-places-in-Variable.ensures.exact) in
-    let listed : c.as_slice-in-Variable-3.result.now ≡ runs = c.as_slice-in-Variable-3.ensures.value ∙ sym places in
-    let both : gathered (cut c.as_slice-in-Variable-2.result.now c.as_slice-in-Variable.result.now) c.as_slice-in-Variable-3.result.now ≡ (c.in_ok-bytes-in-Variable.bytes.items, c.in_ok-bytes-in-Variable.offsets.items) = cc (c.in_ok-bytes-in-Variable.ensures.exact) in
-    let is : extracted c.args.data_type.now (vlen (raw_of c.in-Variable.bytes) c.in-Variable.offsets) runs ≡ variable_of (gathered (cut c.in-Variable.offsets (raw_of c.in-Variable.bytes).items) runs) = extracted_variable InvalidBytesLength c.args.data_type.now c.args.count _ _ _ (rw seen at c.requires.valid) in
-    ap Ok (ap (λ h. extracted c.args.data_type.now h runs) seen ∙ is ∙ ap (λ bs. variable_of (gathered (cut c.in-Variable.offsets bs) runs)) (sym items)
-    ∙ ap (λ os. variable_of (gathered (cut os c.as_slice-in-Variable.result.now) runs)) (sym c.as_slice-in-Variable-2.ensures.offsets)
-    ∙ ap (λ ps. variable_of (gathered (cut c.as_slice-in-Variable-2.result.now c.as_slice-in-Variable.result.now) ps)) (sym listed) ∙ ap variable_of both
+    let places = joined_runs c.args.runs.now in
+    let both : bytes_with_offsets (cut c.as_slice-in-Variable-2.result.now c.as_slice-in-Variable.result.now) places ≡ (c.in_ok-bytes-in-Variable.bytes.items, c.in_ok-bytes-in-Variable.offsets.items) = cc (c.in_ok-bytes-in-Variable.ensures.exact) in
+    let is : container_selection c.args.data_type.now (vlen (raw_of c.in-Variable.bytes) c.in-Variable.offsets) places ≡ variable_of (bytes_with_offsets (cut c.in-Variable.offsets (raw_of c.in-Variable.bytes).items) places) = extracted_variable InvalidBytesLength c.args.data_type.now c.args.count _ _ _ (rw seen at c.requires.valid) in
+    ap Ok (ap (λ h. container_selection c.args.data_type.now h places) seen ∙ is ∙ ap (λ bs. variable_of (bytes_with_offsets (cut c.in-Variable.offsets bs) places)) (sym items)
+    ∙ ap (λ os. variable_of (bytes_with_offsets (cut os c.as_slice-in-Variable.result.now) places)) (sym c.as_slice-in-Variable-2.ensures.offsets)
+    ∙ ap variable_of both
     ∙ sym c.of_variable.ensures)

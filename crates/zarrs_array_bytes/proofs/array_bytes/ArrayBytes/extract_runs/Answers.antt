@@ -1,14 +1,13 @@
-use Rattle.std.proofs.Common.{◌≡◌, Ok}
+use Rattle.std.proofs.Common.{◌≡◌, Ok, sym}
 use Rattle.zarrs_chunk.specs.Runs.{joined_runs}
 use Rattle.zarrs_array_bytes.specs.Validity.{validity}
 use Rattle.zarrs_array_bytes.proofs.RunLemmas.{places_below}
-use Rattle.zarrs_array_bytes.proofs.ValidLemmas.{both_ok}
-use Rattle.zarrs_array_bytes.proofs.AnswerLemmas.{extracted_answers}
+use Rattle.zarrs_array_bytes.proofs.AnswerLemmas.{at_answers}
 use Rattle.zarrs_array_bytes.proofs.array_bytes.ArrayBytes.extract_runs.Goals as goal
 
-pub at_runs-requires-clause-valid : goal.at_runs-requires-clause-valid
-at_runs-requires-clause-valid c = (both_ok _ _ c.requires.valid).1
-
-pub returns-clause-exact : goal.returns-clause-exact
-returns-clause-exact c =
-    extracted_answers c.args.data_type.now c.args.count c.args.self.now (joined_runs c.args.runs.now) c.at_runs.result c.requires.valid (places_below c.args.count c.args.runs.now c.requires.inside) c.at_runs.ensures.small c.at_runs.ensures.exact
+pub returns-clause-answer : goal.returns-clause-answer
+returns-clause-answer c =
+    let type = c.args.data_type.now in
+    let runs = c.args.runs.now in
+    let valid : validity type c.args.count c.args.self.now ≡ Ok tt = sym (c.in_ok-validate.ensures {u = tt}).exact in
+    at_answers type c.args.count c.args.self.now (joined_runs runs) c.at_runs.result valid (places_below c.args.count runs c.requires.inside) c.at_runs.ensures.small c.at_runs.ensures.exact

@@ -8,7 +8,7 @@ use Rattle.zarrs_array_bytes.specs.Held.{raw_of}
 use Rattle.zarrs_array_bytes.specs.Parts.{fixed_part}
 use Rattle.zarrs_array_bytes.specs.Validity.{Holds, validity}
 use Rattle.zarrs_bytes.specs.ByteOrder.{turned}
-use Rattle.zarrs_bytes.specs.BytesCodec.{encoded, turn_size, Written}
+use Rattle.zarrs_bytes.specs.BytesCodec.{bytes_value, turn_size, BytesWritten}
 use Rattle.zarrs_bytes.proofs.Coding.{encoded_is, spared, ok_from_seen}
 use Rattle.zarrs_bytes.proofs.Exact.{encoded_found, encoded_only}
 use Rattle.zarrs_bytes.proofs.bytes_codec.BytesCodec.encode.Goals as goal
@@ -16,10 +16,10 @@ use Rattle.zarrs_bytes.proofs.bytes_codec.BytesCodec.encode.Goals as goal
 abbrev items : CowSlice ℕ Global → List ℕ
 items value = (raw_of value).items
 
-exactly : (c : goal.After-turn) → Answers memory items c.turn.result (encoded c.args.self.now c.args.shape.now c.args.data_type.now c.args.fill_value.now c.args.elements)
+exactly : (c : goal.After-turn) → Answers memory items c.turn.result (bytes_value c.args.self.now c.args.shape.now c.args.data_type.now c.args.fill_value.now c.args.elements)
 exactly c =
     let valid : validity c.args.data_type.now c.in_ok-lengths.lengths.elements c.args.elements ≡ Ok tt = sym c.in_ok-validate.ensures.exact in
-    let part : fixed_part c.args.elements ≡ Ok (raw_of c.in_ok-raw.raw) = sym c.in_ok-raw.ensures in
+    let part : fixed_part c.args.elements ≡ Ok (raw_of c.in_ok-raw.raw) = sym c.in_ok-raw.ensures.answer in
     let answer : Answers memory items c.turn.result (Ok (turned (turn_size c.args.self.now c.args.data_type.now) (raw_of c.in_ok-raw.raw).items))
     = subst (λ s. Answers memory items c.turn.result (Ok (turned s (raw_of c.in_ok-raw.raw).items))) c.turn_size.ensures.size c.turn.ensures.exact in
     let is = encoded_is c.args.self.now c.args.shape.now c.args.data_type.now c.args.fill_value.now c.args.elements (raw_of c.in_ok-raw.raw) c.in_ok-lengths.lengths.bytes (sym c.in_ok-lengths.ensures.answer) (ap (λ n. validity c.args.data_type.now n c.args.elements) (sym c.in_ok-lengths.ensures.elements) ∙ valid) part in
@@ -30,8 +30,8 @@ returns-clause-exact c = exactly c
 
 pub returns-clause-found : goal.returns-clause-found
 returns-clause-found c =
-    found_from memory items c.turn.result (encoded c.args.self.now c.args.shape.now c.args.data_type.now c.args.fill_value.now c.args.elements)
-    (λ v. (chunk : Chunk) × Holds c.args.data_type.now c.args.elements chunk × Written c.args.self.now c.args.shape.now c.args.data_type.now c.args.fill_value.now v chunk)
+    found_from memory items c.turn.result (bytes_value c.args.self.now c.args.shape.now c.args.data_type.now c.args.fill_value.now c.args.elements)
+    (λ v. (chunk : Chunk) × Holds c.args.data_type.now c.args.elements chunk × BytesWritten c.args.self.now c.args.shape.now c.args.data_type.now c.args.fill_value.now v chunk)
     (exactly c)
     (λ v e. encoded_found c.args.self.now c.args.shape.now c.args.data_type.now c.args.fill_value.now v c.args.elements e)
 
@@ -41,7 +41,7 @@ returns-clause-only c = λ chunk value holds written.
 
 pub returns-clause-in_place : goal.returns-clause-in_place
 returns-clause-in_place c = λ h.
-    let isOk : IsOk c.turn.result = spared c.args.self.now c.args.data_type.now c.args.elements (raw_of c.in_ok-raw.raw) (IsOk c.turn.result) h (sym c.in_ok-raw.ensures)
+    let isOk : IsOk c.turn.result = spared c.args.self.now c.args.data_type.now c.args.elements (raw_of c.in_ok-raw.raw) (IsOk c.turn.result) h (sym c.in_ok-raw.ensures.answer)
     (λ e. ok_from_seen raw_of c.turn.result (raw_of c.in_ok-raw.raw) (c.turn.ensures.kept (c.turn_size.ensures.size ∙ e)))
     c.turn.ensures.owned in
-    seen_from memory items c.turn.result (encoded c.args.self.now c.args.shape.now c.args.data_type.now c.args.fill_value.now c.args.elements) isOk (exactly c)
+    seen_from memory items c.turn.result (bytes_value c.args.self.now c.args.shape.now c.args.data_type.now c.args.fill_value.now c.args.elements) isOk (exactly c)

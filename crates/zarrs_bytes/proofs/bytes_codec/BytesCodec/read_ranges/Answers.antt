@@ -2,7 +2,7 @@ use Rattle.std.proofs.Common.{◌≡◌, ◌<◌, ◌^◌, ℕ, List, length, ar
 use Rattle.std.proofs.lemmas.Result.{err_from_is_err_and}
 use Rattle.zarrs_chunk.specs.Answer.{memory_or_fault}
 use Rattle.zarrs_chunk.specs.Runs.{joined_runs}
-use Rattle.zarrs_array_bytes.specs.Held.{raw_of, owned}
+use Rattle.zarrs_array_bytes.specs.Held.{raw_of, owned_bytes}
 use Rattle.zarrs_bytes.specs.ByteOrder.{turned}
 use Rattle.zarrs_bytes.specs.BytesCodec.{turn_size}
 use Rattle.zarrs_bytes.proofs.Coding.{ok}
@@ -23,7 +23,7 @@ returns-in_ok-bytes-in-None-clause-answer g c =
     let read = rw c.in-None.is at c.in_ok-partial_decode_many.ensures.answer in
     let bytes = c.in_ok-bytes-in-None.bytes in
     let small : length bytes.items < 2 ^ 64 = omega (arith, bytes.ok, bytes.small) in
-    rw c.new_flen.ensures (at_none c.args.self.now c.args.data_type.now c.args.fill.now (joined_runs c.args.runs.now) (g.H.BytesPartialDecoderTraits.state c.args.handle.now).value c.args.ranges.now (owned bytes.items) c.requires.fixed c.requires.bytes c.requires.filled read c.in_ok-bytes-in-None.ensures small)
+    rw c.new_flen.ensures.made (at_none c.args.self.now c.args.data_type.now c.args.fill.now (joined_runs c.args.runs.now) (g.H.BytesPartialDecoderTraits.state c.args.handle.now).value c.args.ranges.now (owned_bytes bytes.items) c.requires.fixed c.requires.bytes c.requires.filled read c.in_ok-bytes-in-None.ensures small)
 
 pub returns-in_ok-elements-in-Some-clause-answer : goal.returns-in_ok-elements-in-Some-clause-answer
 returns-in_ok-elements-in-Some-clause-answer g c =
@@ -32,4 +32,4 @@ returns-in_ok-elements-in-Some-clause-answer g c =
     let is : raw.items ≡ turned (turn_size c.args.self.now c.args.data_type.now) c.in-Some.bytes.items
     = items_are _ _ c.in_ok-elements-in-Some.ensures.exact ∙ ap (λ s. turned s c.in-Some.bytes.items) c.turn_size-turn_size.ensures.size in
     let small : length c.in-Some.bytes.items < 2 ^ 64 = omega (arith, c.in-Some.bytes.ok, c.in-Some.bytes.small) in
-    rw c.new_flen-in-Some.ensures (at_some c.args.self.now c.args.data_type.now c.args.fill.now (joined_runs c.args.runs.now) c.in-Some.bytes.items (g.H.BytesPartialDecoderTraits.state c.args.handle.now).value c.args.ranges.now raw c.requires.fixed c.requires.bytes c.requires.filled read is small)
+    rw c.new_flen-in-Some.ensures.made (at_some c.args.self.now c.args.data_type.now c.args.fill.now (joined_runs c.args.runs.now) c.in-Some.bytes.items (g.H.BytesPartialDecoderTraits.state c.args.handle.now).value c.args.ranges.now raw c.requires.fixed c.requires.bytes c.requires.filled read is small)

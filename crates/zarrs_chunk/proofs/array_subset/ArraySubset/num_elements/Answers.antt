@@ -4,5 +4,5 @@ use Rattle.zarrs_chunk.proofs.array_subset.ArraySubset.num_elements.Goals as goa
 
 pub returns-clause-tuples : goal.returns-clause-tuples
 returns-clause-tuples c =
-    let same = length-box_tuples c.self.inside.starts.items c.self.inside.lengths.items c.self.invariant in
+    let same = length-box_tuples c.self.inside.starts.items c.self.inside.lengths.items c.self.invariant.axes in
     rw (← c.self.view_is, same) (search rules)

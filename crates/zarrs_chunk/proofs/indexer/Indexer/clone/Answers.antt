@@ -11,4 +11,4 @@ ok s = Ok s
 pub returns-in_ok-clone-in-Indices : goal.returns-in_ok-clone-in-Indices
 returns-in_ok-clone-in-Indices c =
     let same = map-items-clones c.in-Indices.tuples.items c.in_ok-clone-in-Indices.field-0.items c.in_ok-clone-in-Indices.ensures.cases.0 in
-    ap (λ s. ok (selection_of s)) c.in-Indices.is ∙ sym (ap (λ tuples. ok (indices tuples)) same)
+    record { copy = ap (λ s. ok (selection_of s)) c.in-Indices.is ∙ sym (ap (λ tuples. ok (indices tuples)) same) }

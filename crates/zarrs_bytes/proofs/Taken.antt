@@ -1,0 +1,41 @@
+-- What is known of chunks that the codec takes.
+use Rattle.std.proofs.Common.{◌≡◌, ℕ, ◌*◌, ◌<◌, ◌^◌, true, Option, Result, Ok, Err, List, arith, refl}
+use Rattle.std.specs.Prelude.{is_ok, is_some}
+use Rattle.zarrs_chunk.specs.ChunkShape.{product}
+use Rattle.zarrs_chunk.specs.declared.codec_error.CodecError.{CodecError}
+use Rattle.zarrs_data_type.specs.ElementType.{ElementType, fixed, text, bytes, optional, fixed_size_of}
+use Rattle.zarrs_data_type.specs.FillValue.{fill_fits}
+use Rattle.zarrs_data_type.specs.declared.endianness.Endianness.{Endianness}
+use Rattle.zarrs_bytes.specs.BytesCodec.{bytes_length}
+use Rattle.zarrs_bytes.specs.PartialRead.{place_size}
+use Rattle.zarrs_bytes.proofs.Coding.{taken}
+
+ok_is : (r : Result ℕ CodecError) → is_ok r ≡ true → (n : ℕ) × (r ≡ Ok n)
+ok_is (Ok n) h = (n, refl)
+ok_is (Err e) h = absurd cc
+
+-- its type is fixed
+pub taken_fixed : (order : Option Endianness) (sizes : List ℕ) (type : ElementType) (fill : List ℕ) → is_ok (bytes_length order sizes type fill) ≡ true → is_some (fixed_size_of type) ≡ true
+taken_fixed order sizes (fixed width components sign) fill h = refl
+taken_fixed order sizes text fill h = absurd cc
+taken_fixed order sizes bytes fill h = absurd cc
+taken_fixed order sizes (optional type) fill h = absurd cc
+
+-- its fill value fits the type
+pub taken_fill : (order : Option Endianness) (sizes : List ℕ) (type : ElementType) (fill : List ℕ) → is_ok (bytes_length order sizes type fill) ≡ true → fill_fits type fill ≡ true
+taken_fill order sizes (fixed width components sign) fill h =
+    let n = ok_is (bytes_length order sizes (fixed width components sign) fill) h in
+    (taken order sizes width components sign fill n.0 n.1).filled
+taken_fill order sizes text fill h = absurd cc
+taken_fill order sizes bytes fill h = absurd cc
+taken_fill order sizes (optional type) fill h = absurd cc
+
+-- 64 bits count its bytes
+pub taken_small : (order : Option Endianness) (sizes : List ℕ) (type : ElementType) (fill : List ℕ) → is_ok (bytes_length order sizes type fill) ≡ true → product sizes * place_size type < 2 ^ 64
+taken_small order sizes (fixed width components sign) fill h =
+    let n = ok_is (bytes_length order sizes (fixed width components sign) fill) h in
+    let t = taken order sizes width components sign fill n.0 n.1 in
+    omega (arith, t.len_is, t.small)
+taken_small order sizes text fill h = absurd cc
+taken_small order sizes bytes fill h = absurd cc
+taken_small order sizes (optional type) fill h = absurd cc

@@ -1,8 +1,0 @@
-use zarrs_chunk::CodecError;
-
-/// Why a partial coder wasn't made, and the handle that was handed in, as it stands.
-#[derive(Drop)]
-pub struct Refused<H> {
-    pub error: CodecError,
-    pub handle: H,
-}
