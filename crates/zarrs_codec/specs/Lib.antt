@@ -1,3 +1,4 @@
+pub mod ArrayReader
 pub mod ByteRanges
 pub mod ByteSpan
 pub mod BytesRepresentation
@@ -5,3 +6,9 @@ pub mod MemoryHandle
 pub mod Refused
 pub mod StorageState
 pub use Rattle.zarrs_chunk.specs.Answer
+pub mod CoordinateMap
+pub mod MappedChunk
+pub mod MappedSelection
+pub use Rattle.zarrs_array_bytes.specs.Elements
+pub use Rattle.zarrs_array_bytes.specs.Validity
+pub use Rattle.zarrs_chunk.specs.Selection

@@ -5,14 +5,22 @@
 //! [`BytesPartialDecoderTraits`]. [`MemoryHandle`] is one whose value is in memory.
 #![tactic(auto)]
 
+mod array_partial_decoder_traits;
+mod array_to_array_codec_traits;
 mod byte_range;
 mod bytes_partial_decoder_traits;
 mod bytes_representation;
+mod capabilities;
+mod codec_traits;
 mod memory_handle;
 mod refused;
 
+pub use array_partial_decoder_traits::ArrayPartialDecoderTraits;
+pub use array_to_array_codec_traits::ArrayToArrayCodecTraits;
 pub use byte_range::ByteRange;
 pub use bytes_partial_decoder_traits::BytesPartialDecoderTraits;
 pub use bytes_representation::BytesRepresentation;
+pub use capabilities::{PartialDecoderCapability, PartialEncoderCapability};
+pub use codec_traits::{ArrayCodecTraits, CodecTraits};
 pub use memory_handle::MemoryHandle;
 pub use refused::Refused;

@@ -1,0 +1,204 @@
+-- What encoded indexers answer.
+use Rattle.std.proofs.Common.{◌≡◌, ◌==◌, nat_lt, nat_le, ℕ, zero, suc, ◌+◌, ◌<◌, ◌≤◌, ◌^◌, ◌/◌, Bool, true, false, List, [], ◌∷◌, ◌++◌, length, get_or, map, drop, Ok, Err, Result, Vec, Global, arith, refl, ap, ap₂, ◌∙◌, sym, inl, inr, if◌then◌else◌}
+use Rattle.std.specs.List.{All, list_all}
+use Rattle.std.proofs.lemmas.Bool.{cases_Bool, and_parts, and_from}
+use Rattle.std.proofs.lemmas.Bool.Decides.{nat_tests}
+use Rattle.std.proofs.lemmas.List.{append_assoc, drop_more}
+use Rattle.std.proofs.lemmas.List.Elements.{All-cons}
+use Rattle.std.proofs.lemmas.Simd.{map-map}
+use Rattle.zarrs_chunk.specs.Answer.{◌>>=◌, demand, checked_u64, seen}
+use Rattle.zarrs_array_to_array.proofs.AnswerSteps.{step_ok}
+use Rattle.zarrs_chunk.specs.ArraySubset.{ends_fit, subset_of_start_shape}
+use Rattle.zarrs_chunk.specs.ChunkShape.{product}
+use Rattle.zarrs_chunk.specs.Region.{Region}
+use Rattle.zarrs_chunk.specs.Selection.{Selection, subset, indices, tuples_of, bounds_of, len_of, places_of}
+use Rattle.zarrs_chunk.specs.Tuples.{row_major, box_tuples, is_box_inside, is_tuple_inside}
+use Rattle.zarrs_chunk.specs.declared.codec_error.CodecError.{CodecError}
+use Rattle.zarrs_chunk.specs.declared.codec_error.CodecError.TheVariants.{Overflow, ReshapeElements}
+use Rattle.zarrs_chunk.proofs.BoxTuples.{length-box_tuples}
+use Rattle.zarrs_chunk.proofs.Inside.{is_box_inside-lengths, is_tuple_inside-length}
+use Rattle.zarrs_chunk.proofs.TupleLists.{tuples_inside}
+use Rattle.zarrs_array_to_array.specs.ArrayToArrayCodec.{ArrayMapping, IsMapping, transpose, reshape, squeeze, coordinates}
+use Rattle.zarrs_array_to_array.specs.Boxes.{EndsFit}
+use Rattle.zarrs_codec.specs.CoordinateMap.{CoordinateMap, same_places, IsMapTo}
+use Rattle.zarrs_array_to_array.specs.EncodedSelection.{squeezed_lengths, squeezed_region, selection_in}
+use Rattle.zarrs_codec.specs.MappedSelection.{IsImage, IsImageBy, image_of}
+use Rattle.zarrs_metadata.specs.Orders.{is_order}
+use Rattle.zarrs_array_to_array.specs.Orders.{permuted}
+use Rattle.zarrs_metadata.specs.Dims.{Dim}
+use Rattle.zarrs_array_to_array.specs.Reshape.{reshaped, dims_told, counts_agree, others_of, sizes_with}
+use Rattle.zarrs_array_to_array.specs.Squeeze.{above_one, or_one, squeezed, kept_indices, or_zero, squeezed_tuple}
+use Rattle.zarrs_array_to_array.specs.Unraveled.{unraveled}
+use Rattle.zarrs_array_to_array.proofs.Chains.{codec_map}
+use Rattle.zarrs_array_to_array.proofs.Images.{squeezed_box_inside, squeezed_image_subset, squeezed_image_indices, transposed_image, reshaped_image}
+use Rattle.zarrs_metadata.proofs.Orders.{order_parts}
+
+-- ---- numbers that fit
+
+-- a box inside sizes that fit ends where 64 bits hold it
+pub box_fits : (sizes starts lengths : List ℕ) → is_box_inside sizes starts lengths ≡ true → All (λ size. size < 2 ^ 64) sizes → EndsFit starts lengths
+box_fits [] [] [] h fits axis = omega arith
+box_fits [] [] (len ∷ lengths) h fits axis = absurd (cc)
+box_fits [] (start ∷ starts) lengths h fits axis = absurd (cc)
+box_fits (size ∷ sizes) [] lengths h fits axis = absurd (cc)
+box_fits (size ∷ sizes) (start ∷ starts) [] h fits axis = absurd (cc)
+box_fits (size ∷ sizes) (start ∷ starts) (len ∷ lengths) h fits zero =
+    let l : start + len ≤ size = from_le (start + len) size (and_parts (nat_le (start + len) size) (is_box_inside sizes starts lengths) h).0 in
+    let s = fits 0 0 (omega arith) in
+    omega (arith, l, s)
+  where
+    from_le : (a b : ℕ) → nat_le a b ≡ true → a ≤ b
+    from_le a b h = grind (arith, nat_tests)
+box_fits (size ∷ sizes) (start ∷ starts) (len ∷ lengths) h fits (suc axis) =
+    box_fits sizes starts lengths (and_parts (nat_le (start + len) size) (is_box_inside sizes starts lengths) h).1 (λ k d l. fits (suc k) d (omega arith)) axis
+
+ends_from : (starts lengths : List ℕ) → EndsFit starts lengths → ends_fit starts lengths ≡ true
+ends_from [] lengths fits = refl
+ends_from (start ∷ starts) [] fits = refl
+ends_from (start ∷ starts) (len ∷ lengths) fits = and_from _ _ (lt_from (start + len) (fits 0)) (ends_from starts lengths (λ axis. fits (suc axis)))
+  where
+    lt_from : (n : ℕ) → n < 2 ^ 64 → nat_lt n (2 ^ 64) ≡ true
+    lt_from n h = grind (arith, nat_tests)
+
+above_one_fits : (sizes : List ℕ) → All (λ size. size < 2 ^ 64) sizes → All (λ size. size < 2 ^ 64) (above_one sizes)
+above_one_fits [] h = h
+above_one_fits (size ∷ sizes) h =
+    let rest = above_one_fits sizes (λ k d l. h (suc k) d (omega arith)) in
+    elim (cases_Bool (size == 1)) [
+      | inl one ↦ rw one rest
+      | inr other ↦ rw other (All-cons (λ n. n < 2 ^ 64) size (above_one sizes) (h 0 0 (omega arith)) rest)
+    ]
+
+squeezed_fits : (sizes : List ℕ) → All (λ size. size < 2 ^ 64) (above_one sizes) → All (λ size. size < 2 ^ 64) (squeezed sizes)
+squeezed_fits sizes h = go (above_one sizes) h
+  where
+    go : (kept : List ℕ) → All (λ size. size < 2 ^ 64) kept → All (λ size. size < 2 ^ 64) (or_one kept)
+    go [] h = All-cons (λ n. n < 2 ^ 64) 1 [] (omega arith) h
+    go (size ∷ kept) h = h
+
+-- ---- squeezing
+
+pub kept_dropped : (sizes xs kept all : List ℕ) (axis : ℕ) → axis < length sizes → axis < length xs → get_or sizes axis 0 ≡ 1 → kept ++ kept_indices (drop axis sizes) (drop axis xs) ≡ all → kept ++ kept_indices (drop (axis + 1) sizes) (drop (axis + 1) xs) ≡ all
+kept_dropped sizes xs kept all axis p q one h =
+    let test : (get_or sizes axis 0 == 1) ≡ true = eq_from (get_or sizes axis 0) 1 one in
+    sym (ap₂ (λ s t. kept ++ kept_indices s t) (drop_more sizes axis 0 p) (drop_more xs axis 0 q) ∙ (rw test refl)) ∙ h
+  where
+    eq_from : (a b : ℕ) → a ≡ b → (a == b) ≡ true
+    eq_from a b h = grind (arith, nat_tests)
+
+pub kept_pushed : (sizes xs kept all : List ℕ) (axis : ℕ) → axis < length sizes → axis < length xs → (get_or sizes axis 0 ≡ 1 → ⊥) → kept ++ kept_indices (drop axis sizes) (drop axis xs) ≡ all → (kept ++ get_or xs axis 0 ∷ []) ++ kept_indices (drop (axis + 1) sizes) (drop (axis + 1) xs) ≡ all
+kept_pushed sizes xs kept all axis p q other h =
+    let test : (get_or sizes axis 0 == 1) ≡ false = neq_from (get_or sizes axis 0) 1 other in
+    append_assoc kept (get_or xs axis 0 ∷ []) (kept_indices (drop (axis + 1) sizes) (drop (axis + 1) xs))
+    ∙ sym (ap₂ (λ s t. kept ++ kept_indices s t) (drop_more sizes axis 0 p) (drop_more xs axis 0 q) ∙ (rw test refl)) ∙ h
+  where
+    neq_from : (a b : ℕ) → (a ≡ b → ⊥) → (a == b) ≡ false
+    neq_from a b h = grind (arith, nat_tests)
+
+pub squeezed_made : (sizes : List ℕ) (region : Region) → is_box_inside sizes region.starts region.lengths ≡ true → All (λ size. size < 2 ^ 64) sizes → subset_of_start_shape (squeezed_tuple sizes region.starts) (squeezed_lengths sizes region.lengths) ≡ Ok (squeezed_region sizes region)
+squeezed_made sizes region h fits =
+    let starts = or_zero (kept_indices sizes region.starts) in
+    let lengths = squeezed_lengths sizes region.lengths in
+    let inside = squeezed_box_inside sizes region.starts region.lengths h in
+    let axes = is_box_inside-lengths (squeezed sizes) starts lengths inside in
+    let same : (length starts == length lengths) ≡ true = eq_from (length starts) (length lengths) (axes.0 ∙ sym axes.1) in
+    let ends : ends_fit starts lengths ≡ true = ends_from starts lengths (box_fits (squeezed sizes) starts lengths inside (squeezed_fits sizes (above_one_fits sizes fits))) in
+    rw (same, ends) refl
+  where
+    eq_from : (a b : ℕ) → a ≡ b → (a == b) ≡ true
+    eq_from a b h = grind (arith, nat_tests)
+
+pub squeezed_image : (sizes : List ℕ) (selection : Selection) → bounds_of selection sizes ≡ Ok tt → IsImage sizes (same_places (squeezed sizes)) selection (selection_in squeeze sizes (squeezed sizes) selection)
+squeezed_image sizes (subset region) h = squeezed_image_subset sizes region h
+squeezed_image sizes (indices tuples) h = squeezed_image_indices sizes tuples h
+
+pub squeezed_list : (sizes encoded : List ℕ) (tuples made : List (Vec ℕ Global)) → map (λ tuple. tuple.items) made ≡ map (λ tuple. squeezed_tuple sizes tuple.items) tuples → selection_in squeeze sizes encoded (indices (map (λ tuple. tuple.items) tuples)) ≡ indices (map (λ tuple. tuple.items) made)
+squeezed_list sizes encoded tuples made h =
+    ap (λ ts. indices ts) (map-map (squeezed_tuple sizes) (λ (tuple : Vec ℕ Global). tuple.items) tuples ∙ sym h)
+
+-- ---- counts
+
+checked_same : (n k : ℕ) → checked_u64 n ≡ Ok k → n ≡ k
+checked_same n k e = go (nat_lt n (2 ^ 64)) n k e
+  where
+    go : (b : Bool) (n k : ℕ) → (if b then Ok n else Err Overflow) ≡ Ok k → n ≡ k
+    go true n k e = cc
+    go false n k e = cc
+
+pub box_count : (sizes : List ℕ) (region : Region) (count : ℕ) → is_box_inside sizes region.starts region.lengths ≡ true → len_of (subset region) ≡ Ok count → product region.lengths ≡ count
+box_count sizes region count h e =
+    let axes = is_box_inside-lengths sizes region.starts region.lengths h in
+    sym (length-box_tuples region.starts region.lengths (axes.0 ∙ sym axes.1)) ∙ checked_same (length (box_tuples region.starts region.lengths)) count e
+
+pub reshaped_counted : (dims : List Dim) (sizes encoded : List ℕ) → reshaped dims sizes ≡ Ok encoded → (n : ℕ) × (checked_u64 (product sizes) ≡ Ok n)
+reshaped_counted dims sizes encoded h =
+    let told = step_ok (dims_told sizes dims) (λ _. checked_u64 (product sizes) >>= λ _. checked_u64 (others_of sizes dims) >>= λ _. demand (counts_agree sizes dims) ReshapeElements >>= λ _. Ok (sizes_with (product sizes / others_of sizes dims) sizes dims)) encoded h in
+    let input = step_ok (checked_u64 (product sizes)) (λ _. checked_u64 (others_of sizes dims) >>= λ _. demand (counts_agree sizes dims) ReshapeElements >>= λ _. Ok (sizes_with (product sizes / others_of sizes dims) sizes dims)) encoded told.2 in
+    (input.0, input.1)
+
+pub places_known : (dims : List Dim) (sizes encoded : List ℕ) (selection : Selection) → reshaped dims sizes ≡ Ok encoded → bounds_of selection sizes ≡ Ok tt → places_of selection sizes ≡ Ok (map (row_major sizes) (tuples_of selection))
+places_known dims sizes encoded selection h inside = rw (inside, (reshaped_counted dims sizes encoded h).1) refl
+
+pub image_is : (codec : ArrayMapping) (sizes : List ℕ) (m : CoordinateMap) (selection : Selection) (n : ℕ) → bounds_of selection sizes ≡ Ok tt → coordinates codec sizes ≡ Ok m → len_of selection ≡ Ok n → image_of (coordinates codec sizes) (selection_in codec sizes) sizes selection ≡ Ok (selection_in codec sizes m.encoded selection)
+image_is codec sizes m selection n inside takes count = rw (inside, takes, count) refl
+
+-- ---- a shape that a codec takes
+
+pub reshaped_seen : (dims : List Dim) (sizes : List ℕ) → seen (λ m. m.encoded) (coordinates (reshape dims) sizes) ≡ reshaped dims sizes
+reshaped_seen dims sizes = go (reshaped dims sizes)
+  where
+    go : (r : Result (List ℕ) CodecError) → seen (λ m. m.encoded) (r >>= λ encoded. Ok (same_places encoded)) ≡ r
+    go (Ok encoded) = refl
+    go (Err e) = refl
+
+pub map_to : (codec : ArrayMapping) (sizes next : List ℕ) → IsMapping codec → All (λ size. 0 < size) sizes → seen (λ m. m.encoded) (coordinates codec sizes) ≡ Ok next → IsMapTo (coordinates codec sizes) sizes next
+map_to codec sizes next is positive h = go (coordinates codec sizes) refl h
+  where
+    go : (r : Result CoordinateMap CodecError) → coordinates codec sizes ≡ r → seen (λ m. m.encoded) r ≡ Ok next → IsMapTo (coordinates codec sizes) sizes next
+    go (Ok m) e h = rw e (cc, codec_map codec sizes m is positive e)
+    go (Err x) e h = absurd (cc)
+
+-- ---- transposition
+
+eq_test : (a b : ℕ) → a ≡ b → (a == b) ≡ true
+eq_test a b h = grind (arith, nat_tests)
+
+pub transposed_image_by : (order sizes : List ℕ) (selection : Selection) → is_order order ≡ true → length order ≡ length sizes → bounds_of selection sizes ≡ Ok tt → IsImageBy (coordinates (transpose order) sizes) sizes selection (indices (map (permuted order) (tuples_of selection)))
+transposed_image_by order sizes selection o axes h = rw (eq_test (length order) (length sizes) axes) (transposed_image order sizes selection (order_parts order o) axes h)
+
+pub lists_have_axes : (order sizes : List ℕ) (tuples : List (Vec ℕ Global)) → length order ≡ length sizes → bounds_of (indices (map (λ tuple. tuple.items) tuples)) sizes ≡ Ok tt → list_all (λ tuple. length tuple.items == length order) tuples ≡ true
+lists_have_axes order sizes tuples axes h = go tuples (tuples_inside tuples sizes (sym h))
+  where
+    go : (tuples : List (Vec ℕ Global)) → list_all (λ tuple. is_tuple_inside sizes tuple.items) tuples ≡ true → list_all (λ tuple. length tuple.items == length order) tuples ≡ true
+    go [] h = refl
+    go (tuple ∷ tuples) h =
+        let parts = and_parts (is_tuple_inside sizes tuple.items) (list_all (λ t. is_tuple_inside sizes t.items) tuples) h in
+        and_from _ _ (eq_test (length tuple.items) (length order) (is_tuple_inside-length sizes tuple.items parts.0 ∙ sym axes)) (go tuples parts.1)
+
+pub ordered_list : (order : List ℕ) (tuples made : List (Vec ℕ Global)) → map (λ tuple. tuple.items) made ≡ map (λ tuple. permuted order tuple.items) tuples → indices (map (permuted order) (map (λ tuple. tuple.items) tuples)) ≡ indices (map (λ tuple. tuple.items) made)
+ordered_list order tuples made h = ap (λ ts. indices ts) (map-map (permuted order) (λ (tuple : Vec ℕ Global). tuple.items) tuples ∙ sym h)
+
+-- ---- reshaping
+
+pub map_count : (r : Result CoordinateMap CodecError) (sizes next : List ℕ) → IsMapTo r sizes next → product next ≡ product sizes
+map_count (Ok m) sizes next h = ap product (sym h.0) ∙ h.1.count
+map_count (Err e) sizes next h = absurd h
+
+module _ (dims : List Dim) (sizes encoded places : List ℕ) (selection : Selection) (inside : bounds_of selection sizes ≡ Ok tt) (takes : seen (λ m. m.encoded) (coordinates (reshape dims) sizes) ≡ Ok encoded) (at : places_of selection sizes ≡ Ok places) where
+  takes_shape : reshaped dims sizes ≡ Ok encoded
+  takes_shape = sym (reshaped_seen dims sizes) ∙ takes
+
+  places_are : places ≡ map (row_major sizes) (tuples_of selection)
+  places_are = let known = places_known dims sizes encoded selection takes_shape inside in cc
+
+  pub reshaped_asked : (n : ℕ) → len_of selection ≡ Ok n → image_of (coordinates (reshape dims) sizes) (selection_in (reshape dims) sizes) sizes selection ≡ Ok (indices (map (unraveled encoded) places))
+  reshaped_asked n count = rw (inside, takes_shape, count) (ap (λ ps. Ok (indices (map (unraveled encoded) ps))) (sym places_are))
+
+  pub reshaped_image_by : product encoded ≡ product sizes → IsImageBy (coordinates (reshape dims) sizes) sizes selection (indices (map (unraveled encoded) places))
+  reshaped_image_by same = rw (takes_shape, places_are) (reshaped_image sizes encoded selection same inside)
+
+pub transposed_to : (order sizes next : List ℕ) → is_order order ≡ true → length order ≡ length sizes → All (λ size. 0 < size) sizes → ◌≡◌ {A = Result (List ℕ) CodecError} (Ok (permuted order sizes)) (Ok next) → IsMapTo (coordinates (transpose order) sizes) sizes next
+transposed_to order sizes next o axes positive e = map_to (transpose order) sizes next o positive (rw (eq_test (length order) (length sizes) axes) e)
+
+pub squeezed_to : (sizes next : List ℕ) → All (λ size. 0 < size) sizes → squeezed sizes ≡ next → IsMapTo (coordinates squeeze sizes) sizes next
+squeezed_to sizes next positive e = map_to squeeze sizes next tt positive (ap (λ s. Ok s) e)

@@ -1,0 +1,55 @@
+use Rattle.std.proofs.Common.{ap, Err}
+use Rattle.zarrs_chunk.specs.Indexer.{selection_of}
+use Rattle.zarrs_array_bytes.specs.Held.{Held}
+use Rattle.zarrs_array_bytes.specs.Validity.{Holds}
+use Rattle.zarrs_chunk.specs.Answer.{AnswersBy, memory}
+use Rattle.zarrs_codec.specs.ArrayReader.{mapped_reader}
+use Rattle.zarrs_codec.specs.MappedSelection.{image_of}
+use Rattle.zarrs_array_to_array.proofs.Stages.{refused_answer, passed_answer, refused_first, passed_first, left_alone}
+use Rattle.zarrs_array_to_array.proofs.array_to_array_codec_partial.ArrayToArrayCodecPartialArrayPartialDecoderTraits.partial_decode.Goals as goal
+
+pub returns-in-Ok-clause-answer : goal.returns-in-Ok-clause-answer
+returns-in-Ok-clause-answer g c =
+    let stage = c.args.self.now in
+    let coordinates = g.C.ArrayToArrayCodecTraits.coordinates stage.codec stage.shape in
+    let asked = g.C.ArrayToArrayCodecTraits.asked stage.codec stage.shape in
+    let reader = g.I.ArrayPartialDecoderTraits.reader stage.input in
+    let selection = selection_of c.args.indexer.now in
+    passed_answer (Holds reader.type) c.partial_decode.result (image_of coordinates asked stage.shape selection) (selection_of c.in-Ok.encoded) reader.answer c.in-Ok.ensures.answer c.partial_decode.ensures.answer
+
+pub returns-in-Err-clause-answer : goal.returns-in-Err-clause-answer
+returns-in-Err-clause-answer g c =
+    let stage = c.args.self.now in
+    let coordinates = g.C.ArrayToArrayCodecTraits.coordinates stage.codec stage.shape in
+    let asked = g.C.ArrayToArrayCodecTraits.asked stage.codec stage.shape in
+    let reader = g.I.ArrayPartialDecoderTraits.reader stage.input in
+    let selection = selection_of c.args.indexer.now in
+    refused_answer (Holds reader.type) c.in-Err.error (image_of coordinates asked stage.shape selection) reader.answer c.in-Err.ensures.answer
+
+pub returns-in-Ok-clause-indexer_first : goal.returns-in-Ok-clause-indexer_first
+returns-in-Ok-clause-indexer_first g c =
+    let stage = c.args.self.now in
+    let coordinates = g.C.ArrayToArrayCodecTraits.coordinates stage.codec stage.shape in
+    let asked = g.C.ArrayToArrayCodecTraits.asked stage.codec stage.shape in
+    let reader = g.I.ArrayPartialDecoderTraits.reader stage.input in
+    let selection = selection_of c.args.indexer.now in
+    passed_first coordinates asked stage.shape selection (selection_of c.in-Ok.encoded) (λ cause. AnswersBy memory (Holds reader.type) c.partial_decode.result (Err cause)) c.in-Ok.ensures.answer
+
+pub returns-in-Err-clause-indexer_first : goal.returns-in-Err-clause-indexer_first
+returns-in-Err-clause-indexer_first g c =
+    let stage = c.args.self.now in
+    let coordinates = g.C.ArrayToArrayCodecTraits.coordinates stage.codec stage.shape in
+    let asked = g.C.ArrayToArrayCodecTraits.asked stage.codec stage.shape in
+    let reader = g.I.ArrayPartialDecoderTraits.reader stage.input in
+    let selection = selection_of c.args.indexer.now in
+    refused_first coordinates asked stage.shape selection (Holds reader.type) c.in-Err.error c.in-Err.ensures.answer
+
+pub returns-in-Err-clause-left : goal.returns-in-Err-clause-left
+returns-in-Err-clause-left g c = left_alone Held c.in-Err.error (g.I.ArrayPartialDecoderTraits.state c.args.self.now.input) c.in-Err.ensures.no_fault
+
+pub returns-in-Ok-clause-reader_kept : goal.returns-in-Ok-clause-reader_kept
+returns-in-Ok-clause-reader_kept g c =
+    let stage = c.args.self.now in
+    let coordinates = g.C.ArrayToArrayCodecTraits.coordinates stage.codec stage.shape in
+    let asked = g.C.ArrayToArrayCodecTraits.asked stage.codec stage.shape in
+    ap (mapped_reader coordinates asked (g.C.CodecTraits.reads_in_part stage.codec).partial_decode stage.shape) c.partial_decode.ensures.reader_kept

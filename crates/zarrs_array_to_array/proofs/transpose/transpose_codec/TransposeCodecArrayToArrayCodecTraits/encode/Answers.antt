@@ -1,0 +1,39 @@
+use Rattle.std.proofs.Common.{subst, ◌≡◌, true, sym, ◌∙◌}
+use Rattle.zarrs_chunk.specs.Answer.{memory, AnswersBy}
+use Rattle.zarrs_codec.specs.MappedChunk.{encoded_chunk}
+use Rattle.zarrs_array_to_array.specs.ArrayToArrayCodec.{coordinates, transpose}
+use Rattle.zarrs_array_to_array.specs.CodecAnswers.{type_taken}
+use Rattle.zarrs_array_to_array.proofs.MappedChunks.{where_expected, transpose_encoded-chunk, encoded_refused}
+use Rattle.zarrs_array_to_array.proofs.AnswerSteps.{found_by}
+use Rattle.zarrs_array_bytes.specs.Elements.{elements}
+use Rattle.zarrs_array_bytes.specs.Validity.{Holds}
+use Rattle.zarrs_array_to_array.specs.Transpose.{IsTransposed}
+use Rattle.zarrs_array_to_array.specs.TransposeCodec.{transpose_encoded}
+use Rattle.zarrs_chunk.specs.ChunkShape.{product}
+use Rattle.zarrs_metadata.specs.Orders.{is_order}
+use Rattle.zarrs_array_to_array.proofs.CodecAnswers.{encoded_answers, encoded_found}
+use Rattle.zarrs_array_to_array.proofs.transpose.transpose_codec.TransposeCodecArrayToArrayCodecTraits.encode.Goals as goal
+
+pub returns-clause-exact : goal.returns-clause-exact
+returns-clause-exact c =
+    let checked = c.in_ok-count.ensures {u = tt} in
+    encoded_answers c.args.self.now c.args.decoded_shape.now c.as_slice.result.now c.as_slice-2.result.now c.args.decoded_data_type.now c.args.bytes c.in_ok-count.count c.transposed.result (sym checked.exact) checked.count (c.as_slice.ensures.value ∙ c.self.view_is) c.as_slice-2.ensures.sizes c.transposed.ensures.exact
+
+pub returns-clause-found : goal.returns-clause-found
+returns-clause-found c =
+    let order : is_order c.args.self.now ≡ true = rw (← (c.as_slice.ensures.value ∙ c.self.view_is)) c.as_slice.ensures.sound in
+    found_by memory (Holds c.args.decoded_data_type.now) c.transposed.result (transpose_encoded c.args.self.now c.args.decoded_data_type.now c.args.decoded_shape.now c.args.bytes) (λ v. IsTransposed c.args.self.now c.args.decoded_shape.now (elements c.args.decoded_data_type.now (product c.args.decoded_shape.now) c.args.bytes) v) (returns-clause-exact c)
+    (λ v e. encoded_found c.args.self.now c.args.decoded_shape.now c.args.decoded_data_type.now c.args.bytes v order e)
+
+pub returns-clause-moved : goal.returns-clause-moved
+returns-clause-moved c =
+    let order = c.args.self.now in
+    let sizes = c.args.decoded_shape.now in
+    let type = c.args.decoded_data_type.now in
+    let held = c.args.bytes in
+    where_expected (Holds type) c.transposed.result (encoded_chunk (type_taken (transpose order) type) (coordinates (transpose order) sizes) type sizes held)
+    (subst (λ expected. AnswersBy memory (Holds type) c.transposed.result expected) (transpose_encoded-chunk order sizes type held) (returns-clause-exact c))
+
+pub returns-in_err-count-clause-moved : goal.returns-in_err-count-clause-moved
+returns-in_err-count-clause-moved c =
+    encoded_refused c.args.self.now c.args.decoded_shape.now c.args.decoded_data_type.now c.args.bytes c.in_err-count.field-0.0 _ (sym (c.in_err-count.ensures {u = tt}).exact)

@@ -1,0 +1,21 @@
+-- What codecs answer of types and of encoded shapes.
+use Rattle.std.specs.Prelude.{ℕ, not, is_some, List, Result, Ok, Option, Some, None}
+use Rattle.zarrs_chunk.specs.Answer.{demand, seen}
+use Rattle.zarrs_chunk.specs.declared.codec_error.CodecError.{CodecError}
+use Rattle.zarrs_chunk.specs.declared.codec_error.CodecError.TheVariants.{UnsupportedDataType}
+use Rattle.zarrs_chunk.specs.declared.codec_error.CodecName.TheVariants.{Transpose}
+use Rattle.zarrs_data_type.specs.ElementType.{ElementType, inner_of}
+use Rattle.zarrs_array_to_array.specs.ArrayToArrayCodec.{ArrayMapping, transpose, reshape, squeeze}
+use Rattle.zarrs_array_to_array.specs.TransposeCodec.{transposed_back_sizes}
+
+-- the codec takes elements of the type: transposition of those that are not optional, the others of all
+abbrev pub type_taken : ArrayMapping → ElementType → Result (Unit {0}) CodecError
+type_taken (transpose order) type = demand (not (is_some (inner_of type))) (UnsupportedDataType Transpose)
+type_taken (reshape dims) type = Ok tt
+type_taken squeeze type = Ok tt
+
+-- the sizes of the decoded chunk, where those of the encoded one tell them
+abbrev pub sizes_before : ArrayMapping → List ℕ → Result (Option (List ℕ)) CodecError
+sizes_before (transpose order) sizes = seen (λ decoded. Some decoded) (transposed_back_sizes order sizes)
+sizes_before (reshape dims) sizes = Ok None
+sizes_before squeeze sizes = Ok None

@@ -1,0 +1,121 @@
+ghost use Rattle.std.specs.Prelude.{◌≡◌, ◌<◌, ◌^◌, ◌+◌, ℕ, Ok, false, length, map, All, IfOk, slice_index};
+ghost use Rattle.zarrs_chunk.specs.Answer.{Answers, memory, is_fault};
+ghost use Rattle.zarrs_chunk.specs.ChunkShape.{product};
+ghost use Rattle.zarrs_chunk.specs.Tuples.{box_tuples};
+ghost use Rattle.zarrs_array_to_array.specs.Boxes.{indices_behind as indices_behind_of, box_tuple as box_tuple_of, EndsFit};
+ghost use Rattle.zarrs_array_to_array.specs.Orders.{permuted as permuted_of};
+ghost use Rattle.zarrs_array_to_array.specs.Unraveled.{unraveled};
+
+use std::alloc::{AllocError, Global};
+use zarrs_chunk::{ArrayIndices, ArraySubset, ChunkShape, CodecError, unravel_index};
+
+/// The tuple that has this row-major number in a chunk.
+fn tuple_at(alloc: Global, number: u64, shape: &ChunkShape) -> Result<ArrayIndices, CodecError>
+    requires { number < product shape.now }
+    ensures answer { Answers memory (λ tuple. tuple.items) result (Ok (unraveled shape.now number)) }
+    ensures no_fault { is_fault result ≡ false }
+{
+    match unravel_index(alloc, number, shape)? {
+        None => unreachable!(),
+        Some(tuple) => Ok(tuple),
+    }
+}
+
+/// The tuples that have these row-major numbers in a chunk.
+pub(crate) fn tuples_at(
+    alloc: Global,
+    numbers: &[u64],
+    shape: &ChunkShape,
+) -> Result<Vec<ArrayIndices>, CodecError>
+    requires { All (λ number. number < product shape.now) numbers.now }
+    ensures answer { Answers memory (λ v. map (λ tuple. tuple.items) v.items) result (Ok (map (unraveled shape.now) numbers.now)) }
+    ensures no_fault { is_fault result ≡ false }
+{
+    let mut tuples = Vec::with_capacity(alloc, numbers.len())?;
+    for number in numbers {
+        tuples.push(tuple_at(alloc, *number, shape)?)?;
+    }
+    Ok(tuples)
+}
+
+/// The indices of a tuple, each behind its start, in this order of axes.
+fn indices_behind(
+    alloc: Global,
+    order: &[usize],
+    starts: &[u64],
+    tuple: &[u64],
+) -> Result<ArrayIndices, AllocError>
+    requires order { All (λ axis. axis < length starts.now) order.now }
+    requires axes { length tuple.now ≡ length starts.now }
+    requires fits { EndsFit starts.now tuple.now }
+    ensures { IfOk result (λ v. v.items ≡ permuted_of order.now (indices_behind_of starts.now tuple.now)) }
+{
+    let mut indices = Vec::with_capacity(alloc, order.len())?;
+    for axis in order {
+        indices.push(starts[*axis] + tuple[*axis])?;
+    }
+    Ok(indices)
+}
+
+/// The tuple of a box that has this number among the box's tuples, in this order of axes.
+fn box_tuple(
+    alloc: Global,
+    order: &[usize],
+    starts: &[u64],
+    lengths: &ChunkShape,
+    number: u64,
+) -> Result<ArrayIndices, CodecError>
+    requires order { All (λ axis. axis < length starts.now) order.now }
+    requires axes { length lengths.now ≡ length starts.now }
+    requires fits { EndsFit starts.now lengths.now }
+    requires known { number < product lengths.now }
+    ensures answer { Answers memory (λ tuple. tuple.items) result (Ok (permuted_of order.now (box_tuple_of starts.now lengths.now number))) }
+    ensures no_fault { is_fault result ≡ false }
+{
+    let tuple = tuple_at(alloc, number, lengths)?;
+    let indices = indices_behind(alloc, order, starts, tuple.as_slice())?;
+    Ok(indices)
+}
+
+/// So many first tuples of a box, each in this order of axes.
+fn first_tuples(
+    alloc: Global,
+    order: &[usize],
+    starts: &[u64],
+    lengths: &ChunkShape,
+    count: u64,
+) -> Result<Vec<ArrayIndices>, CodecError>
+    requires order { All (λ axis. axis < length starts.now) order.now }
+    requires axes { length lengths.now ≡ length starts.now }
+    requires fits { EndsFit starts.now lengths.now }
+    requires known { product lengths.now ≡ count }
+    ensures answer { Answers memory (λ v. map (λ tuple. tuple.items) v.items) result (Ok (map (permuted_of order.now) (box_tuples starts.now lengths.now))) }
+    ensures no_fault { is_fault result ≡ false }
+{
+    let mut tuples = Vec::with_capacity(alloc, count as usize)?;
+    for number in 0..count {
+        tuples.push(box_tuple(alloc, order, starts, lengths, number)?)?;
+    }
+    Ok(tuples)
+}
+
+/// The tuples of a box that has so many, each in this order of axes.
+pub(crate) fn ordered_box(
+    alloc: Global,
+    order: &[usize],
+    subset: &ArraySubset,
+    count: u64,
+) -> Result<Vec<ArrayIndices>, CodecError>
+    requires order { All (λ axis. axis < length subset.now.starts) order.now }
+    requires fits { EndsFit subset.now.starts subset.now.lengths }
+    requires known { product subset.now.lengths ≡ count }
+    ensures answer { Answers memory (λ v. map (λ tuple. tuple.items) v.items) result (Ok (map (permuted_of order.now) (box_tuples subset.now.starts subset.now.lengths))) }
+    ensures no_fault { is_fault result ≡ false }
+{
+    let lengths = subset.shape();
+    if count == 0 {
+        return Ok(Vec::new(alloc));
+    }
+    let lengths = ChunkShape::new(Vec::from_slice(alloc, lengths)?).unwrap();
+    first_tuples(alloc, order, subset.start(), &lengths, count)
+}

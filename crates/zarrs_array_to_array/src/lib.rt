@@ -1,0 +1,25 @@
+//! Codecs that move the elements of a chunk: `transpose` (Zarr v3), `reshape` (zarr-extensions) and
+//! `squeeze` (codec.zarrs.dev).
+//!
+//! Each is a coordinate map: every element of a chunk goes to a place of its own in the encoded
+//! chunk. [`encoded_places`] says where through several codecs, one after another.
+#![tactic(auto)]
+
+mod array_to_array_codec;
+mod array_to_array_codec_partial;
+mod axis_positions;
+mod boxes;
+pub mod laws;
+mod reshape;
+mod squeeze;
+mod strides;
+mod transpose;
+
+pub use array_to_array_codec::{ArrayToArrayCodec, encoded_places};
+pub use array_to_array_codec_partial::ArrayToArrayCodecPartial;
+pub use reshape::reshape_codec::ReshapeCodec;
+pub use reshape::reshape_codec_partial::ReshapeCodecPartial;
+pub use squeeze::squeeze_codec::SqueezeCodec;
+pub use squeeze::squeeze_codec_partial::SqueezeCodecPartial;
+pub use transpose::transpose_codec::TransposeCodec;
+pub use transpose::transpose_codec_partial::TransposeCodecPartial;

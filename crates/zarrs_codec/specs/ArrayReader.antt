@@ -1,0 +1,27 @@
+-- What contracts see of a partial decoder of chunks.
+use Rattle.std.specs.Prelude.{ℕ, Bool, ◌&&◌, List, Result}
+use Rattle.zarrs_chunk.specs.Answer.{◌>>=◌}
+use Rattle.zarrs_chunk.specs.Selection.{Selection}
+use Rattle.zarrs_chunk.specs.declared.codec_error.CodecError.{CodecError}
+use Rattle.zarrs_data_type.specs.ElementType.{ElementType}
+use Rattle.zarrs_data_type.specs.Element.{Chunk}
+use Rattle.zarrs_codec.specs.CoordinateMap.{CoordinateMap}
+use Rattle.zarrs_codec.specs.MappedSelection.{image_of}
+
+-- The sizes of the chunk that is read, and the type of its elements; whether it is stored; what is answered of a selection, its elements or the first cause of a refusal; and whether a part is read without the rest.
+pub record ArrayReader : Type 0 where
+  pub sizes : List ℕ
+  pub type : ElementType
+  pub is_stored : Bool
+  pub answer : Selection → Result Chunk CodecError
+  pub in_part : Bool
+
+-- The reader of a decoded chunk of these sizes over one of the encoded chunk: it answers what that one answers where it is asked for the encoded selection.
+abbrev pub mapped_reader : Result CoordinateMap CodecError → (List ℕ → Selection → Selection) → Bool → List ℕ → ArrayReader → ArrayReader
+mapped_reader coordinates asked in_part sizes input = record {
+  sizes = sizes;
+  type = input.type;
+  is_stored = input.is_stored;
+  answer = λ selection. image_of coordinates asked sizes selection >>= input.answer;
+  in_part = in_part && input.in_part;
+}

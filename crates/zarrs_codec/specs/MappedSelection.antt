@@ -1,0 +1,24 @@
+-- The places of a selection in an encoded chunk.
+use Rattle.std.specs.Prelude.{◌≡◌, ℕ, List, map, Result, Ok, IsOkAnd}
+use Rattle.zarrs_chunk.specs.Answer.{◌>>=◌}
+use Rattle.zarrs_chunk.specs.Selection.{Selection, tuples_of, bounds_of, len_of}
+use Rattle.zarrs_chunk.specs.Tuples.{row_major}
+use Rattle.zarrs_chunk.specs.declared.codec_error.CodecError.{CodecError}
+use Rattle.zarrs_codec.specs.CoordinateMap.{CoordinateMap}
+
+-- The second selection, of the encoded chunk, lies inside it, and means there, in the same order, the elements that the first one means of the decoded chunk.
+pub record IsImage (sizes : List ℕ) (m : CoordinateMap) (selection image : Selection) : Type 0 where
+  pub inside : bounds_of image m.encoded ≡ Ok tt
+  pub places : map (row_major m.encoded) (tuples_of image) ≡ map m.to (map (row_major sizes) (tuples_of selection))
+
+-- What is asked for of an encoded chunk, or the first cause of a refusal: the selection's bounds, then the codec's, then the count of elements.
+abbrev pub image_of : Result CoordinateMap CodecError → (List ℕ → Selection → Selection) → List ℕ → Selection → Result Selection CodecError
+image_of coordinates asked sizes selection = do
+  _ ← bounds_of selection sizes
+  m ← coordinates
+  _ ← len_of selection
+  Ok (asked m.encoded selection)
+
+-- the image by what a codec does, where it does it
+abbrev pub IsImageBy : Result CoordinateMap CodecError → List ℕ → Selection → Selection → Type 0
+IsImageBy coordinates sizes selection image = IsOkAnd coordinates (λ m. IsImage sizes m selection image)

@@ -1,0 +1,63 @@
+ghost use Rattle.std.specs.Prelude.{◌≡◌, ℕ, Option, Ok, Err, IfErr};
+ghost use Rattle.std.specs.Borrow.{GName};
+ghost use Rattle.zarrs_chunk.specs.Answer.{Answers, AnswersBy, memory, fault, memory_or_fault};
+ghost use Rattle.zarrs_chunk.specs.Indexer.{selection_of};
+ghost use Rattle.zarrs_chunk.specs.Selection.{bounds_of};
+ghost use Rattle.zarrs_array_bytes.specs.Validity.{Holds};
+ghost use Rattle.zarrs_codec.specs.ArrayReader.{ArrayReader};
+ghost use Rattle.zarrs_codec.specs.StorageState.{StorageState, after_reading};
+
+use std::alloc::Global;
+use zarrs_array_bytes::ArrayBytes;
+use zarrs_chunk::{CodecError, Indexer};
+use zarrs_data_type::DataType;
+
+/// Reads a chunk in part, over a storage handle or over the reader of an encoded chunk.
+///
+/// Reading leaves what the reader answers as it is, and of the handle all but the failure that is
+/// answered.
+pub trait ArrayPartialDecoderTraits {
+    // The chunk, and what is answered of it.
+    ghost reader: { Self → ArrayReader };
+
+    // The handle under the reader, and the name of the reference that it is, where it is one.
+    ghost state: { Self → StorageState };
+
+    ghost lent: { Self → Option GName };
+
+    // How many bytes are kept in memory.
+    ghost held: { Self → ℕ };
+
+    /// The type of the elements.
+    fn data_type(&self) -> &DataType
+        ensures value { result.now ≡ (reader self.now).type };
+
+    /// Whether the chunk is stored. Refusals: `Storage`.
+    fn exists(&mut self) -> Result<bool, CodecError>
+        ensures answer { Answers fault (λ there. there) result (Ok (reader self.old).is_stored) }
+        ensures left { state self.new ≡ after_reading result (state self.old) }
+        ensures same_reference { lent self.new ≡ lent self.old }
+        ensures reader_kept { reader self.new ≡ reader self.old };
+
+    /// How many bytes are kept in memory.
+    fn size_held(&self) -> usize
+        ensures value { result ≡ held self.now };
+
+    /// The elements that the indexer means, in its order. Refusals: those of `Indexer::check` at the
+    /// chunk's shape come before the handle is asked; `Storage`, `OutOfMemory`, and those of the
+    /// codecs.
+    fn partial_decode(
+        &mut self,
+        alloc: Global,
+        indexer: &Indexer,
+    ) -> Result<ArrayBytes<'static>, CodecError>
+        ensures answer { AnswersBy memory_or_fault (Holds (reader self.old).type) result ((reader self.old).answer (selection_of indexer.now)) }
+        ensures indexer_first { IfErr (bounds_of (selection_of indexer.now) (reader self.old).sizes) (λ cause. AnswersBy memory (Holds (reader self.old).type) result (Err cause)) }
+        ensures left { state self.new ≡ after_reading result (state self.old) }
+        ensures same_reference { lent self.new ≡ lent self.old }
+        ensures reader_kept { reader self.new ≡ reader self.old };
+
+    /// Whether a part is read without the rest of the chunk.
+    fn supports_partial_decode(&self) -> bool
+        ensures value { result ≡ (reader self.now).in_part };
+}

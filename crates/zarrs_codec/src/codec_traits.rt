@@ -1,0 +1,39 @@
+ghost use Rattle.std.specs.Prelude.{◌≡◌, Ok};
+ghost use Rattle.zarrs_chunk.specs.Answer.{Answers, memory};
+ghost use Rattle.zarrs_codec.specs.declared.capabilities.PartialDecoderCapability.{PartialDecoderCapability};
+ghost use Rattle.zarrs_codec.specs.declared.capabilities.PartialEncoderCapability.{PartialEncoderCapability};
+
+use crate::capabilities::{PartialDecoderCapability, PartialEncoderCapability};
+use std::alloc::Global;
+use zarrs_chunk::{ChunkShape, CodecError};
+
+/// A codec of any kind.
+pub trait CodecTraits {
+    // What it can do in part.
+    ghost reads_in_part: { Self → PartialDecoderCapability };
+
+    ghost writes_in_part: { Self → PartialEncoderCapability };
+
+    /// What it can read in part.
+    fn partial_decoder_capability(&self) -> PartialDecoderCapability
+        ensures value { result ≡ reads_in_part self.now };
+
+    /// What it can write in part.
+    fn partial_encoder_capability(&self) -> PartialEncoderCapability
+        ensures value { result ≡ writes_in_part self.now };
+}
+
+/// A codec of chunks.
+pub trait ArrayCodecTraits: CodecTraits {
+    /// The shape of the parts of a chunk that are best decoded together: the whole chunk's. Refusals:
+    /// `OutOfMemory`.
+    fn partial_decode_granularity(
+        &self,
+        _alloc: Global,
+        decoded_shape: &ChunkShape,
+    ) -> Result<ChunkShape, CodecError>
+        ensures answer { Answers memory (λ shape. shape) result (Ok decoded_shape.now) }
+    {
+        decoded_shape.clone()
+    }
+}
