@@ -22,7 +22,7 @@ bytes_form_of decoder =
 abbrev pub bytes_handle_of : {H : Type 0} → BytesCodecPartial H → H
 bytes_handle_of decoder = decoder.handle
 
--- the reader of a chunk of this form where this value, or none, is stored: it answers the elements that a selection means by the bytes of their places alone
+-- the reader of a chunk of this form, where this value or none is stored: it answers of a selection what `bytes_read` says
 abbrev pub bytes_reader : BytesForm → Option (List ℕ) → Bool → ArrayReader
 bytes_reader form stored in_part = record {
   sizes = form.sizes;
