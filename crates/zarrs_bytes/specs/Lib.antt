@@ -14,6 +14,7 @@ pub use Rattle.zarrs_data_type.specs.FillValue
 pub use Rattle.zarrs_array_bytes.specs.Elements
 pub use Rattle.zarrs_array_bytes.specs.Held
 pub use Rattle.zarrs_array_bytes.specs.Validity
+pub use Rattle.zarrs_codec.specs.ArrayReader
 pub use Rattle.zarrs_codec.specs.ByteRanges
 pub use Rattle.zarrs_codec.specs.Refused
 pub use Rattle.zarrs_codec.specs.StorageState

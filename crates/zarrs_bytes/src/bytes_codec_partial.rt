@@ -23,7 +23,7 @@ use std::alloc::{AllocError, Global};
 use std::borrow::CowSlice;
 use zarrs_array_bytes::{ArrayBytes, append_copies};
 use zarrs_chunk::{ChunkShape, CodecError, Indexer};
-use zarrs_codec::{ByteRange, BytesPartialDecoderTraits, Refused};
+use zarrs_codec::{ArrayPartialDecoderTraits, ByteRange, BytesPartialDecoderTraits, Refused};
 use zarrs_data_type::{DataType, FillValue};
 
 /// Reads a chunk of [`BytesCodec`] in part, over a storage handle that it owns. A read looks at the
@@ -288,6 +288,42 @@ impl<H: BytesPartialDecoderTraits> BytesCodecPartial<H> {
         ensures value { result ≡ H.reads_ranges }
     {
         self.handle.supports_partial_decode()
+    }
+}
+
+impl<H: BytesPartialDecoderTraits> ArrayPartialDecoderTraits for BytesCodecPartial<H> {
+    ghost use Rattle.zarrs_bytes.specs.BytesCodecPartial.{bytes_form_of, bytes_handle_of, bytes_reader};
+
+    ghost reader = { λ decoder. bytes_reader (bytes_form_of decoder) (H.state (bytes_handle_of decoder)).value H.reads_ranges };
+
+    ghost state = { λ decoder. H.state (bytes_handle_of decoder) };
+
+    ghost lent = { λ decoder. H.lent (bytes_handle_of decoder) };
+
+    ghost held = { λ decoder. H.held (bytes_handle_of decoder) };
+
+    fn data_type(&self) -> &DataType {
+        BytesCodecPartial::data_type(self)
+    }
+
+    fn exists(&mut self) -> Result<bool, CodecError> {
+        BytesCodecPartial::exists(self)
+    }
+
+    fn size_held(&self) -> usize {
+        BytesCodecPartial::size_held(self)
+    }
+
+    fn partial_decode(
+        &mut self,
+        alloc: Global,
+        indexer: &Indexer,
+    ) -> Result<ArrayBytes<'static>, CodecError> {
+        BytesCodecPartial::partial_decode(self, alloc, indexer)
+    }
+
+    fn supports_partial_decode(&self) -> bool {
+        BytesCodecPartial::supports_partial_decode(self)
     }
 }
 
