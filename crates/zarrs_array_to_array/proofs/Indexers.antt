@@ -17,7 +17,7 @@ use Rattle.zarrs_chunk.specs.declared.codec_error.CodecError.{CodecError}
 use Rattle.zarrs_chunk.specs.declared.codec_error.CodecError.TheVariants.{Overflow, ReshapeElements}
 use Rattle.zarrs_chunk.proofs.BoxTuples.{length-box_tuples}
 use Rattle.zarrs_chunk.proofs.Inside.{is_box_inside-lengths, is_tuple_inside-length}
-use Rattle.zarrs_chunk.proofs.TupleLists.{tuples_inside}
+use Rattle.zarrs_array_to_array.proofs.CheckedTuples.{tuples_inside}
 use Rattle.zarrs_array_to_array.specs.ArrayToArrayCodec.{ArrayMapping, IsMapping, transpose, reshape, squeeze, coordinates}
 use Rattle.zarrs_array_to_array.specs.Boxes.{EndsFit}
 use Rattle.zarrs_codec.specs.CoordinateMap.{CoordinateMap, same_places, IsMapTo}

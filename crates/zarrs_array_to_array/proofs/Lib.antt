@@ -19,3 +19,4 @@ pub mod Refusals
 pub mod AnswerSteps
 pub mod MappedChunks
 pub mod Stages
+pub mod CheckedTuples

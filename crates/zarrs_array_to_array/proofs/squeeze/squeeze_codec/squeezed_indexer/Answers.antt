@@ -1,6 +1,6 @@
 use Rattle.std.proofs.Common.{Ok, map, sym, ap, ◌∙◌}
 use Rattle.zarrs_chunk.specs.Indexer.{selection_of}
-use Rattle.zarrs_chunk.proofs.TupleLists.{tuples_inside}
+use Rattle.zarrs_array_to_array.proofs.CheckedTuples.{tuples_inside}
 use Rattle.zarrs_array_to_array.specs.ArrayToArrayCodec.{squeeze}
 use Rattle.zarrs_array_to_array.specs.EncodedSelection.{selection_in}
 use Rattle.zarrs_array_to_array.specs.Squeeze.{squeezed, squeezed_tuple}
