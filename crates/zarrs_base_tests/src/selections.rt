@@ -30,13 +30,15 @@ const NUMBERS: Held<'static> = Fixed(&[0, 1, 2, 3, 4, 5, 6, 7, 8, 9, 10, 11, 12,
 const TEXTS: Held<'static> = Texts(b"xabcdef", &[1, 2, 4, 4, 7, 7]);
 
 /// A type, a chunk and its sizes, what is asked for, and what is selected.
-const SELECTED: [(
+type Row = (
     Type,
     Held<'static>,
     &'static [u64],
     Asked<'static>,
     Held<'static>,
-); 21] = [
+);
+
+const NUMBERS_SELECTED: [Row; 5] = [
     (
         Type::Bytes(1),
         NUMBERS,
@@ -72,7 +74,9 @@ const SELECTED: [(
         Tuples(&[&[1, 0], &[3, 3], &[1, 0]]),
         Fixed(&[4, 15, 4]),
     ),
-    // Runs of texts.
+];
+
+const RUNS_OF_TEXTS: [Row; 7] = [
     (
         Type::Text,
         Texts(b"xabc", &[1, 2, 4]),
@@ -116,7 +120,10 @@ const SELECTED: [(
         Ranges(&[0..2, 1..3]),
         Texts(b"bbccc", &[0, 2, 2, 5, 5]),
     ),
-    // Lists of texts, with repeats and neighbours.
+];
+
+/// With repeats and neighbours.
+const LISTS_OF_TEXTS: [Row; 5] = [
     (
         Type::Text,
         TEXTS,
@@ -146,7 +153,9 @@ const SELECTED: [(
         Tuples(&[&[2], &[0], &[2]]),
         Texts(b"a", &[0, 0, 1, 1]),
     ),
-    // Elements under masks.
+];
+
+const UNDER_MASKS: [Row; 4] = [
     (
         Type::Optional(1),
         Masked(&[1, 0, 1], &[5, 9, 7]),
@@ -177,11 +186,40 @@ const SELECTED: [(
     ),
 ];
 
+fn selects(rt: &impl Abort, alloc: Global, row: &Row) -> Result<(), Fail> {
+    let (told, held, sizes, asked, wanted) = row;
+    let answer = selected(alloc, told, held, sizes, asked);
+    holds(rt, alloc, "selected", answer, wanted)
+}
+
 #[test]
-fn selects_in_the_order_asked_for(rt: HostRuntime) -> Result<(), Fail> {
-    for (told, held, sizes, asked, wanted) in SELECTED.iter() {
-        let answer = selected(rt.alloc(), told, held, sizes, asked);
-        holds(&rt, rt.alloc(), "selected", answer, wanted)?;
+fn selects_numbers(rt: HostRuntime) -> Result<(), Fail> {
+    for row in NUMBERS_SELECTED.iter() {
+        selects(&rt, rt.alloc(), row)?;
+    }
+    Ok(())
+}
+
+#[test]
+fn selects_runs_of_texts(rt: HostRuntime) -> Result<(), Fail> {
+    for row in RUNS_OF_TEXTS.iter() {
+        selects(&rt, rt.alloc(), row)?;
+    }
+    Ok(())
+}
+
+#[test]
+fn selects_lists_of_texts(rt: HostRuntime) -> Result<(), Fail> {
+    for row in LISTS_OF_TEXTS.iter() {
+        selects(&rt, rt.alloc(), row)?;
+    }
+    Ok(())
+}
+
+#[test]
+fn selects_elements_under_masks(rt: HostRuntime) -> Result<(), Fail> {
+    for row in UNDER_MASKS.iter() {
+        selects(&rt, rt.alloc(), row)?;
     }
     Ok(())
 }
