@@ -11,5 +11,5 @@ returns-then-count-eq0-clause-answer c =
 pub unwrap-lengths-requires : goal.unwrap-lengths-requires
 unwrap-lengths-requires c =
     let lengths = c.args.subset.now.lengths in
-    let made : c.new-2.result ≡ Some lengths = c.new-2.ensures ∙ ap shape_of ((c.in_ok-from_slice.ensures {u = tt}).items ∙ c.shape-lengths.ensures.lengths) ∙ shape_of-filled lengths c.args.count c.requires.known c.if-count-eq0.false in
+    let made : c.new-2.result ≡ Some lengths = c.new-2.ensures.answer ∙ ap shape_of ((c.in_ok-from_slice.ensures {u = tt}).items ∙ c.shape-lengths.ensures.lengths) ∙ shape_of-filled lengths c.args.count c.requires.known c.if-count-eq0.false in
     rw made refl

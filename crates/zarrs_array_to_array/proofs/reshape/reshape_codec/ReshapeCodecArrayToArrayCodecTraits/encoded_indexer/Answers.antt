@@ -15,15 +15,15 @@ tuples_at-requires c =
 pub returns-clause-answer : goal.returns-clause-answer
 returns-clause-answer c =
     let encoded = c.in_ok-encoded.encoded in
-    let inside = sym (c.in_ok-check.ensures {u = tt}) in
+    let inside = sym ((c.in_ok-check.ensures {u = tt}).answer) in
     let made : map (unraveled encoded) c.in_ok-places.places.items ≡ map (λ tuple. tuple.items) c.in_ok-tuples.tuples.items = ap (map (unraveled encoded)) (sym c.as_slice.ensures.value) ∙ (cc ((c.in_ok-tuples.ensures {u = tt}).answer)) in
-    reshaped_asked c.args.self.now c.args.decoded_shape.now encoded c.in_ok-places.places.items (selection_of c.args.indexer.now) inside (c.in_ok-encoded.ensures {u = tt}).answer (c.in_ok-places.ensures {u = tt}).places c.in_ok-len.field-0 (sym (c.in_ok-len.ensures {u = tt}))
+    reshaped_asked c.args.self.now c.args.decoded_shape.now encoded c.in_ok-places.places.items (selection_of c.args.indexer.now) inside (c.in_ok-encoded.ensures {u = tt}).answer (c.in_ok-places.ensures {u = tt}).places c.in_ok-len.field-0 (sym ((c.in_ok-len.ensures {u = tt}).answer))
     ∙ ap (λ ts. Ok (indices ts)) made
 
 pub returns-clause-places : goal.returns-clause-places
 returns-clause-places c =
     let encoded = c.in_ok-encoded.encoded in
-    let inside = sym (c.in_ok-check.ensures {u = tt}) in
+    let inside = sym ((c.in_ok-check.ensures {u = tt}).answer) in
     let same : product encoded ≡ product c.args.decoded_shape.now = map_count (coordinates (reshape c.args.self.now) c.args.decoded_shape.now) c.args.decoded_shape.now encoded (c.in_ok-encoded.ensures {u = tt}).map in
     let made : map (unraveled encoded) c.in_ok-places.places.items ≡ map (λ tuple. tuple.items) c.in_ok-tuples.tuples.items = ap (map (unraveled encoded)) (sym c.as_slice.ensures.value) ∙ (cc ((c.in_ok-tuples.ensures {u = tt}).answer)) in
     rw (← made) (reshaped_image_by c.args.self.now c.args.decoded_shape.now encoded c.in_ok-places.places.items (selection_of c.args.indexer.now) inside (c.in_ok-encoded.ensures {u = tt}).answer (c.in_ok-places.ensures {u = tt}).places same)

@@ -16,7 +16,7 @@ returns-clause-places c =
     let order = c.args.self.now in
     let sizes = c.args.decoded_shape.now in
     let selection = selection_of c.args.indexer.now in
-    let inside : bounds_of selection sizes ≡ Ok tt = sym (c.in_ok-check.ensures {u = tt}) in
+    let inside : bounds_of selection sizes ≡ Ok tt = sym ((c.in_ok-check.ensures {u = tt}).answer) in
     let seen_order : c.as_slice-order.result.now ≡ order = c.as_slice-order.ensures.value ∙ c.self.view_is in
     let is : is_order order ≡ true = rw (← seen_order) c.as_slice-order.ensures.sound in
     let axes : length order ≡ length sizes = axes_of order sizes (rw (seen_order, c.as_slice-sizes.ensures.sizes) at (sym (c.in_ok-check_axes.ensures {u = tt}))) in
