@@ -1,0 +1,65 @@
+//! What the tests share: checks, which take references, since a function with asserts beside owned
+//! values is dear to prove; shapes and indexers made from plain data.
+
+use std::alloc::Global;
+use std::fmt::Debug;
+use std::ops::Range;
+use std::process::Abort;
+use std::test::Fail;
+use zarrs_chunk::{ArraySubset, ChunkShape, CodecError, Indexer};
+
+/// What came is what is wanted.
+pub(crate) fn is<T: PartialEq + Debug>(rt: &impl Abort, about: &str, came: &T, wanted: &T) {
+    assert_eq!(rt; *came, *wanted, "{about}");
+}
+
+/// The items that came are those that are wanted.
+pub(crate) fn are<T: PartialEq + Debug>(rt: &impl Abort, about: &str, came: &[T], wanted: &[T]) {
+    assert_eq!(rt; came, wanted, "{about}");
+}
+
+/// The answer is this refusal. A want of memory is an error of the test.
+pub(crate) fn is_refused<T: Drop>(
+    rt: &impl Abort,
+    about: &str,
+    answer: Result<T, CodecError>,
+    cause: CodecError,
+) -> Result<(), Fail> {
+    let came = answer.err();
+    if came == Some(CodecError::OutOfMemory) {
+        return Err(CodecError::OutOfMemory)?;
+    }
+    is(rt, about, &came, &Some(cause));
+    Ok(())
+}
+
+/// A shape of these sizes, none of which may be zero.
+pub(crate) fn shape(alloc: Global, sizes: &[u64]) -> Result<ChunkShape, CodecError> {
+    ChunkShape::new(sizes.to_vec(alloc)?).ok_or(CodecError::OutOfBounds)
+}
+
+/// Which elements are meant, as plain data.
+#[derive(Clone, Copy)]
+pub(crate) enum Asked<'a> {
+    Ranges(&'a [Range<u64>]),
+    Tuples(&'a [&'a [u64]]),
+}
+
+pub(crate) fn indexer(alloc: Global, asked: &Asked<'_>) -> Result<Indexer, CodecError> {
+    match asked {
+        Asked::Ranges(ranges) => subset(alloc, ranges),
+        Asked::Tuples(tuples) => list(alloc, tuples),
+    }
+}
+
+fn subset(alloc: Global, ranges: &[Range<u64>]) -> Result<Indexer, CodecError> {
+    Ok(Indexer::Subset(ArraySubset::new_with_ranges(alloc, ranges)?))
+}
+
+fn list(alloc: Global, tuples: &[&[u64]]) -> Result<Indexer, CodecError> {
+    let mut indices = Vec::new(alloc);
+    for tuple in tuples {
+        indices.push(tuple.to_vec(alloc)?)?;
+    }
+    Ok(Indexer::Indices(indices))
+}

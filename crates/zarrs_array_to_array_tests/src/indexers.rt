@@ -1,0 +1,296 @@
+use crate::checks::{Asked, are, indexer, is, is_refused, shape};
+use crate::forms::Size::{Of, Rest};
+use crate::forms::{Codec, codec_of, reshape, transpose};
+use std::alloc::Global;
+use std::process::Abort;
+use std::test::Fail;
+use zarrs_array_to_array::{ArrayToArrayCodec, SqueezeCodec, encoded_places};
+use zarrs_chunk::{CodecError, Indexer};
+use zarrs_codec::ArrayToArrayCodecTraits;
+
+const SQUARE: &'static [u64] = &[4, 4];
+
+const LINES: &'static [u64] = &[1, 4, 1, 4, 1];
+
+/// Codecs, sizes of chunks, what is asked of them, and its places in the encoded chunk.
+const PLACES: [(Codec, &'static [u64], Asked<'static>, &'static [u64]); 12] = [
+    (
+        Codec::Transpose(&[1, 0]),
+        SQUARE,
+        Asked::Ranges(&[2..4, 0..2]),
+        &[2, 6, 3, 7],
+    ),
+    (
+        Codec::Transpose(&[1, 0]),
+        SQUARE,
+        Asked::Ranges(&[1..3, 1..4]),
+        &[5, 9, 13, 6, 10, 14],
+    ),
+    (
+        Codec::Transpose(&[1, 0]),
+        &[2, 3],
+        Asked::Tuples(&[&[1, 0], &[0, 2]]),
+        &[1, 4],
+    ),
+    (
+        Codec::Transpose(&[1, 0]),
+        &[2, 3],
+        Asked::Ranges(&[1..1, 0..3]),
+        &[],
+    ),
+    (Codec::Transpose(&[]), &[], Asked::Ranges(&[]), &[0]),
+    (
+        Codec::Reshape(&[Of(&[2]), Of(&[0, 1])]),
+        &[2, 3, 4],
+        Asked::Ranges(&[1..2, 1..3, 1..4]),
+        &[17, 18, 19, 21, 22, 23],
+    ),
+    (
+        Codec::Reshape(&[Rest]),
+        &[2, 3],
+        Asked::Tuples(&[&[1, 2], &[0, 0], &[1, 2]]),
+        &[5, 0, 5],
+    ),
+    (
+        Codec::Squeeze,
+        LINES,
+        Asked::Ranges(&[0..1, 1..3, 0..1, 1..4, 0..1]),
+        &[5, 6, 7, 9, 10, 11],
+    ),
+    (
+        Codec::Squeeze,
+        LINES,
+        Asked::Ranges(&[0..1, 2..4, 0..1, 0..2, 0..1]),
+        &[8, 9, 12, 13],
+    ),
+    (
+        Codec::Squeeze,
+        &[1, 3],
+        Asked::Tuples(&[&[0, 2], &[0, 0]]),
+        &[2, 0],
+    ),
+    // An empty range along an axis that is dropped, where another axis stays and where none does.
+    (Codec::Squeeze, &[1, 3], Asked::Ranges(&[1..1, 0..3]), &[]),
+    (Codec::Squeeze, &[1, 1], Asked::Ranges(&[0..1, 1..1]), &[]),
+];
+
+fn asks_for<C: ArrayToArrayCodecTraits>(
+    rt: &impl Abort,
+    alloc: Global,
+    codec: &C,
+    sizes: &[u64],
+    indexer: &Indexer,
+    places: &[u64],
+) -> Result<(), Fail> {
+    let decoded = shape(alloc, sizes)?;
+    let encoded = codec.encoded_shape(alloc, &decoded)?;
+    let asked = codec.encoded_indexer(alloc, indexer, &decoded)?;
+    let came = asked.places(alloc, &encoded)?;
+    are(rt, "places", came.as_slice(), places);
+    Ok(())
+}
+
+#[test]
+fn encoded_indexers_have_the_places(rt: HostRuntime) -> Result<(), Fail> {
+    for (told, sizes, asked, places) in PLACES.iter() {
+        let codec = codec_of(rt.alloc(), told)?;
+        let indexer = indexer(rt.alloc(), asked)?;
+        asks_for(&rt, rt.alloc(), &codec, sizes, &indexer, places)?;
+    }
+    Ok(())
+}
+
+/// The same of each codec by itself.
+#[test]
+fn each_codec_has_encoded_indexers(rt: HostRuntime) -> Result<(), Fail> {
+    let alloc = rt.alloc();
+    let sizes: &[u64] = &[2, 1, 3];
+    let row = indexer(alloc, &Asked::Ranges(&[1..2, 0..1, 0..3]))?;
+    let order = transpose(alloc, &[2, 1, 0])?;
+    asks_for(&rt, alloc, &order, sizes, &row, &[1, 3, 5])?;
+    let reshaped = reshape(alloc, &[Rest])?;
+    asks_for(&rt, alloc, &reshaped, sizes, &row, &[3, 4, 5])?;
+    asks_for(&rt, alloc, &SqueezeCodec::new(), sizes, &row, &[3, 4, 5])
+}
+
+/// A region of a chunk is one of the squeezed chunk.
+#[test]
+fn a_squeezed_region_is_a_region(rt: HostRuntime) -> Result<(), Fail> {
+    let row = indexer(rt.alloc(), &Asked::Ranges(&[1..2, 0..1, 0..3]))?;
+    let decoded = shape(rt.alloc(), &[2, 1, 3])?;
+    let encoded = SqueezeCodec::new().encoded_indexer(rt.alloc(), &row, &decoded)?;
+    is(&rt, "region", &matches!(encoded, Indexer::Subset(_)), &true);
+    Ok(())
+}
+
+const AXES: CodecError = CodecError::IncompatibleDimensionality;
+
+/// Codecs, sizes of chunks, what can't be asked of them, and why.
+const REFUSED: [(Codec, &'static [u64], Asked<'static>, CodecError); 13] = [
+    (
+        Codec::Squeeze,
+        &[1, 3],
+        Asked::Tuples(&[&[1, 0]]),
+        CodecError::OutOfBounds,
+    ),
+    (
+        Codec::Squeeze,
+        &[1, 1],
+        Asked::Ranges(&[0..1, 1..2]),
+        CodecError::OutOfBounds,
+    ),
+    (Codec::Squeeze, &[1, 3], Asked::Ranges(&[0..3]), AXES),
+    (Codec::Squeeze, &[1, 3], Asked::Tuples(&[&[2]]), AXES),
+    (
+        Codec::Transpose(&[1, 0]),
+        &[2, 3],
+        Asked::Ranges(&[0..3, 0..2]),
+        CodecError::OutOfBounds,
+    ),
+    (
+        Codec::Transpose(&[1, 0]),
+        &[2, 3],
+        Asked::Tuples(&[&[2, 0]]),
+        CodecError::OutOfBounds,
+    ),
+    (
+        Codec::Transpose(&[1, 0]),
+        &[2, 3],
+        Asked::Ranges(&[0..1]),
+        AXES,
+    ),
+    // The indexer comes before the shape, which has another number of axes than the order.
+    (
+        Codec::Transpose(&[1, 0]),
+        &[2],
+        Asked::Ranges(&[0..3]),
+        CodecError::OutOfBounds,
+    ),
+    (
+        Codec::Transpose(&[1, 0]),
+        &[2],
+        Asked::Ranges(&[0..2]),
+        AXES,
+    ),
+    (
+        Codec::Reshape(&[Rest]),
+        &[2, 3],
+        Asked::Ranges(&[0..2, 0..4]),
+        CodecError::OutOfBounds,
+    ),
+    (
+        Codec::Reshape(&[Rest]),
+        &[2, 3],
+        Asked::Ranges(&[0..6]),
+        AXES,
+    ),
+    // The indexer comes before the shape, of which the sizes can't be.
+    (
+        Codec::Reshape(&[Of(&[4])]),
+        &[2],
+        Asked::Ranges(&[0..3]),
+        CodecError::OutOfBounds,
+    ),
+    (
+        Codec::Reshape(&[Of(&[4])]),
+        &[2],
+        Asked::Ranges(&[0..2]),
+        CodecError::ReshapeDimension,
+    ),
+];
+
+fn refuses(
+    rt: &impl Abort,
+    alloc: Global,
+    codec: &ArrayToArrayCodec,
+    sizes: &[u64],
+    asked: &Asked<'_>,
+    cause: CodecError,
+) -> Result<(), Fail> {
+    let decoded = shape(alloc, sizes)?;
+    let indexer = indexer(alloc, asked)?;
+    is_refused(
+        rt,
+        "indexer",
+        codec.encoded_indexer(alloc, &indexer, &decoded),
+        cause,
+    )
+}
+
+#[test]
+fn indexers_are_refused(rt: HostRuntime) -> Result<(), Fail> {
+    for (told, sizes, asked, cause) in REFUSED.iter() {
+        let codec = codec_of(rt.alloc(), told)?;
+        refuses(&rt, rt.alloc(), &codec, sizes, asked, *cause)?;
+    }
+    Ok(())
+}
+
+fn codecs(alloc: Global, told: &[Codec]) -> Result<Vec<ArrayToArrayCodec>, Fail> {
+    let mut made = Vec::new(alloc);
+    for one in told {
+        made.push(codec_of(alloc, one)?)?;
+    }
+    Ok(made)
+}
+
+const CUBE: &'static [u64] = &[2, 2, 2];
+
+const TWICE: &'static [Codec] = &[Codec::Transpose(&[0, 2, 1]), Codec::Transpose(&[2, 0, 1])];
+
+/// Codecs, one after another, sizes of chunks, what is asked of them, and where it goes.
+const THROUGH: [(
+    &'static [Codec],
+    &'static [u64],
+    Asked<'static>,
+    &'static [u64],
+); 5] = [
+    (&[], &[2, 3], Asked::Ranges(&[1..2, 0..3]), &[3, 4, 5]),
+    (
+        &[Codec::Transpose(&[1, 0])],
+        &[2, 3],
+        Asked::Ranges(&[0..2, 0..3]),
+        &[0, 2, 4, 1, 3, 5],
+    ),
+    (
+        TWICE,
+        CUBE,
+        Asked::Ranges(&[0..2, 0..2, 0..2]),
+        &[0, 1, 4, 5, 2, 3, 6, 7],
+    ),
+    (TWICE, CUBE, Asked::Ranges(&[0..2, 1..2, 0..1]), &[4, 6]),
+    (
+        &[
+            Codec::Reshape(&[Of(&[1]), Of(&[0])]),
+            Codec::Transpose(&[1, 0]),
+            Codec::Squeeze,
+        ],
+        &[3, 2],
+        Asked::Tuples(&[&[0, 0], &[0, 1], &[2, 1]]),
+        &[0, 2, 5],
+    ),
+];
+
+fn go(
+    rt: &impl Abort,
+    alloc: Global,
+    codecs: &[ArrayToArrayCodec],
+    sizes: &[u64],
+    asked: &Asked<'_>,
+    places: &[u64],
+) -> Result<(), Fail> {
+    let shape = shape(alloc, sizes)?;
+    let indexer = indexer(alloc, asked)?;
+    let came = encoded_places(alloc, codecs, &shape, &indexer)?;
+    are(rt, "places", came.as_slice(), places);
+    Ok(())
+}
+
+#[test]
+fn places_go_through_codecs(rt: HostRuntime) -> Result<(), Fail> {
+    for (told, sizes, asked, places) in THROUGH.iter() {
+        let codecs = codecs(rt.alloc(), told)?;
+        go(&rt, rt.alloc(), codecs.as_slice(), sizes, asked, places)?;
+    }
+    Ok(())
+}

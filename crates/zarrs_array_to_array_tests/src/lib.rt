@@ -1,0 +1,27 @@
+//! Tests of the codecs that move elements, over the public calls of `zarrs_array_to_array`. Without
+//! tests the crate is empty.
+//!
+//! Answers are written by hand, from what the formats say. A want of memory ends a test with that
+//! error and is never compared, so a run in which an allocation fails shows each answer that changes
+//! otherwise.
+//!
+//! The check proves a test before it runs. So examples stand in tables of constants, which cost it
+//! nothing, and a test goes over its table by a function that takes one row.
+#![tactic(auto)]
+
+#[cfg(test)]
+mod array_input;
+#[cfg(test)]
+mod checks;
+#[cfg(test)]
+mod forms;
+#[cfg(test)]
+mod indexers;
+#[cfg(test)]
+mod moves;
+#[cfg(test)]
+mod refusals;
+#[cfg(test)]
+mod shapes;
+#[cfg(test)]
+mod stages;

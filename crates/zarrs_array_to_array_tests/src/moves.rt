@@ -1,0 +1,274 @@
+use crate::checks::{are, is};
+use crate::forms::Size::{Of, Rest};
+use crate::forms::{
+    ChunkForm, Codec, Told, Type, chunk_form, codec_of, fixed, numbers, reshape, texts, transpose,
+};
+use std::alloc::Global;
+use std::borrow::CowSlice;
+use std::process::Abort;
+use std::test::Fail;
+use zarrs_array_bytes::ArrayBytes;
+use zarrs_array_to_array::SqueezeCodec;
+use zarrs_codec::ArrayToArrayCodecTraits;
+
+/// Codecs, chunks of elements of so many bytes, and their numbers, chunk and encoded chunk.
+const MOVED: [(Codec, Told<'static>, usize, &'static [u8], &'static [u8]); 6] = [
+    (
+        Codec::Transpose(&[1, 0]),
+        (&[2, 3], Type::Byte, &[0]),
+        1,
+        &[0, 1, 2, 3, 4, 5],
+        &[0, 3, 1, 4, 2, 5],
+    ),
+    (
+        Codec::Transpose(&[0, 2, 1]),
+        (&[2, 2, 2], Type::Long, &[0, 0, 0, 0]),
+        4,
+        &[0, 1, 2, 3, 4, 5, 6, 7],
+        &[0, 2, 1, 3, 4, 6, 5, 7],
+    ),
+    (
+        Codec::Transpose(&[2, 0, 1]),
+        (&[2, 2, 2], Type::Long, &[0, 0, 0, 0]),
+        4,
+        &[0, 2, 1, 3, 4, 6, 5, 7],
+        &[0, 1, 4, 5, 2, 3, 6, 7],
+    ),
+    (
+        Codec::Transpose(&[]),
+        (&[], Type::Word, &[0, 0]),
+        2,
+        &[7],
+        &[7],
+    ),
+    (
+        Codec::Reshape(&[Rest, Of(&[0])]),
+        (&[2, 3], Type::Word, &[0, 0]),
+        2,
+        &[0, 1, 2, 3, 4, 5],
+        &[0, 1, 2, 3, 4, 5],
+    ),
+    (
+        Codec::Squeeze,
+        (&[1, 2, 1, 2], Type::Byte, &[0]),
+        1,
+        &[3, 2, 1, 0],
+        &[3, 2, 1, 0],
+    ),
+];
+
+fn encodes<C: ArrayToArrayCodecTraits>(
+    rt: &impl Abort,
+    alloc: Global,
+    codec: &C,
+    form: &ChunkForm,
+    chunk: ArrayBytes<'_>,
+    wanted: &[u8],
+) -> Result<(), Fail> {
+    let encoded = codec.encode(alloc, chunk, &form.shape, &form.data_type, &form.fill_value)?;
+    are(rt, "encoded", encoded.as_fixed()?, wanted);
+    Ok(())
+}
+
+fn decodes<C: ArrayToArrayCodecTraits>(
+    rt: &impl Abort,
+    alloc: Global,
+    codec: &C,
+    form: &ChunkForm,
+    chunk: ArrayBytes<'_>,
+    wanted: &[u8],
+) -> Result<(), Fail> {
+    let decoded = codec.decode(alloc, chunk, &form.shape, &form.data_type, &form.fill_value)?;
+    are(rt, "decoded", decoded.as_fixed()?, wanted);
+    Ok(())
+}
+
+/// The chunk is encoded to these bytes, and they are decoded to the chunk: of owned bytes and of lent
+/// ones.
+fn moves<C: ArrayToArrayCodecTraits>(
+    rt: &impl Abort,
+    alloc: Global,
+    codec: &C,
+    form: &ChunkForm,
+    decoded: &[u8],
+    encoded: &[u8],
+) -> Result<(), Fail> {
+    encodes(rt, alloc, codec, form, fixed(alloc, decoded)?, encoded)?;
+    decodes(rt, alloc, codec, form, fixed(alloc, encoded)?, decoded)?;
+    let lent = ArrayBytes::new_flen(CowSlice::Borrowed(decoded));
+    encodes(rt, alloc, codec, form, lent, encoded)?;
+    let lent = ArrayBytes::new_flen(CowSlice::Borrowed(encoded));
+    decodes(rt, alloc, codec, form, lent, decoded)
+}
+
+fn moves_numbers<C: ArrayToArrayCodecTraits>(
+    rt: &impl Abort,
+    alloc: Global,
+    codec: &C,
+    told: &Told<'_>,
+    size: usize,
+    decoded: &[u8],
+    encoded: &[u8],
+) -> Result<(), Fail> {
+    let form = chunk_form(alloc, told)?;
+    let decoded = numbers(alloc, size, decoded)?;
+    let encoded = numbers(alloc, size, encoded)?;
+    moves(
+        rt,
+        alloc,
+        codec,
+        &form,
+        decoded.as_slice(),
+        encoded.as_slice(),
+    )
+}
+
+#[test]
+fn elements_are_moved(rt: HostRuntime) -> Result<(), Fail> {
+    for (told, chunk, size, decoded, encoded) in MOVED.iter() {
+        let codec = codec_of(rt.alloc(), told)?;
+        moves_numbers(&rt, rt.alloc(), &codec, chunk, *size, decoded, encoded)?;
+    }
+    Ok(())
+}
+
+/// The same of each codec by itself.
+#[test]
+fn each_codec_moves_elements(rt: HostRuntime) -> Result<(), Fail> {
+    let alloc = rt.alloc();
+    let told: Told<'_> = (&[2, 1, 3], Type::Word, &[0, 0]);
+    let numbers: &[u8] = &[0, 1, 2, 3, 4, 5];
+    let turned: &[u8] = &[0, 3, 1, 4, 2, 5];
+    let order = transpose(alloc, &[2, 1, 0])?;
+    moves_numbers(&rt, alloc, &order, &told, 2, numbers, turned)?;
+    let sizes = reshape(alloc, &[Rest])?;
+    moves_numbers(&rt, alloc, &sizes, &told, 2, numbers, numbers)?;
+    moves_numbers(&rt, alloc, &SqueezeCodec::new(), &told, 2, numbers, numbers)
+}
+
+const BYTES: &'static [u8] = &[
+    0, 1, 2, 3, 4, 5, 6, 7, 8, 9, 10, 11, 12, 13, 14, 15, 16, 17, 18, 19, 20, 21, 22, 23,
+];
+
+/// The chunk, encoded and decoded again.
+fn comes_back(
+    rt: &impl Abort,
+    alloc: Global,
+    told: &Codec,
+    form: &ChunkForm,
+    bytes: &[u8],
+) -> Result<(), Fail> {
+    let codec = codec_of(alloc, told)?;
+    let lent = ArrayBytes::new_flen(CowSlice::Borrowed(bytes));
+    let encoded = codec.encode(alloc, lent, &form.shape, &form.data_type, &form.fill_value)?;
+    decodes(rt, alloc, &codec, form, encoded, bytes)
+}
+
+#[test]
+fn what_is_encoded_is_decoded(rt: HostRuntime) -> Result<(), Fail> {
+    let alloc = rt.alloc();
+    let form = chunk_form(alloc, &(&[2, 2, 3], Type::Byte, &[0]))?;
+    comes_back(
+        &rt,
+        alloc,
+        &Codec::Transpose(&[0, 2, 1]),
+        &form,
+        &BYTES[..12],
+    )?;
+    let form = chunk_form(alloc, &(&[2, 2, 3], Type::Word, &[0, 0]))?;
+    comes_back(&rt, alloc, &Codec::Transpose(&[2, 1, 0]), &form, BYTES)
+}
+
+const WRITTEN: &'static [u8] = b"s00s01as02abs10abcs11abcds12abcde";
+
+const WRITTEN_OFFSETS: &'static [usize] = &[0, 3, 7, 12, 18, 25, 33];
+
+const TURNED: &'static [u8] = b"s00s10abcs01as11abcds02abs12abcde";
+
+const TURNED_OFFSETS: &'static [usize] = &[0, 3, 9, 13, 20, 25, 33];
+
+fn are_texts(
+    rt: &impl Abort,
+    came: &ArrayBytes<'_>,
+    bytes: &[u8],
+    offsets: &[usize],
+) -> Result<(), Fail> {
+    let (came_bytes, came_offsets) = came.as_variable()?;
+    are(rt, "texts", came_bytes, bytes);
+    are(rt, "offsets", came_offsets.as_slice(), offsets);
+    Ok(())
+}
+
+const TEXT_CHUNK: Told<'static> = (&[2, 3], Type::Text, &[]);
+
+#[test]
+fn texts_are_transposed(rt: HostRuntime) -> Result<(), Fail> {
+    let alloc = rt.alloc();
+    let form = chunk_form(alloc, &TEXT_CHUNK)?;
+    let codec = transpose(alloc, &[1, 0])?;
+    let chunk = texts(alloc, WRITTEN, WRITTEN_OFFSETS)?;
+    let encoded = codec.encode(alloc, chunk, &form.shape, &form.data_type, &form.fill_value)?;
+    are_texts(&rt, &encoded, TURNED, TURNED_OFFSETS)
+}
+
+#[test]
+fn transposed_texts_are_decoded(rt: HostRuntime) -> Result<(), Fail> {
+    let alloc = rt.alloc();
+    let form = chunk_form(alloc, &TEXT_CHUNK)?;
+    let codec = transpose(alloc, &[1, 0])?;
+    let chunk = texts(alloc, TURNED, TURNED_OFFSETS)?;
+    let decoded = codec.decode(alloc, chunk, &form.shape, &form.data_type, &form.fill_value)?;
+    are_texts(&rt, &decoded, WRITTEN, WRITTEN_OFFSETS)
+}
+
+/// What is told of an encoded chunk: another shape, the same type and the same fill value.
+fn represents<C: ArrayToArrayCodecTraits>(
+    rt: &impl Abort,
+    alloc: Global,
+    codec: &C,
+    form: &ChunkForm,
+    sizes: &[u64],
+) -> Result<(), Fail> {
+    let (shape, data_type, fill_value) = codec.encoded_representation(
+        alloc,
+        &form.shape,
+        &form.data_type,
+        &form.fill_value,
+    )?;
+    are(rt, "shape", shape.as_slice(), sizes);
+    is(rt, "size", &data_type.fixed_size(), &Some(2));
+    are(rt, "fill", fill_value.as_ne_bytes(), &[8, 9]);
+    Ok(())
+}
+
+/// The type and the fill value, each by its own call.
+fn keeps_type<C: ArrayToArrayCodecTraits>(
+    rt: &impl Abort,
+    alloc: Global,
+    codec: &C,
+    form: &ChunkForm,
+) -> Result<(), Fail> {
+    let data_type = codec.encoded_data_type(alloc, &form.data_type)?;
+    is(rt, "size", &data_type.fixed_size(), &Some(2));
+    let fill_value = codec.encoded_fill_value(alloc, &form.data_type, &form.fill_value)?;
+    are(rt, "fill", fill_value.as_ne_bytes(), &[8, 9]);
+    Ok(())
+}
+
+/// Codecs, and the sizes of the encoded chunks of one of `[1, 2, 3]`.
+const REPRESENTED: [(Codec, &'static [u64]); 3] = [
+    (Codec::Transpose(&[2, 0, 1]), &[3, 1, 2]),
+    (Codec::Reshape(&[Rest]), &[6]),
+    (Codec::Squeeze, &[2, 3]),
+];
+
+#[test]
+fn encoded_chunks_are_represented(rt: HostRuntime) -> Result<(), Fail> {
+    let form = chunk_form(rt.alloc(), &(&[1, 2, 3], Type::Word, &[8, 9]))?;
+    for (told, sizes) in REPRESENTED.iter() {
+        let codec = codec_of(rt.alloc(), told)?;
+        represents(&rt, rt.alloc(), &codec, &form, sizes)?;
+        keeps_type(&rt, rt.alloc(), &codec, &form)?;
+    }
+    Ok(())
+}

@@ -1,0 +1,261 @@
+use crate::checks::{are, is, is_refused, shape};
+use crate::forms::Size::{Is, Of, Rest};
+use crate::forms::{Codec, codec_of, reshape, transpose};
+use std::alloc::Global;
+use std::process::Abort;
+use std::test::Fail;
+use zarrs_array_to_array::{ArrayToArrayCodec, SqueezeCodec};
+use zarrs_chunk::{ChunkShape, CodecError};
+use zarrs_codec::{ArrayToArrayCodecTraits, PartialDecoderCapability, PartialEncoderCapability};
+
+const VIDEO: &'static [u64] = &[5, 4, 4, 3];
+
+/// Codecs, the sizes of chunks, and those of the encoded chunks.
+const ENCODED: [(Codec, &'static [u64], &'static [u64]); 16] = [
+    (
+        Codec::Reshape(&[Of(&[0, 1]), Of(&[2]), Is(3)]),
+        VIDEO,
+        &[20, 4, 3],
+    ),
+    (Codec::Reshape(&[Of(&[0, 1, 2]), Is(3)]), VIDEO, &[80, 3]),
+    (
+        Codec::Reshape(&[Of(&[0]), Rest, Of(&[2, 3])]),
+        VIDEO,
+        &[5, 4, 12],
+    ),
+    (
+        Codec::Reshape(&[Rest, Is(2), Is(2), Of(&[3])]),
+        VIDEO,
+        &[20, 2, 2, 3],
+    ),
+    (
+        Codec::Reshape(&[Of(&[0, 1]), Of(&[2]), Rest]),
+        VIDEO,
+        &[20, 4, 3],
+    ),
+    (
+        Codec::Reshape(&[Of(&[0]), Rest, Of(&[3])]),
+        VIDEO,
+        &[5, 16, 3],
+    ),
+    (Codec::Reshape(&[Of(&[]), Of(&[0])]), &[4], &[1, 4]),
+    (Codec::Reshape(&[]), &[1, 1], &[]),
+    (
+        Codec::Reshape(&[Of(&[2]), Of(&[0, 1])]),
+        &[2, 3, 4],
+        &[4, 6],
+    ),
+    (Codec::Transpose(&[2, 0, 1]), &[2, 3, 4], &[4, 2, 3]),
+    (Codec::Transpose(&[1, 0]), &[2, 3], &[3, 2]),
+    (Codec::Transpose(&[]), &[], &[]),
+    (Codec::Squeeze, &[1, 2, 1, 2, 3], &[2, 2, 3]),
+    (Codec::Squeeze, &[1, 1], &[1]),
+    (Codec::Squeeze, &[1, 4, 1, 4, 1], &[4, 4]),
+    (Codec::Squeeze, &[1, 3], &[3]),
+];
+
+fn has_encoded_shape<C: ArrayToArrayCodecTraits>(
+    rt: &impl Abort,
+    alloc: Global,
+    codec: &C,
+    decoded: &ChunkShape,
+    wanted: &[u64],
+) -> Result<(), Fail> {
+    let encoded = codec.encoded_shape(alloc, decoded)?;
+    are(rt, "encoded shape", encoded.as_slice(), wanted);
+    Ok(())
+}
+
+/// The shape of the chunk tells that of the encoded one, and of what is best decoded together.
+fn tells_shapes(
+    rt: &impl Abort,
+    alloc: Global,
+    codec: &ArrayToArrayCodec,
+    sizes: &[u64],
+    wanted: &[u64],
+) -> Result<(), Fail> {
+    let decoded = shape(alloc, sizes)?;
+    has_encoded_shape(rt, alloc, codec, &decoded, wanted)
+}
+
+#[test]
+fn shapes_are_encoded(rt: HostRuntime) -> Result<(), Fail> {
+    for (told, sizes, wanted) in ENCODED.iter() {
+        tells_shapes(&rt, rt.alloc(), &codec_of(rt.alloc(), told)?, sizes, wanted)?;
+    }
+    Ok(())
+}
+
+/// Codecs, the sizes of encoded chunks, and those of the chunks where they tell them.
+const DECODED: [(Codec, &'static [u64], Option<&'static [u64]>); 5] = [
+    (Codec::Transpose(&[2, 0, 1]), &[4, 2, 3], Some(&[2, 3, 4])),
+    (Codec::Transpose(&[1, 0]), &[3, 2], Some(&[2, 3])),
+    (Codec::Transpose(&[]), &[], Some(&[])),
+    (Codec::Reshape(&[Of(&[0]), Rest]), &[2, 3], None),
+    (Codec::Squeeze, &[2, 3], None),
+];
+
+fn is_shape(rt: &impl Abort, came: Option<&[u64]>, wanted: Option<&[u64]>) {
+    is(rt, "told", &came.is_some(), &wanted.is_some());
+    if let (Some(came), Some(wanted)) = (came, wanted) {
+        are(rt, "decoded shape", came, wanted);
+    }
+}
+
+fn has_decoded_shape<C: ArrayToArrayCodecTraits>(
+    rt: &impl Abort,
+    alloc: Global,
+    codec: &C,
+    sizes: &[u64],
+    wanted: Option<&[u64]>,
+) -> Result<(), Fail> {
+    let encoded = shape(alloc, sizes)?;
+    let decoded = codec.decoded_shape(alloc, &encoded)?;
+    is_shape(rt, decoded.as_ref().map(|sizes| sizes.as_slice()), wanted);
+    Ok(())
+}
+
+#[test]
+fn a_transposed_shape_is_decoded(rt: HostRuntime) -> Result<(), Fail> {
+    for (told, sizes, wanted) in DECODED.iter() {
+        has_decoded_shape(
+            &rt,
+            rt.alloc(),
+            &codec_of(rt.alloc(), told)?,
+            sizes,
+            *wanted,
+        )?;
+    }
+    Ok(())
+}
+
+/// Codecs, sizes of chunks that they don't take, and why.
+const REFUSED: [(Codec, &'static [u64], CodecError); 10] = [
+    (
+        Codec::Reshape(&[Rest, Is(2), Is(2), Of(&[4])]),
+        VIDEO,
+        CodecError::ReshapeDimension,
+    ),
+    (
+        Codec::Reshape(&[Is(2), Is(2), Is(2)]),
+        VIDEO,
+        CodecError::ReshapeElements,
+    ),
+    (Codec::Reshape(&[]), &[2], CodecError::ReshapeElements),
+    // Seven elements, and a rest beside pairs.
+    (
+        Codec::Reshape(&[Rest, Is(2)]),
+        &[7],
+        CodecError::ReshapeElements,
+    ),
+    // An axis that is none comes before elements that differ.
+    (
+        Codec::Reshape(&[Is(3), Of(&[1])]),
+        &[2],
+        CodecError::ReshapeDimension,
+    ),
+    (
+        Codec::Reshape(&[Of(&[0, 1])]),
+        &[4294967296, 4294967296],
+        CodecError::Overflow,
+    ),
+    (
+        Codec::Reshape(&[Is(4294967296), Is(4294967296)]),
+        &[2],
+        CodecError::Overflow,
+    ),
+    (
+        Codec::Transpose(&[1, 0]),
+        &[2, 3, 4],
+        CodecError::IncompatibleDimensionality,
+    ),
+    (
+        Codec::Transpose(&[0]),
+        &[],
+        CodecError::IncompatibleDimensionality,
+    ),
+    (
+        Codec::Transpose(&[]),
+        &[1],
+        CodecError::IncompatibleDimensionality,
+    ),
+];
+
+fn refuses_shape(
+    rt: &impl Abort,
+    alloc: Global,
+    codec: &ArrayToArrayCodec,
+    sizes: &[u64],
+    cause: CodecError,
+) -> Result<(), Fail> {
+    let decoded = shape(alloc, sizes)?;
+    is_refused(rt, "shape", codec.encoded_shape(alloc, &decoded), cause)
+}
+
+#[test]
+fn shapes_are_refused(rt: HostRuntime) -> Result<(), Fail> {
+    for (told, sizes, cause) in REFUSED.iter() {
+        refuses_shape(&rt, rt.alloc(), &codec_of(rt.alloc(), told)?, sizes, *cause)?;
+    }
+    Ok(())
+}
+
+/// An encoded shape of another number of axes than the order is refused.
+#[test]
+fn an_encoded_shape_of_other_axes_is_refused(rt: HostRuntime) -> Result<(), Fail> {
+    let codec = codec_of(rt.alloc(), &Codec::Transpose(&[1, 0]))?;
+    let encoded = shape(rt.alloc(), &[2, 3, 4])?;
+    is_refused(
+        &rt,
+        "encoded shape",
+        codec.decoded_shape(rt.alloc(), &encoded),
+        CodecError::IncompatibleDimensionality,
+    )
+}
+
+/// What each codec can do in part, and that a chunk is best decoded whole.
+fn reads_in_part<C: ArrayToArrayCodecTraits>(
+    rt: &impl Abort,
+    alloc: Global,
+    codec: &C,
+) -> Result<(), Fail> {
+    let reads = PartialDecoderCapability {
+        partial_read: true,
+        partial_decode: true,
+    };
+    is(rt, "reads", &codec.partial_decoder_capability(), &reads);
+    let writes = PartialEncoderCapability {
+        partial_encode: true,
+    };
+    is(rt, "writes", &codec.partial_encoder_capability(), &writes);
+    let chunk = shape(alloc, &[2, 1, 3])?;
+    let together = codec.partial_decode_granularity(alloc, &chunk)?;
+    are(rt, "together", together.as_slice(), &[2, 1, 3]);
+    Ok(())
+}
+
+const CODECS: [Codec; 3] = [
+    Codec::Transpose(&[2, 0, 1]),
+    Codec::Reshape(&[Rest]),
+    Codec::Squeeze,
+];
+
+#[test]
+fn codecs_read_in_part(rt: HostRuntime) -> Result<(), Fail> {
+    for told in CODECS.iter() {
+        reads_in_part(&rt, rt.alloc(), &codec_of(rt.alloc(), told)?)?;
+    }
+    reads_in_part(&rt, rt.alloc(), &transpose(rt.alloc(), &[2, 0, 1])?)?;
+    reads_in_part(&rt, rt.alloc(), &reshape(rt.alloc(), &[Rest])?)?;
+    reads_in_part(&rt, rt.alloc(), &SqueezeCodec::default())
+}
+
+/// A copy does to a shape what the codec does.
+#[test]
+fn copies_are_equal(rt: HostRuntime) -> Result<(), Fail> {
+    let decoded = shape(rt.alloc(), &[2, 3, 4])?;
+    let order = transpose(rt.alloc(), &[2, 0, 1])?.clone()?;
+    has_encoded_shape(&rt, rt.alloc(), &order, &decoded, &[4, 2, 3])?;
+    let sizes = reshape(rt.alloc(), &[Of(&[2]), Rest])?.clone()?;
+    has_encoded_shape(&rt, rt.alloc(), &sizes, &decoded, &[4, 6])
+}
