@@ -31,8 +31,16 @@ const LINE: Counted = ((&[1, 3], Type::Byte, &[0]), 1, 3);
 
 const POINT: Counted = ((&[1, 1], Type::Byte, &[0]), 1, 1);
 
+/// The first so many of some numbers, or all of them where they are fewer.
+fn first(numbers: &[u8], count: usize) -> &[u8] {
+    if count > numbers.len() {
+        return numbers;
+    }
+    &numbers[..count]
+}
+
 fn counted_bytes(alloc: Global, size: usize, count: usize) -> Result<Vec<u8>, Fail> {
-    Ok(numbers(alloc, size, &COUNTED[..count])?)
+    Ok(numbers(alloc, size, first(COUNTED, count))?)
 }
 
 fn transposed_chunk(
