@@ -10,7 +10,7 @@ use Rattle.zarrs_data_type.specs.ElementType.{ElementType, fixed, text, bytes, o
 use Rattle.zarrs_data_type.specs.declared.endianness.Endianness.{Endianness}
 use Rattle.zarrs_array_bytes.specs.Elements.{piece}
 use Rattle.zarrs_codec.specs.ByteRanges.{SameByte}
-use Rattle.zarrs_bytes.specs.ByteOrder.{ordered}
+use Rattle.zarrs_bytes.specs.ByteOrder.{bytes_in_order}
 use Rattle.zarrs_bytes.specs.BytesCodec.{bytes_element}
 use Rattle.zarrs_bytes.specs.PartialRead.{place_bytes, place_size, has_place, read_places}
 use Rattle.zarrs_bytes.proofs.Coding.{ok}
@@ -56,7 +56,7 @@ same_piece value other size place h =
 
 same_element : (order : Option Endianness) (type : ElementType) (value other : List ℕ) (place : ℕ) → All (SameByte value other) (range_with_len (place * place_size type) (place_size type)) → bytes_element order type value place ≡ bytes_element order type other place
 same_element order (fixed width components sign) value other place h =
-    ap (λ items. plain (ordered order width components items)) (same_piece value other (element_size width components) place h)
+    ap (λ items. plain (bytes_in_order order width components items)) (same_piece value other (element_size width components) place h)
 same_element order text value other place h = refl
 same_element order bytes value other place h = refl
 same_element order (optional type) value other place h = refl

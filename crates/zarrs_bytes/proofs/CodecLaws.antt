@@ -21,9 +21,9 @@ use Rattle.zarrs_bytes.proofs.Exact.{decoded_only, stands_length}
 pub written_stands : (order : Option Endianness) (sizes : List ℕ) (type : ElementType) (fill value : List ℕ) (chunk : Chunk) → BytesWritten order sizes type fill value chunk → BytesStands order sizes type fill value chunk
 written_stands order sizes type fill value chunk written = record {
   len = written.len;
-  taken = written.taken;
+  length_is = written.length_is;
   elements = written.elements;
-  spelt = written.spelt;
+  value_is = written.value_is;
 }
 
 chunk_is : (x y : Chunk) → ok x ≡ ok y → x ≡ y
@@ -34,7 +34,7 @@ stands_for_one order sizes type fill value chunk other one two =
     chunk_is chunk other (sym (decoded_only order sizes type fill value chunk one) ∙ decoded_only order sizes type fill value other two)
 
 written_same : (order : Option Endianness) (sizes : List ℕ) (type : ElementType) (fill value other_value : List ℕ) (chunk other : Chunk) → BytesWritten order sizes type fill value chunk → BytesWritten order sizes type fill other_value other → chunk ≡ other → value ≡ other_value
-written_same order sizes type fill value other_value chunk other one two e = one.spelt ∙ ap (spelling order type) e ∙ sym two.spelt
+written_same order sizes type fill value other_value chunk other one two e = one.value_is ∙ ap (spelling order type) e ∙ sym two.value_is
 
 pub written_alike : (order : Option Endianness) (sizes : List ℕ) (type : ElementType) (fill value other_value : List ℕ) (chunk other : Chunk) → BytesWritten order sizes type fill value chunk → BytesWritten order sizes type fill other_value other → (value ≡ other_value) ↔ (chunk ≡ other)
 written_alike order sizes type fill value other_value chunk other one two = (
@@ -78,11 +78,11 @@ pub read_selects : (order : Option Endianness) (sizes : List ℕ) (type : Elemen
 read_selects order sizes (fixed width components sign) fill value chunk places stands h =
     let type = fixed width components sign in
     let n = product sizes in
-    let t = taken order sizes width components sign fill stands.len stands.taken in
+    let t = taken order sizes width components sign fill stands.len stands.length_is in
     let is = stands_read order sizes width components sign fill value chunk stands in
     let count : length chunk ≡ n = sym (ap length is) ∙ length-map (range_with_len 0 n) (bytes_element order type value) ∙ length-range_with_len 0 n in
     let below : All (λ place. place < n) places = subst (λ k. All (λ place. place < k) places) count h in
-    let long : length value ≡ n * place_size type = stands_length order sizes type fill value chunk stands.len stands stands.taken ∙ t.len_is in
+    let long : length value ≡ n * place_size type = stands_length order sizes type fill value chunk stands.len stands stands.length_is ∙ t.len_is in
     let inside = all_inside type value places n long below in
     let read : map (bytes_element order type value) places ≡ select chunk places = read_each (bytes_element order type value) n places below ∙ ap (λ (c : Chunk). select c places) is in
     rw inside (ap ok read)

@@ -17,9 +17,9 @@ use Rattle.zarrs_array_bytes.specs.Parts.{fixed_part}
 use Rattle.zarrs_array_bytes.specs.Validity.{Holds, validity}
 use Rattle.zarrs_array_bytes.specs.Pieces.{pieces}
 use Rattle.zarrs_array_bytes.proofs.Pieces.{pieces_sized, elements-pieces, read_pieces}
-use Rattle.zarrs_bytes.specs.ByteOrder.{turned, ordered, has_order, spelled_chunk}
+use Rattle.zarrs_bytes.specs.ByteOrder.{turned_bytes, bytes_in_order, has_order, spelled_chunk}
 use Rattle.zarrs_bytes.specs.BytesCodec.{bytes_length, bytes_value, bytes_chunk, bytes_element, turn_size, needs_memory}
-use Rattle.zarrs_bytes.proofs.Spelled.{length-turned, turned_is, spelled_chunk-plain, Holds-pieces}
+use Rattle.zarrs_bytes.proofs.Spelled.{length-turned_bytes, turned_is, spelled_chunk-plain, Holds-pieces}
 
 -- ---- steps
 
@@ -81,13 +81,13 @@ part_is : (r s : Raw) → ok r ≡ ok s → r ≡ s
 part_is r s e = cc
 
 fixed_encoded : (order : Option Endianness) (sizes : List ℕ) (width components : ℕ) (sign : Bool) (fill : List ℕ) (raw : Raw) (len : ℕ) → bytes_length order sizes (fixed width components sign) fill ≡ Ok len → validity (fixed width components sign) (product sizes) (flen raw) ≡ Ok tt
-    → bytes_value order sizes (fixed width components sign) fill (flen raw) ≡ Ok (turned (turn_size order (fixed width components sign)) raw.items)
+    → bytes_value order sizes (fixed width components sign) fill (flen raw) ≡ Ok (turned_bytes (turn_size order (fixed width components sign)) raw.items)
 fixed_encoded order sizes width components sign fill raw len e valid =
     let n = product sizes in
     let a = bind_ok (demand (nat_lt (n * element_size width components) (2 ^ 64)) Overflow) _ tt valid in
     let long = demand_ok (length raw.items == n * element_size width components) (InvalidBytesLength (length raw.items) (n * element_size width components)) tt a.2 in
     let is : length raw.items ≡ n * element_size width components = grind (arith, nat_tests) in
-    let same : spelled_chunk order width components (elements (fixed width components sign) n (flen raw)) ≡ turned (turn_size order (fixed width components sign)) raw.items
+    let same : spelled_chunk order width components (elements (fixed width components sign) n (flen raw)) ≡ turned_bytes (turn_size order (fixed width components sign)) raw.items
     = ap (spelled_chunk order width components) (elements-pieces width components sign n raw)
     ∙ spelled_chunk-plain order width components (pieces (element_size width components) n raw.items)
     ∙ sym (turned_is order width components sign n raw.items is) in
@@ -96,9 +96,9 @@ fixed_encoded order sizes width components sign fill raw len e valid =
 
 -- what is made of a container that fits is its chunk's value
 pub encoded_is : (order : Option Endianness) (sizes : List ℕ) (type : ElementType) (fill : List ℕ) (held : Held) (raw : Raw) (len : ℕ) → bytes_length order sizes type fill ≡ Ok len → validity type (product sizes) held ≡ Ok tt → fixed_part held ≡ Ok raw
-    → bytes_value order sizes type fill held ≡ Ok (turned (turn_size order type) raw.items)
+    → bytes_value order sizes type fill held ≡ Ok (turned_bytes (turn_size order type) raw.items)
 encoded_is order sizes (fixed width components sign) fill (flen own) raw len e valid part =
-    fixed_encoded order sizes width components sign fill own len e valid ∙ ap (λ (r : Raw). ok (turned (turn_size order (fixed width components sign)) r.items)) (part_is own raw part)
+    fixed_encoded order sizes width components sign fill own len e valid ∙ ap (λ (r : Raw). ok (turned_bytes (turn_size order (fixed width components sign)) r.items)) (part_is own raw part)
 encoded_is order sizes (fixed width components sign) fill (vlen own offsets) raw len e valid part = absurd cc
 encoded_is order sizes (fixed width components sign) fill (masked inner mask) raw len e valid part = absurd cc
 encoded_is order sizes text fill held raw len e valid part = absurd cc
@@ -115,7 +115,7 @@ found_chunk (Ok n) test cause chunk P len e t p =
 found_chunk (Err d) test cause chunk P len e t p = absurd cc
 
 -- what is made of a value of the right length is its chunk
-pub decoded_holds : (order : Option Endianness) (sizes : List ℕ) (type : ElementType) (fill value : List ℕ) (raw : Raw) (len : ℕ) → bytes_length order sizes type fill ≡ Ok len → length value ≡ len → raw.items ≡ turned (turn_size order type) value
+pub decoded_holds : (order : Option Endianness) (sizes : List ℕ) (type : ElementType) (fill value : List ℕ) (raw : Raw) (len : ℕ) → bytes_length order sizes type fill ≡ Ok len → length value ≡ len → raw.items ≡ turned_bytes (turn_size order type) value
     → IsOkAnd (bytes_chunk order sizes type fill value) (Holds type (flen raw))
 decoded_holds order sizes (fixed width components sign) fill value raw len e long is =
     let t = taken order sizes width components sign fill len e in
@@ -125,9 +125,9 @@ decoded_holds order sizes (fixed width components sign) fill value raw len e lon
     let parts = pieces size n value in
     let sized = pieces_sized size n value (omega (arith, whole)) in
     let turned_so = is ∙ turned_is order width components sign n value whole in
-    let small : length raw.items < 2 ^ 64 = omega (arith, t.small, long, ap length is, length-turned (turn_size order (fixed width components sign)) value) in
+    let small : length raw.items < 2 ^ 64 = omega (arith, t.small, long, ap length is, length-turned_bytes (turn_size order (fixed width components sign)) value) in
     let holds = Holds-pieces order width components sign raw parts sized turned_so small in
-    let read = read_pieces (λ piece. plain (ordered order width components piece)) size n value in
+    let read = read_pieces (λ piece. plain (bytes_in_order order width components piece)) size n value in
     let passed : (length value == len) ≡ true = grind (arith, nat_tests) in
     found_chunk (bytes_length order sizes (fixed width components sign) fill) (λ l. length value == l) (λ l. InvalidBytesLength (length value) l) (map (bytes_element order (fixed width components sign) value) (range_with_len 0 n)) (Holds (fixed width components sign) (flen raw)) len e passed
     (subst (Holds (fixed width components sign) (flen raw)) (sym read) holds)

@@ -18,7 +18,7 @@ use Rattle.zarrs_array_bytes.specs.Validity.{Holds, validity}
 use Rattle.zarrs_array_bytes.specs.Pieces.{pieces}
 use Rattle.zarrs_array_bytes.proofs.ElementLaw.{AreElements-held}
 use Rattle.zarrs_array_bytes.proofs.Pieces.{AllSized, length-pieces, pieces_sized, length-concat, pieces-concat, concat-pieces, elements-pieces, read_pieces}
-use Rattle.zarrs_bytes.specs.ByteOrder.{ordered, spelled_chunk}
+use Rattle.zarrs_bytes.specs.ByteOrder.{bytes_in_order, spelled_chunk}
 use Rattle.zarrs_bytes.specs.BytesCodec.{bytes_length, spelling, bytes_value, bytes_chunk, bytes_element, BytesStands, BytesWritten}
 use Rattle.zarrs_bytes.proofs.Coding.{bind_ok, demand_ok, ok, two_steps, taken}
 use Rattle.zarrs_bytes.proofs.Spelled.{Holds-pieces, ordered_twice, ordered_sized, spelled_chunk-plain}
@@ -48,7 +48,7 @@ pieces_of width components sign [] h = record { parts = []; are = refl; sized = 
 pieces_of width components sign (element ∷ chunk) h =
     one_piece width components sign element chunk (h 0 absent (omega arith)) (pieces_of width components sign chunk (AreElements-tail (fixed width components sign) element chunk h))
 
-ordered_back : (order : Option Endianness) (width components : ℕ) (parts : List (List ℕ)) → AllSized (element_size width components) parts → map (ordered order width components) (map (ordered order width components) parts) ≡ parts
+ordered_back : (order : Option Endianness) (width components : ℕ) (parts : List (List ℕ)) → AllSized (element_size width components) parts → map (bytes_in_order order width components) (map (bytes_in_order order width components) parts) ≡ parts
 ordered_back order width components [] h = refl
 ordered_back order width components (piece ∷ parts) h = λ i. ordered_twice order width components piece h.0 i ∷ ordered_back order width components parts h.1 i
 
@@ -60,9 +60,9 @@ encoded_only order sizes (fixed width components sign) fill value held chunk hol
     let count = written.elements.count_is in
     let valid : validity type (product sizes) held ≡ Ok tt = ap (λ n. validity type n held) (sym count) ∙ holds.valid in
     let same : elements type (product sizes) held ≡ chunk = ap (λ n. elements type n held) (sym count) ∙ holds.elements_are in
-    two_steps (bytes_length order sizes type fill) (validity type (product sizes) held) written.len tt (spelling order type (elements type (product sizes) held)) written.taken valid
+    two_steps (bytes_length order sizes type fill) (validity type (product sizes) held) written.len tt (spelling order type (elements type (product sizes) held)) written.length_is valid
     ∙ ap (λ (c : Chunk). ok (spelled_chunk order width components c)) same
-    ∙ ap ok (sym written.spelt)
+    ∙ ap ok (sym written.value_is)
 encoded_only order sizes text fill value held chunk holds written = absurd cc
 encoded_only order sizes bytes fill value held chunk holds written = absurd cc
 encoded_only order sizes (optional type) fill value held chunk holds written = absurd cc
@@ -90,20 +90,20 @@ encoded_found order sizes (fixed width components sign) fill value (flen raw) e 
       valid = ap (λ k. validity type k (flen raw)) count ∙ b.1;
       elements_are = ap (λ k. elements type k (flen raw)) count;
     } in
-    let spelt : value ≡ spelled_chunk order width components chunk = bytes_are (spelled_chunk order width components chunk) value b.2 in
+    let value_is : value ≡ spelled_chunk order width components chunk = bytes_are (spelled_chunk order width components chunk) value b.2 in
     let bytes_long : length (spelled_chunk order width components chunk) ≡ n * size
     = ap (λ (c : Chunk). length (spelled_chunk order width components c)) are
     ∙ ap length (spelled_chunk-plain order width components parts)
-    ∙ length-concat size (map (ordered order width components) parts) (ordered_sized order width components parts sized)
-    ∙ ap (λ k. k * size) (length-map parts (ordered order width components) ∙ length-pieces size n raw.items) in (
+    ∙ length-concat size (map (bytes_in_order order width components) parts) (ordered_sized order width components parts sized)
+    ∙ ap (λ k. k * size) (length-map parts (bytes_in_order order width components) ∙ length-pieces size n raw.items) in (
       chunk,
       holds,
       record {
         len = a.0;
-        taken = a.1;
+        length_is = a.1;
         elements = record { count_is = count; each = AreElements-held type (flen raw) chunk holds };
-        spelt = spelt;
-        small = omega (arith, ap length spelt, bytes_long, t.len_is, t.small);
+        value_is = value_is;
+        small = omega (arith, ap length value_is, bytes_long, t.len_is, t.small);
       },
     )
 encoded_found order sizes (fixed width components sign) fill value (vlen raw offsets) e =
@@ -138,22 +138,22 @@ decoded_found order sizes (fixed width components sign) fill value chunk e =
     let long : length value ≡ n * size = found ∙ t.len_is in
     let parts = pieces size n value in
     let sized = pieces_sized size n value (omega (arith, long)) in
-    let turned_pieces = map (ordered order width components) parts in
+    let turned_pieces = map (bytes_in_order order width components) parts in
     let all_sized = ordered_sized order width components parts sized in
-    let number : length turned_pieces ≡ n = length-map parts (ordered order width components) ∙ length-pieces size n value in
+    let number : length turned_pieces ≡ n = length-map parts (bytes_in_order order width components) ∙ length-pieces size n value in
     let turned_long : length (concat turned_pieces) ≡ n * size = length-concat size turned_pieces all_sized ∙ ap (λ k. k * size) number in
     let holds = Holds-pieces order width components sign (owned_bytes (concat turned_pieces)) parts sized refl (omega (arith, turned_long, t.len_is, t.small)) in
-    let read_so : chunk ≡ map (λ piece. plain (ordered order width components piece)) parts
-    = chunk_are _ chunk b.2 ∙ read_pieces (λ piece. plain (ordered order width components piece)) size n value in
-    let are : chunk ≡ map plain turned_pieces = read_so ∙ sym (map-map plain (ordered order width components) parts) in
+    let read_so : chunk ≡ map (λ piece. plain (bytes_in_order order width components piece)) parts
+    = chunk_are _ chunk b.2 ∙ read_pieces (λ piece. plain (bytes_in_order order width components piece)) size n value in
+    let are : chunk ≡ map plain turned_pieces = read_so ∙ sym (map-map plain (bytes_in_order order width components) parts) in
     record {
       len = a.0;
-      taken = a.1;
+      length_is = a.1;
       elements = record {
         count_is = ap length are ∙ length-map turned_pieces plain ∙ number;
-        each = subst (AreElements type) (sym read_so) (AreElements-held type (flen (owned_bytes (concat turned_pieces))) (map (λ piece. plain (ordered order width components piece)) parts) holds);
+        each = subst (AreElements type) (sym read_so) (AreElements-held type (flen (owned_bytes (concat turned_pieces))) (map (λ piece. plain (bytes_in_order order width components piece)) parts) holds);
       };
-      spelt = sym (ap (spelled_chunk order width components) are ∙ spelled_chunk-plain order width components turned_pieces ∙ ap concat (ordered_back order width components parts sized) ∙ concat-pieces size n value long);
+      value_is = sym (ap (spelled_chunk order width components) are ∙ spelled_chunk-plain order width components turned_pieces ∙ ap concat (ordered_back order width components parts sized) ∙ concat-pieces size n value long);
     }
 decoded_found order sizes text fill value chunk e = absurd cc
 decoded_found order sizes bytes fill value chunk e = absurd cc
@@ -174,24 +174,24 @@ decoded_only order sizes (fixed width components sign) fill value chunk stands =
     let type = fixed width components sign in
     let size = element_size width components in
     let n = product sizes in
-    let t = taken order sizes width components sign fill stands.len stands.taken in
+    let t = taken order sizes width components sign fill stands.len stands.length_is in
     let p = pieces_of width components sign chunk stands.elements.each in
-    let turned_pieces = map (ordered order width components) p.parts in
+    let turned_pieces = map (bytes_in_order order width components) p.parts in
     let sized = ordered_sized order width components p.parts p.sized in
-    let value_is : value ≡ concat turned_pieces = stands.spelt ∙ ap (spelled_chunk order width components) p.are ∙ spelled_chunk-plain order width components p.parts in
+    let value_is : value ≡ concat turned_pieces = stands.value_is ∙ ap (spelled_chunk order width components) p.are ∙ spelled_chunk-plain order width components p.parts in
     let number : length turned_pieces ≡ n
-    = length-map p.parts (ordered order width components) ∙ sym (length-map p.parts plain) ∙ sym (ap length p.are) ∙ stands.elements.count_is in
+    = length-map p.parts (bytes_in_order order width components) ∙ sym (length-map p.parts plain) ∙ sym (ap length p.are) ∙ stands.elements.count_is in
     let long : length value ≡ n * size = ap length value_is ∙ length-concat size turned_pieces sized ∙ ap (λ k. k * size) number in
     let found : length value ≡ stands.len = long ∙ sym t.len_is in
     let passed : (length value == stands.len) ≡ true = grind (arith, nat_tests) in
     let cut : pieces size n value ≡ turned_pieces = ap (pieces size n) value_is ∙ ap (λ k. pieces size k (concat turned_pieces)) (sym number) ∙ pieces-concat size turned_pieces sized in
     let read : map (bytes_element order type value) (range_with_len 0 n) ≡ chunk
-    = read_pieces (λ piece. plain (ordered order width components piece)) size n value
-    ∙ ap (map (λ piece. plain (ordered order width components piece))) cut
-    ∙ sym (map-map plain (ordered order width components) turned_pieces)
+    = read_pieces (λ piece. plain (bytes_in_order order width components piece)) size n value
+    ∙ ap (map (λ piece. plain (bytes_in_order order width components piece))) cut
+    ∙ sym (map-map plain (bytes_in_order order width components) turned_pieces)
     ∙ ap (map plain) (ordered_back order width components p.parts p.sized)
     ∙ sym p.are in
-    two_tests (bytes_length order sizes type fill) (λ l. length value == l) (λ l. InvalidBytesLength (length value) l) (map (bytes_element order type value) (range_with_len 0 n)) stands.len stands.taken passed
+    two_tests (bytes_length order sizes type fill) (λ l. length value == l) (λ l. InvalidBytesLength (length value) l) (map (bytes_element order type value) (range_with_len 0 n)) stands.len stands.length_is passed
     ∙ ap ok read
 decoded_only order sizes text fill value chunk stands = absurd cc
 decoded_only order sizes bytes fill value chunk stands = absurd cc

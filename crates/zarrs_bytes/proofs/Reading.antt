@@ -17,14 +17,14 @@ use Rattle.zarrs_array_bytes.specs.Held.{Raw, flen}
 use Rattle.zarrs_array_bytes.specs.Validity.{Holds}
 use Rattle.zarrs_array_bytes.specs.Pieces.{pieces}
 use Rattle.zarrs_array_bytes.proofs.Pieces.{AllSized, length-concat, pieces-concat}
-use Rattle.zarrs_bytes.specs.ByteOrder.{turned, ordered}
+use Rattle.zarrs_bytes.specs.ByteOrder.{turned_bytes, bytes_in_order}
 use Rattle.zarrs_codec.specs.ByteRanges.{range_indices, read_ranges}
 use Rattle.zarrs_bytes.specs.BytesCodec.{bytes_element, turn_size}
 use Rattle.zarrs_bytes.specs.PartialRead.{place_bytes, place_size, IsFilledType, read_places}
 use Rattle.zarrs_codec.specs.ByteSpan.{ByteSpan}
 use Rattle.zarrs_bytes.proofs.Coding.{ok}
 use Rattle.zarrs_bytes.proofs.Ranges.{read_value-places}
-use Rattle.zarrs_bytes.proofs.Spelled.{length-turned, turned_is, Holds-pieces}
+use Rattle.zarrs_bytes.proofs.Spelled.{length-turned_bytes, turned_is, Holds-pieces}
 
 -- ---- pieces at places
 
@@ -41,10 +41,10 @@ places_sized size value (place ∷ places) h =
       places_sized size value places both.1,
     )
 
-read_map : (order : Option Endianness) (width components : ℕ) (sign : Bool) (value places : List ℕ) → map (λ piece. plain (ordered order width components piece)) (map (piece (element_size width components) value) places) ≡ map (bytes_element order (fixed width components sign) value) places
+read_map : (order : Option Endianness) (width components : ℕ) (sign : Bool) (value places : List ℕ) → map (λ piece. plain (bytes_in_order order width components piece)) (map (piece (element_size width components) value) places) ≡ map (bytes_element order (fixed width components sign) value) places
 read_map order width components sign value [] = refl
 read_map order width components sign value (place ∷ places) =
-    ap (λ (rest : List Element). plain (ordered order width components (piece (element_size width components) value place)) ∷ rest) (read_map order width components sign value places)
+    ap (λ (rest : List Element). plain (bytes_in_order order width components (piece (element_size width components) value place)) ∷ rest) (read_map order width components sign value places)
 
 fills_sized : (size : ℕ) (fill places : List ℕ) → length fill ≡ size → AllSized size (map (λ _. fill) places)
 fills_sized size fill [] h = tt
@@ -89,7 +89,7 @@ ranges_are size value places ranges positive numbers filled =
 
 -- bytes that were read, turned round, hold the elements at the places
 pub at_some : (order : Option Endianness) (type : ElementType) (fill places bytes' : List ℕ) (stored : Option (List ℕ)) (ranges : List ByteSpan) (raw : Raw) → IsFilledType type fill → range_indices ranges ≡ place_bytes (place_size type) places → All (λ range. range.start < range.end) ranges
-    → read_ranges stored ranges ≡ Ok (Some bytes') → raw.items ≡ turned (turn_size order type) bytes' → length bytes' < 2 ^ 64 → IsOkAnd (read_places order type fill stored places) (Holds type (flen raw))
+    → read_ranges stored ranges ≡ Ok (Some bytes') → raw.items ≡ turned_bytes (turn_size order type) bytes' → length bytes' < 2 ^ 64 → IsOkAnd (read_places order type fill stored places) (Holds type (flen raw))
 at_some order (fixed width components sign) fill places bytes' None ranges raw t numbers filled read is small = absurd cc
 at_some order (fixed width components sign) fill places bytes' (Some value) ranges raw t numbers filled read is small =
     let type = fixed width components sign in
@@ -101,8 +101,8 @@ at_some order (fixed width components sign) fill places bytes' (Some value) rang
     let sized = places_sized size value places inside in
     let long : length bytes' ≡ length parts * size = ap length same ∙ length-concat size parts sized in
     let cut : pieces size (length parts) bytes' ≡ parts = ap (pieces size (length parts)) same ∙ pieces-concat size parts sized in
-    let turned_so = is ∙ turned_is order width components sign (length parts) bytes' long ∙ ap (λ (xs : List (List ℕ)). concat (map (ordered order width components) xs)) cut in
-    let short : length raw.items < 2 ^ 64 = omega (arith, ap length is, length-turned (turn_size order type) bytes', small) in
+    let turned_so = is ∙ turned_is order width components sign (length parts) bytes' long ∙ ap (λ (xs : List (List ℕ)). concat (map (bytes_in_order order width components) xs)) cut in
+    let short : length raw.items < 2 ^ 64 = omega (arith, ap length is, length-turned_bytes (turn_size order type) bytes', small) in
     subst (Holds type (flen raw)) (read_map order width components sign value places) (Holds-pieces order width components sign raw parts sized turned_so short))
 at_some order text fill places bytes' stored ranges raw t numbers filled read is small = absurd t
 at_some order bytes fill places bytes' stored ranges raw t numbers filled read is small = absurd t

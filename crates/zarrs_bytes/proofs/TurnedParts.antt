@@ -7,7 +7,7 @@ use Rattle.std.proofs.Math.Seq.{take-add}
 use Rattle.std.proofs.lemmas.List.Folds.{concat-append}
 use Rattle.zarrs_array_bytes.specs.Pieces.{pieces}
 use Rattle.zarrs_array_bytes.proofs.Pieces.{pieces-split, pieces-front}
-use Rattle.zarrs_bytes.specs.ByteOrder.{reversed_pieces, turned}
+use Rattle.zarrs_bytes.specs.ByteOrder.{reversed_pieces, turned_bytes}
 use Rattle.zarrs_bytes.proofs.ReversedPieces.{length-reversed_pieces}
 use borrow.Rule.Slice.PartMut.{put_mid, mid_of}
 
@@ -35,8 +35,8 @@ turned_at size count more front rest l =
     ∙ append_assoc (reversed_pieces size count front) (reversed_pieces size more rest) (drop (more * size) rest)
 
 -- whole pieces alone
-pub turned-whole : (size count : ℕ) (front : List ℕ) → 0 < size → length front ≡ count * size → turned (Some size) front ≡ reversed_pieces size count front
-turned-whole size count front p l =
+pub turned_bytes-whole : (size count : ℕ) (front : List ℕ) → 0 < size → length front ≡ count * size → turned_bytes (Some size) front ≡ reversed_pieces size count front
+turned_bytes-whole size count front p l =
     let quotient : length front / size ≡ count
     = ap (λ n. n / size) l ∙ mul-div_cancel count p in
     ap (λ n. reversed_pieces size n front ++ drop (n * size) front) quotient
@@ -44,57 +44,57 @@ turned-whole size count front p l =
     ∙ append-nil (reversed_pieces size count front)
 
 -- whole pieces and what follows them are turned each on its own
-pub turned-append : (size count : ℕ) (front rest : List ℕ) → 0 < size → length front ≡ count * size → turned (Some size) (front ++ rest) ≡ turned (Some size) front ++ turned (Some size) rest
-turned-append size count front rest p l =
+pub turned_bytes-append : (size count : ℕ) (front rest : List ℕ) → 0 < size → length front ≡ count * size → turned_bytes (Some size) (front ++ rest) ≡ turned_bytes (Some size) front ++ turned_bytes (Some size) rest
+turned_bytes-append size count front rest p l =
     let more = length rest / size in
     let quotient : length (front ++ rest) / size ≡ count + more
     = ap (λ n. n / size) (length-append front rest ∙ ap (λ n. n + length rest) l) ∙ mul-add-div_right p count (length rest) in
     ap (λ n. reversed_pieces size n (front ++ rest) ++ drop (n * size) (front ++ rest)) quotient
     ∙ turned_at size count more front rest l
-    ∙ ap (λ (xs : List ℕ). xs ++ turned (Some size) rest) (sym (turned-whole size count front p l))
+    ∙ ap (λ (xs : List ℕ). xs ++ turned_bytes (Some size) rest) (sym (turned_bytes-whole size count front p l))
 
-length-turned-whole : (size count : ℕ) (front : List ℕ) → 0 < size → length front ≡ count * size → length (turned (Some size) front) ≡ count * size
-length-turned-whole size count front p l = ap length (turned-whole size count front p l) ∙ length-reversed_pieces size count front (omega (arith, l))
+length-turned_bytes-whole : (size count : ℕ) (front : List ℕ) → 0 < size → length front ≡ count * size → length (turned_bytes (Some size) front) ≡ count * size
+length-turned_bytes-whole size count front p l = ap length (turned_bytes-whole size count front p l) ∙ length-reversed_pieces size count front (omega (arith, l))
 
 front_length : (n a : ℕ) (bytes : List ℕ) → a ≡ n → a ≤ length bytes → length (take a bytes) ≡ n
 front_length n a bytes e h = search (Rattle.std.proofs.Common.rules, e, h)
 
-turned-part : (size count a k : ℕ) (bytes : List ℕ) → 0 < size → a ≡ count * size → a ≤ length bytes → turned (Some size) (take (a + k) bytes) ≡ turned (Some size) (take a bytes) ++ turned (Some size) (take k (drop a bytes))
-turned-part size count a k bytes p e h =
-    ap (turned (Some size)) (take-add a k bytes)
-    ∙ turned-append size count (take a bytes) (take k (drop a bytes)) p (front_length (count * size) a bytes e h)
+turned_bytes-part : (size count a k : ℕ) (bytes : List ℕ) → 0 < size → a ≡ count * size → a ≤ length bytes → turned_bytes (Some size) (take (a + k) bytes) ≡ turned_bytes (Some size) (take a bytes) ++ turned_bytes (Some size) (take k (drop a bytes))
+turned_bytes-part size count a k bytes p e h =
+    ap (turned_bytes (Some size)) (take-add a k bytes)
+    ∙ turned_bytes-append size count (take a bytes) (take k (drop a bytes)) p (front_length (count * size) a bytes e h)
 
 -- a part more is turned in place
-pub turned_more : (size count a k b : ℕ) (bytes now piece : List ℕ) → 0 < size → a ≡ count * size → a ≤ length bytes → a + k ≡ b → now ≡ turned (Some size) (take a bytes) ++ drop a bytes → piece ≡ turned (Some size) (mid_of a k now) → put_mid a k now piece ≡ turned (Some size) (take b bytes) ++ drop b bytes
+pub turned_more : (size count a k b : ℕ) (bytes now piece : List ℕ) → 0 < size → a ≡ count * size → a ≤ length bytes → a + k ≡ b → now ≡ turned_bytes (Some size) (take a bytes) ++ drop a bytes → piece ≡ turned_bytes (Some size) (mid_of a k now) → put_mid a k now piece ≡ turned_bytes (Some size) (take b bytes) ++ drop b bytes
 turned_more size count a k b bytes now piece p e h q is was =
-    let front = turned (Some size) (take a bytes) in
+    let front = turned_bytes (Some size) (take a bytes) in
     let rest = drop a bytes in
-    let l : length front ≡ a = length-turned-whole size count (take a bytes) p (front_length (count * size) a bytes e h) ∙ sym e in
+    let l : length front ≡ a = length-turned_bytes-whole size count (take a bytes) p (front_length (count * size) a bytes e h) ∙ sym e in
     let taken : take a now ≡ front = ap (take a) is ∙ take_at front rest a l in
     let dropped : drop a now ≡ rest = ap (drop a) is ∙ drop_at front rest a l in
-    let made : piece ≡ turned (Some size) (take k rest) = was ∙ ap (λ (xs : List ℕ). turned (Some size) (take k xs)) dropped in
+    let made : piece ≡ turned_bytes (Some size) (take k rest) = was ∙ ap (λ (xs : List ℕ). turned_bytes (Some size) (take k xs)) dropped in
     let left : drop k (drop a now) ≡ drop (a + k) bytes = ap (drop k) dropped ∙ drop-drop k a bytes in
     ap (λ (xs : List ℕ). xs ++ (piece ++ drop k (drop a now))) taken
     ∙ ap (λ (xs : List ℕ). front ++ (xs ++ drop k (drop a now))) made
-    ∙ ap (λ (xs : List ℕ). front ++ (turned (Some size) (take k rest) ++ xs)) left
-    ∙ sym (append_assoc front (turned (Some size) (take k rest)) (drop (a + k) bytes))
-    ∙ ap (λ (xs : List ℕ). xs ++ drop (a + k) bytes) (sym (turned-part size count a k bytes p e h))
-    ∙ ap (λ n. turned (Some size) (take n bytes) ++ drop n bytes) q
+    ∙ ap (λ (xs : List ℕ). front ++ (turned_bytes (Some size) (take k rest) ++ xs)) left
+    ∙ sym (append_assoc front (turned_bytes (Some size) (take k rest)) (drop (a + k) bytes))
+    ∙ ap (λ (xs : List ℕ). xs ++ drop (a + k) bytes) (sym (turned_bytes-part size count a k bytes p e h))
+    ∙ ap (λ n. turned_bytes (Some size) (take n bytes) ++ drop n bytes) q
 
 -- the whole is a part that has no rest
-pub turned-all : (size n : ℕ) (bytes : List ℕ) → n ≡ length bytes → turned (Some size) (take n bytes) ++ drop n bytes ≡ turned (Some size) bytes
-turned-all size n bytes e =
-    ap (λ (xs : List ℕ). turned (Some size) xs ++ drop n bytes) (take_all n bytes (omega (arith, e)))
-    ∙ ap (λ (xs : List ℕ). turned (Some size) bytes ++ xs) (drop_all n bytes (omega (arith, e)))
-    ∙ append-nil (turned (Some size) bytes)
+pub turned_bytes-all : (size n : ℕ) (bytes : List ℕ) → n ≡ length bytes → turned_bytes (Some size) (take n bytes) ++ drop n bytes ≡ turned_bytes (Some size) bytes
+turned_bytes-all size n bytes e =
+    ap (λ (xs : List ℕ). turned_bytes (Some size) xs ++ drop n bytes) (take_all n bytes (omega (arith, e)))
+    ∙ ap (λ (xs : List ℕ). turned_bytes (Some size) bytes ++ xs) (drop_all n bytes (omega (arith, e)))
+    ∙ append-nil (turned_bytes (Some size) bytes)
 
 -- a part more is appended
-pub appended_more : (size count a k b : ℕ) (bytes was now : List ℕ) → 0 < size → a ≡ count * size → a ≤ length bytes → a + k ≡ b → was ≡ turned (Some size) (take a bytes) → now ≡ was ++ turned (Some size) (take k (drop a bytes)) → now ≡ turned (Some size) (take b bytes)
+pub appended_more : (size count a k b : ℕ) (bytes was now : List ℕ) → 0 < size → a ≡ count * size → a ≤ length bytes → a + k ≡ b → was ≡ turned_bytes (Some size) (take a bytes) → now ≡ was ++ turned_bytes (Some size) (take k (drop a bytes)) → now ≡ turned_bytes (Some size) (take b bytes)
 appended_more size count a k b bytes was now p e h q is made =
     made
-    ∙ ap (λ (xs : List ℕ). xs ++ turned (Some size) (take k (drop a bytes))) is
-    ∙ sym (turned-part size count a k bytes p e h)
-    ∙ ap (λ n. turned (Some size) (take n bytes)) q
+    ∙ ap (λ (xs : List ℕ). xs ++ turned_bytes (Some size) (take k (drop a bytes))) is
+    ∙ sym (turned_bytes-part size count a k bytes p e h)
+    ∙ ap (λ n. turned_bytes (Some size) (take n bytes)) q
 
 -- a group is whole pieces, and so are many groups
 pub groups_whole : (size group index : ℕ) → group / size * size ≡ group → index * group ≡ index * (group / size) * size

@@ -12,15 +12,15 @@ abbrev pub reversed_pieces : ℕ → ℕ → List ℕ → List ℕ
 reversed_pieces size count bytes = concat (map reverse (pieces size count bytes))
 
 -- An element's bytes with its components in the byte order: as they are for little, each component turned round for big. In memory each component has its lowest byte first, so the same step leads from memory to a value and back.
-abbrev pub ordered : Option Endianness → ℕ → ℕ → List ℕ → List ℕ
-ordered None width components bytes = bytes
-ordered (Some Little) width components bytes = bytes
-ordered (Some Big) width components bytes = reversed_pieces (component_bytes width) components bytes
+abbrev pub bytes_in_order : Option Endianness → ℕ → ℕ → List ℕ → List ℕ
+bytes_in_order None width components bytes = bytes
+bytes_in_order (Some Little) width components bytes = bytes
+bytes_in_order (Some Big) width components bytes = reversed_pieces (component_bytes width) components bytes
 
 -- where a size is given, each whole piece of that size reversed; the bytes left over at the end stay
-abbrev pub turned : Option ℕ → List ℕ → List ℕ
-turned None bytes = bytes
-turned (Some size) bytes =
+abbrev pub turned_bytes : Option ℕ → List ℕ → List ℕ
+turned_bytes None bytes = bytes
+turned_bytes (Some size) bytes =
     reversed_pieces size (length bytes / size) bytes ++ drop (length bytes / size * size) bytes
 
 -- a component has a byte order, or one byte at most and so needs none
@@ -36,4 +36,4 @@ bytes_of element = []
 -- the bytes of a chunk's elements in order, each component in the byte order
 abbrev pub spelled_chunk : Option Endianness → ℕ → ℕ → Chunk → List ℕ
 spelled_chunk order width components chunk =
-    concat (map (λ element. ordered order width components (bytes_of element)) chunk)
+    concat (map (λ element. bytes_in_order order width components (bytes_of element)) chunk)

@@ -14,7 +14,7 @@ use Rattle.zarrs_data_type.specs.declared.endianness.Endianness.TheVariants.{Big
 use Rattle.zarrs_array_bytes.specs.Elements.{piece, elements}
 use Rattle.zarrs_array_bytes.specs.Held.{Held, flen}
 use Rattle.zarrs_array_bytes.specs.Validity.{validity}
-use Rattle.zarrs_bytes.specs.ByteOrder.{ordered, has_order, spelled_chunk}
+use Rattle.zarrs_bytes.specs.ByteOrder.{bytes_in_order, has_order, spelled_chunk}
 
 -- ---- which chunks it takes
 
@@ -45,16 +45,16 @@ spelling order type chunk = []
 -- The value stands for the chunk: the codec takes such chunks, and the value is the bytes of the chunk's elements.
 pub record BytesStands (order : Option Endianness) (sizes : List ℕ) (type : ElementType) (fill value : List ℕ) (chunk : Chunk) : Type 0 where
   pub len : ℕ
-  pub taken : bytes_length order sizes type fill ≡ Ok len
+  pub length_is : bytes_length order sizes type fill ≡ Ok len
   pub elements : IsChunk type (product sizes) chunk
-  pub spelt : value ≡ spelling order type chunk
+  pub value_is : value ≡ spelling order type chunk
 
 -- The value is written for the chunk: the codec takes such chunks, the value is the bytes of the chunk's elements, and 64 bits count them.
 pub record BytesWritten (order : Option Endianness) (sizes : List ℕ) (type : ElementType) (fill value : List ℕ) (chunk : Chunk) : Type 0 where
   pub len : ℕ
-  pub taken : bytes_length order sizes type fill ≡ Ok len
+  pub length_is : bytes_length order sizes type fill ≡ Ok len
   pub elements : IsChunk type (product sizes) chunk
-  pub spelt : value ≡ spelling order type chunk
+  pub value_is : value ≡ spelling order type chunk
   pub small : length value < 2 ^ 64
 
 -- ---- what its calls answer
@@ -62,7 +62,7 @@ pub record BytesWritten (order : Option Endianness) (sizes : List ℕ) (type : E
 -- the element at a place of a value, by the bytes of that place alone
 abbrev pub bytes_element : Option Endianness → ElementType → List ℕ → ℕ → Element
 bytes_element order (fixed width components sign) value place =
-    plain (ordered order width components (piece (element_size width components) value place))
+    plain (bytes_in_order order width components (piece (element_size width components) value place))
 bytes_element order type value place = absent
 
 -- the value of the chunk that a container holds, or the first refusal

@@ -1,8 +1,19 @@
--- What a partial decoder of `bytes` is made of.
-use Rattle.std.specs.Prelude.{ℕ, Bool, Option, is_some, List}
+-- What a partial decoder of `bytes` is made of, and what it reads of a chunk.
+use Rattle.std.specs.Prelude.{◌≡◌, ℕ, Bool, Option, Some, None, is_some, List, map, Result}
+use Rattle.zarrs_chunk.specs.Answer.{AnswersBy, memory_or_fault, seen}
+use Rattle.zarrs_chunk.specs.Indexer.{selection_of}
+use Rattle.zarrs_chunk.specs.Selection.{places_of}
+use Rattle.zarrs_chunk.specs.declared.codec_error.CodecError.{CodecError}
+use Rattle.zarrs_chunk.specs.declared.indexer.Indexer.{Indexer}
+use Rattle.zarrs_data_type.specs.Element.{Chunk, fill_element}
 use Rattle.zarrs_data_type.specs.ElementType.{ElementType}
 use Rattle.zarrs_data_type.specs.declared.endianness.Endianness.{Endianness}
+use Rattle.zarrs_array_bytes.specs.Elements.{select}
+use Rattle.zarrs_array_bytes.specs.Held.{Held}
+use Rattle.zarrs_array_bytes.specs.Validity.{Holds}
 use Rattle.zarrs_codec.specs.ArrayReader.{ArrayReader}
+use Rattle.zarrs_codec.specs.StorageState.{StorageState}
+use Rattle.zarrs_bytes.specs.BytesCodec.{BytesStands}
 use Rattle.zarrs_bytes.specs.PartialRead.{bytes_read}
 use Rattle.zarrs_bytes.specs.declared.bytes_codec_partial.BytesCodecPartial.{BytesCodecPartial}
 
@@ -21,6 +32,20 @@ bytes_form_of decoder =
 -- the handle that a decoder reads
 abbrev pub bytes_handle_of : {H : Type 0} → BytesCodecPartial H → H
 bytes_handle_of decoder = decoder.handle
+
+-- Where the stored value stands for a chunk, the answer is a container of the chunk's elements at the places that the indexer means, in its order, or the first cause why the indexer is refused. Only a want of memory or a failure of the handle may come in its place. (`state` says what a handle keeps.)
+abbrev pub SelectsStored : {H : Type 0} → (H → StorageState) → BytesCodecPartial H → Indexer → Result Held CodecError → Type 0
+SelectsStored state decoder indexer answer =
+    let form = bytes_form_of decoder in
+    (value : List ℕ) (chunk : Chunk) → (state (bytes_handle_of decoder)).value ≡ Some value → BytesStands form.order form.sizes form.type form.fill value chunk
+    → AnswersBy memory_or_fault (Holds form.type) answer (seen (select chunk) (places_of (selection_of indexer) form.sizes))
+
+-- Where nothing is stored, the answer is a container of the fill element once for each place that the indexer means, or the first cause why the indexer is refused. Only a want of memory or a failure of the handle may come in its place.
+abbrev pub FillsUnstored : {H : Type 0} → (H → StorageState) → BytesCodecPartial H → Indexer → Result Held CodecError → Type 0
+FillsUnstored state decoder indexer answer =
+    let form = bytes_form_of decoder in
+    (state (bytes_handle_of decoder)).value ≡ None
+    → AnswersBy memory_or_fault (Holds form.type) answer (seen (map (λ _. fill_element form.type form.fill)) (places_of (selection_of indexer) form.sizes))
 
 -- the reader of a chunk of this form, where this value or none is stored: it answers of a selection what `bytes_read` says
 abbrev pub bytes_reader : BytesForm → Option (List ℕ) → Bool → ArrayReader

@@ -5,7 +5,7 @@
 ghost use Rattle.std.specs.Prelude.{◌≡◌, ◌<◌, ◌*◌, ◌/◌, ◌++◌, length, IfOk, OnOk, Ok, Some, None, IsOk, reverse, true, false};
 ghost use Rattle.zarrs_chunk.specs.Answer.{Answers, memory, is_fault, seen};
 ghost use Rattle.zarrs_array_bytes.specs.Held.{raw_of};
-ghost use Rattle.zarrs_bytes.specs.ByteOrder.{turned};
+ghost use Rattle.zarrs_bytes.specs.ByteOrder.{turned_bytes};
 
 use std::alloc::{AllocError, Global};
 use std::borrow::CowSlice;
@@ -46,7 +46,7 @@ fn reverse_piece(piece: &mut [u8])
 #[inline(always)]
 fn reverse_pieces(bytes: &mut [u8], size: usize)
     requires { 0 < size }
-    ensures { bytes.new ≡ turned (Some size) bytes.old }
+    ensures { bytes.new ≡ turned_bytes (Some size) bytes.old }
 {
     for index in 0..bytes.len() / size {
         let start = index * size;
@@ -60,7 +60,7 @@ fn reverse_pieces(bytes: &mut [u8], size: usize)
 fn reverse_group(group: &mut [u8], size: usize)
     requires len { length group.now ≡ 16 }
     requires positive { 0 < size }
-    ensures { group.new ≡ turned (Some size) group.old }
+    ensures { group.new ≡ turned_bytes (Some size) group.old }
 {
     match size {
         2 => {
@@ -102,7 +102,7 @@ fn reverse_group(group: &mut [u8], size: usize)
 fn reverse_groups(bytes: &mut [u8], size: usize)
     requires positive { 0 < size }
     requires divides { 16 / size * size ≡ 16 }
-    ensures { bytes.new ≡ turned (Some size) bytes.old }
+    ensures { bytes.new ≡ turned_bytes (Some size) bytes.old }
 {
     let groups = bytes.len() / GROUP;
     for index in 0..groups {
@@ -114,9 +114,9 @@ fn reverse_groups(bytes: &mut [u8], size: usize)
 
 /// Turns each piece of `size` bytes round. What is left over stays. The usual sizes are constants
 /// here, so that each gets a loop of its own.
-pub fn reverse_each(bytes: &mut [u8], size: usize)
+fn reverse_each(bytes: &mut [u8], size: usize)
     requires { 0 < size }
-    ensures { bytes.new ≡ turned (Some size) bytes.old }
+    ensures { bytes.new ≡ turned_bytes (Some size) bytes.old }
 {
     match size {
         2 => reverse_groups(bytes, 2),
@@ -130,7 +130,7 @@ pub fn reverse_each(bytes: &mut [u8], size: usize)
 /// Appends the bytes with each piece of `size` bytes turned round.
 fn append_turned(copy: &mut Vec<u8>, part: &[u8], size: usize) -> Result<(), AllocError>
     requires { 0 < size }
-    ensures { OnOk result (copy.new.items ≡ copy.old.items ++ turned (Some size) part.now) }
+    ensures { OnOk result (copy.new.items ≡ copy.old.items ++ turned_bytes (Some size) part.now) }
 {
     let start = copy.len();
     copy.extend_from_slice(part)?;
@@ -155,7 +155,7 @@ fn block_of(size: usize) -> usize
 /// that the bytes go through memory once.
 fn turned_copy(alloc: Global, bytes: &[u8], size: usize) -> Result<Vec<u8>, AllocError>
     requires { 0 < size }
-    ensures { IfOk result (λ copy. copy.items ≡ turned (Some size) bytes.now) }
+    ensures { IfOk result (λ copy. copy.items ≡ turned_bytes (Some size) bytes.now) }
 {
     let block = block_of(size);
     let blocks = bytes.len() / block;
@@ -175,8 +175,8 @@ pub fn turn<'a>(
     raw: ArrayBytesRaw<'a>,
     size: Option<usize>,
 ) -> Result<ArrayBytesRaw<'a>, CodecError>
-    requires { size ≡ Some 0 → ⊥ }
-    ensures exact { Answers memory (λ value. (raw_of value).items) result (Ok (turned size (raw_of raw.entry).items)) }
+    requires positive { size ≡ Some 0 → ⊥ }
+    ensures exact { Answers memory (λ value. (raw_of value).items) result (Ok (turned_bytes size (raw_of raw.entry).items)) }
     ensures owned { (raw_of raw.entry).is_owned ≡ true → IsOk result }
     ensures kept { size ≡ None → seen raw_of result ≡ Ok (raw_of raw.entry) }
     ensures no_fault { is_fault result ≡ false }

@@ -208,7 +208,7 @@ impl BytesCodec {
 }
 
 impl<H: BytesPartialDecoderTraits> BytesCodecPartial<H> {
-    ghost use Rattle.zarrs_bytes.specs.BytesCodecPartial.{bytes_form_of, bytes_handle_of};
+    ghost use Rattle.zarrs_bytes.specs.BytesCodecPartial.{bytes_form_of, bytes_handle_of, SelectsStored, FillsUnstored};
 
     /// The type of the elements.
     pub fn data_type(&self) -> &DataType
@@ -227,8 +227,8 @@ impl<H: BytesPartialDecoderTraits> BytesCodecPartial<H> {
         alloc: Global,
         indexer: &Indexer,
     ) -> Result<ArrayBytes<'static>, CodecError>
-        ensures selected { let form = bytes_form_of self.old in (value : List ℕ) (chunk : Chunk) → (H.state (bytes_handle_of self.old)).value ≡ Some value → BytesStands form.order form.sizes form.type form.fill value chunk → AnswersBy memory_or_fault (Holds form.type) result (seen (select chunk) (places_of (selection_of indexer.now) form.sizes)) }
-        ensures unstored { let form = bytes_form_of self.old in (H.state (bytes_handle_of self.old)).value ≡ None → AnswersBy memory_or_fault (Holds form.type) result (seen (map (λ _. fill_element form.type form.fill)) (places_of (selection_of indexer.now) form.sizes)) }
+        ensures selected { SelectsStored H.state self.old indexer.now result }
+        ensures unstored { FillsUnstored H.state self.old indexer.now result }
         ensures answer { let form = bytes_form_of self.old in AnswersBy memory_or_fault (Holds form.type) result (bytes_read form.order form.sizes form.type form.fill (H.state (bytes_handle_of self.old)).value (selection_of indexer.now)) }
         ensures indexer_first { is_ok (places_of (selection_of indexer.now) (bytes_form_of self.old).sizes) ≡ false → is_fault result ≡ false }
         ensures sure { let form = bytes_form_of self.old in IfOk (bytes_plan form.sizes form.type (selection_of indexer.now)) (λ numbers. are_sure (H.state (bytes_handle_of self.old)).sure numbers ≡ true → is_fault result ≡ false) }

@@ -1,7 +1,7 @@
 use Rattle.std.proofs.Common.{◌≡◌, ◌∙◌, ◌++◌, ◌+◌, ◌-◌, ◌*◌, ◌/◌, Some, ap, take, drop, length, arith}
 use Rattle.std.proofs.Math.Nat.{div-mul-le_self}
-use Rattle.zarrs_bytes.specs.ByteOrder.{turned}
-use Rattle.zarrs_bytes.proofs.TurnedParts.{turned_more, turned-all, groups_whole}
+use Rattle.zarrs_bytes.specs.ByteOrder.{turned_bytes}
+use Rattle.zarrs_bytes.proofs.TurnedParts.{turned_more, turned_bytes-all, groups_whole}
 use Rattle.zarrs_bytes.proofs.byte_order.reverse_groups.Goals as goal
 
 pub loop-index-preserved : goal.loop-index-preserved
@@ -17,8 +17,8 @@ returns c =
     let groups = length bytes / 16 in
     let a = groups * 16 in
     let e : c.loop-index.index ≡ groups = omega arith in
-    let is : c.loop-index.bytes ≡ turned (Some size) (take a bytes) ++ drop a bytes = c.loop-index.invariant ∙ ap (λ n. turned (Some size) (take (n * 16) bytes) ++ drop (n * 16) bytes) e in
+    let is : c.loop-index.bytes ≡ turned_bytes (Some size) (take a bytes) ++ drop a bytes = c.loop-index.invariant ∙ ap (λ n. turned_bytes (Some size) (take (n * 16) bytes) ++ drop (n * 16) bytes) e in
     let below = div-mul-le_self (length bytes) 16 in
     let q : a + (length c.loop-index.bytes - a) ≡ length bytes = omega (arith, below, c.loop-index.auto.bytes) in
     turned_more size (groups * (16 / size)) a (length c.loop-index.bytes - a) (length bytes) bytes c.loop-index.bytes c.reverse_pieces.new.bytes c.requires.positive (groups_whole size 16 groups c.requires.divides) (omega (arith, below)) q is c.reverse_pieces.ensures
-    ∙ turned-all size (length bytes) bytes (omega arith)
+    ∙ turned_bytes-all size (length bytes) bytes (omega arith)

@@ -1,7 +1,7 @@
 use Rattle.std.proofs.Common.{◌≡◌, ◌∙◌, ◌+◌, ◌-◌, ◌*◌, ◌/◌, ◌≤◌, Some, ap, take, length, arith}
 use Rattle.std.proofs.Math.Nat.{div-mul-le_self, mul-le-mul_right}
 use Rattle.std.proofs.lemmas.List.{take_all}
-use Rattle.zarrs_bytes.specs.ByteOrder.{turned}
+use Rattle.zarrs_bytes.specs.ByteOrder.{turned_bytes}
 use Rattle.zarrs_bytes.proofs.TurnedParts.{appended_more, groups_whole}
 use Rattle.zarrs_bytes.proofs.byte_order.turned_copy.Goals as goal
 
@@ -22,7 +22,7 @@ returns c =
     let blocks = length bytes / block in
     let a = blocks * block in
     let e : c.loop-index.index ≡ blocks = omega arith in
-    let is : c.loop-index.copy.items ≡ turned (Some size) (take a bytes) = c.loop-index.invariant ∙ ap (λ n. turned (Some size) (take (n * block) bytes)) e in
+    let is : c.loop-index.copy.items ≡ turned_bytes (Some size) (take a bytes) = c.loop-index.invariant ∙ ap (λ n. turned_bytes (Some size) (take (n * block) bytes)) e in
     let below = div-mul-le_self (length bytes) block in
     appended_more size (blocks * (block / size)) a (length bytes - a) (length bytes) bytes c.loop-index.copy.items c.append_turned-2.new.copy.items c.requires (groups_whole size block blocks c.block_of-block.ensures.whole) (omega (arith, below)) (omega (arith, below)) is c.in_ok-append_turned-2.ensures
-    ∙ ap (turned (Some size)) (take_all (length bytes) bytes (omega arith))
+    ∙ ap (turned_bytes (Some size)) (take_all (length bytes) bytes (omega arith))

@@ -7,7 +7,7 @@ use Rattle.zarrs_data_type.specs.Element.{Chunk}
 use Rattle.zarrs_array_bytes.specs.Held.{raw_of}
 use Rattle.zarrs_array_bytes.specs.Parts.{fixed_part}
 use Rattle.zarrs_array_bytes.specs.Validity.{Holds, validity}
-use Rattle.zarrs_bytes.specs.ByteOrder.{turned}
+use Rattle.zarrs_bytes.specs.ByteOrder.{turned_bytes}
 use Rattle.zarrs_bytes.specs.BytesCodec.{bytes_value, turn_size, BytesWritten}
 use Rattle.zarrs_bytes.proofs.Coding.{encoded_is, spared, ok_from_seen}
 use Rattle.zarrs_bytes.proofs.Exact.{encoded_found, encoded_only}
@@ -20,8 +20,8 @@ exactly : (c : goal.After-turn) → Answers memory items c.turn.result (bytes_va
 exactly c =
     let valid : validity c.args.data_type.now c.in_ok-lengths.lengths.elements c.args.elements ≡ Ok tt = sym c.in_ok-validate.ensures.exact in
     let part : fixed_part c.args.elements ≡ Ok (raw_of c.in_ok-raw.raw) = sym c.in_ok-raw.ensures.answer in
-    let answer : Answers memory items c.turn.result (Ok (turned (turn_size c.args.self.now c.args.data_type.now) (raw_of c.in_ok-raw.raw).items))
-    = subst (λ s. Answers memory items c.turn.result (Ok (turned s (raw_of c.in_ok-raw.raw).items))) c.turn_size.ensures.size c.turn.ensures.exact in
+    let answer : Answers memory items c.turn.result (Ok (turned_bytes (turn_size c.args.self.now c.args.data_type.now) (raw_of c.in_ok-raw.raw).items))
+    = subst (λ s. Answers memory items c.turn.result (Ok (turned_bytes s (raw_of c.in_ok-raw.raw).items))) c.turn_size.ensures.size c.turn.ensures.exact in
     let is = encoded_is c.args.self.now c.args.shape.now c.args.data_type.now c.args.fill_value.now c.args.elements (raw_of c.in_ok-raw.raw) c.in_ok-lengths.lengths.bytes (sym c.in_ok-lengths.ensures.answer) (ap (λ n. validity c.args.data_type.now n c.args.elements) (sym c.in_ok-lengths.ensures.elements) ∙ valid) part in
     subst (Answers memory items c.turn.result) (sym is) answer
 

@@ -3,7 +3,7 @@ use Rattle.std.proofs.lemmas.Result.{err_from_is_err_and}
 use Rattle.zarrs_chunk.specs.Answer.{memory_or_fault}
 use Rattle.zarrs_chunk.specs.Runs.{joined_runs}
 use Rattle.zarrs_array_bytes.specs.Held.{raw_of, owned_bytes}
-use Rattle.zarrs_bytes.specs.ByteOrder.{turned}
+use Rattle.zarrs_bytes.specs.ByteOrder.{turned_bytes}
 use Rattle.zarrs_bytes.specs.BytesCodec.{turn_size}
 use Rattle.zarrs_bytes.proofs.Coding.{ok}
 use Rattle.zarrs_bytes.proofs.Reading.{at_some, at_err, at_none, Excused-weaker}
@@ -29,7 +29,7 @@ pub returns-in_ok-elements-in-Some-clause-answer : goal.returns-in_ok-elements-i
 returns-in_ok-elements-in-Some-clause-answer g c =
     let read = rw c.in-Some.is at c.in_ok-partial_decode_many.ensures.answer in
     let raw = raw_of c.in_ok-elements-in-Some.elements in
-    let is : raw.items ≡ turned (turn_size c.args.self.now c.args.data_type.now) c.in-Some.bytes.items
-    = items_are _ _ c.in_ok-elements-in-Some.ensures.exact ∙ ap (λ s. turned s c.in-Some.bytes.items) c.turn_size-turn_size.ensures.size in
+    let is : raw.items ≡ turned_bytes (turn_size c.args.self.now c.args.data_type.now) c.in-Some.bytes.items
+    = items_are _ _ c.in_ok-elements-in-Some.ensures.exact ∙ ap (λ s. turned_bytes s c.in-Some.bytes.items) c.turn_size-turn_size.ensures.size in
     let small : length c.in-Some.bytes.items < 2 ^ 64 = omega (arith, c.in-Some.bytes.ok, c.in-Some.bytes.small) in
     rw c.new_flen-in-Some.ensures.made (at_some c.args.self.now c.args.data_type.now c.args.fill.now (joined_runs c.args.runs.now) c.in-Some.bytes.items (g.H.BytesPartialDecoderTraits.state c.args.handle.now).value c.args.ranges.now raw c.requires.fixed c.requires.bytes c.requires.filled read is small)
