@@ -5,6 +5,7 @@ pub mod Ends
 pub mod Fitting
 pub mod Inside
 pub mod NumberLaws
+pub mod NumberedTuples
 pub mod Numbers
 pub mod PlaceLaws
 pub mod Products

@@ -3,6 +3,7 @@ use Rattle.std.specs.Prelude.{◌≡◌, ◌↔◌, ℕ, ◌+◌, ◌<◌, ◌�
 use Rattle.std.specs.List.{range_with_len}
 use Rattle.std.specs.List.Sorted.{IsStrictlyIncreasing}
 use Rattle.zarrs_chunk.specs.ChunkShape.{product}
+use Rattle.zarrs_chunk.specs.Indices.{tuple_of_number, box_tuple}
 use Rattle.zarrs_chunk.specs.Region.{Region}
 use Rattle.zarrs_chunk.specs.Selection.{Selection, subset, places_of}
 use Rattle.zarrs_chunk.specs.Tuples.{row_major, box_tuples, is_box_inside, is_tuple_inside}
@@ -59,3 +60,15 @@ SubsetPlacesRise = (region : Region) (sizes : List ℕ) → IfOk (places_of (sub
 -- the tuples of a whole chunk are numbered from 0 on, with no gap
 abbrev pub WholeChunkIsCounted : Type 0
 WholeChunkIsCounted = (sizes : List ℕ) → map (row_major sizes) (box_tuples (replicate (length sizes) 0) sizes) ≡ range_with_len 0 (product sizes)
+
+-- a number below the number of elements has a tuple inside, and is that tuple's number
+abbrev pub NumbersHaveTuples : Type 0
+NumbersHaveTuples = (sizes : List ℕ) (number : ℕ) → number < product sizes → (is_tuple_inside sizes (tuple_of_number sizes number) ≡ true) × (row_major sizes (tuple_of_number sizes number) ≡ number)
+
+-- the tuple of a tuple's number is that tuple
+abbrev pub TuplesAreFound : Type 0
+TuplesAreFound = (sizes tuple : List ℕ) → is_tuple_inside sizes tuple ≡ true → tuple_of_number sizes (row_major sizes tuple) ≡ tuple
+
+-- the tuples of a box are numbered from 0 on, in their order
+abbrev pub BoxesAreCounted : Type 0
+BoxesAreCounted = (starts lengths : List ℕ) → length starts ≡ length lengths → box_tuples starts lengths ≡ map (box_tuple starts lengths) (range_with_len 0 (product lengths))
