@@ -1,4 +1,5 @@
 pub mod Alike
+pub mod BytesAt
 pub mod CodecLaws
 pub mod Coding
 pub mod ReversedPieces

@@ -1,6 +1,6 @@
 -- What is read through a handle is what the definitions of a partial read say.
-use Rattle.std.proofs.Common.{◌≡◌, ℕ, ◌+◌, ◌-◌, ◌*◌, ◌<◌, ◌≤◌, ◌^◌, Bool, true, false, nat_le, Option, Some, None, Result, Ok, Err, List, [], ◌∷◌, ◌++◌, length, take, drop, map, arith, refl, ap, sym, ◌∙◌, subst}
-use Rattle.std.specs.List.{All, concat, flat_map, list_all}
+use Rattle.std.proofs.Common.{◌≡◌, ℕ, ◌+◌, ◌-◌, ◌*◌, ◌<◌, ◌≤◌, ◌^◌, Bool, true, false, nat_le, Option, Some, None, Result, Ok, Err, List, [], ◌∷◌, ◌++◌, length, take, drop, map, arith, refl, ap, ◌∙◌, subst}
+use Rattle.std.specs.List.{concat, flat_map, list_all}
 use Rattle.std.specs.Prelude.{IsOkAnd}
 use Rattle.std.proofs.lemmas.Bool.{and_parts}
 use Rattle.std.proofs.lemmas.Bool.Decides.{nat_tests}
@@ -18,12 +18,10 @@ use Rattle.zarrs_array_bytes.specs.Validity.{Holds}
 use Rattle.zarrs_array_bytes.specs.Pieces.{pieces}
 use Rattle.zarrs_array_bytes.proofs.Pieces.{AllSized, length-concat, pieces-concat}
 use Rattle.zarrs_bytes.specs.ByteOrder.{turned_bytes, bytes_in_order}
-use Rattle.zarrs_codec.specs.ByteRanges.{range_indices, read_ranges}
 use Rattle.zarrs_bytes.specs.BytesCodec.{bytes_element, turn_size}
-use Rattle.zarrs_bytes.specs.PartialRead.{place_bytes, place_size, IsFilledType, read_places}
-use Rattle.zarrs_codec.specs.ByteSpan.{ByteSpan}
+use Rattle.zarrs_bytes.specs.PartialRead.{bytes_at, place_size, IsFilledType, read_places}
 use Rattle.zarrs_bytes.proofs.Coding.{ok}
-use Rattle.zarrs_bytes.proofs.Ranges.{read_value-places}
+use Rattle.zarrs_bytes.proofs.BytesAt.{bytes_if, has_all, none_if}
 use Rattle.zarrs_bytes.proofs.Spelled.{length-turned_bytes, turned_is, Holds-pieces}
 
 -- ---- pieces at places
@@ -60,43 +58,28 @@ fills_read fill (place ∷ places) = ap (λ (rest : List Element). plain fill �
 
 -- ---- steps
 
-abbrev inside : Bool → List ℕ → Result (Option (List ℕ)) CodecError
-inside test x = (demand test InvalidByteRange >>= λ _. ok x) >>= λ y. ok (Some y)
-
 abbrev elements_if : Bool → Chunk → Result Chunk CodecError
 elements_if test chunk = demand test InvalidByteRange >>= λ _. ok chunk
 
-some_if : (test : Bool) (x y : List ℕ) (chunk : Chunk) (P : Chunk → Type 0) → inside test x ≡ Ok (Some y) → (test ≡ true → y ≡ x → P chunk) → IsOkAnd (elements_if test chunk) P
+some_if : (test : Bool) (x y : List ℕ) (chunk : Chunk) (P : Chunk → Type 0) → bytes_if test x ≡ Ok (Some y) → (test ≡ true → y ≡ x → P chunk) → IsOkAnd (elements_if test chunk) P
 some_if true x y chunk P h f = f refl cc
 some_if false x y chunk P h f = absurd cc
 
-err_if : (test : Bool) (x : List ℕ) (chunk : Chunk) (e : CodecError) → inside test x ≡ Err e → elements_if test chunk ≡ Err e
+err_if : (test : Bool) (x : List ℕ) (chunk : Chunk) (e : CodecError) → bytes_if test x ≡ Err e → elements_if test chunk ≡ Err e
 err_if true x chunk e h = absurd cc
 err_if false x chunk e h = cc
 
-none_if : (test : Bool) (x : List ℕ) (P : Type 0) → inside test x ≡ Ok None → P
-none_if true x P h = absurd cc
-none_if false x P h = absurd cc
-
 -- ---- what the handle read
 
-abbrev test_of : ℕ → List ℕ → List ℕ → Bool
-test_of size value places = list_all (λ place. nat_le (place * size + size) (length value)) places
-
-ranges_are : (size : ℕ) (value places : List ℕ) (ranges : List ByteSpan) → 0 < size → range_indices ranges ≡ place_bytes size places → All (λ range. range.start < range.end) ranges → read_ranges (Some value) ranges ≡ inside (test_of size value places) (concat (map (piece size value) places))
-ranges_are size value places ranges positive numbers filled =
-    ap (λ (r : Result (List ℕ) CodecError). r >>= λ y. ok (Some y)) (read_value-places size value places ranges positive numbers filled)
-
 -- bytes that were read, turned round, hold the elements at the places
-pub at_some : (order : Option Endianness) (type : ElementType) (fill places bytes' : List ℕ) (stored : Option (List ℕ)) (ranges : List ByteSpan) (raw : Raw) → IsFilledType type fill → range_indices ranges ≡ place_bytes (place_size type) places → All (λ range. range.start < range.end) ranges
-    → read_ranges stored ranges ≡ Ok (Some bytes') → raw.items ≡ turned_bytes (turn_size order type) bytes' → length bytes' < 2 ^ 64 → IsOkAnd (read_places order type fill stored places) (Holds type (flen raw))
-at_some order (fixed width components sign) fill places bytes' None ranges raw t numbers filled read is small = absurd cc
-at_some order (fixed width components sign) fill places bytes' (Some value) ranges raw t numbers filled read is small =
+pub at_some : (order : Option Endianness) (type : ElementType) (fill places bytes' : List ℕ) (stored : Option (List ℕ)) (raw : Raw) → IsFilledType type fill → bytes_at (place_size type) stored places ≡ Ok (Some bytes') → raw.items ≡ turned_bytes (turn_size order type) bytes' → length bytes' < 2 ^ 64 → IsOkAnd (read_places order type fill stored places) (Holds type (flen raw))
+at_some order (fixed width components sign) fill places bytes' None raw t read is small = absurd cc
+at_some order (fixed width components sign) fill places bytes' (Some value) raw t read is small =
     let type = fixed width components sign in
     let size = element_size width components in
     let parts = map (piece size value) places in
-    some_if (test_of size value places) (concat parts) bytes' (map (bytes_element order type value) places) (Holds type (flen raw))
-    (sym (ranges_are size value places ranges t.1 numbers filled) ∙ read)
+    some_if (has_all size value places) (concat parts) bytes' (map (bytes_element order type value) places) (Holds type (flen raw))
+    read
     (λ inside same.
     let sized = places_sized size value places inside in
     let long : length bytes' ≡ length parts * size = ap length same ∙ length-concat size parts sized in
@@ -104,35 +87,33 @@ at_some order (fixed width components sign) fill places bytes' (Some value) rang
     let turned_so = is ∙ turned_is order width components sign (length parts) bytes' long ∙ ap (λ (xs : List (List ℕ)). concat (map (bytes_in_order order width components) xs)) cut in
     let short : length raw.items < 2 ^ 64 = omega (arith, ap length is, length-turned_bytes (turn_size order type) bytes', small) in
     subst (Holds type (flen raw)) (read_map order width components sign value places) (Holds-pieces order width components sign raw parts sized turned_so short))
-at_some order text fill places bytes' stored ranges raw t numbers filled read is small = absurd t
-at_some order bytes fill places bytes' stored ranges raw t numbers filled read is small = absurd t
-at_some order (optional type) fill places bytes' stored ranges raw t numbers filled read is small = absurd t
+at_some order text fill places bytes' stored raw t read is small = absurd t
+at_some order bytes fill places bytes' stored raw t read is small = absurd t
+at_some order (optional type) fill places bytes' stored raw t read is small = absurd t
 
 -- a refused read is the refusal of the places
-pub at_err : (order : Option Endianness) (type : ElementType) (fill places : List ℕ) (stored : Option (List ℕ)) (ranges : List ByteSpan) (e : CodecError) → IsFilledType type fill → range_indices ranges ≡ place_bytes (place_size type) places → All (λ range. range.start < range.end) ranges
-    → read_ranges stored ranges ≡ Err e → read_places order type fill stored places ≡ Err e
-at_err order (fixed width components sign) fill places None ranges e t numbers filled read = absurd cc
-at_err order (fixed width components sign) fill places (Some value) ranges e t numbers filled read =
+pub at_err : (order : Option Endianness) (type : ElementType) (fill places : List ℕ) (stored : Option (List ℕ)) (e : CodecError) → IsFilledType type fill → bytes_at (place_size type) stored places ≡ Err e → read_places order type fill stored places ≡ Err e
+at_err order (fixed width components sign) fill places None e t read = absurd cc
+at_err order (fixed width components sign) fill places (Some value) e t read =
     let size = element_size width components in
-    err_if (test_of size value places) (concat (map (piece size value) places)) (map (bytes_element order (fixed width components sign) value) places) e
-    (sym (ranges_are size value places ranges t.1 numbers filled) ∙ read)
-at_err order text fill places stored ranges e t numbers filled read = absurd t
-at_err order bytes fill places stored ranges e t numbers filled read = absurd t
-at_err order (optional type) fill places stored ranges e t numbers filled read = absurd t
+    err_if (has_all size value places) (concat (map (piece size value) places)) (map (bytes_element order (fixed width components sign) value) places) e
+    read
+at_err order text fill places stored e t read = absurd t
+at_err order bytes fill places stored e t read = absurd t
+at_err order (optional type) fill places stored e t read = absurd t
 
 -- where nothing is stored, copies of the fill element hold the elements at the places
-pub at_none : (order : Option Endianness) (type : ElementType) (fill places : List ℕ) (stored : Option (List ℕ)) (ranges : List ByteSpan) (raw : Raw) → IsFilledType type fill → range_indices ranges ≡ place_bytes (place_size type) places → All (λ range. range.start < range.end) ranges
-    → read_ranges stored ranges ≡ Ok None → raw.items ≡ flat_map (λ _. fill) places → length raw.items < 2 ^ 64 → IsOkAnd (read_places order type fill stored places) (Holds type (flen raw))
-at_none order (fixed width components sign) fill places None ranges raw t numbers filled read is small =
+pub at_none : (order : Option Endianness) (type : ElementType) (fill places : List ℕ) (stored : Option (List ℕ)) (raw : Raw) → IsFilledType type fill → bytes_at (place_size type) stored places ≡ Ok None → raw.items ≡ flat_map (λ _. fill) places → length raw.items < 2 ^ 64 → IsOkAnd (read_places order type fill stored places) (Holds type (flen raw))
+at_none order (fixed width components sign) fill places None raw t read is small =
     let parts = map (λ _. fill) places in
     subst (Holds (fixed width components sign) (flen raw)) (fills_read fill places)
     (Holds-pieces None width components sign raw parts (fills_sized (element_size width components) fill places t.0) (is ∙ fills_joined fill places) small)
-at_none order (fixed width components sign) fill places (Some value) ranges raw t numbers filled read is small =
+at_none order (fixed width components sign) fill places (Some value) raw t read is small =
     let size = element_size width components in
-    none_if (test_of size value places) (concat (map (piece size value) places)) _ (sym (ranges_are size value places ranges t.1 numbers filled) ∙ read)
-at_none order text fill places stored ranges raw t numbers filled read is small = absurd t
-at_none order bytes fill places stored ranges raw t numbers filled read is small = absurd t
-at_none order (optional type) fill places stored ranges raw t numbers filled read is small = absurd t
+    none_if (has_all size value places) (concat (map (piece size value) places)) _ read
+at_none order text fill places stored raw t read is small = absurd t
+at_none order bytes fill places stored raw t read is small = absurd t
+at_none order (optional type) fill places stored raw t read is small = absurd t
 
 pub Excused-weaker : {P Q : Type 0} (test : Bool) → (P → Q) → Excused test P → Excused test Q
 Excused-weaker test f h = λ e. f (h e)

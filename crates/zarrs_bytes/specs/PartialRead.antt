@@ -1,6 +1,6 @@
 -- What a read in part answers, by the bytes of the places that are asked for alone.
 use Rattle.std.specs.Prelude.{◌≡◌, ℕ, ◌+◌, ◌*◌, ◌<◌, Bool, nat_le, Option, Some, None, List, length, map, Result, Ok}
-use Rattle.std.specs.List.{flat_map, list_all, range_with_len}
+use Rattle.std.specs.List.{concat, flat_map, list_all, range_with_len}
 use Rattle.zarrs_chunk.specs.Answer.{◌>>=◌, demand, seen}
 use Rattle.zarrs_chunk.specs.Selection.{Selection, places_of}
 use Rattle.zarrs_chunk.specs.declared.codec_error.CodecError.{CodecError}
@@ -8,11 +8,19 @@ use Rattle.zarrs_chunk.specs.declared.codec_error.CodecError.TheVariants.{Invali
 use Rattle.zarrs_data_type.specs.Element.{Chunk, fill_element}
 use Rattle.zarrs_data_type.specs.ElementType.{ElementType, fixed, text, bytes, optional, element_size}
 use Rattle.zarrs_data_type.specs.declared.endianness.Endianness.{Endianness}
+use Rattle.zarrs_array_bytes.specs.Elements.{piece}
 use Rattle.zarrs_bytes.specs.BytesCodec.{bytes_element}
 
 -- the numbers of the bytes of elements of one size at these places, in order
 abbrev pub place_bytes : ℕ → List ℕ → List ℕ
 place_bytes size places = flat_map (λ place. range_with_len (place * size) size) places
+
+-- the bytes of elements of one size at these places of what is stored, joined in order, where the value has all of them; none, where nothing is stored
+abbrev pub bytes_at : ℕ → Option (List ℕ) → List ℕ → Result (Option (List ℕ)) CodecError
+bytes_at size None places = Ok None
+bytes_at size (Some value) places = do
+  _ ← demand (list_all (λ place. nat_le (place * size + size) (length value)) places) InvalidByteRange
+  Ok (Some (concat (map (piece size value) places)))
 
 -- how many bytes an element of a fixed type has; none of any other type
 abbrev pub place_size : ElementType → ℕ

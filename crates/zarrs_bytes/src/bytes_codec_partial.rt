@@ -1,22 +1,19 @@
-ghost use Rattle.std.specs.Prelude.{◌≡◌, ◌<◌, ◌+◌, ◌*◌, ◌-◌, ◌^◌, ℕ, true, false, List, Some, None, Ok, IfOk, IfErr, All, is_some, min, is_ok, map, sum_by, length};
+ghost use Rattle.std.specs.Prelude.{◌≡◌, ◌<◌, ◌+◌, ◌*◌, ◌-◌, ◌^◌, true, false, Some, None, Ok, IfOk, IfErr, All, is_some, is_ok, sum_by, length};
 ghost use Rattle.std.specs.List.{flat_map};
-ghost use Rattle.zarrs_chunk.specs.ChunkShape.{product};
 ghost use Rattle.zarrs_chunk.specs.Answer.{Answers, AnswersBy, fault, is_fault, memory, memory_or_fault, seen};
 ghost use Rattle.zarrs_chunk.specs.Indexer.{selection_of};
 ghost use Rattle.zarrs_chunk.specs.Runs.{joined_runs};
 ghost use Rattle.zarrs_chunk.specs.Selection.{places_of};
-ghost use Rattle.zarrs_data_type.specs.Element.{Chunk, fill_element};
 ghost use Rattle.zarrs_data_type.specs.ElementType.{fixed_size_of};
 ghost use Rattle.zarrs_data_type.specs.FillValue.{fill_fits};
-ghost use Rattle.zarrs_array_bytes.specs.Elements.{select};
-ghost use Rattle.zarrs_array_bytes.specs.Held.{raw_of};
 ghost use Rattle.zarrs_array_bytes.specs.Validity.{Holds};
 ghost use Rattle.zarrs_codec.specs.ByteRanges.{range_indices};
-ghost use Rattle.zarrs_bytes.specs.BytesCodec.{bytes_length, BytesStands};
-ghost use Rattle.zarrs_codec.specs.StorageState.{after_reading, are_sure};
-ghost use Rattle.zarrs_bytes.specs.PartialRead.{place_bytes, bytes_plan, bytes_read, read_places, place_size, IsFilledType};
 ghost use Rattle.zarrs_codec.specs.Refused.{outcome};
+ghost use Rattle.zarrs_codec.specs.StorageState.{after_reading, are_sure};
+ghost use Rattle.zarrs_bytes.specs.BytesCodec.{bytes_length};
+ghost use Rattle.zarrs_bytes.specs.PartialRead.{place_bytes, bytes_plan, bytes_read, read_places, place_size, IsFilledType};
 
+use crate::batches::{count_of, read_bytes, run_ranges};
 use crate::byte_order::turn;
 use crate::bytes_codec::BytesCodec;
 use std::alloc::{AllocError, Global};
@@ -53,36 +50,6 @@ fn element_size(data_type: &DataType, fill_value: &FillValue) -> usize
     }
 }
 
-/// One range of bytes for each run of elements of `size` bytes.
-fn run_ranges(alloc: Global, size: u64, runs: &[(u64, u64)]) -> Result<Vec<ByteRange>, AllocError>
-    requires filled { All (λ run. 0 < run.1) runs.now }
-    requires ends { All (λ run. (run.0 + run.1) * size < 2 ^ 64) runs.now }
-    requires positive { 0 < size }
-    ensures bytes { IfOk result (λ ranges. range_indices ranges.items ≡ place_bytes size (joined_runs runs.now)) }
-    ensures filled { IfOk result (λ ranges. All (λ range. range.start < range.end) ranges.items) }
-{
-    let mut ranges = Vec::with_capacity(alloc, runs.len())?;
-    for (start, len) in runs {
-        let first = *start * size;
-        match ByteRange::new(first..first + *len * size) {
-            None => unreachable!(),
-            Some(range) => ranges.push(range)?,
-        }
-    }
-    Ok(ranges)
-}
-
-/// How many places the runs have, or `u64::MAX` where they have more.
-fn count_of(runs: &[(u64, u64)]) -> u64
-    ensures { result ≡ min (length (joined_runs runs.now)) (2 ^ 64 - 1) }
-{
-    let mut count: u64 = 0;
-    for (_, len) in runs {
-        count = count.saturating_add(*len);
-    }
-    count
-}
-
 /// The fill element for each place of the runs. It is the same for each, so the places are counted,
 /// and nothing is made run by run. No memory has room for `u64::MAX` of them.
 fn fill_runs(alloc: Global, fill: &[u8], runs: &[(u64, u64)]) -> Result<Vec<u8>, AllocError>
@@ -99,44 +66,13 @@ fn fill_runs(alloc: Global, fill: &[u8], runs: &[(u64, u64)]) -> Result<Vec<u8>,
 impl BytesCodec {
     ghost use Rattle.zarrs_bytes.specs.BytesCodecPartial.{bytes_form_of, bytes_handle_of};
 
-    /// The elements at the places of these runs, by the ranges of their bytes.
-    fn read_ranges<H: BytesPartialDecoderTraits>(
-        &self,
-        alloc: Global,
-        handle: &mut H,
-        data_type: &DataType,
-        fill: &[u8],
-        runs: &[(u64, u64)],
-        ranges: &[ByteRange],
-    ) -> Result<ArrayBytes<'static>, CodecError>
-        requires fixed { IsFilledType data_type.now fill.now }
-        requires bytes { range_indices ranges.now ≡ place_bytes (place_size data_type.now) (joined_runs runs.now) }
-        requires filled { All (λ range. range.start < range.end) ranges.now }
-        ensures answer { AnswersBy memory_or_fault (Holds data_type.now) result (read_places self.now data_type.now fill.now (H.state handle.old).value (joined_runs runs.now)) }
-        ensures sure { are_sure (H.state handle.old).sure (range_indices ranges.now) ≡ true → is_fault result ≡ false }
-        ensures left { H.state handle.new ≡ after_reading result (H.state handle.old) }
-        ensures same_reference { H.lent handle.new ≡ H.lent handle.old }
-    {
-        match handle.partial_decode_many(alloc, ranges)? {
-            None => {
-                let bytes = fill_runs(alloc, fill, runs)?;
-                Ok(ArrayBytes::new_flen(CowSlice::Owned(bytes)))
-            }
-            Some(bytes) => {
-                let turn_size = self.turn_size(data_type);
-                let elements = turn(alloc, CowSlice::Owned(bytes), turn_size)?;
-                Ok(ArrayBytes::new_flen(elements))
-            }
-        }
-    }
-
     /// The elements at the places of these runs, each a start and a length, in order, over a handle
     /// that keeps a chunk's value: those of the stored value by the places' bytes alone, and the fill
     /// value at each place where nothing is stored. The type is fixed and the fill value one of its
     /// elements, no run is empty, and 64 bits count the bytes up to the end of each. Refusals:
     /// `InvalidByteRange` where a place's bytes lie past the value's end; `OutOfMemory` and
     /// `Storage`, which may come before. `Storage` never comes where all bytes of the places are
-    /// sure.
+    /// sure. Many short runs are asked for in more than one call of the handle.
     pub fn read_runs<H: BytesPartialDecoderTraits>(
         &self,
         alloc: Global,
@@ -155,9 +91,17 @@ impl BytesCodec {
         ensures same_reference { H.lent handle.new ≡ H.lent handle.old }
     {
         let size = element_size(data_type, fill_value);
-        let ranges = run_ranges(alloc, size as u64, runs)?;
-        let fill = fill_value.as_ne_bytes();
-        self.read_ranges(alloc, handle, data_type, fill, runs, ranges.as_slice())
+        match read_bytes(alloc, handle, size as u64, runs)? {
+            None => {
+                let bytes = fill_runs(alloc, fill_value.as_ne_bytes(), runs)?;
+                Ok(ArrayBytes::new_flen(CowSlice::Owned(bytes)))
+            }
+            Some(bytes) => {
+                let turn_size = self.turn_size(data_type);
+                let elements = turn(alloc, CowSlice::Owned(bytes), turn_size)?;
+                Ok(ArrayBytes::new_flen(elements))
+            }
+        }
     }
 
     /// What a partial decoder keeps of a chunk that the codec takes.

@@ -5,6 +5,7 @@
 //! over a storage handle.
 #![tactic(auto)]
 
+mod batches;
 mod byte_order;
 mod bytes_codec;
 mod bytes_codec_partial;

@@ -1,6 +1,6 @@
 use Rattle.std.proofs.Common.{arith}
 use Rattle.zarrs_array_bytes.proofs.RunLemmas.{length-take_runs}
-use Rattle.zarrs_bytes.proofs.bytes_codec_partial.count_of.Goals as goal
+use Rattle.zarrs_bytes.proofs.batches.count_of.Goals as goal
 
 pub loop-len-preserved : goal.loop-len-preserved
 loop-len-preserved c =

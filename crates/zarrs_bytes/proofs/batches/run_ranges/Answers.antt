@@ -3,7 +3,7 @@ use Rattle.std.proofs.Math.Nat.{mul-le-mul_left}
 use Rattle.std.proofs.lemmas.List.Elements.{All-push}
 use Rattle.zarrs_codec.specs.ByteSpan.{ByteSpan}
 use Rattle.zarrs_bytes.proofs.Ranges.{ranges_more}
-use Rattle.zarrs_bytes.proofs.bytes_codec_partial.run_ranges.Goals as goal
+use Rattle.zarrs_bytes.proofs.batches.run_ranges.Goals as goal
 
 pub loop-start-preserved : goal.loop-start-preserved
 loop-start-preserved c =

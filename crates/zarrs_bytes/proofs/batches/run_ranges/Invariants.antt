@@ -3,7 +3,7 @@ use Rattle.std.specs.List.{All}
 use Rattle.zarrs_chunk.specs.Runs.{joined_runs}
 use Rattle.zarrs_codec.specs.ByteRanges.{range_indices}
 use Rattle.zarrs_bytes.specs.PartialRead.{place_bytes}
-use Rattle.zarrs_bytes.proofs.bytes_codec_partial.run_ranges.Given as goal
+use Rattle.zarrs_bytes.proofs.batches.run_ranges.Given as goal
 
 abbrev pub invariant-loop-start : goal.invariant-loop-start
 invariant-loop-start l = record {

@@ -1,0 +1,20 @@
+use Rattle.std.proofs.Common.{◌≡◌, ◌<◌, ◌+◌, ◌*◌, ◌^◌, true, length}
+use Rattle.std.specs.List.{All}
+use Rattle.zarrs_chunk.specs.Runs.{joined_runs}
+use Rattle.zarrs_codec.specs.StorageState.{are_sure}
+use Rattle.zarrs_bytes.specs.PartialRead.{place_bytes}
+use Rattle.zarrs_bytes.proofs.BytesAt.{left}
+use Rattle.zarrs_bytes.proofs.batches.append_batches.Given as goal
+
+abbrev pub invariant-loop-rest : goal.invariant-loop-rest
+invariant-loop-rest g l = record {
+  filled : All (λ run. 0 < run.1) l.rest;
+  ends : All (λ run. (run.0 + run.1) * l.size < 2 ^ 64) l.rest;
+  read : left l.size (g.H.BytesPartialDecoderTraits.state l.fn.handle).value l.fn.elements.items l.runs l.elements.items l.rest;
+  sure : are_sure (g.H.BytesPartialDecoderTraits.state l.fn.handle).sure (place_bytes l.size (joined_runs l.runs)) ≡ true → are_sure (g.H.BytesPartialDecoderTraits.state l.fn.handle).sure (place_bytes l.size (joined_runs l.rest)) ≡ true;
+  state : g.H.BytesPartialDecoderTraits.state l.handle ≡ g.H.BytesPartialDecoderTraits.state l.fn.handle;
+  lent : g.H.BytesPartialDecoderTraits.lent l.handle ≡ g.H.BytesPartialDecoderTraits.lent l.fn.handle;
+}
+
+abbrev pub decreases-loop-rest : goal.decreases-loop-rest
+decreases-loop-rest g l = length l.rest

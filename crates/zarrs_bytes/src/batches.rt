@@ -1,0 +1,148 @@
+//! The bytes of elements at runs of places, read over a handle.
+//!
+//! A range takes 16 bytes of memory, more than most elements have. So where a read asks for many
+//! short ranges, they are made and asked for a batch at a time.
+ghost use Rattle.std.specs.Prelude.{◌≡◌, ◌<◌, ◌≤◌, ◌+◌, ◌++◌, ◌*◌, ◌-◌, ◌^◌, true, false, Some, IfOk, All, is_some, min, length, option_map};
+ghost use Rattle.zarrs_chunk.specs.Answer.{Answers, is_fault, memory_or_fault, seen};
+ghost use Rattle.zarrs_chunk.specs.Runs.{joined_runs};
+ghost use Rattle.zarrs_codec.specs.ByteRanges.{range_indices};
+ghost use Rattle.zarrs_codec.specs.StorageState.{after_reading, are_sure};
+ghost use Rattle.zarrs_bytes.specs.PartialRead.{bytes_at, place_bytes};
+
+use std::alloc::{AllocError, Global};
+use zarrs_chunk::CodecError;
+use zarrs_codec::{ByteRange, BytesPartialDecoderTraits};
+
+/// How many ranges are made at a time, where they would take more memory than their bytes.
+const BATCH: usize = 1024;
+
+/// One range of bytes for each run of elements of `size` bytes.
+pub fn run_ranges(
+    alloc: Global,
+    size: u64,
+    runs: &[(u64, u64)],
+) -> Result<Vec<ByteRange>, AllocError>
+    requires filled { All (λ run. 0 < run.1) runs.now }
+    requires ends { All (λ run. (run.0 + run.1) * size < 2 ^ 64) runs.now }
+    requires positive { 0 < size }
+    ensures bytes { IfOk result (λ ranges. range_indices ranges.items ≡ place_bytes size (joined_runs runs.now)) }
+    ensures filled { IfOk result (λ ranges. All (λ range. range.start < range.end) ranges.items) }
+{
+    let mut ranges = Vec::with_capacity(alloc, runs.len())?;
+    for (start, len) in runs {
+        let first = *start * size;
+        match ByteRange::new(first..first + *len * size) {
+            None => unreachable!(),
+            Some(range) => ranges.push(range)?,
+        }
+    }
+    Ok(ranges)
+}
+
+/// How many places the runs have, or `u64::MAX` where they have more.
+pub fn count_of(runs: &[(u64, u64)]) -> u64
+    ensures count { result ≡ min (length (joined_runs runs.now)) (2 ^ 64 - 1) }
+{
+    let mut count: u64 = 0;
+    for (_, len) in runs {
+        count = count.saturating_add(*len);
+    }
+    count
+}
+
+/// How many of the runs are read first: all of them, but for many whose ranges take more memory
+/// than their bytes.
+fn first_batch(size: u64, runs: &[(u64, u64)]) -> usize
+    ensures within { result ≤ length runs.now }
+{
+    let count = runs.len();
+    if count <= BATCH {
+        return count;
+    }
+    let bytes = count_of(runs).saturating_mul(size);
+    if bytes / 16 >= count as u64 {
+        count
+    } else {
+        BATCH
+    }
+}
+
+/// Appends the bytes of these runs, by one call of the handle.
+fn append_batch<H: BytesPartialDecoderTraits>(
+    elements: &mut Vec<u8>,
+    alloc: Global,
+    handle: &mut H,
+    size: u64,
+    runs: &[(u64, u64)],
+) -> Result<(), CodecError>
+    requires filled { All (λ run. 0 < run.1) runs.now }
+    requires ends { All (λ run. (run.0 + run.1) * size < 2 ^ 64) runs.now }
+    requires positive { 0 < size }
+    requires stored { is_some (H.state handle.old).value ≡ true }
+    ensures answer { Answers memory_or_fault (λ _. Some elements.new.items) result (seen (option_map (λ more. elements.old.items ++ more)) (bytes_at size (H.state handle.old).value (joined_runs runs.now))) }
+    ensures sure { are_sure (H.state handle.old).sure (place_bytes size (joined_runs runs.now)) ≡ true → is_fault result ≡ false }
+    ensures left { H.state handle.new ≡ after_reading result (H.state handle.old) }
+    ensures same_reference { H.lent handle.new ≡ H.lent handle.old }
+{
+    let ranges = run_ranges(alloc, size, runs)?;
+    match handle.partial_decode_many(alloc, ranges.as_slice())? {
+        None => unreachable!(),
+        Some(bytes) => elements.extend_from_slice(bytes.as_slice())?,
+    }
+    Ok(())
+}
+
+/// Appends the bytes of these runs, a batch at a time.
+fn append_batches<H: BytesPartialDecoderTraits>(
+    elements: &mut Vec<u8>,
+    alloc: Global,
+    handle: &mut H,
+    size: u64,
+    runs: &[(u64, u64)],
+) -> Result<(), CodecError>
+    requires filled { All (λ run. 0 < run.1) runs.now }
+    requires ends { All (λ run. (run.0 + run.1) * size < 2 ^ 64) runs.now }
+    requires positive { 0 < size }
+    requires stored { is_some (H.state handle.old).value ≡ true }
+    ensures answer { Answers memory_or_fault (λ _. Some elements.new.items) result (seen (option_map (λ more. elements.old.items ++ more)) (bytes_at size (H.state handle.old).value (joined_runs runs.now))) }
+    ensures sure { are_sure (H.state handle.old).sure (place_bytes size (joined_runs runs.now)) ≡ true → is_fault result ≡ false }
+    ensures left { H.state handle.new ≡ after_reading result (H.state handle.old) }
+    ensures same_reference { H.lent handle.new ≡ H.lent handle.old }
+{
+    let mut rest = runs;
+    while !rest.is_empty() {
+        let (batch, more) = rest.split_at(BATCH.min(rest.len()));
+        append_batch(elements, alloc, handle, size, batch)?;
+        rest = more;
+    }
+    Ok(())
+}
+
+/// The bytes of these runs of elements of `size` bytes, as they stand in the value, or `None` where
+/// nothing is stored. What the first batch gave is the answer's beginning, and all of it where there
+/// is one batch.
+pub fn read_bytes<H: BytesPartialDecoderTraits>(
+    alloc: Global,
+    handle: &mut H,
+    size: u64,
+    runs: &[(u64, u64)],
+) -> Result<Option<Vec<u8>>, CodecError>
+    requires filled { All (λ run. 0 < run.1) runs.now }
+    requires ends { All (λ run. (run.0 + run.1) * size < 2 ^ 64) runs.now }
+    requires positive { 0 < size }
+    ensures answer { Answers memory_or_fault (option_map (λ bytes. bytes.items)) result (bytes_at size (H.state handle.old).value (joined_runs runs.now)) }
+    ensures sure { are_sure (H.state handle.old).sure (place_bytes size (joined_runs runs.now)) ≡ true → is_fault result ≡ false }
+    ensures left { H.state handle.new ≡ after_reading result (H.state handle.old) }
+    ensures same_reference { H.lent handle.new ≡ H.lent handle.old }
+{
+    let (first, rest) = runs.split_at(first_batch(size, runs));
+    let ranges = run_ranges(alloc, size, first)?;
+    match handle.partial_decode_many(alloc, ranges.as_slice())? {
+        None => Ok(None),
+        Some(mut bytes) => {
+            bytes.reserve_exact(count_of(rest).saturating_mul(size) as usize)?;
+            append_batches(&mut bytes, alloc, handle, size, rest)?;
+            Ok(Some(bytes))
+        }
+    }
+}
