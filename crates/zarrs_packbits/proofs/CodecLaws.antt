@@ -1,0 +1,250 @@
+-- The laws of the codec.
+use Rattle.std.proofs.Common.{◌≡◌, ◌==◌, ◌↔◌, ℕ, zero, suc, ◌+◌, ◌-◌, ◌*◌, ◌/◌, ◌%◌, ◌<◌, ◌≤◌, ◌^◌, ◌&&◌, Bool, true, false, nat_lt, nat_le, Option, Some, Result, Ok, Err, List, [], ◌∷◌, ◌++◌, length, map, take, drop, get_or, arith, refl, ap, sym, ◌∙◌, subst, if◌then◌else◌, set}
+use Rattle.std.specs.List.{All, concat, flat_map, list_all, range_with_len}
+use Rattle.std.proofs.lemmas.Bool.Decides.{nat_tests}
+use Rattle.std.proofs.lemmas.List.{drop_more, length-map, length-append}
+use Rattle.std.proofs.lemmas.List.Elements.{All-head, All-tail}
+use Rattle.std.proofs.lemmas.List.Folds.{list_all-append}
+use Rattle.std.proofs.lemmas.List.FromFn.{length-range_with_len, get_or-map-range_with_len}
+use Rattle.zarrs_chunk.specs.Answer.{◌>>=◌, demand, seen}
+use Rattle.zarrs_chunk.specs.ChunkShape.{product}
+use Rattle.zarrs_chunk.specs.declared.codec_error.CodecError.{CodecError}
+use Rattle.zarrs_chunk.specs.declared.codec_error.CodecError.TheVariants.{InvalidByteRange, InvalidBytesLength, PaddingByte}
+use Rattle.zarrs_data_type.specs.Element.{Element, plain, absent, present, Chunk}
+use Rattle.zarrs_data_type.specs.ElementType.{ElementType, fixed, text, bytes, optional}
+use Rattle.zarrs_array_bytes.specs.Elements.{select}
+use Rattle.zarrs_array_bytes.specs.Update.{update}
+use Rattle.zarrs_bytes.proofs.Coding.{bind_ok, ok}
+use Rattle.zarrs_codec.specs.ByteRanges.{SameByte}
+use Rattle.zarrs_packbits.specs.Bits.{bits_of}
+use Rattle.zarrs_packbits.specs.BitStream.{chunk_stream, stream_of_bytes, components_from, element_bits, packed_element}
+use Rattle.zarrs_packbits.specs.declared.layout.PackedLayout.{PackedLayout}
+use Rattle.zarrs_packbits.specs.Laws as laws
+use Rattle.zarrs_packbits.specs.NormalForm.{kept_element, normal_element, normal_chunk}
+use Rattle.zarrs_packbits.specs.PackBitsCodec.{packbits_chunk, PackBitsStands, PackBitsWritten}
+use Rattle.zarrs_packbits.specs.PackBitsSettings.{PackBitsSettings, packed_layout, packbits_length, has_bits, layout_for}
+use Rattle.zarrs_packbits.specs.PackedLayout.{IsPackedLayout, element_bits_len}
+use Rattle.zarrs_packbits.specs.PaddingByte.{lead, padding_holds, value_len, value_with}
+use Rattle.zarrs_packbits.specs.Packing.{packing}
+use Rattle.zarrs_packbits.specs.PartialRead.{span_start, span_end, packed_place_bytes, packed_places_bytes, all_below, read_packed_places, read_places_of}
+use Rattle.zarrs_packbits.proofs.Exact.{joined, cut, is_cut, cut_chunk, normal_cut, stream_cut, flat_stands, stands_flat, decoded_only, decoded_found}
+use Rattle.zarrs_packbits.proofs.FlatChunk.{nf, encoded}
+use Rattle.zarrs_packbits.proofs.LocalLemmas.{element_of_piece, element_some}
+use Rattle.zarrs_packbits.proofs.Standing.{encoded_stands, stream_nf, places_inside}
+use Rattle.zarrs_packbits.proofs.ElementBits.{stream_of_pieces}
+use Rattle.std.proofs.lemmas.List.{get_or-append-add, get_or_append_left}
+use Rattle.zarrs_packbits.proofs.Taken.{taken, taken_width}
+
+-- ---- the normal form
+
+layout_same : (k l : PackedLayout) (r : Result PackedLayout CodecError) → r ≡ Ok k → r ≡ Ok l → k ≡ l
+layout_same k l r e f = cc
+
+written_flat : (settings : PackBitsSettings) (sizes : List ℕ) (width components : ℕ) (sign : Bool) (fill value : List ℕ) (chunk : Chunk) → PackBitsWritten settings sizes (fixed width components sign) fill value chunk → PackBitsStands settings sizes (fixed width components sign) fill value (normal_chunk settings (fixed width components sign) chunk)
+written_flat settings sizes width components sign fill value chunk w =
+    let type = fixed width components sign in
+    let l = w.layout in
+    let t = taken settings sizes width components sign fill l w.taken in
+    let c = is_cut l (product sizes) width components sign chunk w.elements t.size t.elements in
+    let flat = encoded_stands l (joined chunk) t.sound c.long in
+    let value_is : encoded l (joined chunk) ≡ value = sym (w.spelt ∙ ap (value_with l) (stream_cut l chunk c)) in
+    let normal : cut l (nf l (joined chunk)) ≡ normal_chunk settings type chunk = sym (ap (normal_chunk settings type) c.are ∙ normal_cut settings sizes width components sign fill (joined chunk) l t c.long) in
+    subst (λ (v : List ℕ). PackBitsStands settings sizes type fill v (normal_chunk settings type chunk)) value_is
+    (subst (PackBitsStands settings sizes type fill (encoded l (joined chunk))) normal (stands_flat settings sizes width components sign fill (encoded l (joined chunk)) (nf l (joined chunk)) l w.taken flat))
+
+pub written_stands : laws.WrittenStands
+written_stands settings sizes (fixed width components sign) fill value chunk w = written_flat settings sizes width components sign fill value chunk w
+written_stands settings sizes text fill value chunk w = absurd (let e = w.taken in cc)
+written_stands settings sizes bytes fill value chunk w = absurd (let e = w.taken in cc)
+written_stands settings sizes (optional type) fill value chunk w = absurd (let e = w.taken in cc)
+
+pub decoded_is_normal : laws.DecodedIsNormal
+decoded_is_normal settings sizes type fill value chunk w = decoded_only settings sizes type fill value (normal_chunk settings type chunk) (written_stands settings sizes type fill value chunk w)
+
+pub normal_once : laws.NormalOnce
+normal_once settings sizes type fill value chunk w = (written_stands settings sizes type fill value chunk w).kept
+
+pub normal_written : laws.NormalWritten
+normal_written settings sizes type fill value chunk w =
+    let s = written_stands settings sizes type fill value chunk w in
+    let same : s.layout ≡ w.layout = layout_same s.layout w.layout (packed_layout settings sizes type fill) s.taken w.taken in
+    record {
+      layout = w.layout;
+      taken = w.taken;
+      elements = s.elements;
+      spelt = w.spelt ∙ ap (value_with w.layout) (normal_stream settings sizes type fill value chunk w);
+    }
+  where
+    normal_stream : (settings : PackBitsSettings) (sizes : List ℕ) (type : ElementType) (fill value : List ℕ) (chunk : Chunk) (w : PackBitsWritten settings sizes type fill value chunk) → chunk_stream w.layout chunk ≡ chunk_stream w.layout (normal_chunk settings type chunk)
+    normal_stream settings sizes (fixed width components sign) fill value chunk w =
+        let type = fixed width components sign in
+        let l = w.layout in
+        let t = taken settings sizes width components sign fill l w.taken in
+        let c = is_cut l (product sizes) width components sign chunk w.elements t.size t.elements in
+        let normal : normal_chunk settings type chunk ≡ cut l (nf l (joined chunk)) = ap (normal_chunk settings type) c.are ∙ normal_cut settings sizes width components sign fill (joined chunk) l t c.long in
+        stream_cut l chunk c ∙ sym (stream_nf l (joined chunk) t.sound c.long) ∙ sym (stream_of_pieces l (nf l (joined chunk))) ∙ sym (ap (chunk_stream l) normal)
+    normal_stream settings sizes text fill value chunk w = absurd (let e = w.taken in cc)
+    normal_stream settings sizes bytes fill value chunk w = absurd (let e = w.taken in cc)
+    normal_stream settings sizes (optional type) fill value chunk w = absurd (let e = w.taken in cc)
+
+-- what is done to each element is done to those that are selected
+map_select : (f : Element → Element) (chunk : Chunk) (places : List ℕ) → f absent ≡ absent → map f (select chunk places) ≡ select (map f chunk) places
+map_select f chunk [] h = refl
+map_select f chunk (p ∷ ps) h = λ i. one chunk p i ∷ map_select f chunk ps h i
+  where
+    one : (chunk : Chunk) (p : ℕ) → f (get_or chunk p absent) ≡ get_or (map f chunk) p absent
+    one [] p = h
+    one (c ∷ chunk) zero = refl
+    one (c ∷ chunk) (suc p) = one chunk p
+
+map_set : (f : Element → Element) (chunk : Chunk) (p : ℕ) (c : Element) → map f (set chunk p c) ≡ set (map f chunk) p (f c)
+map_set f [] p c = refl
+map_set f (x ∷ chunk) zero c = refl
+map_set f (x ∷ chunk) (suc p) c = ap (λ (k : Chunk). f x ∷ k) (map_set f chunk p c)
+
+map_update : (f : Element → Element) (chunk : Chunk) (places : List ℕ) (new : Chunk) → map f (update chunk places new) ≡ update (map f chunk) places (map f new)
+map_update f chunk [] new = refl
+map_update f chunk (p ∷ ps) [] = refl
+map_update f chunk (p ∷ ps) (c ∷ new) = map_update f (set chunk p c) ps new ∙ ap (λ (k : Chunk). update k ps (map f new)) (map_set f chunk p c)
+
+if_same : (b : Bool) (x y : Element) → x ≡ y → (if b then x else y) ≡ y
+if_same true x y e = e
+if_same false x y e = refl
+
+normal_absent : (settings : PackBitsSettings) (type : ElementType) → normal_element settings type absent ≡ absent
+normal_absent settings (fixed width components sign) = if_same (has_bits settings width) (kept_element (layout_for settings 1 width components sign) absent) absent refl
+normal_absent settings text = refl
+normal_absent settings bytes = refl
+normal_absent settings (optional type) = refl
+
+pub normal_selected : laws.NormalSelected
+normal_selected settings type chunk places = map_select (normal_element settings type) chunk places (normal_absent settings type)
+
+pub normal_updated : laws.NormalUpdated
+normal_updated settings type chunk places new = map_update (normal_element settings type) chunk places new
+
+-- ---- values
+
+chunk_is : (x y : Chunk) → ok x ≡ ok y → x ≡ y
+chunk_is x y e = cc
+
+pub stands_for_one : laws.StandsForOne
+stands_for_one settings sizes type fill value chunk other one two =
+    chunk_is chunk other (sym (decoded_only settings sizes type fill value chunk one) ∙ decoded_only settings sizes type fill value other two)
+
+pub written_alike : laws.WrittenAlike
+written_alike settings sizes type fill value other_value chunk other one two = (
+  λ e. stands_for_one settings sizes type fill value (normal_chunk settings type chunk) (normal_chunk settings type other) (written_stands settings sizes type fill value chunk one) (subst (λ (v : List ℕ). PackBitsStands settings sizes type fill v (normal_chunk settings type other)) (sym e) (written_stands settings sizes type fill other_value other two)),
+  λ e.
+      let a = normal_written settings sizes type fill value chunk one in
+      let b = normal_written settings sizes type fill other_value other two in
+      let same : a.layout ≡ b.layout = layout_same a.layout b.layout (packed_layout settings sizes type fill) a.taken b.taken in
+      a.spelt ∙ ap (λ (k : PackedLayout). value_with k (chunk_stream k (normal_chunk settings type chunk))) same ∙ ap (λ (c : Chunk). value_with b.layout (chunk_stream b.layout c)) e ∙ sym b.spelt,
+)
+
+number_is : (n m : ℕ) → ok n ≡ ok m → n ≡ m
+number_is n m e = cc
+
+pub has_represented_length : laws.HasRepresentedLength
+has_represented_length settings sizes type fill value chunk len w e =
+    let s = written_stands settings sizes type fill value chunk w in
+    s.len ∙ number_is (value_len s.layout) len (sym (ap (seen value_len) s.taken) ∙ e)
+
+-- ---- reading
+
+read_each : (f : ℕ → Element) (count : ℕ) (places : List ℕ) → All (λ place. place < count) places → map f places ≡ select (map f (range_with_len 0 count)) places
+read_each f count [] h = refl
+read_each f count (place ∷ places) h =
+    let lt : place < count = h 0 place (omega arith) in
+    let one : f place ≡ get_or (map f (range_with_len 0 count)) place absent = sym (get_or-map-range_with_len f 0 count place place absent lt (omega arith)) in
+    λ i. one i ∷ read_each f count places (λ k d l. h (suc k) d (omega arith)) i
+
+below_tests : (n : ℕ) (places : List ℕ) → All (λ place. place < n) places → all_below n places ≡ true
+below_tests n [] h = refl
+below_tests n (p ∷ ps) h =
+    let lt : p < n = h 0 p (omega arith) in
+    let test : nat_lt p n ≡ true = grind (arith, nat_tests) in
+    ap (λ (b : Bool). b && all_below n ps) test ∙ below_tests n ps (λ k d l. h (suc k) d (omega arith))
+
+pub read_at : (r : Result PackedLayout CodecError) (l : PackedLayout) (f : PackedLayout → Result Chunk CodecError) → r ≡ Ok l → (r >>= f) ≡ f l
+read_at r l f e = rw e refl
+
+pub read_selects : laws.ReadSelects
+read_selects settings sizes (fixed width components sign) fill value chunk places stands h =
+    let type = fixed width components sign in
+    let l = stands.layout in
+    let n = product sizes in
+    let t = taken settings sizes width components sign fill l stands.taken in
+    let all = decoded_only settings sizes type fill value chunk stands in
+    let a = bind_ok (packed_layout settings sizes type fill) _ chunk all in
+    let b = bind_ok (demand (length value == value_len a.0) (InvalidBytesLength (length value) (value_len a.0))) _ chunk a.2 in
+    let c = bind_ok (demand (padding_holds a.0 value) PaddingByte) _ chunk b.2 in
+    let same : a.0 ≡ l = layout_same a.0 l (packed_layout settings sizes type fill) a.1 stands.taken in
+    let is : map (packed_element l value) (range_with_len 0 n) ≡ chunk = ap (λ (k : PackedLayout). map (packed_element k value) (range_with_len 0 n)) (sym same) ∙ chunk_is _ chunk c.2 in
+    let below : All (λ place. place < n) places = subst (λ k. All (λ place. place < k) places) stands.elements.count_is h in
+    let tests : all_below l.elements places ≡ true = ap (λ k. all_below k places) t.elements ∙ below_tests n places below in
+    let inside : all_below (length value) (packed_places_bytes l places) ≡ true = ap (λ k. all_below k (packed_places_bytes l places)) stands.len ∙ places_inside l places tests in
+    let read : map (packed_element l value) places ≡ select chunk places = read_each (packed_element l value) n places below ∙ ap (λ (k : Chunk). select k places) is in
+    read_at (packed_layout settings sizes type fill) l (λ k. read_packed_places k type fill (Some value) places) stands.taken ∙ rw inside (ap ok read)
+read_selects settings sizes text fill value chunk places stands h = absurd (let e = stands.taken in cc)
+read_selects settings sizes bytes fill value chunk places stands h = absurd (let e = stands.taken in cc)
+read_selects settings sizes (optional type) fill value chunk places stands h = absurd (let e = stands.taken in cc)
+
+All-first : {X : Type 0} (P : X → Type 0) (xs ys : List X) → All P (xs ++ ys) → All P xs
+All-first P xs ys h k d l = rw (← get_or_append_left xs ys d k l) (h k d (omega (arith, length-append xs ys, l)))
+
+All-second : {X : Type 0} (P : X → Type 0) (xs ys : List X) → All P (xs ++ ys) → All P ys
+All-second P xs ys h k d l = rw (← get_or-append-add xs ys k d) (h (length xs + k) d (omega (arith, length-append xs ys, l)))
+
+-- values that have the same bytes
+same_taken : (value other : List ℕ) (start len : ℕ) → All (SameByte value other) (range_with_len start len) → take len (drop start value) ≡ take len (drop start other)
+same_taken value other start zero h = refl
+same_taken value other start (suc len) h =
+    let one : SameByte value other start = All-head (SameByte value other) start (range_with_len (start + 1) len) h in
+    let rest = same_taken value other (start + 1) len (All-tail (SameByte value other) start (range_with_len (start + 1) len) h) in
+    ap (take (suc len)) (drop_more value start 0 one.in_value)
+    ∙ (λ i. one.same i ∷ rest i)
+    ∙ sym (ap (take (suc len)) (drop_more other start 0 one.in_other))
+
+reaches : (value other : List ℕ) (start len : ℕ) → All (SameByte value other) (range_with_len start (suc len)) → (start + suc len ≤ length value) × (start + suc len ≤ length other)
+reaches value other start zero h =
+    let one : SameByte value other start = All-head (SameByte value other) start (range_with_len (start + 1) 0) h in (omega (arith, one.in_value), omega (arith, one.in_other))
+reaches value other start (suc len) h =
+    let rest = reaches value other (start + 1) len (All-tail (SameByte value other) start (range_with_len (start + 1) (suc len)) h) in (omega (arith, rest.0), omega (arith, rest.1))
+
+all_same : (value other ns : List ℕ) → All (SameByte value other) ns → (all_below (length value) ns ≡ true) × (all_below (length other) ns ≡ true)
+all_same value other [] h = (refl, refl)
+all_same value other (n ∷ ns) h =
+    let one : SameByte value other n = All-head (SameByte value other) n ns h in
+    let rest = all_same value other ns (All-tail (SameByte value other) n ns h) in
+    let a : nat_lt n (length value) ≡ true = (let e = one.in_value in grind (arith, nat_tests)) in
+    let b : nat_lt n (length other) ≡ true = (let e = one.in_other in grind (arith, nat_tests)) in (
+      ap (λ (x : Bool). x && all_below (length value) ns) a ∙ rest.0,
+      ap (λ (x : Bool). x && all_below (length other) ns) b ∙ rest.1,
+    )
+
+same_element : (l : PackedLayout) (value other : List ℕ) (p : ℕ) → IsPackedLayout l → All (SameByte value other) (packed_place_bytes l p) → element_bits l value p ≡ element_bits l other p
+same_element l value other p s h =
+    let next : (p + 1) * element_bits_len l ≡ p * element_bits_len l + element_bits_len l = omega arith in
+    let some : span_start l p < span_end l p = omega (arith, element_some l s) in
+    let len = span_end l p - span_start l p in
+    let one : len ≡ suc (len - 1) = omega arith in
+    let ends = reaches value other (span_start l p) (len - 1) (subst (λ k. All (SameByte value other) (range_with_len (span_start l p) k)) one h) in
+    sym (element_of_piece l value p (omega (arith, ends.0)) (omega arith))
+    ∙ ap (λ (b : List ℕ). components_from l (p * element_bits_len l % 8) l.group (bits_of b)) (same_taken value other (span_start l p) len h)
+    ∙ element_of_piece l other p (omega (arith, ends.1)) (omega arith)
+
+same_elements : (l : PackedLayout) (value other places : List ℕ) → IsPackedLayout l → All (SameByte value other) (packed_places_bytes l places) → map (packed_element l value) places ≡ map (packed_element l other) places
+same_elements l value other [] s h = refl
+same_elements l value other (p ∷ ps) s h =
+    let one = ap (λ (b : List ℕ). plain (packing b)) (same_element l value other p s (All-first (SameByte value other) (packed_place_bytes l p) (packed_places_bytes l ps) h)) in
+    λ i. one i ∷ same_elements l value other ps s (All-second (SameByte value other) (packed_place_bytes l p) (packed_places_bytes l ps) h) i
+
+pub reads_alike : laws.ReadsAlike
+reads_alike settings sizes (fixed width components sign) fill l value other places e h =
+    let t = taken settings sizes width components sign fill l e in
+    let both = all_same value other (packed_places_bytes l places) h in
+    rw (both.0, both.1) (ap ok (same_elements l value other places t.sound h))
+reads_alike settings sizes text fill l value other places e h = absurd cc
+reads_alike settings sizes bytes fill l value other places e h = absurd cc
+reads_alike settings sizes (optional type) fill l value other places e h = absurd cc

@@ -1,0 +1,387 @@
+-- What is written_bits stands for the chunk's kept bits, and the other laws.
+use Rattle.std.proofs.Common.{◌≡◌, ℕ, zero, suc, ◌+◌, ◌-◌, ◌*◌, ◌/◌, ◌%◌, ◌^◌, ◌<◌, ◌≤◌, ◌==◌, List, [], ◌∷◌, ◌++◌, Bool, true, false, map, length, take, drop, replicate, get_or, slice_index, arith, refl, ap, sym, ◌∙◌, Result, Ok, Err, if◌then◌else◌}
+use Rattle.std.specs.List.{flat_map, range_with_len}
+use Rattle.std.proofs.lemmas.List.{append_assoc, append-nil, drop-drop, length-append, length-drop, length-take, length-take-le, length-replicate, take_at, drop_at, take_all, take-append-le}
+use Rattle.std.proofs.lemmas.List.Concat.{flat_map-append}
+use Rattle.std.proofs.lemmas.Bool.Decides.{nat_tests}
+use Rattle.std.proofs.Math.Nat.{mul-le-mul_right}
+use Rattle.std.proofs.Common.{subst, eq-eqb, eqb-true}
+use Rattle.std.proofs.lemmas.List.{get_or_at}
+use Rattle.std.proofs.Common.{lit<, nat_lt, ◌&&◌}
+use Rattle.std.proofs.lemmas.List.Folds.{list_all-append}
+use Rattle.std.proofs.lemmas.List.{map-append}
+use Rattle.std.proofs.Common.{nat_le}
+use Rattle.zarrs_packbits.specs.Bits.{low_bits, bits_of, field}
+use Rattle.zarrs_packbits.proofs.LowBits.{length-low_bits, length-bits_of, bits_of-drop, bits_of-take, take-drop-take}
+use Rattle.zarrs_chunk.specs.declared.codec_error.CodecError.{CodecError}
+use Rattle.zarrs_chunk.specs.declared.codec_error.CodecError.TheVariants.{InvalidBytesLength, PaddingByte, InvalidByteRange}
+use Rattle.zarrs_packbits.specs.declared.layout.PackedLayout.{PackedLayout}
+use Rattle.zarrs_packbits.specs.PackedLayout.{IsPackedLayout, parts_of, bits_in, spare_of, element_bits_len}
+use Rattle.zarrs_metadata.specs.declared.codec.packbits.PackBitsPaddingEncoding.{PackBitsPaddingEncoding}
+use Rattle.zarrs_metadata.specs.declared.codec.packbits.PackBitsPaddingEncoding.TheVariants.{None, FirstByte, LastByte}
+use Rattle.zarrs_packbits.specs.KeptBits.{top_of, full_component, kept_component, component_bits}
+use Rattle.zarrs_packbits.specs.Packing.{number_of, bytes_from_bits, packing}
+use Rattle.zarrs_packbits.specs.PaddingByte.{value_len, lead, trail, bytes_before, bytes_behind, padding_holds, padding_is}
+use Rattle.zarrs_packbits.specs.BitStream.{stream_of_bytes, components_from, element_bits}
+use Rattle.zarrs_packbits.proofs.FlatChunk.{nf, encoded, decoded, IsFlatChunk, FlatStands, flat_selection}
+use Rattle.zarrs_packbits.proofs.LayoutLemmas.{chosen}
+use Rattle.zarrs_packbits.specs.PartialRead.{all_below, span_start, span_end, packed_place_bytes}
+use Rattle.zarrs_packbits.proofs.FlatRead.{all_below-range, local_answer}
+use Rattle.zarrs_packbits.proofs.Tests.{to_nat_lt, from_nat_lt, from_nat_le, and_first, and_second}
+use Rattle.zarrs_packbits.proofs.LocalLemmas.{element_within, element_some, element_of_piece, flat_range_same, field_of_rest}
+use Rattle.zarrs_packbits.proofs.FieldLemmas.{packed_bytes, flat_more, joined_fields}
+use Rattle.zarrs_packbits.proofs.BitLemmas.{AreBits, are_bits-append, are_bits-flat_map, are_bits-bits_of, are_bits-widened, are_bits-field, are_bits-take, are_bits-replicate, bits_of-packed, bits_of-full, length-bytes_of, bytes_of-small, length-pieces, piece_is}
+
+-- ---- one component_bits
+
+pub field_len : (at count : ℕ) (bits : List ℕ) → at + count ≤ length bits → length (field at count bits) ≡ count
+field_len at count bits h = length-take-le count (drop at bits) (omega (arith, length-drop at bits))
+
+pub widened_len : (first above : ℕ) (sign : Bool) (kept : List ℕ) → length (full_component first above sign kept) ≡ first + length kept + above
+widened_len first above sign kept =
+    omega (arith, length-append (replicate first 0) (kept ++ replicate above (top_of sign kept)), length-append kept (replicate above (top_of sign kept)), length-replicate {A = ℕ} first 0, length-replicate above (top_of sign kept))
+
+-- a field is found again in its component_bits
+field_of_widened : (first above : ℕ) (sign : Bool) (kept : List ℕ) → field first (length kept) (full_component first above sign kept) ≡ kept
+field_of_widened first above sign kept =
+    ap (take (length kept)) (drop_at (replicate first 0) (kept ++ replicate above (top_of sign kept)) first (length-replicate {A = ℕ} first 0))
+    ∙ take_at kept (replicate above (top_of sign kept)) (length kept) refl
+
+-- keeping the bits of a component_bits that was made of a field changes nothing
+keep_widened : (first count above : ℕ) (sign : Bool) (kept : List ℕ) → length kept ≡ count → kept_component first count sign (full_component first above sign kept) ≡ full_component first above sign kept
+keep_widened first count above sign kept e =
+    let n : length (full_component first above sign kept) - (first + count) ≡ above = omega (arith, widened_len first above sign kept) in
+    ap (λ k. full_component first k sign (field first count (full_component first above sign kept))) n
+    ∙ ap (λ k. full_component first above sign (field first k (full_component first above sign kept))) (sym e)
+    ∙ ap (full_component first above sign) (field_of_widened first above sign kept)
+
+field_of_made : (first count above : ℕ) (sign : Bool) (kept : List ℕ) → length kept ≡ count → field first count (full_component first above sign kept) ≡ kept
+field_of_made first count above sign kept e = ap (λ k. field first k (full_component first above sign kept)) (sym e) ∙ field_of_widened first above sign kept
+
+-- ---- components made of fields, packing into a chunk
+
+-- components of so many fields
+abbrev pub made : PackedLayout → (ℕ → List ℕ) → List ℕ
+made l fields = flat_map (λ part. full_component l.first l.above l.sign (fields part)) (range_with_len 0 (parts_of l))
+
+pub component_len : (size n part : ℕ) (bytes : List ℕ) → length bytes ≡ n * size → part < n → length (component_bits size bytes part) ≡ 8 * size
+component_len size n part bytes e h =
+    let more : part + 1 ≤ n = omega arith in
+    let row : (part + 1) * size ≤ n * size = mul-le-mul_right size more in
+    let next : (part + 1) * size ≡ part * size + size = omega arith in
+    let piece = take size (drop (part * size) bytes) in
+    let t : length piece ≡ size = length-take-le size (drop (part * size) bytes) (omega (arith, length-drop (part * size) bytes)) in
+    length-bits_of piece ∙ ap (λ k. 8 * k) t
+
+component_of_packed : (size n part : ℕ) (bits : List ℕ) → AreBits bits → length bits ≡ n * (8 * size) → part < n → component_bits size (packing bits) part ≡ field (part * (8 * size)) (8 * size) bits
+component_of_packed size n part bits h e lt =
+    let whole : length bits ≡ 8 * (n * size) = e ∙ (let d : n * (8 * size) ≡ 8 * (n * size) = omega arith in d) in
+    let full = bits_of-full (n * size) bits h whole in
+    let len : length (packing bits) ≡ n * size = length-bytes_of ((length bits + 7) / 8) bits ∙ (let d : (length bits + 7) / 8 ≡ n * size = omega arith in d) in
+    let more : part + 1 ≤ n = omega arith in
+    let row : (part + 1) * size ≤ n * size = mul-le-mul_right size more in
+    let next : (part + 1) * size ≡ part * size + size = omega arith in
+    bits_of-take size (drop (part * size) (packing bits)) (omega (arith, length-drop (part * size) (packing bits)))
+    ∙ ap (take (8 * size)) (bits_of-drop (part * size) (packing bits))
+    ∙ ap (λ xs. take (8 * size) (drop (8 * (part * size)) xs)) full
+    ∙ ap (λ k. take (8 * size) (drop k bits)) (let d : 8 * (part * size) ≡ part * (8 * size) = omega arith in d)
+
+record IsFields (l : PackedLayout) (fields : ℕ → List ℕ) : Type 0 where
+  pub len : (part : ℕ) → part < parts_of l → length (fields part) ≡ l.count
+  pub bits : (part : ℕ) → AreBits (fields part)
+
+made_bits : (l : PackedLayout) (fields : ℕ → List ℕ) → IsFields l fields → AreBits (made l fields)
+made_bits l fields f = are_bits-flat_map (λ part. full_component l.first l.above l.sign (fields part)) (range_with_len 0 (parts_of l)) (λ part. are_bits-widened l.first l.above l.sign (fields part) (f.bits part))
+
+part_len : (l : PackedLayout) (fields : ℕ → List ℕ) → IsPackedLayout l → IsFields l fields → (part : ℕ) → part < parts_of l → length (full_component l.first l.above l.sign (fields part)) ≡ 8 * l.size
+part_len l fields s f part lt = omega (arith, widened_len l.first l.above l.sign (fields part), f.len part lt, s.size)
+
+made_len : (l : PackedLayout) (fields : ℕ → List ℕ) → IsPackedLayout l → IsFields l fields → length (made l fields) ≡ parts_of l * (8 * l.size)
+made_len l fields s f = length-pieces (λ part. full_component l.first l.above l.sign (fields part)) (8 * l.size) (parts_of l) (part_len l fields s f)
+
+-- the components of such a chunk
+made_component : (l : PackedLayout) (fields : ℕ → List ℕ) → IsPackedLayout l → IsFields l fields → (part : ℕ) → part < parts_of l → component_bits l.size (packing (made l fields)) part ≡ full_component l.first l.above l.sign (fields part)
+made_component l fields s f part lt =
+    let g : ℕ → List ℕ = λ part. full_component l.first l.above l.sign (fields part) in
+    component_of_packed l.size (parts_of l) part (made l fields) (made_bits l fields f) (made_len l fields s f) lt
+    ∙ ap (field (part * (8 * l.size)) (8 * l.size)) (sym (append-nil (made l fields)))
+    ∙ piece_is g (8 * l.size) (parts_of l) [] part (part_len l fields s f) lt
+
+made_same : (l : PackedLayout) (fields others : ℕ → List ℕ) → ((part : ℕ) → part < parts_of l → fields part ≡ others part) → made l fields ≡ made l others
+made_same l fields others h =
+    flat_range_same (λ part. full_component l.first l.above l.sign (fields part)) (λ part. full_component l.first l.above l.sign (others part)) (parts_of l) (λ part lt. ap (full_component l.first l.above l.sign) (h part lt))
+
+-- the fields of such a chunk
+made_stream : (l : PackedLayout) (fields : ℕ → List ℕ) → IsPackedLayout l → IsFields l fields → stream_of_bytes l (packing (made l fields)) ≡ flat_map fields (range_with_len 0 (parts_of l))
+made_stream l fields s f =
+    flat_range_same (λ part. field l.first l.count (component_bits l.size (packing (made l fields)) part)) fields (parts_of l)
+    (λ part lt. ap (field l.first l.count) (made_component l fields s f part lt) ∙ field_of_made l.first l.count l.above l.sign (fields part) (f.len part lt))
+
+-- such a chunk has no other bits
+made_kept : (l : PackedLayout) (fields : ℕ → List ℕ) → IsPackedLayout l → IsFields l fields → nf l (packing (made l fields)) ≡ packing (made l fields)
+made_kept l fields s f =
+    ap packing (flat_range_same (λ part. kept_component l.first l.count l.sign (component_bits l.size (packing (made l fields)) part)) (λ part. full_component l.first l.above l.sign (fields part)) (parts_of l)
+    (λ part lt. ap (kept_component l.first l.count l.sign) (made_component l fields s f part lt) ∙ keep_widened l.first l.count l.above l.sign (fields part) (f.len part lt)))
+
+made_chunk : (l : PackedLayout) (fields : ℕ → List ℕ) → IsPackedLayout l → IsFields l fields → IsFlatChunk l (packing (made l fields))
+made_chunk l fields s f = record {
+  size = length-bytes_of ((length (made l fields) + 7) / 8) (made l fields) ∙ (let e : parts_of l * (8 * l.size) ≡ 8 * (parts_of l * l.size) = omega arith in omega (arith, made_len l fields s f));
+  bytes = bytes_of-small ((length (made l fields) + 7) / 8) (made l fields) (made_bits l fields f);
+}
+
+-- ---- a chunk's own fields
+
+abbrev pub own : PackedLayout → List ℕ → ℕ → List ℕ
+own l c part = field l.first l.count (component_bits l.size c part)
+
+own_fields : (l : PackedLayout) (c : List ℕ) → IsPackedLayout l → length c ≡ parts_of l * l.size → IsFields l (own l c)
+own_fields l c s e = record {
+  len = λ part lt. field_len l.first l.count (component_bits l.size c part) (omega (arith, component_len l.size (parts_of l) part c e lt, s.size));
+  bits = λ part. are_bits-field l.first l.count (component_bits l.size c part) (are_bits-bits_of (take l.size (drop (part * l.size) c)));
+}
+
+-- the kept chunk is made of the chunk's own fields
+pub nf_is : (l : PackedLayout) (c : List ℕ) → IsPackedLayout l → length c ≡ parts_of l * l.size → nf l c ≡ packing (made l (own l c))
+nf_is l c s e =
+    ap packing (flat_range_same (λ part. kept_component l.first l.count l.sign (component_bits l.size c part)) (λ part. full_component l.first l.above l.sign (own l c part)) (parts_of l)
+    (λ part lt. ap (λ k. full_component l.first k l.sign (own l c part)) (let d : length (component_bits l.size c part) - (l.first + l.count) ≡ l.above = omega (arith, component_len l.size (parts_of l) part c e lt, s.size) in d)))
+
+-- its bytes are below 256
+pub nf_small : (l : PackedLayout) (c : List ℕ) (i : ℕ) → get_or (nf l c) i 0 < 256
+nf_small l c i =
+    let f : ℕ → List ℕ = λ part. kept_component l.first l.count l.sign (component_bits l.size c part) in
+    let bits = flat_map f (range_with_len 0 (parts_of l)) in
+    bytes_of-small ((length bits + 7) / 8) bits (are_bits-flat_map f (range_with_len 0 (parts_of l)) (λ part.
+    let component = component_bits l.size c part in
+    are_bits-widened l.first (length component - (l.first + l.count)) l.sign (field l.first l.count component) (are_bits-field l.first l.count component (are_bits-bits_of (take l.size (drop (part * l.size) c)))))) i
+
+-- keeping is done once
+pub nf_nf : (l : PackedLayout) (c : List ℕ) → IsPackedLayout l → length c ≡ parts_of l * l.size → nf l (nf l c) ≡ nf l c
+nf_nf l c s e =
+    let is = nf_is l c s e in
+    ap (nf l) is ∙ made_kept l (own l c) s (own_fields l c s e) ∙ sym is
+
+pub stream_nf : (l : PackedLayout) (c : List ℕ) → IsPackedLayout l → length c ≡ parts_of l * l.size → stream_of_bytes l (nf l c) ≡ stream_of_bytes l c
+stream_nf l c s e = ap (stream_of_bytes l) (nf_is l c s e) ∙ made_stream l (own l c) s (own_fields l c s e)
+
+-- the kept chunk is written_bits alike
+pub encoded_nf : (l : PackedLayout) (c : List ℕ) → IsPackedLayout l → length c ≡ parts_of l * l.size → encoded l (nf l c) ≡ encoded l c
+encoded_nf l c s e = ap (λ bits. bytes_before l.padding (spare_of l) ++ (packing bits ++ bytes_behind l.padding (spare_of l))) (stream_nf l c s e)
+
+-- ---- values and chunks
+
+before_len : (p : PackBitsPaddingEncoding) (spare : ℕ) → length (bytes_before p spare) ≡ length (bytes_before p 0)
+before_len None spare = refl
+before_len FirstByte spare = refl
+before_len LastByte spare = refl
+
+behind_len : (p : PackBitsPaddingEncoding) (spare : ℕ) → length (bytes_behind p spare) ≡ length (bytes_behind p 0)
+behind_len None spare = refl
+behind_len FirstByte spare = refl
+behind_len LastByte spare = refl
+
+padding_stands : (p : PackBitsPaddingEncoding) (spare : ℕ) (bytes : List ℕ) → padding_is p spare (bytes_before p spare ++ (bytes ++ bytes_behind p spare)) ≡ true
+padding_stands None spare bytes = refl
+padding_stands FirstByte spare bytes = eq-eqb spare spare refl
+padding_stands LastByte spare bytes =
+    let n : length (bytes ++ spare ∷ []) - 1 ≡ length bytes = omega (arith, length-append bytes (spare ∷ [])) in
+    eq-eqb (get_or (bytes ++ spare ∷ []) (length (bytes ++ spare ∷ []) - 1) 0) spare (get_or_at bytes spare [] 0 (length (bytes ++ spare ∷ []) - 1) (sym n))
+
+own_len : (l : PackedLayout) (c : List ℕ) → IsPackedLayout l → length c ≡ parts_of l * l.size → length (stream_of_bytes l c) ≡ bits_in l
+own_len l c s e = length-pieces (own l c) l.count (parts_of l) (own_fields l c s e).len
+
+own_bits : (l : PackedLayout) (c : List ℕ) → IsPackedLayout l → length c ≡ parts_of l * l.size → AreBits (stream_of_bytes l c)
+own_bits l c s e = are_bits-flat_map (own l c) (range_with_len 0 (parts_of l)) (own_fields l c s e).bits
+
+-- what is written_bits stands for the kept chunk
+pub encoded_stands : (l : PackedLayout) (c : List ℕ) → IsPackedLayout l → length c ≡ parts_of l * l.size → FlatStands l (encoded l c) (nf l c)
+encoded_stands l c s e =
+    let spare = spare_of l in
+    let bits = stream_of_bytes l c in
+    let n = own_len l c s e in
+    let tail = packing bits ++ bytes_behind l.padding spare in
+    let b = before_len l.padding spare in
+    let cut : drop (lead l) (encoded l c) ≡ tail = drop_at (bytes_before l.padding spare) tail (lead l) b in
+    let zeros = replicate (8 * ((length bits + 7) / 8) - length bits) 0 in
+    let more = bits_of (bytes_behind l.padding spare) in
+    let spread : bits_of tail ≡ bits ++ (zeros ++ more)
+    = flat_map-append (low_bits 8) (packing bits) (bytes_behind l.padding spare) ∙ ap (λ xs. xs ++ more) (bits_of-packed bits (own_bits l c s e)) ∙ append_assoc bits zeros more in
+    let P : List ℕ → Type 0 = λ x. IsFlatChunk l x in
+    record {
+      len = length-append (bytes_before l.padding spare) tail ∙ omega (arith, b, behind_len l.padding spare, length-append (packing bits) (bytes_behind l.padding spare), length-bytes_of ((length bits + 7) / 8) bits, n);
+      padding = padding_stands l.padding spare (packing bits);
+      bits = ap (λ xs. field 0 (bits_in l) (bits_of xs)) cut ∙ ap (take (bits_in l)) spread ∙ take_at bits (zeros ++ more) (bits_in l) n ∙ sym (stream_nf l c s e);
+      chunk = subst P (sym (nf_is l c s e)) (made_chunk l (own l c) s (own_fields l c s e));
+      kept = nf_nf l c s e;
+    }
+
+-- a value's fields
+abbrev pub stored : PackedLayout → List ℕ → ℕ → List ℕ
+stored l v part = field (0 + part * l.count) l.count (bits_of (drop (lead l) v))
+
+field_within : (n k i : ℕ) → i < n → i * k + k ≤ n * k
+field_within n k i h =
+    let more : i + 1 ≤ n = omega arith in
+    let row : (i + 1) * k ≤ n * k = mul-le-mul_right k more in
+    let next : (i + 1) * k ≡ i * k + k = omega arith in
+    omega arith
+
+stands_fields : (l : PackedLayout) (v c : List ℕ) → IsPackedLayout l → FlatStands l v c → (part : ℕ) → part < parts_of l → stored l v part ≡ own l c part
+stands_fields l v c s h part lt =
+    let bits = bits_of (drop (lead l) v) in
+    let k = l.count in
+    ap (λ n. field n k bits) (let d : 0 + part * k ≡ part * k = omega arith in d)
+    ∙ sym (take-drop-take k (part * k) (bits_in l) bits (field_within (parts_of l) k part lt))
+    ∙ ap (field (part * k) k) (h.bits ∙ sym (append-nil (stream_of_bytes l c)))
+    ∙ piece_is (own l c) k (parts_of l) [] part (own_fields l c s h.chunk.size).len lt
+
+-- a value that stands for a chunk is decoded to it
+pub stands_decoded : (l : PackedLayout) (v c : List ℕ) → IsPackedLayout l → FlatStands l v c → decoded l v ≡ Ok c
+stands_decoded l v c s h =
+    chosen (length v) (value_len l) (padding_holds l v) (packing (made l (stored l v))) h.len h.padding
+    ∙ ap Ok (ap packing (made_same l (stored l v) (own l c) (stands_fields l v c s h)) ∙ sym (nf_is l c s h.chunk.size) ∙ h.kept)
+
+record Opened (t b : Bool) (x c : List ℕ) : Type 0 where
+  pub test : t ≡ true
+  pub holds : b ≡ true
+  pub same : x ≡ c
+
+opened : (t b : Bool) (e : CodecError) (x c : List ℕ) → (if t then (if b then Ok x else Err PaddingByte) else Err e) ≡ Ok c → Opened t b x c
+opened true true e x c h = record { test = refl; holds = refl; same = cc }
+opened true false e x c h = cc
+opened false b e x c h = cc
+
+made_stands : (l : PackedLayout) (v : List ℕ) → IsPackedLayout l → length v ≡ value_len l → padding_holds l v ≡ true → FlatStands l v (packing (made l (stored l v)))
+made_stands l v s n p =
+    let bits = bits_of (drop (lead l) v) in
+    let room : bits_in l ≤ length bits = omega (arith, length-bits_of (drop (lead l) v), length-drop (lead l) v) in
+    let fields : IsFields l (stored l v) = record {
+      len = λ part lt. field_len (0 + part * l.count) l.count bits (omega (arith, field_within (parts_of l) l.count part lt));
+      bits = λ part. are_bits-field (0 + part * l.count) l.count bits (are_bits-bits_of (drop (lead l) v));
+    } in
+    record {
+      len = n;
+      padding = p;
+      bits = sym (made_stream l (stored l v) s fields ∙ joined_fields 0 l.count (parts_of l) bits);
+      chunk = made_chunk l (stored l v) s fields;
+      kept = made_kept l (stored l v) s fields;
+    }
+
+-- and only such values are decoded
+pub decoded_stands : (l : PackedLayout) (v c : List ℕ) → IsPackedLayout l → decoded l v ≡ Ok c → FlatStands l v c
+decoded_stands l v c s h =
+    let o = opened (length v == value_len l) (padding_holds l v) (InvalidBytesLength (length v) (value_len l)) (packing (made l (stored l v))) c h in
+    let P : List ℕ → Type 0 = λ x. FlatStands l v x in
+    subst P o.same (made_stands l v s (eqb-true (length v) (value_len l) o.test) o.holds)
+
+-- decoding what was encoded
+pub decoded_encoded : (l : PackedLayout) (c : List ℕ) → IsPackedLayout l → length c ≡ parts_of l * l.size → decoded l (encoded l c) ≡ Ok (nf l c)
+decoded_encoded l c s e = stands_decoded l (encoded l c) (nf l c) s (encoded_stands l c s e)
+
+oks : (x y : List ℕ) (r t : Result (List ℕ) CodecError) → r ≡ t → r ≡ Ok x → t ≡ Ok y → x ≡ y
+oks x y r t e f g = cc
+
+-- chunks are written_bits alike exactly where their kept chunks are equal
+pub encoded_alike : (l : PackedLayout) (c d : List ℕ) → IsPackedLayout l → length c ≡ parts_of l * l.size → length d ≡ parts_of l * l.size → encoded l c ≡ encoded l d → nf l c ≡ nf l d
+encoded_alike l c d s e f h = oks (nf l c) (nf l d) (decoded l (encoded l c)) (decoded l (encoded l d)) (ap (decoded l) h) (decoded_encoded l c s e) (decoded_encoded l d s f)
+
+pub alike_encoded : (l : PackedLayout) (c d : List ℕ) → IsPackedLayout l → length c ≡ parts_of l * l.size → length d ≡ parts_of l * l.size → nf l c ≡ nf l d → encoded l c ≡ encoded l d
+alike_encoded l c d s e f h = sym (encoded_nf l c s e) ∙ ap (encoded l) h ∙ encoded_nf l d s f
+
+-- ---- reading in part selects
+
+abbrev pub AreBytes : List ℕ → Type 0
+AreBytes [] = Unit {0}
+AreBytes (b ∷ bs) = (b < 256) × AreBytes bs
+
+are_bytes : (xs : List ℕ) → ((i : ℕ) → get_or xs i 0 < 256) → AreBytes xs
+are_bytes [] h = tt
+are_bytes (x ∷ xs) h = (h 0, are_bytes xs (λ i. h (suc i)))
+
+byte_small : (xs : List ℕ) (i : ℕ) → AreBytes xs → get_or xs i 0 < 256
+byte_small [] i h = lit< tt
+byte_small (x ∷ xs) zero h = h.0
+byte_small (x ∷ xs) (suc i) h = byte_small xs i h.1
+
+are_bytes-append : (xs ys : List ℕ) → AreBytes xs → AreBytes ys → AreBytes (xs ++ ys)
+are_bytes-append [] ys h k = k
+are_bytes-append (x ∷ xs) ys h k = (h.0, are_bytes-append xs ys h.1 k)
+
+are_bytes-take : (n : ℕ) (xs : List ℕ) → AreBytes xs → AreBytes (take n xs)
+are_bytes-take zero xs h = tt
+are_bytes-take (suc n) [] h = tt
+are_bytes-take (suc n) (x ∷ xs) h = (h.0, are_bytes-take n xs h.1)
+
+are_bytes-drop : (n : ℕ) (xs : List ℕ) → AreBytes xs → AreBytes (drop n xs)
+are_bytes-drop zero xs h = h
+are_bytes-drop (suc n) [] h = tt
+are_bytes-drop (suc n) (x ∷ xs) h = are_bytes-drop n xs h.1
+
+selected_bytes : (l : PackedLayout) (c ps : List ℕ) → AreBytes c → AreBytes (flat_selection l c ps)
+selected_bytes l c [] h = tt
+selected_bytes l c (p ∷ ps) h =
+    let size = l.group * l.size in
+    are_bytes-append (take size (drop (p * size) c)) (flat_selection l c ps) (are_bytes-take size (drop (p * size) c) (are_bytes-drop (p * size) c h)) (selected_bytes l c ps h)
+
+range_below : (b s n : ℕ) → s + n ≤ b → all_below b (range_with_len s n) ≡ true
+range_below b s zero h = refl
+range_below b s (suc n) h =
+    ap (λ (x : Bool). x && all_below b (range_with_len (s + 1) n)) (to_nat_lt s b (omega arith)) ∙ range_below b (s + 1) n (omega arith)
+
+pub place_inside : (l : PackedLayout) (p : ℕ) → p < l.elements → all_below (value_len l) (packed_place_bytes l p) ≡ true
+place_inside l p h =
+    let next : (p + 1) * element_bits_len l ≡ p * element_bits_len l + element_bits_len l = omega arith in
+    range_below (value_len l) (span_start l p) (span_end l p - span_start l p) (omega (arith, element_within l p h))
+
+pub places_inside : (l : PackedLayout) (ps : List ℕ) → all_below l.elements ps ≡ true → all_below (value_len l) (flat_map (packed_place_bytes l) ps) ≡ true
+places_inside l [] h = refl
+places_inside l (p ∷ ps) h =
+    list_all-append (λ k. nat_lt k (value_len l)) (packed_place_bytes l p) (flat_map (packed_place_bytes l) ps)
+    ∙ ap (λ (x : Bool). x && all_below (value_len l) (flat_map (packed_place_bytes l) ps)) (place_inside l p (from_nat_lt _ _ (and_first _ _ h)))
+    ∙ places_inside l ps (and_second _ _ h)
+
+-- the bits of an element are those of its bytes in the chunk
+element_of_chunk : (l : PackedLayout) (v c : List ℕ) → IsPackedLayout l → FlatStands l v c → (p : ℕ) → p < l.elements → element_bits l v p ≡ bits_of (take (l.group * l.size) (drop (p * (l.group * l.size)) c))
+element_of_chunk l v c s h p lt =
+    let size = l.group * l.size in
+    let k = 8 * l.size in
+    let f : ℕ → List ℕ = λ part. full_component l.first l.above l.sign (own l c part) in
+    let fields = own_fields l c s h.chunk.size in
+    let all = made l (own l c) in
+    let n = parts_of l in
+    let within : p * l.group + l.group ≤ n = field_within l.elements l.group p lt in
+    let room : p * size + size ≤ n * l.size = (let q : p * size + size ≤ l.elements * size = field_within l.elements size p lt in let e : l.elements * size ≡ n * l.size = omega arith in omega arith) in
+    let whole : length all ≡ 8 * (n * l.size) = made_len l (own l c) s fields ∙ (let d : n * (8 * l.size) ≡ 8 * (n * l.size) = omega arith in d) in
+    let is : c ≡ packing all = sym h.kept ∙ nf_is l c s h.chunk.size in
+    let full : bits_of c ≡ all = ap bits_of is ∙ bits_of-full (n * l.size) all (made_bits l (own l c) fields) whole in
+    let here : (j : ℕ) → j < l.group → full_component l.first l.above l.sign (field (p * element_bits_len l + j * l.count) l.count (bits_of (drop (lead l) v))) ≡ field (p * l.group * k + j * k) k all = λ j jlt.
+    let i = p * l.group + j in
+    let ilt : i < n = omega arith in
+    ap (λ m. full_component l.first l.above l.sign (field m l.count (bits_of (drop (lead l) v)))) (let d : p * element_bits_len l + j * l.count ≡ 0 + i * l.count = omega arith in d)
+    ∙ ap (full_component l.first l.above l.sign) (stands_fields l v c s h i ilt)
+    ∙ sym (piece_is f k n [] i (part_len l (own l c) s fields) ilt)
+    ∙ ap (field (i * k) k) (append-nil all)
+    ∙ ap (λ m. field m k all) (let d : i * k ≡ p * l.group * k + j * k = omega arith in d) in
+    flat_range_same (λ j. full_component l.first l.above l.sign (field (p * element_bits_len l + j * l.count) l.count (bits_of (drop (lead l) v)))) (λ j. field (p * l.group * k + j * k) k all) l.group here
+    ∙ joined_fields (p * l.group * k) k l.group all
+    ∙ ap (λ m. field m (l.group * k) all) (let d : p * l.group * k ≡ 8 * (p * size) = omega arith in d)
+    ∙ ap (λ m. field (8 * (p * size)) m all) (let d : l.group * k ≡ 8 * size = omega arith in d)
+    ∙ ap (field (8 * (p * size)) (8 * size)) (sym full)
+    ∙ ap (take (8 * size)) (sym (bits_of-drop (p * size) c))
+    ∙ sym (bits_of-take size (drop (p * size) c) (omega (arith, length-drop (p * size) c, h.chunk.size)))
+
+elements_of_chunk : (l : PackedLayout) (v c ps : List ℕ) → IsPackedLayout l → FlatStands l v c → all_below l.elements ps ≡ true → flat_map (element_bits l v) ps ≡ bits_of (flat_selection l c ps)
+elements_of_chunk l v c [] s h b = refl
+elements_of_chunk l v c (p ∷ ps) s h b =
+    let size = l.group * l.size in
+    ap (λ xs. xs ++ flat_map (element_bits l v) ps) (element_of_chunk l v c s h p (from_nat_lt _ _ (and_first _ _ b)))
+    ∙ ap (λ xs. bits_of (take size (drop (p * size) c)) ++ xs) (elements_of_chunk l v c ps s h (and_second _ _ b))
+    ∙ sym (flat_map-append (low_bits 8) (take size (drop (p * size) c)) (flat_selection l c ps))
+
+-- a read of a value that stands for a chunk selects
+pub local_selects : (l : PackedLayout) (v c ps : List ℕ) → IsPackedLayout l → FlatStands l v c → all_below l.elements ps ≡ true → local_answer l v ps ≡ Ok (flat_selection l c ps)
+local_selects l v c ps s h b =
+    let inside : all_below (length v) (flat_map (packed_place_bytes l) ps) ≡ true = ap (λ n. all_below n (flat_map (packed_place_bytes l) ps)) h.len ∙ places_inside l ps b in
+    ap (λ (x : Bool). if x then Ok (packing (flat_map (element_bits l v) ps)) else Err InvalidByteRange) inside
+    ∙ ap (λ bits. Ok (packing bits)) (elements_of_chunk l v c ps s h b)
+    ∙ ap Ok (packed_bytes (flat_selection l c ps) (λ i. byte_small (flat_selection l c ps) i (selected_bytes l c ps (are_bytes c h.chunk.bytes))))

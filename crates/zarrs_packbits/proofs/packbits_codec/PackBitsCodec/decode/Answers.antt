@@ -1,0 +1,40 @@
+use Rattle.std.proofs.Common.{◌≡◌, ◌<◌, ◌^◌, ℕ, List, Bool, true, false, length, arith, sym, ◌∙◌, ap}
+use Rattle.std.specs.Prelude.{IsOkAnd}
+use Rattle.zarrs_array_bytes.specs.Held.{raw_of}
+use Rattle.zarrs_array_bytes.specs.Validity.{Holds}
+use Rattle.zarrs_array_bytes.proofs.ValidLemmas.{raw_items}
+use Rattle.zarrs_bytes.proofs.Coding.{ok}
+use Rattle.zarrs_packbits.specs.PackBitsCodec.{packbits_chunk}
+use Rattle.zarrs_packbits.specs.PackBitsSettings.{keeps_all_bytes}
+use Rattle.zarrs_packbits.specs.PackedLayout.{is_whole}
+use Rattle.zarrs_packbits.specs.PaddingByte.{value_len, padding_holds}
+use Rattle.zarrs_packbits.proofs.Coding.{decoded_holds}
+use Rattle.zarrs_packbits.proofs.Exact.{holds_stands, holds_only}
+use Rattle.zarrs_packbits.proofs.packbits_codec.PackBitsCodec.decode.Goals as goal
+
+items_are : (xs ys : List ℕ) → ok xs ≡ ok ys → ys ≡ xs
+items_are xs ys e = cc
+
+pub unpacked_raw-requires-clause-len : goal.unpacked_raw-requires-clause-len
+unpacked_raw-requires-clause-len c = omega (arith, ap length (raw_items c.args.value), c.value_len-expected.ensures)
+
+exactly : (c : goal.After-new_flen) → IsOkAnd (packbits_chunk c.args.self.now c.args.shape.now c.args.data_type.now c.args.fill_value.now (raw_of c.args.value).items) (Holds c.args.data_type.now c.new_flen.result)
+exactly c =
+    let l = c.in_ok-layout.layout in
+    let long : length (raw_of c.args.value).items ≡ value_len l = omega (arith, ap length (raw_items c.args.value), c.value_len-expected.ensures) in
+    let pad : padding_holds l (raw_of c.args.value).items ≡ true = ap (padding_holds l) (sym (c.deref.ensures.value ∙ raw_items c.args.value)) ∙ sym c.if-not-padding_holds.ensures in
+    let is = items_are _ _ c.in_ok-elements.ensures.exact in
+    let raw = c.in_ok-elements.elements in
+    rw c.new_flen.ensures.made (decoded_holds c.args.self.now c.args.shape.now c.args.data_type.now c.args.fill_value.now (raw_of c.args.value).items (raw_of raw) l (sym c.in_ok-layout.ensures.answer) long pad is)
+
+pub returns-clause-exact : goal.returns-clause-exact
+returns-clause-exact c = exactly c
+
+pub returns-clause-found : goal.returns-clause-found
+returns-clause-found c = holds_stands c.args.self.now c.args.shape.now c.args.data_type.now c.args.fill_value.now (raw_of c.args.value).items c.new_flen.result (exactly c)
+
+pub returns-clause-only : goal.returns-clause-only
+returns-clause-only c = λ chunk stands. holds_only c.args.self.now c.args.shape.now c.args.data_type.now c.args.fill_value.now (raw_of c.args.value).items c.new_flen.result chunk (exactly c) stands
+
+pub returns-clause-in_place : goal.returns-clause-in_place
+returns-clause-in_place c = λ _. exactly c

@@ -1,0 +1,24 @@
+use Rattle.std.proofs.Common.{subst, refl}
+use Rattle.zarrs_chunk.specs.Answer.{AnswersBy, memory_or_fault}
+use Rattle.zarrs_chunk.specs.Indexer.{selection_of}
+use Rattle.zarrs_chunk.specs.Selection.{places_of}
+use Rattle.zarrs_array_bytes.specs.Validity.{Holds}
+use Rattle.zarrs_packbits.specs.PackBitsPartialDecoder.{packbits_handle_of}
+use Rattle.zarrs_packbits.proofs.DecoderReads.{runs_select, runs_filled}
+use Rattle.zarrs_packbits.proofs.packbits_partial_decoder.PackBitsPartialDecoder.partial_decode.Goals as goal
+
+pub returns-clause-selected : goal.returns-clause-selected
+returns-clause-selected g c value chunk here stands =
+    let form = c.args.self.now in
+    let stored = (g.H.BytesPartialDecoderTraits.state (packbits_handle_of form)).value in
+    let places = places_of (selection_of c.args.indexer.now) form.shape in
+    let same = runs_select form.codec form.shape form.data_type form.fill_value stored c.in_ok-runs.runs.items c.as_slice.result.now places c.as_slice.ensures.value c.in_ok-runs.ensures.below c.in_ok-runs.ensures.places value chunk here stands in
+    subst (λ expected. AnswersBy memory_or_fault (Holds form.data_type) c.read_runs.result expected) same c.read_runs.ensures.answer
+
+pub returns-clause-unstored : goal.returns-clause-unstored
+returns-clause-unstored g c here =
+    let form = c.args.self.now in
+    let stored = (g.H.BytesPartialDecoderTraits.state (packbits_handle_of form)).value in
+    let places = places_of (selection_of c.args.indexer.now) form.shape in
+    let same = runs_filled form.codec form.shape form.data_type form.fill_value stored c.in_ok-runs.runs.items c.as_slice.result.now places form.taken c.as_slice.ensures.value c.in_ok-runs.ensures.places here in
+    subst (λ expected. AnswersBy memory_or_fault (Holds form.data_type) c.read_runs.result expected) same c.read_runs.ensures.answer

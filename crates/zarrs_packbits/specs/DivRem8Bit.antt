@@ -1,0 +1,6 @@
+-- Where the bits of components stand in memory.
+use Rattle.std.specs.Prelude.{ℕ, ◌+◌, ◌*◌, ◌/◌, ◌%◌}
+
+-- the place of a bit among the bytes of components, where each has `bits` bits and whole bytes
+abbrev pub padded_bit : ℕ → ℕ → ℕ
+padded_bit bit bits = bit / bits * 8 * ((bits + 7) / 8) + bit % bits

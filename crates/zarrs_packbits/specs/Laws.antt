@@ -1,0 +1,96 @@
+-- Laws of the codec `packbits`.
+use Rattle.std.specs.Prelude.{◌≡◌, ◌<◌, ◌↔◌, ℕ, Bool, true, false, Option, Some, List, length, map, All, Ok}
+use Rattle.zarrs_data_type.specs.Element.{Element, plain, absent, present, Chunk, AreElements}
+use Rattle.zarrs_data_type.specs.ElementType.{ElementType}
+use Rattle.zarrs_data_type.specs.declared.endianness.Endianness.TheVariants.{Little}
+use Rattle.zarrs_array_bytes.specs.Elements.{select}
+use Rattle.zarrs_array_bytes.specs.Update.{update}
+use Rattle.zarrs_bytes.specs.BytesCodec.{BytesWritten}
+use Rattle.zarrs_codec.specs.ByteRanges.{SameByte}
+use Rattle.zarrs_packbits.specs.declared.layout.PackedLayout.{PackedLayout}
+use Rattle.zarrs_packbits.specs.NormalForm.{normal_chunk}
+use Rattle.zarrs_packbits.specs.PackBitsCodec.{packbits_chunk, PackBitsStands, PackBitsWritten}
+use Rattle.zarrs_packbits.specs.PackBitsSettings.{PackBitsSettings, packed_layout, packbits_length, keeps_all_bytes}
+use Rattle.zarrs_packbits.specs.PartialRead.{packed_places_bytes, read_packed_places, read_places_of}
+
+-- A value that is written for a chunk stands for the chunk's normal form.
+abbrev pub WrittenStands : Type 0
+WrittenStands =
+    (settings : PackBitsSettings) (sizes : List ℕ) (type : ElementType) (fill value : List ℕ) (chunk : Chunk)
+    → PackBitsWritten settings sizes type fill value chunk → PackBitsStands settings sizes type fill value (normal_chunk settings type chunk)
+
+-- What is decoded of it is the normal form.
+abbrev pub DecodedIsNormal : Type 0
+DecodedIsNormal =
+    (settings : PackBitsSettings) (sizes : List ℕ) (type : ElementType) (fill value : List ℕ) (chunk : Chunk)
+    → PackBitsWritten settings sizes type fill value chunk → packbits_chunk settings sizes type fill value ≡ Ok (normal_chunk settings type chunk)
+
+-- The normal form of a normal form is itself, for chunks that the codec takes.
+abbrev pub NormalOnce : Type 0
+NormalOnce =
+    (settings : PackBitsSettings) (sizes : List ℕ) (type : ElementType) (fill value : List ℕ) (chunk : Chunk)
+    → PackBitsWritten settings sizes type fill value chunk → normal_chunk settings type (normal_chunk settings type chunk) ≡ normal_chunk settings type chunk
+
+-- A chunk and its normal form are written alike.
+abbrev pub NormalWritten : Type 0
+NormalWritten =
+    (settings : PackBitsSettings) (sizes : List ℕ) (type : ElementType) (fill value : List ℕ) (chunk : Chunk)
+    → PackBitsWritten settings sizes type fill value chunk → PackBitsWritten settings sizes type fill value (normal_chunk settings type chunk)
+
+-- The normal form of selected elements is those selected of the normal form.
+abbrev pub NormalSelected : Type 0
+NormalSelected =
+    (settings : PackBitsSettings) (type : ElementType) (chunk : Chunk) (places : List ℕ)
+    → normal_chunk settings type (select chunk places) ≡ select (normal_chunk settings type chunk) places
+
+-- The normal form of an updated chunk is the normal form updated with that of the new elements.
+abbrev pub NormalUpdated : Type 0
+NormalUpdated =
+    (settings : PackBitsSettings) (type : ElementType) (chunk : Chunk) (places : List ℕ) (new : Chunk)
+    → normal_chunk settings type (update chunk places new) ≡ update (normal_chunk settings type chunk) places (normal_chunk settings type new)
+
+-- A value stands for at most one chunk.
+abbrev pub StandsForOne : Type 0
+StandsForOne =
+    (settings : PackBitsSettings) (sizes : List ℕ) (type : ElementType) (fill value : List ℕ) (chunk other : Chunk)
+    → PackBitsStands settings sizes type fill value chunk → PackBitsStands settings sizes type fill value other → chunk ≡ other
+
+-- Two chunks are written alike exactly if their normal forms are equal.
+abbrev pub WrittenAlike : Type 0
+WrittenAlike =
+    (settings : PackBitsSettings) (sizes : List ℕ) (type : ElementType) (fill value other_value : List ℕ) (chunk other : Chunk)
+    → PackBitsWritten settings sizes type fill value chunk → PackBitsWritten settings sizes type fill other_value other
+    → (value ≡ other_value) ↔ (normal_chunk settings type chunk ≡ normal_chunk settings type other)
+
+-- A written value has the length that the representation says.
+abbrev pub HasRepresentedLength : Type 0
+HasRepresentedLength =
+    (settings : PackBitsSettings) (sizes : List ℕ) (type : ElementType) (fill value : List ℕ) (chunk : Chunk) (len : ℕ)
+    → PackBitsWritten settings sizes type fill value chunk → packbits_length settings sizes type fill ≡ Ok len → length value ≡ len
+
+-- Of a value that stands for a chunk, a read of places inside selects the chunk's elements.
+abbrev pub ReadSelects : Type 0
+ReadSelects =
+    (settings : PackBitsSettings) (sizes : List ℕ) (type : ElementType) (fill value : List ℕ) (chunk : Chunk) (places : List ℕ)
+    → PackBitsStands settings sizes type fill value chunk → All (λ place. place < length chunk) places
+    → read_places_of settings sizes type fill (Some value) places ≡ Ok (select chunk places)
+
+-- Two values that both have all bytes of these places, and the same ones there, are read alike at these places.
+abbrev pub ReadsAlike : Type 0
+ReadsAlike =
+    (settings : PackBitsSettings) (sizes : List ℕ) (type : ElementType) (fill : List ℕ) (layout : PackedLayout) (value other places : List ℕ)
+    → packed_layout settings sizes type fill ≡ Ok layout → All (SameByte value other) (packed_places_bytes layout places)
+    → read_packed_places layout type fill (Some value) places ≡ read_packed_places layout type fill (Some other) places
+
+-- the bytes of an element are below 256, as all bytes are
+abbrev pub HasBytes : Element → Type 0
+HasBytes (plain bytes) = All (λ byte. byte < 256) bytes
+HasBytes absent = Unit {0}
+HasBytes (present element) = HasBytes element
+
+-- Where all bits of whole bytes are kept, a value is written for a chunk exactly if the codec `bytes` in little order writes it.
+abbrev pub WrittenAsBytes : Type 0
+WrittenAsBytes =
+    (settings : PackBitsSettings) (sizes : List ℕ) (type : ElementType) (fill value : List ℕ) (chunk : Chunk)
+    → keeps_all_bytes (packed_layout settings sizes type fill) ≡ true → All HasBytes chunk
+    → PackBitsWritten settings sizes type fill value chunk ↔ BytesWritten (Some Little) sizes type fill value chunk

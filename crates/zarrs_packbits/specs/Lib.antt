@@ -1,0 +1,15 @@
+pub mod Bits
+pub mod BitStream
+pub mod DivRem8Bit
+pub mod KeptBits
+pub mod Laws
+pub mod NormalForm
+pub mod PackBitsCodec
+pub mod PackBitsPartialDecoder
+pub mod PackBitsSettings
+pub mod PackedLayout
+pub mod Packing
+pub mod PaddingByte
+pub mod PartialRead
+pub mod Runs
+pub mod WrittenBits

@@ -1,0 +1,94 @@
+-- Which bits a codec `packbits` keeps, and how it packs the chunks that it takes.
+use Rattle.std.specs.Prelude.{ℕ, ◌+◌, ◌-◌, ◌*◌, ◌/◌, ◌==◌, ◌&&◌, nat_le, nat_lt, Bool, false, not, Option, Some, None, List, Result, Ok, Err, if◌then◌else◌}
+use Rattle.zarrs_chunk.specs.Answer.{◌>>=◌, demand, checked_u64, seen}
+use Rattle.zarrs_chunk.specs.ChunkShape.{product}
+use Rattle.zarrs_chunk.specs.declared.codec_error.CodecError.{CodecError}
+use Rattle.zarrs_chunk.specs.declared.codec_error.CodecError.TheVariants.{UnsupportedDataType, InvalidFillValue, BitRange, Overflow}
+use Rattle.zarrs_chunk.specs.declared.codec_error.CodecName.TheVariants as codec
+use Rattle.zarrs_data_type.specs.ElementType.{ElementType, fixed, text, bytes, optional, component_bytes}
+use Rattle.zarrs_data_type.specs.FillValue.{fill_fits}
+use Rattle.zarrs_metadata.specs.declared.codec.packbits.PackBitsPaddingEncoding.{PackBitsPaddingEncoding}
+use Rattle.zarrs_metadata.specs.declared.codec.packbits.PackBitsPaddingEncoding.TheVariants as padding
+use Rattle.zarrs_metadata.specs.declared.plugin_create_error.PluginCreateError.{PluginCreateError}
+use Rattle.zarrs_metadata.specs.declared.plugin_create_error.PluginCreateError.TheVariants.{BitOrder}
+use Rattle.zarrs_packbits.specs.declared.layout.PackedLayout.{PackedLayout}
+use Rattle.zarrs_packbits.specs.PackedLayout.{is_in_reach, is_whole}
+use Rattle.zarrs_packbits.specs.PaddingByte.{value_len}
+
+-- where the padding byte stands, and the first and the last bit of a component that are kept, where they are given
+pub record PackBitsSettings : Type 0 where
+  pub padding : PackBitsPaddingEncoding
+  pub first_bit : Option ℕ
+  pub last_bit : Option ℕ
+
+-- the number that is given, or else this one
+abbrev pub or_else : Option ℕ → ℕ → ℕ
+or_else None number = number
+or_else (Some given) number = given
+
+-- both bits are given, and the last is below the first
+abbrev pub is_reversed : Option ℕ → Option ℕ → Bool
+is_reversed (Some first) (Some last) = nat_lt last first
+is_reversed (Some first) None = false
+is_reversed None last = false
+
+-- a codec's settings, or why there are none
+abbrev pub packbits_settings : PackBitsPaddingEncoding → Option ℕ → Option ℕ → Result PackBitsSettings PluginCreateError
+packbits_settings padding first last = do
+  _ ← demand (not (is_reversed first last)) BitOrder
+  Ok (record { padding = padding; first_bit = first; last_bit = last })
+
+-- the first bit of a component that is kept
+abbrev pub first_of : PackBitsSettings → ℕ
+first_of settings = or_else settings.first_bit 0
+
+-- the last bit that is kept of a component of so many bits
+abbrev pub last_of : PackBitsSettings → ℕ → ℕ
+last_of settings width = or_else settings.last_bit (width - 1)
+
+-- components of so many bits have the bits that are kept
+abbrev pub has_bits : PackBitsSettings → ℕ → Bool
+has_bits settings width = nat_le (first_of settings) (last_of settings width) && nat_lt (last_of settings width) width
+
+-- where the padding byte stands: nowhere where all bits of whole bytes are kept
+abbrev pub padding_for : PackBitsSettings → ℕ → ℕ → PackBitsPaddingEncoding
+padding_for settings first above = if (first == 0) && (above == 0) then padding.None else settings.padding
+
+-- how a chunk of so many elements is packed, each of so many components of so many bits
+abbrev pub layout_for : PackBitsSettings → ℕ → ℕ → ℕ → Bool → PackedLayout
+layout_for settings elements width components sign =
+    let first = first_of settings in
+    let last = last_of settings width in
+    let size = component_bytes width in
+    let above = 8 * size - (last + 1) in
+    record {
+      elements = elements;
+      group = components;
+      size = size;
+      first = first;
+      count = last + 1 - first;
+      above = above;
+      sign = sign;
+      padding = padding_for settings first above;
+    }
+
+-- How a chunk is packed, or the first cause why the codec doesn't take such chunks. An element has a component at least.
+abbrev pub packed_layout : PackBitsSettings → List ℕ → ElementType → List ℕ → Result PackedLayout CodecError
+packed_layout settings sizes (fixed width components sign) fill = do
+  _ ← demand (fill_fits (fixed width components sign) fill) InvalidFillValue
+  _ ← demand (has_bits settings width && nat_lt 0 components) BitRange
+  count ← checked_u64 (product sizes)
+  _ ← demand (is_in_reach (layout_for settings count width components sign)) Overflow
+  Ok (layout_for settings count width components sign)
+packed_layout settings sizes text fill = Err (UnsupportedDataType codec.PackBits)
+packed_layout settings sizes bytes fill = Err (UnsupportedDataType codec.PackBits)
+packed_layout settings sizes (optional type) fill = Err (UnsupportedDataType codec.PackBits)
+
+-- how many bytes the value of such a chunk has, or the first cause why the codec doesn't take such chunks
+abbrev pub packbits_length : PackBitsSettings → List ℕ → ElementType → List ℕ → Result ℕ CodecError
+packbits_length settings sizes type fill = seen value_len (packed_layout settings sizes type fill)
+
+-- all bits of whole bytes are kept of the chunks that are packed so
+abbrev pub keeps_all_bytes : Result PackedLayout CodecError → Bool
+keeps_all_bytes (Ok l) = is_whole l
+keeps_all_bytes (Err e) = false

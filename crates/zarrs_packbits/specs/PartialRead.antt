@@ -1,0 +1,79 @@
+-- What a read in part answers, by the bits of the places that are asked for alone.
+use Rattle.std.specs.Prelude.{ℕ, ◌+◌, ◌-◌, ◌*◌, ◌/◌, Bool, nat_lt, Option, Some, None, List, length, map, Result, Ok, Err, if◌then◌else◌}
+use Rattle.std.specs.List.{flat_map, list_all, range_with_len}
+use Rattle.zarrs_chunk.specs.Answer.{◌>>=◌, demand}
+use Rattle.zarrs_chunk.specs.Selection.{Selection, places_of}
+use Rattle.zarrs_chunk.specs.declared.codec_error.CodecError.{CodecError}
+use Rattle.zarrs_chunk.specs.declared.codec_error.CodecError.TheVariants.{InvalidByteRange}
+use Rattle.zarrs_data_type.specs.Element.{Chunk, fill_element}
+use Rattle.zarrs_data_type.specs.ElementType.{ElementType}
+use Rattle.zarrs_packbits.specs.BitStream.{element_bits, packed_element}
+use Rattle.zarrs_packbits.specs.PackBitsSettings.{PackBitsSettings, packed_layout}
+use Rattle.zarrs_packbits.specs.declared.layout.PackedLayout.{PackedLayout}
+use Rattle.zarrs_packbits.specs.PackedLayout.{element_bits_len}
+use Rattle.zarrs_packbits.specs.PaddingByte.{lead}
+use Rattle.zarrs_packbits.specs.Packing.{packing}
+
+-- the first byte of a value that holds kept bits of the place
+abbrev pub span_start : PackedLayout → ℕ → ℕ
+span_start l place = lead l + place * element_bits_len l / 8
+
+-- the first byte behind those that hold kept bits of the place
+abbrev pub span_end : PackedLayout → ℕ → ℕ
+span_end l place = lead l + ((place + 1) * element_bits_len l + 7) / 8
+
+-- the numbers of a place's bytes
+abbrev pub packed_place_bytes : PackedLayout → ℕ → List ℕ
+packed_place_bytes l place = range_with_len (span_start l place) (span_end l place - span_start l place)
+
+-- the numbers of the bytes of these places, place by place
+abbrev pub packed_places_bytes : PackedLayout → List ℕ → List ℕ
+packed_places_bytes l places = flat_map (packed_place_bytes l) places
+
+-- all these numbers are below a count
+abbrev pub all_below : ℕ → List ℕ → Bool
+all_below count numbers = list_all (λ number. nat_lt number count) numbers
+
+-- the bytes of the elements at these places, joined: of the stored value, where it has all bytes of the places; the fill element at each, where nothing is stored
+abbrev pub read_packed_bytes : PackedLayout → Option (List ℕ) → List ℕ → List ℕ → Result (List ℕ) CodecError
+read_packed_bytes l None fill places = Ok (flat_map (λ _. fill) places)
+read_packed_bytes l (Some value) fill places =
+    if all_below (length value) (packed_places_bytes l places) then Ok (packing (flat_map (element_bits l value) places)) else Err InvalidByteRange
+
+-- the elements at these places: those of the stored value, where it has all their bytes; the fill element at each, where nothing is stored
+abbrev pub read_packed_places : PackedLayout → ElementType → List ℕ → Option (List ℕ) → List ℕ → Result Chunk CodecError
+read_packed_places l type fill None places = Ok (map (λ _. fill_element type fill) places)
+read_packed_places l type fill (Some value) places = do
+  _ ← demand (all_below (length value) (packed_places_bytes l places)) InvalidByteRange
+  Ok (map (packed_element l value) places)
+
+-- the same by the settings, or the first cause why the codec doesn't take such chunks
+abbrev pub read_places_of : PackBitsSettings → List ℕ → ElementType → List ℕ → Option (List ℕ) → List ℕ → Result Chunk CodecError
+read_places_of settings sizes type fill stored places = do
+  l ← packed_layout settings sizes type fill
+  read_packed_places l type fill stored places
+
+-- the elements that a selection means, of what is stored, or the first refusal
+abbrev pub packbits_read : PackBitsSettings → List ℕ → ElementType → List ℕ → Option (List ℕ) → Selection → Result Chunk CodecError
+packbits_read settings sizes type fill stored selection = do
+  places ← places_of selection sizes
+  read_places_of settings sizes type fill stored places
+
+-- the numbers of the bytes of these places, by the settings
+abbrev pub bytes_of_places : PackBitsSettings → List ℕ → ElementType → List ℕ → List ℕ → Result (List ℕ) CodecError
+bytes_of_places settings sizes type fill places = do
+  l ← packed_layout settings sizes type fill
+  Ok (packed_places_bytes l places)
+
+-- the numbers of the bytes that such a read rests on, or the first refusal
+abbrev pub packbits_plan : PackBitsSettings → List ℕ → ElementType → List ℕ → Selection → Result (List ℕ) CodecError
+packbits_plan settings sizes type fill selection = do
+  places ← places_of selection sizes
+  bytes_of_places settings sizes type fill places
+
+-- the places that a selection means, and how their chunk is packed, or the first refusal
+abbrev pub packbits_places : PackBitsSettings → List ℕ → ElementType → List ℕ → Selection → Result (List ℕ × PackedLayout) CodecError
+packbits_places settings sizes type fill selection = do
+  places ← places_of selection sizes
+  l ← packed_layout settings sizes type fill
+  Ok (places, l)

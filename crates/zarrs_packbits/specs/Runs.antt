@@ -1,0 +1,52 @@
+-- Reading runs of places that follow one another.
+use Rattle.std.specs.Prelude.{◌≡◌, ℕ, ◌+◌, ◌-◌, ◌*◌, ◌/◌, ◌%◌, List, [], ◌∷◌, ◌++◌, map, length, take, drop, Bool, true}
+use Rattle.std.specs.List.{list_all, sum_by}
+use Rattle.zarrs_chunk.specs.Runs.{joined_runs}
+use Rattle.zarrs_codec.specs.ByteRanges.{range_indices}
+use Rattle.zarrs_codec.specs.ByteSpan.{ByteSpan}
+use Rattle.zarrs_packbits.specs.Bits.{bits_of}
+use Rattle.zarrs_packbits.specs.BitStream.{components_from}
+use Rattle.zarrs_packbits.specs.declared.layout.PackedLayout.{PackedLayout}
+use Rattle.zarrs_packbits.specs.PackedLayout.{element_bits_len, is_whole}
+use Rattle.zarrs_packbits.specs.PaddingByte.{lead}
+use Rattle.zarrs_packbits.specs.PartialRead.{packed_places_bytes}
+
+-- the first byte of a value that holds bits of the run
+abbrev pub run_start : PackedLayout → ℕ × ℕ → ℕ
+run_start l run = lead l + run.0 * element_bits_len l / 8
+
+-- the first byte behind those that hold bits of the run
+abbrev pub run_end : PackedLayout → ℕ × ℕ → ℕ
+run_end l run = lead l + ((run.0 + run.1) * element_bits_len l + 7) / 8
+
+-- the bytes that hold bits of the run
+abbrev pub run_span : PackedLayout → ℕ × ℕ → ℕ × ℕ
+run_span l run = (run_start l run, run_end l run)
+
+-- where ranges start and end
+abbrev pub spans : List ByteSpan → List (ℕ × ℕ)
+spans ranges = map (λ range. (range.start, range.end)) ranges
+
+-- both lists have the same numbers: a test that all of the one pass, all of the other pass, and the other way round
+abbrev pub SameNumbers : List ℕ → List ℕ → Type 0
+SameNumbers numbers others = (test : ℕ → Bool) → list_all test numbers ≡ list_all test others
+
+-- The ranges are a plan of a read of these places: the places are cut, in order, into runs of consecutive places, and each range is the bytes of one run. Joined they are the places' bytes and no others. Where all bits of whole bytes are kept, they have as many bytes as the elements.
+pub record IsPlan (l : PackedLayout) (places : List ℕ) (ranges : List ByteSpan) : Type 0 where
+  pub runs : List (ℕ × ℕ)
+  pub joined : joined_runs runs ≡ places
+  pub each : spans ranges ≡ map (run_span l) runs
+  pub bytes : SameNumbers (range_indices ranges) (packed_places_bytes l places)
+  pub sum : is_whole l ≡ true → sum_by (λ range. range.end - range.start) ranges ≡ length places * (l.group * l.size)
+
+-- the components of the elements of these runs, made of the runs' bytes joined
+abbrev pub run_bits : PackedLayout → List ℕ → List (ℕ × ℕ) → List ℕ
+run_bits l bytes [] = []
+run_bits l bytes (run ∷ runs) =
+    let len = run_end l run - run_start l run in
+    components_from l (run.0 * element_bits_len l % 8) (run.1 * l.group) (bits_of (take len bytes)) ++ run_bits l (drop len bytes) runs
+
+-- how many bytes the runs have, joined
+abbrev pub runs_len : PackedLayout → List (ℕ × ℕ) → ℕ
+runs_len l [] = 0
+runs_len l (run ∷ runs) = (run_end l run - run_start l run) + runs_len l runs

@@ -1,0 +1,64 @@
+//! Laws of the codec, over its definitions. The functions do nothing; their contracts are the laws.
+ghost use Rattle.zarrs_packbits.specs.Laws.{WrittenStands, DecodedIsNormal, NormalOnce, NormalWritten, NormalSelected, NormalUpdated, StandsForOne, WrittenAlike, WrittenAsBytes, HasRepresentedLength, ReadSelects, ReadsAlike};
+
+/// A value that is written for a chunk stands for the chunk's normal form.
+pub fn written_stands()
+    ensures law { WrittenStands }
+{}
+
+/// What is decoded of a value that is written for a chunk is the chunk's normal form.
+pub fn decoded_is_normal()
+    ensures law { DecodedIsNormal }
+{}
+
+/// The normal form of a normal form is itself.
+pub fn normal_once()
+    ensures law { NormalOnce }
+{}
+
+/// A chunk and its normal form are written alike.
+pub fn normal_written()
+    ensures law { NormalWritten }
+{}
+
+/// The normal form of selected elements is those selected of the normal form.
+pub fn normal_selected()
+    ensures law { NormalSelected }
+{}
+
+/// The normal form of an updated chunk is the normal form updated with that of the new elements.
+pub fn normal_updated()
+    ensures law { NormalUpdated }
+{}
+
+/// A value stands for at most one chunk.
+pub fn stands_for_one()
+    ensures law { StandsForOne }
+{}
+
+/// Two chunks are written alike exactly if their normal forms are equal.
+pub fn written_alike()
+    ensures law { WrittenAlike }
+{}
+
+/// Where all bits of whole bytes are kept, a value is written exactly if the codec `bytes` in little
+/// order writes it.
+pub fn written_as_bytes()
+    ensures law { WrittenAsBytes }
+{}
+
+/// A written value has the length that the representation says.
+pub fn has_represented_length()
+    ensures law { HasRepresentedLength }
+{}
+
+/// Of a value that stands for a chunk, a read of places inside selects the chunk's elements.
+pub fn read_selects()
+    ensures law { ReadSelects }
+{}
+
+/// A read rests on the bytes of its places alone: two values that both have these bytes, and the
+/// same ones, are read alike.
+pub fn reads_alike()
+    ensures law { ReadsAlike }
+{}

@@ -1,0 +1,19 @@
+//! The array codec `packbits`: some bits of each component of a chunk's elements, packed one behind
+//! another (zarr-extensions codec `packbits`).
+//!
+//! [`PackBitsCodec`] encodes and decodes whole chunks, [`PackBitsPartialDecoder`] reads a chunk in
+//! part, over a storage handle.
+#![tactic(auto)]
+
+mod bit_places;
+mod bit_writer;
+pub mod laws;
+mod layout;
+mod packbits_codec;
+mod packbits_partial_decoder;
+mod runs;
+mod words;
+
+pub use bit_places::div_rem_8bit;
+pub use packbits_codec::PackBitsCodec;
+pub use packbits_partial_decoder::PackBitsPartialDecoder;

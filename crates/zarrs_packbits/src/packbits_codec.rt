@@ -1,0 +1,359 @@
+ghost use Rattle.std.specs.Prelude.{◌≡◌, ℕ, ◌+◌, ◌*◌, ◌^◌, ◌<◌, List, ◌++◌, IfOk, Ok, drop, length, true, false, slice_index};
+ghost use Rattle.zarrs_chunk.specs.Answer.{Answers, AnswersBy, is_fault, memory, never, seen};
+ghost use Rattle.zarrs_chunk.specs.ChunkShape.{product};
+ghost use Rattle.zarrs_data_type.specs.Element.{Chunk};
+ghost use Rattle.zarrs_array_bytes.specs.Held.{flen, raw_of};
+ghost use Rattle.zarrs_array_bytes.specs.Validity.{Holds};
+ghost use Rattle.zarrs_codec.specs.declared.capabilities.PartialDecoderCapability.{PartialDecoderCapability};
+ghost use Rattle.zarrs_codec.specs.declared.capabilities.PartialEncoderCapability.{PartialEncoderCapability};
+ghost use Rattle.zarrs_packbits.specs.Bits.{bits_of};
+ghost use Rattle.zarrs_packbits.specs.BitStream.{components_from, stream_of_bytes};
+ghost use Rattle.zarrs_packbits.specs.PackBitsCodec.{packbits_value, packbits_chunk, PackBitsStands, PackBitsWritten};
+ghost use Rattle.zarrs_packbits.specs.PackBitsSettings.{packbits_settings, keeps_all_bytes, packed_layout, packbits_length, first_of, last_of, padding_for};
+ghost use Rattle.zarrs_packbits.specs.PackedLayout.{IsPackedLayout, is_whole, parts_of, spare_of};
+ghost use Rattle.zarrs_packbits.specs.Packing.{packing};
+ghost use Rattle.zarrs_packbits.specs.PaddingByte.{bytes_before, bytes_behind, lead, value_len, value_with};
+
+use crate::bit_writer::BitWriter;
+use crate::layout::PackedLayout;
+use std::alloc::{AllocError, Global};
+use std::borrow::CowSlice;
+use std::marker::Model;
+use zarrs_array_bytes::{ArrayBytes, ArrayBytesRaw};
+use zarrs_chunk::{ChunkShape, CodecError, CodecName};
+use zarrs_codec::{
+    ArrayCodecTraits, BytesRepresentation, CodecTraits, PartialDecoderCapability,
+    PartialEncoderCapability,
+};
+use zarrs_data_type::{DataType, FillValue, HasComponents};
+use zarrs_metadata::{PackBitsPaddingEncoding, PluginCreateError};
+
+/// The array codec `packbits`: of each component of a chunk's elements some bits are kept, and these
+/// are packed one behind another, the lowest first (zarr-extensions codec `packbits`). It takes
+/// every fixed data type.
+///
+/// Where all bits of whole bytes are kept, a value is the elements' bytes, as of the codec `bytes` in
+/// little order, and there is no padding byte.
+#[derive(Clone, Copy, Debug, PartialEq, Eq)]
+pub struct PackBitsCodec {
+    padding_encoding: PackBitsPaddingEncoding,
+    first_bit: Option<u64>,
+    last_bit: Option<u64>,
+}
+
+impl Model for PackBitsCodec {
+    ghost use Rattle.zarrs_packbits.specs.PackBitsSettings.{PackBitsSettings};
+
+    ghost Value = { PackBitsSettings };
+
+    ghost view = { λ codec. record { padding = codec.padding_encoding; first_bit = codec.first_bit; last_bit = codec.last_bit } };
+
+    ghost inverse = { λ settings. record { padding_encoding = settings.padding; first_bit = settings.first_bit; last_bit = settings.last_bit } };
+}
+
+/// The bytes are below 256, as all bytes are.
+fn bytes_are(_bytes: &[u8])
+    ensures { (i : ℕ) → slice_index _bytes.now i < 256 }
+{}
+
+/// Puts the padding byte, where it stands first.
+fn begun(alloc: Global, layout: &PackedLayout, room: usize) -> Result<BitWriter, AllocError>
+    requires { IsPackedLayout layout.now }
+    ensures { IfOk result (λ w. w ≡ bits_of (bytes_before layout.now.padding (spare_of layout.now))) }
+{
+    let mut writer = BitWriter::with_capacity(alloc, room)?;
+    match layout.padding {
+        PackBitsPaddingEncoding::FirstByte => writer.put(layout.spare() as u64, 8)?,
+        _ => {}
+    }
+    Ok(writer)
+}
+
+/// Puts the padding byte, where it stands last.
+fn ended(layout: &PackedLayout, mut value: Vec<u8>) -> Result<Vec<u8>, AllocError>
+    requires { IsPackedLayout layout.now }
+    ensures { IfOk result (λ v. v.items ≡ value.items ++ bytes_behind layout.now.padding (spare_of layout.now)) }
+{
+    match layout.padding {
+        PackBitsPaddingEncoding::LastByte => value.push(layout.spare())?,
+        _ => {}
+    }
+    Ok(value)
+}
+
+/// The value of a chunk, of its elements' bytes joined.
+fn packed_value(alloc: Global, layout: &PackedLayout, bytes: &[u8]) -> Result<Vec<u8>, AllocError>
+    requires layout { IsPackedLayout layout.now }
+    requires last { layout.now.first + layout.now.count < 2 ^ 64 }
+    requires len { length bytes.now ≡ parts_of layout.now * layout.now.size }
+    ensures { IfOk result (λ v. v.items ≡ value_with layout.now (stream_of_bytes layout.now bytes.now)) }
+{
+    let mut writer = begun(alloc, layout, layout.value_len() as usize)?;
+    writer.put_stream(layout, bytes)?;
+    let value = ended(layout, writer.finish()?)?;
+    Ok(value)
+}
+
+/// The bytes of the elements of the chunk that a value of the right length stands for, joined.
+fn unpacked_bytes(alloc: Global, layout: &PackedLayout, value: &[u8]) -> Result<Vec<u8>, AllocError>
+    requires layout { IsPackedLayout layout.now }
+    requires in_part { is_whole layout.now ≡ false }
+    requires len { length value.now ≡ value_len layout.now }
+    ensures { IfOk result (λ v. v.items ≡ packing (components_from layout.now 0 (parts_of layout.now) (bits_of (drop (lead layout.now) value.now)))) }
+{
+    let parts = layout.elements * layout.group;
+    let mut writer = BitWriter::with_capacity(alloc, (parts * layout.size) as usize)?;
+    writer.put_components(layout, &value[layout.lead()..], 0, parts)?;
+    writer.finish()
+}
+
+/// The value of a chunk, of its elements' bytes. Where all bits of whole bytes are kept, these are
+/// the value.
+fn packed_raw<'a>(
+    alloc: Global,
+    layout: &PackedLayout,
+    raw: ArrayBytesRaw<'a>,
+) -> Result<ArrayBytesRaw<'a>, CodecError>
+    requires layout { IsPackedLayout layout.now }
+    requires last { layout.now.first + layout.now.count < 2 ^ 64 }
+    requires len { length (raw_of raw).items ≡ parts_of layout.now * layout.now.size }
+    ensures exact { Answers memory (λ value. (raw_of value).items) result (Ok (value_with layout.now (stream_of_bytes layout.now (raw_of raw.entry).items))) }
+    ensures kept { is_whole layout.now ≡ true → seen raw_of result ≡ Ok (raw_of raw.entry) }
+    ensures no_fault { is_fault result ≡ false }
+{
+    bytes_are(&raw);
+    if layout.is_whole() {
+        return Ok(raw);
+    }
+    let value = packed_value(alloc, layout, &raw)?;
+    Ok(CowSlice::Owned(value))
+}
+
+/// The bytes of the elements of the chunk that a value stands for. Where all bits of whole bytes are
+/// kept, the value is these bytes.
+fn unpacked_raw<'a>(
+    alloc: Global,
+    layout: &PackedLayout,
+    value: ArrayBytesRaw<'a>,
+) -> Result<ArrayBytesRaw<'a>, CodecError>
+    requires layout { IsPackedLayout layout.now }
+    requires len { length (raw_of value).items ≡ value_len layout.now }
+    ensures exact { Answers memory (λ bytes. (raw_of bytes).items) result (Ok (packing (components_from layout.now 0 (parts_of layout.now) (bits_of (drop (lead layout.now) (raw_of value.entry).items))))) }
+    ensures kept { is_whole layout.now ≡ true → seen raw_of result ≡ Ok (raw_of value.entry) }
+    ensures no_fault { is_fault result ≡ false }
+{
+    bytes_are(&value);
+    if layout.is_whole() {
+        return Ok(value);
+    }
+    let bytes = unpacked_bytes(alloc, layout, &value)?;
+    Ok(CowSlice::Owned(bytes))
+}
+
+impl PackBitsCodec {
+    /// The codec that keeps the bits `first_bit` to `last_bit` of each component, by default all of
+    /// them. Refusals: `BitOrder` where both are given and the last is below the first.
+    pub fn new(
+        padding_encoding: PackBitsPaddingEncoding,
+        first_bit: Option<u64>,
+        last_bit: Option<u64>,
+    ) -> Result<PackBitsCodec, PluginCreateError>
+        ensures made { result ≡ packbits_settings padding_encoding first_bit last_bit }
+    {
+        if let (Some(first), Some(last)) = (first_bit, last_bit) {
+            if last < first {
+                return Err(PluginCreateError::BitOrder);
+            }
+        }
+        Ok(PackBitsCodec {
+            padding_encoding,
+            first_bit,
+            last_bit,
+        })
+    }
+
+    /// The first bit of a component that is kept.
+    fn first(&self) -> u64
+        ensures value { result ≡ first_of self.now }
+    {
+        self.first_bit.unwrap_or(0)
+    }
+
+    /// The last bit that is kept of a component of so many bits.
+    fn last(&self, bits: u64) -> u64
+        requires { 0 < bits }
+        ensures value { result ≡ last_of self.now bits }
+    {
+        match self.last_bit {
+            Some(bit) => bit,
+            None => bits - 1,
+        }
+    }
+
+    /// Where the padding byte stands: nowhere where all bits of whole bytes are kept.
+    fn padding(&self, first: u64, above: u64) -> PackBitsPaddingEncoding
+        ensures value { result ≡ padding_for self.now first above }
+    {
+        if first == 0 && above == 0 {
+            PackBitsPaddingEncoding::None
+        } else {
+            self.padding_encoding
+        }
+    }
+
+    /// How a chunk of this form is packed. Refusals are those of `encoded_representation`.
+    pub(crate) fn layout(
+        &self,
+        shape: &ChunkShape,
+        data_type: &DataType,
+        fill_value: &FillValue,
+    ) -> Result<PackedLayout, CodecError>
+        ensures answer { result ≡ packed_layout self.now shape.now data_type.now fill_value.now }
+        ensures sound { IfOk result IsPackedLayout }
+        ensures last { IfOk result (λ layout. layout.first + layout.count < 2 ^ 64) }
+        ensures elements { IfOk result (λ layout. layout.elements ≡ product shape.now) }
+        ensures no_fault { is_fault result ≡ false }
+    {
+        let Some(components) = HasComponents::components(data_type) else {
+            return Err(CodecError::UnsupportedDataType(CodecName::PackBits));
+        };
+        if !fill_value.fits(data_type) {
+            return Err(CodecError::InvalidFillValue);
+        }
+        let bits = components.component_size_bits;
+        let first = self.first();
+        let last = self.last(bits);
+        if last < first || bits <= last {
+            return Err(CodecError::BitRange);
+        }
+        let elements = shape.num_elements()?;
+        let above = (bits - 1 - last) + (8 - bits % 8) % 8;
+        let layout = PackedLayout {
+            elements,
+            group: components.num_components,
+            size: bits.div_ceil(8),
+            first,
+            count: last - first + 1,
+            above,
+            sign: components.sign_extension,
+            padding: self.padding(first, above),
+        };
+        if layout.is_in_reach() {
+            Ok(layout)
+        } else {
+            Err(CodecError::Overflow)
+        }
+    }
+
+    /// How many bytes the value of such a chunk has. Refusals, the first that holds:
+    /// `UnsupportedDataType` for a type that isn't fixed; `InvalidFillValue`; `BitRange` where a
+    /// component doesn't have the bits that are kept, or the last is below the first; `Overflow`
+    /// where 64 bits don't count the elements' bytes or, but where all bits of whole bytes are kept,
+    /// the kept bits.
+    pub fn encoded_representation(
+        &self,
+        shape: &ChunkShape,
+        data_type: &DataType,
+        fill_value: &FillValue,
+    ) -> Result<BytesRepresentation, CodecError>
+        ensures answer { result ≡ seen BytesRepresentation.FixedSize (packbits_length self.now shape.now data_type.now fill_value.now) }
+    {
+        let layout = self.layout(shape, data_type, fill_value)?;
+        Ok(BytesRepresentation::FixedSize(layout.value_len()))
+    }
+
+    /// The value that is written for the chunk that `elements` hold. Refusals, the first that
+    /// holds: those of `encoded_representation`, those of `ArrayBytes::validate`; `OutOfMemory`.
+    ///
+    /// Where all bits of whole bytes are kept, the answer is what was given, and takes no memory.
+    pub fn encode<'a>(
+        &self,
+        alloc: Global,
+        elements: ArrayBytes<'a>,
+        shape: &ChunkShape,
+        data_type: &DataType,
+        fill_value: &FillValue,
+    ) -> Result<ArrayBytesRaw<'a>, CodecError>
+        ensures found { IfOk result (λ value. (chunk : Chunk) × Holds data_type.now elements.entry chunk × PackBitsWritten self.now shape.now data_type.now fill_value.now (raw_of value).items chunk) }
+        ensures only { (chunk : Chunk) (value : List ℕ) → Holds data_type.now elements.entry chunk → PackBitsWritten self.now shape.now data_type.now fill_value.now value chunk → Answers memory (λ bytes. (raw_of bytes).items) result (Ok value) }
+        ensures exact { Answers memory (λ value. (raw_of value).items) result (packbits_value self.now shape.now data_type.now fill_value.now elements.entry) }
+        ensures in_place { keeps_all_bytes (packed_layout self.now shape.now data_type.now fill_value.now) ≡ true → seen (λ value. (raw_of value).items) result ≡ packbits_value self.now shape.now data_type.now fill_value.now elements.entry }
+        ensures kept { keeps_all_bytes (packed_layout self.now shape.now data_type.now fill_value.now) ≡ true → IfOk result (λ value. elements.entry ≡ flen (raw_of value)) }
+        ensures no_fault { is_fault result ≡ false }
+    {
+        let layout = self.layout(shape, data_type, fill_value)?;
+        elements.validate(layout.elements, data_type)?;
+        let raw = elements.into_fixed()?;
+        packed_raw(alloc, &layout, raw)
+    }
+
+    /// The chunk that a value stands for. Refusals, the first that holds: those of
+    /// `encoded_representation`; `InvalidBytesLength` where the value has another length;
+    /// `PaddingByte` where its padding byte isn't the number of spare bits; `OutOfMemory`.
+    ///
+    /// Where all bits of whole bytes are kept, the answer holds what was given, and takes no memory.
+    pub fn decode<'a>(
+        &self,
+        alloc: Global,
+        value: ArrayBytesRaw<'a>,
+        shape: &ChunkShape,
+        data_type: &DataType,
+        fill_value: &FillValue,
+    ) -> Result<ArrayBytes<'a>, CodecError>
+        ensures found { IfOk result (λ elements. (chunk : Chunk) × Holds data_type.now elements chunk × PackBitsStands self.now shape.now data_type.now fill_value.now (raw_of value.entry).items chunk) }
+        ensures only { (chunk : Chunk) → PackBitsStands self.now shape.now data_type.now fill_value.now (raw_of value.entry).items chunk → AnswersBy memory (Holds data_type.now) result (Ok chunk) }
+        ensures exact { AnswersBy memory (Holds data_type.now) result (packbits_chunk self.now shape.now data_type.now fill_value.now (raw_of value.entry).items) }
+        ensures in_place { keeps_all_bytes (packed_layout self.now shape.now data_type.now fill_value.now) ≡ true → AnswersBy never (Holds data_type.now) result (packbits_chunk self.now shape.now data_type.now fill_value.now (raw_of value.entry).items) }
+        ensures kept { keeps_all_bytes (packed_layout self.now shape.now data_type.now fill_value.now) ≡ true → IfOk result (λ elements. elements ≡ flen (raw_of value.entry)) }
+        ensures no_fault { is_fault result ≡ false }
+    {
+        let layout = self.layout(shape, data_type, fill_value)?;
+        let expected = layout.value_len();
+        let found = value.len() as u64;
+        if found != expected {
+            return Err(CodecError::InvalidBytesLength {
+                len: found,
+                expected,
+            });
+        }
+        if !layout.padding_holds(&value) {
+            return Err(CodecError::PaddingByte);
+        }
+        let elements = unpacked_raw(alloc, &layout, value)?;
+        Ok(ArrayBytes::new_flen(elements))
+    }
+}
+
+impl Default for PackBitsCodec {
+    /// The codec that keeps all bits, without a padding byte.
+    fn default() -> PackBitsCodec
+        ensures made { result ≡ record { padding = PackBitsPaddingEncoding.None; first_bit = None; last_bit = None } }
+    {
+        PackBitsCodec {
+            padding_encoding: PackBitsPaddingEncoding::None,
+            first_bit: None,
+            last_bit: None,
+        }
+    }
+}
+
+impl CodecTraits for PackBitsCodec {
+    ghost reads_in_part = { λ _. record { partial_read = true; partial_decode = true } };
+
+    ghost writes_in_part = { λ _. record { partial_encode = false } };
+
+    fn partial_decoder_capability(&self) -> PartialDecoderCapability {
+        PartialDecoderCapability {
+            partial_read: true,
+            partial_decode: true,
+        }
+    }
+
+    fn partial_encoder_capability(&self) -> PartialEncoderCapability {
+        PartialEncoderCapability {
+            partial_encode: false,
+        }
+    }
+}
+
+impl ArrayCodecTraits for PackBitsCodec {}

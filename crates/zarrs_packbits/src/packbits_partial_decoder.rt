@@ -1,0 +1,273 @@
+ghost use Rattle.std.specs.Prelude.{◌≡◌, ◌<◌, ◌≤◌, ◌+◌, ℕ, true, false, List, Some, None, Ok, IfOk, IfErr, All, is_some, is_ok, map};
+ghost use Rattle.zarrs_chunk.specs.Answer.{Answers, AnswersBy, fault, is_fault, memory, memory_or_fault, seen};
+ghost use Rattle.zarrs_chunk.specs.Indexer.{selection_of};
+ghost use Rattle.zarrs_chunk.specs.Runs.{joined_runs};
+ghost use Rattle.zarrs_chunk.specs.Selection.{places_of};
+ghost use Rattle.zarrs_data_type.specs.Element.{Chunk, fill_element};
+ghost use Rattle.zarrs_array_bytes.specs.Elements.{select};
+ghost use Rattle.zarrs_array_bytes.specs.Validity.{Holds};
+ghost use Rattle.zarrs_codec.specs.Refused.{outcome};
+ghost use Rattle.zarrs_codec.specs.StorageState.{after_reading, are_sure};
+ghost use Rattle.zarrs_packbits.specs.PackBitsCodec.{PackBitsStands};
+ghost use Rattle.zarrs_packbits.specs.PackBitsSettings.{packed_layout};
+ghost use Rattle.zarrs_packbits.specs.PartialRead.{bytes_of_places, packbits_places, packbits_plan, packbits_read, read_places_of};
+ghost use Rattle.zarrs_packbits.specs.Runs.{IsPlan};
+ghost use Rattle.zarrs_packbits.specs.PackedLayout.{IsPackedLayout};
+ghost use Rattle.zarrs_chunk.specs.ChunkShape.{product};
+
+use crate::layout::PackedLayout;
+use crate::packbits_codec::PackBitsCodec;
+use crate::runs::{read_runs, run_ranges};
+use std::alloc::Global;
+use std::borrow::CowSlice;
+use zarrs_array_bytes::ArrayBytes;
+use zarrs_chunk::{ChunkShape, CodecError, Indexer};
+use zarrs_codec::{ArrayPartialDecoderTraits, ByteRange, BytesPartialDecoderTraits, Refused};
+use zarrs_data_type::{DataType, FillValue};
+
+/// Reads a chunk of [`PackBitsCodec`] in part, over a storage handle that it owns. A read looks at
+/// the bytes that hold bits of the places that are asked for and at no others: it checks neither
+/// the value's length nor its padding byte.
+#[derive(Drop)]
+pub struct PackBitsPartialDecoder<H> {
+    handle: H,
+    codec: PackBitsCodec,
+    shape: ChunkShape,
+    data_type: DataType,
+    fill_value: FillValue,
+    ghost taken: { is_ok (packed_layout codec shape data_type fill_value) ≡ true },
+}
+
+impl PackBitsCodec {
+    ghost use Rattle.zarrs_packbits.specs.PackBitsPartialDecoder.{packbits_form_of, packbits_handle_of};
+
+    /// How a chunk is packed that the codec takes.
+    fn taken_layout(
+        &self,
+        shape: &ChunkShape,
+        data_type: &DataType,
+        fill_value: &FillValue,
+    ) -> PackedLayout
+        requires taken { is_ok (packed_layout self.now shape.now data_type.now fill_value.now) ≡ true }
+        ensures is { packed_layout self.now shape.now data_type.now fill_value.now ≡ Ok result }
+        ensures sound { IsPackedLayout result }
+        ensures elements { result.elements ≡ product shape.now }
+    {
+        match self.layout(shape, data_type, fill_value) {
+            Ok(layout) => layout,
+            Err(_) => unreachable!(),
+        }
+    }
+
+    /// The elements at the places of these runs, each a start and a length, in order, over a handle
+    /// that keeps a chunk's value.
+    fn read_runs<H: BytesPartialDecoderTraits>(
+        &self,
+        alloc: Global,
+        handle: &mut H,
+        shape: &ChunkShape,
+        data_type: &DataType,
+        fill_value: &FillValue,
+        runs: &[(u64, u64)],
+    ) -> Result<ArrayBytes<'static>, CodecError>
+        requires taken { is_ok (packed_layout self.now shape.now data_type.now fill_value.now) ≡ true }
+        requires filled { All (λ run. 0 < run.1) runs.now }
+        requires below { All (λ run. run.0 + run.1 ≤ product shape.now) runs.now }
+        ensures answer { AnswersBy memory_or_fault (Holds data_type.now) result (read_places_of self.now shape.now data_type.now fill_value.now (H.state handle.old).value (joined_runs runs.now)) }
+        ensures sure { IfOk (bytes_of_places self.now shape.now data_type.now fill_value.now (joined_runs runs.now)) (λ numbers. are_sure (H.state handle.old).sure numbers ≡ true → is_fault result ≡ false) }
+        ensures left { H.state handle.new ≡ after_reading result (H.state handle.old) }
+        ensures same_reference { H.lent handle.new ≡ H.lent handle.old }
+    {
+        let layout = self.taken_layout(shape, data_type, fill_value);
+        let fill = fill_value.as_ne_bytes();
+        let bytes = read_runs(alloc, handle, &layout, fill, runs)?;
+        Ok(ArrayBytes::new_flen(CowSlice::Owned(bytes)))
+    }
+
+    /// What a partial decoder keeps of a chunk that the codec takes.
+    fn parts_of_decoder(
+        &self,
+        shape: &ChunkShape,
+        data_type: &DataType,
+        fill_value: &FillValue,
+    ) -> Result<(ChunkShape, DataType, FillValue), CodecError>
+        ensures answer { Answers memory (λ parts. parts) result (seen (λ _. (shape.now, data_type.now, fill_value.now)) (packed_layout self.now shape.now data_type.now fill_value.now)) }
+        ensures taken { IfOk result (λ parts. is_ok (packed_layout self.now parts.0 parts.1 parts.2) ≡ true) }
+        ensures no_fault { is_fault result ≡ false }
+    {
+        self.layout(shape, data_type, fill_value)?;
+        let shape = shape.clone()?;
+        let data_type = data_type.clone()?;
+        let fill_value = fill_value.clone()?;
+        Ok((shape, data_type, fill_value))
+    }
+
+    /// A decoder of a chunk in part, over a handle. Refusals: those of `encoded_representation`;
+    /// `OutOfMemory`. A refusal hands the handle back as it was.
+    pub fn partial_decoder<H: BytesPartialDecoderTraits>(
+        &self,
+        alloc: Global,
+        handle: H,
+        shape: &ChunkShape,
+        data_type: &DataType,
+        fill_value: &FillValue,
+    ) -> Result<PackBitsPartialDecoder<H>, Refused<H>>
+        ensures answer { Answers memory (λ made. made) (outcome result) (seen (λ _. tt) (packed_layout self.now shape.now data_type.now fill_value.now)) }
+        ensures form { IfOk result (λ decoder. packbits_form_of decoder ≡ record { settings = self.now; sizes = shape.now; type = data_type.now; fill = fill_value.now }) }
+        ensures over { IfOk result (λ decoder. packbits_handle_of decoder ≡ handle) }
+        ensures handed_back { IfErr result (λ refused. refused.handle ≡ handle) }
+        ensures no_fault { is_fault (outcome result) ≡ false }
+    {
+        match self.parts_of_decoder(shape, data_type, fill_value) {
+            Ok((shape, data_type, fill_value)) => Ok(PackBitsPartialDecoder {
+                handle,
+                codec: *self,
+                shape,
+                data_type,
+                fill_value,
+            }),
+            Err(error) => Err(Refused { error, handle }),
+        }
+    }
+}
+
+impl<H: BytesPartialDecoderTraits> PackBitsPartialDecoder<H> {
+    ghost use Rattle.zarrs_packbits.specs.PackBitsPartialDecoder.{packbits_form_of, packbits_handle_of};
+
+    /// The type of the elements.
+    pub fn data_type(&self) -> &DataType
+        ensures value { result.now ≡ (packbits_form_of self.now).type }
+    {
+        &self.data_type
+    }
+
+    /// The elements that the indexer means, in its order: those of the stored value by the places'
+    /// bits alone, and the fill value at each place where nothing is stored. Refusals, the first
+    /// that holds: those of `Indexer::places`; `InvalidByteRange` where a place's bytes lie past the
+    /// value's end; `OutOfMemory` and `Storage`. `Storage` comes after the refusals of the indexer,
+    /// and never where all bytes of the places are sure.
+    pub fn partial_decode(
+        &mut self,
+        alloc: Global,
+        indexer: &Indexer,
+    ) -> Result<ArrayBytes<'static>, CodecError>
+        ensures selected { let form = packbits_form_of self.old in (value : List ℕ) (chunk : Chunk) → (H.state (packbits_handle_of self.old)).value ≡ Some value → PackBitsStands form.settings form.sizes form.type form.fill value chunk → AnswersBy memory_or_fault (Holds form.type) result (seen (select chunk) (places_of (selection_of indexer.now) form.sizes)) }
+        ensures unstored { let form = packbits_form_of self.old in (H.state (packbits_handle_of self.old)).value ≡ None → AnswersBy memory_or_fault (Holds form.type) result (seen (map (λ _. fill_element form.type form.fill)) (places_of (selection_of indexer.now) form.sizes)) }
+        ensures answer { let form = packbits_form_of self.old in AnswersBy memory_or_fault (Holds form.type) result (packbits_read form.settings form.sizes form.type form.fill (H.state (packbits_handle_of self.old)).value (selection_of indexer.now)) }
+        ensures indexer_first { is_ok (places_of (selection_of indexer.now) (packbits_form_of self.old).sizes) ≡ false → is_fault result ≡ false }
+        ensures sure { let form = packbits_form_of self.old in IfOk (packbits_plan form.settings form.sizes form.type form.fill (selection_of indexer.now)) (λ numbers. are_sure (H.state (packbits_handle_of self.old)).sure numbers ≡ true → is_fault result ≡ false) }
+        ensures left { H.state (packbits_handle_of self.new) ≡ after_reading result (H.state (packbits_handle_of self.old)) }
+        ensures same_reference { H.lent (packbits_handle_of self.new) ≡ H.lent (packbits_handle_of self.old) }
+        ensures form_kept { packbits_form_of self.new ≡ packbits_form_of self.old }
+    {
+        let runs = indexer.runs(alloc, &self.shape)?;
+        self.codec.read_runs(
+            alloc,
+            &mut self.handle,
+            &self.shape,
+            &self.data_type,
+            &self.fill_value,
+            runs.as_slice(),
+        )
+    }
+
+    /// The ranges of bytes that such a read asks for, one for each run of consecutive places: the
+    /// bytes that hold bits of the places, and no others. None is empty. Where all bits of whole
+    /// bytes are kept, their lengths sum to the elements' bytes. Refusals, the first that holds:
+    /// those of `Indexer::places`; `OutOfMemory`.
+    pub fn planned_ranges(
+        &self,
+        alloc: Global,
+        indexer: &Indexer,
+    ) -> Result<Vec<ByteRange>, CodecError>
+        ensures plan { let form = packbits_form_of self.now in AnswersBy memory (λ ranges read. IsPlan read.1 read.0 ranges.items) result (packbits_places form.settings form.sizes form.type form.fill (selection_of indexer.now)) }
+        ensures filled { IfOk result (λ ranges. All (λ range. range.start < range.end) ranges.items) }
+        ensures no_fault { is_fault result ≡ false }
+    {
+        let asked = indexer.runs(alloc, &self.shape)?;
+        let layout = self
+            .codec
+            .taken_layout(&self.shape, &self.data_type, &self.fill_value);
+        let ranges = run_ranges(alloc, &layout, asked.as_slice())?;
+        Ok(ranges)
+    }
+
+    /// Whether a value is stored. Refusals: `Storage`, but never where the handle has sure bytes.
+    pub fn exists(&mut self) -> Result<bool, CodecError>
+        ensures answer { Answers fault (λ there. there) result (Ok (is_some (H.state (packbits_handle_of self.old)).value)) }
+        ensures sure { is_some (H.state (packbits_handle_of self.old)).sure ≡ true → is_fault result ≡ false }
+        ensures left { H.state (packbits_handle_of self.new) ≡ after_reading result (H.state (packbits_handle_of self.old)) }
+        ensures same_reference { H.lent (packbits_handle_of self.new) ≡ H.lent (packbits_handle_of self.old) }
+        ensures form_kept { packbits_form_of self.new ≡ packbits_form_of self.old }
+    {
+        self.handle.exists()
+    }
+
+    /// How many bytes the handle keeps in memory.
+    pub fn size_held(&self) -> usize
+        ensures value { result ≡ H.held (packbits_handle_of self.now) }
+    {
+        self.handle.size_held()
+    }
+
+    /// Whether a part is read without the rest: where the handle reads ranges by themselves.
+    pub fn supports_partial_decode(&self) -> bool
+        ensures value { result ≡ H.reads_ranges }
+    {
+        self.handle.supports_partial_decode()
+    }
+}
+
+impl<H: BytesPartialDecoderTraits> ArrayPartialDecoderTraits for PackBitsPartialDecoder<H> {
+    ghost use Rattle.zarrs_packbits.specs.PackBitsPartialDecoder.{packbits_form_of, packbits_handle_of, packbits_reader};
+
+    ghost reader = { λ decoder. packbits_reader (packbits_form_of decoder) (H.state (packbits_handle_of decoder)).value H.reads_ranges };
+
+    ghost state = { λ decoder. H.state (packbits_handle_of decoder) };
+
+    ghost lent = { λ decoder. H.lent (packbits_handle_of decoder) };
+
+    ghost held = { λ decoder. H.held (packbits_handle_of decoder) };
+
+    fn data_type(&self) -> &DataType {
+        PackBitsPartialDecoder::data_type(self)
+    }
+
+    fn exists(&mut self) -> Result<bool, CodecError> {
+        PackBitsPartialDecoder::exists(self)
+    }
+
+    fn size_held(&self) -> usize {
+        PackBitsPartialDecoder::size_held(self)
+    }
+
+    fn partial_decode(
+        &mut self,
+        alloc: Global,
+        indexer: &Indexer,
+    ) -> Result<ArrayBytes<'static>, CodecError> {
+        PackBitsPartialDecoder::partial_decode(self, alloc, indexer)
+    }
+
+    fn supports_partial_decode(&self) -> bool {
+        PackBitsPartialDecoder::supports_partial_decode(self)
+    }
+}
+
+impl<H> PackBitsPartialDecoder<H> {
+    ghost use Rattle.zarrs_packbits.specs.PackBitsPartialDecoder.{packbits_handle_of};
+
+    /// The handle, as it stands.
+    pub fn into_handle(self) -> H
+        ensures value { result ≡ packbits_handle_of self }
+    {
+        let PackBitsPartialDecoder {
+            handle,
+            codec: _,
+            shape: _,
+            data_type: _,
+            fill_value: _,
+        } = self;
+        handle
+    }
+}

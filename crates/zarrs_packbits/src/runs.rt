@@ -1,0 +1,138 @@
+//! Reading runs of places.
+ghost use Rattle.std.specs.Prelude.{◌≡◌, ℕ, ◌+◌, ◌-◌, ◌*◌, ◌^◌, ◌<◌, ◌≤◌, ◌++◌, true, false, All, IfOk, Ok, List, length, map, min};
+ghost use Rattle.std.specs.List.{flat_map};
+ghost use Rattle.zarrs_chunk.specs.Answer.{Answers, memory_or_fault, is_fault};
+ghost use Rattle.zarrs_chunk.specs.Runs.{joined_runs};
+ghost use Rattle.zarrs_codec.specs.StorageState.{after_reading, are_sure};
+ghost use Rattle.zarrs_packbits.specs.PackedLayout.{IsPackedLayout, is_whole};
+ghost use Rattle.zarrs_packbits.specs.Packing.{packing};
+ghost use Rattle.zarrs_packbits.specs.PartialRead.{packed_places_bytes, read_packed_bytes};
+ghost use Rattle.zarrs_packbits.specs.Runs.{run_span, run_bits, runs_len, spans};
+
+use crate::bit_writer::{BitWriter, in_range};
+use crate::layout::PackedLayout;
+use std::alloc::{AllocError, Global};
+use zarrs_array_bytes::append_copies;
+use zarrs_chunk::CodecError;
+use zarrs_codec::{ByteRange, BytesPartialDecoderTraits};
+
+/// One range of bytes for each run of places.
+pub(crate) fn run_ranges(
+    alloc: Global,
+    layout: &PackedLayout,
+    runs: &[(u64, u64)],
+) -> Result<Vec<ByteRange>, AllocError>
+    requires layout { IsPackedLayout layout.now }
+    requires filled { All (λ run. 0 < run.1) runs.now }
+    requires below { All (λ run. run.0 + run.1 ≤ layout.now.elements) runs.now }
+    ensures spans { IfOk result (λ v. map (run_span layout.now) runs.now ≡ spans v.items) }
+    ensures filled { IfOk result (λ v. All (λ range. range.start < range.end) v.items) }
+{
+    let mut ranges = Vec::with_capacity(alloc, runs.len())?;
+    for (start, len) in runs {
+        let (from, to) = layout.run_span(*start, *len);
+        match ByteRange::new(from..to) {
+            None => unreachable!(),
+            Some(range) => ranges.push(range)?,
+        }
+    }
+    Ok(ranges)
+}
+
+/// Puts the components of the elements of the runs, of the runs' bytes joined.
+fn put_runs(
+    writer: &mut BitWriter,
+    layout: &PackedLayout,
+    bytes: &[u8],
+    runs: &[(u64, u64)],
+) -> Result<(), AllocError>
+    requires layout { IsPackedLayout layout.now }
+    requires in_part { is_whole layout.now ≡ false }
+    requires filled { All (λ run. 0 < run.1) runs.now }
+    requires below { All (λ run. run.0 + run.1 ≤ layout.now.elements) runs.now }
+    requires len { length bytes.now ≡ runs_len layout.now runs.now }
+    ensures { IfOk result (λ _. writer.new ≡ writer.old ++ run_bits layout.now bytes.now runs.now) }
+{
+    let mut at = 0;
+    for (start, len) in runs {
+        let (from, to) = layout.run_span(*start, *len);
+        let count = (to - from) as usize;
+        let offset = (*start * (layout.group * layout.count)) % 8;
+        writer.put_components(layout, &bytes[at..at + count], offset, *len * layout.group)?;
+        at += count;
+    }
+    Ok(())
+}
+
+/// How many places the runs have, or `u64::MAX` where they have more.
+fn count_of(runs: &[(u64, u64)]) -> u64
+    ensures { result ≡ min (length (joined_runs runs.now)) (2 ^ 64 - 1) }
+{
+    let mut count: u64 = 0;
+    for (_, len) in runs {
+        count = count.saturating_add(*len);
+    }
+    count
+}
+
+/// The elements of the runs, of the runs' bytes joined. Where all bits of whole bytes are kept,
+/// these are the elements.
+fn unpack_runs(
+    alloc: Global,
+    layout: &PackedLayout,
+    bytes: Vec<u8>,
+    runs: &[(u64, u64)],
+) -> Result<Vec<u8>, AllocError>
+    requires layout { IsPackedLayout layout.now }
+    requires filled { All (λ run. 0 < run.1) runs.now }
+    requires below { All (λ run. run.0 + run.1 ≤ layout.now.elements) runs.now }
+    requires len { length bytes.items ≡ runs_len layout.now runs.now }
+    ensures { IfOk result (λ v. v.items ≡ packing (run_bits layout.now bytes.items runs.now)) }
+{
+    if layout.is_whole() {
+        return Ok(in_range(bytes));
+    }
+    let element = layout.group.saturating_mul(layout.size);
+    let room = count_of(runs).saturating_mul(element);
+    let mut writer = BitWriter::with_capacity(alloc, room as usize)?;
+    put_runs(&mut writer, layout, bytes.as_slice(), runs)?;
+    writer.finish()
+}
+
+/// The fill element for each place of the runs. It is the same for each, so the places are counted,
+/// and nothing is made run by run. No memory has room for `u64::MAX` of them.
+fn fill_runs(alloc: Global, fill: &[u8], runs: &[(u64, u64)]) -> Result<Vec<u8>, AllocError>
+    requires { 0 < length fill.now }
+    ensures { IfOk result (λ bytes. bytes.items ≡ flat_map (λ _. fill.now) (joined_runs runs.now)) }
+{
+    let count = count_of(runs);
+    let room = fill.len().saturating_mul(count as usize);
+    let mut bytes = Vec::with_capacity(alloc, room)?;
+    append_copies(&mut bytes, fill, count)?;
+    Ok(bytes)
+}
+
+/// The elements at the places of these runs of what a handle keeps, joined; the fill element at
+/// each where nothing is stored.
+pub(crate) fn read_runs<H: BytesPartialDecoderTraits>(
+    alloc: Global,
+    handle: &mut H,
+    layout: &PackedLayout,
+    fill: &[u8],
+    runs: &[(u64, u64)],
+) -> Result<Vec<u8>, CodecError>
+    requires layout { IsPackedLayout layout.now }
+    requires fill { 0 < length fill.now }
+    requires filled { All (λ run. 0 < run.1) runs.now }
+    requires below { All (λ run. run.0 + run.1 ≤ layout.now.elements) runs.now }
+    ensures answer { Answers memory_or_fault (λ v. v.items) result (read_packed_bytes layout.now (H.state handle.old).value fill.now (joined_runs runs.now)) }
+    ensures sure { are_sure (H.state handle.old).sure (packed_places_bytes layout.now (joined_runs runs.now)) ≡ true → is_fault result ≡ false }
+    ensures left { H.state handle.new ≡ after_reading result (H.state handle.old) }
+    ensures same_reference { H.lent handle.new ≡ H.lent handle.old }
+{
+    let ranges = run_ranges(alloc, layout, runs)?;
+    match handle.partial_decode_many(alloc, ranges.as_slice())? {
+        Some(bytes) => Ok(unpack_runs(alloc, layout, bytes, runs)?),
+        None => Ok(fill_runs(alloc, fill, runs)?),
+    }
+}
