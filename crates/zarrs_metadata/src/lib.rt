@@ -1,8 +1,8 @@
 //! The parts of codec metadata that hold a condition by their type, and the one error of reading
 //! metadata and of making codecs from it.
 //!
-//! Zarr v3 codec `transpose` (its key `order`) and zarr-extensions' codec `reshape` (its key
-//! `shape`).
+//! Zarr v3 codec `transpose` (its key `order`), zarr-extensions' codec `reshape` (its key `shape`),
+//! and codec `vlen` of codec.zarrs.dev (its keys `index_data_type` and `index_location`).
 #![tactic(auto)]
 
 mod codec;
@@ -11,4 +11,5 @@ mod plugin_create_error;
 
 pub use codec::reshape::{ReshapeDim, ReshapeShape};
 pub use codec::transpose::TransposeOrder;
+pub use codec::vlen::{VlenIndexDataType, VlenIndexLocation};
 pub use plugin_create_error::PluginCreateError;
