@@ -37,7 +37,7 @@ copy_at : (bs : List ℕ) (n k : ℕ) → k < n → between (get_or (bytes_with_
 copy_at bs n k l = rw add-one (cut_at (λ part. part) [] 0 (replicate n bs) k bs refl (omega (arith, length-replicate n bs)) ∙ copied_at bs n k l)
 
 module _ (refusal : LengthRefusal) where
-  blank_fits : (t : ElementType) (n : ℕ) → levels_fit refusal t n (blank_elements t n) ≡ Ok tt
+  pub blank_fits : (t : ElementType) (n : ℕ) → levels_fit refusal t n (blank_elements t n) ≡ Ok tt
   blank_fits (fixed w c s) n = length_due refusal _ _ (count_of (n * element_size w c) 0)
   blank_fits text n = length_due refusal _ _ (count_of (n + 1) 0)
   blank_fits bytes n = length_due refusal _ _ (count_of (n + 1) 0)

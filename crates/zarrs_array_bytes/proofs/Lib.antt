@@ -16,3 +16,5 @@ pub mod Stretches
 pub mod Splices
 pub mod UpdateLaw
 pub mod AnswerLemmas
+pub mod PresentLemmas
+pub mod PresentAnswers

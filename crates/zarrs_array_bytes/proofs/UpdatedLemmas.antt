@@ -44,7 +44,7 @@ length-cuts n os xs = length-map-range_with_len (cut os xs) 0 n
 
 -- ---- elements under a mask
 
-abbrev flags : List ℕ → List Element → List Element
+abbrev pub flags : List ℕ → List Element → List Element
 flags [] es = []
 flags (f ∷ fs) [] = []
 flags (f ∷ fs) (e ∷ es) = under_flag f e ∷ flags fs es
@@ -78,7 +78,7 @@ flags-update fs es (p ∷ ps) (g ∷ gs) (d ∷ ds) l =
 pub length-elements : (t : ElementType) (n : ℕ) (h : Held) → length (elements t n h) ≡ n
 length-elements t n h = length-map-range_with_len (element_at t h) 0 n
 
-elements-flags : (t : ElementType) (n : ℕ) (h : Held) (m : Raw) → length m.items ≡ n → elements (optional t) n (masked h m) ≡ flags m.items (elements t n h)
+pub elements-flags : (t : ElementType) (n : ℕ) (h : Held) (m : Raw) → length m.items ≡ n → elements (optional t) n (masked h m) ≡ flags m.items (elements t n h)
 elements-flags t n h m e =
     let count : length m.items ≡ length (elements t n h) = e ∙ sym (length-elements t n h) in
     sym (fill_by_all (element_at (optional t) (masked h m)) (flags m.items (elements t n h)) n absent (length-flags m.items (elements t n h) count ∙ e) (λ k l.

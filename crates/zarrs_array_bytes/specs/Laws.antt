@@ -1,11 +1,13 @@
 -- Laws over the definitions alone.
-use Rattle.std.specs.Prelude.{◌≡◌, ◌≢◌, ℕ, ◌<◌, List, length, get_or}
-use Rattle.zarrs_data_type.specs.ElementType.{ElementType}
+use Rattle.std.specs.Prelude.{◌≡◌, ◌≢◌, ℕ, ◌<◌, true, nat_lt, List, length, get_or, Ok}
+use Rattle.std.specs.List.{list_all}
+use Rattle.zarrs_data_type.specs.ElementType.{ElementType, optional}
 use Rattle.zarrs_data_type.specs.Element.{absent, Chunk, AreElements}
-use Rattle.zarrs_array_bytes.specs.Held.{Held}
+use Rattle.zarrs_array_bytes.specs.Held.{Raw, Held, masked}
 use Rattle.zarrs_array_bytes.specs.Elements.{select}
-use Rattle.zarrs_array_bytes.specs.Validity.{Holds}
+use Rattle.zarrs_array_bytes.specs.Validity.{sizes_fit, Holds}
 use Rattle.zarrs_array_bytes.specs.Update.{update}
+use Rattle.zarrs_array_bytes.specs.Present.{present_elements, mask_of, expanded, present_places, present_count, present_chunk, expanded_chunk}
 
 -- What a container holds as elements of a type are elements of that type.
 abbrev pub HeldAreElements : Type 0
@@ -27,3 +29,31 @@ UpdateThenSelect =
     (chunk new : Chunk) (places others : List ℕ) (i : ℕ) → length places ≡ length new → i < length others → get_or others i 0 < length chunk
     → (IsUntouched places (get_or others i 0) → get_or (select (update chunk places new) others) i absent ≡ get_or chunk (get_or others i 0) absent)
     × ((number : ℕ) → IsLastWrite places (get_or others i 0) number → get_or (select (update chunk places new) others) i absent ≡ get_or new number absent)
+
+-- what is taken out of a container under a mask is what is present of the chunk, so many, under the chunk's mask
+pub record IsPresent (type : ElementType) (inner : Held) (flags : Raw) (chunk : Chunk) : Type 0 where
+  pub elements : present_chunk type inner flags.items ≡ Ok (present_elements chunk)
+  pub count : present_count flags.items ≡ Ok (length (present_elements chunk))
+  pub mask : mask_of chunk ≡ flags.items
+
+-- Of a container that holds a chunk under a mask of zeros and ones, what is taken out is what is present of the chunk.
+abbrev pub PresentElementsAreHeld : Type 0
+PresentElementsAreHeld =
+    (type : ElementType) (held : Held) (mask : Raw) (chunk : Chunk) → Holds (optional type) (masked held mask) chunk → list_all (λ byte. nat_lt byte 2) mask.items ≡ true
+    → IsPresent type held mask chunk
+
+-- Of a container that holds as many elements as a mask of zeros and ones has ones, what is put back are these elements.
+abbrev pub ExpandedElementsAreHeld : Type 0
+ExpandedElementsAreHeld =
+    (type : ElementType) (held : Held) (mask : List ℕ) (chunk : Chunk) → Holds type held chunk → present_count mask ≡ Ok (length chunk) → sizes_fit type (length mask) ≡ Ok tt
+    → expanded_chunk type held mask ≡ Ok (expanded mask chunk)
+
+-- What is present of a chunk, put back under the chunk's mask, is the chunk.
+abbrev pub ExpansionRestores : Type 0
+ExpansionRestores = (type : ElementType) (chunk : Chunk) → AreElements (optional type) chunk → expanded (mask_of chunk) (present_elements chunk) ≡ chunk
+
+-- Of elements that are put back under a mask of zeros and ones, one for each 1, those are present, and the mask is that one.
+abbrev pub ExpansionKeepsElements : Type 0
+ExpansionKeepsElements =
+    (mask : List ℕ) (elements : Chunk) → list_all (λ byte. nat_lt byte 2) mask ≡ true → length elements ≡ length (present_places mask)
+    → (present_elements (expanded mask elements) ≡ elements) × (mask_of (expanded mask elements) ≡ mask)

@@ -14,6 +14,7 @@ pub mod Filled
 pub mod Sources
 pub mod Update
 pub mod Chunks
+pub mod Present
 pub mod Laws
 pub use Rattle.zarrs_chunk.specs.Answer
 pub use Rattle.zarrs_chunk.specs.Indexer

@@ -312,7 +312,7 @@ impl<'a> Eq for ArrayBytes<'a> {
     ghost laws = { is_same_held-equivalence };
 }
 
-fn is_mask(mask: &[u8]) -> bool
+pub(crate) fn is_mask(mask: &[u8]) -> bool
     ensures { result ≡ list_all (λ byte. nat_lt byte 2) mask.now }
 {
     mask.iter().all(|byte| *byte < 2)

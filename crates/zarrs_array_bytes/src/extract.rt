@@ -53,7 +53,7 @@ impl<'a> ArrayBytes<'a> {
     }
 
     #[tactic(auto, using(crate::proofs::ExtractCalls::extract_calls))]
-    fn at_runs<'b>(
+    pub(crate) fn at_runs<'b>(
         &self,
         alloc: Global,
         runs: &[(u64, u64)],

@@ -37,7 +37,7 @@ impl<'a> ArrayBytes<'a> {
 
 /// `count` elements that are absent, and what stands under them.
 #[tactic(auto, using(crate::proofs::FillLemmas::fill_calls))]
-fn blank_elements<'a>(
+pub(crate) fn blank_elements<'a>(
     alloc: Global,
     data_type: &DataType,
     count: u64,

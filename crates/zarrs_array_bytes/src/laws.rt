@@ -1,5 +1,5 @@
 //! Laws over the definitions alone: each function's contract is one.
-ghost use Rattle.zarrs_array_bytes.specs.Laws.{HeldAreElements, UpdateThenSelect};
+ghost use Rattle.zarrs_array_bytes.specs.Laws.{HeldAreElements, UpdateThenSelect, PresentElementsAreHeld, ExpandedElementsAreHeld, ExpansionRestores, ExpansionKeepsElements};
 
 /// What a container holds as elements of a type are elements of that type.
 pub fn held_are_elements()
@@ -9,4 +9,14 @@ pub fn held_are_elements()
 /// What is selected after an update is the data written last at a place, or else the old element.
 pub fn update_then_select()
     ensures last_stands { UpdateThenSelect }
+{}
+
+/// What is taken out of a container under a mask is what is present of the chunk that it holds, and
+/// what is put back are the elements that a container holds. What is present of a chunk, put back under
+/// its mask, is the chunk again; and of elements that are put back under a mask, those are present.
+pub fn present_elements_are_restored()
+    ensures present { PresentElementsAreHeld }
+    ensures expanded { ExpandedElementsAreHeld }
+    ensures restored { ExpansionRestores }
+    ensures kept { ExpansionKeepsElements }
 {}

@@ -98,14 +98,14 @@ fn check_data(
 
 /// The elements with those at the runs replaced by the new ones, in order.
 #[tactic(auto, using(crate::proofs::UpdateCalls::update_calls))]
-fn write_elements(
+pub(crate) fn write_elements<'b>(
     alloc: Global,
     array: ArrayBytes<'_>,
     count: u64,
     new: &ArrayBytes<'_>,
     runs: &[(u64, u64)],
     data_type: &DataType,
-) -> Result<ArrayBytes<'static>, CodecError>
+) -> Result<ArrayBytes<'b>, CodecError>
     requires valid { levels_fit InvalidBytesLength data_type.now count array ≡ Ok tt }
     requires data_valid { data_fit data_type.now (length (joined_runs runs.now)) new.now ≡ Ok tt }
     requires inside { All (λ run. run.0 + run.1 ≤ count) runs.now }
@@ -129,13 +129,13 @@ fn write_elements(
 }
 
 /// Elements of `size` with those at the runs replaced by the new ones.
-fn write_fixed(
+fn write_fixed<'b>(
     alloc: Global,
     old: ArrayBytesRaw<'_>,
     new: &ArrayBytes<'_>,
     size: usize,
     runs: &[(u64, u64)],
-) -> Result<ArrayBytes<'static>, CodecError>
+) -> Result<ArrayBytes<'b>, CodecError>
     requires kind { IsOk (fixed_part new.now) }
     requires inside { All (λ run. (run.0 + run.1) * size ≤ length (raw_of old).items) runs.now }
     requires enough { length (joined_runs runs.now) * size ≤ length (bytes_in new.now) }
@@ -148,13 +148,13 @@ fn write_fixed(
 
 /// Elements of any length with those at the runs replaced by the new ones.
 #[tactic(auto, using(crate::proofs::UpdateCalls::update_calls))]
-fn write_variable(
+fn write_variable<'b>(
     alloc: Global,
     old: ArrayBytesRaw<'_>,
     offsets: ArrayBytesOffsets,
     new: &ArrayBytes<'_>,
     runs: &[(u64, u64)],
-) -> Result<ArrayBytes<'static>, CodecError>
+) -> Result<ArrayBytes<'b>, CodecError>
     requires kind { IsOk (variable_part new.now) }
     requires ending { last_of offsets ≡ length (raw_of old).items }
     requires inside { All (λ run. run.0 + run.1 ≤ length offsets - 1) runs.now }
@@ -177,13 +177,13 @@ fn write_variable(
 
 /// Elements under a mask with those at the runs replaced by the new ones, where the elements below
 /// it are written already.
-fn write_mask(
+fn write_mask<'b>(
     alloc: Global,
-    inner: ArrayBytes<'static>,
+    inner: ArrayBytes<'b>,
     mask: ArrayBytesRaw<'_>,
     new_mask: &[u8],
     runs: &[(u64, u64)],
-) -> Result<ArrayBytes<'static>, CodecError>
+) -> Result<ArrayBytes<'b>, CodecError>
     requires old_flags { list_all (λ byte. nat_lt byte 2) (raw_of mask).items ≡ true }
     requires new_flags { list_all (λ byte. nat_lt byte 2) new_mask.now ≡ true }
     requires inside { All (λ run. run.0 + run.1 ≤ length (raw_of mask).items) runs.now }

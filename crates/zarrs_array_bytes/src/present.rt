@@ -1,0 +1,169 @@
+ghost use Rattle.std.specs.Prelude.{◌≡◌, ◌+◌, ◌-◌, ◌≤◌, ◌++◌, Bool, true, false, All, Ok, IfOk, OnOk, length};
+ghost use Rattle.std.specs.List.{range_with_len};
+ghost use Rattle.zarrs_chunk.specs.Answer.{Answers, AnswersBy, memory, seen, is_fault};
+ghost use Rattle.zarrs_chunk.specs.Runs.{joined_runs};
+ghost use Rattle.zarrs_data_type.specs.ElementType.{optional};
+ghost use Rattle.zarrs_array_bytes.specs.Held.{masked, raw_of};
+ghost use Rattle.zarrs_chunk.specs.declared.codec_error.CodecError.TheVariants.{InvalidBytesLength};
+ghost use Rattle.zarrs_array_bytes.specs.Validity.{sizes_fit, levels_fit, validity, Holds};
+ghost use Rattle.zarrs_array_bytes.specs.Present.{present_places, present_count, are_all_present, present_chunk, container_spread, container_expansion, expansion_of, expanded_chunk};
+
+use crate::array_bytes::{ArrayBytes, is_mask};
+use crate::array_bytes_raw::ArrayBytesRaw;
+use crate::fill::blank_elements;
+use crate::update::write_elements;
+use crate::validate::check_sizes;
+use std::alloc::{AllocError, Global};
+use zarrs_chunk::CodecError;
+use zarrs_data_type::DataType;
+
+/// How many elements are present under a mask with a byte for each: 0 for absent, 1 for present.
+/// Refusals: `MaskValue` where a byte is another number.
+pub fn count_present(mask: &[u8]) -> Result<u64, CodecError>
+    ensures answer { result ≡ present_count mask.now }
+    ensures no_fault { is_fault result ≡ false }
+{
+    if !is_mask(mask) {
+        return Err(CodecError::MaskValue);
+    }
+    Ok(count_set(mask) as u64)
+}
+
+/// How many mask bytes aren't 0.
+fn count_set(mask: &[u8]) -> usize
+    ensures { result ≡ length (present_places mask.now) }
+{
+    let mut count = 0;
+    for place in 0..mask.len() {
+        if mask[place] != 0 {
+            count += 1;
+        }
+    }
+    count
+}
+
+/// How many runs to reserve room for.
+fn count_runs(mask: &[u8]) -> usize {
+    let mut count: usize = 0;
+    let mut before = 0;
+    for byte in mask {
+        if before == 0 && *byte != 0 {
+            count = count.saturating_add(1);
+        }
+        before = *byte;
+    }
+    count
+}
+
+/// Appends a run of the places from `start` up to `end`, which isn't in it; none where there is no
+/// place.
+fn push_run(runs: &mut Vec<(u64, u64)>, start: usize, end: usize) -> Result<(), AllocError>
+    requires order { start ≤ end }
+    ensures places { OnOk result (joined_runs runs.new.items ≡ joined_runs runs.old.items ++ range_with_len start (end - start)) }
+    ensures inside { OnOk result (All (λ run. run.0 + run.1 ≤ end) runs.old.items → All (λ run. run.0 + run.1 ≤ end) runs.new.items) }
+{
+    if start < end {
+        runs.push((start as u64, (end - start) as u64))?;
+    }
+    Ok(())
+}
+
+/// The places at which a mask byte isn't 0, in runs of a start and a length.
+fn runs_of_mask(alloc: Global, mask: &[u8]) -> Result<Vec<(u64, u64)>, CodecError>
+    ensures places { Answers memory (λ runs. joined_runs runs.items) result (Ok (present_places mask.now)) }
+    ensures inside { IfOk result (λ runs. All (λ run. run.0 + run.1 ≤ length mask.now) runs.items) }
+    ensures no_fault { is_fault result ≡ false }
+{
+    let mut runs = Vec::with_capacity(alloc, count_runs(mask))?;
+    let mut start = 0;
+    for place in 0..mask.len() {
+        if mask[place] == 0 {
+            push_run(&mut runs, start, place)?;
+            start = place + 1;
+        }
+    }
+    push_run(&mut runs, start, mask.len())?;
+    Ok(runs)
+}
+
+impl<'a> ArrayBytes<'a> {
+    /// The elements that are present under the mask, one after another, of this container of the
+    /// elements of the type that stand under it: those where its byte isn't 0. The bytes of a run of
+    /// present ones are copied at once; where all are present, the container is handed back as it is,
+    /// in no new memory. Refusals, the first that holds, `OutOfMemory` aside: those of `validate` at
+    /// the number of mask bytes.
+    pub fn extract_present(
+        self,
+        alloc: Global,
+        mask: &[u8],
+        data_type: &DataType,
+    ) -> Result<ArrayBytes<'a>, CodecError>
+        ensures answer { AnswersBy memory (Holds data_type.now) result (present_chunk data_type.now self.entry mask.now) }
+        ensures kept { are_all_present mask.now ≡ true → result ≡ seen (λ _. self.entry) (validity data_type.now (length mask.now) self.entry) }
+        ensures no_fault { is_fault result ≡ false }
+    {
+        self.validate(mask.len() as u64, data_type)?;
+        if count_set(mask) == mask.len() {
+            return Ok(self);
+        }
+        let runs = runs_of_mask(alloc, mask)?;
+        self.at_runs(alloc, runs.as_slice(), mask.len() as u64, data_type)
+    }
+
+    /// These elements of the type put back under the mask: the elements of the optional type that are
+    /// present, one after another, where its byte is 1, and absent elsewhere. Absent ones stand over
+    /// zeros, empty bytes and inner masks of zero. A run of present ones is copied at once; where all
+    /// are present, the container is taken as it is. Refusals, the first that holds, `OutOfMemory`
+    /// aside: those of `count_present`; those of `validate` at that count; `Overflow` as in `validate`
+    /// at the number of mask bytes.
+    pub fn expand_present(
+        self,
+        alloc: Global,
+        mask: ArrayBytesRaw<'a>,
+        data_type: &DataType,
+    ) -> Result<ArrayBytes<'a>, CodecError>
+        ensures answer { AnswersBy memory (Holds (optional data_type.now)) result (expanded_chunk data_type.now self.entry (raw_of mask.entry).items) }
+        ensures held { IfOk result (λ array. array ≡ masked (container_expansion data_type.now self.entry (raw_of mask.entry).items) (raw_of mask.entry)) }
+        ensures no_fault { is_fault result ≡ false }
+    {
+        let inner = self.expanded(alloc, mask.as_slice(), data_type)?;
+        inner.with_optional_mask(alloc, mask)
+    }
+
+    /// What stands under the mask.
+    fn expanded(
+        self,
+        alloc: Global,
+        mask: &[u8],
+        data_type: &DataType,
+    ) -> Result<ArrayBytes<'a>, CodecError>
+        ensures exact { Answers memory (λ array. array) result (expansion_of data_type.now self.entry mask.now) }
+        ensures no_fault { is_fault result ≡ false }
+    {
+        let count = count_present(mask)?;
+        self.validate(count, data_type)?;
+        check_sizes(mask.len() as u64, data_type)?;
+        if count == mask.len() as u64 {
+            return Ok(self);
+        }
+        spread(alloc, &self, mask, data_type)
+    }
+}
+
+/// As many blank elements as there are mask bytes, with these at the places where the byte isn't 0.
+fn spread<'a>(
+    alloc: Global,
+    array: &ArrayBytes<'_>,
+    mask: &[u8],
+    data_type: &DataType,
+) -> Result<ArrayBytes<'a>, CodecError>
+    requires valid { levels_fit InvalidBytesLength data_type.now (length (present_places mask.now)) array.now ≡ Ok tt }
+    requires sizes { sizes_fit data_type.now (length mask.now) ≡ Ok tt }
+    ensures exact { Answers memory (λ array. array) result (Ok (container_spread data_type.now array.now mask.now)) }
+    ensures no_fault { is_fault result ≡ false }
+{
+    let count = mask.len() as u64;
+    let runs = runs_of_mask(alloc, mask)?;
+    let blank = blank_elements(alloc, data_type, count)?;
+    write_elements(alloc, blank, count, array, runs.as_slice(), data_type)
+}
