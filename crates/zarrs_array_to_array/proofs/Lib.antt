@@ -20,3 +20,6 @@ pub mod AnswerSteps
 pub mod MappedChunks
 pub mod Stages
 pub mod CheckedTuples
+pub mod PlaneRows
+pub mod AxisRows
+pub mod FixedChunks

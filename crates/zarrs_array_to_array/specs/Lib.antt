@@ -19,3 +19,4 @@ pub use Rattle.zarrs_codec.specs.CoordinateMap
 pub use Rattle.zarrs_codec.specs.MappedChunk
 pub use Rattle.zarrs_codec.specs.MappedSelection
 pub mod ArrayToArrayCodecPartial
+pub mod Axes

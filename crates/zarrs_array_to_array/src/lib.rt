@@ -7,9 +7,11 @@
 
 mod array_to_array_codec;
 mod array_to_array_codec_partial;
+mod axis;
 mod axis_positions;
 mod boxes;
 pub mod laws;
+mod planes;
 mod reshape;
 mod squeeze;
 mod strides;

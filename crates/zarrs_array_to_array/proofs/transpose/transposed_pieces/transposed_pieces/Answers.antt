@@ -1,0 +1,33 @@
+use Rattle.std.proofs.Common.{◌≡◌, ◌≤◌, ◌+◌, ◌∷◌, [], List, ℕ, Vec, Global, ap, sym, ◌∙◌, arith}
+use Rattle.std.specs.List.{flat_map}
+use Rattle.std.proofs.lemmas.Result.{IfOk-weaker}
+use Rattle.zarrs_array_bytes.specs.Elements.{piece}
+use Rattle.zarrs_chunk.specs.ChunkShape.{product}
+use Rattle.zarrs_codec.specs.CoordinateMap.{origins}
+use Rattle.zarrs_metadata.proofs.Orders.{order_parts}
+use Rattle.zarrs_array_to_array.specs.declared.axis.Axis.{Axis}
+use Rattle.zarrs_array_to_array.specs.Axes.{behind, reach}
+use Rattle.zarrs_array_to_array.specs.Transpose.{transposition}
+use Rattle.zarrs_array_to_array.proofs.Steps.{origins-stepped, permuted_room}
+use Rattle.zarrs_array_to_array.proofs.PlaneRows.{bytes_below}
+use Rattle.zarrs_array_to_array.proofs.transpose.transposed_pieces.transposed_pieces.Goals as goal
+
+pub gather_axes-requires-clause-inside : goal.gather_axes-requires-clause-inside
+gather_axes-requires-clause-inside c =
+    let order = c.args.order.now in
+    let sizes = c.args.sizes.now in
+    let axes : List Axis = c.as_slice.result.now in
+    let room = permuted_room order sizes (order_parts order c.requires.order) c.requires.axes c.requires.positive in
+    let reached : reach axes ≡ reach c.in_ok-axes.axes.items = ap reach c.as_slice.ensures.value in
+    let below : reach axes + 1 ≤ product sizes = omega (arith, (c.in_ok-axes.ensures {u = tt}).reach, room, reached) in
+    bytes_below (reach axes + 1) (product sizes) c.args.size _ below (omega (arith, c.requires.whole))
+
+pub returns : goal.returns
+returns c =
+    let order = c.args.order.now in
+    let sizes = c.args.sizes.now in
+    let f : ℕ → List ℕ = piece c.args.size c.args.bytes.now in
+    let places : behind c.as_slice.result.now (0 ∷ []) ≡ origins (transposition order sizes) =
+    ap (λ (axes : List Axis). behind axes (0 ∷ [])) c.as_slice.ensures.value ∙ (c.in_ok-axes.ensures {u = tt}).places ∙ sym (origins-stepped order sizes (order_parts order c.requires.order) c.requires.axes) in
+    IfOk-weaker c.gather_axes.result (λ (v : Vec ℕ Global). v.items ≡ flat_map f (behind c.as_slice.result.now (0 ∷ []))) (λ (v : Vec ℕ Global). v.items ≡ flat_map f (origins (transposition order sizes)))
+    (λ v h. h ∙ ap (flat_map f) places) c.gather_axes.ensures

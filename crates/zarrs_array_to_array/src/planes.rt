@@ -1,0 +1,221 @@
+//! The elements of a chunk, appended row by row and plane by plane.
+ghost use Rattle.std.specs.Prelude.{◌≡◌, ◌<◌, ◌≤◌, ◌+◌, ◌*◌, ◌-◌, ◌^◌, ◌++◌, ◌∷◌, [], ℕ, length, OnOk, IfOk};
+ghost use Rattle.std.specs.List.{flat_map};
+ghost use Rattle.zarrs_array_bytes.specs.Elements.{piece};
+ghost use Rattle.zarrs_array_to_array.specs.Strides.{row, next_rows};
+ghost use Rattle.zarrs_array_to_array.specs.Axes.{behind, reach, stretch};
+
+use crate::axis::Axis;
+use std::alloc::{AllocError, Global};
+
+/// How many bytes a row of a block has, which is what memory brings at once.
+const BLOCK: usize = 64;
+
+/// Appends so many bytes from each element of a row on.
+#[inline(always)]
+fn append_row_of(
+    out: &mut Vec<u8>,
+    bytes: &[u8],
+    size: usize,
+    front: usize,
+    axis: Axis,
+    len: usize,
+) -> Result<(), AllocError>
+    requires sized { 0 < size }
+    requires inside { (k : ℕ) → k < axis.size → (front + k * axis.step) * size + len ≤ length bytes.now }
+    ensures { OnOk result (out.new.items ≡ out.old.items ++ flat_map (stretch len size bytes.now) (row front axis.step axis.size)) }
+{
+    for index in 0..axis.size {
+        let from = (front + index * axis.step) * size;
+        out.extend_from_slice(&bytes[from..from + len])?;
+    }
+    Ok(())
+}
+
+/// Appends so many bytes from each element of a row on. The lengths of most are constants here, so
+/// that each is a few moves and no call to copy.
+fn append_row(
+    out: &mut Vec<u8>,
+    bytes: &[u8],
+    size: usize,
+    front: usize,
+    axis: Axis,
+    len: usize,
+) -> Result<(), AllocError>
+    requires sized { 0 < size }
+    requires inside { (k : ℕ) → k < axis.size → (front + k * axis.step) * size + len ≤ length bytes.now }
+    ensures { OnOk result (out.new.items ≡ out.old.items ++ flat_map (stretch len size bytes.now) (row front axis.step axis.size)) }
+{
+    match len {
+        1 => append_row_of(out, bytes, size, front, axis, 1),
+        2 => append_row_of(out, bytes, size, front, axis, 2),
+        4 => append_row_of(out, bytes, size, front, axis, 4),
+        8 => append_row_of(out, bytes, size, front, axis, 8),
+        64 => append_row_of(out, bytes, size, front, axis, 64),
+        _ => append_row_of(out, bytes, size, front, axis, len),
+    }
+}
+
+/// Appends the columns of a block, one after another: it has `count` rows of `width` elements.
+fn append_columns(
+    out: &mut Vec<u8>,
+    block: &[u8],
+    size: usize,
+    count: usize,
+    width: usize,
+) -> Result<(), AllocError>
+    requires sized { 0 < size }
+    requires whole { length block.now ≡ count * (width * size) }
+    ensures { OnOk result (out.new.items ≡ out.old.items ++ flat_map (piece size block.now) (next_rows width count (row 0 1 width))) }
+{
+    for column in 0..width {
+        let axis = Axis {
+            size: count,
+            step: width,
+        };
+        append_row(out, block, size, column, axis, size)?;
+    }
+    Ok(())
+}
+
+/// Appends so many neighbouring columns, one after another. The block that they are in is copied
+/// together first, row by row, so that each row comes from memory once.
+fn append_turned(
+    out: &mut Vec<u8>,
+    block: &mut Vec<u8>,
+    bytes: &[u8],
+    size: usize,
+    front: usize,
+    columns: Axis,
+    width: usize,
+) -> Result<(), AllocError>
+    requires sized { 0 < size }
+    requires inside { (k : ℕ) → k < columns.size → (front + k * columns.step) * size + width * size ≤ length bytes.now }
+    requires small { width * size < 2 ^ 64 }
+    ensures { OnOk result (out.new.items ≡ out.old.items ++ flat_map (piece size bytes.now) (next_rows columns.step columns.size (row front 1 width))) }
+{
+    block.clear();
+    append_row(block, bytes, size, front, columns, width * size)?;
+    append_columns(out, block.as_slice(), size, columns.size, width)
+}
+
+/// Appends `count` neighbouring columns, one after another, so many bytes wide blocks at a time.
+fn append_blocks(
+    out: &mut Vec<u8>,
+    block: &mut Vec<u8>,
+    bytes: &[u8],
+    size: usize,
+    front: usize,
+    columns: Axis,
+    count: usize,
+    wide: usize,
+) -> Result<(), AllocError>
+    requires sized { 0 < size }
+    requires wide { 0 < wide }
+    requires inside { (k : ℕ) → k < columns.size → (front + k * columns.step + count) * size ≤ length bytes.now }
+    requires fits { front + count < 2 ^ 64 }
+    requires small { count * size < 2 ^ 64 }
+    ensures { OnOk result (out.new.items ≡ out.old.items ++ flat_map (piece size bytes.now) (next_rows columns.step columns.size (row front 1 count))) }
+{
+    let mut done = 0;
+    while done < count {
+        let width = wide.min(count - done);
+        append_turned(out, block, bytes, size, front + done, columns, width)?;
+        done += width;
+    }
+    Ok(())
+}
+
+/// Appends the rows of a plane, one after another.
+fn append_rows(
+    out: &mut Vec<u8>,
+    bytes: &[u8],
+    size: usize,
+    front: usize,
+    rows: Axis,
+    columns: Axis,
+) -> Result<(), AllocError>
+    requires sized { 0 < size }
+    requires inside { (front + (rows.size - 1) * rows.step + (columns.size - 1) * columns.step + 1) * size ≤ length bytes.now }
+    ensures { OnOk result (out.new.items ≡ out.old.items ++ flat_map (piece size bytes.now) (next_rows columns.step columns.size (row front rows.step rows.size))) }
+{
+    for index in 0..rows.size {
+        append_row(out, bytes, size, front + index * rows.step, columns, size)?;
+    }
+    Ok(())
+}
+
+/// Appends the elements of a plane, its rows one after another. Elements that stand one behind
+/// another are copied together, and columns that do so are turned block by block.
+fn append_plane(
+    out: &mut Vec<u8>,
+    block: &mut Vec<u8>,
+    bytes: &[u8],
+    size: usize,
+    front: usize,
+    rows: Axis,
+    columns: Axis,
+) -> Result<(), AllocError>
+    requires sized { 0 < size }
+    requires inside { (front + (rows.size - 1) * rows.step + (columns.size - 1) * columns.step + 1) * size ≤ length bytes.now }
+    ensures { OnOk result (out.new.items ≡ out.old.items ++ flat_map (piece size bytes.now) (next_rows columns.step columns.size (row front rows.step rows.size))) }
+{
+    if columns.step == 1 {
+        return append_row(out, bytes, size, front, rows, columns.size * size);
+    }
+    let wide = (BLOCK / size).min(rows.size / 2);
+    if rows.step == 1 && wide > 1 {
+        return append_blocks(out, block, bytes, size, front, columns, rows.size, wide);
+    }
+    append_rows(out, bytes, size, front, rows, columns)
+}
+
+/// Appends the elements of all tuples over the axes, plane by plane. Each axis has two indices or
+/// more, but for the first ones, so that 64 bits count few of them.
+fn append_axes(
+    out: &mut Vec<u8>,
+    block: &mut Vec<u8>,
+    bytes: &[u8],
+    size: usize,
+    front: usize,
+    axes: &[Axis],
+) -> Result<(), AllocError>
+    requires sized { 0 < size }
+    requires plane { 2 ≤ length axes.now }
+    requires inside { (front + reach axes.now + 1) * size ≤ length bytes.now }
+    ensures { OnOk result (out.new.items ≡ out.old.items ++ flat_map (piece size bytes.now) (behind axes.now (front ∷ []))) }
+{
+    let first = axes[0];
+    if axes.len() == 2 {
+        return append_plane(out, block, bytes, size, front, first, axes[1]);
+    }
+    for index in 0..first.size {
+        append_axes(
+            out,
+            block,
+            bytes,
+            size,
+            front + index * first.step,
+            &axes[1..],
+        )?;
+    }
+    Ok(())
+}
+
+/// The elements of all tuples over the axes, the last axis fastest.
+pub(crate) fn gather_axes(
+    alloc: Global,
+    bytes: &[u8],
+    size: usize,
+    axes: &[Axis],
+) -> Result<Vec<u8>, AllocError>
+    requires sized { 0 < size }
+    requires plane { 2 ≤ length axes.now }
+    requires inside { (reach axes.now + 1) * size ≤ length bytes.now }
+    ensures { IfOk result (λ v. v.items ≡ flat_map (piece size bytes.now) (behind axes.now (0 ∷ []))) }
+{
+    let mut out = Vec::with_capacity(alloc, bytes.len())?;
+    let mut block = Vec::new(alloc);
+    append_axes(&mut out, &mut block, bytes, size, 0, axes)?;
+    Ok(out)
+}

@@ -1,0 +1,57 @@
+ghost use Rattle.std.specs.Prelude.{◌≡◌, ◌<◌, ◌*◌, ◌^◌, Ok, true, false, length, All, IfOk};
+ghost use Rattle.std.specs.List.{flat_map};
+ghost use Rattle.zarrs_array_bytes.specs.Elements.{piece};
+ghost use Rattle.zarrs_array_bytes.specs.Held.{flen, owned_bytes};
+ghost use Rattle.zarrs_chunk.specs.Answer.{Answers, memory, is_fault};
+ghost use Rattle.zarrs_chunk.specs.ChunkShape.{product};
+ghost use Rattle.zarrs_codec.specs.CoordinateMap.{origins};
+ghost use Rattle.zarrs_metadata.specs.Orders.{is_order};
+ghost use Rattle.zarrs_array_to_array.specs.Transpose.{transposition};
+
+use crate::axis::ordered_axes;
+use crate::planes::gather_axes;
+use std::alloc::{AllocError, Global};
+use std::borrow::CowSlice;
+use zarrs_array_bytes::ArrayBytes;
+use zarrs_chunk::CodecError;
+
+/// The bytes of elements of one size, with the axes of their chunk in this order.
+fn transposed_pieces(
+    alloc: Global,
+    bytes: &[u8],
+    size: usize,
+    order: &[usize],
+    sizes: &[u64],
+) -> Result<Vec<u8>, AllocError>
+    requires order { is_order order.now ≡ true }
+    requires axes { length order.now ≡ length sizes.now }
+    requires positive { All (λ size. 0 < size) sizes.now }
+    requires fits { product sizes.now < 2 ^ 64 }
+    requires sized { 0 < size }
+    requires whole { length bytes.now ≡ product sizes.now * size }
+    ensures { IfOk result (λ v. v.items ≡ flat_map (piece size bytes.now) (origins (transposition order.now sizes.now))) }
+{
+    let axes = ordered_axes(alloc, order, sizes)?;
+    gather_axes(alloc, bytes, size, axes.as_slice())
+}
+
+/// The elements of one size of a chunk with its axes in this order.
+pub(crate) fn transposed_fixed<'b>(
+    alloc: Global,
+    bytes: &[u8],
+    size: usize,
+    order: &[usize],
+    sizes: &[u64],
+) -> Result<ArrayBytes<'b>, CodecError>
+    requires order { is_order order.now ≡ true }
+    requires axes { length order.now ≡ length sizes.now }
+    requires positive { All (λ size. 0 < size) sizes.now }
+    requires fits { product sizes.now < 2 ^ 64 }
+    requires sized { 0 < size }
+    requires whole { length bytes.now ≡ product sizes.now * size }
+    ensures exact { Answers memory (λ array. array) result (Ok (flen (owned_bytes (flat_map (piece size bytes.now) (origins (transposition order.now sizes.now)))))) }
+    ensures no_fault { is_fault result ≡ false }
+{
+    let bytes = transposed_pieces(alloc, bytes, size, order, sizes)?;
+    Ok(ArrayBytes::new_flen(CowSlice::Owned(bytes)))
+}
