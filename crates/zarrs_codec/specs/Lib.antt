@@ -2,6 +2,9 @@ pub mod ArrayReader
 pub mod ByteRanges
 pub mod ByteSpan
 pub mod BytesRepresentation
+pub mod BytesToBytesCodec
+pub mod SampleBytesCodec
+pub mod SampleLaws
 pub mod MemoryHandle
 pub mod Refused
 pub mod StorageState
