@@ -23,12 +23,12 @@ use Rattle.zarrs_metadata.specs.Orders.{IsOrder}
 use Rattle.zarrs_array_to_array.specs.Orders.{permuted}
 use Rattle.zarrs_array_to_array.specs.Squeeze.{above_one, or_one, squeezed, kept_indices, or_zero, squeezed_tuple}
 use Rattle.zarrs_array_to_array.specs.Transpose.{transposition}
-use Rattle.zarrs_array_to_array.specs.Unraveled.{unraveled}
+use Rattle.zarrs_chunk.specs.Indices.{tuple_of_number}
 use Rattle.zarrs_array_to_array.proofs.MovedTuples.{kept_inside, kept_number, or_inside}
 use Rattle.zarrs_array_to_array.proofs.Orders.{permuted_inside}
 use Rattle.zarrs_array_to_array.proofs.Squeezing.{is_one}
 use Rattle.zarrs_array_to_array.proofs.Transposition.{transposed_tuple}
-use Rattle.zarrs_array_to_array.proofs.Unraveled.{unraveled_inside, row_major-unraveled}
+use Rattle.zarrs_chunk.proofs.NumberedTuples.{tuple_of_number-inside, row_major-tuple_of_number}
 
 eq_from : (a b : ℕ) → a ≡ b → (a == b) ≡ true
 eq_from a b h = grind (arith, nat_tests)
@@ -127,13 +127,13 @@ transposed_image order sizes selection o axes h =
 
 -- ---- reshaping
 
-pub reshaped_image : (sizes encoded : List ℕ) (selection : Selection) → product encoded ≡ product sizes → bounds_of selection sizes ≡ Ok tt → IsImage sizes (same_places encoded) selection (indices (map (unraveled encoded) (map (row_major sizes) (tuples_of selection))))
+pub reshaped_image : (sizes encoded : List ℕ) (selection : Selection) → product encoded ≡ product sizes → bounds_of selection sizes ≡ Ok tt → IsImage sizes (same_places encoded) selection (indices (map (tuple_of_number encoded) (map (row_major sizes) (tuples_of selection))))
 reshaped_image sizes encoded selection same h =
     let inside = selection_inside selection sizes h in
-    let f : List ℕ → List ℕ = λ tuple. unraveled encoded (row_major sizes tuple) in
-    let together : map (unraveled encoded) (map (row_major sizes) (tuples_of selection)) ≡ map f (tuples_of selection) = map-map (unraveled encoded) (row_major sizes) (tuples_of selection) in
+    let f : List ℕ → List ℕ = λ tuple. tuple_of_number encoded (row_major sizes tuple) in
+    let together : map (tuple_of_number encoded) (map (row_major sizes) (tuples_of selection)) ≡ map f (tuples_of selection) = map-map (tuple_of_number encoded) (row_major sizes) (tuples_of selection) in
     let goes : (tuple : List ℕ) → is_tuple_inside sizes tuple ≡ true → (is_tuple_inside encoded (f tuple) ≡ true) × (row_major encoded (f tuple) ≡ (same_places encoded).to (row_major sizes tuple)) =
-    λ tuple t. let l : row_major sizes tuple < product encoded = omega (arith, row_major-below sizes tuple t, same) in (unraveled_inside encoded (row_major sizes tuple) l, row_major-unraveled encoded (row_major sizes tuple) l) in
+    λ tuple t. let l : row_major sizes tuple < product encoded = omega (arith, row_major-below sizes tuple t, same) in (tuple_of_number-inside encoded (row_major sizes tuple) l, row_major-tuple_of_number encoded (row_major sizes tuple) l) in
     record {
       inside = ap (λ tuples. bounds_of (indices tuples) encoded) together ∙ each_bounds sizes encoded (same_places encoded).to f goes (tuples_of selection) inside;
       places = ap (map (row_major encoded)) together ∙ each_number sizes encoded (same_places encoded).to f goes (tuples_of selection) inside;

@@ -28,7 +28,7 @@ use Rattle.zarrs_array_to_array.specs.Orders.{permuted}
 use Rattle.zarrs_metadata.specs.Dims.{Dim}
 use Rattle.zarrs_array_to_array.specs.Reshape.{reshaped, dims_told, counts_agree, others_of, sizes_with}
 use Rattle.zarrs_array_to_array.specs.Squeeze.{above_one, or_one, squeezed, kept_indices, or_zero, squeezed_tuple}
-use Rattle.zarrs_array_to_array.specs.Unraveled.{unraveled}
+use Rattle.zarrs_chunk.specs.Indices.{tuple_of_number}
 use Rattle.zarrs_array_to_array.proofs.Chains.{codec_map}
 use Rattle.zarrs_array_to_array.proofs.Images.{squeezed_box_inside, squeezed_image_subset, squeezed_image_indices, transposed_image, reshaped_image}
 use Rattle.zarrs_metadata.proofs.Orders.{order_parts}
@@ -191,10 +191,10 @@ module _ (dims : List Dim) (sizes encoded places : List ℕ) (selection : Select
   places_are : places ≡ map (row_major sizes) (tuples_of selection)
   places_are = let known = places_known dims sizes encoded selection takes_shape inside in cc
 
-  pub reshaped_asked : (n : ℕ) → len_of selection ≡ Ok n → image_of (coordinates (reshape dims) sizes) (selection_in (reshape dims) sizes) sizes selection ≡ Ok (indices (map (unraveled encoded) places))
-  reshaped_asked n count = rw (inside, takes_shape, count) (ap (λ ps. Ok (indices (map (unraveled encoded) ps))) (sym places_are))
+  pub reshaped_asked : (n : ℕ) → len_of selection ≡ Ok n → image_of (coordinates (reshape dims) sizes) (selection_in (reshape dims) sizes) sizes selection ≡ Ok (indices (map (tuple_of_number encoded) places))
+  reshaped_asked n count = rw (inside, takes_shape, count) (ap (λ ps. Ok (indices (map (tuple_of_number encoded) ps))) (sym places_are))
 
-  pub reshaped_image_by : product encoded ≡ product sizes → IsImageBy (coordinates (reshape dims) sizes) sizes selection (indices (map (unraveled encoded) places))
+  pub reshaped_image_by : product encoded ≡ product sizes → IsImageBy (coordinates (reshape dims) sizes) sizes selection (indices (map (tuple_of_number encoded) places))
   reshaped_image_by same = rw (takes_shape, places_are) (reshaped_image sizes encoded selection same inside)
 
 pub transposed_to : (order sizes next : List ℕ) → is_order order ≡ true → length order ≡ length sizes → All (λ size. 0 < size) sizes → ◌≡◌ {A = Result (List ℕ) CodecError} (Ok (permuted order sizes)) (Ok next) → IsMapTo (coordinates (transpose order) sizes) sizes next

@@ -11,7 +11,6 @@ pub mod Squeezing
 pub mod Steps
 pub mod Transposition
 pub mod TransposedRuns
-pub mod Unraveled
 pub mod BoxNumbers
 pub mod Images
 pub mod Indexers

@@ -8,7 +8,8 @@ use Rattle.std.proofs.lemmas.Simd.{map-map}
 use Rattle.std.proofs.lemmas.Nat.{div-mul-add, mod-mul-add}
 use Rattle.zarrs_chunk.specs.ChunkShape.{product}
 use Rattle.zarrs_array_to_array.specs.Strides.{stepped, row, next_rows, all_behind, all_stepped}
-use Rattle.zarrs_array_to_array.specs.Unraveled.{unraveled}
+use Rattle.zarrs_chunk.specs.Indices.{tuple_of_number}
+use Rattle.zarrs_chunk.proofs.NumberedTuples.{map_rows}
 
 -- ---- one axis more
 
@@ -68,47 +69,22 @@ behind_row sizes steps step from (suc n) =
     all_behind-append sizes steps ((0 + from * step) ∷ []) (map (λ index. 0 + index * step) (range_with_len (from + 1) n))
     ∙ ap₂ (λ xs ys. xs ++ ys) (ap (λ f. all_behind sizes steps (f ∷ [])) first ∙ all_behind-one (from * step) sizes steps) (behind_row sizes steps step (from + 1) n)
 
--- numbers that are counted row by row are counted
-pub map_rows : {A : Type 0} (f : ℕ → A) (g : ℕ → ℕ → A) (total from n : ℕ) → ((index rest : ℕ) → rest < total → f (index * total + rest) ≡ g index rest)
-    → map f (range_with_len (from * total) (n * total)) ≡ flat_map (λ index. map (g index) (range_with_len 0 total)) (range_with_len from n)
-map_rows f g total from zero h = (let z : 0 * total ≡ 0 = omega arith in ap (λ m. map f (range_with_len (from * total) m)) z)
-map_rows f g total from (suc n) h =
-    let count : suc n * total ≡ total + n * total = omega arith in
-    let next : from * total + total ≡ (from + 1) * total = omega arith in
-    let start : from * total ≡ from * total + 0 = omega arith in
-    ap (λ m. map f (range_with_len (from * total) m)) count
-    ∙ split (from * total) total (n * total)
-    ∙ ap₂ (λ xs ys. xs ++ ys) (ap (λ m. map f (range_with_len m total)) start ∙ one_row total 0 (λ rest l. h from rest (omega arith))) (ap (λ m. map f (range_with_len m (n * total))) next ∙ map_rows f g total (from + 1) n h)
-  where
-    split : (a m k : ℕ) → map f (range_with_len a (m + k)) ≡ map f (range_with_len a m) ++ map f (range_with_len (a + m) k)
-    split a zero k = let e : 0 + k ≡ k = omega arith in let s : a ≡ a + 0 = omega arith in ap (λ m. map f (range_with_len a m)) e ∙ ap (λ m. map f (range_with_len m k)) s
-    split a (suc m) k =
-        let e : suc m + k ≡ suc (m + k) = omega arith in
-        let s : a + 1 + m ≡ a + suc m = omega arith in
-        ap (λ x. map f (range_with_len a x)) e ∙ ap (λ xs. f a ∷ xs) (split (a + 1) m k ∙ ap (λ x. map f (range_with_len (a + 1) m) ++ map f (range_with_len x k)) s)
-
-    one_row : (m at : ℕ) → ((rest : ℕ) → rest < at + m → f (from * total + rest) ≡ g from rest) → map f (range_with_len (from * total + at) m) ≡ map (g from) (range_with_len at m)
-    one_row zero at each = refl
-    one_row (suc m) at each =
-        let s : from * total + at + 1 ≡ from * total + (at + 1) = omega arith in
-        ap₂ (λ x xs. x ∷ xs) (each at (omega arith)) (ap (λ x. map f (range_with_len x m)) s ∙ one_row m (at + 1) (λ rest l. each rest (omega arith)))
-
-step_of : (size step index rest : ℕ) (sizes steps : List ℕ) → rest < product sizes → stepped (step ∷ steps) (unraveled (size ∷ sizes) (index * product sizes + rest)) ≡ index * step + stepped steps (unraveled sizes rest)
+step_of : (size step index rest : ℕ) (sizes steps : List ℕ) → rest < product sizes → stepped (step ∷ steps) (tuple_of_number (size ∷ sizes) (index * product sizes + rest)) ≡ index * step + stepped steps (tuple_of_number sizes rest)
 step_of size step index rest sizes steps l =
-    ap₂ (λ i r. i * step + stepped steps (unraveled sizes r)) (div-mul-add index (product sizes) rest l) (mod-mul-add index (product sizes) rest l)
+    ap₂ (λ i r. i * step + stepped steps (tuple_of_number sizes r)) (div-mul-add index (product sizes) rest l) (mod-mul-add index (product sizes) rest l)
 
 -- the numbers of all tuples are those of the tuples, in order
-pub all_stepped-unraveled : (sizes steps : List ℕ) → length steps ≡ length sizes → all_stepped sizes steps ≡ map (λ place. stepped steps (unraveled sizes place)) (range_with_len 0 (product sizes))
-all_stepped-unraveled [] [] e = refl
-all_stepped-unraveled [] (step ∷ steps) e = absurd (omega arith)
-all_stepped-unraveled (size ∷ sizes) [] e = absurd (omega arith)
-all_stepped-unraveled (size ∷ sizes) (step ∷ steps) e =
-    let number : ℕ → ℕ = λ place. stepped steps (unraveled sizes place) in
+pub all_stepped-numbered : (sizes steps : List ℕ) → length steps ≡ length sizes → all_stepped sizes steps ≡ map (λ place. stepped steps (tuple_of_number sizes place)) (range_with_len 0 (product sizes))
+all_stepped-numbered [] [] e = refl
+all_stepped-numbered [] (step ∷ steps) e = absurd (omega arith)
+all_stepped-numbered (size ∷ sizes) [] e = absurd (omega arith)
+all_stepped-numbered (size ∷ sizes) (step ∷ steps) e =
+    let number : ℕ → ℕ = λ place. stepped steps (tuple_of_number sizes place) in
     let counted : List ℕ = range_with_len 0 (product sizes) in
     let zero_is : 0 * product sizes ≡ 0 = omega arith in
     ap (all_behind sizes steps) (append-nil (row 0 step size))
     ∙ behind_row sizes steps step 0 size
-    ∙ ap (λ xs. flat_map (λ index. map (λ n. index * step + n) xs) (range_with_len 0 size)) (all_stepped-unraveled sizes steps (omega arith))
+    ∙ ap (λ xs. flat_map (λ index. map (λ n. index * step + n) xs) (range_with_len 0 size)) (all_stepped-numbered sizes steps (omega arith))
     ∙ (λ i. flat_map (λ index. map-map (λ n. index * step + n) number counted i) (range_with_len 0 size))
-    ∙ sym (map_rows (λ place. stepped (step ∷ steps) (unraveled (size ∷ sizes) place)) (λ index rest. index * step + stepped steps (unraveled sizes rest)) (product sizes) 0 size (λ index rest l. step_of size step index rest sizes steps l))
-    ∙ ap (λ m. map (λ place. stepped (step ∷ steps) (unraveled (size ∷ sizes) place)) (range_with_len m (size * product sizes))) zero_is
+    ∙ sym (map_rows (λ place. stepped (step ∷ steps) (tuple_of_number (size ∷ sizes) place)) (λ index rest. index * step + stepped steps (tuple_of_number sizes rest)) (product sizes) 0 size (λ index rest l. step_of size step index rest sizes steps l))
+    ∙ ap (λ m. map (λ place. stepped (step ∷ steps) (tuple_of_number (size ∷ sizes) place)) (range_with_len m (size * product sizes))) zero_is

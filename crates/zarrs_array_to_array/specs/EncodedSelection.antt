@@ -7,7 +7,7 @@ use Rattle.zarrs_chunk.specs.Tuples.{row_major}
 use Rattle.zarrs_array_to_array.specs.ArrayToArrayCodec.{ArrayMapping, transpose, reshape, squeeze}
 use Rattle.zarrs_array_to_array.specs.Orders.{permuted}
 use Rattle.zarrs_array_to_array.specs.Squeeze.{kept_indices, or_zero, or_one, squeezed_tuple}
-use Rattle.zarrs_array_to_array.specs.Unraveled.{unraveled}
+use Rattle.zarrs_chunk.specs.Indices.{tuple_of_number}
 
 -- one of the axes that a squeeze drops has an empty range
 abbrev pub drops_empty_range : List ℕ → List ℕ → Bool
@@ -29,6 +29,6 @@ squeezed_region sizes region = record {
 abbrev pub selection_in : ArrayMapping → List ℕ → List ℕ → Selection → Selection
 selection_in (transpose order) sizes encoded selection = indices (map (permuted order) (tuples_of selection))
 selection_in (reshape dims) sizes encoded selection =
-    indices (map (unraveled encoded) (map (row_major sizes) (tuples_of selection)))
+    indices (map (tuple_of_number encoded) (map (row_major sizes) (tuples_of selection)))
 selection_in squeeze sizes encoded (subset region) = subset (squeezed_region sizes region)
 selection_in squeeze sizes encoded (indices tuples) = indices (map (squeezed_tuple sizes) tuples)

@@ -1,6 +1,5 @@
 pub mod Orders
 pub mod OrderLaws
-pub mod Unraveled
 pub mod CoordinateLaws
 pub mod Transpose
 pub mod TransposeLaws

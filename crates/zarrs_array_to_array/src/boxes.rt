@@ -2,9 +2,9 @@ ghost use Rattle.std.specs.Prelude.{◌≡◌, ◌<◌, ◌^◌, ◌+◌, ℕ, O
 ghost use Rattle.zarrs_chunk.specs.Answer.{Answers, memory, is_fault};
 ghost use Rattle.zarrs_chunk.specs.ChunkShape.{product};
 ghost use Rattle.zarrs_chunk.specs.Tuples.{box_tuples};
-ghost use Rattle.zarrs_array_to_array.specs.Boxes.{indices_behind as indices_behind_of, box_tuple as box_tuple_of, EndsFit};
+ghost use Rattle.zarrs_chunk.specs.Indices.{indices_behind as indices_behind_of, box_tuple as box_tuple_of, tuple_of_number};
+ghost use Rattle.zarrs_array_to_array.specs.Boxes.{EndsFit};
 ghost use Rattle.zarrs_array_to_array.specs.Orders.{permuted as permuted_of};
-ghost use Rattle.zarrs_array_to_array.specs.Unraveled.{unraveled};
 
 use std::alloc::{AllocError, Global};
 use zarrs_chunk::{ArrayIndices, ArraySubset, ChunkShape, CodecError, unravel_index};
@@ -12,7 +12,7 @@ use zarrs_chunk::{ArrayIndices, ArraySubset, ChunkShape, CodecError, unravel_ind
 /// The tuple that has this row-major number in a chunk.
 fn tuple_at(alloc: Global, number: u64, shape: &ChunkShape) -> Result<ArrayIndices, CodecError>
     requires { number < product shape.now }
-    ensures answer { Answers memory (λ tuple. tuple.items) result (Ok (unraveled shape.now number)) }
+    ensures answer { Answers memory (λ tuple. tuple.items) result (Ok (tuple_of_number shape.now number)) }
     ensures no_fault { is_fault result ≡ false }
 {
     match unravel_index(alloc, number, shape)? {
@@ -28,7 +28,7 @@ pub(crate) fn tuples_at(
     shape: &ChunkShape,
 ) -> Result<Vec<ArrayIndices>, CodecError>
     requires { All (λ number. number < product shape.now) numbers.now }
-    ensures answer { Answers memory (λ v. map (λ tuple. tuple.items) v.items) result (Ok (map (unraveled shape.now) numbers.now)) }
+    ensures answer { Answers memory (λ v. map (λ tuple. tuple.items) v.items) result (Ok (map (tuple_of_number shape.now) numbers.now)) }
     ensures no_fault { is_fault result ≡ false }
 {
     let mut tuples = Vec::with_capacity(alloc, numbers.len())?;

@@ -2,7 +2,7 @@ use Rattle.std.proofs.Common.{◌≡◌, ◌++◌, ◌∷◌, [], Ok, map, arith
 use Rattle.std.specs.List.{range_with_len}
 use Rattle.std.proofs.lemmas.List.{map-append}
 use Rattle.std.proofs.lemmas.List.FromFn.{map-range_with_len_more}
-use Rattle.zarrs_array_to_array.specs.Boxes.{box_tuple}
+use Rattle.zarrs_chunk.specs.Indices.{box_tuple}
 use Rattle.zarrs_array_to_array.specs.Orders.{permuted}
 use Rattle.zarrs_array_to_array.proofs.BoxNumbers.{box_ordered}
 use Rattle.zarrs_array_to_array.proofs.boxes.first_tuples.Goals as goal

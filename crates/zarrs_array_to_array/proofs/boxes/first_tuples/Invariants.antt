@@ -1,6 +1,6 @@
 use Rattle.std.proofs.Common.{◌≡◌, map}
 use Rattle.std.specs.List.{range_with_len}
-use Rattle.zarrs_array_to_array.specs.Boxes.{box_tuple}
+use Rattle.zarrs_chunk.specs.Indices.{box_tuple}
 use Rattle.zarrs_array_to_array.specs.Orders.{permuted}
 use Rattle.zarrs_array_to_array.proofs.boxes.first_tuples.Given as goal
 

@@ -1,8 +1,8 @@
 use Rattle.std.proofs.Common.{◌≡◌, ◌<◌, ◌+◌, ◌++◌, ◌∷◌, [], take, length, get_or, arith, ap, sym, ◌∙◌}
 use Rattle.std.proofs.lemmas.List.{take_more, map-append}
-use Rattle.zarrs_array_to_array.specs.Boxes.{indices_behind}
+use Rattle.zarrs_chunk.specs.Indices.{indices_behind}
 use Rattle.zarrs_array_to_array.specs.Orders.{permuted}
-use Rattle.zarrs_array_to_array.proofs.BoxNumbers.{index_behind}
+use Rattle.zarrs_chunk.proofs.NumberedTuples.{index_behind}
 use Rattle.zarrs_array_to_array.proofs.boxes.indices_behind.Goals as goal
 
 pub loop-axis-preserved : goal.loop-axis-preserved

@@ -1,5 +1,5 @@
 use Rattle.std.proofs.Common.{◌≡◌, take}
-use Rattle.zarrs_array_to_array.specs.Boxes.{indices_behind}
+use Rattle.zarrs_chunk.specs.Indices.{indices_behind}
 use Rattle.zarrs_array_to_array.specs.Orders.{permuted}
 use Rattle.zarrs_array_to_array.proofs.boxes.indices_behind.Given as goal
 
