@@ -34,6 +34,8 @@ mod numbers;
 #[cfg(test)]
 mod plugin_errors;
 #[cfg(test)]
+mod present_elements;
+#[cfg(test)]
 mod reshape_shapes;
 #[cfg(test)]
 mod runs;
@@ -45,3 +47,5 @@ mod subsets;
 mod transpose_orders;
 #[cfg(test)]
 mod updates;
+#[cfg(test)]
+mod vlen_settings;
