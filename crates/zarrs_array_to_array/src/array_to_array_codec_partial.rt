@@ -1,14 +1,19 @@
-ghost use Rattle.std.specs.Prelude.{◌≡◌, ◌&&◌, ℕ, Option, Ok, Err, IfOk, IfErr, true};
+ghost use Rattle.std.specs.Prelude.{◌≡◌, ◌&&◌, ℕ, List, Option, Ok, Err, IfOk, IfErr, true};
 ghost use Rattle.zarrs_chunk.specs.Answer.{Answers, memory, seen};
 ghost use Rattle.zarrs_codec.specs.ArrayReader.{mapped_reader};
 ghost use Rattle.zarrs_array_to_array.specs.ArrayToArrayCodecPartial.{codec_of, input_of, sizes_of};
 ghost use Rattle.zarrs_codec.specs.Refused.{outcome};
+ghost use Rattle.zarrs_codec.specs.MappedChunk.{encoded_form};
+ghost use Rattle.zarrs_array_to_array.specs.ArrayToArrayCodec.{ArrayMapping, coordinates as coordinates_of};
+ghost use Rattle.zarrs_array_to_array.specs.CodecAnswers.{type_taken};
+ghost use Rattle.zarrs_array_to_array.specs.Mapping.{mapping_of};
 
+use crate::array_to_array_codec::ArrayToArrayCodec;
 use std::alloc::Global;
 use zarrs_array_bytes::ArrayBytes;
 use zarrs_chunk::{ChunkShape, CodecError, Indexer};
 use zarrs_codec::{ArrayPartialDecoderTraits, ArrayToArrayCodecTraits, Refused};
-use zarrs_data_type::DataType;
+use zarrs_data_type::{DataType, FillValue};
 
 /// Reads a chunk in part over the reader of its encoded chunk, which it owns: it asks that one for
 /// the encoded indexer. The indexer is checked against the decoded shape first.
@@ -92,5 +97,44 @@ impl<C: ArrayToArrayCodecTraits, I: ArrayPartialDecoderTraits> ArrayPartialDecod
     fn supports_partial_decode(&self) -> bool {
         self.codec.partial_decoder_capability().partial_decode
             && self.input.supports_partial_decode()
+    }
+}
+
+impl ArrayToArrayCodec {
+    /// What a reader keeps of a chunk that the codec takes.
+    fn parts_of_decoder(
+        &self,
+        alloc: Global,
+        shape: &ChunkShape,
+        data_type: &DataType,
+        fill_value: &FillValue,
+    ) -> Result<(ArrayToArrayCodec, ChunkShape), CodecError>
+        ensures { Answers {V = ArrayMapping × List ℕ} memory (λ parts. (mapping_of parts.0, parts.1)) result (seen (λ _. (mapping_of self.now, shape.now)) (encoded_form (type_taken (mapping_of self.now) data_type.now) (coordinates_of (mapping_of self.now) shape.now) data_type.now fill_value.now)) }
+    {
+        self.encoded_representation(alloc, shape, data_type, fill_value)?;
+        let codec = self.clone()?;
+        let shape = shape.clone()?;
+        Ok((codec, shape))
+    }
+
+    /// A reader of a chunk in part, over the reader of the encoded chunk. Refusals: those of
+    /// `encoded_representation`; `OutOfMemory`. A refusal hands the input back as it was.
+    pub fn partial_decoder<I: ArrayPartialDecoderTraits>(
+        &self,
+        alloc: Global,
+        input: I,
+        shape: &ChunkShape,
+        data_type: &DataType,
+        fill_value: &FillValue,
+    ) -> Result<ArrayToArrayCodecPartial<ArrayToArrayCodec, I>, Refused<I>>
+        ensures answer { Answers memory (λ made. made) (outcome result) (seen (λ _. tt) (encoded_form (type_taken (mapping_of self.now) data_type.now) (coordinates_of (mapping_of self.now) shape.now) data_type.now fill_value.now)) }
+        ensures form { IfOk result (λ stage. (mapping_of (codec_of stage) ≡ mapping_of self.now) × (sizes_of stage ≡ shape.now)) }
+        ensures over { IfOk result (λ stage. input_of stage ≡ input) }
+        ensures handed_back { IfErr result (λ refused. refused.handle ≡ input) }
+    {
+        partial_decoder_of(
+            self.parts_of_decoder(alloc, shape, data_type, fill_value),
+            input,
+        )
     }
 }
