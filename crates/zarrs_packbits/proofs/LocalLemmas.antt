@@ -18,7 +18,7 @@ use Rattle.zarrs_packbits.specs.KeptBits.{full_component, component_bits}
 use Rattle.zarrs_packbits.specs.Packing.{packing}
 use Rattle.zarrs_packbits.specs.PaddingByte.{lead, bytes_before}
 use Rattle.zarrs_packbits.specs.BitStream.{components_from, element_bits}
-use Rattle.zarrs_packbits.specs.Runs.{spans}
+use Rattle.zarrs_packbits.specs.ReadPlan.{spans}
 use Rattle.zarrs_packbits.proofs.FieldLemmas.{flat_more}
 use Rattle.zarrs_packbits.proofs.LayoutLemmas.{zero_first, zero_second, whole_bits, whole_restored}
 

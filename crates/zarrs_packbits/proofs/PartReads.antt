@@ -28,7 +28,7 @@ use Rattle.zarrs_packbits.specs.PackBitsSettings.{PackBitsSettings, packed_layou
 use Rattle.zarrs_packbits.specs.PackedLayout.{IsPackedLayout, is_whole, element_bits_len}
 use Rattle.zarrs_packbits.specs.Packing.{packing}
 use Rattle.zarrs_packbits.specs.PartialRead.{span_start, span_end, packed_place_bytes, packed_places_bytes, all_below, read_packed_bytes, read_packed_places}
-use Rattle.zarrs_packbits.specs.Runs.{run_start, run_end, run_span, spans, IsPlan, SameNumbers}
+use Rattle.zarrs_packbits.specs.ReadPlan.{run_start, run_end, run_span, spans, IsPlan, SameNumbers}
 use Rattle.zarrs_packbits.proofs.ElementBits.{AllLong, element_long, places_hold, plain_holds}
 use Rattle.zarrs_packbits.proofs.FlatRead.{are_runs}
 use Rattle.zarrs_packbits.proofs.RunLemmas.{IsRun, is_run, all_at, all_from, place_end, runs_sure, whole_run_start, whole_run_end, head_of, tail_of}

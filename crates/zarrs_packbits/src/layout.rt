@@ -1,7 +1,7 @@
 ghost use Rattle.std.specs.Prelude.{◌<◌, ◌≤◌, ◌+◌, ◌≡◌, length};
 ghost use Rattle.zarrs_packbits.specs.PackedLayout.{IsPackedLayout, is_whole, is_in_reach, spare_of};
 ghost use Rattle.zarrs_packbits.specs.PaddingByte.{lead, trail, value_len, padding_holds};
-ghost use Rattle.zarrs_packbits.specs.Runs.{run_start, run_end};
+ghost use Rattle.zarrs_packbits.specs.ReadPlan.{run_start, run_end};
 
 use zarrs_metadata::PackBitsPaddingEncoding;
 

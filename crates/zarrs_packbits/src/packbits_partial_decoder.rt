@@ -11,7 +11,7 @@ ghost use Rattle.zarrs_codec.specs.StorageState.{after_reading, are_sure};
 ghost use Rattle.zarrs_packbits.specs.PackBitsCodec.{PackBitsStands};
 ghost use Rattle.zarrs_packbits.specs.PackBitsSettings.{packed_layout};
 ghost use Rattle.zarrs_packbits.specs.PartialRead.{bytes_of_places, packbits_places, packbits_plan, packbits_read, read_places_of};
-ghost use Rattle.zarrs_packbits.specs.Runs.{IsPlan};
+ghost use Rattle.zarrs_packbits.specs.ReadPlan.{IsPlan};
 ghost use Rattle.zarrs_packbits.specs.PackedLayout.{IsPackedLayout};
 ghost use Rattle.zarrs_chunk.specs.ChunkShape.{product};
 

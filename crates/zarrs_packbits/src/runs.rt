@@ -7,7 +7,7 @@ ghost use Rattle.zarrs_codec.specs.StorageState.{after_reading, are_sure};
 ghost use Rattle.zarrs_packbits.specs.PackedLayout.{IsPackedLayout, is_whole};
 ghost use Rattle.zarrs_packbits.specs.Packing.{packing};
 ghost use Rattle.zarrs_packbits.specs.PartialRead.{packed_places_bytes, read_packed_bytes};
-ghost use Rattle.zarrs_packbits.specs.Runs.{run_span, run_bits, runs_len, spans};
+ghost use Rattle.zarrs_packbits.specs.ReadPlan.{run_span, run_bits, runs_len, spans};
 
 use crate::bit_writer::{BitWriter, in_range};
 use crate::layout::PackedLayout;

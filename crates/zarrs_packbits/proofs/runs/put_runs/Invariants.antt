@@ -1,6 +1,6 @@
 use Rattle.std.proofs.Common.{◌≡◌, ◌+◌, ◌++◌, drop, length}
 use Rattle.zarrs_packbits.proofs.runs.put_runs.Given as goal
-use Rattle.zarrs_packbits.specs.Runs.{run_bits, runs_len}
+use Rattle.zarrs_packbits.specs.ReadPlan.{run_bits, runs_len}
 
 abbrev pub invariant-loop-start : goal.invariant-loop-start
 invariant-loop-start l = record {

@@ -5,7 +5,7 @@ use Rattle.zarrs_chunk.specs.Runs.{joined_runs}
 use Rattle.zarrs_chunk.specs.Selection.{places_of}
 use Rattle.zarrs_packbits.specs.declared.layout.PackedLayout.{PackedLayout}
 use Rattle.zarrs_packbits.specs.PackBitsSettings.{packed_layout}
-use Rattle.zarrs_packbits.specs.Runs.{IsPlan, run_span, spans}
+use Rattle.zarrs_packbits.specs.ReadPlan.{IsPlan, run_span, spans}
 use Rattle.zarrs_packbits.proofs.FlatRead.{are_runs-from}
 use Rattle.zarrs_packbits.proofs.PartReads.{both_found, is_plan}
 use Rattle.zarrs_packbits.proofs.packbits_partial_decoder.PackBitsPartialDecoder.planned_ranges.Goals as goal

@@ -1,4 +1,4 @@
--- Reading runs of places that follow one another.
+-- The bytes of runs of places that follow one another, and the plan of a read.
 use Rattle.std.specs.Prelude.{◌≡◌, ℕ, ◌+◌, ◌-◌, ◌*◌, ◌/◌, ◌%◌, List, [], ◌∷◌, ◌++◌, map, length, take, drop, Bool, true}
 use Rattle.std.specs.List.{list_all, sum_by}
 use Rattle.zarrs_chunk.specs.Runs.{joined_runs}
