@@ -1,0 +1,3 @@
+pub mod ArraySteps
+pub mod CodecSteps
+pub mod ChainSteps

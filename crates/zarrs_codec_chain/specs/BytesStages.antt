@@ -1,0 +1,36 @@
+-- What the bytes codecs of a chain do, one after another.
+use Rattle.std.specs.Prelude.{◌≡◌, ℕ, ◌<◌, ◌^◌, nat_lt, if◌then◌else◌, List, [], ◌∷◌, length, Result, Ok, Err}
+use Rattle.zarrs_chunk.specs.Answer.{◌>>=◌}
+use Rattle.zarrs_chunk.specs.declared.codec_error.CodecError.{CodecError}
+use Rattle.zarrs_chunk.specs.declared.codec_error.CodecError.TheVariants.{OutOfMemory}
+use Rattle.zarrs_codec.specs.BytesToBytesCodec.{BytesCodecs}
+use Rattle.zarrs_codec.specs.declared.bytes_representation.BytesRepresentation.{BytesRepresentation}
+
+-- no list of bytes is longer than memory
+abbrev pub in_memory : List ℕ → Result (List ℕ) CodecError
+in_memory bytes = if nat_lt (length bytes) (2 ^ 64) then Ok bytes else Err OutOfMemory
+
+-- the last codec's bytes, each codec's being made of those before
+abbrev pub outer_value : {B : Type 0} → BytesCodecs B → List B → List ℕ → Result (List ℕ) CodecError
+outer_value f [] bytes = in_memory bytes
+outer_value f (codec ∷ codecs) bytes = do
+  below ← in_memory bytes
+  outer_value f codecs (f.encoded_bytes codec below)
+
+-- the bytes that stand below the codecs, where the last of them is asked first; or its refusal, or that of one below
+abbrev pub outer_bytes : {B : Type 0} → BytesCodecs B → List B → BytesRepresentation → List ℕ → Result (List ℕ) CodecError
+outer_bytes f [] r value = Ok value
+outer_bytes f (codec ∷ codecs) r value = do
+  above ← outer_bytes f codecs (f.representation codec r) value
+  f.decoded_bytes codec r above
+
+-- how many bytes the last codec makes
+abbrev pub outer_representation : {B : Type 0} → BytesCodecs B → List B → BytesRepresentation → BytesRepresentation
+outer_representation f [] r = r
+outer_representation f (codec ∷ codecs) r = outer_representation f codecs (f.representation codec r)
+
+-- each codec's bytes are made of those below, and 64 bits count all of them
+abbrev pub OuterWritten : {B : Type 0} → BytesCodecs B → List B → List ℕ → List ℕ → Type 0
+OuterWritten f [] below value = (length below < 2 ^ 64) × (value ≡ below)
+OuterWritten f (codec ∷ codecs) below value =
+    (length below < 2 ^ 64) × OuterWritten f codecs (f.encoded_bytes codec below) value

@@ -1,0 +1,211 @@
+ghost use Rattle.std.specs.Prelude.{◌≡◌, ◌<◌, ◌^◌, IfOk, Ok, map, false};
+ghost use Rattle.zarrs_chunk.specs.Answer.{Answers, AnswersBy, memory, is_fault, checked_u64};
+ghost use Rattle.zarrs_chunk.specs.ChunkShape.{product};
+ghost use Rattle.zarrs_array_bytes.specs.Held.{raw_of};
+ghost use Rattle.zarrs_array_bytes.specs.Validity.{Holds, validity};
+ghost use Rattle.zarrs_array_to_array.specs.Mapping.{mapping_of};
+ghost use Rattle.zarrs_codec_chain.specs.ArrayStages.{IsMapWhere};
+ghost use Rattle.zarrs_codec_chain.specs.Chain.{taken_form as taken_form_of, held_value};
+ghost use Rattle.zarrs_codec_chain.specs.ChainView.{plain_chain, plain_codec};
+ghost use Rattle.zarrs_codec_chain.specs.Decode.{chain_chunk};
+ghost use Rattle.zarrs_codec_chain.specs.Representation.{chain_representation};
+
+use crate::array_stages::{decode_arrays, encode_arrays, shape_through};
+use crate::array_to_bytes_codec::{
+    ArrayToBytesCodec, codec_decode, codec_encode, codec_representation,
+};
+use crate::bytes_stages::{decode_bytes, encode_bytes, outer_representation};
+use std::alloc::Global;
+use zarrs_array_bytes::{ArrayBytes, ArrayBytesRaw};
+use zarrs_array_to_array::ArrayToArrayCodec;
+use zarrs_chunk::{ChunkShape, CodecError};
+use zarrs_codec::{BytesRepresentation, BytesToBytesCodecTraits};
+use zarrs_data_type::{DataType, FillValue};
+
+/// A chain of codecs: codecs of chunks to chunks, one of chunks to bytes, and the caller's codecs of
+/// bytes to bytes, each list in the order in which they encode.
+#[derive(Drop)]
+pub struct CodecChain<B> {
+    array_to_array: Vec<ArrayToArrayCodec>,
+    array_to_bytes: ArrayToBytesCodec,
+    bytes_to_bytes: Vec<B>,
+}
+
+impl<B> CodecChain<B> {
+    /// The chain of these codecs, each list in the order in which they encode.
+    pub fn new(
+        array_to_array: Vec<ArrayToArrayCodec>,
+        array_to_bytes: ArrayToBytesCodec,
+        bytes_to_bytes: Vec<B>,
+    ) -> CodecChain<B>
+        ensures made { plain_chain result ≡ record { arrays = map mapping_of array_to_array.items; codec = plain_codec array_to_bytes; outer = bytes_to_bytes.items } }
+    {
+        CodecChain {
+            array_to_array,
+            array_to_bytes,
+            bytes_to_bytes,
+        }
+    }
+
+    /// The codecs of chunks to chunks.
+    pub fn array_to_array_codecs(&self) -> &[ArrayToArrayCodec]
+        ensures value { map mapping_of result.now ≡ (plain_chain self.now).arrays }
+    {
+        &self.array_to_array
+    }
+
+    /// The codec of chunks to bytes.
+    pub fn array_to_bytes_codec(&self) -> &ArrayToBytesCodec
+        ensures value { plain_codec result.now ≡ (plain_chain self.now).codec }
+    {
+        &self.array_to_bytes
+    }
+
+    /// The codecs of bytes to bytes.
+    pub fn bytes_to_bytes_codecs(&self) -> &[B]
+        ensures value { result.now ≡ (plain_chain self.now).outer }
+    {
+        &self.bytes_to_bytes
+    }
+}
+
+/// What a chain's codec to bytes gets, and how many bytes it makes of it.
+#[derive(Drop)]
+struct TakenForm {
+    shape: ChunkShape,
+    representation: BytesRepresentation,
+}
+
+/// That the container holds a chunk of this shape and type. Refusals: those of
+/// `ArrayBytes::validate`.
+fn check_elements(
+    elements: &ArrayBytes<'_>,
+    shape: &ChunkShape,
+    data_type: &DataType,
+) -> Result<(), CodecError>
+    requires counted { checked_u64 (product shape.now) ≡ Ok (product shape.now) }
+    ensures answer { result ≡ validity data_type.now (product shape.now) elements.now }
+    ensures no_fault { is_fault result ≡ false }
+{
+    let count = shape.num_elements()?;
+    elements.validate(count, data_type)
+}
+
+impl<B: BytesToBytesCodecTraits> CodecChain<B> {
+    /// What the codec to bytes gets of such a chunk. Refusals: those of `encoded_representation`.
+    #[tactic(auto, using(crate::proofs::ChainSteps::chain_counted))]
+    fn taken_form(
+        &self,
+        alloc: Global,
+        shape: &ChunkShape,
+        data_type: &DataType,
+        fill_value: &FillValue,
+    ) -> Result<TakenForm, CodecError>
+        ensures answer { Answers memory (λ taken. (taken.shape, taken.representation)) result (taken_form_of B.functions (plain_chain self.now) shape.now data_type.now fill_value.now) }
+        ensures map { IfOk result (λ _. IsMapWhere data_type.now (plain_chain self.now).arrays shape.now) }
+        ensures counted { IfOk result (λ _. checked_u64 (product shape.now) ≡ Ok (product shape.now)) }
+        ensures no_fault { is_fault result ≡ false }
+    {
+        let encoded = shape_through(alloc, &self.array_to_array, shape, data_type)?;
+        let representation = codec_representation::<B>(
+            &self.array_to_bytes,
+            &encoded,
+            data_type,
+            fill_value,
+        )?;
+        Ok(TakenForm {
+            shape: encoded,
+            representation,
+        })
+    }
+
+    /// How many bytes the value of such a chunk has. Refusals, the first that holds, `OutOfMemory`
+    /// aside: those of the array codecs in order, of each its type and then its shape; those of the
+    /// codec to bytes.
+    #[tactic(auto, using(crate::proofs::ChainSteps::refused_representation, crate::proofs::ChainSteps::form_representation))]
+    pub fn encoded_representation(
+        &self,
+        alloc: Global,
+        shape: &ChunkShape,
+        data_type: &DataType,
+        fill_value: &FillValue,
+    ) -> Result<BytesRepresentation, CodecError>
+        ensures answer { Answers memory (λ representation. representation) result (chain_representation B.functions (plain_chain self.now) shape.now data_type.now fill_value.now) }
+        ensures no_fault { is_fault result ≡ false }
+    {
+        let taken = self.taken_form(alloc, shape, data_type, fill_value)?;
+        Ok(outer_representation(&self.bytes_to_bytes, taken.representation))
+    }
+
+    /// The value of the chunk that `elements` hold. Refusals, the first that holds, `OutOfMemory`
+    /// aside: those of `encoded_representation`; those of `ArrayBytes::validate`.
+    ///
+    /// Each codec gets what the one before made, owned bytes as owned ones.
+    pub fn encode<'a>(
+        &self,
+        alloc: Global,
+        elements: ArrayBytes<'a>,
+        shape: &ChunkShape,
+        data_type: &DataType,
+        fill_value: &FillValue,
+    ) -> Result<ArrayBytesRaw<'a>, CodecError>
+        ensures exact { Answers memory (λ value. (raw_of value).items) result (held_value B.functions (plain_chain self.now) shape.now data_type.now fill_value.now elements.entry) }
+        ensures no_fault { is_fault result ≡ false }
+    {
+        let taken = self.taken_form(alloc, shape, data_type, fill_value)?;
+        check_elements(&elements, shape, data_type)?;
+        let chunk = encode_arrays(
+            alloc,
+            &self.array_to_array,
+            elements,
+            shape,
+            data_type,
+            fill_value,
+        )?;
+        let below = codec_encode::<B>(
+            alloc,
+            &self.array_to_bytes,
+            chunk,
+            &taken.shape,
+            data_type,
+            fill_value,
+        )?;
+        encode_bytes(alloc, &self.bytes_to_bytes, below)
+    }
+
+    /// The chunk that a value stands for. Refusals, the first that holds, `OutOfMemory` aside: those
+    /// of `encoded_representation`; `BytesCodec` of the last bytes codec, then of the one before;
+    /// `InvalidBytesLength` where what stands below them has another length.
+    ///
+    /// Each codec gets what the one behind it made, owned bytes as owned ones.
+    pub fn decode<'a>(
+        &self,
+        alloc: Global,
+        value: ArrayBytesRaw<'a>,
+        shape: &ChunkShape,
+        data_type: &DataType,
+        fill_value: &FillValue,
+    ) -> Result<ArrayBytes<'a>, CodecError>
+        ensures exact { AnswersBy memory (Holds data_type.now) result (chain_chunk B.functions (plain_chain self.now) shape.now data_type.now fill_value.now (raw_of value.entry).items) }
+        ensures no_fault { is_fault result ≡ false }
+    {
+        let taken = self.taken_form(alloc, shape, data_type, fill_value)?;
+        let below = decode_bytes(alloc, &self.bytes_to_bytes, &taken.representation, value)?;
+        let chunk = codec_decode::<B>(
+            alloc,
+            &self.array_to_bytes,
+            below,
+            &taken.shape,
+            data_type,
+            fill_value,
+        )?;
+        decode_arrays(
+            alloc,
+            &self.array_to_array,
+            chunk,
+            shape,
+            data_type,
+            fill_value,
+        )
+    }
+}
