@@ -1,3 +1,4 @@
 //! What the configurations of codecs hold, a module for each codec.
+pub mod packbits;
 pub mod reshape;
 pub mod transpose;

@@ -1,14 +1,15 @@
 //! The parts of codec metadata that hold a condition by their type, and the one error of reading
 //! metadata and of making codecs from it.
 //!
-//! Zarr v3 codec `transpose` (its key `order`) and zarr-extensions' codec `reshape` (its key
-//! `shape`).
+//! Zarr v3 codec `transpose` (its key `order`), and of zarr-extensions the codecs `reshape` (its key
+//! `shape`) and `packbits` (its key `padding_encoding`).
 #![tactic(auto)]
 
 mod codec;
 pub mod laws;
 mod plugin_create_error;
 
+pub use codec::packbits::PackBitsPaddingEncoding;
 pub use codec::reshape::{ReshapeDim, ReshapeShape};
 pub use codec::transpose::TransposeOrder;
 pub use plugin_create_error::PluginCreateError;
