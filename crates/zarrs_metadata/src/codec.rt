@@ -2,3 +2,4 @@
 pub mod packbits;
 pub mod reshape;
 pub mod transpose;
+pub mod vlen;
