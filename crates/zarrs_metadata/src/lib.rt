@@ -1,17 +1,31 @@
-//! The parts of codec metadata that hold a condition by their type, and the one error of reading
-//! metadata and of making codecs from it.
+//! Metadata of codecs, read from JSON trees and written as them; the configurations of the seven
+//! codecs, and what in them holds a condition by its type; and the one error of reading metadata and
+//! of making codecs from it.
 //!
-//! Zarr v3 codec `transpose` (its key `order`), of zarr-extensions the codecs `reshape` (its key
-//! `shape`) and `packbits` (its key `padding_encoding`), and of codec.zarrs.dev the codec `vlen` (its
-//! keys `index_data_type` and `index_location`).
+//! Zarr v3 codecs `transpose` and `bytes`, of zarr-extensions the codecs `reshape` and `packbits`, and
+//! of codec.zarrs.dev the codecs `squeeze`, `vlen` and `optional`. A configuration has an enum over
+//! its versions, whose fields are the keys.
 #![tactic(auto)]
 
 mod codec;
+mod configuration;
+mod json;
 pub mod laws;
+mod metadata_v3;
 mod plugin_create_error;
 
 pub use codec::packbits::PackBitsPaddingEncoding;
 pub use codec::reshape::{ReshapeDim, ReshapeShape};
 pub use codec::transpose::TransposeOrder;
 pub use codec::vlen::{VlenIndexDataType, VlenIndexLocation};
+pub use configuration::bytes::{BytesCodecConfiguration, BytesCodecConfigurationV1};
+pub use configuration::optional::{OptionalCodecConfiguration, OptionalCodecConfigurationV1};
+pub use configuration::packbits::{PackBitsCodecConfiguration, PackBitsCodecConfigurationV1};
+pub use configuration::reshape::{ReshapeCodecConfiguration, ReshapeCodecConfigurationV1};
+pub use configuration::squeeze::{SqueezeCodecConfiguration, SqueezeCodecConfigurationV0};
+pub use configuration::transpose::{TransposeCodecConfiguration, TransposeCodecConfigurationV1};
+pub use configuration::vlen::{
+    VlenCodecConfiguration, VlenCodecConfigurationV0, VlenCodecConfigurationV0_1,
+};
+pub use metadata_v3::{Configuration, MetadataV3};
 pub use plugin_create_error::PluginCreateError;

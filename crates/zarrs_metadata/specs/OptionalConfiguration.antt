@@ -1,0 +1,38 @@
+-- The configuration of codec `optional`.
+use Rattle.std.specs.Prelude.{◌≡◌, true, List, map, Result, Ok, codes}
+use Rattle.serde_json.specs.Data.{Members, no_members, member}
+use Rattle.zarrs_chunk.specs.Answer.{◌>>=◌}
+use Rattle.zarrs_metadata.specs.Metadata.{Metadata}
+use Rattle.zarrs_metadata.specs.MetadataList.{metadata_at, metadata_list_tree, have_no_float}
+use Rattle.zarrs_metadata.specs.MetadataV3.{metadata_seen}
+use Rattle.zarrs_metadata.specs.Trees.{without_floats}
+use Rattle.zarrs_metadata.specs.declared.configuration.optional.OptionalCodecConfiguration.{OptionalCodecConfiguration}
+use Rattle.zarrs_metadata.specs.declared.configuration.optional.OptionalCodecConfiguration.TheVariants.{V1}
+use Rattle.zarrs_metadata.specs.declared.plugin_create_error.PluginCreateError.{PluginCreateError}
+
+-- The metadata of two chains: that of the masks, and that of the elements that are present.
+pub record OptionalChains : Type 0 where
+  pub mask_codecs : List Metadata
+  pub data_codecs : List Metadata
+
+-- contracts see both
+abbrev pub optional_seen : OptionalCodecConfiguration → OptionalChains
+optional_seen (V1 c) = record { mask_codecs = map metadata_seen c.mask_codecs.items; data_codecs = map metadata_seen c.data_codecs.items }
+
+-- the chains of a configuration, or the first cause why there are none
+abbrev pub read_optional : Members → Result OptionalChains PluginCreateError
+read_optional configuration = do
+  _ ← without_floats configuration
+  mask_codecs ← metadata_at (codes "mask_codecs") configuration
+  data_codecs ← metadata_at (codes "data_codecs") configuration
+  Ok (record { mask_codecs = mask_codecs; data_codecs = data_codecs })
+
+-- how chains are written
+abbrev pub write_optional : OptionalChains → Members
+write_optional c =
+    member (codes "data_codecs") (metadata_list_tree c.data_codecs)
+    (member (codes "mask_codecs") (metadata_list_tree c.mask_codecs) no_members)
+
+-- what is written of chains without floats is read as those chains
+abbrev pub OptionalReadsBack : Type 0
+OptionalReadsBack = (c : OptionalChains) → have_no_float c.mask_codecs ≡ true → have_no_float c.data_codecs ≡ true → read_optional (write_optional c) ≡ Ok c

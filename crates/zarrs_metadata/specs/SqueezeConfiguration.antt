@@ -1,0 +1,17 @@
+-- The configuration of codec `squeeze`, which says nothing.
+use Rattle.std.specs.Prelude.{◌≡◌, Result, Ok}
+use Rattle.serde_json.specs.Data.{Members, no_members}
+use Rattle.zarrs_metadata.specs.Trees.{without_floats}
+use Rattle.zarrs_metadata.specs.declared.plugin_create_error.PluginCreateError.{PluginCreateError}
+
+-- any members are one, where no number among them is a float
+abbrev pub read_squeeze : Members → Result (Unit {0}) PluginCreateError
+read_squeeze configuration = without_floats configuration
+
+-- it is written without members
+abbrev pub write_squeeze : Members
+write_squeeze = no_members
+
+-- what is written is read
+abbrev pub SqueezeReadsBack : Type 0
+SqueezeReadsBack = read_squeeze write_squeeze ≡ Ok tt

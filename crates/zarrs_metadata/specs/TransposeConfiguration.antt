@@ -1,0 +1,31 @@
+-- The configuration of codec `transpose`.
+use Rattle.std.specs.Prelude.{◌≡◌, ℕ, true, List, Result, Ok, codes}
+use Rattle.serde_json.specs.Data.{Members, no_members, member}
+use Rattle.serde_json.specs.Find.{get_member}
+use Rattle.zarrs_chunk.specs.Answer.{◌>>=◌}
+use Rattle.zarrs_metadata.specs.Orders.{is_order}
+use Rattle.zarrs_metadata.specs.TransposeOrder.{transpose_order_of}
+use Rattle.zarrs_metadata.specs.Trees.{needed, without_floats, number_list, numbers_tree}
+use Rattle.zarrs_metadata.specs.declared.configuration.transpose.TransposeCodecConfiguration.{TransposeCodecConfiguration}
+use Rattle.zarrs_metadata.specs.declared.configuration.transpose.TransposeCodecConfiguration.TheVariants.{V1}
+use Rattle.zarrs_metadata.specs.declared.plugin_create_error.PluginCreateError.{PluginCreateError}
+
+-- contracts see its order
+abbrev pub transpose_seen : TransposeCodecConfiguration → List ℕ
+transpose_seen (V1 c) = c.order
+
+-- the order of a configuration, or the first cause why there is none
+abbrev pub read_transpose : Members → Result (List ℕ) PluginCreateError
+read_transpose configuration = do
+  _ ← without_floats configuration
+  tree ← needed (get_member (codes "order") configuration)
+  axes ← number_list tree
+  transpose_order_of axes
+
+-- how an order is written
+abbrev pub write_transpose : List ℕ → Members
+write_transpose order = member (codes "order") (numbers_tree order) no_members
+
+-- what is written of an order is read as that order
+abbrev pub TransposeReadsBack : Type 0
+TransposeReadsBack = (order : List ℕ) → is_order order ≡ true → read_transpose (write_transpose order) ≡ Ok order

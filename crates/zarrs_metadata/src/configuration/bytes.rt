@@ -1,0 +1,90 @@
+ghost use Rattle.std.specs.Prelude.{◌≡◌, Ok, option_map};
+ghost use Rattle.serde_json.specs.View.{view, members_view};
+ghost use Rattle.zarrs_chunk.specs.Answer.{Answers, seen};
+ghost use Rattle.zarrs_metadata.specs.BytesConfiguration.{bytes_seen, endianness_named, endianness_in, endianness_name, read_bytes, write_bytes};
+ghost use Rattle.zarrs_metadata.specs.PluginCreateError.{plugin_memory};
+ghost use Rattle.zarrs_metadata.specs.Trees.{optional_key};
+
+use crate::json::{member, members_hold_float};
+use crate::metadata_v3::Configuration;
+use crate::plugin_create_error::PluginCreateError;
+use serde_json::{Map, Value};
+use std::alloc::Global;
+use zarrs_data_type::Endianness;
+
+/// The configuration of codec `bytes` (Zarr v3), by its version.
+#[derive(Clone, Copy, Debug, PartialEq, Eq)]
+pub enum BytesCodecConfiguration {
+    /// Version 1.
+    V1(BytesCodecConfigurationV1),
+}
+
+/// The configuration of codec `bytes`, version 1.
+#[derive(Clone, Copy, Debug, PartialEq, Eq)]
+pub struct BytesCodecConfigurationV1 {
+    /// The order of a component's bytes; none serves for components of one byte alone.
+    pub endian: Option<Endianness>,
+}
+
+fn endianness_by_name(name: &str) -> Option<Endianness>
+    ensures { result ≡ endianness_named name.now }
+{
+    match name {
+        "little" => Some(Endianness::Little),
+        "big" => Some(Endianness::Big),
+        _ => None,
+    }
+}
+
+fn endianness_of(value: Option<&Value>) -> Result<Option<Endianness>, PluginCreateError>
+    ensures { result ≡ optional_key endianness_in (option_map (λ v. view v.now) value.entry) }
+{
+    match value {
+        None => Ok(None),
+        Some(Value::Null) => Ok(None),
+        Some(Value::String(name)) => match endianness_by_name(name.as_str()) {
+            None => Err(PluginCreateError::InvalidConfiguration),
+            Some(endian) => Ok(Some(endian)),
+        },
+        Some(_) => Err(PluginCreateError::InvalidConfiguration),
+    }
+}
+
+fn name_of(endian: Endianness) -> &'static str
+    ensures { result.now ≡ endianness_name endian }
+{
+    match endian {
+        Endianness::Little => "little",
+        Endianness::Big => "big",
+    }
+}
+
+impl BytesCodecConfiguration {
+    /// The configuration of these members: `endian`, "little" or "big"; none where it is missing or
+    /// null. Refusals: `InvalidConfiguration` where a number is a float, or the key is anything
+    /// else.
+    pub fn from_configuration(
+        configuration: &Configuration,
+    ) -> Result<BytesCodecConfiguration, PluginCreateError>
+        ensures answer { seen bytes_seen result ≡ read_bytes (members_view configuration.now.entries) }
+    {
+        if members_hold_float(configuration) {
+            return Err(PluginCreateError::InvalidConfiguration);
+        }
+        let endian = endianness_of(member(configuration, "endian"))?;
+        Ok(BytesCodecConfiguration::V1(BytesCodecConfigurationV1 { endian }))
+    }
+
+    /// The members: `endian`, where there is one. Refusals: `OutOfMemory`.
+    pub fn to_configuration(&self, alloc: Global) -> Result<Configuration, PluginCreateError>
+        ensures answer { Answers plugin_memory (λ c. members_view c.entries) result (Ok (write_bytes (bytes_seen self.now))) }
+    {
+        let BytesCodecConfiguration::V1(configuration) = self;
+        let mut members = Map::new(alloc);
+        if let Some(endian) = configuration.endian {
+            let name = Value::try_from_str(alloc, name_of(endian))?;
+            serde_json::put(&mut members, alloc, "endian", name)?;
+        }
+        Ok(members)
+    }
+}

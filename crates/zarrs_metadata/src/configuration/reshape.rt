@@ -1,0 +1,116 @@
+ghost use Rattle.std.specs.Prelude.{◌≡◌, Ok, map, IfOk};
+ghost use Rattle.serde_json.specs.View.{view, items_of, items_view, members_view, number_view};
+ghost use Rattle.serde_json.specs.Data.{array};
+ghost use Rattle.zarrs_chunk.specs.Answer.{Answers, seen};
+ghost use Rattle.zarrs_metadata.specs.PluginCreateError.{plugin_memory};
+ghost use Rattle.zarrs_metadata.specs.ReshapeConfiguration.{reshape_seen, dim_of_number, dim_in, dims_in, dim_tree, read_reshape, write_reshape};
+ghost use Rattle.zarrs_metadata.specs.ReshapeShape.{dim_of};
+ghost use Rattle.zarrs_metadata.specs.Trees.{needed, numbers_tree};
+
+use crate::codec::reshape::{ReshapeDim, ReshapeShape};
+use crate::json::{member, members_hold_float, numbers_among, numbers_of};
+use crate::metadata_v3::Configuration;
+use crate::plugin_create_error::PluginCreateError;
+use serde_json::{Map, Number, Value};
+use std::alloc::{AllocError, Global};
+
+/// The configuration of codec `reshape` (zarr-extensions), by its version.
+#[derive(Drop)]
+pub enum ReshapeCodecConfiguration {
+    /// Version 1.
+    V1(ReshapeCodecConfigurationV1),
+}
+
+/// The configuration of codec `reshape`, version 1.
+#[derive(Drop)]
+pub struct ReshapeCodecConfigurationV1 {
+    /// The sizes of the encoded chunk.
+    pub shape: ReshapeShape,
+}
+
+fn dim_by_number(number: &Number) -> Result<ReshapeDim, PluginCreateError>
+    ensures { seen dim_of result ≡ needed (dim_of_number (number_view number.now)) }
+{
+    if let Some(size) = number.as_u64() {
+        return Ok(ReshapeDim::Size(size));
+    }
+    if number.as_i64() == Some(-1) {
+        Ok(ReshapeDim::Auto)
+    } else {
+        Err(PluginCreateError::InvalidConfiguration)
+    }
+}
+
+fn dim(alloc: Global, tree: &Value) -> Result<ReshapeDim, PluginCreateError>
+    ensures { Answers plugin_memory dim_of result (dim_in (view tree.now)) }
+{
+    match tree {
+        Value::Number(number) => dim_by_number(number),
+        Value::Array(items) => Ok(ReshapeDim::InputDims(numbers_among(alloc, items)?)),
+        _ => Err(PluginCreateError::InvalidConfiguration),
+    }
+}
+
+fn dims(alloc: Global, items: &Vec<Value>) -> Result<Vec<ReshapeDim>, PluginCreateError>
+    ensures { Answers plugin_memory (λ dims. map dim_of dims.items) result (dims_in (items_view items.now.items)) }
+{
+    let mut dims = Vec::new(alloc);
+    for item in items {
+        let dim = dim(alloc, item)?;
+        dims.push(dim)?;
+    }
+    Ok(dims)
+}
+
+fn tree_of_dim(alloc: Global, dim: &ReshapeDim) -> Result<Value, AllocError>
+    ensures { IfOk result (λ tree. view tree ≡ dim_tree (dim_of dim.now)) }
+{
+    match dim {
+        ReshapeDim::Size(size) => Ok(Value::from(*size)),
+        ReshapeDim::Auto => Ok(Value::from(-1i64)),
+        ReshapeDim::InputDims(axes) => numbers_of(alloc, axes.as_slice()),
+    }
+}
+
+fn tree_of_dims(alloc: Global, dims: &[ReshapeDim]) -> Result<Value, AllocError>
+    ensures { IfOk result (λ tree. view tree ≡ array (items_of (map dim_tree (map dim_of dims.now)))) }
+{
+    let mut items = Vec::with_capacity(alloc, dims.len())?;
+    for dim in dims {
+        items.push(tree_of_dim(alloc, dim)?)?;
+    }
+    Ok(Value::Array(items))
+}
+
+impl ReshapeCodecConfiguration {
+    /// The configuration of these members: `shape`, a list of whole numbers, -1 (automatic) and
+    /// lists of axes. Refusals, the first that holds: `InvalidConfiguration` where a number is a
+    /// float, or the key is missing or anything else; `ZeroSize`; `MultipleAuto`; `OutOfMemory`.
+    pub fn from_configuration(
+        alloc: Global,
+        configuration: &Configuration,
+    ) -> Result<ReshapeCodecConfiguration, PluginCreateError>
+        ensures answer { Answers plugin_memory reshape_seen result (read_reshape (members_view configuration.now.entries)) }
+    {
+        if members_hold_float(configuration) {
+            return Err(PluginCreateError::InvalidConfiguration);
+        }
+        let Some(Value::Array(items)) = member(configuration, "shape") else {
+            return Err(PluginCreateError::InvalidConfiguration);
+        };
+        let dims = dims(alloc, items)?;
+        let shape = ReshapeShape::new(dims)?;
+        Ok(ReshapeCodecConfiguration::V1(ReshapeCodecConfigurationV1 { shape }))
+    }
+
+    /// The members: `shape`. Refusals: `OutOfMemory`.
+    pub fn to_configuration(&self, alloc: Global) -> Result<Configuration, PluginCreateError>
+        ensures answer { Answers plugin_memory (λ c. members_view c.entries) result (Ok (write_reshape (reshape_seen self.now))) }
+    {
+        let ReshapeCodecConfiguration::V1(configuration) = self;
+        let shape = tree_of_dims(alloc, configuration.shape.as_slice())?;
+        let mut members = Map::new(alloc);
+        serde_json::put(&mut members, alloc, "shape", shape)?;
+        Ok(members)
+    }
+}

@@ -1,0 +1,117 @@
+//! What metadata reads from JSON trees, and writes as them.
+ghost use Rattle.std.specs.Prelude.{◌≡◌, option_map, IfOk};
+ghost use Rattle.serde_json.specs.Written.{has_float, items_have_float, members_have_float};
+ghost use Rattle.serde_json.specs.View.{view, items_view, members_view};
+ghost use Rattle.serde_json.specs.Find.{get_member};
+ghost use Rattle.zarrs_chunk.specs.Answer.{Answers};
+ghost use Rattle.zarrs_metadata.specs.PluginCreateError.{plugin_memory};
+ghost use Rattle.zarrs_metadata.specs.Trees.{needed, whole_number, numbers_in, number_list, numbers_tree};
+
+use crate::metadata_v3::Configuration;
+use crate::plugin_create_error::PluginCreateError;
+use serde_json::{Map, Value};
+use std::alloc::{AllocError, Global};
+
+/// Whether a number at any depth is a float.
+#[cycle(floats)]
+pub(crate) fn holds_float(tree: &Value) -> bool
+    ensures value { result ≡ has_float (view tree.now) }
+{
+    match tree {
+        Value::Null => false,
+        Value::Bool(_) => false,
+        Value::Number(number) => number.is_f64(),
+        Value::String(_) => false,
+        Value::Array(items) => items_hold_float(items),
+        Value::Object(members) => members_hold_float(members),
+    }
+}
+
+#[cycle(floats)]
+fn items_hold_float(items: &Vec<Value>) -> bool
+    ensures { result ≡ items_have_float (items_view items.now.items) }
+{
+    for item in items {
+        if holds_float(item) {
+            return true;
+        }
+    }
+    false
+}
+
+/// The same of a configuration.
+#[cycle(floats)]
+pub(crate) fn members_hold_float(members: &Configuration) -> bool
+    ensures value { result ≡ members_have_float (members_view members.now.entries) }
+{
+    for (key, member) in members.iter() {
+        if holds_float(member) {
+            return true;
+        }
+    }
+    false
+}
+
+/// The value at a key of an object.
+pub(crate) fn member<'v>(members: &'v Configuration, key: &str) -> Option<&'v Value>
+    ensures value { option_map (λ value. view value.now) result ≡ get_member key.now (members_view members.now.entries) }
+{
+    members.get(key)
+}
+
+/// An object with the same members.
+pub(crate) fn copied(members: &Configuration, alloc: Global) -> Result<Configuration, AllocError>
+    ensures copy { IfOk result (λ copies. members_view copies.entries ≡ members_view members.now.entries) }
+{
+    let mut copies = Map::new(alloc);
+    for (key, member) in members.iter() {
+        let name = key.clone()?;
+        let value = member.clone()?;
+        drop(copies.insert(name, value)?);
+    }
+    Ok(copies)
+}
+
+/// The whole numbers of a list's items. Refusals: `InvalidConfiguration` where anything else is among
+/// them; `OutOfMemory`.
+pub(crate) fn numbers_among(
+    alloc: Global,
+    items: &Vec<Value>,
+) -> Result<Vec<u64>, PluginCreateError>
+    ensures answer { Answers plugin_memory (λ numbers. numbers.items) result (numbers_in (items_view items.now.items)) }
+{
+    let mut numbers = Vec::new(alloc);
+    for item in items {
+        let number = number(item)?;
+        numbers.push(number)?;
+    }
+    Ok(numbers)
+}
+
+fn number(tree: &Value) -> Result<u64, PluginCreateError>
+    ensures { result ≡ needed (whole_number (view tree.now)) }
+{
+    tree.as_u64().ok_or(PluginCreateError::InvalidConfiguration)
+}
+
+/// The whole numbers of a list. Refusals: `InvalidConfiguration` where the tree is anything else;
+/// `OutOfMemory`.
+pub(crate) fn numbers(alloc: Global, tree: &Value) -> Result<Vec<u64>, PluginCreateError>
+    ensures answer { Answers plugin_memory (λ numbers. numbers.items) result (number_list (view tree.now)) }
+{
+    match tree {
+        Value::Array(items) => numbers_among(alloc, items),
+        _ => Err(PluginCreateError::InvalidConfiguration),
+    }
+}
+
+/// The list of whole numbers.
+pub(crate) fn numbers_of(alloc: Global, numbers: &[u64]) -> Result<Value, AllocError>
+    ensures value { IfOk result (λ tree. view tree ≡ numbers_tree numbers.now) }
+{
+    let mut items = Vec::with_capacity(alloc, numbers.len())?;
+    for number in numbers {
+        items.push(Value::from(*number))?;
+    }
+    Ok(Value::Array(items))
+}
