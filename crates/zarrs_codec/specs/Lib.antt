@@ -1,4 +1,5 @@
 pub mod ArrayReader
+pub mod BytePieces
 pub mod ByteRanges
 pub mod ByteSpan
 pub mod BytesRepresentation

@@ -8,7 +8,11 @@ use Rattle.zarrs_codec.specs.declared.memory_handle.MemoryHandle.{MemoryHandle}
 abbrev pub stored : MemoryHandle → Option (List ℕ)
 stored handle = option_map (λ value. value.items) handle.value
 
+-- how many writing calls there were, modulo 2^64
+abbrev pub write_count : MemoryHandle → ℕ
+write_count handle = handle.write_calls
+
 -- its state: all bytes are sure, since it never fails
 abbrev pub memory_state : MemoryHandle → StorageState
 memory_state handle =
-    record { value = stored handle; sure = Some (λ _. true); faults = 0; failure = None; writes = 0 }
+    record { value = stored handle; sure = Some (λ _. true); faults = 0; failure = None; writes = write_count handle }

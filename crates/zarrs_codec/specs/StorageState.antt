@@ -43,3 +43,17 @@ after_reading result state =
 abbrev pub held_bytes : Option (List ℕ) → ℕ
 held_bytes None = 0
 held_bytes (Some value) = length value
+
+-- the bytes of a value; none, where there is none
+abbrev pub value_or_empty : Option (List ℕ) → List ℕ
+value_or_empty None = []
+value_or_empty (Some value) = value
+
+-- all of a state but the value
+abbrev pub apart_from_value : StorageState → StorageState
+apart_from_value state = record state { value = None }
+
+-- what a writing call leaves apart from the value: all as it was, but for one writing call more and the failure that it answers
+abbrev pub after_writing : {T : Type 0} → Result T CodecError → StorageState → StorageState
+after_writing result state =
+    record (apart_from_value (after_reading result state)) { writes = count_if true state.writes }

@@ -2,13 +2,16 @@
 //! are.
 //!
 //! A coder that reads a chunk in part does so over a storage handle, a
-//! [`BytesPartialDecoderTraits`]. [`MemoryHandle`] is one whose value is in memory.
+//! [`BytesPartialDecoderTraits`], and one that writes over a [`BytesPartialEncoderTraits`].
+//! [`MemoryHandle`] is one whose value is in memory.
 #![tactic(auto)]
 
 mod array_partial_decoder_traits;
 mod array_to_array_codec_traits;
+mod byte_pieces;
 mod byte_range;
 mod bytes_partial_decoder_traits;
+mod bytes_partial_encoder_traits;
 mod bytes_representation;
 mod bytes_to_bytes_codec_traits;
 mod capabilities;
@@ -21,6 +24,7 @@ pub use array_partial_decoder_traits::ArrayPartialDecoderTraits;
 pub use array_to_array_codec_traits::ArrayToArrayCodecTraits;
 pub use byte_range::ByteRange;
 pub use bytes_partial_decoder_traits::BytesPartialDecoderTraits;
+pub use bytes_partial_encoder_traits::BytesPartialEncoderTraits;
 pub use bytes_representation::BytesRepresentation;
 pub use bytes_to_bytes_codec_traits::BytesToBytesCodecTraits;
 pub use capabilities::{PartialDecoderCapability, PartialEncoderCapability};

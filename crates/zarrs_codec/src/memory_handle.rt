@@ -1,11 +1,14 @@
-ghost use Rattle.std.specs.Prelude.{◌≡◌, ◌++◌, IfOk, IfErr, OnOk, true, false, Some, None, length, nat_le};
+ghost use Rattle.std.specs.Prelude.{◌≡◌, ◌++◌, IfOk, IfErr, OnErr, OnOk, Ok, true, false, Some, None, length, nat_le};
 ghost use Rattle.std.specs.List.{between};
 ghost use Rattle.std.specs.Option.{option_map};
 ghost use Rattle.zarrs_chunk.specs.Answer.{Answers, memory, is_fault};
+ghost use Rattle.zarrs_codec.specs.BytePieces.{pieces_fit, with_pieces};
 ghost use Rattle.zarrs_codec.specs.ByteRanges.{read_value};
 
+use crate::byte_pieces::{check_pieces, furthest_end_of, write_pieces};
 use crate::byte_range::ByteRange;
 use crate::bytes_partial_decoder_traits::BytesPartialDecoderTraits;
+use crate::bytes_partial_encoder_traits::BytesPartialEncoderTraits;
 use std::alloc::{AllocError, Global};
 use zarrs_chunk::CodecError;
 
@@ -69,23 +72,32 @@ fn gather(alloc: Global, value: &[u8], ranges: &[ByteRange]) -> Result<Vec<u8>, 
 #[derive(Drop)]
 pub struct MemoryHandle {
     value: Option<Vec<u8>>,
+    write_calls: u64,
 }
 
 impl MemoryHandle {
-    ghost use Rattle.zarrs_codec.specs.MemoryHandle.{stored};
+    ghost use Rattle.zarrs_codec.specs.MemoryHandle.{stored, write_count};
 
     /// A handle without a value.
     pub fn new() -> MemoryHandle
         ensures made { stored result ≡ None }
+        ensures count { write_count result ≡ 0 }
     {
-        MemoryHandle { value: None }
+        MemoryHandle {
+            value: None,
+            write_calls: 0,
+        }
     }
 
     /// A handle with this value.
     pub fn with_value(value: Vec<u8>) -> MemoryHandle
         ensures made { stored result ≡ Some value.items }
+        ensures count { write_count result ≡ 0 }
     {
-        MemoryHandle { value: Some(value) }
+        MemoryHandle {
+            value: Some(value),
+            write_calls: 0,
+        }
     }
 
     /// The value, or `None`.
@@ -103,6 +115,14 @@ impl MemoryHandle {
         ensures value { option_map (λ bytes. bytes.items) result ≡ stored self }
     {
         self.value
+    }
+
+    /// How many writing calls there were, those that were refused among them, modulo 2^64.
+    pub fn write_calls(&self) -> u64
+        ensures value { result ≡ write_count self.now }
+    {
+        let MemoryHandle { write_calls, .. } = self;
+        *write_calls
     }
 }
 
@@ -148,6 +168,67 @@ impl BytesPartialDecoderTraits for MemoryHandle {
     }
 
     fn supports_partial_decode(&self) -> bool {
+        true
+    }
+}
+
+/// Writes the pieces, for which the value grows first: nothing is refused from then on.
+fn write_grown(value: &mut Vec<u8>, pieces: &[(u64, u64)], bytes: &[u8]) -> Result<(), AllocError>
+    requires fit { pieces_fit pieces.now (length bytes.now) ≡ Ok tt }
+    ensures written { OnOk result (value.new.items ≡ with_pieces value.old.items pieces.now bytes.now) }
+    ensures kept { OnErr result (value.new.items ≡ value.old.items) }
+{
+    let needed = furthest_end_of(pieces, bytes.len());
+    if value.len() < needed {
+        value.resize(needed, 0)?;
+    }
+    write_pieces(value, pieces, bytes);
+    Ok(())
+}
+
+impl BytesPartialEncoderTraits for MemoryHandle {
+    const ATOMIC: bool = true;
+
+    ghost atomic = { true };
+
+    ghost writes_ranges = { true };
+
+    fn partial_encode_many(
+        &mut self,
+        alloc: Global,
+        pieces: &[(u64, u64)],
+        bytes: &[u8],
+    ) -> Result<(), CodecError> {
+        self.write_calls = self.write_calls.wrapping_add(1);
+        check_pieces(pieces, bytes.len())?;
+        match &mut self.value {
+            None => {
+                let mut value = Vec::new(alloc);
+                write_grown(&mut value, pieces, bytes)?;
+                self.value = Some(value);
+            }
+            Some(value) => write_grown(value, pieces, bytes)?,
+        }
+        Ok(())
+    }
+
+    fn replace(&mut self, alloc: Global, bytes: &[u8]) -> Result<(), CodecError> {
+        self.write_calls = self.write_calls.wrapping_add(1);
+        self.value = Some(Vec::from_slice(alloc, bytes)?);
+        Ok(())
+    }
+
+    fn erase(&mut self) -> Result<(), CodecError> {
+        self.write_calls = self.write_calls.wrapping_add(1);
+        self.value = None;
+        Ok(())
+    }
+
+    fn supports_partial_encode(&self) -> bool {
+        true
+    }
+
+    fn is_atomic(&self) -> bool {
         true
     }
 }
