@@ -81,9 +81,9 @@ fixed_written settings sizes width components sign fill value chunk keeps small 
           = w.spelt ∙ ap (λ (k : PackedLayout). value_with k (chunk_stream k chunk)) same ∙ ap (value_with l) (stream_cut l chunk c) ∙ whole_encoded l (joined chunk) s whole.2 c.long (small_at (joined chunk) (joined_small chunk small)) in
           record {
             len = product sizes * element_size width components;
-            taken = length_so;
+            length_is = length_so;
             elements = w.elements;
-            spelt = is ∙ sym (spelling_is width components sign chunk);
+            value_is = is ∙ sym (spelling_is width components sign chunk);
             small = omega (arith, ap length is, c.long, s.bytes_fit);
           },
       λ b.
@@ -92,7 +92,7 @@ fixed_written settings sizes width components sign fill value chunk keeps small 
             layout = l;
             taken = e;
             elements = b.elements;
-            spelt = b.spelt ∙ spelling_is width components sign chunk ∙ sym (ap (value_with l) (stream_cut l chunk c) ∙ whole_encoded l (joined chunk) s whole.2 c.long (small_at (joined chunk) (joined_small chunk small)));
+            spelt = b.value_is ∙ spelling_is width components sign chunk ∙ sym (ap (value_with l) (stream_cut l chunk c) ∙ whole_encoded l (joined chunk) s whole.2 c.long (small_at (joined chunk) (joined_small chunk small)));
           },
     )
 
