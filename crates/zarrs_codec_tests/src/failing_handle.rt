@@ -3,13 +3,14 @@ ghost use Rattle.std.specs.Prelude.{◌≡◌, Ok};
 ghost use Rattle.zarrs_chunk.specs.Answer.{Answers, fault, is_fault};
 ghost use Rattle.zarrs_codec.specs.StorageState.{count_if, last_failure};
 
+use crate::bytes_batches::listed;
 use crate::checks::{Asked, are, indexer, is, is_refused, stored};
-use crate::forms::{Told, Type, decoder};
+use crate::forms::{Told, Type, decoder, repeated};
 use std::alloc::Global;
 use std::process::Abort;
 use std::test::Fail;
 use zarrs_bytes::{BytesCodec, BytesCodecPartial};
-use zarrs_chunk::{CodecError, StorageError};
+use zarrs_chunk::{CodecError, Indexer, StorageError};
 use zarrs_codec::{ByteRange, BytesPartialDecoderTraits, MemoryHandle};
 
 /// A handle over memory of which one call fails: the one behind so many others.
@@ -91,14 +92,18 @@ const OUTSIDE: Asked<'static> = Asked::Ranges(&[0..4]);
 const FAILED: CodecError = CodecError::Storage(StorageError { code: 7 });
 
 /// A decoder over this value, the second call of whose handle fails.
-fn failing(alloc: Global, value: Option<&[u8]>) -> Result<BytesCodecPartial<FailingHandle>, Fail> {
+fn failing(
+    alloc: Global,
+    told: &Told<'_>,
+    value: Option<&[u8]>,
+) -> Result<BytesCodecPartial<FailingHandle>, Fail> {
     let handle = FailingHandle {
         memory: stored(alloc, value)?,
         calls_before: 1,
         faults: 0,
         failure: None,
     };
-    Ok(decoder(alloc, BytesCodec::big(), &WORDS, handle)?)
+    Ok(decoder(alloc, BytesCodec::big(), told, handle)?)
 }
 
 fn refuses(
@@ -140,9 +145,9 @@ fn fails_once(
 
 #[test]
 fn a_failing_read_is_refused(rt: HostRuntime) -> Result<(), Fail> {
-    let stored = failing(rt.alloc(), Some(&[1, 2]))?;
+    let stored = failing(rt.alloc(), &WORDS, Some(&[1, 2]))?;
     fails_once(&rt, rt.alloc(), stored, true, &[2, 1])?;
-    let unstored = failing(rt.alloc(), None)?;
+    let unstored = failing(rt.alloc(), &WORDS, None)?;
     fails_once(&rt, rt.alloc(), unstored, false, &[9, 9])
 }
 
@@ -163,6 +168,75 @@ fn is_not_asked_in_vain(
 
 #[test]
 fn an_indexer_is_refused_before_the_handle_is_asked(rt: HostRuntime) -> Result<(), Fail> {
-    let decoder = failing(rt.alloc(), None)?;
+    let decoder = failing(rt.alloc(), &WORDS, None)?;
     is_not_asked_in_vain(&rt, rt.alloc(), decoder)
+}
+
+/// The first word, as often as this.
+fn firsts(alloc: Global, count: usize) -> Result<Indexer, CodecError> {
+    listed(alloc, vec![in alloc; 0usize; count]?.as_slice())
+}
+
+fn reads_bytes(
+    rt: &impl Abort,
+    alloc: Global,
+    decoder: &mut BytesCodecPartial<FailingHandle>,
+    asked: &Indexer,
+    elements: &[u8],
+) -> Result<(), Fail> {
+    let part = decoder.partial_decode(alloc, asked)?;
+    are(rt, "read", part.into_fixed()?.as_slice(), elements);
+    Ok(())
+}
+
+/// The second batch is refused, and so is the read; the next read isn't.
+fn fails_in_its_second_batch(
+    rt: &impl Abort,
+    alloc: Global,
+    mut decoder: BytesCodecPartial<FailingHandle>,
+) -> Result<(), Fail> {
+    let asked = firsts(alloc, 1025)?;
+    is_refused(rt, "refused", decoder.partial_decode(alloc, &asked), FAILED)?;
+    let wanted = repeated(alloc, &[2, 1], 1025)?;
+    reads_bytes(rt, alloc, &mut decoder, &asked, wanted.as_slice())?;
+    is(rt, "faults", &decoder.into_handle().faults, &1);
+    Ok(())
+}
+
+#[test]
+fn a_failing_batch_refuses_the_read(rt: HostRuntime) -> Result<(), Fail> {
+    let decoder = failing(rt.alloc(), &WORDS, Some(&[1, 2]))?;
+    fails_in_its_second_batch(&rt, rt.alloc(), decoder)
+}
+
+const ROWS: Told<'static> = (&[1025, 17], Type::Bits(8, 1), &[9]);
+
+/// Ranges of 16 bytes take as much memory as their bytes, and are read by one call.
+const BY_ONE_CALL: Asked<'static> = Asked::Ranges(&[0..1025, 0..16]);
+
+const BY_TWO_CALLS: Asked<'static> = Asked::Ranges(&[0..1025, 0..15]);
+
+fn reads_rows(
+    rt: &impl Abort,
+    alloc: Global,
+    decoder: &mut BytesCodecPartial<FailingHandle>,
+) -> Result<(), Fail> {
+    let wanted = repeated(alloc, &[5], 16400)?;
+    let asked = indexer(alloc, &BY_ONE_CALL)?;
+    reads_bytes(rt, alloc, decoder, &asked, wanted.as_slice())
+}
+
+#[test]
+fn long_ranges_are_read_by_one_call(rt: HostRuntime) -> Result<(), Fail> {
+    let value = repeated(rt.alloc(), &[5], 17425)?;
+    let mut decoder = failing(rt.alloc(), &ROWS, Some(value.as_slice()))?;
+    reads_rows(&rt, rt.alloc(), &mut decoder)?;
+    refuses(&rt, rt.alloc(), &mut decoder, &BY_ONE_CALL, FAILED)
+}
+
+#[test]
+fn short_ranges_are_read_in_batches(rt: HostRuntime) -> Result<(), Fail> {
+    let value = repeated(rt.alloc(), &[5], 17425)?;
+    let mut decoder = failing(rt.alloc(), &ROWS, Some(value.as_slice()))?;
+    refuses(&rt, rt.alloc(), &mut decoder, &BY_TWO_CALLS, FAILED)
 }

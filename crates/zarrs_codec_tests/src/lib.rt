@@ -12,6 +12,8 @@
 #[cfg(test)]
 mod byte_ranges;
 #[cfg(test)]
+mod bytes_batches;
+#[cfg(test)]
 mod bytes_codec;
 #[cfg(test)]
 mod bytes_law;
