@@ -1,0 +1,7 @@
+use Rattle.zarrs_array_to_array.specs.ArrayToArrayCodec.{squeeze}
+use Rattle.zarrs_array_to_array.proofs.Refusals.{making_no_fault}
+use Rattle.zarrs_array_to_array.proofs.squeeze.squeeze_codec.SqueezeCodec.partial_decoder.Goals as goal
+
+pub returns-clause-no_fault : goal.returns-clause-no_fault
+returns-clause-no_fault g c =
+    making_no_fault (λ parts. parts) (squeeze) c.args.shape.now c.args.data_type.now c.args.fill_value.now (λ _. (c.args.self.now, c.args.shape.now)) c.parts_of_decoder.result _ c.parts_of_decoder.ensures c.partial_decoder_of.ensures.answer
