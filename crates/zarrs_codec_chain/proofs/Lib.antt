@@ -1,3 +1,4 @@
 pub mod ArraySteps
 pub mod CodecSteps
 pub mod ChainSteps
+pub mod ChainLaws
