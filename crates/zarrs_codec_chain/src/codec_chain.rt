@@ -1,7 +1,8 @@
-ghost use Rattle.std.specs.Prelude.{◌≡◌, ◌<◌, ◌^◌, IfOk, Ok, map, false};
+ghost use Rattle.std.specs.Prelude.{◌≡◌, ℕ, List, ◌<◌, ◌^◌, IfOk, Ok, map, false};
 ghost use Rattle.std.specs.List.{list_all};
 ghost use Rattle.zarrs_chunk.specs.Answer.{Answers, AnswersBy, memory, is_fault, checked_u64};
 ghost use Rattle.zarrs_chunk.specs.ChunkShape.{product};
+ghost use Rattle.zarrs_data_type.specs.Element.{Chunk};
 ghost use Rattle.zarrs_array_bytes.specs.Held.{raw_of};
 ghost use Rattle.zarrs_array_bytes.specs.Validity.{Holds, validity};
 ghost use Rattle.zarrs_array_to_array.specs.Mapping.{mapping_of};
@@ -10,6 +11,8 @@ ghost use Rattle.zarrs_codec_chain.specs.Chain.{taken_form as taken_form_of, hel
 ghost use Rattle.zarrs_codec_chain.specs.ChainView.{plain_chain, plain_codec};
 ghost use Rattle.zarrs_codec_chain.specs.Decode.{chain_chunk};
 ghost use Rattle.zarrs_codec_chain.specs.Representation.{chain_representation};
+ghost use Rattle.zarrs_codec_chain.specs.Stands.{ChainStands};
+ghost use Rattle.zarrs_codec_chain.specs.Written.{ChainWritten};
 
 use crate::array_stages::{decode_arrays, encode_arrays, shape_through};
 use crate::array_to_bytes_codec::{
@@ -141,11 +144,8 @@ impl<B: BytesToBytesCodecTraits> CodecChain<B> {
         Ok(outer_representation(&self.bytes_to_bytes, taken.representation))
     }
 
-    /// The value of the chunk that `elements` hold. Refusals, the first that holds, `OutOfMemory`
-    /// aside: those of `encoded_representation`; those of `ArrayBytes::validate`.
-    ///
-    /// Each codec gets what the one before made, owned bytes as owned ones.
-    pub fn encode<'a>(
+    /// The value that `encode` answers.
+    fn value_of<'a>(
         &self,
         alloc: Global,
         elements: ArrayBytes<'a>,
@@ -154,6 +154,7 @@ impl<B: BytesToBytesCodecTraits> CodecChain<B> {
         fill_value: &FillValue,
     ) -> Result<ArrayBytesRaw<'a>, CodecError>
         ensures exact { Answers memory (λ value. (raw_of value).items) result (held_value B.functions (plain_chain self.now) shape.now data_type.now fill_value.now elements.entry) }
+        ensures map { IfOk result (λ _. IsMapWhere data_type.now (plain_chain self.now).arrays shape.now) }
         ensures no_fault { is_fault result ≡ false }
     {
         let taken = self.taken_form(alloc, shape, data_type, fill_value)?;
@@ -177,12 +178,8 @@ impl<B: BytesToBytesCodecTraits> CodecChain<B> {
         encode_bytes(alloc, &self.bytes_to_bytes, below)
     }
 
-    /// The chunk that a value stands for. Refusals, the first that holds, `OutOfMemory` aside: those
-    /// of `encoded_representation`; `BytesCodec` of the last bytes codec, then of the one before;
-    /// `InvalidBytesLength` where what stands below them has another length.
-    ///
-    /// Each codec gets what the one behind it made, owned bytes as owned ones.
-    pub fn decode<'a>(
+    /// The chunk that `decode` answers.
+    fn chunk_of<'a>(
         &self,
         alloc: Global,
         value: ArrayBytesRaw<'a>,
@@ -191,6 +188,7 @@ impl<B: BytesToBytesCodecTraits> CodecChain<B> {
         fill_value: &FillValue,
     ) -> Result<ArrayBytes<'a>, CodecError>
         ensures exact { AnswersBy memory (Holds data_type.now) result (chain_chunk B.functions (plain_chain self.now) shape.now data_type.now fill_value.now (raw_of value.entry).items) }
+        ensures map { IfOk result (λ _. IsMapWhere data_type.now (plain_chain self.now).arrays shape.now) }
         ensures no_fault { is_fault result ≡ false }
     {
         let taken = self.taken_form(alloc, shape, data_type, fill_value)?;
@@ -211,6 +209,47 @@ impl<B: BytesToBytesCodecTraits> CodecChain<B> {
             data_type,
             fill_value,
         )
+    }
+
+    /// The value that is written for the chunk that `elements` hold. Refusals, the first that holds,
+    /// `OutOfMemory` aside: those of `encoded_representation`; those of `ArrayBytes::validate`.
+    ///
+    /// Each codec gets what the one before made, owned bytes as owned ones.
+    pub fn encode<'a>(
+        &self,
+        alloc: Global,
+        elements: ArrayBytes<'a>,
+        shape: &ChunkShape,
+        data_type: &DataType,
+        fill_value: &FillValue,
+    ) -> Result<ArrayBytesRaw<'a>, CodecError>
+        ensures found { IfOk result (λ value. (chunk : Chunk) × Holds data_type.now elements.entry chunk × ChainWritten B.functions (plain_chain self.now) shape.now data_type.now fill_value.now (raw_of value).items chunk) }
+        ensures only { (chunk : Chunk) (value : List ℕ) → Holds data_type.now elements.entry chunk → ChainWritten B.functions (plain_chain self.now) shape.now data_type.now fill_value.now value chunk → Answers memory (λ bytes. (raw_of bytes).items) result (Ok value) }
+        ensures exact { Answers memory (λ value. (raw_of value).items) result (held_value B.functions (plain_chain self.now) shape.now data_type.now fill_value.now elements.entry) }
+        ensures no_fault { is_fault result ≡ false }
+    {
+        self.value_of(alloc, elements, shape, data_type, fill_value)
+    }
+
+    /// The chunk that a value stands for. Refusals, the first that holds, `OutOfMemory` aside: those
+    /// of `encoded_representation`; `BytesCodec` of the last bytes codec, then of the one before;
+    /// `InvalidBytesLength` where what stands below them has another length.
+    ///
+    /// Each codec gets what the one behind it made, owned bytes as owned ones.
+    pub fn decode<'a>(
+        &self,
+        alloc: Global,
+        value: ArrayBytesRaw<'a>,
+        shape: &ChunkShape,
+        data_type: &DataType,
+        fill_value: &FillValue,
+    ) -> Result<ArrayBytes<'a>, CodecError>
+        ensures found { IfOk result (λ elements. (chunk : Chunk) × Holds data_type.now elements chunk × ChainStands B.functions (plain_chain self.now) shape.now data_type.now fill_value.now (raw_of value.entry).items chunk) }
+        ensures only { (chunk : Chunk) → ChainStands B.functions (plain_chain self.now) shape.now data_type.now fill_value.now (raw_of value.entry).items chunk → AnswersBy memory (Holds data_type.now) result (Ok chunk) }
+        ensures exact { AnswersBy memory (Holds data_type.now) result (chain_chunk B.functions (plain_chain self.now) shape.now data_type.now fill_value.now (raw_of value.entry).items) }
+        ensures no_fault { is_fault result ≡ false }
+    {
+        self.chunk_of(alloc, value, shape, data_type, fill_value)
     }
 }
 
