@@ -189,7 +189,7 @@ encoded_whole takes coordinates type sizes held t = rw (t.taken, t.done, t.count
 pub decoded_whole : (takes : Result (Unit {0}) CodecError) (coordinates : Result CoordinateMap CodecError) (type : ElementType) (sizes : List ℕ) (held : Held) (t : TakenChunk takes coordinates type sizes held) → decoded_chunk takes coordinates type sizes held ≡ Ok (moved (undone sizes t.map_is) (elements type (product sizes) held))
 decoded_whole takes coordinates type sizes held t = rw (t.taken, t.done, t.counted, t.valid) refl
 
-length-elements : (type : ElementType) (count : ℕ) (held : Held) → length (elements type count held) ≡ count
+pub length-elements : (type : ElementType) (count : ℕ) (held : Held) → length (elements type count held) ≡ count
 length-elements type count held = length-map-range_with_len (element_at type held) 0 count
 
 -- a container of so many elements holds them

@@ -41,7 +41,7 @@ pub record IsTaken {B : Type 0} (f : BytesCodecs B) (chain : PlainChain B) (size
   pub encoded_is : map_is.encoded ≡ encoded
   pub measured : codec_representation f chain.codec map_is.encoded type fill ≡ Ok r
 
-seen_ok : {X Y : Type 0} (view : X → Y) (r : Result X CodecError) (y : Y) → seen view r ≡ Ok y → (x : X) × (r ≡ Ok x) × (view x ≡ y)
+pub seen_ok : {X Y : Type 0} (view : X → Y) (r : Result X CodecError) (y : Y) → seen view r ≡ Ok y → (x : X) × (r ≡ Ok x) × (view x ≡ y)
 seen_ok view (Ok x) y e = (x, refl, ok_is (view x) y e)
 seen_ok view (Err error) y e = absurd cc
 
@@ -137,7 +137,7 @@ both_ok (Err e) s h = absurd cc
 validity_fits : (type : ElementType) (count : ℕ) (held : Held) → validity type count held ≡ Ok tt → sizes_fit type count ≡ Ok tt
 validity_fits type count held e = both_ok (sizes_fit type count) _ e
 
-encoded_so : {B : Type 0} (f : BytesCodecs B) (chain : PlainChain B) (sizes : List ℕ) (type : ElementType) (fill : List ℕ) (held : Held) (encoded : List ℕ) (r : BytesRepresentation) (t : IsTaken f chain sizes type fill encoded r) → validity type (product sizes) held ≡ Ok tt
+pub encoded_so : {B : Type 0} (f : BytesCodecs B) (chain : PlainChain B) (sizes : List ℕ) (type : ElementType) (fill : List ℕ) (held : Held) (encoded : List ℕ) (r : BytesRepresentation) (t : IsTaken f chain sizes type fill encoded r) → validity type (product sizes) held ≡ Ok tt
     → held_value f chain sizes type fill held ≡ codec_value f chain.codec t.map_is.encoded type (moved t.map_is (elements type (product sizes) held)) >>= (λ below. outer_value f chain.outer below)
 encoded_so f chain sizes type fill held encoded r t valid =
     let fits = validity_fits type (product sizes) held valid in
@@ -183,7 +183,7 @@ value_through f chain sizes type fill form held made maps e counted valid found 
     ∙ ap (λ (r : Result (List ℕ) CodecError). r >>= (λ below. outer_value f chain.outer below)) (sym inner)
     ∙ ap (λ s. codec_held_value f chain.codec s type fill made >>= (λ below. outer_value f chain.outer below)) t.encoded_is
 
-next_ok : {A C : Type 0} (r : Result A CodecError) (x : A) (g : A → Result C CodecError) → r ≡ Ok x → r >>= g ≡ g x
+pub next_ok : {A C : Type 0} (r : Result A CodecError) (x : A) (g : A → Result C CodecError) → r ≡ Ok x → r >>= g ≡ g x
 next_ok r x g a = rw a refl
 
 next_err : {A C : Type 0} (r : Result A CodecError) (error : CodecError) (g : A → Result C CodecError) → r ≡ Err error → r >>= g ≡ Err error
@@ -242,7 +242,7 @@ moved_back_held f chain sizes type fill held chunk encoded r t counted long hold
     let is : elements type (product sizes) held ≡ chunk = subst (λ (k : ℕ). elements type k held ≡ chunk) long holds.elements_are in
     rw (t.mapped, counted, valid) (ap (λ c. ok (moved (undone sizes t.map_is) c)) is)
 
-held_chunk : (type : ElementType) (held : Held) (r : Result Chunk CodecError) → AnswersBy memory (Holds type) (Ok held) r → (chunk : Chunk) × (r ≡ Ok chunk) × Holds type held chunk
+pub held_chunk : (type : ElementType) (held : Held) (r : Result Chunk CodecError) → AnswersBy memory (Holds type) (Ok held) r → (chunk : Chunk) × (r ≡ Ok chunk) × Holds type held chunk
 held_chunk type held (Ok chunk) h = (chunk, refl, h)
 held_chunk type held (Err error) h = absurd h
 

@@ -1,3 +1,5 @@
 pub mod ArraySteps
 pub mod CodecSteps
 pub mod ChainSteps
+pub mod ChainLaws
+pub mod ChainRelations

@@ -50,11 +50,18 @@ codec_writes (bytes_codec order) = record { partial_encode = true }
 codec_writes (vlen_codec ia ix ib da dx db wide at_end) = record { partial_encode = false }
 codec_writes (optional_codec ma mx mb da dx db) = record { partial_encode = false }
 
+-- what all bytes codecs read in part
+abbrev pub outer_reads : {B : Type 0} → (B → PartialDecoderCapability) → List B → PartialDecoderCapability
+outer_reads reads codecs = record {
+  partial_read = list_all (λ codec. (reads codec).partial_read) codecs;
+  partial_decode = list_all (λ codec. (reads codec).partial_decode) codecs;
+}
+
 -- what a chain reads in part: what all of its codecs do; array codecs do all
 abbrev pub chain_reads : {B : Type 0} → (B → PartialDecoderCapability) → PlainChain B → PartialDecoderCapability
-chain_reads {B} reads chain = record {
-  partial_read = list_all (λ (codec : B). (reads codec).partial_read) chain.outer && (codec_reads chain.codec).partial_read;
-  partial_decode = list_all (λ (codec : B). (reads codec).partial_decode) chain.outer && (codec_reads chain.codec).partial_decode;
+chain_reads reads chain = record {
+  partial_read = (outer_reads reads chain.outer).partial_read && (codec_reads chain.codec).partial_read;
+  partial_decode = (outer_reads reads chain.outer).partial_decode && (codec_reads chain.codec).partial_decode;
 }
 
 -- what it writes in part: likewise

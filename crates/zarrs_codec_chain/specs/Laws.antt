@@ -1,1 +1,70 @@
--- Laws of chains.
+-- Laws of chains: of those without chains inside, and of lawful bytes codecs.
+use Rattle.std.specs.Prelude.{◌≡◌, ◌<◌, ◌↔◌, ℕ, true, List, Ok, All}
+use Rattle.zarrs_data_type.specs.ElementType.{ElementType}
+use Rattle.zarrs_data_type.specs.Element.{Element, plain, absent, present, Chunk}
+use Rattle.zarrs_codec.specs.BytesToBytesCodec.{BytesCodecs, IsLawful, AreBytes, KeepsTo}
+use Rattle.zarrs_codec.specs.declared.bytes_representation.BytesRepresentation.{BytesRepresentation}
+use Rattle.zarrs_array_to_array.specs.ArrayToArrayCodec.{ArrayMapping, IsMapping}
+use Rattle.zarrs_codec_chain.specs.PlainChain.{PlainCodec, PlainChain, is_flat}
+use Rattle.zarrs_codec_chain.specs.NormalForm.{normal_form}
+use Rattle.zarrs_codec_chain.specs.Representation.{chain_representation}
+use Rattle.zarrs_codec_chain.specs.Stands.{ChainStands}
+use Rattle.zarrs_codec_chain.specs.Written.{ChainWritten}
+
+-- all of the element is bytes
+abbrev pub HasBytes : Element → Type 0
+HasBytes (plain items) = AreBytes items
+HasBytes absent = Unit {0}
+HasBytes (present element) = HasBytes element
+
+-- a chain without chains inside, whose array codecs are what their types hold to
+pub record IsFlatChain {B : Type 0} (chain : PlainChain B) : Type 0 where
+  pub flat : is_flat chain.codec ≡ true
+  pub mappings : All IsMapping chain.arrays
+
+-- What is written for a chunk stands for its normal form.
+abbrev pub WrittenStands : {B : Type 0} → BytesCodecs B → Type 0
+WrittenStands {B} f =
+    (chain : PlainChain B) (sizes : List ℕ) (type : ElementType) (fill value : List ℕ) (chunk : Chunk)
+    → IsLawful f → IsFlatChain chain → All HasBytes chunk → All (λ size. 0 < size) sizes
+    → ChainWritten f chain sizes type fill value chunk → ChainStands f chain sizes type fill value (normal_form chain.codec type chunk)
+
+-- A value stands for at most one chunk.
+abbrev pub StandsForOne : {B : Type 0} → BytesCodecs B → Type 0
+StandsForOne {B} f =
+    (chain : PlainChain B) (sizes : List ℕ) (type : ElementType) (fill value : List ℕ) (chunk other : Chunk)
+    → IsFlatChain chain → All (λ size. 0 < size) sizes
+    → ChainStands f chain sizes type fill value chunk → ChainStands f chain sizes type fill value other → chunk ≡ other
+
+-- For a chunk at most one value is written.
+abbrev pub WrittenOnce : {B : Type 0} → BytesCodecs B → Type 0
+WrittenOnce {B} f =
+    (chain : PlainChain B) (sizes : List ℕ) (type : ElementType) (fill value other : List ℕ) (chunk : Chunk)
+    → IsFlatChain chain → ChainWritten f chain sizes type fill value chunk → ChainWritten f chain sizes type fill other chunk → value ≡ other
+
+-- The normal form of a normal form is the same.
+abbrev pub NormalTwice : Type 0 → Type 0
+NormalTwice B =
+    (codec : PlainCodec B) (type : ElementType) (chunk : Chunk)
+    → is_flat codec ≡ true → normal_form codec type (normal_form codec type chunk) ≡ normal_form codec type chunk
+
+-- What is written for a chunk is what is written for its normal form.
+abbrev pub WrittenForNormal : {B : Type 0} → BytesCodecs B → Type 0
+WrittenForNormal {B} f =
+    (chain : PlainChain B) (sizes : List ℕ) (type : ElementType) (fill value : List ℕ) (chunk : Chunk)
+    → IsFlatChain chain → ChainWritten f chain sizes type fill value chunk ↔ ChainWritten f chain sizes type fill value (normal_form chain.codec type chunk)
+
+-- Two chunks are written alike exactly if their normal forms are equal.
+abbrev pub WrittenAlike : {B : Type 0} → BytesCodecs B → Type 0
+WrittenAlike {B} f =
+    (chain : PlainChain B) (sizes : List ℕ) (type : ElementType) (fill value other_value : List ℕ) (chunk other : Chunk)
+    → IsLawful f → IsFlatChain chain → All HasBytes chunk → All HasBytes other → All (λ size. 0 < size) sizes
+    → ChainWritten f chain sizes type fill value chunk → ChainWritten f chain sizes type fill other_value other
+    → (value ≡ other_value) ↔ (normal_form chain.codec type chunk ≡ normal_form chain.codec type other)
+
+-- A written value is as many bytes as the representation says.
+abbrev pub WrittenKeeps : {B : Type 0} → BytesCodecs B → Type 0
+WrittenKeeps {B} f =
+    (chain : PlainChain B) (sizes : List ℕ) (type : ElementType) (fill value : List ℕ) (chunk : Chunk) (r : BytesRepresentation)
+    → IsLawful f → IsFlatChain chain → All HasBytes chunk → All (λ size. 0 < size) sizes
+    → ChainWritten f chain sizes type fill value chunk → chain_representation f chain sizes type fill ≡ Ok r → KeepsTo r value

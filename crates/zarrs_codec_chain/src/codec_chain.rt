@@ -1,25 +1,32 @@
-ghost use Rattle.std.specs.Prelude.{◌≡◌, ◌<◌, ◌^◌, IfOk, Ok, map, false};
+ghost use Rattle.std.specs.Prelude.{◌≡◌, ℕ, List, ◌<◌, ◌^◌, IfOk, Ok, map, false};
+ghost use Rattle.std.specs.List.{list_all};
 ghost use Rattle.zarrs_chunk.specs.Answer.{Answers, AnswersBy, memory, is_fault, checked_u64};
 ghost use Rattle.zarrs_chunk.specs.ChunkShape.{product};
+ghost use Rattle.zarrs_data_type.specs.Element.{Chunk};
 ghost use Rattle.zarrs_array_bytes.specs.Held.{raw_of};
 ghost use Rattle.zarrs_array_bytes.specs.Validity.{Holds, validity};
 ghost use Rattle.zarrs_array_to_array.specs.Mapping.{mapping_of};
 ghost use Rattle.zarrs_codec_chain.specs.ArrayStages.{IsMapWhere};
-ghost use Rattle.zarrs_codec_chain.specs.Chain.{taken_form as taken_form_of, held_value};
+ghost use Rattle.zarrs_codec_chain.specs.Chain.{taken_form as taken_form_of, held_value, outer_reads as outer_reads_of};
 ghost use Rattle.zarrs_codec_chain.specs.ChainView.{plain_chain, plain_codec};
 ghost use Rattle.zarrs_codec_chain.specs.Decode.{chain_chunk};
 ghost use Rattle.zarrs_codec_chain.specs.Representation.{chain_representation};
+ghost use Rattle.zarrs_codec_chain.specs.Stands.{ChainStands};
+ghost use Rattle.zarrs_codec_chain.specs.Written.{ChainWritten};
 
 use crate::array_stages::{decode_arrays, encode_arrays, shape_through};
 use crate::array_to_bytes_codec::{
-    ArrayToBytesCodec, codec_decode, codec_encode, codec_representation,
+    ArrayToBytesCodec, codec_decode, codec_encode, codec_reads, codec_representation, codec_writes,
 };
 use crate::bytes_stages::{decode_bytes, encode_bytes, outer_representation};
 use std::alloc::Global;
 use zarrs_array_bytes::{ArrayBytes, ArrayBytesRaw};
 use zarrs_array_to_array::ArrayToArrayCodec;
 use zarrs_chunk::{ChunkShape, CodecError};
-use zarrs_codec::{BytesRepresentation, BytesToBytesCodecTraits};
+use zarrs_codec::{
+    ArrayCodecTraits, BytesRepresentation, BytesToBytesCodecTraits, CodecTraits,
+    PartialDecoderCapability, PartialEncoderCapability,
+};
 use zarrs_data_type::{DataType, FillValue};
 
 /// A chain of codecs: codecs of chunks to chunks, one of chunks to bytes, and the caller's codecs of
@@ -137,11 +144,8 @@ impl<B: BytesToBytesCodecTraits> CodecChain<B> {
         Ok(outer_representation(&self.bytes_to_bytes, taken.representation))
     }
 
-    /// The value of the chunk that `elements` hold. Refusals, the first that holds, `OutOfMemory`
-    /// aside: those of `encoded_representation`; those of `ArrayBytes::validate`.
-    ///
-    /// Each codec gets what the one before made, owned bytes as owned ones.
-    pub fn encode<'a>(
+    /// The value that `encode` answers.
+    fn value_of<'a>(
         &self,
         alloc: Global,
         elements: ArrayBytes<'a>,
@@ -150,6 +154,7 @@ impl<B: BytesToBytesCodecTraits> CodecChain<B> {
         fill_value: &FillValue,
     ) -> Result<ArrayBytesRaw<'a>, CodecError>
         ensures exact { Answers memory (λ value. (raw_of value).items) result (held_value B.functions (plain_chain self.now) shape.now data_type.now fill_value.now elements.entry) }
+        ensures map { IfOk result (λ _. IsMapWhere data_type.now (plain_chain self.now).arrays shape.now) }
         ensures no_fault { is_fault result ≡ false }
     {
         let taken = self.taken_form(alloc, shape, data_type, fill_value)?;
@@ -173,12 +178,8 @@ impl<B: BytesToBytesCodecTraits> CodecChain<B> {
         encode_bytes(alloc, &self.bytes_to_bytes, below)
     }
 
-    /// The chunk that a value stands for. Refusals, the first that holds, `OutOfMemory` aside: those
-    /// of `encoded_representation`; `BytesCodec` of the last bytes codec, then of the one before;
-    /// `InvalidBytesLength` where what stands below them has another length.
-    ///
-    /// Each codec gets what the one behind it made, owned bytes as owned ones.
-    pub fn decode<'a>(
+    /// The chunk that `decode` answers.
+    fn chunk_of<'a>(
         &self,
         alloc: Global,
         value: ArrayBytesRaw<'a>,
@@ -187,6 +188,7 @@ impl<B: BytesToBytesCodecTraits> CodecChain<B> {
         fill_value: &FillValue,
     ) -> Result<ArrayBytes<'a>, CodecError>
         ensures exact { AnswersBy memory (Holds data_type.now) result (chain_chunk B.functions (plain_chain self.now) shape.now data_type.now fill_value.now (raw_of value.entry).items) }
+        ensures map { IfOk result (λ _. IsMapWhere data_type.now (plain_chain self.now).arrays shape.now) }
         ensures no_fault { is_fault result ≡ false }
     {
         let taken = self.taken_form(alloc, shape, data_type, fill_value)?;
@@ -208,4 +210,104 @@ impl<B: BytesToBytesCodecTraits> CodecChain<B> {
             fill_value,
         )
     }
+
+    /// The value that is written for the chunk that `elements` hold. Refusals, the first that holds,
+    /// `OutOfMemory` aside: those of `encoded_representation`; those of `ArrayBytes::validate`.
+    ///
+    /// Each codec gets what the one before made, owned bytes as owned ones.
+    pub fn encode<'a>(
+        &self,
+        alloc: Global,
+        elements: ArrayBytes<'a>,
+        shape: &ChunkShape,
+        data_type: &DataType,
+        fill_value: &FillValue,
+    ) -> Result<ArrayBytesRaw<'a>, CodecError>
+        ensures found { IfOk result (λ value. (chunk : Chunk) × Holds data_type.now elements.entry chunk × ChainWritten B.functions (plain_chain self.now) shape.now data_type.now fill_value.now (raw_of value).items chunk) }
+        ensures only { (chunk : Chunk) (value : List ℕ) → Holds data_type.now elements.entry chunk → ChainWritten B.functions (plain_chain self.now) shape.now data_type.now fill_value.now value chunk → Answers memory (λ bytes. (raw_of bytes).items) result (Ok value) }
+        ensures exact { Answers memory (λ value. (raw_of value).items) result (held_value B.functions (plain_chain self.now) shape.now data_type.now fill_value.now elements.entry) }
+        ensures no_fault { is_fault result ≡ false }
+    {
+        self.value_of(alloc, elements, shape, data_type, fill_value)
+    }
+
+    /// The chunk that a value stands for. Refusals, the first that holds, `OutOfMemory` aside: those
+    /// of `encoded_representation`; `BytesCodec` of the last bytes codec, then of the one before;
+    /// `InvalidBytesLength` where what stands below them has another length.
+    ///
+    /// Each codec gets what the one behind it made, owned bytes as owned ones.
+    pub fn decode<'a>(
+        &self,
+        alloc: Global,
+        value: ArrayBytesRaw<'a>,
+        shape: &ChunkShape,
+        data_type: &DataType,
+        fill_value: &FillValue,
+    ) -> Result<ArrayBytes<'a>, CodecError>
+        ensures found { IfOk result (λ elements. (chunk : Chunk) × Holds data_type.now elements chunk × ChainStands B.functions (plain_chain self.now) shape.now data_type.now fill_value.now (raw_of value.entry).items chunk) }
+        ensures only { (chunk : Chunk) → ChainStands B.functions (plain_chain self.now) shape.now data_type.now fill_value.now (raw_of value.entry).items chunk → AnswersBy memory (Holds data_type.now) result (Ok chunk) }
+        ensures exact { AnswersBy memory (Holds data_type.now) result (chain_chunk B.functions (plain_chain self.now) shape.now data_type.now fill_value.now (raw_of value.entry).items) }
+        ensures no_fault { is_fault result ≡ false }
+    {
+        self.chunk_of(alloc, value, shape, data_type, fill_value)
+    }
 }
+
+/// What all bytes codecs read in part.
+fn outer_reads<B: BytesToBytesCodecTraits>(codecs: &[B]) -> PartialDecoderCapability
+    ensures value { result ≡ outer_reads_of B.reads_in_part codecs.now }
+{
+    match codecs {
+        [] => PartialDecoderCapability {
+            partial_read: true,
+            partial_decode: true,
+        },
+        [first, rest @ ..] => {
+            let one = first.partial_decoder_capability();
+            let others = outer_reads(rest);
+            PartialDecoderCapability {
+                partial_read: one.partial_read && others.partial_read,
+                partial_decode: one.partial_decode && others.partial_decode,
+            }
+        }
+    }
+}
+
+/// Whether all bytes codecs write in part.
+fn outer_writes<B: BytesToBytesCodecTraits>(codecs: &[B]) -> bool
+    ensures value { result ≡ list_all (λ codec. (B.writes_in_part codec).partial_encode) codecs.now }
+{
+    match codecs {
+        [] => true,
+        [first, rest @ ..] => {
+            first.partial_encoder_capability().partial_encode && outer_writes(rest)
+        }
+    }
+}
+
+impl<B: BytesToBytesCodecTraits> CodecTraits for CodecChain<B> {
+    ghost use Rattle.zarrs_codec_chain.specs.Chain.{chain_reads, chain_writes};
+    ghost use Rattle.zarrs_codec_chain.specs.ChainView.{plain_chain};
+
+    ghost reads_in_part = { λ chain. chain_reads B.reads_in_part (plain_chain chain) };
+
+    ghost writes_in_part = { λ chain. chain_writes B.writes_in_part (plain_chain chain) };
+
+    fn partial_decoder_capability(&self) -> PartialDecoderCapability {
+        let codec = codec_reads::<B>(&self.array_to_bytes);
+        let outer = outer_reads(&self.bytes_to_bytes);
+        PartialDecoderCapability {
+            partial_read: outer.partial_read && codec.partial_read,
+            partial_decode: outer.partial_decode && codec.partial_decode,
+        }
+    }
+
+    fn partial_encoder_capability(&self) -> PartialEncoderCapability {
+        let codec = codec_writes::<B>(&self.array_to_bytes);
+        PartialEncoderCapability {
+            partial_encode: outer_writes(&self.bytes_to_bytes) && codec.partial_encode,
+        }
+    }
+}
+
+impl<B: BytesToBytesCodecTraits> ArrayCodecTraits for CodecChain<B> {}

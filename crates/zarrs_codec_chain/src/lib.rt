@@ -8,6 +8,7 @@ mod array_stages;
 mod array_to_bytes_codec;
 mod bytes_stages;
 mod codec_chain;
+pub mod laws;
 
 pub use array_to_bytes_codec::ArrayToBytesCodec;
 pub use codec_chain::CodecChain;
