@@ -15,6 +15,8 @@ pub mod Sources
 pub mod Update
 pub mod Chunks
 pub mod Present
+pub mod FixedView
+pub mod ArrayBytesFixedView
 pub mod Laws
 pub use Rattle.zarrs_chunk.specs.Answer
 pub use Rattle.zarrs_chunk.specs.Indexer

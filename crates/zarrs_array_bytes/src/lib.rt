@@ -4,6 +4,7 @@
 #![tactic(auto)]
 
 mod array_bytes;
+mod array_bytes_fixed_view;
 mod array_bytes_offsets;
 mod array_bytes_raw;
 mod extract;
@@ -20,6 +21,7 @@ mod validate;
 mod write;
 
 pub use array_bytes::ArrayBytes;
+pub use array_bytes_fixed_view::ArrayBytesFixedView;
 pub use array_bytes_offsets::ArrayBytesOffsets;
 pub use array_bytes_raw::ArrayBytesRaw;
 pub use present::count_present;

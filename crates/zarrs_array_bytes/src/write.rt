@@ -1,7 +1,9 @@
 ghost use Rattle.std.specs.Prelude.{◌≡◌, ◌+◌, ◌*◌, ◌≤◌, All, Ok, false, length};
+ghost use Rattle.std.specs.List.{concat};
 ghost use Rattle.zarrs_chunk.specs.Answer.{Answers, memory, is_fault};
 ghost use Rattle.zarrs_chunk.specs.Runs.{joined_runs};
 ghost use Rattle.zarrs_array_bytes.specs.Held.{raw_of};
+ghost use Rattle.zarrs_array_bytes.specs.Pieces.{pieces};
 ghost use Rattle.zarrs_array_bytes.specs.Update.{with_items_at, with_runs, update};
 
 use crate::array_bytes_raw::{ArrayBytesRaw, owned_bytes};
@@ -42,6 +44,23 @@ pub(crate) fn written_flags(
     written_elements(alloc, raw, new, 1, runs)
 }
 
+/// Writes elements of `size` into the bytes of `count` of them, at the places of the runs, in order.
+pub(crate) fn write_places(
+    bytes: &mut [u8],
+    new: &[u8],
+    size: usize,
+    count: u64,
+    runs: &[(u64, u64)],
+)
+    requires whole { length bytes.old ≡ count * size }
+    requires inside { All (λ run. run.0 + run.1 ≤ count) runs.now }
+    requires enough { length new.now ≡ length (joined_runs runs.now) * size }
+    ensures written { bytes.new ≡ concat (update (pieces size count bytes.old) (joined_runs runs.now) (pieces size (length (joined_runs runs.now)) new.now)) }
+    ensures len { length bytes.new ≡ length bytes.old }
+{
+    write_runs(bytes, new, size, runs);
+}
+
 fn write_runs(bytes: &mut [u8], new: &[u8], size: usize, runs: &[(u64, u64)])
     requires inside { All (λ run. (run.0 + run.1) * size ≤ length bytes.old) runs.now }
     requires enough { length (joined_runs runs.now) * size ≤ length new.now }
@@ -57,7 +76,24 @@ fn write_runs(bytes: &mut [u8], new: &[u8], size: usize, runs: &[(u64, u64)])
     }
 }
 
+/// Writes bytes from a place on. The sizes of most elements are constants here, so that each of these
+/// is a single move and no call to copy.
+#[inline(always)]
 fn overwrite(bytes: &mut [u8], at: usize, new: &[u8])
+    requires inside { at + length new.now ≤ length bytes.old }
+    ensures written { bytes.new ≡ with_items_at bytes.old at new.now }
+{
+    match new.len() {
+        1 => copy_to(bytes, at, &new[..1]),
+        2 => copy_to(bytes, at, &new[..2]),
+        4 => copy_to(bytes, at, &new[..4]),
+        8 => copy_to(bytes, at, &new[..8]),
+        _ => copy_to(bytes, at, new),
+    }
+}
+
+#[inline(always)]
+fn copy_to(bytes: &mut [u8], at: usize, new: &[u8])
     requires inside { at + length new.now ≤ length bytes.old }
     ensures written { bytes.new ≡ with_items_at bytes.old at new.now }
 {

@@ -1,5 +1,5 @@
 use Rattle.std.proofs.Common.{◌≡◌, ◌+◌, ◌-◌, ◌++◌, length, take, drop, ap, ◌∙◌, arith, drop-drop}
-use Rattle.zarrs_array_bytes.proofs.write.overwrite.Goals as goal
+use Rattle.zarrs_array_bytes.proofs.write.copy_to.Goals as goal
 
 pub returns : goal.returns
 returns c =
