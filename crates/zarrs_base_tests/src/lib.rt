@@ -28,6 +28,8 @@ mod fill_values;
 #[cfg(test)]
 mod fills;
 #[cfg(test)]
+mod fixed_views;
+#[cfg(test)]
 mod indexers;
 #[cfg(test)]
 mod numbers;

@@ -33,3 +33,5 @@ mod failing_handle;
 mod forms;
 #[cfg(test)]
 mod memory_handle;
+#[cfg(test)]
+mod memory_writes;
