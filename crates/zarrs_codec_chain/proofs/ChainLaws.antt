@@ -21,7 +21,7 @@ use Rattle.zarrs_array_to_array.specs.ArrayToArrayCodec.{ArrayMapping, IsMapping
 use Rattle.zarrs_array_to_array.specs.CodecAnswers.{type_taken}
 use Rattle.zarrs_array_to_array.proofs.Chains.{chain_map}
 use Rattle.zarrs_array_to_array.proofs.CoordinateMaps.{moved_back}
-use Rattle.zarrs_bytes.specs.ByteOrder.{bytes_of, ordered, reversed_pieces, spelled_chunk}
+use Rattle.zarrs_bytes.specs.ByteOrder.{bytes_of, bytes_in_order, reversed_pieces, spelled_chunk}
 use Rattle.zarrs_bytes.specs.BytesCodec.{bytes_length, spelling, BytesStands, BytesWritten}
 use Rattle.zarrs_bytes.proofs.CodecLaws.{written_stands, stands_for_one, has_represented_length}
 use Rattle.zarrs_codec_chain.specs.PlainChain.{PlainCodec, bytes_codec, vlen_codec, optional_codec, PlainChain, is_flat}
@@ -59,7 +59,7 @@ all_pieces size xs [] h = All-nil is_byte
 all_pieces size xs (place ∷ places) h =
     All-append is_byte (reverse (piece size xs place)) (concat (map reverse (map (piece size xs) places))) (all_reverse (piece size xs place) (all_take (place * size + size - place * size) (drop (place * size) xs) (all_drop (place * size) xs h))) (all_pieces size xs places h)
 
-all_ordered : (order : Option Endianness) (width components : ℕ) (xs : List ℕ) → AreBytes xs → AreBytes (ordered order width components xs)
+all_ordered : (order : Option Endianness) (width components : ℕ) (xs : List ℕ) → AreBytes xs → AreBytes (bytes_in_order order width components xs)
 all_ordered None width components xs h = h
 all_ordered (Some Little) width components xs h = h
 all_ordered (Some Big) width components xs h = all_pieces (component_bytes width) xs (range_with_len 0 components) h
@@ -72,7 +72,7 @@ element_bytes (present element) h = All-nil is_byte
 all_spelled : (order : Option Endianness) (width components : ℕ) (chunk : Chunk) → All HasBytes chunk → AreBytes (spelled_chunk order width components chunk)
 all_spelled order width components [] h = All-nil is_byte
 all_spelled order width components (element ∷ chunk) h =
-    All-append is_byte (ordered order width components (bytes_of element)) (spelled_chunk order width components chunk) (all_ordered order width components (bytes_of element) (element_bytes element (All-head HasBytes element chunk h))) (all_spelled order width components chunk (All-tail HasBytes element chunk h))
+    All-append is_byte (bytes_in_order order width components (bytes_of element)) (spelled_chunk order width components chunk) (all_ordered order width components (bytes_of element) (element_bytes element (All-head HasBytes element chunk h))) (all_spelled order width components chunk (All-tail HasBytes element chunk h))
 
 spelling_bytes : (order : Option Endianness) (type : ElementType) (chunk : Chunk) → All HasBytes chunk → AreBytes (spelling order type chunk)
 spelling_bytes order (fixed width components sign) chunk h = all_spelled order width components chunk h
@@ -151,7 +151,7 @@ codec_one f (optional_codec ma mx mb da dx db) sizes type fill value chunk other
 
 codec_once : {B : Type 0} (f : BytesCodecs B) (codec : PlainCodec B) (sizes : List ℕ) (type : ElementType) (fill value other : List ℕ) (chunk : Chunk) → is_flat codec ≡ true → CodecWritten f codec sizes type fill value chunk → CodecWritten f codec sizes type fill other chunk → value ≡ other
 unfolding CodecWritten
-codec_once f (bytes_codec order) sizes type fill value other chunk h one two = one.spelt ∙ sym two.spelt
+codec_once f (bytes_codec order) sizes type fill value other chunk h one two = one.value_is ∙ sym two.value_is
 codec_once f (vlen_codec ia ix ib da dx db wide at_end) sizes type fill value other chunk h one two = absurd cc
 codec_once f (optional_codec ma mx mb da dx db) sizes type fill value other chunk h one two = absurd cc
 
@@ -167,7 +167,7 @@ fixed_kept (Err error) size value e h = absurd cc
 codec_kept : {B : Type 0} (f : BytesCodecs B) (codec : PlainCodec B) (sizes : List ℕ) (type : ElementType) (fill value : List ℕ) (chunk : Chunk) (r : BytesRepresentation) → is_flat codec ≡ true → All HasBytes chunk → CodecWritten f codec sizes type fill value chunk → codec_representation f codec sizes type fill ≡ Ok r → AreKept r value
 unfolding CodecWritten codec_representation
 codec_kept f (bytes_codec order) sizes type fill value chunk r h each written e = record {
-  each = subst AreBytes (sym written.spelt) (spelling_bytes order type chunk each);
+  each = subst AreBytes (sym written.value_is) (spelling_bytes order type chunk each);
   keeps = fixed_kept (bytes_length order sizes type fill) r value e (λ len l. has_represented_length order sizes type fill value chunk len written l);
 }
 codec_kept f (vlen_codec ia ix ib da dx db wide at_end) sizes type fill value chunk r h each written e = absurd cc

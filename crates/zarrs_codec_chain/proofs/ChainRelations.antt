@@ -87,11 +87,11 @@ codec_found : {B : Type 0} (f : BytesCodecs B) (codec : ArrayToBytesCodec) (size
 unfolding codec_representation codec_value CodecWritten
 codec_found f (Bytes order) sizes type fill value chunk r e is h small =
     let a = seen_ok FixedSize (bytes_length order sizes type fill) r e in
-    record { len = a.0; taken = a.1; elements = is; spelt = sym (ok_is (spelling order type chunk) value h); small = small }
+    record { len = a.0; length_is = a.1; elements = is; value_is = sym (ok_is (spelling order type chunk) value h); small = small }
 
 codec_only : {B : Type 0} (f : BytesCodecs B) (codec : ArrayToBytesCodec) (sizes : List ℕ) (type : ElementType) (fill value : List ℕ) (chunk : Chunk) → CodecWritten f (plain_codec codec) sizes type fill value chunk → codec_value f (plain_codec codec) sizes type chunk ≡ Ok value
 unfolding codec_value CodecWritten
-codec_only f (Bytes order) sizes type fill value chunk w = ap ok (sym w.spelt)
+codec_only f (Bytes order) sizes type fill value chunk w = ap ok (sym w.value_is)
 
 read_found : {B : Type 0} (f : BytesCodecs B) (codec : ArrayToBytesCodec) (sizes : List ℕ) (type : ElementType) (fill value : List ℕ) (chunk : Chunk) → codec_chunk f (plain_codec codec) sizes type fill value ≡ Ok chunk → CodecStands f (plain_codec codec) sizes type fill value chunk × IsChunk type (product sizes) chunk
 unfolding codec_chunk CodecStands
