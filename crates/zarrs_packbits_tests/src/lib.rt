@@ -1,0 +1,24 @@
+//! Tests of the codec `packbits`, over the public calls of `zarrs_packbits`. Without tests the crate
+//! is empty.
+//!
+//! Answers are written by hand. A want of memory ends a test with that error and is never compared,
+//! so a run in which an allocation fails shows each answer that changes otherwise.
+//!
+//! The check proves a test before it runs. So examples stand in tables of constants, which cost it
+//! nothing, and a test goes over its table by a function that takes one row.
+#![tactic(auto)]
+
+#[cfg(test)]
+mod bit_places;
+#[cfg(test)]
+mod checks;
+#[cfg(test)]
+mod forms;
+#[cfg(test)]
+mod packbits_codec;
+#[cfg(test)]
+mod packbits_parts;
+#[cfg(test)]
+mod packbits_refusals;
+#[cfg(test)]
+mod packbits_round_trips;
