@@ -12,6 +12,8 @@
 #[cfg(test)]
 mod array_input;
 #[cfg(test)]
+mod blocks;
+#[cfg(test)]
 mod checks;
 #[cfg(test)]
 mod forms;

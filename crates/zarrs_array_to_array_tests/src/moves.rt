@@ -85,7 +85,7 @@ fn decodes<C: ArrayToArrayCodecTraits>(
 
 /// The chunk is encoded to these bytes, and they are decoded to the chunk: of owned bytes and of lent
 /// ones.
-fn moves<C: ArrayToArrayCodecTraits>(
+pub(crate) fn moves<C: ArrayToArrayCodecTraits>(
     rt: &impl Abort,
     alloc: Global,
     codec: &C,

@@ -1,13 +1,15 @@
 use crate::array_input::{ArrayInput, encoded_input};
 use crate::checks::{Asked, are, indexer, is, is_refused};
 use crate::forms::Size::{Of, Rest};
-use crate::forms::{ChunkForm, Size, Told, Type, chunk_form, fixed, numbers, reshape, transpose};
+use crate::forms::{
+    ChunkForm, Codec, Size, Told, Type, chunk_form, codec_of, fixed, numbers, reshape, transpose,
+};
 use std::alloc::Global;
 use std::process::Abort;
 use std::test::Fail;
 use zarrs_array_to_array::{
-    ReshapeCodec, ReshapeCodecPartial, SqueezeCodec, SqueezeCodecPartial, TransposeCodec,
-    TransposeCodecPartial,
+    ArrayToArrayCodec, ArrayToArrayCodecPartial, ReshapeCodec, ReshapeCodecPartial, SqueezeCodec,
+    SqueezeCodecPartial, TransposeCodec, TransposeCodecPartial,
 };
 use zarrs_chunk::{CodecError, CodecName};
 use zarrs_codec::{ArrayPartialDecoderTraits, Refused};
@@ -313,6 +315,49 @@ fn hands_back(
 fn a_refused_stage_hands_its_input_back(rt: HostRuntime) -> Result<(), Fail> {
     for (told, cause) in UNMADE.iter() {
         hands_back(&rt, rt.alloc(), told, *cause)?;
+    }
+    Ok(())
+}
+
+fn any_stage(
+    alloc: Global,
+    codec: &ArrayToArrayCodec,
+    form: &ChunkForm,
+    input: ArrayInput,
+) -> Result<ArrayToArrayCodecPartial<ArrayToArrayCodec, ArrayInput>, Fail> {
+    match codec.partial_decoder(alloc, input, &form.shape, &form.data_type, &form.fill_value) {
+        Ok(stage) => Ok(stage),
+        Err(Refused { error, handle: _ }) => Err(error)?,
+    }
+}
+
+fn reads_through(rt: &impl Abort, alloc: Global, told: &Codec) -> Result<(), Fail> {
+    let (chunk, size, count) = BYTES;
+    let form = chunk_form(alloc, &chunk)?;
+    let codec = codec_of(alloc, told)?;
+    let bytes = counted_bytes(alloc, size, count)?;
+    let input = encoded_input(alloc, &codec, &form, fixed(alloc, bytes.as_slice())?)?;
+    let mut stage = any_stage(alloc, &codec, &form, input)?;
+    reads(
+        rt,
+        alloc,
+        &mut stage,
+        &Asked::Tuples(&[&[1, 0], &[0, 2]]),
+        &[3, 2],
+    )
+}
+
+/// The same through the enum of the codecs.
+#[test]
+fn parts_are_read_through_any_codec(rt: HostRuntime) -> Result<(), Fail> {
+    for told in [
+        Codec::Transpose(&[1, 0]),
+        Codec::Reshape(&[Rest]),
+        Codec::Squeeze,
+    ]
+    .iter()
+    {
+        reads_through(&rt, rt.alloc(), told)?;
     }
     Ok(())
 }

@@ -1,0 +1,118 @@
+//! Transposed planes of sizes on both sides of a block's edge, beside a plain slow rule: the bytes
+//! of a chunk are told by where they stand, so each byte of the answer is told too.
+
+use crate::checks::are;
+use crate::forms::{Told, Type, chunk_form, transpose};
+use crate::moves::moves;
+use std::alloc::{AllocError, Global};
+use std::process::Abort;
+use std::test::Fail;
+
+/// Planes of so many rows and columns, one behind another, and how many bytes an element has.
+const PLANES: [(Told<'static>, u64); 16] = [
+    ((&[1, 1, 1], Type::Byte, &[0]), 1),
+    ((&[3, 2, 2], Type::Byte, &[0]), 1),
+    ((&[2, 5, 3], Type::Byte, &[0]), 1),
+    ((&[1, 3, 127], Type::Byte, &[0]), 1),
+    ((&[1, 2, 128], Type::Byte, &[0]), 1),
+    ((&[2, 1, 129], Type::Byte, &[0]), 1),
+    ((&[1, 17, 4], Type::Byte, &[0]), 1),
+    ((&[1, 3, 63], Type::Word, &[0, 0]), 2),
+    ((&[1, 3, 64], Type::Word, &[0, 0]), 2),
+    ((&[1, 3, 65], Type::Word, &[0, 0]), 2),
+    ((&[2, 15, 17], Type::Long, &[0, 0, 0, 0]), 4),
+    ((&[1, 16, 16], Type::Long, &[0, 0, 0, 0]), 4),
+    ((&[1, 17, 15], Type::Long, &[0, 0, 0, 0]), 4),
+    ((&[1, 2, 31], Type::Long, &[0, 0, 0, 0]), 4),
+    ((&[2, 3, 32], Type::Long, &[0, 0, 0, 0]), 4),
+    ((&[1, 2, 33], Type::Long, &[0, 0, 0, 0]), 4),
+];
+
+fn append_bytes(bytes: &mut Vec<u8>, from: u64, count: u64) -> Result<(), AllocError> {
+    for index in 0..count {
+        bytes.push((from.wrapping_add(index) % 251) as u8)?;
+    }
+    Ok(())
+}
+
+/// A column's elements: each as many places behind the one above it as a row has elements.
+fn append_column(
+    bytes: &mut Vec<u8>,
+    top: u64,
+    rows: u64,
+    columns: u64,
+    size: u64,
+) -> Result<(), AllocError> {
+    for row in 0..rows {
+        let place = top.wrapping_add(row.wrapping_mul(columns));
+        append_bytes(bytes, place.wrapping_mul(size), size)?;
+    }
+    Ok(())
+}
+
+fn append_plane(
+    bytes: &mut Vec<u8>,
+    front: u64,
+    rows: u64,
+    columns: u64,
+    size: u64,
+) -> Result<(), AllocError> {
+    for column in 0..columns {
+        append_column(bytes, front.wrapping_add(column), rows, columns, size)?;
+    }
+    Ok(())
+}
+
+/// The bytes of planes whose rows and columns have changed places.
+fn turned(
+    alloc: Global,
+    planes: u64,
+    rows: u64,
+    columns: u64,
+    size: u64,
+) -> Result<Vec<u8>, AllocError> {
+    let mut bytes = Vec::new(alloc);
+    for plane in 0..planes {
+        let front = plane.wrapping_mul(rows).wrapping_mul(columns);
+        append_plane(&mut bytes, front, rows, columns, size)?;
+    }
+    Ok(bytes)
+}
+
+fn plain(alloc: Global, count: u64) -> Result<Vec<u8>, AllocError> {
+    let mut bytes = Vec::new(alloc);
+    append_bytes(&mut bytes, 0, count)?;
+    Ok(bytes)
+}
+
+fn turns(rt: &impl Abort, alloc: Global, told: &Told<'_>, size: u64) -> Result<(), Fail> {
+    let (sizes, _, _) = told;
+    are(rt, "axes", &[sizes.len()], &[3]);
+    let [planes, rows, columns] = sizes else {
+        return Ok(());
+    };
+    let count = planes
+        .wrapping_mul(*rows)
+        .wrapping_mul(*columns)
+        .wrapping_mul(size);
+    let chunk = plain(alloc, count)?;
+    let wanted = turned(alloc, *planes, *rows, *columns, size)?;
+    let form = chunk_form(alloc, told)?;
+    let codec = transpose(alloc, &[0, 2, 1])?;
+    moves(
+        rt,
+        alloc,
+        &codec,
+        &form,
+        chunk.as_slice(),
+        wanted.as_slice(),
+    )
+}
+
+#[test]
+fn planes_are_turned(rt: HostRuntime) -> Result<(), Fail> {
+    for (told, size) in PLANES.iter() {
+        turns(&rt, rt.alloc(), told, *size)?;
+    }
+    Ok(())
+}
