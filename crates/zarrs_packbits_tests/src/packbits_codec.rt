@@ -26,9 +26,9 @@ const LONG: Told<'static> = (&[1], (65, 1, true), &[0, 0, 0, 0, 0, 0, 0, 0, 0]);
 
 /// Every third flag is set.
 const THIRDS: &'static [u8] = &[
-            1, 0, 0, 1, 0, 0, 1, 0, 0, 1, 0, 0, 1, 0, 0, 1, 0, 0, 1, 0, 0, 1, 0, 0, 1, 0, 0, 1, 0,
-            0, 1, 0, 0, 1, 0, 0, 1, 0, 0, 1,
-        ];
+    1, 0, 0, 1, 0, 0, 1, 0, 0, 1, 0, 0, 1, 0, 0, 1, 0, 0, 1, 0, 0, 1, 0, 0, 1, 0, 0, 1, 0, 0, 1, 0,
+    0, 1, 0, 0, 1, 0, 0, 1,
+];
 
 /// A codec, a chunk, its elements, its value, and what is decoded of it.
 type Coded = (

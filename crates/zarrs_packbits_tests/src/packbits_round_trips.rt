@@ -71,7 +71,7 @@ fn small_numbers_come_back(rt: HostRuntime) -> Result<(), Fail> {
 fn multiples(alloc: Global, first: u32) -> Result<Vec<u8>, AllocError> {
     let mut bytes = Vec::new(alloc);
     for number in 65516u64..65556 {
-        let word = (number << first) % 65536;
+        let word = number.wrapping_shl(first) % 65536;
         bytes.push((word % 256) as u8)?;
         bytes.push((word / 256) as u8)?;
     }
