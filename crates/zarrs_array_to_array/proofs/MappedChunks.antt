@@ -10,7 +10,7 @@ use Rattle.zarrs_data_type.specs.Element.{Chunk}
 use Rattle.zarrs_array_bytes.specs.Held.{Held}
 use Rattle.zarrs_array_bytes.specs.Elements.{element_at, elements}
 use Rattle.zarrs_array_bytes.specs.Validity.{Holds, validity}
-use Rattle.zarrs_codec.specs.CoordinateMap.{CoordinateMap, same_places, moved, undone}
+use Rattle.zarrs_codec.specs.CoordinateMap.{CoordinateMap, same_places, moved_chunk, inverse_map}
 use Rattle.zarrs_codec.specs.MappedChunk.{encoded_chunk, decoded_chunk, IsSource}
 use Rattle.zarrs_metadata.specs.Dims.{Dim, is_reshape}
 use Rattle.zarrs_metadata.specs.Orders.{IsOrder}
@@ -42,11 +42,11 @@ one_chain (Ok a) (Ok b) (Ok d) (Ok c) m f = refl
 
 pub transpose_encoded-chunk : (order sizes : List ℕ) (type : ElementType) (held : Held) → transpose_encoded order type sizes held ≡ encoded_chunk (type_taken (transpose order) type) (coordinates (transpose order) sizes) type sizes held
 transpose_encoded-chunk order sizes type held =
-    one_chain (type_taken (transpose order) type) (axes_fit order sizes) (validity type (product sizes) held) (checked_u64 (product sizes)) (transposition order sizes) (λ m. moved m (elements type (product sizes) held))
+    one_chain (type_taken (transpose order) type) (axes_fit order sizes) (validity type (product sizes) held) (checked_u64 (product sizes)) (transposition order sizes) (λ m. moved_chunk m (elements type (product sizes) held))
 
 pub transpose_decoded-chunk : (order sizes : List ℕ) (type : ElementType) (held : Held) → transpose_decoded order type sizes held ≡ decoded_chunk (type_taken (transpose order) type) (coordinates (transpose order) sizes) type sizes held
 transpose_decoded-chunk order sizes type held =
-    one_chain (type_taken (transpose order) type) (axes_fit order sizes) (validity type (product sizes) held) (checked_u64 (product sizes)) (transposition order sizes) (λ m. moved (undone sizes m) (elements type (product sizes) held))
+    one_chain (type_taken (transpose order) type) (axes_fit order sizes) (validity type (product sizes) held) (checked_u64 (product sizes)) (transposition order sizes) (λ m. moved_chunk (inverse_map sizes m) (elements type (product sizes) held))
 
 pub encoded_refused : (order sizes : List ℕ) (type : ElementType) (held : Held) (e : CodecError) (P : Chunk → Type 0) → transpose_takes order type sizes held ≡ Err e → IfOk (encoded_chunk (type_taken (transpose order) type) (coordinates (transpose order) sizes) type sizes held) P
 encoded_refused order sizes type held e P h =
@@ -65,7 +65,7 @@ holds_elements type count held h =
     let n : length (elements type count held) ≡ count = length-map-range_with_len (element_at type held) 0 count in
     record { valid = ap (λ c. validity type c held) n ∙ h; elements_are = ap (λ c. elements type c held) n }
 
-holds_kept : (type : ElementType) (count : ℕ) (held : Held) (sizes : List ℕ) → validity type count held ≡ Ok tt → product sizes ≡ count → Holds type held (moved (same_places sizes) (elements type count held))
+holds_kept : (type : ElementType) (count : ℕ) (held : Held) (sizes : List ℕ) → validity type count held ≡ Ok tt → product sizes ≡ count → Holds type held (moved_chunk (same_places sizes) (elements type count held))
 holds_kept type count held sizes h e =
     rw (kept_places sizes (elements type count held) (length-map-range_with_len (element_at type held) 0 count ∙ sym e)) (holds_elements type count held h)
 
@@ -74,7 +74,7 @@ pub kept_encoded : (coordinates : Result CoordinateMap CodecError) (type : Eleme
 kept_encoded (Err e) type sizes held same = tt
 kept_encoded (Ok m) type sizes held same = go (checked_u64 (product sizes)) (validity type (product sizes) held) refl
   where
-    go : (c : Result ℕ CodecError) (v : Result (Unit {0}) CodecError) → validity type (product sizes) held ≡ v → IfOk ((c >>= λ _. v >>= λ _. Ok m) >>= λ n. Ok (moved n (elements type (product sizes) held))) (Holds type held)
+    go : (c : Result ℕ CodecError) (v : Result (Unit {0}) CodecError) → validity type (product sizes) held ≡ v → IfOk ((c >>= λ _. v >>= λ _. Ok m) >>= λ n. Ok (moved_chunk n (elements type (product sizes) held))) (Holds type held)
     go (Err e) v h = tt
     go (Ok n) (Err e) h = tt
     go (Ok n) (Ok u) h = let at = same m refl in rw at.0 (holds_kept type (product sizes) held m.encoded h at.1)
@@ -83,7 +83,7 @@ pub kept_decoded : (coordinates : Result CoordinateMap CodecError) (type : Eleme
 kept_decoded (Err e) type sizes held same = tt
 kept_decoded (Ok m) type sizes held same = go (checked_u64 (product sizes)) (validity type (product sizes) held) refl
   where
-    go : (c : Result ℕ CodecError) (v : Result (Unit {0}) CodecError) → validity type (product sizes) held ≡ v → IfOk ((c >>= λ _. v >>= λ _. Ok m) >>= λ n. Ok (moved (undone sizes n) (elements type (product sizes) held))) (Holds type held)
+    go : (c : Result ℕ CodecError) (v : Result (Unit {0}) CodecError) → validity type (product sizes) held ≡ v → IfOk ((c >>= λ _. v >>= λ _. Ok m) >>= λ n. Ok (moved_chunk (inverse_map sizes n) (elements type (product sizes) held))) (Holds type held)
     go (Err e) v h = tt
     go (Ok n) (Err e) h = tt
     go (Ok n) (Ok u) h = let at = same m refl in rw at.0 (holds_kept type (product sizes) held sizes h refl)

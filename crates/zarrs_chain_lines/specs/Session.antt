@@ -1,5 +1,5 @@
 -- What a session is seen as.
-use Rattle.zarrs_codec.specs.MemoryHandle.{stored}
+use Rattle.zarrs_codec.specs.MemoryHandle.{handle_value}
 use Rattle.zarrs_chain_lines.specs.Commands.{State}
 use Rattle.zarrs_chain_lines.specs.Header.{Header}
 use Rattle.zarrs_chain_lines.specs.declared.session.Session.{Session}
@@ -11,4 +11,4 @@ header_of session =
 
 -- the header, and what is stored since
 abbrev pub state_of : Session → State
-state_of session = record { header = header_of session; stored = stored session.handle }
+state_of session = record { header = header_of session; stored = handle_value session.handle }

@@ -5,7 +5,7 @@ ghost use Rattle.zarrs_chunk.specs.Answer.{Answers, AnswersBy, memory, seen};
 ghost use Rattle.zarrs_chunk.specs.Indexer.{selection_of};
 ghost use Rattle.zarrs_data_type.specs.ElementType.{fixed_size_of};
 ghost use Rattle.zarrs_array_bytes.specs.Validity.{Holds};
-ghost use Rattle.zarrs_codec.specs.MemoryHandle.{stored};
+ghost use Rattle.zarrs_codec.specs.MemoryHandle.{handle_value};
 ghost use Rattle.zarrs_chain_lines.specs.Commands.{first_state, part_of, encode_answer, load_answer, chunk_answer, decode_answer, read_answer, value_answer, answer_to};
 ghost use Rattle.zarrs_chain_lines.specs.Header.{shape_at, data_type_at, fill_value_at, codecs_at, header_in, line_header};
 ghost use Rattle.zarrs_chain_lines.specs.Refusal.{wants_memory};
@@ -87,8 +87,8 @@ fn read_part(
     indexer: &Indexer,
 ) -> Result<ArrayBytes<'static>, CodecError>
     ensures answer { AnswersBy memory (Holds data_type.now) result
-        (part_of (record { sizes = shape.now; data_type = data_type.now; fill = fill_value.now; order = codec.now }) (stored handle.old) (selection_of indexer.now)) }
-    ensures kept { stored handle.new ≡ stored handle.old }
+        (part_of (record { sizes = shape.now; data_type = data_type.now; fill = fill_value.now; order = codec.now }) (handle_value handle.old) (selection_of indexer.now)) }
+    ensures kept { handle_value handle.new ≡ handle_value handle.old }
 {
     match codec.partial_decoder(alloc, handle, shape, data_type, fill_value) {
         Err(refused) => Err(refused.error),

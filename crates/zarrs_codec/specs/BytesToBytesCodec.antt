@@ -42,7 +42,7 @@ IsBytesRefusal _ = ⊥
 
 -- The laws: what is encoded is decoded again, and is as many bytes as was said, where it was as many as was said before; encoded bytes are bytes; what can't be decoded is refused with the codec's own number; and a greater size never gives a smaller one.
 pub record IsLawful {B : Type 0} (codecs : BytesCodecs B) : Type 0 where
-  pub undone :
+  pub decode_undoes :
       (codec : B) (r : BytesRepresentation) (bytes : List ℕ) → IsValue bytes → KeepsTo r bytes → length (codecs.encoded_bytes codec bytes) < 2 ^ 64 → codecs.decoded_bytes codec r (codecs.encoded_bytes codec bytes) ≡ Ok bytes
   pub kept :
       (codec : B) (r : BytesRepresentation) (bytes : List ℕ) → IsValue bytes → KeepsTo r bytes → length (codecs.encoded_bytes codec bytes) < 2 ^ 64 → KeepsTo (codecs.representation codec r) (codecs.encoded_bytes codec bytes)

@@ -34,21 +34,21 @@ abbrev pub same_places : List ℕ → CoordinateMap
 same_places sizes = record { encoded = sizes; to = λ place. place; from = λ place. place }
 
 -- one map after the other
-abbrev pub composed : CoordinateMap → CoordinateMap → CoordinateMap
-composed first second = record {
+abbrev pub composition : CoordinateMap → CoordinateMap → CoordinateMap
+composition first second = record {
   encoded = second.encoded;
   to = λ place. second.to (first.to place);
   from = λ place. first.from (second.from place);
 }
 
 -- the way back, to chunks of these sizes
-abbrev pub undone : List ℕ → CoordinateMap → CoordinateMap
-undone sizes m = record { encoded = sizes; to = m.from; from = m.to }
+abbrev pub inverse_map : List ℕ → CoordinateMap → CoordinateMap
+inverse_map sizes m = record { encoded = sizes; to = m.from; from = m.to }
 
 -- for each place of the encoded chunk, the place that its element comes from
 abbrev pub origins : CoordinateMap → List ℕ
 origins m = map m.from (range_with_len 0 (product m.encoded))
 
 -- the encoded chunk
-abbrev pub moved : CoordinateMap → Chunk → Chunk
-moved m chunk = select chunk (origins m)
+abbrev pub moved_chunk : CoordinateMap → Chunk → Chunk
+moved_chunk m chunk = select chunk (origins m)

@@ -8,7 +8,7 @@ use Rattle.zarrs_data_type.specs.Element.{Chunk}
 use Rattle.zarrs_array_bytes.specs.Elements.{elements}
 use Rattle.zarrs_array_bytes.specs.Held.{Held}
 use Rattle.zarrs_array_bytes.specs.Validity.{validity}
-use Rattle.zarrs_codec.specs.CoordinateMap.{CoordinateMap, moved, undone}
+use Rattle.zarrs_codec.specs.CoordinateMap.{CoordinateMap, moved_chunk, inverse_map}
 
 -- what the codec does to chunks of these sizes and this type, where it takes the type, the sizes can be counted, and the container has their elements; else the first cause why not
 abbrev pub map_for : Result (Unit {0}) CodecError → Result CoordinateMap CodecError → ElementType → List ℕ → Held → Result CoordinateMap CodecError
@@ -23,13 +23,13 @@ map_for takes coordinates type sizes held = do
 abbrev pub encoded_chunk : Result (Unit {0}) CodecError → Result CoordinateMap CodecError → ElementType → List ℕ → Held → Result Chunk CodecError
 encoded_chunk takes coordinates type sizes held = do
   m ← map_for takes coordinates type sizes held
-  Ok (moved m (elements type (product sizes) held))
+  Ok (moved_chunk m (elements type (product sizes) held))
 
 -- the decoded chunk of the one that the container holds
 abbrev pub decoded_chunk : Result (Unit {0}) CodecError → Result CoordinateMap CodecError → ElementType → List ℕ → Held → Result Chunk CodecError
 decoded_chunk takes coordinates type sizes held = do
   m ← map_for takes coordinates type sizes held
-  Ok (moved (undone sizes m) (elements type (product sizes) held))
+  Ok (moved_chunk (inverse_map sizes m) (elements type (product sizes) held))
 
 -- the sizes, the type and the fill value of the encoded chunk
 abbrev pub encoded_form : Result (Unit {0}) CodecError → Result CoordinateMap CodecError → ElementType → List ℕ → Result (List ℕ × ElementType × List ℕ) CodecError

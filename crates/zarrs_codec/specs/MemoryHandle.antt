@@ -5,8 +5,8 @@ use Rattle.zarrs_codec.specs.StorageState.{StorageState}
 use Rattle.zarrs_codec.specs.declared.memory_handle.MemoryHandle.{MemoryHandle}
 
 -- its value, or none
-abbrev pub stored : MemoryHandle → Option (List ℕ)
-stored handle = option_map (λ value. value.items) handle.value
+abbrev pub handle_value : MemoryHandle → Option (List ℕ)
+handle_value handle = option_map (λ value. value.items) handle.value
 
 -- how many writing calls there were, modulo 2^64
 abbrev pub write_count : MemoryHandle → ℕ
@@ -15,4 +15,4 @@ write_count handle = handle.write_calls
 -- its state: all bytes are sure, since it never fails
 abbrev pub memory_state : MemoryHandle → StorageState
 memory_state handle =
-    record { value = stored handle; sure = Some (λ _. true); faults = 0; failure = None; writes = write_count handle }
+    record { value = handle_value handle; sure = Some (λ _. true); faults = 0; failure = None; writes = write_count handle }

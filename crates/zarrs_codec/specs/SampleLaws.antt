@@ -169,7 +169,7 @@ sample_grows Length r s h = length_grows r s h
 
 pub sample_is_lawful : IsLawful sample_codecs
 sample_is_lawful = record {
-  undone = sample_undone;
+  decode_undoes = sample_undone;
   kept = sample_kept;
   are_bytes = sample_are_bytes;
   refusal = sample_refusal;

@@ -76,11 +76,11 @@ pub struct MemoryHandle {
 }
 
 impl MemoryHandle {
-    ghost use Rattle.zarrs_codec.specs.MemoryHandle.{stored, write_count};
+    ghost use Rattle.zarrs_codec.specs.MemoryHandle.{handle_value, write_count};
 
     /// A handle without a value.
     pub fn new() -> MemoryHandle
-        ensures made { stored result ≡ None }
+        ensures made { handle_value result ≡ None }
         ensures count { write_count result ≡ 0 }
     {
         MemoryHandle {
@@ -91,7 +91,7 @@ impl MemoryHandle {
 
     /// A handle with this value.
     pub fn with_value(value: Vec<u8>) -> MemoryHandle
-        ensures made { stored result ≡ Some value.items }
+        ensures made { handle_value result ≡ Some value.items }
         ensures count { write_count result ≡ 0 }
     {
         MemoryHandle {
@@ -102,7 +102,7 @@ impl MemoryHandle {
 
     /// The value, or `None`.
     pub fn value(&self) -> Option<&[u8]>
-        ensures value { option_map (λ bytes. bytes.now) result ≡ stored self.now }
+        ensures value { option_map (λ bytes. bytes.now) result ≡ handle_value self.now }
     {
         match &self.value {
             None => None,
@@ -112,7 +112,7 @@ impl MemoryHandle {
 
     /// The value, or `None`, without the handle.
     pub fn into_value(self) -> Option<Vec<u8>>
-        ensures value { option_map (λ bytes. bytes.items) result ≡ stored self }
+        ensures value { option_map (λ bytes. bytes.items) result ≡ handle_value self }
     {
         self.value
     }
@@ -128,13 +128,13 @@ impl MemoryHandle {
 
 impl BytesPartialDecoderTraits for MemoryHandle {
     ghost use Rattle.zarrs_codec.specs.StorageState.{held_bytes};
-    ghost use Rattle.zarrs_codec.specs.MemoryHandle.{stored, memory_state};
+    ghost use Rattle.zarrs_codec.specs.MemoryHandle.{handle_value, memory_state};
 
     ghost state = { memory_state };
 
     ghost lent = { λ _. None };
 
-    ghost held = { λ handle. held_bytes (stored handle) };
+    ghost held = { λ handle. held_bytes (handle_value handle) };
 
     ghost reads_ranges = { true };
 

@@ -12,7 +12,7 @@ use Rattle.zarrs_data_type.specs.Element.{Chunk}
 use Rattle.zarrs_array_bytes.specs.Elements.{elements, element_at}
 use Rattle.zarrs_array_bytes.specs.Held.{Held}
 use Rattle.zarrs_array_bytes.specs.Validity.{validity, Holds}
-use Rattle.zarrs_codec.specs.CoordinateMap.{CoordinateMap, IsCoordinateMap, IsMapTo, same_places, composed, undone, moved}
+use Rattle.zarrs_codec.specs.CoordinateMap.{CoordinateMap, IsCoordinateMap, IsMapTo, same_places, composition, inverse_map, moved_chunk}
 use Rattle.zarrs_codec.specs.MappedChunk.{encoded_chunk, decoded_chunk}
 use Rattle.zarrs_array_to_array.specs.ArrayToArrayCodec.{ArrayMapping, coordinates}
 use Rattle.zarrs_array_to_array.specs.CodecAnswers.{type_taken}
@@ -71,7 +71,7 @@ no_mappings (codec ∷ codecs) l = absurd (omega (arith, l))
 
 -- ---- shapes
 
-seen_composed : (m : CoordinateMap) (rest : Result CoordinateMap CodecError) → seen (λ (n : CoordinateMap). n.encoded) (rest >>= (λ n. Ok (composed m n))) ≡ seen (λ (n : CoordinateMap). n.encoded) rest
+seen_composed : (m : CoordinateMap) (rest : Result CoordinateMap CodecError) → seen (λ (n : CoordinateMap). n.encoded) (rest >>= (λ n. Ok (composition m n))) ≡ seen (λ (n : CoordinateMap). n.encoded) rest
 seen_composed m (Ok n) = refl
 seen_composed m (Err e) = refl
 
@@ -85,7 +85,7 @@ after_error (Err cause) x error s e = ap err (error_is x cause error e)
 
 -- what is seen of the whole is seen of the last step
 seen_last : (first : Result CoordinateMap CodecError) (rest : List ℕ → Result CoordinateMap CodecError)
-    → seen (λ (m : CoordinateMap). m.encoded) (first >>= (λ m. rest m.encoded >>= (λ n. Ok (composed m n))))
+    → seen (λ (m : CoordinateMap). m.encoded) (first >>= (λ m. rest m.encoded >>= (λ n. Ok (composition m n))))
     ≡ seen (λ (m : CoordinateMap). m.encoded) first >>= (λ sizes. seen (λ (m : CoordinateMap). m.encoded) (rest sizes))
 seen_last (Err e) rest = refl
 seen_last (Ok m) rest = seen_composed m (rest m.encoded)
@@ -117,14 +117,14 @@ pub record MapParts (type : ElementType) (codec : ArrayMapping) (codecs : List A
   pub taken : type_taken codec type ≡ Ok tt
   pub done : coordinates codec sizes ≡ Ok first
   pub others : arrays_map type codecs first.encoded ≡ Ok rest
-  pub is : m ≡ composed first rest
+  pub is : m ≡ composition first rest
 
 pub map_parts : (type : ElementType) (codec : ArrayMapping) (codecs : List ArrayMapping) (sizes : List ℕ) (m : CoordinateMap) → arrays_map type (codec ∷ codecs) sizes ≡ Ok m → MapParts type codec codecs sizes m
 map_parts type codec codecs sizes m e =
     let a = bind_ok (codec_map type codec sizes) _ m e in
     let b = bind_ok (type_taken codec type) _ a.0 a.1 in
     let c = bind_ok (arrays_map type codecs a.0.encoded) _ m a.2 in
-    record { first = a.0; rest = c.0; taken = b.1; done = b.2; others = c.1; is = sym (ok_is (composed a.0 c.0) m c.2) }
+    record { first = a.0; rest = c.0; taken = b.1; done = b.2; others = c.1; is = sym (ok_is (composition a.0 c.0) m c.2) }
 
 pub map_none : (type : ElementType) (sizes : List ℕ) → IsMapWhere type [] sizes
 map_none type sizes = same_places_map sizes sizes refl (λ p. p)
@@ -158,7 +158,7 @@ pub counted_so : (n m : ℕ) → checked_u64 n ≡ Ok m → checked_u64 n ≡ Ok
 counted_so n m e = counted_test (nat_lt n (2 ^ 64)) n m e
 
 encoded_parts : (takes : Result (Unit {0}) CodecError) (coordinates : Result CoordinateMap CodecError) (type : ElementType) (sizes : List ℕ) (held : Held) (chunk : Chunk) → encoded_chunk takes coordinates type sizes held ≡ Ok chunk
-    → (t : TakenChunk takes coordinates type sizes held) × (chunk ≡ moved t.map_is (elements type (product sizes) held))
+    → (t : TakenChunk takes coordinates type sizes held) × (chunk ≡ moved_chunk t.map_is (elements type (product sizes) held))
 encoded_parts takes coordinates type sizes held chunk e =
     let a = bind_ok (takes >>= (λ _. coordinates >>= (λ m. checked_u64 (product sizes) >>= (λ _. validity type (product sizes) held >>= (λ _. Ok m))))) _ chunk e in
     let b = bind_ok takes _ a.0 a.1 in
@@ -167,11 +167,11 @@ encoded_parts takes coordinates type sizes held chunk e =
     let f = bind_ok (validity type (product sizes) held) _ a.0 d.2 in
     let same : c.0 ≡ a.0 = ok_is c.0 a.0 f.2 in (
       record { map_is = c.0; taken = b.1; done = c.1; counted = counted_so (product sizes) d.0 d.1; valid = f.1 },
-      sym (ok_is (moved a.0 (elements type (product sizes) held)) chunk a.2) ∙ ap (λ m. moved m (elements type (product sizes) held)) (sym same),
+      sym (ok_is (moved_chunk a.0 (elements type (product sizes) held)) chunk a.2) ∙ ap (λ m. moved_chunk m (elements type (product sizes) held)) (sym same),
     )
 
 decoded_parts : (takes : Result (Unit {0}) CodecError) (coordinates : Result CoordinateMap CodecError) (type : ElementType) (sizes : List ℕ) (held : Held) (chunk : Chunk) → decoded_chunk takes coordinates type sizes held ≡ Ok chunk
-    → (t : TakenChunk takes coordinates type sizes held) × (chunk ≡ moved (undone sizes t.map_is) (elements type (product sizes) held))
+    → (t : TakenChunk takes coordinates type sizes held) × (chunk ≡ moved_chunk (inverse_map sizes t.map_is) (elements type (product sizes) held))
 decoded_parts takes coordinates type sizes held chunk e =
     let a = bind_ok (takes >>= (λ _. coordinates >>= (λ m. checked_u64 (product sizes) >>= (λ _. validity type (product sizes) held >>= (λ _. Ok m))))) _ chunk e in
     let b = bind_ok takes _ a.0 a.1 in
@@ -180,13 +180,13 @@ decoded_parts takes coordinates type sizes held chunk e =
     let f = bind_ok (validity type (product sizes) held) _ a.0 d.2 in
     let same : c.0 ≡ a.0 = ok_is c.0 a.0 f.2 in (
       record { map_is = c.0; taken = b.1; done = c.1; counted = counted_so (product sizes) d.0 d.1; valid = f.1 },
-      sym (ok_is (moved (undone sizes a.0) (elements type (product sizes) held)) chunk a.2) ∙ ap (λ m. moved (undone sizes m) (elements type (product sizes) held)) (sym same),
+      sym (ok_is (moved_chunk (inverse_map sizes a.0) (elements type (product sizes) held)) chunk a.2) ∙ ap (λ m. moved_chunk (inverse_map sizes m) (elements type (product sizes) held)) (sym same),
     )
 
-pub encoded_whole : (takes : Result (Unit {0}) CodecError) (coordinates : Result CoordinateMap CodecError) (type : ElementType) (sizes : List ℕ) (held : Held) (t : TakenChunk takes coordinates type sizes held) → encoded_chunk takes coordinates type sizes held ≡ Ok (moved t.map_is (elements type (product sizes) held))
+pub encoded_whole : (takes : Result (Unit {0}) CodecError) (coordinates : Result CoordinateMap CodecError) (type : ElementType) (sizes : List ℕ) (held : Held) (t : TakenChunk takes coordinates type sizes held) → encoded_chunk takes coordinates type sizes held ≡ Ok (moved_chunk t.map_is (elements type (product sizes) held))
 encoded_whole takes coordinates type sizes held t = rw (t.taken, t.done, t.counted, t.valid) refl
 
-pub decoded_whole : (takes : Result (Unit {0}) CodecError) (coordinates : Result CoordinateMap CodecError) (type : ElementType) (sizes : List ℕ) (held : Held) (t : TakenChunk takes coordinates type sizes held) → decoded_chunk takes coordinates type sizes held ≡ Ok (moved (undone sizes t.map_is) (elements type (product sizes) held))
+pub decoded_whole : (takes : Result (Unit {0}) CodecError) (coordinates : Result CoordinateMap CodecError) (type : ElementType) (sizes : List ℕ) (held : Held) (t : TakenChunk takes coordinates type sizes held) → decoded_chunk takes coordinates type sizes held ≡ Ok (moved_chunk (inverse_map sizes t.map_is) (elements type (product sizes) held))
 decoded_whole takes coordinates type sizes held t = rw (t.taken, t.done, t.counted, t.valid) refl
 
 pub length-elements : (type : ElementType) (count : ℕ) (held : Held) → length (elements type count held) ≡ count
@@ -206,7 +206,7 @@ encode_none type sizes held =
     if_ok (encoded_chunk (Ok tt) (arrays_map type [] sizes) type sizes held) (λ chunk. Holds type held chunk) (λ chunk e.
     let p = encoded_parts (Ok tt) (arrays_map type [] sizes) type sizes held chunk e in
     let is : p.0.map_is ≡ same_places sizes = sym (ok_is (same_places sizes) p.0.map_is p.0.done) in
-    let stays : chunk ≡ elements type (product sizes) held = p.1 ∙ ap (λ m. moved m (elements type (product sizes) held)) is ∙ kept_places sizes (elements type (product sizes) held) (length-elements type (product sizes) held) in
+    let stays : chunk ≡ elements type (product sizes) held = p.1 ∙ ap (λ m. moved_chunk m (elements type (product sizes) held)) is ∙ kept_places sizes (elements type (product sizes) held) (length-elements type (product sizes) held) in
     subst (Holds type held) (sym stays) (holds_elements type (product sizes) held p.0.valid))
 
 -- the chunk that the first codec makes is one that the others take
@@ -233,14 +233,14 @@ answer_for type r one other e h = subst (λ (c : Chunk). AnswersBy memory (Holds
 
 -- the last step of one answer after another
 encode_last : (type : ElementType) (codecs : List ArrayMapping) (sizes next : List ℕ) (first rest : CoordinateMap) (items : Chunk) (r : Result Held CodecError) (chunk : Chunk)
-    → first.encoded ≡ next → IsCoordinateMap sizes first → arrays_map type codecs next ≡ Ok rest → IfOk r (λ _. IsMapWhere type codecs next) → chunk ≡ moved (composed first rest) items
-    → AnswersBy memory (Holds type) r (Ok (moved rest (moved first items))) → AnswersBy memory (Holds type) r (Ok chunk)
+    → first.encoded ≡ next → IsCoordinateMap sizes first → arrays_map type codecs next ≡ Ok rest → IfOk r (λ _. IsMapWhere type codecs next) → chunk ≡ moved_chunk (composition first rest) items
+    → AnswersBy memory (Holds type) r (Ok (moved_chunk rest (moved_chunk first items))) → AnswersBy memory (Holds type) r (Ok chunk)
 encode_last type codecs sizes next first rest items (Ok held) chunk n h e maps is answers =
     let m : IsCoordinateMap next rest = at_ok (arrays_map type codecs next) (λ (m : CoordinateMap). IsCoordinateMap next m) rest e maps in
     let k : IsCoordinateMap first.encoded rest = subst (λ (s : List ℕ). IsCoordinateMap s rest) (sym n) m in
-    answer_for type (Ok held) (moved rest (moved first items)) chunk (sym (moved_twice sizes first rest items h k) ∙ sym is) answers
+    answer_for type (Ok held) (moved_chunk rest (moved_chunk first items)) chunk (sym (moved_twice sizes first rest items h k) ∙ sym is) answers
 encode_last type codecs sizes next first rest items (Err error) chunk n h e maps is answers =
-    λ ne. absurd (ok_no_err (moved rest (moved first items)) error (answers ne))
+    λ ne. absurd (ok_no_err (moved_chunk rest (moved_chunk first items)) error (answers ne))
 
 pub encode_refused : (type : ElementType) (codec : ArrayMapping) (codecs : List ArrayMapping) (sizes : List ℕ) (held : Held) (error : CodecError)
     → IfOk (encoded_chunk (type_taken codec type) (coordinates codec sizes) type sizes held) (λ chunk. AnswersBy memory (Holds type) (Err error) (Ok chunk))
@@ -251,8 +251,8 @@ encode_refused type codec codecs sizes held error one =
     let q = map_parts type codec codecs sizes p.0.map_is p.0.done in
     let items = elements type (product sizes) held in
     let t : TakenChunk (type_taken codec type) (coordinates codec sizes) type sizes held = record { map_is = q.first; taken = q.taken; done = q.done; counted = p.0.counted; valid = p.0.valid } in
-    let answers : AnswersBy memory (Holds type) (Err error) (Ok (moved q.first items)) = at_ok (encoded_chunk (type_taken codec type) (coordinates codec sizes) type sizes held) (λ (c : Chunk). AnswersBy memory (Holds type) (Err error) (Ok c)) (moved q.first items) (encoded_whole (type_taken codec type) (coordinates codec sizes) type sizes held t) one in
-    λ ne. absurd (ok_no_err (moved q.first items) error (answers ne)))
+    let answers : AnswersBy memory (Holds type) (Err error) (Ok (moved_chunk q.first items)) = at_ok (encoded_chunk (type_taken codec type) (coordinates codec sizes) type sizes held) (λ (c : Chunk). AnswersBy memory (Holds type) (Err error) (Ok c)) (moved_chunk q.first items) (encoded_whole (type_taken codec type) (coordinates codec sizes) type sizes held t) one in
+    λ ne. absurd (ok_no_err (moved_chunk q.first items) error (answers ne)))
 
 pub encode_step : (type : ElementType) (codec : ArrayMapping) (codecs : List ArrayMapping) (sizes next : List ℕ) (held made : Held) (r : Result Held CodecError)
     → IsMapTo (coordinates codec sizes) sizes next
@@ -268,11 +268,11 @@ encode_step type codec codecs sizes next held made r h one maps found =
     let n = next_is codec sizes next q.first h q.done in
     let items = elements type (product sizes) held in
     let t : TakenChunk (type_taken codec type) (coordinates codec sizes) type sizes held = record { map_is = q.first; taken = q.taken; done = q.done; counted = p.0.counted; valid = p.0.valid } in
-    let holds : Holds type made (moved q.first items) = at_ok (encoded_chunk (type_taken codec type) (coordinates codec sizes) type sizes held) (λ (c : Chunk). Holds type made c) (moved q.first items) (encoded_whole (type_taken codec type) (coordinates codec sizes) type sizes held t) one in
+    let holds : Holds type made (moved_chunk q.first items) = at_ok (encoded_chunk (type_taken codec type) (coordinates codec sizes) type sizes held) (λ (c : Chunk). Holds type made c) (moved_chunk q.first items) (encoded_whole (type_taken codec type) (coordinates codec sizes) type sizes held t) one in
     let others : arrays_map type codecs next ≡ Ok q.rest = subst (λ (s : List ℕ). arrays_map type codecs s ≡ Ok q.rest) n.0 q.others in
-    let u = taken_next type sizes next q.first codecs q.rest made (moved q.first items) n.0 n.1 others p.0.counted (length-moved q.first items ∙ n.1.count) holds in
-    let answers : AnswersBy memory (Holds type) r (Ok (moved q.rest (elements type (product next) made))) = at_ok (encoded_chunk (Ok tt) (arrays_map type codecs next) type next made) (λ (c : Chunk). AnswersBy memory (Holds type) r (Ok c)) (moved q.rest (elements type (product next) made)) (encoded_whole (Ok tt) (arrays_map type codecs next) type next made u.0) found in
-    encode_last type codecs sizes next q.first q.rest items r chunk n.0 n.1 others maps (p.1 ∙ ap (λ m. moved m items) q.is) (answer_for type r _ _ (ap (moved q.rest) u.2) answers))
+    let u = taken_next type sizes next q.first codecs q.rest made (moved_chunk q.first items) n.0 n.1 others p.0.counted (length-moved q.first items ∙ n.1.count) holds in
+    let answers : AnswersBy memory (Holds type) r (Ok (moved_chunk q.rest (elements type (product next) made))) = at_ok (encoded_chunk (Ok tt) (arrays_map type codecs next) type next made) (λ (c : Chunk). AnswersBy memory (Holds type) r (Ok c)) (moved_chunk q.rest (elements type (product next) made)) (encoded_whole (Ok tt) (arrays_map type codecs next) type next made u.0) found in
+    encode_last type codecs sizes next q.first q.rest items r chunk n.0 n.1 others maps (p.1 ∙ ap (λ m. moved_chunk m items) q.is) (answer_for type r _ _ (ap (moved_chunk q.rest) u.2) answers))
 
 -- ---- decoding
 
@@ -281,7 +281,7 @@ decode_none type sizes held =
     if_ok (decoded_chunk (Ok tt) (arrays_map type [] sizes) type sizes held) (λ chunk. Holds type held chunk) (λ chunk e.
     let p = decoded_parts (Ok tt) (arrays_map type [] sizes) type sizes held chunk e in
     let is : p.0.map_is ≡ same_places sizes = sym (ok_is (same_places sizes) p.0.map_is p.0.done) in
-    let stays : chunk ≡ elements type (product sizes) held = p.1 ∙ ap (λ m. moved (undone sizes m) (elements type (product sizes) held)) is ∙ kept_places sizes (elements type (product sizes) held) (length-elements type (product sizes) held) in
+    let stays : chunk ≡ elements type (product sizes) held = p.1 ∙ ap (λ m. moved_chunk (inverse_map sizes m) (elements type (product sizes) held)) is ∙ kept_places sizes (elements type (product sizes) held) (length-elements type (product sizes) held) in
     subst (Holds type held) (sym stays) (holds_elements type (product sizes) held p.0.valid))
 
 -- a container of the encoded chunk is one that the codecs behind the first take
@@ -309,18 +309,18 @@ decode_refused type codec codecs sizes next held error h one =
     let count : product next ≡ product sizes = ap product (sym n.0) ∙ n.1.count in
     let others : arrays_map type codecs next ≡ Ok q.rest = subst (λ (s : List ℕ). arrays_map type codecs s ≡ Ok q.rest) n.0 q.others in
     let t = taken_below type sizes next codecs q.rest held count others p.0.counted p.0.valid in
-    let found = moved (undone next q.rest) (elements type (product next) held) in
+    let found = moved_chunk (inverse_map next q.rest) (elements type (product next) held) in
     let answers : AnswersBy memory (Holds type) (Err error) (Ok found) = at_ok (decoded_chunk (Ok tt) (arrays_map type codecs next) type next held) (λ (c : Chunk). AnswersBy memory (Holds type) (Err error) (Ok c)) found (decoded_whole (Ok tt) (arrays_map type codecs next) type next held t) one in
     λ ne. absurd (ok_no_err found error (answers ne)))
 
 -- moved back by the codecs behind the first, and then by it, is moved back by all
 back_twice : (sizes next : List ℕ) (first rest : CoordinateMap) (items : Chunk) → All (λ size. 0 < size) sizes → first.encoded ≡ next → IsCoordinateMap sizes first → IsCoordinateMap next rest
-    → moved (undone sizes (composed first rest)) items ≡ moved (undone sizes first) (moved (undone next rest) items)
+    → moved_chunk (inverse_map sizes (composition first rest)) items ≡ moved_chunk (inverse_map sizes first) (moved_chunk (inverse_map next rest) items)
 back_twice sizes next first rest items positive n h g =
     let after : All (λ size. 0 < size) next = subst (All (λ size. 0 < size)) n (h.positive positive) in
-    let one : IsCoordinateMap rest.encoded (undone next rest) = undone_map next rest after g in
-    let two : IsCoordinateMap next (undone sizes first) = subst (λ (s : List ℕ). IsCoordinateMap s (undone sizes first)) n (undone_map sizes first positive h) in
-    moved_twice rest.encoded (undone next rest) (undone sizes first) items one two
+    let one : IsCoordinateMap rest.encoded (inverse_map next rest) = undone_map next rest after g in
+    let two : IsCoordinateMap next (inverse_map sizes first) = subst (λ (s : List ℕ). IsCoordinateMap s (inverse_map sizes first)) n (undone_map sizes first positive h) in
+    moved_twice rest.encoded (inverse_map next rest) (inverse_map sizes first) items one two
 
 pub decode_step : (type : ElementType) (codec : ArrayMapping) (codecs : List ArrayMapping) (sizes next : List ℕ) (held made : Held) (r : Result Held CodecError)
     → All (λ size. 0 < size) sizes
@@ -339,18 +339,18 @@ decode_step type codec codecs sizes next held made r positive h maps found last 
     let others : arrays_map type codecs next ≡ Ok q.rest = subst (λ (s : List ℕ). arrays_map type codecs s ≡ Ok q.rest) n.0 q.others in
     let rest_map : IsCoordinateMap next q.rest = at_ok (arrays_map type codecs next) (λ (m : CoordinateMap). IsCoordinateMap next m) q.rest others maps in
     let t = taken_below type sizes next codecs q.rest held count others p.0.counted p.0.valid in
-    let below = moved (undone next q.rest) (elements type (product next) held) in
+    let below = moved_chunk (inverse_map next q.rest) (elements type (product next) held) in
     let holds : Holds type made below = at_ok (decoded_chunk (Ok tt) (arrays_map type codecs next) type next held) (λ (c : Chunk). Holds type made c) below (decoded_whole (Ok tt) (arrays_map type codecs next) type next held t) found in
-    let long : length below ≡ product sizes = length-moved (undone next q.rest) (elements type (product next) held) ∙ count in
+    let long : length below ≡ product sizes = length-moved (inverse_map next q.rest) (elements type (product next) held) ∙ count in
     let u : TakenChunk (type_taken codec type) (coordinates codec sizes) type sizes made = record { map_is = q.first; taken = q.taken; done = q.done; counted = p.0.counted; valid = subst (λ (k : ℕ). validity type k made ≡ Ok tt) long holds.valid } in
     let made_is : elements type (product sizes) made ≡ below = subst (λ (k : ℕ). elements type k made ≡ below) long holds.elements_are in
-    let answers : AnswersBy memory (Holds type) r (Ok (moved (undone sizes q.first) (elements type (product sizes) made))) = at_ok (decoded_chunk (type_taken codec type) (coordinates codec sizes) type sizes made) (λ (c : Chunk). AnswersBy memory (Holds type) r (Ok c)) (moved (undone sizes q.first) (elements type (product sizes) made)) (decoded_whole (type_taken codec type) (coordinates codec sizes) type sizes made u) last in
-    let is : moved (undone sizes q.first) (elements type (product sizes) made) ≡ chunk
-    = ap (moved (undone sizes q.first)) (made_is ∙ ap (λ k. moved (undone next q.rest) (elements type k held)) count)
+    let answers : AnswersBy memory (Holds type) r (Ok (moved_chunk (inverse_map sizes q.first) (elements type (product sizes) made))) = at_ok (decoded_chunk (type_taken codec type) (coordinates codec sizes) type sizes made) (λ (c : Chunk). AnswersBy memory (Holds type) r (Ok c)) (moved_chunk (inverse_map sizes q.first) (elements type (product sizes) made)) (decoded_whole (type_taken codec type) (coordinates codec sizes) type sizes made u) last in
+    let is : moved_chunk (inverse_map sizes q.first) (elements type (product sizes) made) ≡ chunk
+    = ap (moved_chunk (inverse_map sizes q.first)) (made_is ∙ ap (λ k. moved_chunk (inverse_map next q.rest) (elements type k held)) count)
     ∙ sym (back_twice sizes next q.first q.rest (elements type (product sizes) held) positive n.0 n.1 rest_map)
-    ∙ ap (λ m. moved (undone sizes m) (elements type (product sizes) held)) (sym q.is)
+    ∙ ap (λ m. moved_chunk (inverse_map sizes m) (elements type (product sizes) held)) (sym q.is)
     ∙ sym p.1 in
-    answer_for type r (moved (undone sizes q.first) (elements type (product sizes) made)) chunk is answers)
+    answer_for type r (moved_chunk (inverse_map sizes q.first) (elements type (product sizes) made)) chunk is answers)
 
 -- ---- as the code has the list of codecs
 

@@ -14,7 +14,7 @@ use Rattle.zarrs_data_type.specs.declared.endianness.Endianness.TheVariants.{Lit
 use Rattle.zarrs_array_bytes.specs.Elements.{piece, select}
 use Rattle.zarrs_array_bytes.specs.Pieces.{pieces}
 use Rattle.zarrs_codec.specs.BytesToBytesCodec.{BytesCodecs, IsLawful, AreBytes, IsValue, KeepsTo}
-use Rattle.zarrs_codec.specs.CoordinateMap.{CoordinateMap, IsCoordinateMap, composed, origins, moved, undone}
+use Rattle.zarrs_codec.specs.CoordinateMap.{CoordinateMap, IsCoordinateMap, composition, origins, moved_chunk, inverse_map}
 use Rattle.zarrs_codec.specs.declared.bytes_representation.BytesRepresentation.{BytesRepresentation}
 use Rattle.zarrs_codec.specs.declared.bytes_representation.BytesRepresentation.TheVariants.{FixedSize}
 use Rattle.zarrs_array_to_array.specs.ArrayToArrayCodec.{ArrayMapping, IsMapping, coordinates, chained}
@@ -108,7 +108,7 @@ outer_opened f (codec ∷ codecs) r below value lawful each keeps h =
     let is_value : IsValue below = record { each = each; small = h.0 } in
     let small = outer_small f codecs above value h.1 in
     let rest = outer_opened f codecs (f.representation codec r) above value lawful (lawful.are_bytes codec below is_value) (lawful.kept codec r below is_value keeps small) h.1 in
-    (opened_more (outer_bytes f codecs (f.representation codec r) value) above (f.decoded_bytes codec r) rest.0 ∙ lawful.undone codec r below is_value keeps small, rest.1)
+    (opened_more (outer_bytes f codecs (f.representation codec r) value) above (f.decoded_bytes codec r) rest.0 ∙ lawful.decode_undoes codec r below is_value keeps small, rest.1)
 
 outer_once : {B : Type 0} (f : BytesCodecs B) (codecs : List B) (below value other : List ℕ) → OuterWritten f codecs below value → OuterWritten f codecs below other → value ≡ other
 outer_once f [] below value other h g = h.1 ∙ sym g.1
@@ -116,8 +116,8 @@ outer_once f (codec ∷ codecs) below value other h g = outer_once f codecs (f.e
 
 -- ---- array codecs
 
-chained_more : (codec : ArrayMapping) (codecs : List ArrayMapping) (sizes : List ℕ) (first rest : CoordinateMap) → coordinates codec sizes ≡ Ok first → chained codecs first.encoded ≡ Ok rest → chained (codec ∷ codecs) sizes ≡ Ok (composed first rest)
-chained_more codec codecs sizes first rest a b = opened_more (coordinates codec sizes) first (λ m. chained codecs m.encoded >>= (λ n. ok (composed m n))) a ∙ opened_more (chained codecs first.encoded) rest (λ n. ok (composed first n)) b
+chained_more : (codec : ArrayMapping) (codecs : List ArrayMapping) (sizes : List ℕ) (first rest : CoordinateMap) → coordinates codec sizes ≡ Ok first → chained codecs first.encoded ≡ Ok rest → chained (codec ∷ codecs) sizes ≡ Ok (composition first rest)
+chained_more codec codecs sizes first rest a b = opened_more (coordinates codec sizes) first (λ m. chained codecs m.encoded >>= (λ n. ok (composition m n))) a ∙ opened_more (chained codecs first.encoded) rest (λ n. ok (composition first n)) b
 
 chained_of : (type : ElementType) (codecs : List ArrayMapping) (sizes : List ℕ) (m : CoordinateMap) → arrays_map type codecs sizes ≡ Ok m → chained codecs sizes ≡ Ok m
 chained_of type [] sizes m e = e
@@ -177,7 +177,7 @@ codec_kept f (optional_codec ma mx mb da dx db) sizes type fill value chunk r h 
 
 stands_as_written : {B : Type 0} (f : BytesCodecs B) (chain : PlainChain B) (sizes : List ℕ) (type : ElementType) (fill value : List ℕ) (chunk : Chunk) → IsLawful f → IsFlatChain chain → All HasBytes chunk → ChainWritten f chain sizes type fill value chunk → ChainStands f chain sizes type fill value chunk
 stands_as_written f chain sizes type fill value chunk lawful is each w =
-    let kept = codec_kept f chain.codec w.map_is.encoded type fill w.below (moved w.map_is chunk) w.size is.flat (all_selected chunk (origins w.map_is) each) w.written w.measured in
+    let kept = codec_kept f chain.codec w.map_is.encoded type fill w.below (moved_chunk w.map_is chunk) w.size is.flat (all_selected chunk (origins w.map_is) each) w.written w.measured in
     record {
       map_is = w.map_is;
       size = w.size;
@@ -186,7 +186,7 @@ stands_as_written f chain sizes type fill value chunk lawful is each w =
       measured = w.measured;
       elements = w.elements;
       opened = (outer_opened f chain.outer w.size w.below value lawful kept.each kept.keeps w.around).0;
-      stands = codec_stands f chain.codec w.map_is.encoded type fill w.below (moved w.map_is chunk) is.flat w.written;
+      stands = codec_stands f chain.codec w.map_is.encoded type fill w.below (moved_chunk w.map_is chunk) is.flat w.written;
     }
 
 pub chain_stands : {B : Type 0} (f : BytesCodecs B) (chain : PlainChain B) (sizes : List ℕ) (type : ElementType) (fill value : List ℕ) (chunk : Chunk) → IsLawful f → IsFlatChain chain → All HasBytes chunk → ChainWritten f chain sizes type fill value chunk → ChainStands f chain sizes type fill value (normal_form chain.codec type chunk)
@@ -198,18 +198,18 @@ chain_one f chain sizes type fill value chunk other is positive a b =
     let m : a.map_is ≡ b.map_is = ok_is a.map_is b.map_is (sym a.mapped ∙ b.mapped) in
     let size : a.size ≡ b.size = ok_is a.size b.size (sym a.measured ∙ ap (λ (x : CoordinateMap). codec_representation f chain.codec x.encoded type fill) m ∙ b.measured) in
     let below : a.below ≡ b.below = ok_is a.below b.below (sym a.opened ∙ ap (λ s. outer_bytes f chain.outer s value) size ∙ b.opened) in
-    let second : CodecStands f chain.codec a.map_is.encoded type fill a.below (moved a.map_is other)
-    = subst (λ (x : CoordinateMap). CodecStands f chain.codec x.encoded type fill a.below (moved x other)) (sym m) (subst (λ u. CodecStands f chain.codec b.map_is.encoded type fill u (moved b.map_is other)) (sym below) b.stands) in
-    let same = codec_one f chain.codec a.map_is.encoded type fill a.below (moved a.map_is chunk) (moved a.map_is other) is.flat a.stands second in
+    let second : CodecStands f chain.codec a.map_is.encoded type fill a.below (moved_chunk a.map_is other)
+    = subst (λ (x : CoordinateMap). CodecStands f chain.codec x.encoded type fill a.below (moved_chunk x other)) (sym m) (subst (λ u. CodecStands f chain.codec b.map_is.encoded type fill u (moved_chunk b.map_is other)) (sym below) b.stands) in
+    let same = codec_one f chain.codec a.map_is.encoded type fill a.below (moved_chunk a.map_is chunk) (moved_chunk a.map_is other) is.flat a.stands second in
     let h = arrays_are_map chain sizes type a.map_is is positive a.mapped in
-    sym (moved_back sizes a.map_is chunk h a.elements.count_is) ∙ ap (moved (undone sizes a.map_is)) same ∙ moved_back sizes a.map_is other h b.elements.count_is
+    sym (moved_back sizes a.map_is chunk h a.elements.count_is) ∙ ap (moved_chunk (inverse_map sizes a.map_is)) same ∙ moved_back sizes a.map_is other h b.elements.count_is
 
 pub chain_once : {B : Type 0} (f : BytesCodecs B) (chain : PlainChain B) (sizes : List ℕ) (type : ElementType) (fill value other : List ℕ) (chunk : Chunk) → IsFlatChain chain → ChainWritten f chain sizes type fill value chunk → ChainWritten f chain sizes type fill other chunk → value ≡ other
 chain_once f chain sizes type fill value other chunk is a b =
     let m : a.map_is ≡ b.map_is = ok_is a.map_is b.map_is (sym a.mapped ∙ b.mapped) in
-    let second : CodecWritten f chain.codec a.map_is.encoded type fill b.below (moved a.map_is chunk)
-    = subst (λ (x : CoordinateMap). CodecWritten f chain.codec x.encoded type fill b.below (moved x chunk)) (sym m) b.written in
-    let below : a.below ≡ b.below = codec_once f chain.codec a.map_is.encoded type fill a.below b.below (moved a.map_is chunk) is.flat a.written second in
+    let second : CodecWritten f chain.codec a.map_is.encoded type fill b.below (moved_chunk a.map_is chunk)
+    = subst (λ (x : CoordinateMap). CodecWritten f chain.codec x.encoded type fill b.below (moved_chunk x chunk)) (sym m) b.written in
+    let below : a.below ≡ b.below = codec_once f chain.codec a.map_is.encoded type fill a.below b.below (moved_chunk a.map_is chunk) is.flat a.written second in
     outer_once f chain.outer a.below value other a.around (subst (λ u. OuterWritten f chain.outer u other) (sym below) b.around)
 
 pub normal_twice : {B : Type 0} (codec : PlainCodec B) (type : ElementType) (chunk : Chunk) → is_flat codec ≡ true → normal_form codec type (normal_form codec type chunk) ≡ normal_form codec type chunk
@@ -233,6 +233,6 @@ said_so f chain sizes type fill m size a b = rw (a, b) refl
 
 pub chain_keeps : {B : Type 0} (f : BytesCodecs B) (chain : PlainChain B) (sizes : List ℕ) (type : ElementType) (fill value : List ℕ) (chunk : Chunk) (r : BytesRepresentation) → IsLawful f → IsFlatChain chain → All HasBytes chunk → ChainWritten f chain sizes type fill value chunk → chain_representation f chain sizes type fill ≡ Ok r → KeepsTo r value
 chain_keeps f chain sizes type fill value chunk r lawful is each w e =
-    let kept = codec_kept f chain.codec w.map_is.encoded type fill w.below (moved w.map_is chunk) w.size is.flat (all_selected chunk (origins w.map_is) each) w.written w.measured in
+    let kept = codec_kept f chain.codec w.map_is.encoded type fill w.below (moved_chunk w.map_is chunk) w.size is.flat (all_selected chunk (origins w.map_is) each) w.written w.measured in
     let said : chain_representation f chain sizes type fill ≡ Ok (outer_representation f chain.outer w.size) = said_so f chain sizes type fill w.map_is w.size w.mapped w.measured in
     subst (λ (s : BytesRepresentation). KeepsTo s value) (ok_is (outer_representation f chain.outer w.size) r (sym said ∙ e)) (outer_opened f chain.outer w.size w.below value lawful kept.each kept.keeps w.around).1

@@ -13,7 +13,7 @@ use Rattle.zarrs_array_bytes.specs.Held.{Held}
 use Rattle.zarrs_array_bytes.specs.Validity.{validity, sizes_fit, Holds}
 use Rattle.zarrs_array_bytes.proofs.ElementLaw.{AreElements-held}
 use Rattle.zarrs_codec.specs.BytesToBytesCodec.{BytesCodecs}
-use Rattle.zarrs_codec.specs.CoordinateMap.{CoordinateMap, IsCoordinateMap, moved, undone}
+use Rattle.zarrs_codec.specs.CoordinateMap.{CoordinateMap, IsCoordinateMap, moved_chunk, inverse_map}
 use Rattle.zarrs_codec.specs.declared.bytes_representation.BytesRepresentation.{BytesRepresentation}
 use Rattle.zarrs_codec.specs.declared.bytes_representation.BytesRepresentation.TheVariants.{FixedSize}
 use Rattle.zarrs_array_to_array.specs.ArrayToArrayCodec.{ArrayMapping}
@@ -42,10 +42,10 @@ get_or_any [] k d e l = absurd (omega (arith, l))
 get_or_any (x ∷ chunk) zero d e l = refl
 get_or_any (x ∷ chunk) (suc k) d e l = get_or_any chunk k d e (omega (arith, l))
 
-moved_are : (type : ElementType) (m : CoordinateMap) (chunk : Chunk) → ((place : ℕ) → place < product m.encoded → m.from place < length chunk) → AreElements type chunk → AreElements type (moved m chunk)
+moved_are : (type : ElementType) (m : CoordinateMap) (chunk : Chunk) → ((place : ℕ) → place < product m.encoded → m.from place < length chunk) → AreElements type chunk → AreElements type (moved_chunk m chunk)
 moved_are type m chunk inside each k d l =
     let here : k < product m.encoded = omega (arith, l, length-moved m chunk) in
-    subst (IsElement type) (sym (get_or_any (moved m chunk) k d absent l ∙ moved_at m chunk k here)) (each (m.from k) absent (inside k here))
+    subst (IsElement type) (sym (get_or_any (moved_chunk m chunk) k d absent l ∙ moved_at m chunk k here)) (each (m.from k) absent (inside k here))
 
 -- ---- bytes codecs
 
@@ -118,7 +118,7 @@ value_found_so f arrays codec outer sizes type fill held value maps e =
     let c = bind_ok (chain_representation f (chain_of arrays codec outer) sizes type fill) _ value b.2 in
     let d = bind_ok (sizes_fit type (product sizes)) _ value c.2 in
     let m = bind_ok (arrays_map type arrays sizes) _ value d.2 in
-    let below = bind_ok (codec_value f (plain_codec codec) m.0.encoded type (moved m.0 items)) _ value m.2 in
+    let below = bind_ok (codec_value f (plain_codec codec) m.0.encoded type (moved_chunk m.0 items)) _ value m.2 in
     let n = bind_ok (arrays_map type arrays sizes) _ a.0 a.1 in
     let r = bind_ok (codec_representation f (plain_codec codec) n.0.encoded type fill) _ a.0 n.2 in
     let same : n.0 ≡ m.0 = ok_is n.0 m.0 (sym n.1 ∙ m.1) in
@@ -128,7 +128,7 @@ value_found_so f arrays codec outer sizes type fill held value maps e =
     let each = AreElements-held type held items holds in
     let count = length-elements type (product sizes) held in
     let around = outer_written f outer below.0 value below.2 in
-    let is : IsChunk type (product m.0.encoded) (moved m.0 items) = record {
+    let is : IsChunk type (product m.0.encoded) (moved_chunk m.0 items) = record {
       count_is = length-moved m.0 items;
       each = moved_are type m.0 items (λ place l. let k = h.places.from_below place (omega (arith, l, h.count)) in omega (arith, k, count)) each;
     } in (
@@ -142,7 +142,7 @@ value_found_so f arrays codec outer sizes type fill held value maps e =
         measured = measured;
         countable = d.1;
         elements = record { count_is = count; each = each };
-        written = codec_found f codec m.0.encoded type fill below.0 (moved m.0 items) r.0 measured is below.1 (outer_is_small f outer below.0 value around);
+        written = codec_found f codec m.0.encoded type fill below.0 (moved_chunk m.0 items) r.0 measured is below.1 (outer_is_small f outer below.0 value around);
         around = around;
       },
     )
@@ -163,8 +163,8 @@ value_only view result f arrays codec outer sizes type fill held h chunk value h
     let t : IsTaken f (chain_of arrays codec outer) sizes type fill w.map_is.encoded w.size = record { map_is = w.map_is; mapped = w.mapped; encoded_is = refl; measured = w.measured } in
     let is : held_value f (chain_of arrays codec outer) sizes type fill held ≡ Ok value
     = encoded_so f (chain_of arrays codec outer) sizes type fill held w.map_is.encoded w.size t valid
-    ∙ ap (λ (c : Chunk). codec_value f (plain_codec codec) w.map_is.encoded type (moved w.map_is c) >>= (λ below. outer_value f outer below)) items
-    ∙ next_ok (codec_value f (plain_codec codec) w.map_is.encoded type (moved w.map_is chunk)) w.below (λ below. outer_value f outer below) (codec_only f codec w.map_is.encoded type fill w.below (moved w.map_is chunk) w.written)
+    ∙ ap (λ (c : Chunk). codec_value f (plain_codec codec) w.map_is.encoded type (moved_chunk w.map_is c) >>= (λ below. outer_value f outer below)) items
+    ∙ next_ok (codec_value f (plain_codec codec) w.map_is.encoded type (moved_chunk w.map_is chunk)) w.below (λ below. outer_value f outer below) (codec_only f codec w.map_is.encoded type fill w.below (moved_chunk w.map_is chunk) w.written)
     ∙ outer_only f outer w.below value w.around in
     subst (λ (x : Result (List ℕ) CodecError). Answers memory view result x) is h
 
@@ -179,9 +179,9 @@ chunk_found_so f arrays codec outer sizes type fill value chunk maps e =
     let c = bind_ok (codec_chunk f (plain_codec codec) m.0.encoded type fill below.0) _ chunk below.2 in
     let h : IsCoordinateMap sizes m.0 = at_ok (arrays_map type arrays sizes) (λ (x : CoordinateMap). IsCoordinateMap sizes x) m.0 m.1 maps in
     let read = read_found f codec m.0.encoded type fill below.0 c.0 c.1 in
-    let back : moved (undone sizes m.0) c.0 ≡ chunk = ok_is (moved (undone sizes m.0) c.0) chunk c.2 in
+    let back : moved_chunk (inverse_map sizes m.0) c.0 ≡ chunk = ok_is (moved_chunk (inverse_map sizes m.0) c.0) chunk c.2 in
     let long : length c.0 ≡ product sizes = read.1.count_is ∙ h.count in
-    let again : moved m.0 chunk ≡ c.0 = ap (moved m.0) (sym back) ∙ moved_again sizes m.0 c.0 h long in
+    let again : moved_chunk m.0 chunk ≡ c.0 = ap (moved_chunk m.0) (sym back) ∙ moved_again sizes m.0 c.0 h long in
     record {
       map_is = m.0;
       size = r.0;
@@ -189,8 +189,8 @@ chunk_found_so f arrays codec outer sizes type fill value chunk maps e =
       mapped = m.1;
       measured = r.1;
       elements = record {
-        count_is = ap length (sym back) ∙ length-moved (undone sizes m.0) c.0;
-        each = subst (AreElements type) back (moved_are type (undone sizes m.0) c.0 (λ place l. let k = h.places.to_below place l in omega (arith, k, long)) read.1.each);
+        count_is = ap length (sym back) ∙ length-moved (inverse_map sizes m.0) c.0;
+        each = subst (AreElements type) back (moved_are type (inverse_map sizes m.0) c.0 (λ place l. let k = h.places.to_below place l in omega (arith, k, long)) read.1.each);
       };
       opened = below.1;
       stands = subst (CodecStands f (plain_codec codec) m.0.encoded type fill below.0) (sym again) read.0;
@@ -205,12 +205,12 @@ chunk_found (Ok held) f arrays codec outer sizes type fill value maps h =
 chunk_found (Err e) f arrays codec outer sizes type fill value maps h = tt
 
 chunk_only_so : {B : Type 0} (f : BytesCodecs B) (arrays : List ArrayMapping) (codec : ArrayToBytesCodec) (outer : List B) (sizes : List ℕ) (type : ElementType) (fill value : List ℕ) (chunk : Chunk)
-    → (s : ChainStands f (chain_of arrays codec outer) sizes type fill value chunk) → chain_chunk f (chain_of arrays codec outer) sizes type fill value ≡ Ok (moved (undone sizes s.map_is) (moved s.map_is chunk))
+    → (s : ChainStands f (chain_of arrays codec outer) sizes type fill value chunk) → chain_chunk f (chain_of arrays codec outer) sizes type fill value ≡ Ok (moved_chunk (inverse_map sizes s.map_is) (moved_chunk s.map_is chunk))
 chunk_only_so f arrays codec outer sizes type fill value chunk s =
-    next_ok (arrays_map type arrays sizes) s.map_is (λ m. codec_representation f (plain_codec codec) m.encoded type fill >>= (λ r. outer_bytes f outer r value >>= (λ below. codec_chunk f (plain_codec codec) m.encoded type fill below >>= (λ c. ok (moved (undone sizes m) c))))) s.mapped
-    ∙ next_ok (codec_representation f (plain_codec codec) s.map_is.encoded type fill) s.size (λ r. outer_bytes f outer r value >>= (λ below. codec_chunk f (plain_codec codec) s.map_is.encoded type fill below >>= (λ c. ok (moved (undone sizes s.map_is) c)))) s.measured
-    ∙ next_ok (outer_bytes f outer s.size value) s.below (λ below. codec_chunk f (plain_codec codec) s.map_is.encoded type fill below >>= (λ c. ok (moved (undone sizes s.map_is) c))) s.opened
-    ∙ next_ok (codec_chunk f (plain_codec codec) s.map_is.encoded type fill s.below) (moved s.map_is chunk) (λ c. ok (moved (undone sizes s.map_is) c)) (read_only f codec s.map_is.encoded type fill s.below (moved s.map_is chunk) s.stands)
+    next_ok (arrays_map type arrays sizes) s.map_is (λ m. codec_representation f (plain_codec codec) m.encoded type fill >>= (λ r. outer_bytes f outer r value >>= (λ below. codec_chunk f (plain_codec codec) m.encoded type fill below >>= (λ c. ok (moved_chunk (inverse_map sizes m) c))))) s.mapped
+    ∙ next_ok (codec_representation f (plain_codec codec) s.map_is.encoded type fill) s.size (λ r. outer_bytes f outer r value >>= (λ below. codec_chunk f (plain_codec codec) s.map_is.encoded type fill below >>= (λ c. ok (moved_chunk (inverse_map sizes s.map_is) c)))) s.measured
+    ∙ next_ok (outer_bytes f outer s.size value) s.below (λ below. codec_chunk f (plain_codec codec) s.map_is.encoded type fill below >>= (λ c. ok (moved_chunk (inverse_map sizes s.map_is) c))) s.opened
+    ∙ next_ok (codec_chunk f (plain_codec codec) s.map_is.encoded type fill s.below) (moved_chunk s.map_is chunk) (λ c. ok (moved_chunk (inverse_map sizes s.map_is) c)) (read_only f codec s.map_is.encoded type fill s.below (moved_chunk s.map_is chunk) s.stands)
 
 pub chunk_only : {B : Type 0} (result : Result Held CodecError) (f : BytesCodecs B) (arrays : List ArrayMapping) (codec : ArrayToBytesCodec) (outer : List B) (sizes : List ℕ) (type : ElementType) (fill value : List ℕ)
     → IfOk result (λ _. IsMapWhere type arrays sizes) → AnswersBy memory (Holds type) result (chain_chunk f (chain_of arrays codec outer) sizes type fill value)
@@ -220,4 +220,4 @@ chunk_only (Ok held) f arrays codec outer sizes type fill value maps h chunk s =
     let is : chain_chunk f (chain_of arrays codec outer) sizes type fill value ≡ Ok chunk = chunk_only_so f arrays codec outer sizes type fill value chunk s ∙ ap ok (moved_back sizes s.map_is chunk m s.elements.count_is) in
     subst (λ (x : Result Chunk CodecError). AnswersBy memory (Holds type) (Ok held) x) is h
 chunk_only (Err e) f arrays codec outer sizes type fill value maps h chunk s =
-    λ ne. absurd (ok_no_err (moved (undone sizes s.map_is) (moved s.map_is chunk)) e (sym (chunk_only_so f arrays codec outer sizes type fill value chunk s) ∙ h ne))
+    λ ne. absurd (ok_no_err (moved_chunk (inverse_map sizes s.map_is) (moved_chunk s.map_is chunk)) e (sym (chunk_only_so f arrays codec outer sizes type fill value chunk s) ∙ h ne))

@@ -13,7 +13,7 @@ use Rattle.zarrs_array_bytes.specs.Elements.{elements}
 use Rattle.zarrs_array_bytes.specs.Held.{Held}
 use Rattle.zarrs_array_bytes.specs.Validity.{validity, sizes_fit, Holds}
 use Rattle.zarrs_codec.specs.BytesToBytesCodec.{BytesCodecs}
-use Rattle.zarrs_codec.specs.CoordinateMap.{CoordinateMap, IsCoordinateMap, moved, undone}
+use Rattle.zarrs_codec.specs.CoordinateMap.{CoordinateMap, IsCoordinateMap, moved_chunk, inverse_map}
 use Rattle.zarrs_codec.specs.MappedChunk.{encoded_chunk, decoded_chunk}
 use Rattle.zarrs_codec.specs.declared.bytes_representation.BytesRepresentation.{BytesRepresentation}
 use Rattle.zarrs_codec.specs.declared.bytes_representation.BytesRepresentation.TheVariants.{FixedSize}
@@ -84,7 +84,7 @@ refused_representation f chain sizes type fill error e =
 pub refused_chunk : {B : Type 0} (f : BytesCodecs B) (chain : PlainChain B) (sizes : List ℕ) (type : ElementType) (fill value : List ℕ) (error : CodecError) → taken_form f chain sizes type fill ≡ Err error → chain_chunk f chain sizes type fill value ≡ Err error
 refused_chunk f chain sizes type fill value error e =
     form_of (arrays_map type chain.arrays sizes) (λ s. codec_representation f chain.codec s type fill) error e Chunk
-    (λ m r. outer_bytes f chain.outer r value >>= (λ below. codec_chunk f chain.codec m.encoded type fill below >>= (λ chunk. Ok (moved (undone sizes m) chunk))))
+    (λ m r. outer_bytes f chain.outer r value >>= (λ below. codec_chunk f chain.codec m.encoded type fill below >>= (λ chunk. Ok (moved_chunk (inverse_map sizes m) chunk))))
 
 pub refused_value : {B : Type 0} (f : BytesCodecs B) (chain : PlainChain B) (sizes : List ℕ) (type : ElementType) (fill : List ℕ) (held : Held) (error : CodecError) → taken_form f chain sizes type fill ≡ Err error → held_value f chain sizes type fill held ≡ Err error
 refused_value f chain sizes type fill held error e = rw (refused_representation f chain sizes type fill error e) refl
@@ -138,7 +138,7 @@ validity_fits : (type : ElementType) (count : ℕ) (held : Held) → validity ty
 validity_fits type count held e = both_ok (sizes_fit type count) _ e
 
 pub encoded_so : {B : Type 0} (f : BytesCodecs B) (chain : PlainChain B) (sizes : List ℕ) (type : ElementType) (fill : List ℕ) (held : Held) (encoded : List ℕ) (r : BytesRepresentation) (t : IsTaken f chain sizes type fill encoded r) → validity type (product sizes) held ≡ Ok tt
-    → held_value f chain sizes type fill held ≡ codec_value f chain.codec t.map_is.encoded type (moved t.map_is (elements type (product sizes) held)) >>= (λ below. outer_value f chain.outer below)
+    → held_value f chain sizes type fill held ≡ codec_value f chain.codec t.map_is.encoded type (moved_chunk t.map_is (elements type (product sizes) held)) >>= (λ below. outer_value f chain.outer below)
 encoded_so f chain sizes type fill held encoded r t valid =
     let fits = validity_fits type (product sizes) held valid in
     rw (t.mapped, t.measured, valid, fits) refl
@@ -152,7 +152,7 @@ invalid_value f chain sizes type fill form held error e invalid =
 -- the container that the array codecs make holds the moved chunk
 moved_held : {B : Type 0} (f : BytesCodecs B) (chain : PlainChain B) (sizes : List ℕ) (type : ElementType) (fill : List ℕ) (held : Held) (encoded : List ℕ) (r : BytesRepresentation) (t : IsTaken f chain sizes type fill encoded r)
     → checked_u64 (product sizes) ≡ Ok (product sizes) → validity type (product sizes) held ≡ Ok tt
-    → encoded_chunk (Ok tt) (arrays_map type chain.arrays sizes) type sizes held ≡ Ok (moved t.map_is (elements type (product sizes) held))
+    → encoded_chunk (Ok tt) (arrays_map type chain.arrays sizes) type sizes held ≡ Ok (moved_chunk t.map_is (elements type (product sizes) held))
 moved_held f chain sizes type fill held encoded r t counted valid = rw (t.mapped, counted, valid) refl
 
 -- a want of memory is all that array codecs refuse of it
@@ -162,7 +162,7 @@ pub moving_refused : {B : Type 0} (f : BytesCodecs B) (chain : PlainChain B) (si
     → memory error ≡ false → P
 moving_refused f chain sizes type fill form held error P e counted valid found ne =
     let t = is_taken f chain sizes type fill form e in
-    let chunk = moved t.map_is (elements type (product sizes) held) in
+    let chunk = moved_chunk t.map_is (elements type (product sizes) held) in
     let answers : AnswersBy memory (Holds type) (Err error) (Ok chunk) = at_ok (encoded_chunk (Ok tt) (arrays_map type chain.arrays sizes) type sizes held) (λ (c : Chunk). AnswersBy memory (Holds type) (Err error) (Ok c)) chunk (moved_held f chain sizes type fill held form.0 form.1 t counted valid) found in
     absurd (ok_no_err chunk error (answers ne))
 
@@ -173,7 +173,7 @@ pub value_through : {B : Type 0} (f : BytesCodecs B) (chain : PlainChain B) (siz
     → held_value f chain sizes type fill held ≡ codec_held_value f chain.codec form.0 type fill made >>= (λ below. outer_value f chain.outer below)
 value_through f chain sizes type fill form held made maps e counted valid found =
     let t = is_taken f chain sizes type fill form e in
-    let chunk = moved t.map_is (elements type (product sizes) held) in
+    let chunk = moved_chunk t.map_is (elements type (product sizes) held) in
     let holds : Holds type made chunk = at_ok (encoded_chunk (Ok tt) (arrays_map type chain.arrays sizes) type sizes held) (λ (c : Chunk). Holds type made c) chunk (moved_held f chain sizes type fill held form.0 form.1 t counted valid) found in
     let long : length chunk ≡ product t.map_is.encoded = length-moved t.map_is (elements type (product sizes) held) in
     let made_valid : validity type (product t.map_is.encoded) made ≡ Ok tt = subst (λ (k : ℕ). validity type k made ≡ Ok tt) long holds.valid in
@@ -214,11 +214,11 @@ value_refused f chain sizes type fill form held made error maps e counted valid 
 -- the chunk is what the array codecs make of what the codec to bytes reads
 pub chunk_through : {B : Type 0} (f : BytesCodecs B) (chain : PlainChain B) (sizes : List ℕ) (type : ElementType) (fill : List ℕ) (form : List ℕ × BytesRepresentation) (value : List ℕ)
     → (e : taken_form f chain sizes type fill ≡ Ok form)
-    → chain_chunk f chain sizes type fill value ≡ outer_bytes f chain.outer form.1 value >>= (λ below. codec_chunk f chain.codec form.0 type fill below >>= (λ chunk. Ok (moved (undone sizes (is_taken f chain sizes type fill form e).map_is) chunk)))
+    → chain_chunk f chain sizes type fill value ≡ outer_bytes f chain.outer form.1 value >>= (λ below. codec_chunk f chain.codec form.0 type fill below >>= (λ chunk. Ok (moved_chunk (inverse_map sizes (is_taken f chain sizes type fill form e).map_is) chunk)))
 chunk_through f chain sizes type fill form value e =
     let t = is_taken f chain sizes type fill form e in
-    let whole : chain_chunk f chain sizes type fill value ≡ outer_bytes f chain.outer form.1 value >>= (λ below. codec_chunk f chain.codec t.map_is.encoded type fill below >>= (λ chunk. Ok (moved (undone sizes t.map_is) chunk))) = rw (t.mapped, t.measured) refl in
-    whole ∙ ap (λ s. outer_bytes f chain.outer form.1 value >>= (λ below. codec_chunk f chain.codec s type fill below >>= (λ chunk. Ok (moved (undone sizes t.map_is) chunk)))) t.encoded_is
+    let whole : chain_chunk f chain sizes type fill value ≡ outer_bytes f chain.outer form.1 value >>= (λ below. codec_chunk f chain.codec t.map_is.encoded type fill below >>= (λ chunk. Ok (moved_chunk (inverse_map sizes t.map_is) chunk))) = rw (t.mapped, t.measured) refl in
+    whole ∙ ap (λ s. outer_bytes f chain.outer form.1 value >>= (λ below. codec_chunk f chain.codec s type fill below >>= (λ chunk. Ok (moved_chunk (inverse_map sizes t.map_is) chunk)))) t.encoded_is
 
 -- a chunk that a codec to bytes reads has as many elements as were asked for
 pub chunk_count : {B : Type 0} (f : BytesCodecs B) (codec : ArrayToBytesCodec) (sizes : List ℕ) (type : ElementType) (fill value : List ℕ) (chunk : Chunk) → codec_chunk f (plain_codec codec) sizes type fill value ≡ Ok chunk → length chunk ≡ product sizes
@@ -236,11 +236,11 @@ content_refused f chain sizes type fill form value below error e opened refusal 
 -- the container of the chunk that the codec to bytes reads is one that the array codecs move back
 moved_back_held : {B : Type 0} (f : BytesCodecs B) (chain : PlainChain B) (sizes : List ℕ) (type : ElementType) (fill : List ℕ) (held : Held) (chunk : Chunk) (encoded : List ℕ) (r : BytesRepresentation) (t : IsTaken f chain sizes type fill encoded r)
     → checked_u64 (product sizes) ≡ Ok (product sizes) → length chunk ≡ product sizes → Holds type held chunk
-    → decoded_chunk (Ok tt) (arrays_map type chain.arrays sizes) type sizes held ≡ Ok (moved (undone sizes t.map_is) chunk)
+    → decoded_chunk (Ok tt) (arrays_map type chain.arrays sizes) type sizes held ≡ Ok (moved_chunk (inverse_map sizes t.map_is) chunk)
 moved_back_held f chain sizes type fill held chunk encoded r t counted long holds =
     let valid : validity type (product sizes) held ≡ Ok tt = subst (λ (k : ℕ). validity type k held ≡ Ok tt) long holds.valid in
     let is : elements type (product sizes) held ≡ chunk = subst (λ (k : ℕ). elements type k held ≡ chunk) long holds.elements_are in
-    rw (t.mapped, counted, valid) (ap (λ c. ok (moved (undone sizes t.map_is) c)) is)
+    rw (t.mapped, counted, valid) (ap (λ c. ok (moved_chunk (inverse_map sizes t.map_is) c)) is)
 
 pub held_chunk : (type : ElementType) (held : Held) (r : Result Chunk CodecError) → AnswersBy memory (Holds type) (Ok held) r → (chunk : Chunk) × (r ≡ Ok chunk) × Holds type held chunk
 held_chunk type held (Ok chunk) h = (chunk, refl, h)
@@ -259,7 +259,7 @@ chunk_back {B} f arrays codec outer sizes type fill form value below held r maps
     let c = held_chunk type held (codec_chunk f (plain_codec codec) form.0 type fill below) answers in
     let long : length c.0 ≡ product sizes = chunk_count f codec form.0 type fill below c.0 c.1 ∙ ap product (sym t.encoded_is) ∙ m.count in
     let counted = chain_counted f arrays codec outer sizes type fill form maps e in
-    let chunk = moved (undone sizes t.map_is) c.0 in
+    let chunk = moved_chunk (inverse_map sizes t.map_is) c.0 in
     let last : AnswersBy memory (Holds type) r (Ok chunk) = at_ok (decoded_chunk (Ok tt) (arrays_map type arrays sizes) type sizes held) (λ (x : Chunk). AnswersBy memory (Holds type) r (Ok x)) chunk (moved_back_held f chain sizes type fill held c.0 form.0 form.1 t counted long c.2) found in
-    let is : chain_chunk f chain sizes type fill value ≡ Ok chunk = chunk_through f chain sizes type fill form value e ∙ two_ok (outer_bytes f outer form.1 value) below (codec_chunk f (plain_codec codec) form.0 type fill) c.0 (λ (x : Chunk). ok (moved (undone sizes t.map_is) x)) opened c.1 in
+    let is : chain_chunk f chain sizes type fill value ≡ Ok chunk = chunk_through f chain sizes type fill form value e ∙ two_ok (outer_bytes f outer form.1 value) below (codec_chunk f (plain_codec codec) form.0 type fill) c.0 (λ (x : Chunk). ok (moved_chunk (inverse_map sizes t.map_is) x)) opened c.1 in
     subst (λ (x : Result Chunk CodecError). AnswersBy memory (Holds type) r x) (sym is) last

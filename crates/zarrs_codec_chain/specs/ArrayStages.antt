@@ -3,7 +3,7 @@ use Rattle.std.specs.Prelude.{ℕ, List, [], ◌∷◌, Result, Ok, IfOk}
 use Rattle.zarrs_chunk.specs.Answer.{◌>>=◌}
 use Rattle.zarrs_chunk.specs.declared.codec_error.CodecError.{CodecError}
 use Rattle.zarrs_data_type.specs.ElementType.{ElementType}
-use Rattle.zarrs_codec.specs.CoordinateMap.{CoordinateMap, IsCoordinateMap, same_places, composed}
+use Rattle.zarrs_codec.specs.CoordinateMap.{CoordinateMap, IsCoordinateMap, same_places, composition}
 use Rattle.zarrs_array_to_array.specs.ArrayToArrayCodec.{ArrayMapping, coordinates}
 use Rattle.zarrs_array_to_array.specs.CodecAnswers.{type_taken}
 
@@ -19,7 +19,7 @@ arrays_map type [] sizes = Ok (same_places sizes)
 arrays_map type (codec ∷ codecs) sizes = do
   first ← codec_map type codec sizes
   rest ← arrays_map type codecs first.encoded
-  Ok (composed first rest)
+  Ok (composition first rest)
 
 -- what they do is a coordinate map, where they take such chunks
 abbrev pub IsMapWhere : ElementType → List ArrayMapping → List ℕ → Type 0

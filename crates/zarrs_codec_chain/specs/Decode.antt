@@ -12,7 +12,7 @@ use Rattle.zarrs_data_type.specs.Element.{Element, plain, absent, present, Chunk
 use Rattle.zarrs_array_bytes.specs.Elements.{cut}
 use Rattle.zarrs_array_bytes.specs.Offsets.{rises, last_of}
 use Rattle.zarrs_codec.specs.BytesToBytesCodec.{BytesCodecs}
-use Rattle.zarrs_codec.specs.CoordinateMap.{moved, undone}
+use Rattle.zarrs_codec.specs.CoordinateMap.{moved_chunk, inverse_map}
 use Rattle.zarrs_array_to_array.specs.ArrayToArrayCodec.{ArrayMapping}
 use Rattle.zarrs_bytes.specs.ByteOrder.{bytes_of}
 use Rattle.zarrs_bytes.specs.BytesCodec.{bytes_chunk}
@@ -130,7 +130,7 @@ around_chunk f arrays measure content outer sizes type fill value = do
   r ← measure m.encoded type fill
   below ← outer_bytes f outer r value
   chunk ← content m.encoded type fill below
-  Ok (moved (undone sizes m) chunk)
+  Ok (moved_chunk (inverse_map sizes m) chunk)
 
 unfoldable pub codec_chunk : {B : Type 0} → BytesCodecs B → PlainCodec B → Decoder
 codec_chunk f (bytes_codec order) sizes type fill value = bytes_chunk order sizes type fill value

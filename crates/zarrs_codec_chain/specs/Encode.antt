@@ -12,7 +12,7 @@ use Rattle.zarrs_data_type.specs.Element.{Element, plain, absent, present, Chunk
 use Rattle.zarrs_array_bytes.specs.Pieces.{ends}
 use Rattle.zarrs_array_bytes.specs.Validity.{sizes_fit}
 use Rattle.zarrs_codec.specs.BytesToBytesCodec.{BytesCodecs}
-use Rattle.zarrs_codec.specs.CoordinateMap.{moved}
+use Rattle.zarrs_codec.specs.CoordinateMap.{moved_chunk}
 use Rattle.zarrs_array_to_array.specs.ArrayToArrayCodec.{ArrayMapping}
 use Rattle.zarrs_bytes.specs.ByteOrder.{bytes_of}
 use Rattle.zarrs_bytes.specs.BytesCodec.{spelling}
@@ -121,7 +121,7 @@ around_value f arrays measure content outer sizes type fill chunk = do
   _ ← around_representation f arrays measure outer sizes type fill
   _ ← sizes_fit type (product sizes)
   m ← arrays_map type arrays sizes
-  below ← content m.encoded type (moved m chunk)
+  below ← content m.encoded type (moved_chunk m chunk)
   outer_value f outer below
 
 unfoldable pub codec_value : {B : Type 0} → BytesCodecs B → PlainCodec B → ContentEncoder

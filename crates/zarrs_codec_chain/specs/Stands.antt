@@ -5,7 +5,7 @@ use Rattle.zarrs_data_type.specs.ElementType.{ElementType, optional}
 use Rattle.zarrs_data_type.specs.Element.{Chunk}
 use Rattle.zarrs_array_bytes.specs.Offsets.{rises, last_of}
 use Rattle.zarrs_codec.specs.BytesToBytesCodec.{BytesCodecs}
-use Rattle.zarrs_codec.specs.CoordinateMap.{CoordinateMap, moved}
+use Rattle.zarrs_codec.specs.CoordinateMap.{CoordinateMap, moved_chunk}
 use Rattle.zarrs_codec.specs.declared.bytes_representation.BytesRepresentation.{BytesRepresentation}
 use Rattle.zarrs_array_to_array.specs.ArrayToArrayCodec.{ArrayMapping}
 use Rattle.zarrs_bytes.specs.BytesCodec.{IsChunk, BytesStands}
@@ -76,7 +76,7 @@ pub record StandsThrough {B : Type 0} (f : BytesCodecs B) (arrays : List ArrayMa
   pub measured : measure map_is.encoded type fill ≡ Ok size
   pub elements : IsChunk type (product sizes) chunk
   pub opened : outer_bytes f outer size value ≡ Ok below
-  pub stands : content map_is.encoded type fill below (moved map_is chunk)
+  pub stands : content map_is.encoded type fill below (moved_chunk map_is chunk)
 
 unfoldable pub CodecStands : {B : Type 0} → BytesCodecs B → PlainCodec B → Standing
 CodecStands f (bytes_codec order) sizes type fill value chunk = BytesStands order sizes type fill value chunk

@@ -5,7 +5,7 @@ use Rattle.zarrs_data_type.specs.ElementType.{ElementType, optional}
 use Rattle.zarrs_data_type.specs.Element.{Element, Chunk}
 use Rattle.zarrs_array_bytes.specs.Validity.{sizes_fit}
 use Rattle.zarrs_codec.specs.BytesToBytesCodec.{BytesCodecs}
-use Rattle.zarrs_codec.specs.CoordinateMap.{CoordinateMap, moved}
+use Rattle.zarrs_codec.specs.CoordinateMap.{CoordinateMap, moved_chunk}
 use Rattle.zarrs_codec.specs.declared.bytes_representation.BytesRepresentation.{BytesRepresentation}
 use Rattle.zarrs_array_to_array.specs.ArrayToArrayCodec.{ArrayMapping}
 use Rattle.zarrs_bytes.specs.BytesCodec.{IsChunk, BytesWritten}
@@ -56,7 +56,7 @@ pub record WrittenThrough {B : Type 0} (f : BytesCodecs B) (arrays : List ArrayM
   pub measured : measure map_is.encoded type fill ≡ Ok size
   pub countable : sizes_fit type (product sizes) ≡ Ok tt
   pub elements : IsChunk type (product sizes) chunk
-  pub written : content map_is.encoded type fill below (moved map_is chunk)
+  pub written : content map_is.encoded type fill below (moved_chunk map_is chunk)
   pub around : OuterWritten f outer below value
 
 unfoldable pub CodecWritten : {B : Type 0} → BytesCodecs B → PlainCodec B → Standing

@@ -45,7 +45,7 @@ impl FailingHandle {
 impl BytesPartialDecoderTraits for FailingHandle {
     ghost use Rattle.std.specs.Prelude.{true, None};
     ghost use Rattle.zarrs_codec.specs.StorageState.{held_bytes};
-    ghost use Rattle.zarrs_codec.specs.MemoryHandle.{stored as stored_bytes};
+    ghost use Rattle.zarrs_codec.specs.MemoryHandle.{handle_value as stored_bytes};
 
     ghost state = { λ handle. record { value = stored_bytes handle.memory; sure = None; faults = handle.faults; failure = handle.failure; writes = 0 } };
 

@@ -5,7 +5,7 @@ use Rattle.zarrs_chunk.specs.Runs.{joined_runs}
 use Rattle.zarrs_array_bytes.specs.Elements.{piece, elements, select}
 use Rattle.zarrs_array_bytes.specs.Held.{flen, owned_bytes}
 use Rattle.zarrs_array_bytes.specs.Validity.{Holds}
-use Rattle.zarrs_codec.specs.CoordinateMap.{CoordinateMap, IsCoordinateMap, moved, origins}
+use Rattle.zarrs_codec.specs.CoordinateMap.{CoordinateMap, IsCoordinateMap, moved_chunk, origins}
 use Rattle.zarrs_metadata.proofs.Orders.{order_parts}
 use Rattle.zarrs_array_to_array.specs.Transpose.{transposition}
 use Rattle.zarrs_array_to_array.proofs.CoordinateMaps.{length-origins}
@@ -34,4 +34,4 @@ returns-in-Some-Ok-clause-exact c =
     let count : length (origins m) ≡ c.args.count = length-origins m ∙ map.count ∙ c.requires.count in
     let inside : All (λ place. place < c.args.count) (origins m) = rw c.requires.count at (origins_below sizes m map) in
     let holds = fixed_holds type c.args.count held (origins m) size items c.requires.valid (sym c.in-Some-Ok.ensures.value) c.in-Some-Ok.ensures'.answer count inside in
-    held_answers type (flen (owned_bytes (flat_map (piece size items) (origins m)))) (moved m (elements type c.args.count held)) c.transposed_fixed.result holds c.transposed_fixed.ensures.exact
+    held_answers type (flen (owned_bytes (flat_map (piece size items) (origins m)))) (moved_chunk m (elements type c.args.count held)) c.transposed_fixed.result holds c.transposed_fixed.ensures.exact
