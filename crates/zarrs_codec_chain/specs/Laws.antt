@@ -43,7 +43,7 @@ WrittenOnce {B} f =
 abbrev pub NormalTwice : Type 0 → Type 0
 NormalTwice B =
     (codec : PlainCodec B) (type : ElementType) (chunk : Chunk)
-    → is_flat codec ≡ true → AreElements type chunk → normal_form codec type (normal_form codec type chunk) ≡ normal_form codec type chunk
+    → AreElements type chunk → normal_form codec type (normal_form codec type chunk) ≡ normal_form codec type chunk
 
 -- What is written for a chunk of the sizes and the type is what is written for its normal form.
 abbrev pub WrittenForNormal : {B : Type 0} → BytesCodecs B → Type 0
