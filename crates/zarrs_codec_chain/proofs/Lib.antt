@@ -3,5 +3,8 @@ pub mod CodecSteps
 pub mod ChainSteps
 pub mod PackedElements
 pub mod NestedNormal
+pub mod NestedStages
+pub mod NestedStands
+pub mod NestedWritten
 pub mod ChainLaws
 pub mod ChainRelations
