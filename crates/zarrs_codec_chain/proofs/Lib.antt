@@ -6,5 +6,6 @@ pub mod NestedNormal
 pub mod NestedStages
 pub mod NestedStands
 pub mod NestedWritten
+pub mod NestedForNormal
 pub mod ChainLaws
 pub mod ChainRelations

@@ -61,7 +61,7 @@ NormalTwice B =
 abbrev pub WrittenForNormal : {B : Type 0} → BytesCodecs B → Type 0
 WrittenForNormal {B} f =
     (chain : PlainChain B) (sizes : List ℕ) (type : ElementType) (fill value : List ℕ) (chunk : Chunk)
-    → IsFlatChain chain → IsChunk type (product sizes) chunk → ChainWritten f chain sizes type fill value chunk ↔ ChainWritten f chain sizes type fill value (normal_form chain.codec type chunk)
+    → IsChunk type (product sizes) chunk → ChainWritten f chain sizes type fill value chunk ↔ ChainWritten f chain sizes type fill value (normal_form chain.codec type chunk)
 
 -- Two chunks are written alike exactly if their normal forms are equal.
 abbrev pub WrittenAlike : {B : Type 0} → BytesCodecs B → Type 0
