@@ -7,5 +7,7 @@ pub mod NestedStages
 pub mod NestedStands
 pub mod NestedWritten
 pub mod NestedForNormal
+pub mod NestedGrowth
+pub mod NestedKept
 pub mod ChainLaws
 pub mod ChainRelations

@@ -52,7 +52,7 @@ all_ordered None width components xs h = h
 all_ordered (Some Little) width components xs h = h
 all_ordered (Some Big) width components xs h = all_pieces (component_bytes width) xs (range_with_len 0 components) h
 
-element_bytes : (element : Element) → HasBytes element → AreBytes (bytes_of element)
+pub element_bytes : (element : Element) → HasBytes element → AreBytes (bytes_of element)
 element_bytes (plain items) h = h
 element_bytes absent h = All-nil is_byte
 element_bytes (present element) h = All-nil is_byte

@@ -75,5 +75,5 @@ WrittenAlike {B} f =
 abbrev pub WrittenKeeps : {B : Type 0} → BytesCodecs B → Type 0
 WrittenKeeps {B} f =
     (chain : PlainChain B) (sizes : List ℕ) (type : ElementType) (fill value : List ℕ) (chunk : Chunk) (r : BytesRepresentation)
-    → IsLawful f → IsFlatChain chain → All HasBytes chunk → All (λ size. 0 < size) sizes
+    → IsLawful f → IsChainOfMappings chain → All HasBytes chunk → All (λ size. 0 < size) sizes
     → ChainWritten f chain sizes type fill value chunk → chain_representation f chain sizes type fill ≡ Ok r → KeepsTo r value
