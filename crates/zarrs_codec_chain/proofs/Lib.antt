@@ -9,5 +9,8 @@ pub mod NestedWritten
 pub mod NestedForNormal
 pub mod NestedGrowth
 pub mod NestedKept
+pub mod NestedRows
+pub mod NestedFlags
+pub mod NestedWrittenStands
 pub mod ChainLaws
 pub mod ChainRelations

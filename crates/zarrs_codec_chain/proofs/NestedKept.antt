@@ -87,16 +87,16 @@ offset_are false offset = low_first 0 4 offset
 
 -- ---- bytes of the chunks of inner chains
 
-offsets_have : (wide : Bool) (offsets : List ℕ) → All HasBytes (offset_elements wide offsets)
+pub offsets_have : (wide : Bool) (offsets : List ℕ) → All HasBytes (offset_elements wide offsets)
 offsets_have wide [] = All-nil HasBytes
 offsets_have wide (offset ∷ offsets) = All-cons HasBytes (plain (offset_bytes wide offset)) (offset_elements wide offsets) (offset_are wide offset) (offsets_have wide offsets)
 
-items_have : (items : List ℕ) → AreBytes items → All HasBytes (byte_elements items)
+pub items_have : (items : List ℕ) → AreBytes items → All HasBytes (byte_elements items)
 items_have [] h = All-nil HasBytes
 items_have (byte ∷ items) h =
     All-cons HasBytes (plain (byte ∷ [])) (byte_elements items) (All-cons is_byte byte [] (All-head is_byte byte items h) (All-nil is_byte)) (items_have items (All-tail is_byte byte items h))
 
-all_are : (chunk : Chunk) → All HasBytes chunk → AreBytes (all_bytes chunk)
+pub all_are : (chunk : Chunk) → All HasBytes chunk → AreBytes (all_bytes chunk)
 all_are [] h = All-nil is_byte
 all_are (element ∷ chunk) h = All-append is_byte (bytes_of element) (all_bytes chunk) (element_bytes element (All-head HasBytes element chunk h)) (all_are chunk (All-tail HasBytes element chunk h))
 
@@ -105,11 +105,11 @@ flag_has (plain items) = All-cons is_byte 0 [] (omega arith) (All-nil is_byte)
 flag_has absent = All-cons is_byte 0 [] (omega arith) (All-nil is_byte)
 flag_has (present element) = All-cons is_byte 1 [] (omega arith) (All-nil is_byte)
 
-flags_have : (chunk : Chunk) → All HasBytes (map flag_of chunk)
+pub flags_have : (chunk : Chunk) → All HasBytes (map flag_of chunk)
 flags_have [] = All-nil HasBytes
 flags_have (element ∷ chunk) = All-cons HasBytes (flag_of element) (map flag_of chunk) (flag_has element) (flags_have chunk)
 
-present_have : (chunk : Chunk) → All HasBytes chunk → All HasBytes (present_of chunk)
+pub present_have : (chunk : Chunk) → All HasBytes chunk → All HasBytes (present_of chunk)
 present_have [] h = All-nil HasBytes
 present_have (plain items ∷ chunk) h = present_have chunk (All-tail HasBytes (plain items) chunk h)
 present_have (absent ∷ chunk) h = present_have chunk (All-tail HasBytes absent chunk h)

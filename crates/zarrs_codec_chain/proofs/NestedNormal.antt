@@ -29,7 +29,7 @@ KeepsTwice keep = (type : ElementType) (element : Element) → IsElement type el
 
 -- ---- types
 
-vlen_is : (keep : Keeping) → KeepsTypes (vlen_normal keep)
+pub vlen_is : (keep : Keeping) → KeepsTypes (vlen_normal keep)
 vlen_is keep (fixed width components sign) element h = h
 vlen_is keep text (plain items) h = tt
 vlen_is keep text absent h = h
@@ -39,7 +39,7 @@ vlen_is keep bytes absent h = h
 vlen_is keep bytes (present element) h = h
 vlen_is keep (optional type) element h = h
 
-optional_is : (keep : Keeping) → KeepsTypes keep → KeepsTypes (optional_normal keep)
+pub optional_is : (keep : Keeping) → KeepsTypes keep → KeepsTypes (optional_normal keep)
 optional_is keep k (fixed width components sign) element h = h
 optional_is keep k text element h = h
 optional_is keep k bytes element h = h

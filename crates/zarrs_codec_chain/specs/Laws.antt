@@ -35,7 +35,7 @@ pub record IsFlatChain {B : Type 0} (chain : PlainChain B) : Type 0 where
 abbrev pub WrittenStands : {B : Type 0} → BytesCodecs B → Type 0
 WrittenStands {B} f =
     (chain : PlainChain B) (sizes : List ℕ) (type : ElementType) (fill value : List ℕ) (chunk : Chunk)
-    → IsLawful f → IsFlatChain chain → All HasBytes chunk → All (λ size. 0 < size) sizes
+    → IsLawful f → IsChainOfMappings chain → All HasBytes chunk → All (λ size. 0 < size) sizes
     → ChainWritten f chain sizes type fill value chunk → ChainStands f chain sizes type fill value (normal_form chain.codec type chunk)
 
 -- A value stands for at most one chunk.
