@@ -12,5 +12,4 @@ pub mod NestedKept
 pub mod NestedRows
 pub mod NestedFlags
 pub mod NestedWrittenStands
-pub mod ChainLaws
 pub mod ChainRelations

@@ -1,6 +1,6 @@
 -- Written values are bytes, as many as was said, by chains with chains inside too.
-use Rattle.std.proofs.Common.{◌≡◌, ℕ, zero, suc, ◌+◌, ◌*◌, ◌/◌, ◌%◌, ◌<◌, ◌≤◌, ◌^◌, nat_lt, if◌then◌else◌, Bool, true, false, List, [], ◌∷◌, ◌++◌, length, map, Result, Ok, Err, arith, refl, ap, sym, subst, ◌∙◌}
-use Rattle.std.specs.Int.{w32, w64, byte_at, bytes_low_first}
+use Rattle.std.proofs.Common.{◌≡◌, ℕ, zero, suc, ◌+◌, ◌/◌, ◌<◌, ◌≤◌, ◌^◌, nat_lt, if◌then◌else◌, Bool, true, false, List, [], ◌∷◌, ◌++◌, length, map, Result, Ok, Err, arith, refl, ap, sym, subst, ◌∙◌}
+use Rattle.std.specs.Int.{byte_at, bytes_low_first}
 use Rattle.std.specs.List.{All}
 use Rattle.std.proofs.lemmas.List.{length-append}
 use Rattle.std.proofs.lemmas.List.Elements.{All-append, All-nil, All-cons, All-head, All-tail}
@@ -22,18 +22,17 @@ use Rattle.zarrs_packbits.specs.Laws.{HasBytes}
 use Rattle.zarrs_packbits.specs.PackBitsSettings.{packbits_length}
 use Rattle.zarrs_packbits.proofs.CodecLaws as packbits
 use Rattle.zarrs_codec_chain.specs.PlainChain.{PlainCodec, bytes_codec, packbits_codec, vlen_codec, optional_codec, PlainChain}
-use Rattle.zarrs_codec_chain.specs.ArrayStages.{arrays_map}
 use Rattle.zarrs_codec_chain.specs.BytesStages.{outer_representation, OuterWritten}
 use Rattle.zarrs_codec_chain.specs.Encode.{chunk_offsets, offset_bytes, length_bytes, offset_elements, byte_elements, all_bytes, vlen_layout, flag_of, present_of, optional_layout}
 use Rattle.zarrs_codec_chain.specs.Laws.{HasMappings, IsChainOfMappings}
 use Rattle.zarrs_codec_chain.specs.NormalForm.{normal_element}
 use Rattle.zarrs_codec_chain.specs.Representation.{Measure, flag_type, byte_type, offset_type, blank_fill, bounded, both_representations, optional_representation, around_representation, codec_representation, chain_representation}
 use Rattle.zarrs_codec_chain.specs.Stands.{Standing}
-use Rattle.zarrs_codec_chain.specs.Written.{PartWritten, VlenWritten, OptionalWritten, OptionalWrittenFor, WrittenThrough, CodecWritten, ChainWritten}
-use Rattle.zarrs_codec_chain.proofs.ArraySteps.{ok, ok_is}
-use Rattle.zarrs_codec_chain.proofs.NestedGrowth.{Grows, IsBoth, is_both, vlen_unbounded, inner_grows}
+use Rattle.zarrs_codec_chain.specs.Written.{PartWritten, VlenWritten, OptionalWrittenFor, WrittenThrough, CodecWritten, ChainWritten}
+use Rattle.zarrs_codec_chain.proofs.ArraySteps.{ok_is}
+use Rattle.zarrs_codec_chain.proofs.NestedGrowth.{Grows, is_both, vlen_unbounded, inner_grows}
 use Rattle.zarrs_codec_chain.proofs.NestedNormal.{Keeping}
-use Rattle.zarrs_codec_chain.proofs.NestedStages.{all_selected, spelling_bytes, element_bytes, outer_small, outer_opened, arrays_are_map, row_positive}
+use Rattle.zarrs_codec_chain.proofs.NestedStages.{all_selected, spelling_bytes, element_bytes, outer_opened, arrays_are_map, row_positive}
 use Rattle.zarrs_codec_chain.proofs.PackedElements.{packed_bytes}
 
 -- bytes, as many as was said

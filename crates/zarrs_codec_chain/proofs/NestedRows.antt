@@ -1,8 +1,5 @@
 -- Parts of values and of chunks that are found again.
-use Rattle.std.proofs.Common.{◌≡◌, ℕ, zero, suc, ◌+◌, ◌<◌, ◌≤◌, ◌^◌, nat_lt, nat_le, ◌&&◌, Bool, true, false, List, [], ◌∷◌, ◌++◌, length, get_or, take, drop, map, arith, add-one, refl, ap, sym, subst, ◌∙◌}
-use Rattle.std.specs.Int.{w64}
-use Rattle.std.specs.List.{All, flat_map, range_with_len}
-use Rattle.std.proofs.lemmas.Bool.Decides.{nat_tests}
+use Rattle.std.proofs.Common.{◌≡◌, ℕ, suc, ◌+◌, ◌<◌, ◌≤◌, ◌^◌, Bool, true, false, List, [], ◌∷◌, ◌++◌, length, get_or, map, arith, add-one, refl, ap, sym, ◌∙◌}
 use Rattle.std.proofs.lemmas.List.{ext_get_or, length-append}
 use Rattle.std.proofs.lemmas.List.FromFn.{length-map-range_with_len, get_or-map-range_with_len}
 use Rattle.std.proofs.lemmas.Nat.{from_le_bytes-to_le_bytes_8, from_le_bytes-to_le_bytes_4}
@@ -15,7 +12,7 @@ use Rattle.zarrs_array_bytes.proofs.ElementLemmas.{cut_at, length_ends}
 use Rattle.zarrs_array_bytes.proofs.OffsetLemmas.{ends_rise, offsets_end}
 use Rattle.zarrs_bytes.specs.ByteOrder.{bytes_of}
 use Rattle.zarrs_codec_chain.specs.Decode.{length_of, offset_of, offsets_in_chunk, slices}
-use Rattle.zarrs_codec_chain.specs.Encode.{chunk_offsets, offset_bytes, length_bytes, offset_elements, offset_fits, byte_elements, all_bytes, vlen_layout, present_of}
+use Rattle.zarrs_codec_chain.specs.Encode.{chunk_offsets, offset_bytes, length_bytes, offset_elements, offset_fits, byte_elements, all_bytes, vlen_layout}
 use Rattle.zarrs_codec_chain.specs.Representation.{is_variable}
 use Rattle.zarrs_codec_chain.specs.Stands.{arranged}
 use Rattle.zarrs_packbits.proofs.Tests.{from_nat_lt, to_nat_lt}

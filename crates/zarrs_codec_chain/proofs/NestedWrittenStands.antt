@@ -1,14 +1,13 @@
 -- What is written for a chunk stands for its normal form, through chains inside too.
-use Rattle.std.proofs.Common.{◌≡◌, ◌↔◌, ℕ, zero, suc, ◌+◌, ◌<◌, ◌^◌, nat_lt, Bool, true, false, List, [], ◌∷◌, ◌++◌, length, get_or, map, Result, Ok, arith, refl, ap, sym, subst, ◌∙◌}
+use Rattle.std.proofs.Common.{◌≡◌, ◌↔◌, ℕ, zero, suc, ◌+◌, ◌<◌, ◌^◌, nat_lt, Bool, true, List, [], ◌∷◌, ◌++◌, length, get_or, map, Ok, arith, refl, ap, sym, subst, ◌∙◌}
 use Rattle.std.specs.List.{All}
 use Rattle.std.proofs.lemmas.List.{length-append, length-map, map-id}
 use Rattle.std.proofs.lemmas.List.Elements.{All-nil, All-cons, All-head, All-tail}
-use Rattle.zarrs_chunk.specs.Answer.{demand, checked_u64}
+use Rattle.zarrs_chunk.specs.Answer.{demand}
 use Rattle.zarrs_chunk.specs.ChunkShape.{product}
-use Rattle.zarrs_chunk.specs.declared.codec_error.CodecError.TheVariants.{UnsupportedDataType, Overflow}
-use Rattle.zarrs_chunk.specs.declared.codec_error.CodecName.TheVariants as codec
-use Rattle.zarrs_data_type.specs.ElementType.{ElementType, fixed, text, bytes, optional, element_size}
-use Rattle.zarrs_data_type.specs.Element.{Element, plain, absent, present, Chunk, IsElement, AreElements}
+use Rattle.zarrs_chunk.specs.declared.codec_error.CodecError.TheVariants.{Overflow}
+use Rattle.zarrs_data_type.specs.ElementType.{ElementType, fixed, text, bytes, optional}
+use Rattle.zarrs_data_type.specs.Element.{Element, absent, Chunk, IsElement, AreElements}
 use Rattle.zarrs_array_bytes.specs.Offsets.{rises, last_of}
 use Rattle.zarrs_array_bytes.specs.Validity.{sizes_fit}
 use Rattle.zarrs_codec.specs.BytesToBytesCodec.{BytesCodecs, IsLawful}
@@ -28,9 +27,8 @@ use Rattle.zarrs_codec_chain.specs.Encode.{chunk_offsets, offset_bytes, length_b
 use Rattle.zarrs_codec_chain.specs.Laws.{HasMappings, IsChainOfMappings}
 use Rattle.zarrs_codec_chain.specs.NormalForm.{vlen_normal, optional_normal, normal_element, normal_form}
 use Rattle.zarrs_codec_chain.specs.Representation.{Measure, is_variable, flag_type, byte_type, offset_type, blank_fill, vlen_representation, codec_representation}
-use Rattle.zarrs_codec_chain.specs.Stands.{Standing, PartStands, VlenStands, OptionalStands, OptionalStandsFor, StandsThrough, CodecStands, ChainStands}
-use Rattle.zarrs_codec_chain.specs.Written.{PartWritten, VlenWritten, OptionalWritten, OptionalWrittenFor, WrittenThrough, CodecWritten, ChainWritten}
-use Rattle.zarrs_codec_chain.proofs.ArraySteps.{bind_ok}
+use Rattle.zarrs_codec_chain.specs.Stands.{Standing, PartStands, VlenStands, OptionalStandsFor, StandsThrough, CodecStands, ChainStands}
+use Rattle.zarrs_codec_chain.specs.Written.{PartWritten, VlenWritten, OptionalWrittenFor, WrittenThrough, CodecWritten, ChainWritten}
 use Rattle.zarrs_codec_chain.proofs.NestedFlags.{KeepsFlags, keeps_flags, flags_stay}
 use Rattle.zarrs_codec_chain.proofs.NestedForNormal.{IsStringKept, text_kept, bytes_kept, offsets_kept, all_kept, items_kept, flags_kept, present_kept, normal_as_written}
 use Rattle.zarrs_codec_chain.proofs.NestedKept.{KeepsSize, codec_keeps, offsets_have, items_have, all_are, flags_have, present_have}
@@ -211,8 +209,7 @@ pub chain_alike : {B : Type 0} (f : BytesCodecs B) (chain : PlainChain B) (sizes
     → ChainWritten f chain sizes type fill value chunk → ChainWritten f chain sizes type fill other_value other → (value ≡ other_value) ↔ (normal_form chain.codec type chunk ≡ normal_form chain.codec type other)
 chain_alike f chain sizes type fill value other_value chunk other lawful is each also positive a b =
     let first = normal_form chain.codec type chunk in
-    let second = normal_form chain.codec type other in
-    (
+    let second = normal_form chain.codec type other in (
       λ e. chain_one f chain is sizes type fill value first second positive (chain_stands f chain lawful is sizes type fill value chunk positive each a) (subst (λ v. ChainStands f chain sizes type fill v second) (sym e) (chain_stands f chain lawful is sizes type fill other_value other positive also b)),
       λ e. chain_once f chain sizes type fill value other_value first (normal_as_written f chain sizes type fill value chunk a) (subst (ChainWritten f chain sizes type fill other_value) (sym e) (normal_as_written f chain sizes type fill other_value other b)),
     )

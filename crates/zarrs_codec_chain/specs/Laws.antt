@@ -1,5 +1,5 @@
--- Laws of chains: of those without chains inside, and of lawful bytes codecs.
-use Rattle.std.specs.Prelude.{◌≡◌, ◌<◌, ◌↔◌, ℕ, true, List, Ok, All}
+-- Laws of chains, those with chains inside too, and of lawful bytes codecs.
+use Rattle.std.specs.Prelude.{◌≡◌, ◌<◌, ◌↔◌, ℕ, List, Ok, All}
 use Rattle.zarrs_data_type.specs.ElementType.{ElementType}
 use Rattle.zarrs_chunk.specs.ChunkShape.{product}
 use Rattle.zarrs_data_type.specs.Element.{Chunk, AreElements}
@@ -8,7 +8,7 @@ use Rattle.zarrs_codec.specs.declared.bytes_representation.BytesRepresentation.{
 use Rattle.zarrs_array_to_array.specs.ArrayToArrayCodec.{IsMapping}
 use Rattle.zarrs_bytes.specs.BytesCodec.{IsChunk}
 use Rattle.zarrs_packbits.specs.Laws.{HasBytes}
-use Rattle.zarrs_codec_chain.specs.PlainChain.{PlainCodec, bytes_codec, packbits_codec, vlen_codec, optional_codec, PlainChain, is_flat}
+use Rattle.zarrs_codec_chain.specs.PlainChain.{PlainCodec, bytes_codec, packbits_codec, vlen_codec, optional_codec, PlainChain}
 use Rattle.zarrs_codec_chain.specs.NormalForm.{normal_form}
 use Rattle.zarrs_codec_chain.specs.Representation.{chain_representation}
 use Rattle.zarrs_codec_chain.specs.Stands.{ChainStands}
@@ -25,11 +25,6 @@ HasMappings (optional_codec ma mx mb da dx db) = All IsMapping ma × HasMappings
 pub record IsChainOfMappings {B : Type 0} (chain : PlainChain B) : Type 0 where
   pub mappings : All IsMapping chain.arrays
   pub inside : HasMappings chain.codec
-
--- a chain without chains inside, whose array codecs are what their types hold to
-pub record IsFlatChain {B : Type 0} (chain : PlainChain B) : Type 0 where
-  pub flat : is_flat chain.codec ≡ true
-  pub mappings : All IsMapping chain.arrays
 
 -- What is written for a chunk stands for its normal form.
 abbrev pub WrittenStands : {B : Type 0} → BytesCodecs B → Type 0
@@ -67,7 +62,7 @@ WrittenForNormal {B} f =
 abbrev pub WrittenAlike : {B : Type 0} → BytesCodecs B → Type 0
 WrittenAlike {B} f =
     (chain : PlainChain B) (sizes : List ℕ) (type : ElementType) (fill value other_value : List ℕ) (chunk other : Chunk)
-    → IsLawful f → IsFlatChain chain → All HasBytes chunk → All HasBytes other → All (λ size. 0 < size) sizes
+    → IsLawful f → IsChainOfMappings chain → All HasBytes chunk → All HasBytes other → All (λ size. 0 < size) sizes
     → ChainWritten f chain sizes type fill value chunk → ChainWritten f chain sizes type fill other_value other
     → (value ≡ other_value) ↔ (normal_form chain.codec type chunk ≡ normal_form chain.codec type other)
 
