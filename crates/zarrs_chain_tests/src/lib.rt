@@ -6,4 +6,8 @@
 #[cfg(test)]
 mod checks;
 #[cfg(test)]
+mod packed_rows;
+#[cfg(test)]
+mod parts;
+#[cfg(test)]
 mod rows;
