@@ -12,6 +12,7 @@ use Rattle.zarrs_data_type.specs.Element.{Element, plain, absent, present, Chunk
 use Rattle.zarrs_data_type.specs.declared.endianness.Endianness.{Endianness}
 use Rattle.zarrs_data_type.specs.declared.endianness.Endianness.TheVariants.{Little, Big}
 use Rattle.zarrs_array_bytes.specs.Elements.{piece, select}
+use Rattle.zarrs_array_bytes.specs.Update.{update}
 use Rattle.zarrs_codec.specs.BytesToBytesCodec.{BytesCodecs, IsLawful, AreBytes, IsValue, KeepsTo}
 use Rattle.zarrs_codec.specs.CoordinateMap.{CoordinateMap, IsCoordinateMap, composition, origins, moved_chunk, inverse_map}
 use Rattle.zarrs_codec.specs.declared.bytes_representation.BytesRepresentation.{BytesRepresentation}
@@ -143,6 +144,17 @@ normal_selected (bytes_codec order) type chunk places h = map-id (select chunk p
 normal_selected (packbits_codec settings) type chunk places h = packbits.normal_selected settings type chunk places
 normal_selected (vlen_codec ia ix ib da dx db wide at_end) type chunk places h = absurd cc
 normal_selected (optional_codec ma mx mb da dx db) type chunk places h = absurd cc
+
+pub normal_moved : {B : Type 0} (codec : PlainCodec B) (type : ElementType) (m : CoordinateMap) (chunk : Chunk) → is_flat codec ≡ true → normal_form codec type (moved_chunk m chunk) ≡ moved_chunk m (normal_form codec type chunk)
+normal_moved codec type m chunk h = normal_selected codec type chunk (origins m) h
+
+pub normal_updated : {B : Type 0} (codec : PlainCodec B) (type : ElementType) (chunk : Chunk) (places : List ℕ) (new : Chunk) → is_flat codec ≡ true → normal_form codec type (update chunk places new) ≡ update (normal_form codec type chunk) places (normal_form codec type new)
+unfolding normal_element
+normal_updated (bytes_codec order) type chunk places new h =
+    map-id (update chunk places new) ∙ ap (λ (c : Chunk). update c places new) (sym (map-id chunk)) ∙ ap (λ (c : Chunk). update (map (λ (element : Element). element) chunk) places c) (sym (map-id new))
+normal_updated (packbits_codec settings) type chunk places new h = packbits.normal_updated settings type chunk places new
+normal_updated (vlen_codec ia ix ib da dx db wide at_end) type chunk places new h = absurd cc
+normal_updated (optional_codec ma mx mb da dx db) type chunk places new h = absurd cc
 
 normal_elements : {B : Type 0} (codec : PlainCodec B) (type : ElementType) (count : ℕ) (chunk : Chunk) → is_flat codec ≡ true → IsChunk type count chunk → IsChunk type count (normal_form codec type chunk)
 unfolding normal_element
