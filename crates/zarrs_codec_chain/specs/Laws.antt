@@ -3,6 +3,8 @@ use Rattle.std.specs.Prelude.{◌≡◌, ◌<◌, ◌↔◌, ℕ, List, Ok, All}
 use Rattle.zarrs_data_type.specs.ElementType.{ElementType}
 use Rattle.zarrs_chunk.specs.ChunkShape.{product}
 use Rattle.zarrs_data_type.specs.Element.{Chunk, AreElements}
+use Rattle.zarrs_array_bytes.specs.Update.{update}
+use Rattle.zarrs_codec.specs.CoordinateMap.{CoordinateMap, moved_chunk}
 use Rattle.zarrs_codec.specs.BytesToBytesCodec.{BytesCodecs, IsLawful, KeepsTo}
 use Rattle.zarrs_codec.specs.declared.bytes_representation.BytesRepresentation.{BytesRepresentation}
 use Rattle.zarrs_array_to_array.specs.ArrayToArrayCodec.{IsMapping}
@@ -51,6 +53,18 @@ abbrev pub NormalTwice : Type 0 → Type 0
 NormalTwice B =
     (codec : PlainCodec B) (type : ElementType) (chunk : Chunk)
     → AreElements type chunk → normal_form codec type (normal_form codec type chunk) ≡ normal_form codec type chunk
+
+-- The normal form of a chunk that array codecs move is the normal form moved.
+abbrev pub NormalMoved : Type 0 → Type 0
+NormalMoved B =
+    (codec : PlainCodec B) (type : ElementType) (m : CoordinateMap) (chunk : Chunk)
+    → normal_form codec type (moved_chunk m chunk) ≡ moved_chunk m (normal_form codec type chunk)
+
+-- The normal form of an updated chunk is the normal form updated with that of the new elements.
+abbrev pub NormalUpdated : Type 0 → Type 0
+NormalUpdated B =
+    (codec : PlainCodec B) (type : ElementType) (chunk : Chunk) (places : List ℕ) (new : Chunk)
+    → normal_form codec type (update chunk places new) ≡ update (normal_form codec type chunk) places (normal_form codec type new)
 
 -- What is written for a chunk of the sizes and the type is what is written for its normal form.
 abbrev pub WrittenForNormal : {B : Type 0} → BytesCodecs B → Type 0

@@ -21,7 +21,9 @@ use zarrs_packbits::PackBitsCodec;
 /// A codec of chunks to bytes.
 #[derive(Clone, Copy, Debug)]
 pub enum ArrayToBytesCodec {
+    /// The bytes of the elements (codec `bytes`).
     Bytes(BytesCodec),
+    /// Some bits of each component (codec `packbits`).
     PackBits(PackBitsCodec),
 }
 
