@@ -12,4 +12,6 @@ pub mod NestedKept
 pub mod NestedRows
 pub mod NestedFlags
 pub mod NestedWrittenStands
+pub mod NestedEncode
+pub mod NestedFound
 pub mod ChainRelations

@@ -156,7 +156,7 @@ get_or_any (x ∷ chunk) zero d e l = refl
 get_or_any (x ∷ chunk) (suc k) d e l = get_or_any chunk k d e (omega (arith, l))
 
 -- moved elements are elements of the type
-moved_is : (sizes : List ℕ) (type : ElementType) (m : CoordinateMap) (chunk : Chunk) → IsCoordinateMap sizes m → IsChunk type (product sizes) chunk → IsChunk type (product m.encoded) (moved_chunk m chunk)
+pub moved_is : (sizes : List ℕ) (type : ElementType) (m : CoordinateMap) (chunk : Chunk) → IsCoordinateMap sizes m → IsChunk type (product sizes) chunk → IsChunk type (product m.encoded) (moved_chunk m chunk)
 moved_is sizes type m chunk h is = record {
   count_is = length-moved m chunk;
   each = λ k d l.

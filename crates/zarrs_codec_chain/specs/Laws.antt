@@ -11,6 +11,7 @@ use Rattle.zarrs_array_to_array.specs.ArrayToArrayCodec.{IsMapping}
 use Rattle.zarrs_bytes.specs.BytesCodec.{IsChunk}
 use Rattle.zarrs_packbits.specs.Laws.{HasBytes}
 use Rattle.zarrs_codec_chain.specs.PlainChain.{PlainCodec, bytes_codec, packbits_codec, vlen_codec, optional_codec, PlainChain}
+use Rattle.zarrs_codec_chain.specs.Encode.{chain_value}
 use Rattle.zarrs_codec_chain.specs.NormalForm.{normal_form}
 use Rattle.zarrs_codec_chain.specs.Representation.{chain_representation}
 use Rattle.zarrs_codec_chain.specs.Stands.{ChainStands}
@@ -47,6 +48,13 @@ abbrev pub WrittenOnce : {B : Type 0} → BytesCodecs B → Type 0
 WrittenOnce {B} f =
     (chain : PlainChain B) (sizes : List ℕ) (type : ElementType) (fill value other : List ℕ) (chunk : Chunk)
     → ChainWritten f chain sizes type fill value chunk → ChainWritten f chain sizes type fill other chunk → value ≡ other
+
+-- A chain answers a value for a chunk of the sizes and the type exactly where the value is written for it.
+abbrev pub ValueIsWritten : {B : Type 0} → BytesCodecs B → Type 0
+ValueIsWritten {B} f =
+    (chain : PlainChain B) (sizes : List ℕ) (type : ElementType) (fill value : List ℕ) (chunk : Chunk)
+    → IsChainOfMappings chain → All (λ size. 0 < size) sizes → IsChunk type (product sizes) chunk
+    → (chain_value f chain sizes type fill chunk ≡ Ok value) ↔ ChainWritten f chain sizes type fill value chunk
 
 -- The normal form of a normal form is the same, for elements of the type.
 abbrev pub NormalTwice : Type 0 → Type 0

@@ -1,7 +1,7 @@
 //! Laws over the definitions alone: each function's contract is one. They are of all chains, those
 //! with chains inside too.
 ghost use Rattle.zarrs_codec.specs.BytesToBytesCodec.{BytesCodecs};
-ghost use Rattle.zarrs_codec_chain.specs.Laws.{WrittenStands, StandsForOne, WrittenOnce, NormalTwice, NormalMoved, NormalUpdated, WrittenForNormal, WrittenAlike, WrittenKeeps};
+ghost use Rattle.zarrs_codec_chain.specs.Laws.{WrittenStands, StandsForOne, WrittenOnce, ValueIsWritten, NormalTwice, NormalMoved, NormalUpdated, WrittenForNormal, WrittenAlike, WrittenKeeps};
 
 /// What is written for a chunk stands for its normal form.
 pub fn written_stands<B>()
@@ -16,6 +16,11 @@ pub fn stands_for_one<B>()
 /// For a chunk at most one value is written.
 pub fn written_once<B>()
     ensures law { (f : BytesCodecs B) → WrittenOnce f }
+{}
+
+/// A chain answers a value for a chunk exactly where the value is written for it.
+pub fn value_is_written<B>()
+    ensures law { (f : BytesCodecs B) → ValueIsWritten f }
 {}
 
 /// The normal form of a normal form is the same, and the same value is written for it.
