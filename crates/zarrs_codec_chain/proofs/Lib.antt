@@ -14,4 +14,5 @@ pub mod NestedFlags
 pub mod NestedWrittenStands
 pub mod NestedEncode
 pub mod NestedFound
+pub mod NestedDecode
 pub mod ChainRelations

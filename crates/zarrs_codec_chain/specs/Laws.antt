@@ -11,6 +11,7 @@ use Rattle.zarrs_array_to_array.specs.ArrayToArrayCodec.{IsMapping}
 use Rattle.zarrs_bytes.specs.BytesCodec.{IsChunk}
 use Rattle.zarrs_packbits.specs.Laws.{HasBytes}
 use Rattle.zarrs_codec_chain.specs.PlainChain.{PlainCodec, bytes_codec, packbits_codec, vlen_codec, optional_codec, PlainChain}
+use Rattle.zarrs_codec_chain.specs.Decode.{chain_chunk}
 use Rattle.zarrs_codec_chain.specs.Encode.{chain_value}
 use Rattle.zarrs_codec_chain.specs.NormalForm.{normal_form}
 use Rattle.zarrs_codec_chain.specs.Representation.{chain_representation}
@@ -42,6 +43,13 @@ StandsForOne {B} f =
     (chain : PlainChain B) (sizes : List ℕ) (type : ElementType) (fill value : List ℕ) (chunk other : Chunk)
     → IsChainOfMappings chain → All (λ size. 0 < size) sizes
     → ChainStands f chain sizes type fill value chunk → ChainStands f chain sizes type fill value other → chunk ≡ other
+
+-- The chunk that a value stands for is what a chain answers.
+abbrev pub StandsIsAnswered : {B : Type 0} → BytesCodecs B → Type 0
+StandsIsAnswered {B} f =
+    (chain : PlainChain B) (sizes : List ℕ) (type : ElementType) (fill value : List ℕ) (chunk : Chunk)
+    → IsChainOfMappings chain → All (λ size. 0 < size) sizes
+    → ChainStands f chain sizes type fill value chunk → chain_chunk f chain sizes type fill value ≡ Ok chunk
 
 -- For a chunk at most one value is written.
 abbrev pub WrittenOnce : {B : Type 0} → BytesCodecs B → Type 0

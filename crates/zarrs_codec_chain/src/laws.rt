@@ -1,7 +1,7 @@
 //! Laws over the definitions alone: each function's contract is one. They are of all chains, those
 //! with chains inside too.
 ghost use Rattle.zarrs_codec.specs.BytesToBytesCodec.{BytesCodecs};
-ghost use Rattle.zarrs_codec_chain.specs.Laws.{WrittenStands, StandsForOne, WrittenOnce, ValueIsWritten, NormalTwice, NormalMoved, NormalUpdated, WrittenForNormal, WrittenAlike, WrittenKeeps};
+ghost use Rattle.zarrs_codec_chain.specs.Laws.{WrittenStands, StandsForOne, StandsIsAnswered, WrittenOnce, ValueIsWritten, NormalTwice, NormalMoved, NormalUpdated, WrittenForNormal, WrittenAlike, WrittenKeeps};
 
 /// What is written for a chunk stands for its normal form.
 pub fn written_stands<B>()
@@ -11,6 +11,11 @@ pub fn written_stands<B>()
 /// A value stands for at most one chunk.
 pub fn stands_for_one<B>()
     ensures law { (f : BytesCodecs B) → StandsForOne f }
+{}
+
+/// The chunk that a value stands for is what a chain answers.
+pub fn stands_is_answered<B>()
+    ensures law { (f : BytesCodecs B) → StandsIsAnswered f }
 {}
 
 /// For a chunk at most one value is written.
