@@ -1,38 +1,45 @@
 -- The laws of chains.
-use Rattle.std.proofs.Common.{◌≡◌, ◌↔◌, ℕ, zero, suc, ◌+◌, ◌*◌, ◌-◌, ◌<◌, ◌^◌, true, false, Option, Some, None, List, [], ◌∷◌, ◌++◌, length, take, drop, get_or, reverse, map, Result, Ok, Err, IfOk, arith, refl, ap, sym, subst, ◌∙◌}
-use Rattle.std.specs.List.{All, concat, range_with_len, between}
-use Rattle.std.proofs.lemmas.List.{map-id}
+use Rattle.std.proofs.Common.{◌≡◌, ◌↔◌, ℕ, zero, suc, ◌+◌, ◌*◌, ◌-◌, ◌<◌, ◌^◌, true, Option, Some, None, List, [], ◌∷◌, length, take, drop, get_or, reverse, map, Result, Ok, Err, refl, ap, sym, subst, ◌∙◌}
+use Rattle.std.specs.List.{All, concat, range_with_len}
+use Rattle.std.proofs.lemmas.List.{length-map, map-id}
 use Rattle.std.proofs.lemmas.List.Elements.{All-append, All-nil, All-cons, All-head, All-tail}
 use mathlib.Core.List.{reverse-cons}
 use Rattle.zarrs_chunk.specs.Answer.{◌>>=◌, seen}
 use Rattle.zarrs_chunk.specs.ChunkShape.{product}
 use Rattle.zarrs_chunk.specs.declared.codec_error.CodecError.{CodecError}
 use Rattle.zarrs_data_type.specs.ElementType.{ElementType, fixed, text, bytes, optional, component_bytes}
-use Rattle.zarrs_data_type.specs.Element.{Element, plain, absent, present, Chunk}
+use Rattle.zarrs_data_type.specs.Element.{Element, plain, absent, present, Chunk, AreElements}
 use Rattle.zarrs_data_type.specs.declared.endianness.Endianness.{Endianness}
 use Rattle.zarrs_data_type.specs.declared.endianness.Endianness.TheVariants.{Little, Big}
 use Rattle.zarrs_array_bytes.specs.Elements.{piece, select}
-use Rattle.zarrs_array_bytes.specs.Pieces.{pieces}
+use Rattle.zarrs_array_bytes.specs.Update.{update}
 use Rattle.zarrs_codec.specs.BytesToBytesCodec.{BytesCodecs, IsLawful, AreBytes, IsValue, KeepsTo}
 use Rattle.zarrs_codec.specs.CoordinateMap.{CoordinateMap, IsCoordinateMap, composition, origins, moved_chunk, inverse_map}
 use Rattle.zarrs_codec.specs.declared.bytes_representation.BytesRepresentation.{BytesRepresentation}
 use Rattle.zarrs_codec.specs.declared.bytes_representation.BytesRepresentation.TheVariants.{FixedSize}
-use Rattle.zarrs_array_to_array.specs.ArrayToArrayCodec.{ArrayMapping, IsMapping, coordinates, chained}
-use Rattle.zarrs_array_to_array.specs.CodecAnswers.{type_taken}
+use Rattle.zarrs_array_to_array.specs.ArrayToArrayCodec.{ArrayMapping, coordinates, chained}
 use Rattle.zarrs_array_to_array.proofs.Chains.{chain_map}
 use Rattle.zarrs_array_to_array.proofs.CoordinateMaps.{moved_back}
-use Rattle.zarrs_bytes.specs.ByteOrder.{bytes_of, bytes_in_order, reversed_pieces, spelled_chunk}
-use Rattle.zarrs_bytes.specs.BytesCodec.{bytes_length, spelling, BytesStands, BytesWritten}
+use Rattle.zarrs_bytes.specs.ByteOrder.{bytes_of, bytes_in_order, spelled_chunk}
+use Rattle.zarrs_bytes.specs.BytesCodec.{bytes_length, spelling, IsChunk, BytesStands, BytesWritten}
 use Rattle.zarrs_bytes.proofs.CodecLaws.{written_stands, stands_for_one, has_represented_length}
-use Rattle.zarrs_codec_chain.specs.PlainChain.{PlainCodec, bytes_codec, vlen_codec, optional_codec, PlainChain, is_flat}
-use Rattle.zarrs_codec_chain.specs.ArrayStages.{codec_map, arrays_map}
+use Rattle.zarrs_packbits.specs.BitStream.{chunk_stream}
+use Rattle.zarrs_packbits.specs.Laws.{HasBytes}
+use Rattle.zarrs_packbits.specs.NormalForm.{normal_chunk, normal_element as packbits_element}
+use Rattle.zarrs_packbits.specs.PackBitsCodec.{PackBitsWritten}
+use Rattle.zarrs_packbits.specs.PackBitsSettings.{PackBitsSettings, packbits_length}
+use Rattle.zarrs_packbits.specs.PaddingByte.{value_with}
+use Rattle.zarrs_packbits.proofs.CodecLaws as packbits
+use Rattle.zarrs_codec_chain.specs.PlainChain.{PlainCodec, bytes_codec, packbits_codec, vlen_codec, optional_codec, PlainChain, is_flat}
+use Rattle.zarrs_codec_chain.specs.ArrayStages.{arrays_map}
 use Rattle.zarrs_codec_chain.specs.BytesStages.{outer_bytes, outer_representation, OuterWritten}
-use Rattle.zarrs_codec_chain.specs.Laws.{HasBytes, IsFlatChain}
+use Rattle.zarrs_codec_chain.specs.Laws.{IsFlatChain}
 use Rattle.zarrs_codec_chain.specs.NormalForm.{normal_element, normal_form}
 use Rattle.zarrs_codec_chain.specs.Representation.{codec_representation, chain_representation}
 use Rattle.zarrs_codec_chain.specs.Stands.{CodecStands, ChainStands}
 use Rattle.zarrs_codec_chain.specs.Written.{CodecWritten, ChainWritten}
-use Rattle.zarrs_codec_chain.proofs.ArraySteps.{ok, bind_ok, ok_is, MapParts, map_parts}
+use Rattle.zarrs_codec_chain.proofs.ArraySteps.{ok, ok_is, map_parts}
+use Rattle.zarrs_codec_chain.proofs.PackedElements.{elements_are, elements_again, selected_are, packed_bytes}
 
 -- ---- bytes
 
@@ -131,29 +138,95 @@ arrays_are_map chain sizes type m is positive e = chain_map chain.arrays sizes m
 
 -- ---- codecs to bytes
 
-normal_same : {B : Type 0} (codec : PlainCodec B) (type : ElementType) (chunk : Chunk) → is_flat codec ≡ true → normal_form codec type chunk ≡ chunk
+normal_selected : {B : Type 0} (codec : PlainCodec B) (type : ElementType) (chunk : Chunk) (places : List ℕ) → is_flat codec ≡ true → normal_form codec type (select chunk places) ≡ select (normal_form codec type chunk) places
 unfolding normal_element
-normal_same (bytes_codec order) type chunk h = map-id chunk
-normal_same (vlen_codec ia ix ib da dx db wide at_end) type chunk h = absurd cc
-normal_same (optional_codec ma mx mb da dx db) type chunk h = absurd cc
+normal_selected (bytes_codec order) type chunk places h = map-id (select chunk places) ∙ ap (λ (c : Chunk). select c places) (sym (map-id chunk))
+normal_selected (packbits_codec settings) type chunk places h = packbits.normal_selected settings type chunk places
+normal_selected (vlen_codec ia ix ib da dx db wide at_end) type chunk places h = absurd cc
+normal_selected (optional_codec ma mx mb da dx db) type chunk places h = absurd cc
 
-codec_stands : {B : Type 0} (f : BytesCodecs B) (codec : PlainCodec B) (sizes : List ℕ) (type : ElementType) (fill value : List ℕ) (chunk : Chunk) → is_flat codec ≡ true → CodecWritten f codec sizes type fill value chunk → CodecStands f codec sizes type fill value chunk
-unfolding CodecWritten CodecStands
-codec_stands f (bytes_codec order) sizes type fill value chunk h written = written_stands order sizes type fill value chunk written
+pub normal_moved : {B : Type 0} (codec : PlainCodec B) (type : ElementType) (m : CoordinateMap) (chunk : Chunk) → is_flat codec ≡ true → normal_form codec type (moved_chunk m chunk) ≡ moved_chunk m (normal_form codec type chunk)
+normal_moved codec type m chunk h = normal_selected codec type chunk (origins m) h
+
+pub normal_updated : {B : Type 0} (codec : PlainCodec B) (type : ElementType) (chunk : Chunk) (places : List ℕ) (new : Chunk) → is_flat codec ≡ true → normal_form codec type (update chunk places new) ≡ update (normal_form codec type chunk) places (normal_form codec type new)
+unfolding normal_element
+normal_updated (bytes_codec order) type chunk places new h =
+    map-id (update chunk places new) ∙ ap (λ (c : Chunk). update c places new) (sym (map-id chunk)) ∙ ap (λ (c : Chunk). update (map (λ (element : Element). element) chunk) places c) (sym (map-id new))
+normal_updated (packbits_codec settings) type chunk places new h = packbits.normal_updated settings type chunk places new
+normal_updated (vlen_codec ia ix ib da dx db wide at_end) type chunk places new h = absurd cc
+normal_updated (optional_codec ma mx mb da dx db) type chunk places new h = absurd cc
+
+normal_elements : {B : Type 0} (codec : PlainCodec B) (type : ElementType) (count : ℕ) (chunk : Chunk) → is_flat codec ≡ true → IsChunk type count chunk → IsChunk type count (normal_form codec type chunk)
+unfolding normal_element
+normal_elements (bytes_codec order) type count chunk h is = subst (IsChunk type count) (sym (map-id chunk)) is
+normal_elements (packbits_codec settings) type count chunk h is = record { count_is = length-map chunk (packbits_element settings type) ∙ is.count_is; each = elements_are settings type chunk is.each }
+normal_elements (vlen_codec ia ix ib da dx db wide at_end) type count chunk h is = absurd cc
+normal_elements (optional_codec ma mx mb da dx db) type count chunk h is = absurd cc
+
+pub normal_twice : {B : Type 0} (codec : PlainCodec B) (type : ElementType) (chunk : Chunk) → is_flat codec ≡ true → AreElements type chunk → normal_form codec type (normal_form codec type chunk) ≡ normal_form codec type chunk
+unfolding normal_element
+normal_twice (bytes_codec order) type chunk h each = map-id (map (λ (element : Element). element) chunk)
+normal_twice (packbits_codec settings) type chunk h each = elements_again settings type chunk each
+normal_twice (vlen_codec ia ix ib da dx db wide at_end) type chunk h each = absurd cc
+normal_twice (optional_codec ma mx mb da dx db) type chunk h each = absurd cc
+
+codec_stands : {B : Type 0} (f : BytesCodecs B) (codec : PlainCodec B) (sizes : List ℕ) (type : ElementType) (fill value : List ℕ) (chunk : Chunk) → is_flat codec ≡ true → CodecWritten f codec sizes type fill value chunk → CodecStands f codec sizes type fill value (normal_form codec type chunk)
+unfolding CodecWritten CodecStands normal_element
+codec_stands f (bytes_codec order) sizes type fill value chunk h written = subst (BytesStands order sizes type fill value) (sym (map-id chunk)) (written_stands order sizes type fill value chunk written)
+codec_stands f (packbits_codec settings) sizes type fill value chunk h written = packbits.written_stands settings sizes type fill value chunk written
 codec_stands f (vlen_codec ia ix ib da dx db wide at_end) sizes type fill value chunk h written = absurd cc
 codec_stands f (optional_codec ma mx mb da dx db) sizes type fill value chunk h written = absurd cc
 
 codec_one : {B : Type 0} (f : BytesCodecs B) (codec : PlainCodec B) (sizes : List ℕ) (type : ElementType) (fill value : List ℕ) (chunk other : Chunk) → is_flat codec ≡ true → CodecStands f codec sizes type fill value chunk → CodecStands f codec sizes type fill value other → chunk ≡ other
 unfolding CodecStands
 codec_one f (bytes_codec order) sizes type fill value chunk other h one two = stands_for_one order sizes type fill value chunk other one two
+codec_one f (packbits_codec settings) sizes type fill value chunk other h one two = packbits.stands_for_one settings sizes type fill value chunk other one two
 codec_one f (vlen_codec ia ix ib da dx db wide at_end) sizes type fill value chunk other h one two = absurd cc
 codec_one f (optional_codec ma mx mb da dx db) sizes type fill value chunk other h one two = absurd cc
+
+packed_once : (settings : PackBitsSettings) (sizes : List ℕ) (type : ElementType) (fill value other : List ℕ) (chunk : Chunk) → PackBitsWritten settings sizes type fill value chunk → PackBitsWritten settings sizes type fill other chunk → value ≡ other
+packed_once settings sizes type fill value other chunk one two =
+    let same : one.layout ≡ two.layout = ok_is one.layout two.layout (sym one.taken ∙ two.taken) in
+    one.spelt ∙ ap (λ l. value_with l (chunk_stream l chunk)) same ∙ sym two.spelt
 
 codec_once : {B : Type 0} (f : BytesCodecs B) (codec : PlainCodec B) (sizes : List ℕ) (type : ElementType) (fill value other : List ℕ) (chunk : Chunk) → is_flat codec ≡ true → CodecWritten f codec sizes type fill value chunk → CodecWritten f codec sizes type fill other chunk → value ≡ other
 unfolding CodecWritten
 codec_once f (bytes_codec order) sizes type fill value other chunk h one two = one.value_is ∙ sym two.value_is
+codec_once f (packbits_codec settings) sizes type fill value other chunk h one two = packed_once settings sizes type fill value other chunk one two
 codec_once f (vlen_codec ia ix ib da dx db wide at_end) sizes type fill value other chunk h one two = absurd cc
 codec_once f (optional_codec ma mx mb da dx db) sizes type fill value other chunk h one two = absurd cc
+
+-- what is written for a chunk is written for its normal form
+codec_normal : {B : Type 0} (f : BytesCodecs B) (codec : PlainCodec B) (sizes : List ℕ) (type : ElementType) (fill value : List ℕ) (chunk : Chunk) → is_flat codec ≡ true → CodecWritten f codec sizes type fill value chunk → CodecWritten f codec sizes type fill value (normal_form codec type chunk)
+unfolding CodecWritten normal_element
+codec_normal f (bytes_codec order) sizes type fill value chunk h written = subst (BytesWritten order sizes type fill value) (sym (map-id chunk)) written
+codec_normal f (packbits_codec settings) sizes type fill value chunk h written = packbits.normal_written settings sizes type fill value chunk written
+codec_normal f (vlen_codec ia ix ib da dx db wide at_end) sizes type fill value chunk h written = absurd cc
+codec_normal f (optional_codec ma mx mb da dx db) sizes type fill value chunk h written = absurd cc
+
+-- and the other way round, for elements of the type
+packed_of_normal : (settings : PackBitsSettings) (sizes : List ℕ) (type : ElementType) (fill value : List ℕ) (chunk : Chunk) → AreElements type chunk → PackBitsWritten settings sizes type fill value (normal_chunk settings type chunk) → PackBitsWritten settings sizes type fill value chunk
+packed_of_normal settings sizes type fill value chunk each written =
+    let l = written.layout in
+    let own = value_with l (chunk_stream l chunk) in
+    let is : IsChunk type (product sizes) chunk = record { count_is = sym (length-map chunk (packbits_element settings type)) ∙ written.elements.count_is; each = each } in
+    let normal = packbits.normal_written settings sizes type fill own chunk (record { layout = l; taken = written.taken; elements = is; spelt = refl }) in
+    let same : l ≡ normal.layout = ok_is l normal.layout (sym written.taken ∙ normal.taken) in
+    record {
+      layout = l;
+      taken = written.taken;
+      elements = is;
+      spelt = written.spelt ∙ ap (λ k. value_with k (chunk_stream k (normal_chunk settings type chunk))) same ∙ sym normal.spelt;
+    }
+
+codec_of_normal : {B : Type 0} (f : BytesCodecs B) (codec : PlainCodec B) (sizes : List ℕ) (type : ElementType) (fill value : List ℕ) (chunk : Chunk) (places : List ℕ) → is_flat codec ≡ true → AreElements type chunk
+    → CodecWritten f codec sizes type fill value (normal_form codec type (select chunk places)) → CodecWritten f codec sizes type fill value (select chunk places)
+unfolding CodecWritten normal_element
+codec_of_normal f (bytes_codec order) sizes type fill value chunk places h each written = subst (BytesWritten order sizes type fill value) (map-id (select chunk places)) written
+codec_of_normal f (packbits_codec settings) sizes type fill value chunk places h each written =
+    packed_of_normal settings sizes type fill value (select chunk places) (selected_are settings type chunk places each written.elements.each) written
+codec_of_normal f (vlen_codec ia ix ib da dx db wide at_end) sizes type fill value chunk places h each written = absurd cc
+codec_of_normal f (optional_codec ma mx mb da dx db) sizes type fill value chunk places h each written = absurd cc
 
 -- the bytes of a codec to bytes are bytes, and as many as it says
 record AreKept (r : BytesRepresentation) (value : List ℕ) : Type 0 where
@@ -170,13 +243,17 @@ codec_kept f (bytes_codec order) sizes type fill value chunk r h each written e 
   each = subst AreBytes (sym written.value_is) (spelling_bytes order type chunk each);
   keeps = fixed_kept (bytes_length order sizes type fill) r value e (λ len l. has_represented_length order sizes type fill value chunk len written l);
 }
+codec_kept f (packbits_codec settings) sizes type fill value chunk r h each written e = record {
+  each = packed_bytes settings sizes type fill value chunk written;
+  keeps = fixed_kept (packbits_length settings sizes type fill) r value e (λ len l. packbits.has_represented_length settings sizes type fill value chunk len written l);
+}
 codec_kept f (vlen_codec ia ix ib da dx db wide at_end) sizes type fill value chunk r h each written e = absurd cc
 codec_kept f (optional_codec ma mx mb da dx db) sizes type fill value chunk r h each written e = absurd cc
 
 -- ---- chains
 
-stands_as_written : {B : Type 0} (f : BytesCodecs B) (chain : PlainChain B) (sizes : List ℕ) (type : ElementType) (fill value : List ℕ) (chunk : Chunk) → IsLawful f → IsFlatChain chain → All HasBytes chunk → ChainWritten f chain sizes type fill value chunk → ChainStands f chain sizes type fill value chunk
-stands_as_written f chain sizes type fill value chunk lawful is each w =
+pub chain_stands : {B : Type 0} (f : BytesCodecs B) (chain : PlainChain B) (sizes : List ℕ) (type : ElementType) (fill value : List ℕ) (chunk : Chunk) → IsLawful f → IsFlatChain chain → All HasBytes chunk → ChainWritten f chain sizes type fill value chunk → ChainStands f chain sizes type fill value (normal_form chain.codec type chunk)
+chain_stands f chain sizes type fill value chunk lawful is each w =
     let kept = codec_kept f chain.codec w.map_is.encoded type fill w.below (moved_chunk w.map_is chunk) w.size is.flat (all_selected chunk (origins w.map_is) each) w.written w.measured in
     record {
       map_is = w.map_is;
@@ -184,14 +261,10 @@ stands_as_written f chain sizes type fill value chunk lawful is each w =
       below = w.below;
       mapped = w.mapped;
       measured = w.measured;
-      elements = w.elements;
+      elements = normal_elements chain.codec type (product sizes) chunk is.flat w.elements;
       opened = (outer_opened f chain.outer w.size w.below value lawful kept.each kept.keeps w.around).0;
-      stands = codec_stands f chain.codec w.map_is.encoded type fill w.below (moved_chunk w.map_is chunk) is.flat w.written;
+      stands = subst (CodecStands f chain.codec w.map_is.encoded type fill w.below) (normal_selected chain.codec type chunk (origins w.map_is) is.flat) (codec_stands f chain.codec w.map_is.encoded type fill w.below (moved_chunk w.map_is chunk) is.flat w.written);
     }
-
-pub chain_stands : {B : Type 0} (f : BytesCodecs B) (chain : PlainChain B) (sizes : List ℕ) (type : ElementType) (fill value : List ℕ) (chunk : Chunk) → IsLawful f → IsFlatChain chain → All HasBytes chunk → ChainWritten f chain sizes type fill value chunk → ChainStands f chain sizes type fill value (normal_form chain.codec type chunk)
-chain_stands f chain sizes type fill value chunk lawful is each w =
-    subst (ChainStands f chain sizes type fill value) (sym (normal_same chain.codec type chunk is.flat)) (stands_as_written f chain sizes type fill value chunk lawful is each w)
 
 pub chain_one : {B : Type 0} (f : BytesCodecs B) (chain : PlainChain B) (sizes : List ℕ) (type : ElementType) (fill value : List ℕ) (chunk other : Chunk) → IsFlatChain chain → All (λ size. 0 < size) sizes → ChainStands f chain sizes type fill value chunk → ChainStands f chain sizes type fill value other → chunk ≡ other
 chain_one f chain sizes type fill value chunk other is positive a b =
@@ -212,20 +285,40 @@ chain_once f chain sizes type fill value other chunk is a b =
     let below : a.below ≡ b.below = codec_once f chain.codec a.map_is.encoded type fill a.below b.below (moved_chunk a.map_is chunk) is.flat a.written second in
     outer_once f chain.outer a.below value other a.around (subst (λ u. OuterWritten f chain.outer u other) (sym below) b.around)
 
-pub normal_twice : {B : Type 0} (codec : PlainCodec B) (type : ElementType) (chunk : Chunk) → is_flat codec ≡ true → normal_form codec type (normal_form codec type chunk) ≡ normal_form codec type chunk
-normal_twice codec type chunk h = normal_same codec type (normal_form codec type chunk) h
+normal_as_written : {B : Type 0} (f : BytesCodecs B) (chain : PlainChain B) (sizes : List ℕ) (type : ElementType) (fill value : List ℕ) (chunk : Chunk) → IsFlatChain chain → ChainWritten f chain sizes type fill value chunk → ChainWritten f chain sizes type fill value (normal_form chain.codec type chunk)
+normal_as_written f chain sizes type fill value chunk is w = record {
+  map_is = w.map_is;
+  size = w.size;
+  below = w.below;
+  mapped = w.mapped;
+  measured = w.measured;
+  countable = w.countable;
+  elements = normal_elements chain.codec type (product sizes) chunk is.flat w.elements;
+  written = subst (CodecWritten f chain.codec w.map_is.encoded type fill w.below) (normal_selected chain.codec type chunk (origins w.map_is) is.flat) (codec_normal f chain.codec w.map_is.encoded type fill w.below (moved_chunk w.map_is chunk) is.flat w.written);
+  around = w.around;
+}
 
-pub written_for_normal : {B : Type 0} (f : BytesCodecs B) (chain : PlainChain B) (sizes : List ℕ) (type : ElementType) (fill value : List ℕ) (chunk : Chunk) → IsFlatChain chain → ChainWritten f chain sizes type fill value chunk ↔ ChainWritten f chain sizes type fill value (normal_form chain.codec type chunk)
-written_for_normal f chain sizes type fill value chunk is = (
-  λ w. subst (ChainWritten f chain sizes type fill value) (sym (normal_same chain.codec type chunk is.flat)) w,
-  λ w. subst (ChainWritten f chain sizes type fill value) (normal_same chain.codec type chunk is.flat) w,
-)
+written_as_normal : {B : Type 0} (f : BytesCodecs B) (chain : PlainChain B) (sizes : List ℕ) (type : ElementType) (fill value : List ℕ) (chunk : Chunk) → IsFlatChain chain → IsChunk type (product sizes) chunk → ChainWritten f chain sizes type fill value (normal_form chain.codec type chunk) → ChainWritten f chain sizes type fill value chunk
+written_as_normal f chain sizes type fill value chunk is elements w = record {
+  map_is = w.map_is;
+  size = w.size;
+  below = w.below;
+  mapped = w.mapped;
+  measured = w.measured;
+  countable = w.countable;
+  elements = elements;
+  written = codec_of_normal f chain.codec w.map_is.encoded type fill w.below chunk (origins w.map_is) is.flat elements.each (subst (CodecWritten f chain.codec w.map_is.encoded type fill w.below) (sym (normal_selected chain.codec type chunk (origins w.map_is) is.flat)) w.written);
+  around = w.around;
+}
+
+pub written_for_normal : {B : Type 0} (f : BytesCodecs B) (chain : PlainChain B) (sizes : List ℕ) (type : ElementType) (fill value : List ℕ) (chunk : Chunk) → IsFlatChain chain → IsChunk type (product sizes) chunk → ChainWritten f chain sizes type fill value chunk ↔ ChainWritten f chain sizes type fill value (normal_form chain.codec type chunk)
+written_for_normal f chain sizes type fill value chunk is elements = (λ w. normal_as_written f chain sizes type fill value chunk is w, λ w. written_as_normal f chain sizes type fill value chunk is elements w)
 
 pub chain_alike : {B : Type 0} (f : BytesCodecs B) (chain : PlainChain B) (sizes : List ℕ) (type : ElementType) (fill value other_value : List ℕ) (chunk other : Chunk) → IsLawful f → IsFlatChain chain → All HasBytes chunk → All HasBytes other → All (λ size. 0 < size) sizes
     → ChainWritten f chain sizes type fill value chunk → ChainWritten f chain sizes type fill other_value other → (value ≡ other_value) ↔ (normal_form chain.codec type chunk ≡ normal_form chain.codec type other)
 chain_alike f chain sizes type fill value other_value chunk other lawful is each also positive a b = (
-  λ e. ap (normal_form chain.codec type) (chain_one f chain sizes type fill value chunk other is positive (stands_as_written f chain sizes type fill value chunk lawful is each a) (subst (λ v. ChainStands f chain sizes type fill v other) (sym e) (stands_as_written f chain sizes type fill other_value other lawful is also b))),
-  λ e. chain_once f chain sizes type fill value other_value chunk is a (subst (ChainWritten f chain sizes type fill other_value) (sym (sym (normal_same chain.codec type chunk is.flat) ∙ e ∙ normal_same chain.codec type other is.flat)) b),
+  λ e. chain_one f chain sizes type fill value (normal_form chain.codec type chunk) (normal_form chain.codec type other) is positive (chain_stands f chain sizes type fill value chunk lawful is each a) (subst (λ v. ChainStands f chain sizes type fill v (normal_form chain.codec type other)) (sym e) (chain_stands f chain sizes type fill other_value other lawful is also b)),
+  λ e. chain_once f chain sizes type fill value other_value (normal_form chain.codec type chunk) is (normal_as_written f chain sizes type fill value chunk is a) (subst (ChainWritten f chain sizes type fill other_value) (sym e) (normal_as_written f chain sizes type fill other_value other is b)),
 )
 
 said_so : {B : Type 0} (f : BytesCodecs B) (chain : PlainChain B) (sizes : List ℕ) (type : ElementType) (fill : List ℕ) (m : CoordinateMap) (size : BytesRepresentation) → arrays_map type chain.arrays sizes ≡ Ok m → codec_representation f chain.codec m.encoded type fill ≡ Ok size → chain_representation f chain sizes type fill ≡ Ok (outer_representation f chain.outer size)

@@ -1,8 +1,7 @@
 -- What a chain answers is what stands and what is written.
-use Rattle.std.proofs.Common.{◌≡◌, ℕ, zero, suc, ◌+◌, ◌<◌, ◌^◌, nat_lt, if◌then◌else◌, Bool, true, false, Option, List, [], ◌∷◌, length, get_or, map, Result, Ok, Err, IfOk, arith, refl, ap, sym, subst, ◌∙◌}
-use Rattle.std.specs.List.{All}
+use Rattle.std.proofs.Common.{◌≡◌, ℕ, zero, suc, ◌<◌, ◌^◌, nat_lt, if◌then◌else◌, Bool, true, false, List, [], ◌∷◌, length, get_or, Result, Ok, Err, IfOk, arith, refl, ap, sym, subst, ◌∙◌}
 use Rattle.std.proofs.lemmas.Bool.Decides.{nat_tests}
-use Rattle.zarrs_chunk.specs.Answer.{◌>>=◌, seen, Answers, AnswersBy, memory}
+use Rattle.zarrs_chunk.specs.Answer.{◌>>=◌, Answers, AnswersBy, memory}
 use Rattle.zarrs_chunk.specs.ChunkShape.{product}
 use Rattle.zarrs_chunk.specs.declared.codec_error.CodecError.{CodecError}
 use Rattle.zarrs_chunk.specs.declared.codec_error.CodecError.TheVariants.{OutOfMemory}
@@ -20,18 +19,22 @@ use Rattle.zarrs_array_to_array.specs.ArrayToArrayCodec.{ArrayMapping}
 use Rattle.zarrs_array_to_array.proofs.CoordinateMaps.{length-moved, moved_at, moved_back, moved_again}
 use Rattle.zarrs_bytes.specs.BytesCodec.{bytes_length, spelling, IsChunk}
 use Rattle.zarrs_bytes.proofs.Exact.{decoded_found, decoded_only}
-use Rattle.zarrs_codec_chain.specs.PlainChain.{PlainCodec, bytes_codec, PlainChain}
+use Rattle.zarrs_packbits.specs.BitStream.{chunk_stream}
+use Rattle.zarrs_packbits.specs.PackBitsSettings.{packed_layout}
+use Rattle.zarrs_packbits.specs.PaddingByte.{value_with}
+use Rattle.zarrs_packbits.proofs.Exact as packbits
+use Rattle.zarrs_codec_chain.specs.PlainChain.{PlainChain}
 use Rattle.zarrs_codec_chain.specs.ArrayStages.{arrays_map, IsMapWhere}
-use Rattle.zarrs_codec_chain.specs.BytesStages.{in_memory, outer_value, outer_bytes, outer_representation, OuterWritten}
+use Rattle.zarrs_codec_chain.specs.BytesStages.{in_memory, outer_value, outer_bytes, OuterWritten}
 use Rattle.zarrs_codec_chain.specs.Chain.{held_value}
 use Rattle.zarrs_codec_chain.specs.ChainView.{plain_codec}
 use Rattle.zarrs_codec_chain.specs.Decode.{codec_chunk, chain_chunk}
-use Rattle.zarrs_codec_chain.specs.Encode.{codec_value, chain_value}
+use Rattle.zarrs_codec_chain.specs.Encode.{codec_value}
 use Rattle.zarrs_codec_chain.specs.Representation.{codec_representation, chain_representation}
 use Rattle.zarrs_codec_chain.specs.Stands.{CodecStands, ChainStands}
 use Rattle.zarrs_codec_chain.specs.Written.{CodecWritten, ChainWritten}
 use Rattle.zarrs_codec_chain.specs.declared.array_to_bytes_codec.ArrayToBytesCodec.{ArrayToBytesCodec}
-use Rattle.zarrs_codec_chain.specs.declared.array_to_bytes_codec.ArrayToBytesCodec.TheVariants.{Bytes}
+use Rattle.zarrs_codec_chain.specs.declared.array_to_bytes_codec.ArrayToBytesCodec.TheVariants.{Bytes, PackBits}
 use Rattle.zarrs_codec_chain.proofs.ArraySteps.{ok, err, at_ok, bind_ok, ok_is, ok_no_err, length-elements, holds_elements}
 use Rattle.zarrs_codec_chain.proofs.ChainSteps.{IsTaken, seen_ok, encoded_so, next_ok, held_chunk}
 
@@ -83,25 +86,34 @@ outer_is_small f (codec ∷ codecs) below value h = h.0
 -- ---- codecs to bytes
 
 codec_found : {B : Type 0} (f : BytesCodecs B) (codec : ArrayToBytesCodec) (sizes : List ℕ) (type : ElementType) (fill value : List ℕ) (chunk : Chunk) (r : BytesRepresentation)
-    → codec_representation f (plain_codec codec) sizes type fill ≡ Ok r → IsChunk type (product sizes) chunk → codec_value f (plain_codec codec) sizes type chunk ≡ Ok value → length value < 2 ^ 64 → CodecWritten f (plain_codec codec) sizes type fill value chunk
+    → codec_representation f (plain_codec codec) sizes type fill ≡ Ok r → IsChunk type (product sizes) chunk → codec_value f (plain_codec codec) sizes type fill chunk ≡ Ok value → length value < 2 ^ 64 → CodecWritten f (plain_codec codec) sizes type fill value chunk
 unfolding codec_representation codec_value CodecWritten
 codec_found f (Bytes order) sizes type fill value chunk r e is h small =
     let a = seen_ok FixedSize (bytes_length order sizes type fill) r e in
     record { len = a.0; length_is = a.1; elements = is; value_is = sym (ok_is (spelling order type chunk) value h); small = small }
+codec_found f (PackBits settings) sizes type fill value chunk r e is h small =
+    let a = bind_ok (packed_layout settings sizes type fill) _ value h in
+    record { layout = a.0; taken = a.1; elements = is; spelt = sym (ok_is (value_with a.0 (chunk_stream a.0 chunk)) value a.2) }
 
-codec_only : {B : Type 0} (f : BytesCodecs B) (codec : ArrayToBytesCodec) (sizes : List ℕ) (type : ElementType) (fill value : List ℕ) (chunk : Chunk) → CodecWritten f (plain_codec codec) sizes type fill value chunk → codec_value f (plain_codec codec) sizes type chunk ≡ Ok value
+codec_only : {B : Type 0} (f : BytesCodecs B) (codec : ArrayToBytesCodec) (sizes : List ℕ) (type : ElementType) (fill value : List ℕ) (chunk : Chunk) → CodecWritten f (plain_codec codec) sizes type fill value chunk → codec_value f (plain_codec codec) sizes type fill chunk ≡ Ok value
 unfolding codec_value CodecWritten
 codec_only f (Bytes order) sizes type fill value chunk w = ap ok (sym w.value_is)
+codec_only f (PackBits settings) sizes type fill value chunk w =
+    next_ok (packed_layout settings sizes type fill) w.layout (λ l. ok (value_with l (chunk_stream l chunk))) w.taken ∙ ap ok (sym w.spelt)
 
 read_found : {B : Type 0} (f : BytesCodecs B) (codec : ArrayToBytesCodec) (sizes : List ℕ) (type : ElementType) (fill value : List ℕ) (chunk : Chunk) → codec_chunk f (plain_codec codec) sizes type fill value ≡ Ok chunk → CodecStands f (plain_codec codec) sizes type fill value chunk × IsChunk type (product sizes) chunk
 unfolding codec_chunk CodecStands
 read_found f (Bytes order) sizes type fill value chunk e =
     let stands = decoded_found order sizes type fill value chunk e in
     (stands, stands.elements)
+read_found f (PackBits settings) sizes type fill value chunk e =
+    let stands = packbits.decoded_found settings sizes type fill value chunk e in
+    (stands, stands.elements)
 
 read_only : {B : Type 0} (f : BytesCodecs B) (codec : ArrayToBytesCodec) (sizes : List ℕ) (type : ElementType) (fill value : List ℕ) (chunk : Chunk) → CodecStands f (plain_codec codec) sizes type fill value chunk → codec_chunk f (plain_codec codec) sizes type fill value ≡ Ok chunk
 unfolding codec_chunk CodecStands
 read_only f (Bytes order) sizes type fill value chunk stands = decoded_only order sizes type fill value chunk stands
+read_only f (PackBits settings) sizes type fill value chunk stands = packbits.decoded_only settings sizes type fill value chunk stands
 
 -- ---- encoding
 
@@ -118,7 +130,7 @@ value_found_so f arrays codec outer sizes type fill held value maps e =
     let c = bind_ok (chain_representation f (chain_of arrays codec outer) sizes type fill) _ value b.2 in
     let d = bind_ok (sizes_fit type (product sizes)) _ value c.2 in
     let m = bind_ok (arrays_map type arrays sizes) _ value d.2 in
-    let below = bind_ok (codec_value f (plain_codec codec) m.0.encoded type (moved_chunk m.0 items)) _ value m.2 in
+    let below = bind_ok (codec_value f (plain_codec codec) m.0.encoded type fill (moved_chunk m.0 items)) _ value m.2 in
     let n = bind_ok (arrays_map type arrays sizes) _ a.0 a.1 in
     let r = bind_ok (codec_representation f (plain_codec codec) n.0.encoded type fill) _ a.0 n.2 in
     let same : n.0 ≡ m.0 = ok_is n.0 m.0 (sym n.1 ∙ m.1) in
@@ -163,8 +175,8 @@ value_only view result f arrays codec outer sizes type fill held h chunk value h
     let t : IsTaken f (chain_of arrays codec outer) sizes type fill w.map_is.encoded w.size = record { map_is = w.map_is; mapped = w.mapped; encoded_is = refl; measured = w.measured } in
     let is : held_value f (chain_of arrays codec outer) sizes type fill held ≡ Ok value
     = encoded_so f (chain_of arrays codec outer) sizes type fill held w.map_is.encoded w.size t valid
-    ∙ ap (λ (c : Chunk). codec_value f (plain_codec codec) w.map_is.encoded type (moved_chunk w.map_is c) >>= (λ below. outer_value f outer below)) items
-    ∙ next_ok (codec_value f (plain_codec codec) w.map_is.encoded type (moved_chunk w.map_is chunk)) w.below (λ below. outer_value f outer below) (codec_only f codec w.map_is.encoded type fill w.below (moved_chunk w.map_is chunk) w.written)
+    ∙ ap (λ (c : Chunk). codec_value f (plain_codec codec) w.map_is.encoded type fill (moved_chunk w.map_is c) >>= (λ below. outer_value f outer below)) items
+    ∙ next_ok (codec_value f (plain_codec codec) w.map_is.encoded type fill (moved_chunk w.map_is chunk)) w.below (λ below. outer_value f outer below) (codec_only f codec w.map_is.encoded type fill w.below (moved_chunk w.map_is chunk) w.written)
     ∙ outer_only f outer w.below value w.around in
     subst (λ (x : Result (List ℕ) CodecError). Answers memory view result x) is h
 

@@ -1,9 +1,9 @@
 -- The steps of a chain's calls.
-use Rattle.std.proofs.Common.{◌≡◌, ℕ, false, List, length, Result, Ok, Err, IfOk, Option, refl, ap, sym, subst, ◌∙◌}
+use Rattle.std.proofs.Common.{◌≡◌, ◌&&◌, ℕ, nat_lt, false, List, length, Result, Ok, Err, IfOk, Option, refl, ap, sym, subst, ◌∙◌}
 use Rattle.zarrs_chunk.specs.Answer.{◌>>=◌, demand, seen, checked_u64, Answers, AnswersBy, memory}
 use Rattle.zarrs_chunk.specs.ChunkShape.{product}
 use Rattle.zarrs_chunk.specs.declared.codec_error.CodecError.{CodecError}
-use Rattle.zarrs_chunk.specs.declared.codec_error.CodecError.TheVariants.{InvalidFillValue}
+use Rattle.zarrs_chunk.specs.declared.codec_error.CodecError.TheVariants.{InvalidFillValue, BitRange}
 use Rattle.zarrs_data_type.specs.ElementType.{ElementType, fixed, text, bytes, optional}
 use Rattle.zarrs_data_type.specs.FillValue.{fill_fits}
 use Rattle.zarrs_data_type.specs.Element.{Chunk}
@@ -19,6 +19,9 @@ use Rattle.zarrs_codec.specs.declared.bytes_representation.BytesRepresentation.{
 use Rattle.zarrs_codec.specs.declared.bytes_representation.BytesRepresentation.TheVariants.{FixedSize}
 use Rattle.zarrs_bytes.specs.BytesCodec.{bytes_length}
 use Rattle.zarrs_bytes.proofs.Exact.{decoded_found}
+use Rattle.zarrs_packbits.specs.PackBitsSettings.{PackBitsSettings, packed_layout, packbits_length, has_bits}
+use Rattle.zarrs_packbits.specs.PaddingByte.{value_len}
+use Rattle.zarrs_packbits.proofs.Exact as packbits
 use Rattle.zarrs_array_to_array.proofs.CoordinateMaps.{length-moved}
 use Rattle.zarrs_codec_chain.specs.PlainChain.{PlainChain}
 use Rattle.zarrs_codec_chain.specs.ArrayStages.{arrays_map, IsMapWhere}
@@ -29,7 +32,7 @@ use Rattle.zarrs_codec_chain.specs.Encode.{codec_value}
 use Rattle.zarrs_codec_chain.specs.Decode.{codec_chunk, chain_chunk}
 use Rattle.zarrs_codec_chain.specs.Representation.{codec_representation, chain_representation}
 use Rattle.zarrs_codec_chain.specs.declared.array_to_bytes_codec.ArrayToBytesCodec.{ArrayToBytesCodec}
-use Rattle.zarrs_codec_chain.specs.declared.array_to_bytes_codec.ArrayToBytesCodec.TheVariants.{Bytes}
+use Rattle.zarrs_codec_chain.specs.declared.array_to_bytes_codec.ArrayToBytesCodec.TheVariants.{Bytes, PackBits}
 use Rattle.zarrs_codec_chain.proofs.ArraySteps.{ok, err, at_ok, bind_ok, ok_is, ok_no_err, counted_so}
 
 -- ---- what a chain takes
@@ -105,12 +108,26 @@ counted_bytes order sizes text fill len e = absurd cc
 counted_bytes order sizes bytes fill len e = absurd cc
 counted_bytes order sizes (optional type) fill len e = absurd cc
 
+counted_packed : (settings : PackBitsSettings) (sizes : List ℕ) (type : ElementType) (fill : List ℕ) (len : ℕ) → packbits_length settings sizes type fill ≡ Ok len → checked_u64 (product sizes) ≡ Ok (product sizes)
+counted_packed settings sizes (fixed width components sign) fill len e =
+    let l = seen_ok value_len (packed_layout settings sizes (fixed width components sign) fill) len e in
+    let a = bind_ok (demand (fill_fits (fixed width components sign) fill) InvalidFillValue) _ l.0 l.1 in
+    let b = bind_ok (demand (has_bits settings width && nat_lt 0 components) BitRange) _ l.0 a.2 in
+    let c = bind_ok (checked_u64 (product sizes)) _ l.0 b.2 in
+    counted_so (product sizes) c.0 c.1
+counted_packed settings sizes text fill len e = absurd cc
+counted_packed settings sizes bytes fill len e = absurd cc
+counted_packed settings sizes (optional type) fill len e = absurd cc
+
 -- 64 bits count the elements of a chunk that a codec to bytes takes
 codec_counted : {B : Type 0} (f : BytesCodecs B) (codec : ArrayToBytesCodec) (sizes : List ℕ) (type : ElementType) (fill : List ℕ) (r : BytesRepresentation) → codec_representation f (plain_codec codec) sizes type fill ≡ Ok r → checked_u64 (product sizes) ≡ Ok (product sizes)
 unfolding codec_representation
 codec_counted f (Bytes order) sizes type fill r e =
     let a = seen_ok FixedSize (bytes_length order sizes type fill) r e in
     counted_bytes order sizes type fill a.0 a.1
+codec_counted f (PackBits settings) sizes type fill r e =
+    let a = seen_ok FixedSize (packbits_length settings sizes type fill) r e in
+    counted_packed settings sizes type fill a.0 a.1
 
 -- and of one that a chain takes
 pub chain_counted : {B : Type 0} (f : BytesCodecs B) (arrays : List ArrayMapping) (codec : ArrayToBytesCodec) (outer : List B) (sizes : List ℕ) (type : ElementType) (fill : List ℕ) (form : List ℕ × BytesRepresentation)
@@ -138,7 +155,7 @@ validity_fits : (type : ElementType) (count : ℕ) (held : Held) → validity ty
 validity_fits type count held e = both_ok (sizes_fit type count) _ e
 
 pub encoded_so : {B : Type 0} (f : BytesCodecs B) (chain : PlainChain B) (sizes : List ℕ) (type : ElementType) (fill : List ℕ) (held : Held) (encoded : List ℕ) (r : BytesRepresentation) (t : IsTaken f chain sizes type fill encoded r) → validity type (product sizes) held ≡ Ok tt
-    → held_value f chain sizes type fill held ≡ codec_value f chain.codec t.map_is.encoded type (moved_chunk t.map_is (elements type (product sizes) held)) >>= (λ below. outer_value f chain.outer below)
+    → held_value f chain sizes type fill held ≡ codec_value f chain.codec t.map_is.encoded type fill (moved_chunk t.map_is (elements type (product sizes) held)) >>= (λ below. outer_value f chain.outer below)
 encoded_so f chain sizes type fill held encoded r t valid =
     let fits = validity_fits type (product sizes) held valid in
     rw (t.mapped, t.measured, valid, fits) refl
@@ -178,7 +195,7 @@ value_through f chain sizes type fill form held made maps e counted valid found 
     let long : length chunk ≡ product t.map_is.encoded = length-moved t.map_is (elements type (product sizes) held) in
     let made_valid : validity type (product t.map_is.encoded) made ≡ Ok tt = subst (λ (k : ℕ). validity type k made ≡ Ok tt) long holds.valid in
     let made_is : elements type (product t.map_is.encoded) made ≡ chunk = subst (λ (k : ℕ). elements type k made ≡ chunk) long holds.elements_are in
-    let inner : codec_held_value f chain.codec t.map_is.encoded type fill made ≡ codec_value f chain.codec t.map_is.encoded type chunk = rw (t.measured, made_valid) (ap (codec_value f chain.codec t.map_is.encoded type) made_is) in
+    let inner : codec_held_value f chain.codec t.map_is.encoded type fill made ≡ codec_value f chain.codec t.map_is.encoded type fill chunk = rw (t.measured, made_valid) (ap (codec_value f chain.codec t.map_is.encoded type fill) made_is) in
     encoded_so f chain sizes type fill held form.0 form.1 t valid
     ∙ ap (λ (r : Result (List ℕ) CodecError). r >>= (λ below. outer_value f chain.outer below)) (sym inner)
     ∙ ap (λ s. codec_held_value f chain.codec s type fill made >>= (λ below. outer_value f chain.outer below)) t.encoded_is
@@ -224,6 +241,7 @@ chunk_through f chain sizes type fill form value e =
 pub chunk_count : {B : Type 0} (f : BytesCodecs B) (codec : ArrayToBytesCodec) (sizes : List ℕ) (type : ElementType) (fill value : List ℕ) (chunk : Chunk) → codec_chunk f (plain_codec codec) sizes type fill value ≡ Ok chunk → length chunk ≡ product sizes
 unfolding codec_chunk
 chunk_count f (Bytes order) sizes type fill value chunk e = (decoded_found order sizes type fill value chunk e).elements.count_is
+chunk_count f (PackBits settings) sizes type fill value chunk e = (packbits.decoded_found settings sizes type fill value chunk e).elements.count_is
 
 pub bytes_refused : {B : Type 0} (f : BytesCodecs B) (chain : PlainChain B) (sizes : List ℕ) (type : ElementType) (fill : List ℕ) (form : List ℕ × BytesRepresentation) (value : List ℕ) (error : CodecError)
     → taken_form f chain sizes type fill ≡ Ok form → outer_bytes f chain.outer form.1 value ≡ Err error → chain_chunk f chain sizes type fill value ≡ Err error

@@ -1,5 +1,6 @@
 pub mod ArraySteps
 pub mod CodecSteps
 pub mod ChainSteps
+pub mod PackedElements
 pub mod ChainLaws
 pub mod ChainRelations

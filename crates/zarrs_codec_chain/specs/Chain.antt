@@ -12,7 +12,7 @@ use Rattle.zarrs_codec.specs.BytesToBytesCodec.{BytesCodecs}
 use Rattle.zarrs_codec.specs.declared.bytes_representation.BytesRepresentation.{BytesRepresentation}
 use Rattle.zarrs_codec.specs.declared.capabilities.PartialDecoderCapability.{PartialDecoderCapability}
 use Rattle.zarrs_codec.specs.declared.capabilities.PartialEncoderCapability.{PartialEncoderCapability}
-use Rattle.zarrs_codec_chain.specs.PlainChain.{PlainCodec, bytes_codec, vlen_codec, optional_codec, PlainChain}
+use Rattle.zarrs_codec_chain.specs.PlainChain.{PlainCodec, bytes_codec, packbits_codec, vlen_codec, optional_codec, PlainChain}
 use Rattle.zarrs_codec_chain.specs.ArrayStages.{arrays_map}
 use Rattle.zarrs_codec_chain.specs.Encode.{codec_value, chain_value}
 use Rattle.zarrs_codec_chain.specs.Representation.{codec_representation, chain_representation}
@@ -29,7 +29,7 @@ abbrev pub codec_held_value : {B : Type 0} → BytesCodecs B → PlainCodec B �
 codec_held_value f codec sizes type fill held = do
   _ ← codec_representation f codec sizes type fill
   _ ← validity type (product sizes) held
-  codec_value f codec sizes type (elements type (product sizes) held)
+  codec_value f codec sizes type fill (elements type (product sizes) held)
 
 -- the value of the chunk that a container holds, or the first refusal: the chain's representation, the container, the content
 abbrev pub held_value : {B : Type 0} → BytesCodecs B → PlainChain B → List ℕ → ElementType → List ℕ → Held → Result (List ℕ) CodecError
@@ -38,15 +38,17 @@ held_value f chain sizes type fill held = do
   _ ← validity type (product sizes) held
   chain_value f chain sizes type fill (elements type (product sizes) held)
 
--- what a codec to bytes reads in part: `bytes` all, one with chains inside nothing
+-- what a codec to bytes reads in part: `bytes` and `packbits` all, one with chains inside nothing
 abbrev pub codec_reads : {B : Type 0} → PlainCodec B → PartialDecoderCapability
 codec_reads (bytes_codec order) = record { partial_read = true; partial_decode = true }
+codec_reads (packbits_codec settings) = record { partial_read = true; partial_decode = true }
 codec_reads (vlen_codec ia ix ib da dx db wide at_end) = record { partial_read = false; partial_decode = false }
 codec_reads (optional_codec ma mx mb da dx db) = record { partial_read = false; partial_decode = false }
 
--- what it writes in part
+-- what it writes in part: `bytes` alone does
 abbrev pub codec_writes : {B : Type 0} → PlainCodec B → PartialEncoderCapability
 codec_writes (bytes_codec order) = record { partial_encode = true }
+codec_writes (packbits_codec settings) = record { partial_encode = false }
 codec_writes (vlen_codec ia ix ib da dx db wide at_end) = record { partial_encode = false }
 codec_writes (optional_codec ma mx mb da dx db) = record { partial_encode = false }
 

@@ -16,7 +16,8 @@ use Rattle.zarrs_codec.specs.CoordinateMap.{moved_chunk, inverse_map}
 use Rattle.zarrs_array_to_array.specs.ArrayToArrayCodec.{ArrayMapping}
 use Rattle.zarrs_bytes.specs.ByteOrder.{bytes_of}
 use Rattle.zarrs_bytes.specs.BytesCodec.{bytes_chunk}
-use Rattle.zarrs_codec_chain.specs.PlainChain.{PlainCodec, bytes_codec, vlen_codec, optional_codec, PlainChain}
+use Rattle.zarrs_packbits.specs.PackBitsCodec.{packbits_chunk}
+use Rattle.zarrs_codec_chain.specs.PlainChain.{PlainCodec, bytes_codec, packbits_codec, vlen_codec, optional_codec, PlainChain}
 use Rattle.zarrs_codec_chain.specs.ArrayStages.{arrays_map}
 use Rattle.zarrs_codec_chain.specs.BytesStages.{outer_bytes}
 use Rattle.zarrs_codec_chain.specs.Encode.{offset_bytes, all_bytes}
@@ -134,6 +135,7 @@ around_chunk f arrays measure content outer sizes type fill value = do
 
 unfoldable pub codec_chunk : {B : Type 0} → BytesCodecs B → PlainCodec B → Decoder
 codec_chunk f (bytes_codec order) sizes type fill value = bytes_chunk order sizes type fill value
+codec_chunk f (packbits_codec settings) sizes type fill value = packbits_chunk settings sizes type fill value
 codec_chunk f (vlen_codec ia ix ib da dx db wide at_end) sizes type fill value =
     vlen_chunk wide at_end (around_chunk f ia (codec_representation f ix) (codec_chunk f ix) ib) (around_chunk f da (codec_representation f dx) (codec_chunk f dx) db) (product sizes) value
 codec_chunk f (optional_codec ma mx mb da dx db) sizes type fill value =

@@ -16,7 +16,10 @@ use Rattle.zarrs_codec.specs.CoordinateMap.{moved_chunk}
 use Rattle.zarrs_array_to_array.specs.ArrayToArrayCodec.{ArrayMapping}
 use Rattle.zarrs_bytes.specs.ByteOrder.{bytes_of}
 use Rattle.zarrs_bytes.specs.BytesCodec.{spelling}
-use Rattle.zarrs_codec_chain.specs.PlainChain.{PlainCodec, bytes_codec, vlen_codec, optional_codec, PlainChain}
+use Rattle.zarrs_packbits.specs.BitStream.{chunk_stream}
+use Rattle.zarrs_packbits.specs.PackBitsSettings.{PackBitsSettings, packed_layout}
+use Rattle.zarrs_packbits.specs.PaddingByte.{value_with}
+use Rattle.zarrs_codec_chain.specs.PlainChain.{PlainCodec, bytes_codec, packbits_codec, vlen_codec, optional_codec, PlainChain}
 use Rattle.zarrs_codec_chain.specs.ArrayStages.{arrays_map}
 use Rattle.zarrs_codec_chain.specs.BytesStages.{in_memory, outer_value}
 use Rattle.zarrs_codec_chain.specs.NormalForm.{normal_element}
@@ -30,6 +33,14 @@ Encoder = List ℕ → ElementType → List ℕ → Chunk → Result (List ℕ) 
 abbrev pub part_value : Encoder → ElementType → List ℕ → Chunk → Result (List ℕ) CodecError
 part_value encode type fill [] = Ok []
 part_value encode type fill (element ∷ chunk) = encode (length (element ∷ chunk) ∷ []) type fill (element ∷ chunk)
+
+-- ---- packbits
+
+-- the kept bits of the components, packed
+abbrev pub packed_value : PackBitsSettings → Encoder
+packed_value settings sizes type fill chunk = do
+  l ← packed_layout settings sizes type fill
+  Ok (value_with l (chunk_stream l chunk))
 
 -- ---- vlen
 
@@ -111,24 +122,22 @@ optional_value mask data' sizes type chunk = Ok []
 
 -- ---- chains
 
--- what a codec to bytes writes of a chunk that it takes
-abbrev pub ContentEncoder : Type 0
-ContentEncoder = List ℕ → ElementType → Chunk → Result (List ℕ) CodecError
-
 -- the value through a chain, by its representation and what its codec to bytes writes
-abbrev pub around_value : {B : Type 0} → BytesCodecs B → List ArrayMapping → Measure → ContentEncoder → List B → Encoder
+abbrev pub around_value : {B : Type 0} → BytesCodecs B → List ArrayMapping → Measure → Encoder → List B → Encoder
 around_value f arrays measure content outer sizes type fill chunk = do
   _ ← around_representation f arrays measure outer sizes type fill
   _ ← sizes_fit type (product sizes)
   m ← arrays_map type arrays sizes
-  below ← content m.encoded type (moved_chunk m chunk)
+  below ← content m.encoded type fill (moved_chunk m chunk)
   outer_value f outer below
 
-unfoldable pub codec_value : {B : Type 0} → BytesCodecs B → PlainCodec B → ContentEncoder
-codec_value f (bytes_codec order) sizes type chunk = Ok (spelling order type chunk)
-codec_value f (vlen_codec ia ix ib da dx db wide at_end) sizes type chunk =
+-- what a codec to bytes writes of a chunk that it takes
+unfoldable pub codec_value : {B : Type 0} → BytesCodecs B → PlainCodec B → Encoder
+codec_value f (bytes_codec order) sizes type fill chunk = Ok (spelling order type chunk)
+codec_value f (packbits_codec settings) sizes type fill chunk = packed_value settings sizes type fill chunk
+codec_value f (vlen_codec ia ix ib da dx db wide at_end) sizes type fill chunk =
     vlen_value wide at_end (normal_element ix) (around_value f ia (codec_representation f ix) (codec_value f ix) ib) (around_value f da (codec_representation f dx) (codec_value f dx) db) chunk
-codec_value f (optional_codec ma mx mb da dx db) sizes type chunk =
+codec_value f (optional_codec ma mx mb da dx db) sizes type fill chunk =
     optional_value (around_value f ma (codec_representation f mx) (codec_value f mx) mb) (around_value f da (codec_representation f dx) (codec_value f dx) db) sizes type chunk
 
 -- the value that a chain writes of a chunk, or the first refusal

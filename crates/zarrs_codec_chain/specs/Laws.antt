@@ -1,21 +1,20 @@
 -- Laws of chains: of those without chains inside, and of lawful bytes codecs.
 use Rattle.std.specs.Prelude.{◌≡◌, ◌<◌, ◌↔◌, ℕ, true, List, Ok, All}
 use Rattle.zarrs_data_type.specs.ElementType.{ElementType}
-use Rattle.zarrs_data_type.specs.Element.{Element, plain, absent, present, Chunk}
-use Rattle.zarrs_codec.specs.BytesToBytesCodec.{BytesCodecs, IsLawful, AreBytes, KeepsTo}
+use Rattle.zarrs_chunk.specs.ChunkShape.{product}
+use Rattle.zarrs_data_type.specs.Element.{Chunk, AreElements}
+use Rattle.zarrs_array_bytes.specs.Update.{update}
+use Rattle.zarrs_codec.specs.CoordinateMap.{CoordinateMap, moved_chunk}
+use Rattle.zarrs_codec.specs.BytesToBytesCodec.{BytesCodecs, IsLawful, KeepsTo}
 use Rattle.zarrs_codec.specs.declared.bytes_representation.BytesRepresentation.{BytesRepresentation}
-use Rattle.zarrs_array_to_array.specs.ArrayToArrayCodec.{ArrayMapping, IsMapping}
+use Rattle.zarrs_array_to_array.specs.ArrayToArrayCodec.{IsMapping}
+use Rattle.zarrs_bytes.specs.BytesCodec.{IsChunk}
+use Rattle.zarrs_packbits.specs.Laws.{HasBytes}
 use Rattle.zarrs_codec_chain.specs.PlainChain.{PlainCodec, PlainChain, is_flat}
 use Rattle.zarrs_codec_chain.specs.NormalForm.{normal_form}
 use Rattle.zarrs_codec_chain.specs.Representation.{chain_representation}
 use Rattle.zarrs_codec_chain.specs.Stands.{ChainStands}
 use Rattle.zarrs_codec_chain.specs.Written.{ChainWritten}
-
--- all of the element is bytes
-abbrev pub HasBytes : Element → Type 0
-HasBytes (plain items) = AreBytes items
-HasBytes absent = Unit {0}
-HasBytes (present element) = HasBytes element
 
 -- a chain without chains inside, whose array codecs are what their types hold to
 pub record IsFlatChain {B : Type 0} (chain : PlainChain B) : Type 0 where
@@ -42,17 +41,29 @@ WrittenOnce {B} f =
     (chain : PlainChain B) (sizes : List ℕ) (type : ElementType) (fill value other : List ℕ) (chunk : Chunk)
     → IsFlatChain chain → ChainWritten f chain sizes type fill value chunk → ChainWritten f chain sizes type fill other chunk → value ≡ other
 
--- The normal form of a normal form is the same.
+-- The normal form of a normal form is the same, for elements of the type.
 abbrev pub NormalTwice : Type 0 → Type 0
 NormalTwice B =
     (codec : PlainCodec B) (type : ElementType) (chunk : Chunk)
-    → is_flat codec ≡ true → normal_form codec type (normal_form codec type chunk) ≡ normal_form codec type chunk
+    → is_flat codec ≡ true → AreElements type chunk → normal_form codec type (normal_form codec type chunk) ≡ normal_form codec type chunk
 
--- What is written for a chunk is what is written for its normal form.
+-- The normal form of a chunk that array codecs move is the normal form moved.
+abbrev pub NormalMoved : Type 0 → Type 0
+NormalMoved B =
+    (codec : PlainCodec B) (type : ElementType) (m : CoordinateMap) (chunk : Chunk)
+    → is_flat codec ≡ true → normal_form codec type (moved_chunk m chunk) ≡ moved_chunk m (normal_form codec type chunk)
+
+-- The normal form of an updated chunk is the normal form updated with that of the new elements.
+abbrev pub NormalUpdated : Type 0 → Type 0
+NormalUpdated B =
+    (codec : PlainCodec B) (type : ElementType) (chunk : Chunk) (places : List ℕ) (new : Chunk)
+    → is_flat codec ≡ true → normal_form codec type (update chunk places new) ≡ update (normal_form codec type chunk) places (normal_form codec type new)
+
+-- What is written for a chunk of the sizes and the type is what is written for its normal form.
 abbrev pub WrittenForNormal : {B : Type 0} → BytesCodecs B → Type 0
 WrittenForNormal {B} f =
     (chain : PlainChain B) (sizes : List ℕ) (type : ElementType) (fill value : List ℕ) (chunk : Chunk)
-    → IsFlatChain chain → ChainWritten f chain sizes type fill value chunk ↔ ChainWritten f chain sizes type fill value (normal_form chain.codec type chunk)
+    → IsFlatChain chain → IsChunk type (product sizes) chunk → ChainWritten f chain sizes type fill value chunk ↔ ChainWritten f chain sizes type fill value (normal_form chain.codec type chunk)
 
 -- Two chunks are written alike exactly if their normal forms are equal.
 abbrev pub WrittenAlike : {B : Type 0} → BytesCodecs B → Type 0

@@ -2,7 +2,8 @@
 use Rattle.std.specs.Prelude.{ℕ, [], ◌∷◌, map}
 use Rattle.zarrs_data_type.specs.ElementType.{ElementType, text, bytes, optional}
 use Rattle.zarrs_data_type.specs.Element.{Element, plain, present, Chunk}
-use Rattle.zarrs_codec_chain.specs.PlainChain.{PlainCodec, bytes_codec, vlen_codec, optional_codec}
+use Rattle.zarrs_packbits.specs.NormalForm as packbits
+use Rattle.zarrs_codec_chain.specs.PlainChain.{PlainCodec, bytes_codec, packbits_codec, vlen_codec, optional_codec}
 use Rattle.zarrs_codec_chain.specs.Representation.{byte_type}
 
 -- the byte of an element of one byte
@@ -24,6 +25,7 @@ optional_normal data' type element = element
 -- an element as the codec keeps it; of a type that the codec doesn't take, the element itself
 unfoldable pub normal_element : {B : Type 0} → PlainCodec B → ElementType → Element → Element
 normal_element (bytes_codec order) type element = element
+normal_element (packbits_codec settings) type element = packbits.normal_element settings type element
 normal_element (vlen_codec ia ix ib da dx db wide at_end) type element = vlen_normal (normal_element dx) type element
 normal_element (optional_codec ma mx mb da dx db) type element = optional_normal (normal_element dx) type element
 

@@ -2,11 +2,14 @@
 use Rattle.std.specs.Prelude.{Bool, true, false, Option, List}
 use Rattle.zarrs_data_type.specs.declared.endianness.Endianness.{Endianness}
 use Rattle.zarrs_array_to_array.specs.ArrayToArrayCodec.{ArrayMapping}
+use Rattle.zarrs_packbits.specs.PackBitsSettings.{PackBitsSettings}
 
 -- A codec to bytes. One that has chains inside has the parts of each of them: its array codecs, its codec to bytes, its bytes codecs.
 pub data PlainCodec (B : Type 0) : Type 0 where
   -- the byte order
   bytes_codec : Option Endianness → PlainCodec B
+  -- where the padding byte stands, and which bits are kept
+  packbits_codec : PackBitsSettings → PlainCodec B
   -- the index chain, the data chain, whether offsets have 64 bits, whether the index stands at the end
   vlen_codec : List ArrayMapping → PlainCodec B → List B → List ArrayMapping → PlainCodec B → List B → Bool → Bool → PlainCodec B
   -- the mask chain, the data chain
@@ -21,5 +24,6 @@ pub record PlainChain (B : Type 0) : Type 0 where
 -- the codec has no chain inside
 abbrev pub is_flat : {B : Type 0} → PlainCodec B → Bool
 is_flat (bytes_codec order) = true
+is_flat (packbits_codec settings) = true
 is_flat (vlen_codec ia ix ib da dx db wide at_end) = false
 is_flat (optional_codec ma mx mb da dx db) = false

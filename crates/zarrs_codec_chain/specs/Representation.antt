@@ -12,7 +12,8 @@ use Rattle.zarrs_codec.specs.declared.bytes_representation.BytesRepresentation.{
 use Rattle.zarrs_codec.specs.declared.bytes_representation.BytesRepresentation.TheVariants.{FixedSize, BoundedSize, UnboundedSize}
 use Rattle.zarrs_array_to_array.specs.ArrayToArrayCodec.{ArrayMapping}
 use Rattle.zarrs_bytes.specs.BytesCodec.{bytes_length}
-use Rattle.zarrs_codec_chain.specs.PlainChain.{PlainCodec, bytes_codec, vlen_codec, optional_codec, PlainChain}
+use Rattle.zarrs_packbits.specs.PackBitsSettings.{packbits_length}
+use Rattle.zarrs_codec_chain.specs.PlainChain.{PlainCodec, bytes_codec, packbits_codec, vlen_codec, optional_codec, PlainChain}
 use Rattle.zarrs_codec_chain.specs.ArrayStages.{arrays_map}
 use Rattle.zarrs_codec_chain.specs.BytesStages.{outer_representation}
 
@@ -89,6 +90,7 @@ around_representation f arrays measure outer sizes type fill = do
 
 unfoldable pub codec_representation : {B : Type 0} → BytesCodecs B → PlainCodec B → Measure
 codec_representation f (bytes_codec order) sizes type fill = seen FixedSize (bytes_length order sizes type fill)
+codec_representation f (packbits_codec settings) sizes type fill = seen FixedSize (packbits_length settings sizes type fill)
 codec_representation f (vlen_codec ia ix ib da dx db wide at_end) sizes type fill = vlen_representation sizes type fill
 codec_representation f (optional_codec ma mx mb da dx db) sizes type fill =
     optional_representation (around_representation f ma (codec_representation f mx) mb) (around_representation f da (codec_representation f dx) db) sizes type fill

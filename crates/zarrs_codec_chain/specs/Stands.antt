@@ -9,7 +9,8 @@ use Rattle.zarrs_codec.specs.CoordinateMap.{CoordinateMap, moved_chunk}
 use Rattle.zarrs_codec.specs.declared.bytes_representation.BytesRepresentation.{BytesRepresentation}
 use Rattle.zarrs_array_to_array.specs.ArrayToArrayCodec.{ArrayMapping}
 use Rattle.zarrs_bytes.specs.BytesCodec.{IsChunk, BytesStands}
-use Rattle.zarrs_codec_chain.specs.PlainChain.{PlainCodec, bytes_codec, vlen_codec, optional_codec, PlainChain}
+use Rattle.zarrs_packbits.specs.PackBitsCodec.{PackBitsStands}
+use Rattle.zarrs_codec_chain.specs.PlainChain.{PlainCodec, bytes_codec, packbits_codec, vlen_codec, optional_codec, PlainChain}
 use Rattle.zarrs_codec_chain.specs.ArrayStages.{arrays_map}
 use Rattle.zarrs_codec_chain.specs.BytesStages.{outer_bytes}
 use Rattle.zarrs_codec_chain.specs.Encode.{offset_bytes, all_bytes, flag_of, present_of}
@@ -80,6 +81,7 @@ pub record StandsThrough {B : Type 0} (f : BytesCodecs B) (arrays : List ArrayMa
 
 unfoldable pub CodecStands : {B : Type 0} → BytesCodecs B → PlainCodec B → Standing
 CodecStands f (bytes_codec order) sizes type fill value chunk = BytesStands order sizes type fill value chunk
+CodecStands f (packbits_codec settings) sizes type fill value chunk = PackBitsStands settings sizes type fill value chunk
 CodecStands f (vlen_codec ia ix ib da dx db wide at_end) sizes type fill value chunk =
     VlenStands wide at_end (StandsThrough f ia (codec_representation f ix) (CodecStands f ix) ib) (StandsThrough f da (codec_representation f dx) (CodecStands f dx) db) (product sizes) value chunk
 CodecStands f (optional_codec ma mx mb da dx db) sizes type fill value chunk =

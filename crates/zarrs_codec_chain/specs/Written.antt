@@ -9,7 +9,8 @@ use Rattle.zarrs_codec.specs.CoordinateMap.{CoordinateMap, moved_chunk}
 use Rattle.zarrs_codec.specs.declared.bytes_representation.BytesRepresentation.{BytesRepresentation}
 use Rattle.zarrs_array_to_array.specs.ArrayToArrayCodec.{ArrayMapping}
 use Rattle.zarrs_bytes.specs.BytesCodec.{IsChunk, BytesWritten}
-use Rattle.zarrs_codec_chain.specs.PlainChain.{PlainCodec, bytes_codec, vlen_codec, optional_codec, PlainChain}
+use Rattle.zarrs_packbits.specs.PackBitsCodec.{PackBitsWritten}
+use Rattle.zarrs_codec_chain.specs.PlainChain.{PlainCodec, bytes_codec, packbits_codec, vlen_codec, optional_codec, PlainChain}
 use Rattle.zarrs_codec_chain.specs.ArrayStages.{arrays_map}
 use Rattle.zarrs_codec_chain.specs.BytesStages.{OuterWritten}
 use Rattle.zarrs_codec_chain.specs.Encode.{chunk_offsets, offset_bytes, offset_elements, offset_fits, byte_elements, all_bytes, vlen_layout, flag_of, present_of, optional_layout}
@@ -61,6 +62,7 @@ pub record WrittenThrough {B : Type 0} (f : BytesCodecs B) (arrays : List ArrayM
 
 unfoldable pub CodecWritten : {B : Type 0} → BytesCodecs B → PlainCodec B → Standing
 CodecWritten f (bytes_codec order) sizes type fill value chunk = BytesWritten order sizes type fill value chunk
+CodecWritten f (packbits_codec settings) sizes type fill value chunk = PackBitsWritten settings sizes type fill value chunk
 CodecWritten f (vlen_codec ia ix ib da dx db wide at_end) sizes type fill value chunk =
     VlenWritten wide at_end (normal_element ix) (WrittenThrough f ia (codec_representation f ix) (CodecWritten f ix) ib) (WrittenThrough f da (codec_representation f dx) (CodecWritten f dx) db) value chunk
 CodecWritten f (optional_codec ma mx mb da dx db) sizes type fill value chunk =

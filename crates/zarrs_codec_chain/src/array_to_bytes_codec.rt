@@ -12,19 +12,23 @@ use zarrs_array_bytes::{ArrayBytes, ArrayBytesRaw};
 use zarrs_bytes::BytesCodec;
 use zarrs_chunk::{ChunkShape, CodecError};
 use zarrs_codec::{
-    BytesRepresentation, BytesToBytesCodecTraits, PartialDecoderCapability,
+    BytesRepresentation, BytesToBytesCodecTraits, CodecTraits, PartialDecoderCapability,
     PartialEncoderCapability,
 };
 use zarrs_data_type::{DataType, FillValue};
+use zarrs_packbits::PackBitsCodec;
 
 /// A codec of chunks to bytes.
 #[derive(Clone, Copy, Debug)]
 pub enum ArrayToBytesCodec {
+    /// The bytes of the elements (codec `bytes`).
     Bytes(BytesCodec),
+    /// Some bits of each component (codec `packbits`).
+    PackBits(PackBitsCodec),
 }
 
 /// How many bytes the value of such a chunk has. Refusals: the codec's own.
-#[tactic(auto, unfolding(crate::specs::Representation::codec_representation))]
+#[tactic(auto, unfolding(crate::specs::Representation::codec_representation), using(crate::proofs::CodecSteps::packbits_no_fault))]
 pub(crate) fn codec_representation<B: BytesToBytesCodecTraits>(
     codec: &ArrayToBytesCodec,
     shape: &ChunkShape,
@@ -38,11 +42,14 @@ pub(crate) fn codec_representation<B: BytesToBytesCodecTraits>(
         ArrayToBytesCodec::Bytes(codec) => {
             codec.encoded_representation(shape, data_type, fill_value)
         }
+        ArrayToBytesCodec::PackBits(codec) => {
+            codec.encoded_representation(shape, data_type, fill_value)
+        }
     }
 }
 
 /// The value of the chunk that `elements` hold. Refusals: the codec's own.
-#[tactic(auto, using(crate::proofs::CodecSteps::bytes_held_value))]
+#[tactic(auto, using(crate::proofs::CodecSteps::bytes_held_value, crate::proofs::CodecSteps::packbits_held_value))]
 pub(crate) fn codec_encode<'a, B: BytesToBytesCodecTraits>(
     alloc: Global,
     codec: &ArrayToBytesCodec,
@@ -56,6 +63,9 @@ pub(crate) fn codec_encode<'a, B: BytesToBytesCodecTraits>(
 {
     match codec {
         ArrayToBytesCodec::Bytes(codec) => {
+            codec.encode(alloc, elements, shape, data_type, fill_value)
+        }
+        ArrayToBytesCodec::PackBits(codec) => {
             codec.encode(alloc, elements, shape, data_type, fill_value)
         }
     }
@@ -76,6 +86,9 @@ pub(crate) fn codec_decode<'a, B: BytesToBytesCodecTraits>(
 {
     match codec {
         ArrayToBytesCodec::Bytes(codec) => codec.decode(alloc, value, shape, data_type, fill_value),
+        ArrayToBytesCodec::PackBits(codec) => {
+            codec.decode(alloc, value, shape, data_type, fill_value)
+        }
     }
 }
 
@@ -88,6 +101,7 @@ pub(crate) fn codec_reads<B>(codec: &ArrayToBytesCodec) -> PartialDecoderCapabil
             partial_read: true,
             partial_decode: true,
         },
+        ArrayToBytesCodec::PackBits(codec) => codec.partial_decoder_capability(),
     }
 }
 
@@ -99,5 +113,6 @@ pub(crate) fn codec_writes<B>(codec: &ArrayToBytesCodec) -> PartialEncoderCapabi
         ArrayToBytesCodec::Bytes(_) => PartialEncoderCapability {
             partial_encode: true,
         },
+        ArrayToBytesCodec::PackBits(codec) => codec.partial_encoder_capability(),
     }
 }

@@ -233,7 +233,8 @@ impl<B: BytesToBytesCodecTraits> CodecChain<B> {
 
     /// The chunk that a value stands for. Refusals, the first that holds, `OutOfMemory` aside: those
     /// of `encoded_representation`; `BytesCodec` of the last bytes codec, then of the one before;
-    /// `InvalidBytesLength` where what stands below them has another length.
+    /// `InvalidBytesLength` where what stands below them has another length; `PaddingByte` where
+    /// its padding byte isn't the number of spare bits.
     ///
     /// Each codec gets what the one behind it made, owned bytes as owned ones.
     pub fn decode<'a>(

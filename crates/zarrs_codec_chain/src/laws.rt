@@ -1,7 +1,7 @@
 //! Laws over the definitions alone: each function's contract is one. They are of chains without
 //! chains inside.
 ghost use Rattle.zarrs_codec.specs.BytesToBytesCodec.{BytesCodecs};
-ghost use Rattle.zarrs_codec_chain.specs.Laws.{WrittenStands, StandsForOne, WrittenOnce, NormalTwice, WrittenForNormal, WrittenAlike, WrittenKeeps};
+ghost use Rattle.zarrs_codec_chain.specs.Laws.{WrittenStands, StandsForOne, WrittenOnce, NormalTwice, NormalMoved, NormalUpdated, WrittenForNormal, WrittenAlike, WrittenKeeps};
 
 /// What is written for a chunk stands for its normal form.
 pub fn written_stands<B>()
@@ -22,6 +22,16 @@ pub fn written_once<B>()
 pub fn normal_twice<B>()
     ensures law { NormalTwice B }
     ensures written { (f : BytesCodecs B) → WrittenForNormal f }
+{}
+
+/// The normal form of a chunk that array codecs move is the normal form moved.
+pub fn normal_moved<B>()
+    ensures law { NormalMoved B }
+{}
+
+/// The normal form of an updated chunk is the normal form updated with that of the new elements.
+pub fn normal_updated<B>()
+    ensures law { NormalUpdated B }
 {}
 
 /// Two chunks are written alike exactly if their normal forms are equal.

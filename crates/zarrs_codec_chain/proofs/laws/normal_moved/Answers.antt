@@ -1,0 +1,5 @@
+use Rattle.zarrs_codec_chain.proofs.ChainLaws.{normal_moved}
+use Rattle.zarrs_codec_chain.proofs.laws.normal_moved.Goals as goal
+
+pub returns : goal.returns
+returns g c = record { law = λ codec type m chunk h. normal_moved codec type m chunk h }

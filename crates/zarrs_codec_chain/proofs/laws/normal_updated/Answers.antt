@@ -1,0 +1,5 @@
+use Rattle.zarrs_codec_chain.proofs.ChainLaws.{normal_updated}
+use Rattle.zarrs_codec_chain.proofs.laws.normal_updated.Goals as goal
+
+pub returns : goal.returns
+returns g c = record { law = λ codec type chunk places new h. normal_updated codec type chunk places new h }
