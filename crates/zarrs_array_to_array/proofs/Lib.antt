@@ -23,3 +23,4 @@ pub mod PlaneRows
 pub mod AxisRows
 pub mod FixedChunks
 pub mod Readers
+pub mod BlockRows
