@@ -5,7 +5,7 @@ use std::alloc::Global;
 use std::process::Abort;
 use std::test::Fail;
 use zarrs_array_to_array::{ArrayToArrayCodec, SqueezeCodec, encoded_places};
-use zarrs_chunk::{CodecError, Indexer};
+use zarrs_chunk::{ChunkShape, CodecError, Indexer};
 use zarrs_codec::ArrayToArrayCodecTraits;
 
 const SQUARE: &'static [u64] = &[4, 4];
@@ -81,45 +81,81 @@ fn asks_for<C: ArrayToArrayCodecTraits>(
     sizes: &[u64],
     indexer: &Indexer,
     places: &[u64],
-) -> Result<(), Fail> {
+) -> Result<(), CodecError> {
     let decoded = shape(alloc, sizes)?;
     let encoded = codec.encoded_shape(alloc, &decoded)?;
     let asked = codec.encoded_indexer(alloc, indexer, &decoded)?;
-    let came = asked.places(alloc, &encoded)?;
+    has_places(rt, alloc, &asked, &encoded, places)
+}
+
+fn has_places(
+    rt: &impl Abort,
+    alloc: Global,
+    asked: &Indexer,
+    encoded: &ChunkShape,
+    places: &[u64],
+) -> Result<(), CodecError> {
+    let came = asked.places(alloc, encoded)?;
     are(rt, "places", came.as_slice(), places);
     Ok(())
+}
+
+fn asks_for_row(
+    rt: &impl Abort,
+    alloc: Global,
+    codec: &ArrayToArrayCodec,
+    sizes: &[u64],
+    asked: &Asked<'_>,
+    places: &[u64],
+) -> Result<(), CodecError> {
+    asks_for(rt, alloc, codec, sizes, &indexer(alloc, asked)?, places)
 }
 
 #[test]
 fn encoded_indexers_have_the_places(rt: HostRuntime) -> Result<(), Fail> {
     for (told, sizes, asked, places) in PLACES.iter() {
         let codec = codec_of(rt.alloc(), told)?;
-        let indexer = indexer(rt.alloc(), asked)?;
-        asks_for(&rt, rt.alloc(), &codec, sizes, &indexer, places)?;
+        asks_for_row(&rt, rt.alloc(), &codec, sizes, asked, places)?;
     }
     Ok(())
+}
+
+/// The last row of a chunk of `[2, 1, 3]`.
+const LAST_ROW: Asked<'static> = Asked::Ranges(&[1..2, 0..1, 0..3]);
+
+fn asks_for_last_row<C: ArrayToArrayCodecTraits>(
+    rt: &impl Abort,
+    alloc: Global,
+    codec: &C,
+    places: &[u64],
+) -> Result<(), CodecError> {
+    let row = indexer(alloc, &LAST_ROW)?;
+    asks_for(rt, alloc, codec, &[2, 1, 3], &row, places)
 }
 
 /// The same of each codec by itself.
 #[test]
 fn each_codec_has_encoded_indexers(rt: HostRuntime) -> Result<(), Fail> {
     let alloc = rt.alloc();
-    let sizes: &[u64] = &[2, 1, 3];
-    let row = indexer(alloc, &Asked::Ranges(&[1..2, 0..1, 0..3]))?;
-    let order = transpose(alloc, &[2, 1, 0])?;
-    asks_for(&rt, alloc, &order, sizes, &row, &[1, 3, 5])?;
-    let reshaped = reshape(alloc, &[Rest])?;
-    asks_for(&rt, alloc, &reshaped, sizes, &row, &[3, 4, 5])?;
-    asks_for(&rt, alloc, &SqueezeCodec::new(), sizes, &row, &[3, 4, 5])
+    asks_for_last_row(&rt, alloc, &transpose(alloc, &[2, 1, 0])?, &[1, 3, 5])?;
+    asks_for_last_row(&rt, alloc, &reshape(alloc, &[Rest])?, &[3, 4, 5])?;
+    asks_for_last_row(&rt, alloc, &SqueezeCodec::new(), &[3, 4, 5])?;
+    Ok(())
+}
+
+fn is_region(rt: &impl Abort, indexer: &Indexer) {
+    is(rt, "region", &matches!(indexer, Indexer::Subset(_)), &true);
+}
+
+fn squeezed_row(alloc: Global) -> Result<Indexer, CodecError> {
+    let row = indexer(alloc, &LAST_ROW)?;
+    SqueezeCodec::new().encoded_indexer(alloc, &row, &shape(alloc, &[2, 1, 3])?)
 }
 
 /// A region of a chunk is one of the squeezed chunk.
 #[test]
 fn a_squeezed_region_is_a_region(rt: HostRuntime) -> Result<(), Fail> {
-    let row = indexer(rt.alloc(), &Asked::Ranges(&[1..2, 0..1, 0..3]))?;
-    let decoded = shape(rt.alloc(), &[2, 1, 3])?;
-    let encoded = SqueezeCodec::new().encoded_indexer(rt.alloc(), &row, &decoded)?;
-    is(&rt, "region", &matches!(encoded, Indexer::Subset(_)), &true);
+    is_region(&rt, &squeezed_row(rt.alloc())?);
     Ok(())
 }
 
@@ -220,8 +256,14 @@ fn refuses(
 #[test]
 fn indexers_are_refused(rt: HostRuntime) -> Result<(), Fail> {
     for (told, sizes, asked, cause) in REFUSED.iter() {
-        let codec = codec_of(rt.alloc(), told)?;
-        refuses(&rt, rt.alloc(), &codec, sizes, asked, *cause)?;
+        refuses(
+            &rt,
+            rt.alloc(),
+            &codec_of(rt.alloc(), told)?,
+            sizes,
+            asked,
+            *cause,
+        )?;
     }
     Ok(())
 }
@@ -278,10 +320,21 @@ fn go(
     sizes: &[u64],
     asked: &Asked<'_>,
     places: &[u64],
-) -> Result<(), Fail> {
+) -> Result<(), CodecError> {
     let shape = shape(alloc, sizes)?;
     let indexer = indexer(alloc, asked)?;
-    let came = encoded_places(alloc, codecs, &shape, &indexer)?;
+    go_to(rt, alloc, codecs, &shape, &indexer, places)
+}
+
+fn go_to(
+    rt: &impl Abort,
+    alloc: Global,
+    codecs: &[ArrayToArrayCodec],
+    shape: &ChunkShape,
+    indexer: &Indexer,
+    places: &[u64],
+) -> Result<(), CodecError> {
+    let came = encoded_places(alloc, codecs, shape, indexer)?;
     are(rt, "places", came.as_slice(), places);
     Ok(())
 }
