@@ -14,12 +14,12 @@ fn has_ends(rt: &impl Abort, alloc: Global, start: u64, end: u64) -> Result<(), 
     is(rt, "start", &range.start(), &start);
     is(rt, "end", &range.end(), &end);
     is(rt, "copy", &range.clone()?, &range);
-    is(
-        rt,
-        "shown",
-        &format!(in alloc; "{range:?}")?.contains("start"),
-        &true,
-    );
+    is_shown(rt, alloc, &range)
+}
+
+fn is_shown(rt: &impl Abort, alloc: Global, range: &ByteRange) -> Result<(), Fail> {
+    let text = format!(in alloc; "{range:?}")?;
+    is(rt, "shown", &text.contains("start"), &true);
     Ok(())
 }
 
@@ -34,10 +34,15 @@ fn has_a_start_and_an_end(rt: HostRuntime) -> Result<(), Fail> {
 #[test]
 fn differs_by_its_ends(rt: HostRuntime) {
     for (place, (start, end)) in RANGES.iter().enumerate() {
-        for (other_place, (other_start, other_end)) in RANGES.iter().enumerate() {
-            let same = ByteRange::new(*start..*end) == ByteRange::new(*other_start..*other_end);
-            is(&rt, "same", &same, &(place == other_place));
-        }
+        is_at(&rt, *start, *end, place);
+    }
+}
+
+/// The range is the one at this place alone.
+fn is_at(rt: &impl Abort, start: u64, end: u64, place: usize) {
+    for (other_place, (other_start, other_end)) in RANGES.iter().enumerate() {
+        let same = ByteRange::new(start..end) == ByteRange::new(*other_start..*other_end);
+        is(rt, "same", &same, &(place == other_place));
     }
 }
 
@@ -74,12 +79,8 @@ fn has_size(
 ) -> Result<(), Fail> {
     is(rt, text, &representation.size(), &size);
     is(rt, text, &representation.clone()?, &representation);
-    is(
-        rt,
-        text,
-        &format!(in alloc; "{representation:?}")?.as_str(),
-        &text,
-    );
+    let shown = format!(in alloc; "{representation:?}")?;
+    is(rt, text, &shown.as_str(), &text);
     Ok(())
 }
 
@@ -94,8 +95,13 @@ fn representations_have_a_greatest_size(rt: HostRuntime) -> Result<(), Fail> {
 #[test]
 fn representations_differ_by_kind_and_size(rt: HostRuntime) {
     for (place, (one, _, text)) in REPRESENTATIONS.iter().enumerate() {
-        for (other_place, (other, _, _)) in REPRESENTATIONS.iter().enumerate() {
-            is(&rt, text, &(one == other), &(place == other_place));
-        }
+        is_representation_at(&rt, one, text, place);
+    }
+}
+
+/// The representation is the one at this place alone.
+fn is_representation_at(rt: &impl Abort, one: &BytesRepresentation, text: &str, place: usize) {
+    for (other_place, (other, _, _)) in REPRESENTATIONS.iter().enumerate() {
+        is(rt, text, &(one == other), &(place == other_place));
     }
 }
