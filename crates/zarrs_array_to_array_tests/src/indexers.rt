@@ -13,7 +13,9 @@ const SQUARE: &'static [u64] = &[4, 4];
 const LINES: &'static [u64] = &[1, 4, 1, 4, 1];
 
 /// Codecs, sizes of chunks, what is asked of them, and its places in the encoded chunk.
-const PLACES: [(Codec, &'static [u64], Asked<'static>, &'static [u64]); 12] = [
+type Row = (Codec, &'static [u64], Asked<'static>, &'static [u64]);
+
+const PLACES: [Row; 12] = [
     (
         Codec::Transpose(&[1, 0]),
         SQUARE,
@@ -111,11 +113,16 @@ fn asks_for_row(
     asks_for(rt, alloc, codec, sizes, &indexer(alloc, asked)?, places)
 }
 
+fn asks_for_told(rt: &impl Abort, alloc: Global, row: &Row) -> Result<(), Fail> {
+    let (told, sizes, asked, places) = row;
+    let codec = codec_of(alloc, told)?;
+    Ok(asks_for_row(rt, alloc, &codec, sizes, asked, places)?)
+}
+
 #[test]
 fn encoded_indexers_have_the_places(rt: HostRuntime) -> Result<(), Fail> {
-    for (told, sizes, asked, places) in PLACES.iter() {
-        let codec = codec_of(rt.alloc(), told)?;
-        asks_for_row(&rt, rt.alloc(), &codec, sizes, asked, places)?;
+    for row in PLACES.iter() {
+        asks_for_told(&rt, rt.alloc(), row)?;
     }
     Ok(())
 }
@@ -135,21 +142,34 @@ fn asks_for_last_row<C: ArrayToArrayCodecTraits>(
 
 /// The same of each codec by itself.
 #[test]
-fn each_codec_has_encoded_indexers(rt: HostRuntime) -> Result<(), Fail> {
-    let alloc = rt.alloc();
-    asks_for_last_row(&rt, alloc, &transpose(alloc, &[2, 1, 0])?, &[1, 3, 5])?;
-    asks_for_last_row(&rt, alloc, &reshape(alloc, &[Rest])?, &[3, 4, 5])?;
-    asks_for_last_row(&rt, alloc, &SqueezeCodec::new(), &[3, 4, 5])?;
-    Ok(())
+fn an_order_has_encoded_indexers(rt: HostRuntime) -> Result<(), Fail> {
+    let codec = transpose(rt.alloc(), &[2, 1, 0])?;
+    Ok(asks_for_last_row(&rt, rt.alloc(), &codec, &[1, 3, 5])?)
+}
+
+#[test]
+fn sizes_have_encoded_indexers(rt: HostRuntime) -> Result<(), Fail> {
+    let codec = reshape(rt.alloc(), &[Rest])?;
+    Ok(asks_for_last_row(&rt, rt.alloc(), &codec, &[3, 4, 5])?)
+}
+
+#[test]
+fn a_squeezing_codec_has_encoded_indexers(rt: HostRuntime) -> Result<(), Fail> {
+    Ok(asks_for_last_row(&rt, rt.alloc(), &SqueezeCodec::new(), &[3, 4, 5])?)
 }
 
 fn is_region(rt: &impl Abort, indexer: &Indexer) {
     is(rt, "region", &matches!(indexer, Indexer::Subset(_)), &true);
 }
 
+fn squeezed(alloc: Global, row: &Indexer) -> Result<Indexer, CodecError> {
+    let chunk = shape(alloc, &[2, 1, 3])?;
+    SqueezeCodec::new().encoded_indexer(alloc, row, &chunk)
+}
+
 fn squeezed_row(alloc: Global) -> Result<Indexer, CodecError> {
     let row = indexer(alloc, &LAST_ROW)?;
-    SqueezeCodec::new().encoded_indexer(alloc, &row, &shape(alloc, &[2, 1, 3])?)
+    squeezed(alloc, &row)
 }
 
 /// A region of a chunk is one of the squeezed chunk.
@@ -162,7 +182,9 @@ fn a_squeezed_region_is_a_region(rt: HostRuntime) -> Result<(), Fail> {
 const AXES: CodecError = CodecError::IncompatibleDimensionality;
 
 /// Codecs, sizes of chunks, what can't be asked of them, and why.
-const REFUSED: [(Codec, &'static [u64], Asked<'static>, CodecError); 13] = [
+type RefusedRow = (Codec, &'static [u64], Asked<'static>, CodecError);
+
+const REFUSED: [RefusedRow; 13] = [
     (
         Codec::Squeeze,
         &[1, 3],
@@ -253,17 +275,16 @@ fn refuses(
     )
 }
 
+fn refuses_told(rt: &impl Abort, alloc: Global, row: &RefusedRow) -> Result<(), Fail> {
+    let (told, sizes, asked, cause) = row;
+    let codec = codec_of(alloc, told)?;
+    refuses(rt, alloc, &codec, sizes, asked, *cause)
+}
+
 #[test]
 fn indexers_are_refused(rt: HostRuntime) -> Result<(), Fail> {
-    for (told, sizes, asked, cause) in REFUSED.iter() {
-        refuses(
-            &rt,
-            rt.alloc(),
-            &codec_of(rt.alloc(), told)?,
-            sizes,
-            asked,
-            *cause,
-        )?;
+    for row in REFUSED.iter() {
+        refuses_told(&rt, rt.alloc(), row)?;
     }
     Ok(())
 }
@@ -281,12 +302,14 @@ const CUBE: &'static [u64] = &[2, 2, 2];
 const TWICE: &'static [Codec] = &[Codec::Transpose(&[0, 2, 1]), Codec::Transpose(&[2, 0, 1])];
 
 /// Codecs, one after another, sizes of chunks, what is asked of them, and where it goes.
-const THROUGH: [(
+type ThroughRow = (
     &'static [Codec],
     &'static [u64],
     Asked<'static>,
     &'static [u64],
-); 5] = [
+);
+
+const THROUGH: [ThroughRow; 5] = [
     (&[], &[2, 3], Asked::Ranges(&[1..2, 0..3]), &[3, 4, 5]),
     (
         &[Codec::Transpose(&[1, 0])],
@@ -339,11 +362,16 @@ fn go_to(
     Ok(())
 }
 
+fn go_told(rt: &impl Abort, alloc: Global, row: &ThroughRow) -> Result<(), Fail> {
+    let (told, sizes, asked, places) = row;
+    let codecs = codecs(alloc, told)?;
+    Ok(go(rt, alloc, codecs.as_slice(), sizes, asked, places)?)
+}
+
 #[test]
 fn places_go_through_codecs(rt: HostRuntime) -> Result<(), Fail> {
-    for (told, sizes, asked, places) in THROUGH.iter() {
-        let codecs = codecs(rt.alloc(), told)?;
-        go(&rt, rt.alloc(), codecs.as_slice(), sizes, asked, places)?;
+    for row in THROUGH.iter() {
+        go_told(&rt, rt.alloc(), row)?;
     }
     Ok(())
 }

@@ -166,17 +166,21 @@ fn moves_words<C: ArrayToArrayCodecTraits>(
 }
 
 #[test]
-fn each_codec_moves_elements(rt: HostRuntime) -> Result<(), Fail> {
-    let alloc = rt.alloc();
-    moves_words(
-        &rt,
-        alloc,
-        &transpose(alloc, &[2, 1, 0])?,
-        &[0, 3, 1, 4, 2, 5],
-    )?;
-    moves_words(&rt, alloc, &reshape(alloc, &[Rest])?, &[0, 1, 2, 3, 4, 5])?;
-    moves_words(&rt, alloc, &SqueezeCodec::new(), &[0, 1, 2, 3, 4, 5])?;
-    Ok(())
+fn an_order_moves_elements(rt: HostRuntime) -> Result<(), Fail> {
+    let codec = transpose(rt.alloc(), &[2, 1, 0])?;
+    Ok(moves_words(&rt, rt.alloc(), &codec, &[0, 3, 1, 4, 2, 5])?)
+}
+
+#[test]
+fn sizes_move_no_elements(rt: HostRuntime) -> Result<(), Fail> {
+    let codec = reshape(rt.alloc(), &[Rest])?;
+    Ok(moves_words(&rt, rt.alloc(), &codec, &[0, 1, 2, 3, 4, 5])?)
+}
+
+#[test]
+fn a_squeezing_codec_moves_no_elements(rt: HostRuntime) -> Result<(), Fail> {
+    let numbers: &[u8] = &[0, 1, 2, 3, 4, 5];
+    Ok(moves_words(&rt, rt.alloc(), &SqueezeCodec::new(), numbers)?)
 }
 
 const BYTES: &'static [u8] = &[
@@ -201,6 +205,17 @@ fn comes_back(
     decodes(rt, alloc, codec, form, encoded, bytes)
 }
 
+fn comes_back_told(
+    rt: &impl Abort,
+    alloc: Global,
+    codec: &ArrayToArrayCodec,
+    told: &Told<'_>,
+    bytes: &[u8],
+) -> Result<(), CodecError> {
+    let form = chunk_form(alloc, told)?;
+    comes_back(rt, alloc, codec, &form, bytes)
+}
+
 fn restores(
     rt: &impl Abort,
     alloc: Global,
@@ -209,7 +224,7 @@ fn restores(
     bytes: &[u8],
 ) -> Result<(), Fail> {
     let codec = codec_of(alloc, codec)?;
-    Ok(comes_back(rt, alloc, &codec, &chunk_form(alloc, told)?, bytes)?)
+    Ok(comes_back_told(rt, alloc, &codec, told, bytes)?)
 }
 
 #[test]
@@ -249,50 +264,58 @@ fn are_texts(
 
 const TEXT_CHUNK: Told<'static> = (&[2, 3], Type::Text, &[]);
 
-fn turns_texts(
-    rt: &impl Abort,
+fn turned_texts(
     alloc: Global,
     codec: &TransposeCodec,
     form: &ChunkForm,
-) -> Result<(), CodecError> {
+) -> Result<ArrayBytes<'static>, CodecError> {
     let chunk = texts(alloc, WRITTEN, WRITTEN_OFFSETS)?;
-    let encoded = codec.encode(alloc, chunk, &form.shape, &form.data_type, &form.fill_value)?;
-    are_texts(rt, &encoded, TURNED, TURNED_OFFSETS)
+    codec.encode(alloc, chunk, &form.shape, &form.data_type, &form.fill_value)
+}
+
+fn turns_texts(rt: &impl Abort, alloc: Global, codec: &TransposeCodec) -> Result<(), CodecError> {
+    let form = chunk_form(alloc, &TEXT_CHUNK)?;
+    are_texts(
+        rt,
+        &turned_texts(alloc, codec, &form)?,
+        TURNED,
+        TURNED_OFFSETS,
+    )
 }
 
 #[test]
 fn texts_are_transposed(rt: HostRuntime) -> Result<(), Fail> {
     let codec = transpose(rt.alloc(), &[1, 0])?;
-    turns_texts(
-        &rt,
-        rt.alloc(),
-        &codec,
-        &chunk_form(rt.alloc(), &TEXT_CHUNK)?,
-    )?;
-    Ok(())
+    Ok(turns_texts(&rt, rt.alloc(), &codec)?)
+}
+
+fn texts_turned_back(
+    alloc: Global,
+    codec: &TransposeCodec,
+    form: &ChunkForm,
+) -> Result<ArrayBytes<'static>, CodecError> {
+    let chunk = texts(alloc, TURNED, TURNED_OFFSETS)?;
+    codec.decode(alloc, chunk, &form.shape, &form.data_type, &form.fill_value)
 }
 
 fn turns_texts_back(
     rt: &impl Abort,
     alloc: Global,
     codec: &TransposeCodec,
-    form: &ChunkForm,
 ) -> Result<(), CodecError> {
-    let chunk = texts(alloc, TURNED, TURNED_OFFSETS)?;
-    let decoded = codec.decode(alloc, chunk, &form.shape, &form.data_type, &form.fill_value)?;
-    are_texts(rt, &decoded, WRITTEN, WRITTEN_OFFSETS)
+    let form = chunk_form(alloc, &TEXT_CHUNK)?;
+    are_texts(
+        rt,
+        &texts_turned_back(alloc, codec, &form)?,
+        WRITTEN,
+        WRITTEN_OFFSETS,
+    )
 }
 
 #[test]
 fn transposed_texts_are_decoded(rt: HostRuntime) -> Result<(), Fail> {
     let codec = transpose(rt.alloc(), &[1, 0])?;
-    turns_texts_back(
-        &rt,
-        rt.alloc(),
-        &codec,
-        &chunk_form(rt.alloc(), &TEXT_CHUNK)?,
-    )?;
-    Ok(())
+    Ok(turns_texts_back(&rt, rt.alloc(), &codec)?)
 }
 
 /// What is told of an encoded chunk: another shape, the same type and the same fill value.
@@ -351,10 +374,20 @@ fn represents_row(
     keeps_type(rt, alloc, codec, &form)
 }
 
+fn represents_told(
+    rt: &impl Abort,
+    alloc: Global,
+    told: &Codec,
+    sizes: &[u64],
+) -> Result<(), Fail> {
+    let codec = codec_of(alloc, told)?;
+    Ok(represents_row(rt, alloc, &codec, sizes)?)
+}
+
 #[test]
 fn encoded_chunks_are_represented(rt: HostRuntime) -> Result<(), Fail> {
     for (told, sizes) in REPRESENTED.iter() {
-        represents_row(&rt, rt.alloc(), &codec_of(rt.alloc(), told)?, sizes)?;
+        represents_told(&rt, rt.alloc(), told, sizes)?;
     }
     Ok(())
 }

@@ -112,11 +112,20 @@ fn represents_not(
     is_refused(rt, "represented", answer, cause)
 }
 
+fn represents_no_row(
+    rt: &impl Abort,
+    alloc: Global,
+    told: &Told<'_>,
+    cause: CodecError,
+) -> Result<(), Fail> {
+    let codec = codec_of(alloc, &TURNED)?;
+    represents_not(rt, alloc, &codec, told, cause)
+}
+
 #[test]
 fn a_type_is_refused_before_axes(rt: HostRuntime) -> Result<(), Fail> {
     for (told, cause) in UNREPRESENTED.iter() {
-        let codec = codec_of(rt.alloc(), &TURNED)?;
-        represents_not(&rt, rt.alloc(), &codec, told, *cause)?;
+        represents_no_row(&rt, rt.alloc(), told, *cause)?;
     }
     Ok(())
 }
@@ -127,13 +136,26 @@ fn optional_type_of(alloc: Global, codec: &ArrayToArrayCodec) -> Result<DataType
     codec.encoded_data_type(alloc, &form.data_type)
 }
 
+fn optional_type_told(alloc: Global, told: &Codec) -> Result<DataType, Fail> {
+    let codec = codec_of(alloc, told)?;
+    Ok(optional_type_of(alloc, &codec)?)
+}
+
 /// The other codecs take optional types.
 #[test]
 fn an_optional_type_is_refused_by_transpose_alone(rt: HostRuntime) -> Result<(), Fail> {
-    let alloc = rt.alloc();
-    let answer = optional_type_of(alloc, &codec_of(alloc, &TURNED)?);
-    is_refused(&rt, "type", answer, UNSUPPORTED)?;
-    optional_type_of(alloc, &codec_of(alloc, &Codec::Squeeze)?)?;
-    optional_type_of(alloc, &codec_of(alloc, &Codec::Reshape(&[]))?)?;
+    let codec = codec_of(rt.alloc(), &TURNED)?;
+    is_refused(
+        &rt,
+        "type",
+        optional_type_of(rt.alloc(), &codec),
+        UNSUPPORTED,
+    )
+}
+
+#[test]
+fn an_optional_type_is_taken_by_others(rt: HostRuntime) -> Result<(), Fail> {
+    optional_type_told(rt.alloc(), &Codec::Squeeze)?;
+    optional_type_told(rt.alloc(), &Codec::Reshape(&[]))?;
     Ok(())
 }

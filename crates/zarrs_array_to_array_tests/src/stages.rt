@@ -293,10 +293,21 @@ fn tells<D: ArrayPartialDecoderTraits>(
 }
 
 #[test]
-fn stages_tell_what_their_inputs_do(rt: HostRuntime) -> Result<(), Fail> {
-    tells(&rt, &mut transposed_chunk(rt.alloc(), &[1, 0], &SQUARE)?, 4)?;
-    tells(&rt, &mut reshaped_chunk(rt.alloc(), &[Rest], &WORDS)?, 2)?;
-    tells(&rt, &mut squeezed_chunk(rt.alloc(), &LINE)?, 1)
+fn a_transposed_stage_tells_what_its_input_does(rt: HostRuntime) -> Result<(), Fail> {
+    let mut stage = transposed_chunk(rt.alloc(), &[1, 0], &SQUARE)?;
+    tells(&rt, &mut stage, 4)
+}
+
+#[test]
+fn a_reshaped_stage_tells_what_its_input_does(rt: HostRuntime) -> Result<(), Fail> {
+    let mut stage = reshaped_chunk(rt.alloc(), &[Rest], &WORDS)?;
+    tells(&rt, &mut stage, 2)
+}
+
+#[test]
+fn a_squeezed_stage_tells_what_its_input_does(rt: HostRuntime) -> Result<(), Fail> {
+    let mut stage = squeezed_chunk(rt.alloc(), &LINE)?;
+    tells(&rt, &mut stage, 1)
 }
 
 /// The input of a transposed chunk reads the encoded one.
@@ -308,7 +319,12 @@ fn a_stage_hands_its_input_out(rt: HostRuntime) -> Result<(), Fail> {
 }
 
 /// What a refused making answers, over the reader of a line.
-fn no_stage(
+fn no_stage(alloc: Global, form: &ChunkForm) -> Result<Refused<ArrayInput>, Fail> {
+    let codec = transpose(alloc, &[1, 0])?;
+    no_stage_of(alloc, &codec, form)
+}
+
+fn no_stage_of(
     alloc: Global,
     codec: &TransposeCodec,
     form: &ChunkForm,
@@ -354,19 +370,19 @@ fn hands_back(
     )?)
 }
 
+fn no_stage_told(alloc: Global, told: &Told<'_>) -> Result<Refused<ArrayInput>, Fail> {
+    let form = chunk_form(alloc, told)?;
+    no_stage(alloc, &form)
+}
+
 fn hands_back_row(
     rt: &impl Abort,
     alloc: Global,
     told: &Told<'_>,
     cause: CodecError,
 ) -> Result<(), Fail> {
-    let codec = transpose(alloc, &[1, 0])?;
-    hands_back(
-        rt,
-        alloc,
-        &mut no_stage(alloc, &codec, &chunk_form(alloc, told)?)?,
-        cause,
-    )
+    let mut refused = no_stage_told(alloc, told)?;
+    hands_back(rt, alloc, &mut refused, cause)
 }
 
 #[test]
