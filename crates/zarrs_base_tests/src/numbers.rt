@@ -90,6 +90,11 @@ fn names_the_tuple_of_a_number(rt: HostRuntime) -> Result<(), Fail> {
     for (sizes, number, tuple) in NAMED.iter() {
         names(&rt, rt.alloc(), sizes, *number, tuple)?;
     }
+    Ok(())
+}
+
+#[test]
+fn names_none_past_the_last(rt: HostRuntime) -> Result<(), Fail> {
     for (sizes, number) in NAMELESS.iter() {
         names_none(&rt, rt.alloc(), sizes, *number)?;
     }

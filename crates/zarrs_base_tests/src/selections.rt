@@ -5,7 +5,7 @@ use Held::{Fixed, Masked, MaskedTexts, Nested, Texts};
 use std::alloc::Global;
 use std::process::Abort;
 use std::test::Fail;
-use zarrs_chunk::CodecError;
+use zarrs_chunk::{ChunkShape, CodecError, Indexer};
 
 fn selected(
     alloc: Global,
@@ -14,14 +14,20 @@ fn selected(
     sizes: &[u64],
     asked: &Asked<'_>,
 ) -> Elements {
-    let array = container(alloc, held)?;
+    let chunk = shape(alloc, sizes)?;
     let asked = indexer(alloc, asked)?;
-    array.extract_array_subset(
-        alloc,
-        &asked,
-        &shape(alloc, sizes)?,
-        &data_type(alloc, told)?,
-    )
+    part(alloc, told, held, &chunk, &asked)
+}
+
+fn part(
+    alloc: Global,
+    told: &Type,
+    held: &Held<'_>,
+    chunk: &ChunkShape,
+    asked: &Indexer,
+) -> Elements {
+    let told = data_type(alloc, told)?;
+    container(alloc, held)?.extract_array_subset(alloc, asked, chunk, &told)
 }
 
 const NUMBERS: Held<'static> = Fixed(&[0, 1, 2, 3, 4, 5, 6, 7, 8, 9, 10, 11, 12, 13, 14, 15]);
@@ -186,7 +192,7 @@ const UNDER_MASKS: [Row; 4] = [
     ),
 ];
 
-fn selects(rt: &impl Abort, alloc: Global, row: &Row) -> Result<(), Fail> {
+fn selects(rt: &impl Abort, alloc: Global, row: &Row) -> Result<(), CodecError> {
     let (told, held, sizes, asked, wanted) = row;
     let answer = selected(alloc, told, held, sizes, asked);
     holds(rt, alloc, "selected", answer, wanted)
@@ -257,11 +263,22 @@ const REFUSED: [(Type, Held<'static>, Asked<'static>, CodecError); 5] = [
     ),
 ];
 
+fn refuses(
+    rt: &impl Abort,
+    alloc: Global,
+    told: &Type,
+    held: &Held<'_>,
+    asked: &Asked<'_>,
+    cause: CodecError,
+) -> Result<(), Fail> {
+    let answer = selected(alloc, told, held, &[4, 4], asked);
+    is_refused(rt, "selected", answer, cause)
+}
+
 #[test]
 fn is_refused_by_the_first_cause(rt: HostRuntime) -> Result<(), Fail> {
     for (told, held, asked, cause) in REFUSED.iter() {
-        let answer = selected(rt.alloc(), told, held, &[4, 4], asked);
-        is_refused(&rt, "selected", answer, *cause)?;
+        refuses(&rt, rt.alloc(), told, held, asked, *cause)?;
     }
     Ok(())
 }
@@ -287,17 +304,34 @@ fn selects_width(
 ) -> Result<(), Fail> {
     let bytes = numbered(alloc, size.saturating_mul(15))?;
     let wanted = elements_at(alloc, bytes.as_slice(), size, places)?;
-    let held = Fixed(bytes.as_slice());
-    let answer = selected(alloc, &Type::Bytes(size as u64), &held, &[3, 5], asked);
-    holds(rt, alloc, "selected", answer, &Fixed(wanted.as_slice()))
+    selects_bytes(rt, alloc, size, asked, bytes.as_slice(), wanted.as_slice())?;
+    Ok(())
+}
+
+fn selects_bytes(
+    rt: &impl Abort,
+    alloc: Global,
+    size: usize,
+    asked: &Asked<'_>,
+    bytes: &[u8],
+    wanted: &[u8],
+) -> Result<(), CodecError> {
+    let told = Type::Bytes(size as u64);
+    let answer = selected(alloc, &told, &Fixed(bytes), &[3, 5], asked);
+    holds(rt, alloc, "selected", answer, &Fixed(wanted))
 }
 
 #[test]
 fn selects_elements_of_each_width(rt: HostRuntime) -> Result<(), Fail> {
     for size in WIDTHS.iter() {
-        for (asked, places) in PLACES.iter() {
-            selects_width(&rt, rt.alloc(), *size, asked, places)?;
-        }
+        selects_places(&rt, rt.alloc(), *size)?;
+    }
+    Ok(())
+}
+
+fn selects_places(rt: &impl Abort, alloc: Global, size: usize) -> Result<(), Fail> {
+    for (asked, places) in PLACES.iter() {
+        selects_width(rt, alloc, size, asked, places)?;
     }
     Ok(())
 }

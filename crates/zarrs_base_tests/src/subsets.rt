@@ -86,9 +86,24 @@ fn is_made_of_start_and_shape(rt: HostRuntime) -> Result<(), Fail> {
     for (start, lengths, count) in STARTING.iter() {
         starts(&rt, rt.alloc(), start, lengths, *count)?;
     }
+    Ok(())
+}
+
+fn starts_nowhere(
+    rt: &impl Abort,
+    alloc: Global,
+    start: &[u64],
+    lengths: &[u64],
+    cause: CodecError,
+) -> Result<(), Fail> {
+    let answer = between(alloc, start, lengths);
+    is_refused(rt, "start and shape", answer, cause)
+}
+
+#[test]
+fn is_refused_by_axes_and_then_by_ends(rt: HostRuntime) -> Result<(), Fail> {
     for (start, lengths, cause) in STARTING_NOWHERE.iter() {
-        let answer = between(rt.alloc(), start, lengths);
-        is_refused(&rt, "start and shape", answer, *cause)?;
+        starts_nowhere(&rt, rt.alloc(), start, lengths, *cause)?;
     }
     Ok(())
 }
@@ -138,19 +153,31 @@ const UNLIKE: [&'static [Range<u64>]; 5] = [
 fn differs(
     rt: &impl Abort,
     alloc: Global,
-    ranges: &[Range<u64>],
+    subset: &ArraySubset,
     others: &[Range<u64>],
-) -> Result<(), Fail> {
+) -> Result<(), CodecError> {
+    is_not(
+        rt,
+        "another",
+        subset,
+        &ArraySubset::new_with_ranges(alloc, others)?,
+    );
+    Ok(())
+}
+
+fn differs_from_others(
+    rt: &impl Abort,
+    alloc: Global,
+    ranges: &[Range<u64>],
+) -> Result<(), CodecError> {
     let subset = ArraySubset::new_with_ranges(alloc, ranges)?;
-    let other = ArraySubset::new_with_ranges(alloc, others)?;
-    is_not(rt, "another", &subset, &other);
+    for others in UNLIKE[1..].iter() {
+        differs(rt, alloc, &subset, others)?;
+    }
     Ok(())
 }
 
 #[test]
 fn differs_by_its_ranges(rt: HostRuntime) -> Result<(), Fail> {
-    for others in UNLIKE[1..].iter() {
-        differs(&rt, rt.alloc(), UNLIKE[0], others)?;
-    }
-    Ok(())
+    Ok(differs_from_others(&rt, rt.alloc(), UNLIKE[0])?)
 }
