@@ -7,7 +7,7 @@ use zarrs_codec::{ByteRange, BytesRepresentation};
 const LAST: u64 = 18446744073709551615;
 
 /// Starts and ends of ranges, no two of them equal.
-const RANGES: [(u64, u64); 6] = [(0, 0), (3, 7), (3, 8), (2, 7), (0, LAST), (LAST, LAST)];
+const RANGES: &'static [(u64, u64)] = &[(0, 0), (3, 7), (3, 8), (2, 7), (0, LAST), (LAST, LAST)];
 
 fn has_ends(rt: &impl Abort, alloc: Global, start: u64, end: u64) -> Result<(), Fail> {
     let range = ByteRange::new(start..end).ok_or("no range")?;
@@ -54,7 +54,7 @@ fn never_ends_before_it_starts(rt: HostRuntime) {
 }
 
 /// Representations, no two of them equal, their greatest sizes, and what `Debug` writes.
-const REPRESENTATIONS: [(BytesRepresentation, Option<u64>, &'static str); 5] = [
+const REPRESENTATIONS: &'static [(BytesRepresentation, Option<u64>, &'static str)] = &[
     (BytesRepresentation::FixedSize(4), Some(4), "FixedSize(4)"),
     (BytesRepresentation::FixedSize(9), Some(9), "FixedSize(9)"),
     (

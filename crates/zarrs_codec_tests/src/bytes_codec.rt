@@ -15,7 +15,7 @@ const LITTLE: Option<Endianness> = Some(Endianness::Little);
 const BIG: Option<Endianness> = Some(Endianness::Big);
 
 /// Byte orders, no two of them equal, and what `Debug` writes of the codec.
-const ORDERS: [(Option<Endianness>, &'static str); 3] = [
+const ORDERS: &'static [(Option<Endianness>, &'static str)] = &[
     (LITTLE, "BytesCodec { endianness: Some(Little) }"),
     (BIG, "BytesCodec { endianness: Some(Big) }"),
     (None, "BytesCodec { endianness: None }"),
@@ -74,7 +74,7 @@ fn has_names_for_its_orders(rt: HostRuntime) {
 }
 
 /// Byte orders, chunks, and how many bytes they have.
-const LENGTHS: [(Option<Endianness>, Told<'static>, u64); 7] = [
+const LENGTHS: &'static [(Option<Endianness>, Told<'static>, u64)] = &[
     (None, (&[4, 4], Type::Bits(8, 1), &[0]), 16),
     (None, (&[], Type::Bits(1, 1), &[9]), 1),
     (None, (&[5], Type::Bits(3, 4), &[0, 0, 0, 0]), 20),
@@ -192,12 +192,12 @@ const WORDS: Told<'static> = (&[2], Type::Bits(16, 1), &[0, 0]);
 
 /// Byte orders, chunks, their elements in memory, and their values. Of words, the elements are 1 and
 /// 258, each lowest byte first.
-const CODED: [(
+const CODED: &'static [(
     Option<Endianness>,
     Told<'static>,
     &'static [u8],
     &'static [u8],
-); 4] = [
+)] = &[
     (BIG, WORDS, &[1, 0, 2, 1], &[0, 1, 1, 2]),
     (LITTLE, WORDS, &[1, 0, 2, 1], &[1, 0, 2, 1]),
     (
@@ -230,7 +230,7 @@ fn writes_big_components_highest_byte_first(rt: HostRuntime) -> Result<(), Fail>
 }
 
 /// Bytes of a wrong length, and the length that is due.
-const WRONG_LENGTHS: [(Option<Endianness>, Told<'static>, &'static [u8], u64); 8] = [
+const WRONG_LENGTHS: &'static [(Option<Endianness>, Told<'static>, &'static [u8], u64)] = &[
     (None, (&[2], Type::Bits(8, 1), &[0]), &[], 2),
     (None, (&[2], Type::Bits(8, 1), &[0]), &[1], 2),
     (None, (&[2], Type::Bits(8, 1), &[0]), &[1, 2, 3], 2),
@@ -311,7 +311,7 @@ fn wants_the_exact_length(rt: HostRuntime) -> Result<(), Fail> {
 }
 
 /// Byte orders, chunks of four bytes, and whether all bytes stay in their places.
-const STAYING: [(Option<Endianness>, Told<'static>, bool); 6] = [
+const STAYING: &'static [(Option<Endianness>, Told<'static>, bool)] = &[
     (None, (&[4], Type::Bits(8, 1), &[0]), true),
     (BIG, (&[4], Type::Bits(8, 1), &[0]), true),
     (BIG, (&[2], Type::Bits(7, 2), &[0, 0]), true),

@@ -135,7 +135,7 @@ const LAST: Asked<'static> = Ranges(&[18446744073709551614..18446744073709551615
 const LAST_WORD: Asked<'static> = Tuples(&[&[9223372036854775806]]);
 
 /// Chunks, what is asked for, and the ranges of bytes that a read asks for.
-const PLANNED: [(Told<'static>, Asked<'static>, &'static [(u64, u64)]); 13] = [
+const PLANNED: &'static [(Told<'static>, Asked<'static>, &'static [(u64, u64)])] = &[
     (SQUARE, COLUMN, &[(4, 5), (8, 9)]),
     (SQUARE, Ranges(&[0..4, 0..4]), &[(0, 16)]),
     (SQUARE, Ranges(&[1..3, 0..4]), &[(4, 12)]),
@@ -174,13 +174,13 @@ const BIG: Option<Endianness> = Some(Endianness::Big);
 /// Byte orders, chunks, stored values, what is asked for, and the elements. The bytes of other places
 /// may be missing, and more may follow. The fill value stands in memory's order, whatever the codec's
 /// is.
-const READ: [(
+const READ: &'static [(
     Option<Endianness>,
     Told<'static>,
     Option<&'static [u8]>,
     Asked<'static>,
     &'static [u8],
-); 21] = [
+)] = &[
     (
         None,
         SQUARE,
@@ -263,7 +263,7 @@ fn reads_the_bytes_of_the_places_alone(rt: HostRuntime) -> Result<(), Fail> {
 }
 
 /// Chunks, stored values that lack a byte of what is asked for, and what that is.
-const LACKING: [(Told<'static>, &'static [u8], Asked<'static>); 7] = [
+const LACKING: &'static [(Told<'static>, &'static [u8], Asked<'static>)] = &[
     (SQUARE, &[0, 1, 2, 3, 4, 5, 6, 7], COLUMN),
     (FOUR, &[10, 11, 12], Ranges(&[2..4])),
     (WORDS, &[10, 11, 20, 21, 30, 31, 40], RIGHT),
@@ -294,7 +294,7 @@ const OUTSIDE: CodecError = CodecError::OutOfBounds;
 
 /// What is asked for of a chunk of 4 by 4, and why it is refused. The indexer comes first: the value
 /// that is stored has none of the bytes.
-const REFUSED: [(Asked<'static>, CodecError); 7] = [
+const REFUSED: &'static [(Asked<'static>, CodecError)] = &[
     (Ranges(&[0..1]), AXES),
     (Ranges(&[9..10]), AXES),
     (Ranges(&[0..5, 0..4]), OUTSIDE),
@@ -329,7 +329,7 @@ const COUNTS: [u64; 14] = [
     0, 1, 15, 16, 17, 63, 64, 65, 255, 256, 257, 1023, 1024, 1040,
 ];
 
-const FILLS: [&'static [u8]; 6] = [
+const FILLS: &'static [&'static [u8]] = &[
     &[7],
     &[1, 2],
     &[1, 2, 3],

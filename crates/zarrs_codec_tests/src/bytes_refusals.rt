@@ -22,7 +22,7 @@ const WIDE: &'static [u64] = &[4294967296, 4294967296];
 const HALF: &'static [u64] = &[9223372036854775808];
 
 /// Byte orders, chunks that the codec doesn't take, and why.
-const REFUSED: [(Option<Endianness>, Told<'static>, CodecError); 23] = [
+const REFUSED: &'static [(Option<Endianness>, Told<'static>, CodecError)] = &[
     // Types that are not fixed. In the last ones the fill value doesn't fit and the elements are too
     // many besides: the type comes first.
     (LITTLE, (&[2], Type::Text, &[]), UNSUPPORTED),
@@ -178,7 +178,7 @@ fn is_refused_by_the_first_cause(rt: HostRuntime) -> Result<(), Fail> {
 
 /// Byte orders and chunks of two elements, whose elements come as other kinds, and why they are
 /// refused. In the last one the order is missing besides, and comes first.
-const OTHER_KINDS: [(Option<Endianness>, Told<'static>, CodecError); 4] = [
+const OTHER_KINDS: &'static [(Option<Endianness>, Told<'static>, CodecError)] = &[
     (
         LITTLE,
         (&[2], Type::Bits(8, 1), &[0]),

@@ -25,7 +25,7 @@ fn words(
 }
 
 /// Byte orders, stored values, and those words.
-const READ: [(Endianness, Option<&'static [u8]>, &'static [u8]); 3] = [
+const READ: &'static [(Endianness, Option<&'static [u8]>, &'static [u8])] = &[
     (
         Endianness::Little,
         Some(&[10, 11, 20, 21, 30, 31, 40, 41]),

@@ -12,7 +12,7 @@ use zarrs_bytes::BytesCodec;
 use zarrs_chunk::CodecError;
 
 /// Bits of a component, and the bytes that hold them.
-const WIDTHS: [(u64, usize); 12] = [
+const WIDTHS: &'static [(u64, usize)] = &[
     (1, 1),
     (2, 1),
     (4, 1),
@@ -28,7 +28,7 @@ const WIDTHS: [(u64, usize); 12] = [
 ];
 
 /// What is asked for of a chunk of 2 by 3, and its places.
-const PLACES: [(Asked<'static>, &'static [usize]); 3] = [
+const PLACES: &'static [(Asked<'static>, &'static [usize])] = &[
     (Ranges(&[0..2, 1..3]), &[1, 2, 4, 5]),
     (Ranges(&[0..2, 0..3]), &[0, 1, 2, 3, 4, 5]),
     (Tuples(&[&[1, 2], &[0, 0], &[1, 2]]), &[5, 0, 5]),
