@@ -26,7 +26,7 @@ fn offsets_rise(rt: HostRuntime) -> Result<(), Fail> {
 }
 
 /// What is not made, and why.
-const REFUSED: [(Held<'static>, CodecError); 6] = [
+const REFUSED: &'static [(Held<'static>, CodecError)] = &[
     (Texts(b"ab", &[0, 2, 1]), CodecError::InvalidOffsets),
     (Texts(b"", &[]), CodecError::InvalidOffsets),
     (Texts(b"abc", &[0, 2]), CodecError::InvalidOffsets),
@@ -49,7 +49,7 @@ fn is_refused_where_parts_disagree(rt: HostRuntime) -> Result<(), Fail> {
 
 /// Containers, no two of them equal, and their sizes: one byte for each byte of an element and of a
 /// mask, and eight for each offset.
-const SIZES: [(Held<'static>, usize); 10] = [
+const SIZES: &'static [(Held<'static>, usize)] = &[
     (Fixed(&[]), 0),
     (Fixed(&[5, 9, 7]), 3),
     (Fixed(&[5, 9, 8]), 3),
@@ -142,7 +142,7 @@ type Row = (
     Result<(), CodecError>,
 );
 
-const VALID: [Row; 11] = [
+const VALID: &'static [Row] = &[
     (Fixed(&[1, 2]), Type::Bytes(1), 2, Ok(()), Ok(())),
     (Fixed(&[1, 2]), Type::Bytes(1), 3, TWO_FOR_THREE, MISMATCH),
     (Fixed(&[1, 2]), Type::Text, 2, KIND, KIND),

@@ -5,7 +5,7 @@ use std::test::Fail;
 use zarrs_chunk::{ChunkShape, CodecError};
 
 /// Sizes, and how many elements they have.
-const COUNTED: [(&'static [u64], Result<u64, CodecError>); 6] = [
+const COUNTED: &'static [(&'static [u64], Result<u64, CodecError>)] = &[
     (&[], Ok(1)),
     (&[7], Ok(7)),
     (&[4, 4], Ok(16)),
@@ -35,7 +35,7 @@ fn counts_the_elements(rt: HostRuntime) -> Result<(), Fail> {
     Ok(())
 }
 
-const ZEROS: [&'static [u64]; 4] = [&[0], &[0, 4], &[4, 0], &[1, 0, 1]];
+const ZEROS: &'static [&'static [u64]] = &[&[0], &[0, 4], &[4, 0], &[1, 0, 1]];
 
 fn stands_not(rt: &impl Abort, alloc: Global, sizes: &[u64]) -> Result<(), Fail> {
     let chunk = ChunkShape::new(sizes.to_vec(alloc)?);

@@ -68,7 +68,7 @@ fn is_made_of_components(rt: HostRuntime) -> Result<(), Fail> {
 }
 
 /// Bits, components, and the cause by which such a type is refused.
-const REFUSED: [(u64, u64, CodecError); 3] = [
+const REFUSED: &'static [(u64, u64, CodecError)] = &[
     (0, 1, CodecError::BitRange),
     (1, 0, CodecError::BitRange),
     (18446744073709551615, 8, CodecError::Overflow),

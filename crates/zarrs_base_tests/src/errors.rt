@@ -5,7 +5,7 @@ use std::test::Fail;
 use zarrs_chunk::{CodecError, CodecName, StorageError};
 
 /// Errors, no two of them equal, the name of each, and what its text has in it beside that.
-const ERRORS: [(CodecError, &'static str, &'static str); 35] = [
+const ERRORS: &'static [(CodecError, &'static str, &'static str)] = &[
     (CodecError::OutOfMemory, "OutOfMemory", ""),
     (
         CodecError::Storage(StorageError { code: 7 }),

@@ -8,7 +8,7 @@ use zarrs_data_type::{DataType, FillValue};
 
 /// A type, bytes, and whether they are a fill value of the type: one element of a fixed type, any
 /// bytes of a variable one, and of an optional one a flag behind them, alone where it is 0.
-const FITTING: [(Type, &'static [u8], bool); 16] = [
+const FITTING: &'static [(Type, &'static [u8], bool)] = &[
     (Type::Bytes(2), &[0, 0], true),
     (Type::Bytes(2), &[0], false),
     (Type::Bytes(2), &[0, 0, 0], false),

@@ -14,7 +14,7 @@ fn filled(alloc: Global, told: &Type, count: u64, fill: &[u8]) -> Elements {
 }
 
 /// A type, how many elements, a fill value that is refused, and why.
-const REFUSED: [(Type, u64, &'static [u8], CodecError); 3] = [
+const REFUSED: &'static [(Type, u64, &'static [u8], CodecError)] = &[
     (Type::Optional(1), 2, &[1], CodecError::InvalidFillValue),
     (
         Type::Bytes(2),
@@ -51,7 +51,7 @@ fn is_refused_by_the_first_cause(rt: HostRuntime) -> Result<(), Fail> {
 
 /// A type, how many elements, a fill value, and the container. What is absent stands over zeros,
 /// empty bytes and inner masks of zero.
-const FILLED: [(Type, u64, &'static [u8], Held<'static>); 12] = [
+const FILLED: &'static [(Type, u64, &'static [u8], Held<'static>)] = &[
     (Type::Bytes(1), 3, &[7], Fixed(&[7, 7, 7])),
     (Type::Bytes(2), 2, &[1, 2], Fixed(&[1, 2, 1, 2])),
     (Type::Bytes(2), 0, &[1, 2], Fixed(&[])),
@@ -107,7 +107,7 @@ const COUNTS: [usize; 22] = [
     2048, 2177,
 ];
 
-const FILLS: [&'static [u8]; 6] = [
+const FILLS: &'static [&'static [u8]] = &[
     &[7],
     &[1, 2],
     &[1, 2, 3],

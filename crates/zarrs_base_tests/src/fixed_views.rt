@@ -31,7 +31,7 @@ type Row = (
     &'static [u8],
 );
 
-const WRITTEN: [Row; 9] = [
+const WRITTEN: &'static [Row] = &[
     (1, &[2, 3], &[0..2, 1..2], 6, &[1, 2], &[0, 1, 0, 0, 2, 0]),
     (
         1,
@@ -133,7 +133,7 @@ type RefusedRow = (
     CodecError,
 );
 
-const REFUSED: [RefusedRow; 8] = [
+const REFUSED: &'static [RefusedRow] = &[
     (0, &[2, 3], &[0..3], 5, CodecError::TargetMismatch),
     (
         1,

@@ -50,12 +50,12 @@ fn has_runs(
 
 /// Sizes, what is asked for, its places, and its runs. A run covers one row of the last axis that a
 /// box doesn't cover whole, with all axes behind it.
-const BOXES: [(
+const BOXES: &'static [(
     &'static [u64],
     Asked<'static>,
     &'static [u64],
     &'static [(u64, u64)],
-); 14] = [
+)] = &[
     (&[4, 4], Ranges(&[1..3, 0..1]), &[4, 8], &[(4, 1), (8, 1)]),
     (
         &[4, 4],
@@ -134,7 +134,7 @@ fn subsets_have_places_and_runs(rt: HostRuntime) -> Result<(), Fail> {
 }
 
 /// Sizes, tuples, and their places in list order.
-const LISTS: [(&'static [u64], Asked<'static>, &'static [u64]); 7] = [
+const LISTS: &'static [(&'static [u64], Asked<'static>, &'static [u64])] = &[
     (
         &[4, 4],
         Tuples(&[&[1, 0], &[3, 3], &[0, 2], &[3, 3]]),
@@ -222,7 +222,7 @@ const OUTSIDE: CodecError = CodecError::OutOfBounds;
 const WIDE: &'static [u64] = &[4294967296, 4294967296];
 
 /// Sizes, what is asked for, and the cause by which it is refused.
-const REFUSED: [(&'static [u64], Asked<'static>, CodecError); 17] = [
+const REFUSED: &'static [(&'static [u64], Asked<'static>, CodecError)] = &[
     (&[4, 4], Ranges(&[0..1]), AXES),
     (&[4, 4], Ranges(&[0..1, 0..1, 0..1]), AXES),
     (&[4, 4], Ranges(&[0..5, 0..4]), OUTSIDE),
@@ -279,7 +279,7 @@ fn is_refused_by_the_first_cause(rt: HostRuntime) -> Result<(), Fail> {
 }
 
 /// What lies inside chunks whose elements are too many to number.
-const INSIDE: [Asked<'static>; 4] = [
+const INSIDE: &'static [Asked<'static>] = &[
     Ranges(&[0..1, 0..1]),
     Ranges(&[0..0, 0..0]),
     Tuples(&[]),
@@ -294,7 +294,7 @@ fn is_refused_where_the_elements_are_too_many(rt: HostRuntime) -> Result<(), Fai
     Ok(())
 }
 
-const UNLIKE: [Asked<'static>; 8] = [
+const UNLIKE: &'static [Asked<'static>] = &[
     Tuples(&[&[1, 0], &[3, 3]]),
     Tuples(&[&[3, 3], &[1, 0]]),
     Tuples(&[&[1, 0]]),

@@ -5,7 +5,7 @@ use std::test::Fail;
 use zarrs_metadata::PluginCreateError;
 
 /// Errors, no two of them equal, and their names.
-const ERRORS: [(PluginCreateError, &'static str); 9] = [
+const ERRORS: &'static [(PluginCreateError, &'static str)] = &[
     (PluginCreateError::OutOfMemory, "OutOfMemory"),
     (PluginCreateError::UnknownName, "UnknownName"),
     (

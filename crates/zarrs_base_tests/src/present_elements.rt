@@ -24,7 +24,7 @@ type Row = (
 const TEXT: Held<'static> = Texts(b"xabcdef", &[1, 2, 4, 4, 7]);
 
 /// What stands under an absent element of an inner mask goes with it.
-const ROWS: [Row; 16] = [
+const ROWS: &'static [Row] = &[
     (Type::Bytes(1), &[], Fixed(&[]), Fixed(&[]), Fixed(&[])),
     (
         Type::Bytes(1),
@@ -218,7 +218,7 @@ fn puts_back_borrowed_elements(rt: HostRuntime) -> Result<(), Fail> {
     Ok(())
 }
 
-const COUNTS: [(&'static [u8], Result<u64, CodecError>); 6] = [
+const COUNTS: &'static [(&'static [u8], Result<u64, CodecError>)] = &[
     (&[], Ok(0)),
     (&[0, 0], Ok(0)),
     (&[1], Ok(1)),
@@ -238,7 +238,7 @@ fn counts_what_is_present(rt: HostRuntime) -> Result<(), Fail> {
 /// A type, elements, a mask, and why they can't be taken out.
 type RefusedRow = (Type, Held<'static>, &'static [u8], CodecError);
 
-const NOT_TAKEN: [RefusedRow; 2] = [
+const NOT_TAKEN: &'static [RefusedRow] = &[
     (Type::Text, Fixed(&[1]), &[1], CodecError::ArrayBytesKind),
     (
         Type::Bytes(1),
@@ -252,7 +252,7 @@ const NOT_TAKEN: [RefusedRow; 2] = [
 ];
 
 /// A type, elements, a mask, and why they can't be put back.
-const NOT_PUT: [RefusedRow; 4] = [
+const NOT_PUT: &'static [RefusedRow] = &[
     (Type::Text, Fixed(&[1]), &[1, 2], CodecError::MaskValue),
     (Type::Text, Fixed(&[1]), &[1, 0], CodecError::ArrayBytesKind),
     (

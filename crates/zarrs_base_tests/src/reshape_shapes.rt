@@ -30,7 +30,7 @@ fn dims(alloc: Global, told: &[Told]) -> Result<Vec<ReshapeDim>, PluginCreateErr
 }
 
 /// Sizes of a reshaped chunk, no two of them equal.
-const SHAPES: [&'static [Told]; 7] = [
+const SHAPES: &'static [&'static [Told]] = &[
     &[],
     &[Size(1)],
     &[Auto],
@@ -41,7 +41,7 @@ const SHAPES: [&'static [Told]; 7] = [
 ];
 
 /// Sizes that are refused, and why: a zero comes before two automatic ones.
-const REFUSED: [(&'static [Told], PluginCreateError); 4] = [
+const REFUSED: &'static [(&'static [Told], PluginCreateError)] = &[
     (&[Size(0)], PluginCreateError::ZeroSize),
     (
         &[Size(3), Input(&[0]), Size(0)],
@@ -131,7 +131,7 @@ fn differs_by_its_sizes(rt: HostRuntime) -> Result<(), Fail> {
 }
 
 /// Single sizes, no two of them equal.
-const DIMS: [Told; 6] = [
+const DIMS: &'static [Told] = &[
     Size(1),
     Size(2),
     Auto,

@@ -10,7 +10,7 @@ use zarrs_array_bytes::update_runs;
 use zarrs_chunk::{CodecError, runs_of_places};
 
 /// Places, and their runs: neighbours that follow one another are one.
-const RUNS: [(&'static [u64], &'static [(u64, u64)]); 9] = [
+const RUNS: &'static [(&'static [u64], &'static [(u64, u64)])] = &[
     (&[], &[]),
     (&[7], &[(7, 1)]),
     (&[3, 4, 5], &[(3, 3)]),
@@ -47,7 +47,7 @@ fn places_have_runs(rt: HostRuntime) -> Result<(), Fail> {
 }
 
 /// Types, five elements of each, and those of the places 3, 4, 0, 1 and 0.
-const TAKEN: [(Type, Held<'static>, Held<'static>); 3] = [
+const TAKEN: &'static [(Type, Held<'static>, Held<'static>)] = &[
     (
         Type::Bytes(2),
         Fixed(&[0, 1, 2, 3, 4, 5, 6, 7, 8, 9]),
@@ -91,7 +91,7 @@ fn takes_elements_by_runs(rt: HostRuntime) -> Result<(), Fail> {
 
 /// Types, five elements of each, four new ones for the places 3, 4, 0 and 3, and the elements
 /// afterwards.
-const WRITTEN: [(Type, Held<'static>, Held<'static>, Held<'static>); 3] = [
+const WRITTEN: &'static [(Type, Held<'static>, Held<'static>, Held<'static>)] = &[
     (
         Type::Bytes(2),
         Fixed(&[0, 1, 2, 3, 4, 5, 6, 7, 8, 9]),

@@ -44,7 +44,7 @@ type Row = (
     Held<'static>,
 );
 
-const NUMBERS_SELECTED: [Row; 5] = [
+const NUMBERS_SELECTED: &'static [Row] = &[
     (
         Type::Bytes(1),
         NUMBERS,
@@ -82,7 +82,7 @@ const NUMBERS_SELECTED: [Row; 5] = [
     ),
 ];
 
-const RUNS_OF_TEXTS: [Row; 7] = [
+const RUNS_OF_TEXTS: &'static [Row] = &[
     (
         Type::Text,
         Texts(b"xabc", &[1, 2, 4]),
@@ -129,7 +129,7 @@ const RUNS_OF_TEXTS: [Row; 7] = [
 ];
 
 /// With repeats and neighbours.
-const LISTS_OF_TEXTS: [Row; 5] = [
+const LISTS_OF_TEXTS: &'static [Row] = &[
     (
         Type::Text,
         TEXTS,
@@ -161,7 +161,7 @@ const LISTS_OF_TEXTS: [Row; 5] = [
     ),
 ];
 
-const UNDER_MASKS: [Row; 4] = [
+const UNDER_MASKS: &'static [Row] = &[
     (
         Type::Optional(1),
         Masked(&[1, 0, 1], &[5, 9, 7]),
@@ -232,7 +232,7 @@ fn selects_elements_under_masks(rt: HostRuntime) -> Result<(), Fail> {
 
 /// Elements of a chunk of 4 by 4, what is asked for, and why it is refused. The indexer comes before
 /// the elements.
-const REFUSED: [(Type, Held<'static>, Asked<'static>, CodecError); 5] = [
+const REFUSED: &'static [(Type, Held<'static>, Asked<'static>, CodecError)] = &[
     (
         Type::Bytes(1),
         NUMBERS,
@@ -286,7 +286,7 @@ fn is_refused_by_the_first_cause(rt: HostRuntime) -> Result<(), Fail> {
 const WIDTHS: [usize; 6] = [1, 2, 3, 4, 8, 16];
 
 /// What is asked for of a chunk of 3 by 5, and its places.
-const PLACES: [(Asked<'static>, &'static [u64]); 3] = [
+const PLACES: &'static [(Asked<'static>, &'static [u64])] = &[
     (Ranges(&[1..2, 1..4]), &[6, 7, 8]),
     (Ranges(&[1..3, 0..5]), &[5, 6, 7, 8, 9, 10, 11, 12, 13, 14]),
     (

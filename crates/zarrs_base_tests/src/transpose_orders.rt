@@ -5,10 +5,10 @@ use std::test::Fail;
 use zarrs_metadata::{PluginCreateError, TransposeOrder};
 
 /// Orders of axes, no two of them equal.
-const ORDERS: [&'static [usize]; 6] = [&[], &[0], &[0, 1], &[1, 0], &[2, 0, 1], &[1, 2, 0]];
+const ORDERS: &'static [&'static [usize]] = &[&[], &[0], &[0, 1], &[1, 0], &[2, 0, 1], &[1, 2, 0]];
 
 /// What is no order: an axis comes twice, or is none of as many as the list is long.
-const REFUSED: [&'static [usize]; 6] = [
+const REFUSED: &'static [&'static [usize]] = &[
     &[1],
     &[0, 0],
     &[0, 2],

@@ -54,7 +54,7 @@ type Row = (
     Held<'static>,
 );
 
-const UPDATED: [Row; 17] = [
+const UPDATED: &'static [Row] = &[
     (
         Type::Bytes(1),
         Fixed(&[1, 2, 3, 4]),
@@ -220,7 +220,7 @@ type RefusedRow = (
     CodecError,
 );
 
-const REFUSED: [RefusedRow; 5] = [
+const REFUSED: &'static [RefusedRow] = &[
     (
         Type::Text,
         Fixed(&[1, 2, 3, 4]),
@@ -278,7 +278,7 @@ fn is_refused_by_the_first_cause(rt: HostRuntime) -> Result<(), Fail> {
 const WIDTHS: [usize; 6] = [1, 2, 3, 4, 8, 16];
 
 /// Where a chunk of 3 by 5 is written, and the places.
-const PLACES: [(Asked<'static>, &'static [u64]); 3] = [
+const PLACES: &'static [(Asked<'static>, &'static [u64])] = &[
     (Ranges(&[1..2, 1..4]), &[6, 7, 8]),
     (Ranges(&[1..3, 0..5]), &[5, 6, 7, 8, 9, 10, 11, 12, 13, 14]),
     (
