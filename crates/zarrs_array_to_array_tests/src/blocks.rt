@@ -9,7 +9,7 @@ use std::process::Abort;
 use std::test::Fail;
 
 /// Planes of so many rows and columns, one behind another, and how many bytes an element has.
-const PLANES: [(Told<'static>, u64); 16] = [
+const PLANES: &'static [(Told<'static>, u64)] = &[
     ((&[1, 1, 1], Type::Byte, &[0]), 1),
     ((&[3, 2, 2], Type::Byte, &[0]), 1),
     ((&[2, 5, 3], Type::Byte, &[0]), 1),

@@ -15,7 +15,7 @@ const LINES: &'static [u64] = &[1, 4, 1, 4, 1];
 /// Codecs, sizes of chunks, what is asked of them, and its places in the encoded chunk.
 type Row = (Codec, &'static [u64], Asked<'static>, &'static [u64]);
 
-const PLACES: [Row; 12] = [
+const PLACES: &'static [Row] = &[
     (
         Codec::Transpose(&[1, 0]),
         SQUARE,
@@ -184,7 +184,7 @@ const AXES: CodecError = CodecError::IncompatibleDimensionality;
 /// Codecs, sizes of chunks, what can't be asked of them, and why.
 type RefusedRow = (Codec, &'static [u64], Asked<'static>, CodecError);
 
-const REFUSED: [RefusedRow; 13] = [
+const REFUSED: &'static [RefusedRow] = &[
     (
         Codec::Squeeze,
         &[1, 3],
@@ -309,7 +309,7 @@ type ThroughRow = (
     &'static [u64],
 );
 
-const THROUGH: [ThroughRow; 5] = [
+const THROUGH: &'static [ThroughRow] = &[
     (&[], &[2, 3], Asked::Ranges(&[1..2, 0..3]), &[3, 4, 5]),
     (
         &[Codec::Transpose(&[1, 0])],

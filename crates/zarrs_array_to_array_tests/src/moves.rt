@@ -16,7 +16,7 @@ use zarrs_data_type::{DataType, FillValue};
 /// Codecs, chunks of elements of so many bytes, and their numbers, chunk and encoded chunk.
 type Row = (Codec, Told<'static>, usize, &'static [u8], &'static [u8]);
 
-const MOVED: [Row; 6] = [
+const MOVED: &'static [Row] = &[
     (
         Codec::Transpose(&[1, 0]),
         (&[2, 3], Type::Byte, &[0]),
@@ -357,7 +357,7 @@ fn keeps_type<C: ArrayToArrayCodecTraits>(
 }
 
 /// Codecs, and the sizes of the encoded chunks of one of `[1, 2, 3]`.
-const REPRESENTED: [(Codec, &'static [u64]); 3] = [
+const REPRESENTED: &'static [(Codec, &'static [u64])] = &[
     (Codec::Transpose(&[2, 0, 1]), &[3, 1, 2]),
     (Codec::Reshape(&[Rest]), &[6]),
     (Codec::Squeeze, &[2, 3]),

@@ -16,7 +16,7 @@ const AXES: CodecError = CodecError::IncompatibleDimensionality;
 
 /// Chunks of six bytes, which the order of two axes doesn't take, and why: an optional type comes
 /// before a number of axes, that before a count, and that before bytes that are none of the chunk.
-const REFUSED: [(Told<'static>, CodecError); 7] = [
+const REFUSED: &'static [(Told<'static>, CodecError)] = &[
     ((&[2, 3], Type::OptionalByte, &[0]), UNSUPPORTED),
     ((&[6], Type::OptionalByte, &[0]), UNSUPPORTED),
     ((&[6], Type::Byte, &[0]), AXES),
@@ -89,7 +89,7 @@ fn texts_are_no_bytes(rt: HostRuntime) -> Result<(), Fail> {
 }
 
 /// Chunks that the order of two axes doesn't take, and why: the type comes before the axes.
-const UNREPRESENTED: [(Told<'static>, CodecError); 3] = [
+const UNREPRESENTED: &'static [(Told<'static>, CodecError)] = &[
     ((&[2, 3], Type::OptionalByte, &[0]), UNSUPPORTED),
     ((&[6], Type::OptionalByte, &[0]), UNSUPPORTED),
     ((&[6], Type::Byte, &[0]), AXES),

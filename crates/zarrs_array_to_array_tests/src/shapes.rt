@@ -11,7 +11,7 @@ use zarrs_codec::{ArrayToArrayCodecTraits, PartialDecoderCapability, PartialEnco
 const VIDEO: &'static [u64] = &[5, 4, 4, 3];
 
 /// Codecs, the sizes of chunks, and those of the encoded chunks.
-const ENCODED: [(Codec, &'static [u64], &'static [u64]); 16] = [
+const ENCODED: &'static [(Codec, &'static [u64], &'static [u64])] = &[
     (
         Codec::Reshape(&[Of(&[0, 1]), Of(&[2]), Is(3)]),
         VIDEO,
@@ -98,7 +98,7 @@ fn shapes_are_encoded(rt: HostRuntime) -> Result<(), Fail> {
 }
 
 /// Codecs, the sizes of encoded chunks, and those of the chunks where they tell them.
-const DECODED: [(Codec, &'static [u64], Option<&'static [u64]>); 5] = [
+const DECODED: &'static [(Codec, &'static [u64], Option<&'static [u64]>)] = &[
     (Codec::Transpose(&[2, 0, 1]), &[4, 2, 3], Some(&[2, 3, 4])),
     (Codec::Transpose(&[1, 0]), &[3, 2], Some(&[2, 3])),
     (Codec::Transpose(&[]), &[], Some(&[])),
@@ -145,7 +145,7 @@ fn a_transposed_shape_is_decoded(rt: HostRuntime) -> Result<(), Fail> {
 }
 
 /// Codecs, sizes of chunks that they don't take, and why.
-const REFUSED: [(Codec, &'static [u64], CodecError); 10] = [
+const REFUSED: &'static [(Codec, &'static [u64], CodecError)] = &[
     (
         Codec::Reshape(&[Rest, Is(2), Is(2), Of(&[4])]),
         VIDEO,
@@ -272,7 +272,7 @@ fn is_decoded_whole<C: ArrayToArrayCodecTraits>(
     Ok(())
 }
 
-const CODECS: [Codec; 3] = [
+const CODECS: &'static [Codec] = &[
     Codec::Transpose(&[2, 0, 1]),
     Codec::Reshape(&[Rest]),
     Codec::Squeeze,

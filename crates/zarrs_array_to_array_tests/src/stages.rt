@@ -164,7 +164,7 @@ fn refuses<D: ArrayPartialDecoderTraits>(
 }
 
 /// Chunks, what is asked of them, and its numbers.
-const TRANSPOSED: [(Counted, Asked<'static>, &'static [u8]); 4] = [
+const TRANSPOSED: &'static [(Counted, Asked<'static>, &'static [u8])] = &[
     (
         SQUARE,
         Asked::Ranges(&[0..4, 0..4]),
@@ -203,7 +203,7 @@ fn parts_of_reshaped_chunks_are_read(rt: HostRuntime) -> Result<(), Fail> {
 }
 
 /// Chunks, what is asked of them, and its numbers.
-const SQUEEZED: [(Counted, Asked<'static>, &'static [u8]); 4] = [
+const SQUEEZED: &'static [(Counted, Asked<'static>, &'static [u8])] = &[
     (
         LINES,
         Asked::Ranges(&[0..1, 1..3, 0..1, 1..4, 0..1]),
@@ -239,7 +239,7 @@ fn parts_of_squeezed_chunks_are_read(rt: HostRuntime) -> Result<(), Fail> {
 
 /// Chunks, what can't be asked of them, and why: it is checked against the shape of the chunk, not of
 /// the encoded one.
-const OUTSIDE: [(Counted, Asked<'static>, CodecError); 4] = [
+const OUTSIDE: &'static [(Counted, Asked<'static>, CodecError)] = &[
     (LINE, Asked::Tuples(&[&[1, 0]]), CodecError::OutOfBounds),
     (POINT, Asked::Ranges(&[0..1, 1..2]), CodecError::OutOfBounds),
     (
@@ -341,7 +341,7 @@ fn no_stage_of(
 }
 
 /// Chunks of which the order of two axes makes no stage, and why.
-const UNMADE: [(Told<'static>, CodecError); 2] = [
+const UNMADE: &'static [(Told<'static>, CodecError)] = &[
     (
         (&[6], Type::OptionalByte, &[0]),
         CodecError::UnsupportedDataType(CodecName::Transpose),
