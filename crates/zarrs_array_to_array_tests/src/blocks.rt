@@ -2,14 +2,14 @@
 //! of a chunk are told by where they stand, so each byte of the answer is told too.
 
 use crate::checks::are;
-use crate::forms::{Told, Type, chunk_form, transpose};
-use crate::moves::moves;
+use crate::forms::{Told, Type, transpose};
+use crate::moves::moves_chunk;
 use std::alloc::{AllocError, Global};
 use std::process::Abort;
 use std::test::Fail;
 
 /// Planes of so many rows and columns, one behind another, and how many bytes an element has.
-const PLANES: [(Told<'static>, u64); 16] = [
+const PLANES: &'static [(Told<'static>, u64)] = &[
     ((&[1, 1, 1], Type::Byte, &[0]), 1),
     ((&[3, 2, 2], Type::Byte, &[0]), 1),
     ((&[2, 5, 3], Type::Byte, &[0]), 1),
@@ -97,16 +97,18 @@ fn turns(rt: &impl Abort, alloc: Global, told: &Told<'_>, size: u64) -> Result<(
         .wrapping_mul(size);
     let chunk = plain(alloc, count)?;
     let wanted = turned(alloc, *planes, *rows, *columns, size)?;
-    let form = chunk_form(alloc, told)?;
+    moves_planes(rt, alloc, told, chunk.as_slice(), wanted.as_slice())
+}
+
+fn moves_planes(
+    rt: &impl Abort,
+    alloc: Global,
+    told: &Told<'_>,
+    chunk: &[u8],
+    wanted: &[u8],
+) -> Result<(), Fail> {
     let codec = transpose(alloc, &[0, 2, 1])?;
-    moves(
-        rt,
-        alloc,
-        &codec,
-        &form,
-        chunk.as_slice(),
-        wanted.as_slice(),
-    )
+    Ok(moves_chunk(rt, alloc, &codec, told, chunk, wanted)?)
 }
 
 #[test]
