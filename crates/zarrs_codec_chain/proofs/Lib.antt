@@ -2,5 +2,12 @@ pub mod ArraySteps
 pub mod CodecSteps
 pub mod ChainSteps
 pub mod PackedElements
+pub mod NestedNormal
+pub mod NestedStages
+pub mod NestedStands
+pub mod NestedWritten
+pub mod NestedForNormal
+pub mod NestedGrowth
+pub mod NestedKept
 pub mod ChainLaws
 pub mod ChainRelations

@@ -10,11 +10,23 @@ use Rattle.zarrs_codec.specs.declared.bytes_representation.BytesRepresentation.{
 use Rattle.zarrs_array_to_array.specs.ArrayToArrayCodec.{IsMapping}
 use Rattle.zarrs_bytes.specs.BytesCodec.{IsChunk}
 use Rattle.zarrs_packbits.specs.Laws.{HasBytes}
-use Rattle.zarrs_codec_chain.specs.PlainChain.{PlainCodec, PlainChain, is_flat}
+use Rattle.zarrs_codec_chain.specs.PlainChain.{PlainCodec, bytes_codec, packbits_codec, vlen_codec, optional_codec, PlainChain, is_flat}
 use Rattle.zarrs_codec_chain.specs.NormalForm.{normal_form}
 use Rattle.zarrs_codec_chain.specs.Representation.{chain_representation}
 use Rattle.zarrs_codec_chain.specs.Stands.{ChainStands}
 use Rattle.zarrs_codec_chain.specs.Written.{ChainWritten}
+
+-- the array codecs of all chains inside are what their types hold to
+abbrev pub HasMappings : {B : Type 0} → PlainCodec B → Type 0
+HasMappings (bytes_codec order) = Unit {0}
+HasMappings (packbits_codec settings) = Unit {0}
+HasMappings (vlen_codec ia ix ib da dx db wide at_end) = All IsMapping ia × HasMappings ix × All IsMapping da × HasMappings dx
+HasMappings (optional_codec ma mx mb da dx db) = All IsMapping ma × HasMappings mx × All IsMapping da × HasMappings dx
+
+-- a chain whose array codecs, and those of all chains inside, are what their types hold to
+pub record IsChainOfMappings {B : Type 0} (chain : PlainChain B) : Type 0 where
+  pub mappings : All IsMapping chain.arrays
+  pub inside : HasMappings chain.codec
 
 -- a chain without chains inside, whose array codecs are what their types hold to
 pub record IsFlatChain {B : Type 0} (chain : PlainChain B) : Type 0 where
@@ -32,20 +44,20 @@ WrittenStands {B} f =
 abbrev pub StandsForOne : {B : Type 0} → BytesCodecs B → Type 0
 StandsForOne {B} f =
     (chain : PlainChain B) (sizes : List ℕ) (type : ElementType) (fill value : List ℕ) (chunk other : Chunk)
-    → IsFlatChain chain → All (λ size. 0 < size) sizes
+    → IsChainOfMappings chain → All (λ size. 0 < size) sizes
     → ChainStands f chain sizes type fill value chunk → ChainStands f chain sizes type fill value other → chunk ≡ other
 
 -- For a chunk at most one value is written.
 abbrev pub WrittenOnce : {B : Type 0} → BytesCodecs B → Type 0
 WrittenOnce {B} f =
     (chain : PlainChain B) (sizes : List ℕ) (type : ElementType) (fill value other : List ℕ) (chunk : Chunk)
-    → IsFlatChain chain → ChainWritten f chain sizes type fill value chunk → ChainWritten f chain sizes type fill other chunk → value ≡ other
+    → ChainWritten f chain sizes type fill value chunk → ChainWritten f chain sizes type fill other chunk → value ≡ other
 
 -- The normal form of a normal form is the same, for elements of the type.
 abbrev pub NormalTwice : Type 0 → Type 0
 NormalTwice B =
     (codec : PlainCodec B) (type : ElementType) (chunk : Chunk)
-    → is_flat codec ≡ true → AreElements type chunk → normal_form codec type (normal_form codec type chunk) ≡ normal_form codec type chunk
+    → AreElements type chunk → normal_form codec type (normal_form codec type chunk) ≡ normal_form codec type chunk
 
 -- The normal form of a chunk that array codecs move is the normal form moved.
 abbrev pub NormalMoved : Type 0 → Type 0
@@ -63,7 +75,7 @@ NormalUpdated B =
 abbrev pub WrittenForNormal : {B : Type 0} → BytesCodecs B → Type 0
 WrittenForNormal {B} f =
     (chain : PlainChain B) (sizes : List ℕ) (type : ElementType) (fill value : List ℕ) (chunk : Chunk)
-    → IsFlatChain chain → IsChunk type (product sizes) chunk → ChainWritten f chain sizes type fill value chunk ↔ ChainWritten f chain sizes type fill value (normal_form chain.codec type chunk)
+    → IsChunk type (product sizes) chunk → ChainWritten f chain sizes type fill value chunk ↔ ChainWritten f chain sizes type fill value (normal_form chain.codec type chunk)
 
 -- Two chunks are written alike exactly if their normal forms are equal.
 abbrev pub WrittenAlike : {B : Type 0} → BytesCodecs B → Type 0
@@ -77,5 +89,5 @@ WrittenAlike {B} f =
 abbrev pub WrittenKeeps : {B : Type 0} → BytesCodecs B → Type 0
 WrittenKeeps {B} f =
     (chain : PlainChain B) (sizes : List ℕ) (type : ElementType) (fill value : List ℕ) (chunk : Chunk) (r : BytesRepresentation)
-    → IsLawful f → IsFlatChain chain → All HasBytes chunk → All (λ size. 0 < size) sizes
+    → IsLawful f → IsChainOfMappings chain → All HasBytes chunk → All (λ size. 0 < size) sizes
     → ChainWritten f chain sizes type fill value chunk → chain_representation f chain sizes type fill ≡ Ok r → KeepsTo r value
