@@ -16,3 +16,5 @@ pub mod RunLemmas
 pub mod Standing
 pub mod Taken
 pub mod Tests
+pub mod WholeChunk
+pub mod WholeReads

@@ -1,6 +1,6 @@
 -- Laws of the codec `packbits`.
-use Rattle.std.specs.Prelude.{◌≡◌, ◌<◌, ◌↔◌, ℕ, Bool, true, false, Option, Some, List, length, map, All, Ok}
-use Rattle.zarrs_data_type.specs.Element.{Element, plain, absent, present, Chunk, AreElements}
+use Rattle.std.specs.Prelude.{◌≡◌, ◌<◌, ◌↔◌, ℕ, true, Some, List, length, All, Ok}
+use Rattle.zarrs_data_type.specs.Element.{Element, plain, absent, present, Chunk}
 use Rattle.zarrs_data_type.specs.ElementType.{ElementType}
 use Rattle.zarrs_data_type.specs.declared.endianness.Endianness.TheVariants.{Little}
 use Rattle.zarrs_array_bytes.specs.Elements.{select}
