@@ -9,6 +9,7 @@ pub mod FieldLemmas
 pub mod FlatChunk
 pub mod FlatRead
 pub mod LayoutLemmas
+pub mod LocalBits
 pub mod LocalLemmas
 pub mod LowBits
 pub mod PartReads

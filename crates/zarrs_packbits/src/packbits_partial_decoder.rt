@@ -170,7 +170,7 @@ impl PackBitsCodec {
 }
 
 impl<H: BytesPartialDecoderTraits> PackBitsPartialDecoder<H> {
-    ghost use Rattle.zarrs_packbits.specs.PackBitsPartialDecoder.{packbits_form_of, packbits_handle_of};
+    ghost use Rattle.zarrs_packbits.specs.PackBitsPartialDecoder.{packbits_form_of, packbits_handle_of, SelectsStored, FillsUnstored};
 
     /// The type of the elements.
     pub fn data_type(&self) -> &DataType
@@ -189,8 +189,8 @@ impl<H: BytesPartialDecoderTraits> PackBitsPartialDecoder<H> {
         alloc: Global,
         indexer: &Indexer,
     ) -> Result<ArrayBytes<'static>, CodecError>
-        ensures selected { let form = packbits_form_of self.old in (value : List ℕ) (chunk : Chunk) → (H.state (packbits_handle_of self.old)).value ≡ Some value → PackBitsStands form.settings form.sizes form.type form.fill value chunk → AnswersBy memory_or_fault (Holds form.type) result (seen (select chunk) (places_of (selection_of indexer.now) form.sizes)) }
-        ensures unstored { let form = packbits_form_of self.old in (H.state (packbits_handle_of self.old)).value ≡ None → AnswersBy memory_or_fault (Holds form.type) result (seen (map (λ _. fill_element form.type form.fill)) (places_of (selection_of indexer.now) form.sizes)) }
+        ensures selected { SelectsStored H.state self.old indexer.now result }
+        ensures unstored { FillsUnstored H.state self.old indexer.now result }
         ensures answer { let form = packbits_form_of self.old in AnswersBy memory_or_fault (Holds form.type) result (packbits_read form.settings form.sizes form.type form.fill (H.state (packbits_handle_of self.old)).value (selection_of indexer.now)) }
         ensures indexer_first { is_ok (places_of (selection_of indexer.now) (packbits_form_of self.old).sizes) ≡ false → is_fault result ≡ false }
         ensures sure { let form = packbits_form_of self.old in IfOk (packbits_plan form.settings form.sizes form.type form.fill (selection_of indexer.now)) (λ numbers. are_sure (H.state (packbits_handle_of self.old)).sure numbers ≡ true → is_fault result ≡ false) }
