@@ -6,6 +6,7 @@ pub mod DecoderReads
 pub mod ElementBits
 pub mod Exact
 pub mod FieldLemmas
+pub mod FlagLemmas
 pub mod FlatChunk
 pub mod FlatRead
 pub mod LayoutLemmas
