@@ -9,5 +9,7 @@ pub mod NestedWritten
 pub mod NestedForNormal
 pub mod NestedGrowth
 pub mod NestedKept
-pub mod ChainLaws
+pub mod NestedRows
+pub mod NestedFlags
+pub mod NestedWrittenStands
 pub mod ChainRelations

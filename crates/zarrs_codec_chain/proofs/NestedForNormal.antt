@@ -1,6 +1,5 @@
 -- What is written for a chunk is what is written for its normal form, by chains with chains inside too.
-use Rattle.std.proofs.Common.{◌≡◌, ◌↔◌, ℕ, zero, suc, ◌+◌, ◌<◌, ◌^◌, Bool, true, false, List, [], ◌∷◌, ◌++◌, length, get_or, map, arith, refl, ap, sym, subst, ◌∙◌}
-use Rattle.std.specs.List.{All}
+use Rattle.std.proofs.Common.{◌≡◌, ◌↔◌, ℕ, zero, suc, ◌+◌, ◌<◌, ◌^◌, Bool, true, List, [], ◌∷◌, ◌++◌, length, get_or, map, arith, refl, ap, sym, subst, ◌∙◌}
 use Rattle.std.proofs.lemmas.List.{length-map, map-id, map-append}
 use Rattle.std.proofs.lemmas.List.Elements.{All-nil, All-cons, All-head, All-tail}
 use Rattle.zarrs_chunk.specs.ChunkShape.{product}
@@ -21,10 +20,10 @@ use Rattle.zarrs_packbits.specs.PaddingByte.{value_with}
 use Rattle.zarrs_packbits.proofs.CodecLaws as packbits
 use Rattle.zarrs_codec_chain.specs.PlainChain.{PlainCodec, bytes_codec, packbits_codec, vlen_codec, optional_codec, PlainChain}
 use Rattle.zarrs_codec_chain.specs.Encode.{chunk_offsets, offset_bytes, offset_elements, offset_fits, byte_elements, all_bytes, flag_of, present_of}
-use Rattle.zarrs_codec_chain.specs.NormalForm.{the_byte, vlen_normal, optional_normal, normal_element, normal_form}
+use Rattle.zarrs_codec_chain.specs.NormalForm.{vlen_normal, optional_normal, normal_element, normal_form}
 use Rattle.zarrs_codec_chain.specs.Representation.{Measure, flag_type, byte_type, offset_type, blank_fill, codec_representation}
 use Rattle.zarrs_codec_chain.specs.Stands.{Standing}
-use Rattle.zarrs_codec_chain.specs.Written.{PartWritten, VlenWritten, OptionalWritten, OptionalWrittenFor, WrittenThrough, CodecWritten, ChainWritten}
+use Rattle.zarrs_codec_chain.specs.Written.{PartWritten, VlenWritten, OptionalWrittenFor, WrittenThrough, CodecWritten, ChainWritten}
 use Rattle.zarrs_codec_chain.proofs.ArraySteps.{ok_is}
 use Rattle.zarrs_codec_chain.proofs.NestedNormal.{Keeping, KeepsTypes, kept_byte, kept_as_byte, kept_is, normal_elements, normal_selected}
 use Rattle.zarrs_codec_chain.proofs.PackedElements.{selected_are}

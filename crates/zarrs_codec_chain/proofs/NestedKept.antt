@@ -1,6 +1,6 @@
 -- Written values are bytes, as many as was said, by chains with chains inside too.
-use Rattle.std.proofs.Common.{◌≡◌, ℕ, zero, suc, ◌+◌, ◌*◌, ◌/◌, ◌%◌, ◌<◌, ◌≤◌, ◌^◌, nat_lt, if◌then◌else◌, Bool, true, false, List, [], ◌∷◌, ◌++◌, length, map, Result, Ok, Err, arith, refl, ap, sym, subst, ◌∙◌}
-use Rattle.std.specs.Int.{w32, w64, byte_at, bytes_low_first}
+use Rattle.std.proofs.Common.{◌≡◌, ℕ, zero, suc, ◌+◌, ◌/◌, ◌<◌, ◌≤◌, ◌^◌, nat_lt, if◌then◌else◌, Bool, true, false, List, [], ◌∷◌, ◌++◌, length, map, Result, Ok, Err, arith, refl, ap, sym, subst, ◌∙◌}
+use Rattle.std.specs.Int.{byte_at, bytes_low_first}
 use Rattle.std.specs.List.{All}
 use Rattle.std.proofs.lemmas.List.{length-append}
 use Rattle.std.proofs.lemmas.List.Elements.{All-append, All-nil, All-cons, All-head, All-tail}
@@ -22,18 +22,17 @@ use Rattle.zarrs_packbits.specs.Laws.{HasBytes}
 use Rattle.zarrs_packbits.specs.PackBitsSettings.{packbits_length}
 use Rattle.zarrs_packbits.proofs.CodecLaws as packbits
 use Rattle.zarrs_codec_chain.specs.PlainChain.{PlainCodec, bytes_codec, packbits_codec, vlen_codec, optional_codec, PlainChain}
-use Rattle.zarrs_codec_chain.specs.ArrayStages.{arrays_map}
 use Rattle.zarrs_codec_chain.specs.BytesStages.{outer_representation, OuterWritten}
 use Rattle.zarrs_codec_chain.specs.Encode.{chunk_offsets, offset_bytes, length_bytes, offset_elements, byte_elements, all_bytes, vlen_layout, flag_of, present_of, optional_layout}
 use Rattle.zarrs_codec_chain.specs.Laws.{HasMappings, IsChainOfMappings}
 use Rattle.zarrs_codec_chain.specs.NormalForm.{normal_element}
 use Rattle.zarrs_codec_chain.specs.Representation.{Measure, flag_type, byte_type, offset_type, blank_fill, bounded, both_representations, optional_representation, around_representation, codec_representation, chain_representation}
 use Rattle.zarrs_codec_chain.specs.Stands.{Standing}
-use Rattle.zarrs_codec_chain.specs.Written.{PartWritten, VlenWritten, OptionalWritten, OptionalWrittenFor, WrittenThrough, CodecWritten, ChainWritten}
-use Rattle.zarrs_codec_chain.proofs.ArraySteps.{ok, ok_is}
-use Rattle.zarrs_codec_chain.proofs.NestedGrowth.{Grows, IsBoth, is_both, vlen_unbounded, inner_grows}
+use Rattle.zarrs_codec_chain.specs.Written.{PartWritten, VlenWritten, OptionalWrittenFor, WrittenThrough, CodecWritten, ChainWritten}
+use Rattle.zarrs_codec_chain.proofs.ArraySteps.{ok_is}
+use Rattle.zarrs_codec_chain.proofs.NestedGrowth.{Grows, is_both, vlen_unbounded, inner_grows}
 use Rattle.zarrs_codec_chain.proofs.NestedNormal.{Keeping}
-use Rattle.zarrs_codec_chain.proofs.NestedStages.{all_selected, spelling_bytes, element_bytes, outer_small, outer_opened, arrays_are_map, row_positive}
+use Rattle.zarrs_codec_chain.proofs.NestedStages.{all_selected, spelling_bytes, element_bytes, outer_opened, arrays_are_map, row_positive}
 use Rattle.zarrs_codec_chain.proofs.PackedElements.{packed_bytes}
 
 -- bytes, as many as was said
@@ -87,16 +86,16 @@ offset_are false offset = low_first 0 4 offset
 
 -- ---- bytes of the chunks of inner chains
 
-offsets_have : (wide : Bool) (offsets : List ℕ) → All HasBytes (offset_elements wide offsets)
+pub offsets_have : (wide : Bool) (offsets : List ℕ) → All HasBytes (offset_elements wide offsets)
 offsets_have wide [] = All-nil HasBytes
 offsets_have wide (offset ∷ offsets) = All-cons HasBytes (plain (offset_bytes wide offset)) (offset_elements wide offsets) (offset_are wide offset) (offsets_have wide offsets)
 
-items_have : (items : List ℕ) → AreBytes items → All HasBytes (byte_elements items)
+pub items_have : (items : List ℕ) → AreBytes items → All HasBytes (byte_elements items)
 items_have [] h = All-nil HasBytes
 items_have (byte ∷ items) h =
     All-cons HasBytes (plain (byte ∷ [])) (byte_elements items) (All-cons is_byte byte [] (All-head is_byte byte items h) (All-nil is_byte)) (items_have items (All-tail is_byte byte items h))
 
-all_are : (chunk : Chunk) → All HasBytes chunk → AreBytes (all_bytes chunk)
+pub all_are : (chunk : Chunk) → All HasBytes chunk → AreBytes (all_bytes chunk)
 all_are [] h = All-nil is_byte
 all_are (element ∷ chunk) h = All-append is_byte (bytes_of element) (all_bytes chunk) (element_bytes element (All-head HasBytes element chunk h)) (all_are chunk (All-tail HasBytes element chunk h))
 
@@ -105,11 +104,11 @@ flag_has (plain items) = All-cons is_byte 0 [] (omega arith) (All-nil is_byte)
 flag_has absent = All-cons is_byte 0 [] (omega arith) (All-nil is_byte)
 flag_has (present element) = All-cons is_byte 1 [] (omega arith) (All-nil is_byte)
 
-flags_have : (chunk : Chunk) → All HasBytes (map flag_of chunk)
+pub flags_have : (chunk : Chunk) → All HasBytes (map flag_of chunk)
 flags_have [] = All-nil HasBytes
 flags_have (element ∷ chunk) = All-cons HasBytes (flag_of element) (map flag_of chunk) (flag_has element) (flags_have chunk)
 
-present_have : (chunk : Chunk) → All HasBytes chunk → All HasBytes (present_of chunk)
+pub present_have : (chunk : Chunk) → All HasBytes chunk → All HasBytes (present_of chunk)
 present_have [] h = All-nil HasBytes
 present_have (plain items ∷ chunk) h = present_have chunk (All-tail HasBytes (plain items) chunk h)
 present_have (absent ∷ chunk) h = present_have chunk (All-tail HasBytes absent chunk h)

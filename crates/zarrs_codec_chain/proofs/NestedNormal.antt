@@ -1,6 +1,5 @@
 -- What codecs keep of elements, those with chains inside too.
-use Rattle.std.proofs.Common.{◌≡◌, ℕ, Bool, true, false, zero, suc, List, [], ◌∷◌, length, get_or, map, if◌then◌else◌, arith, refl, ap, sym, ◌∙◌}
-use Rattle.std.specs.List.{All}
+use Rattle.std.proofs.Common.{◌≡◌, ℕ, Bool, true, false, List, [], ◌∷◌, get_or, map, if◌then◌else◌, arith, refl, ap, sym, ◌∙◌}
 use Rattle.std.proofs.lemmas.List.{length-map}
 use Rattle.std.proofs.lemmas.List.Elements.{All-nil, All-cons, All-head, All-tail}
 use Rattle.std.proofs.Math.ListN.{get_or-map}
@@ -29,7 +28,7 @@ KeepsTwice keep = (type : ElementType) (element : Element) → IsElement type el
 
 -- ---- types
 
-vlen_is : (keep : Keeping) → KeepsTypes (vlen_normal keep)
+pub vlen_is : (keep : Keeping) → KeepsTypes (vlen_normal keep)
 vlen_is keep (fixed width components sign) element h = h
 vlen_is keep text (plain items) h = tt
 vlen_is keep text absent h = h
@@ -39,7 +38,7 @@ vlen_is keep bytes absent h = h
 vlen_is keep bytes (present element) h = h
 vlen_is keep (optional type) element h = h
 
-optional_is : (keep : Keeping) → KeepsTypes keep → KeepsTypes (optional_normal keep)
+pub optional_is : (keep : Keeping) → KeepsTypes keep → KeepsTypes (optional_normal keep)
 optional_is keep k (fixed width components sign) element h = h
 optional_is keep k text element h = h
 optional_is keep k bytes element h = h

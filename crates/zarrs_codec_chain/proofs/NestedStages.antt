@@ -1,5 +1,5 @@
 -- What the stages of a chain round its codec to bytes do, and the bytes of elements.
-use Rattle.std.proofs.Common.{◌≡◌, ℕ, zero, suc, ◌+◌, ◌*◌, ◌-◌, ◌<◌, ◌^◌, Option, Some, None, List, [], ◌∷◌, length, take, drop, get_or, reverse, map, Result, Ok, Err, arith, refl, ap, sym, subst, ◌∙◌}
+use Rattle.std.proofs.Common.{◌≡◌, ℕ, zero, suc, ◌+◌, ◌*◌, ◌-◌, ◌<◌, ◌^◌, Option, Some, None, List, [], ◌∷◌, length, take, drop, get_or, reverse, map, Result, Ok, refl, ap, sym, subst, ◌∙◌}
 use Rattle.std.specs.List.{All, concat, range_with_len}
 use Rattle.std.proofs.lemmas.List.Elements.{All-append, All-nil, All-cons, All-head, All-tail}
 use mathlib.Core.List.{reverse-cons}

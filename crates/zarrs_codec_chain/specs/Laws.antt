@@ -1,5 +1,5 @@
--- Laws of chains: of those without chains inside, and of lawful bytes codecs.
-use Rattle.std.specs.Prelude.{◌≡◌, ◌<◌, ◌↔◌, ℕ, true, List, Ok, All}
+-- Laws of chains, those with chains inside too, and of lawful bytes codecs.
+use Rattle.std.specs.Prelude.{◌≡◌, ◌<◌, ◌↔◌, ℕ, List, Ok, All}
 use Rattle.zarrs_data_type.specs.ElementType.{ElementType}
 use Rattle.zarrs_chunk.specs.ChunkShape.{product}
 use Rattle.zarrs_data_type.specs.Element.{Chunk, AreElements}
@@ -10,7 +10,7 @@ use Rattle.zarrs_codec.specs.declared.bytes_representation.BytesRepresentation.{
 use Rattle.zarrs_array_to_array.specs.ArrayToArrayCodec.{IsMapping}
 use Rattle.zarrs_bytes.specs.BytesCodec.{IsChunk}
 use Rattle.zarrs_packbits.specs.Laws.{HasBytes}
-use Rattle.zarrs_codec_chain.specs.PlainChain.{PlainCodec, bytes_codec, packbits_codec, vlen_codec, optional_codec, PlainChain, is_flat}
+use Rattle.zarrs_codec_chain.specs.PlainChain.{PlainCodec, bytes_codec, packbits_codec, vlen_codec, optional_codec, PlainChain}
 use Rattle.zarrs_codec_chain.specs.NormalForm.{normal_form}
 use Rattle.zarrs_codec_chain.specs.Representation.{chain_representation}
 use Rattle.zarrs_codec_chain.specs.Stands.{ChainStands}
@@ -28,16 +28,11 @@ pub record IsChainOfMappings {B : Type 0} (chain : PlainChain B) : Type 0 where
   pub mappings : All IsMapping chain.arrays
   pub inside : HasMappings chain.codec
 
--- a chain without chains inside, whose array codecs are what their types hold to
-pub record IsFlatChain {B : Type 0} (chain : PlainChain B) : Type 0 where
-  pub flat : is_flat chain.codec ≡ true
-  pub mappings : All IsMapping chain.arrays
-
 -- What is written for a chunk stands for its normal form.
 abbrev pub WrittenStands : {B : Type 0} → BytesCodecs B → Type 0
 WrittenStands {B} f =
     (chain : PlainChain B) (sizes : List ℕ) (type : ElementType) (fill value : List ℕ) (chunk : Chunk)
-    → IsLawful f → IsFlatChain chain → All HasBytes chunk → All (λ size. 0 < size) sizes
+    → IsLawful f → IsChainOfMappings chain → All HasBytes chunk → All (λ size. 0 < size) sizes
     → ChainWritten f chain sizes type fill value chunk → ChainStands f chain sizes type fill value (normal_form chain.codec type chunk)
 
 -- A value stands for at most one chunk.
@@ -63,13 +58,13 @@ NormalTwice B =
 abbrev pub NormalMoved : Type 0 → Type 0
 NormalMoved B =
     (codec : PlainCodec B) (type : ElementType) (m : CoordinateMap) (chunk : Chunk)
-    → is_flat codec ≡ true → normal_form codec type (moved_chunk m chunk) ≡ moved_chunk m (normal_form codec type chunk)
+    → normal_form codec type (moved_chunk m chunk) ≡ moved_chunk m (normal_form codec type chunk)
 
 -- The normal form of an updated chunk is the normal form updated with that of the new elements.
 abbrev pub NormalUpdated : Type 0 → Type 0
 NormalUpdated B =
     (codec : PlainCodec B) (type : ElementType) (chunk : Chunk) (places : List ℕ) (new : Chunk)
-    → is_flat codec ≡ true → normal_form codec type (update chunk places new) ≡ update (normal_form codec type chunk) places (normal_form codec type new)
+    → normal_form codec type (update chunk places new) ≡ update (normal_form codec type chunk) places (normal_form codec type new)
 
 -- What is written for a chunk of the sizes and the type is what is written for its normal form.
 abbrev pub WrittenForNormal : {B : Type 0} → BytesCodecs B → Type 0
@@ -81,7 +76,7 @@ WrittenForNormal {B} f =
 abbrev pub WrittenAlike : {B : Type 0} → BytesCodecs B → Type 0
 WrittenAlike {B} f =
     (chain : PlainChain B) (sizes : List ℕ) (type : ElementType) (fill value other_value : List ℕ) (chunk other : Chunk)
-    → IsLawful f → IsFlatChain chain → All HasBytes chunk → All HasBytes other → All (λ size. 0 < size) sizes
+    → IsLawful f → IsChainOfMappings chain → All HasBytes chunk → All HasBytes other → All (λ size. 0 < size) sizes
     → ChainWritten f chain sizes type fill value chunk → ChainWritten f chain sizes type fill other_value other
     → (value ≡ other_value) ↔ (normal_form chain.codec type chunk ≡ normal_form chain.codec type other)
 

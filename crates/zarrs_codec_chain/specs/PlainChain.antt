@@ -1,5 +1,5 @@
 -- Chains of codecs as plain data.
-use Rattle.std.specs.Prelude.{Bool, true, false, Option, List}
+use Rattle.std.specs.Prelude.{Bool, Option, List}
 use Rattle.zarrs_data_type.specs.declared.endianness.Endianness.{Endianness}
 use Rattle.zarrs_array_to_array.specs.ArrayToArrayCodec.{ArrayMapping}
 use Rattle.zarrs_packbits.specs.PackBitsSettings.{PackBitsSettings}
@@ -20,10 +20,3 @@ pub record PlainChain (B : Type 0) : Type 0 where
   pub arrays : List ArrayMapping
   pub codec : PlainCodec B
   pub outer : List B
-
--- the codec has no chain inside
-abbrev pub is_flat : {B : Type 0} → PlainCodec B → Bool
-is_flat (bytes_codec order) = true
-is_flat (packbits_codec settings) = true
-is_flat (vlen_codec ia ix ib da dx db wide at_end) = false
-is_flat (optional_codec ma mx mb da dx db) = false

@@ -1,5 +1,5 @@
-//! Laws over the definitions alone: each function's contract is one. They are of chains without
-//! chains inside.
+//! Laws over the definitions alone: each function's contract is one. They are of all chains, those
+//! with chains inside too.
 ghost use Rattle.zarrs_codec.specs.BytesToBytesCodec.{BytesCodecs};
 ghost use Rattle.zarrs_codec_chain.specs.Laws.{WrittenStands, StandsForOne, WrittenOnce, NormalTwice, NormalMoved, NormalUpdated, WrittenForNormal, WrittenAlike, WrittenKeeps};
 

@@ -1,4 +1,4 @@
-use Rattle.zarrs_codec_chain.proofs.ChainLaws.{chain_alike}
+use Rattle.zarrs_codec_chain.proofs.NestedWrittenStands.{chain_alike}
 use Rattle.zarrs_codec_chain.proofs.laws.written_alike.Goals as goal
 
 pub returns : goal.returns
