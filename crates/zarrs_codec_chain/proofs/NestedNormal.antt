@@ -1,11 +1,13 @@
 -- What codecs keep of elements, those with chains inside too.
-use Rattle.std.proofs.Common.{◌≡◌, ℕ, Bool, true, false, List, [], ◌∷◌, get_or, map, if◌then◌else◌, arith, refl, ap, sym, ◌∙◌}
+use Rattle.std.proofs.Common.{◌≡◌, ℕ, Bool, true, false, zero, suc, List, [], ◌∷◌, get_or, map, set, if◌then◌else◌, arith, refl, ap, sym, ◌∙◌}
 use Rattle.std.proofs.lemmas.List.{length-map}
 use Rattle.std.proofs.lemmas.List.Elements.{All-nil, All-cons, All-head, All-tail}
 use Rattle.std.proofs.Math.ListN.{get_or-map}
 use Rattle.zarrs_data_type.specs.ElementType.{ElementType, fixed, text, bytes, optional}
 use Rattle.zarrs_data_type.specs.Element.{Element, plain, absent, present, Chunk, IsElement, AreElements}
 use Rattle.zarrs_array_bytes.specs.Elements.{select}
+use Rattle.zarrs_array_bytes.specs.Update.{update}
+use Rattle.zarrs_codec.specs.CoordinateMap.{CoordinateMap, origins, moved_chunk}
 use Rattle.zarrs_bytes.specs.BytesCodec.{IsChunk}
 use Rattle.zarrs_packbits.specs.NormalForm.{normal_element as packbits_element}
 use Rattle.zarrs_packbits.specs.PackBitsSettings.{PackBitsSettings, has_bits}
@@ -160,3 +162,21 @@ normal_selected codec type chunk (place ∷ places) =
     let one : normal_element codec type (get_or chunk place absent) ≡ get_or (normal_form codec type chunk) place absent =
     sym (ap (λ (d : Element). get_or (normal_form codec type chunk) place d) (sym (kept_absent codec type)) ∙ get_or-map (normal_element codec type) chunk place absent) in
     λ i. one i ∷ normal_selected codec type chunk places i
+
+-- and that of a moved chunk is the normal form moved
+pub normal_moved : {B : Type 0} (codec : PlainCodec B) (type : ElementType) (m : CoordinateMap) (chunk : Chunk) → normal_form codec type (moved_chunk m chunk) ≡ moved_chunk m (normal_form codec type chunk)
+normal_moved codec type m chunk = normal_selected codec type chunk (origins m)
+
+-- ---- updated elements
+
+map_set : (keep : Element → Element) (chunk : Chunk) (place : ℕ) (element : Element) → map keep (set chunk place element) ≡ set (map keep chunk) place (keep element)
+map_set keep [] place element = refl
+map_set keep (x ∷ chunk) zero element = refl
+map_set keep (x ∷ chunk) (suc place) element = ap (λ (c : Chunk). keep x ∷ c) (map_set keep chunk place element)
+
+-- the normal form of an updated chunk is the normal form updated with that of the new elements
+pub normal_updated : {B : Type 0} (codec : PlainCodec B) (type : ElementType) (chunk : Chunk) (places : List ℕ) (new : Chunk) → normal_form codec type (update chunk places new) ≡ update (normal_form codec type chunk) places (normal_form codec type new)
+normal_updated codec type chunk [] new = refl
+normal_updated codec type chunk (place ∷ places) [] = refl
+normal_updated codec type chunk (place ∷ places) (element ∷ new) =
+    normal_updated codec type (set chunk place element) places new ∙ ap (λ (c : Chunk). update c places (normal_form codec type new)) (map_set (normal_element codec type) chunk place element)
