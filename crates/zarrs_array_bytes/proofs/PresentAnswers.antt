@@ -15,7 +15,7 @@ use Rattle.zarrs_array_bytes.specs.Filled.{blank_elements}
 use Rattle.zarrs_array_bytes.specs.Update.{update}
 use Rattle.zarrs_array_bytes.specs.Parts.{with_mask}
 use Rattle.zarrs_array_bytes.specs.Laws.{PresentElementsAreHeld, ExpandedElementsAreHeld, ExpansionRestores, ExpansionKeepsElements}
-use Rattle.zarrs_array_bytes.specs.Present.{present_elements, mask_of, expanded, present_places, are_all_present, present_chunk, container_spread, container_expansion, expansion_fits, expansion_of, expanded_chunk}
+use Rattle.zarrs_array_bytes.specs.Present.{present_elements, mask_of, expansion, present_places, are_all_present, present_chunk, container_spread, container_expansion, expansion_fits, expansion_of, expanded_chunk}
 use Rattle.zarrs_array_bytes.proofs.ValidLemmas.{both_ok, then_ok, length_found, length_due}
 use Rattle.zarrs_array_bytes.proofs.ExtractLemmas.{small_holds}
 use Rattle.zarrs_array_bytes.proofs.FilledLemmas.{blank_fits}
@@ -71,7 +71,7 @@ fits_too r e _ n h a = cc
 -- what stands under a mask has so many elements, and they are these under it
 record StandsUnder (t : ElementType) (mask : List ℕ) (a : Held) (ds : Chunk) : Type 0 where
   valid : validity t (length mask) a ≡ Ok tt
-  are : flags mask (elements t (length mask) a) ≡ expanded mask ds
+  are : flags mask (elements t (length mask) a) ≡ expansion mask ds
 
 spread_stands : (t : ElementType) (h : Held) (mask : List ℕ) → levels_fit InvalidBytesLength t (length (present_places mask)) h ≡ Ok tt → sizes_fit t (length mask) ≡ Ok tt
     → StandsUnder t mask (container_spread t h mask) (elements t (length (present_places mask)) h)
@@ -92,7 +92,7 @@ spread_stands t h mask fit sizes =
 whole_stands : (t : ElementType) (h : Held) (mask : List ℕ) → length (present_places mask) ≡ length mask → validity t (length (present_places mask)) h ≡ Ok tt → StandsUnder t mask h (elements t (length (present_places mask)) h)
 whole_stands t h mask all valid = record {
   valid = subst (λ n. validity t n h ≡ Ok tt) all valid;
-  are = flags-all mask (elements t (length mask) h) (sym (count_is mask) ∙ all) (sym (length-elements t (length mask) h)) ∙ ap (λ n. expanded mask (elements t n h)) (sym all);
+  are = flags-all mask (elements t (length mask) h) (sym (count_is mask) ∙ all) (sym (length-elements t (length mask) h)) ∙ ap (λ n. expansion mask (elements t n h)) (sym all);
 }
 
 either_stands : (t : ElementType) (h : Held) (mask : List ℕ) (b : Bool) → are_all_present mask ≡ b → validity t (length (present_places mask)) h ≡ Ok tt → sizes_fit t (length mask) ≡ Ok tt
@@ -101,10 +101,10 @@ either_stands t h mask true e valid sizes = whole_stands t h mask (eqb-true _ _ 
 either_stands t h mask false e valid sizes = spread_stands t h mask (both_ok _ _ valid).1 sizes
 
 -- under a mask of that container stands the chunk
-expanded_holds : (t : ElementType) (a : Held) (m : Raw) (ds : Chunk) → sizes_fit t (length m.items) ≡ Ok tt → StandsUnder t m.items a ds → Holds (optional t) (masked a m) (expanded m.items ds)
+expanded_holds : (t : ElementType) (a : Held) (m : Raw) (ds : Chunk) → sizes_fit t (length m.items) ≡ Ok tt → StandsUnder t m.items a ds → Holds (optional t) (masked a m) (expansion m.items ds)
 expanded_holds t a m ds sizes stands =
     let n : ℕ = length m.items in
-    let count : length (expanded m.items ds) ≡ n = length-expanded m.items ds in
+    let count : length (expansion m.items ds) ≡ n = length-expanded m.items ds in
     let inner : levels_fit InvalidBytesLength t n a ≡ Ok tt = (both_ok (sizes_fit t n) (levels_fit InvalidBytesLength t n a) stands.valid).1 in
     let levels : levels_fit InvalidBytesLength (optional t) n (masked a m) ≡ Ok tt = then_ok (length_is InvalidBytesLength n n) (levels_fit InvalidBytesLength t n a) (length_due InvalidBytesLength n n refl) inner in
     record {
@@ -125,7 +125,7 @@ record Expands (t : ElementType) (h a : Held) (m : Raw) : Type 0 where
   fit : expansion_fits t h m.items ≡ Ok tt
   is : container_expansion t h m.items ≡ a
   mask : list_all (λ byte. nat_lt byte 2) m.items ≡ true
-  holds : Holds (optional t) (masked a m) (expanded m.items (elements t (length (present_places m.items)) h))
+  holds : Holds (optional t) (masked a m) (expansion m.items (elements t (length (present_places m.items)) h))
 
 expands : (t : ElementType) (h a : Held) (m : Raw) → expansion_of t h m.items ≡ Ok a → Expands t h a m
 expands t h a m e =
@@ -137,7 +137,7 @@ expands t h a m e =
       fit = parts.0;
       is = parts.1;
       mask = passed.0;
-      holds = subst (λ held. Holds (optional t) (masked held m) (expanded m.items (elements t (length (present_places m.items)) h))) parts.1
+      holds = subst (λ held. Holds (optional t) (masked held m) (expansion m.items (elements t (length (present_places m.items)) h))) parts.1
           (expanded_holds t (container_expansion t h m.items) m (elements t (length (present_places m.items)) h) both.1 stands);
     }
 
@@ -145,7 +145,7 @@ pub expanded_answers : (t : ElementType) (h a : Held) (m : Raw) (r : Result Held
 expanded_answers t h a m (Ok x) e gives =
     let known = expands t h a m e in
     let is : masked a m ≡ x = cc (rw known.mask at gives) in
-    rw known.fit (subst (λ held. Holds (optional t) held (expanded m.items (elements t (length (present_places m.items)) h))) is known.holds)
+    rw known.fit (subst (λ held. Holds (optional t) held (expansion m.items (elements t (length (present_places m.items)) h))) is known.holds)
 expanded_answers t h a m (Err c) e gives = λ ne.
     let known = expands t h a m e in
     let never : ⊥ = cc (rw known.mask at gives ne) in
@@ -181,7 +181,7 @@ expanded_held t h mask chunk holds count sizes =
     let parts = count_parts (list_all (λ byte. nat_lt byte 2) mask) (length (present_places mask)) (length chunk) count in
     let valid : validity t (length (present_places mask)) h ≡ Ok tt = subst (λ n. validity t n h ≡ Ok tt) (sym parts.1) holds.valid in
     let are : elements t (length (present_places mask)) h ≡ chunk = ap (λ n. elements t n h) parts.1 ∙ holds.elements_are in
-    rw (parts.0, valid, sizes) (ap (λ es. Ok (expanded mask es)) are)
+    rw (parts.0, valid, sizes) (ap (λ es. Ok (expansion mask es)) are)
 
 pub expansion_restores : ExpansionRestores
 expansion_restores = expanded-present

@@ -9,7 +9,7 @@ use Rattle.zarrs_data_type.specs.ElementType.{ElementType, optional}
 use Rattle.zarrs_data_type.specs.Element.{Element, plain, absent, present, Chunk, IsElement, AreElements}
 use Rattle.zarrs_array_bytes.specs.Elements.{select}
 use Rattle.zarrs_array_bytes.specs.Update.{update}
-use Rattle.zarrs_array_bytes.specs.Present.{present_elements, mask_of, expanded, present_places}
+use Rattle.zarrs_array_bytes.specs.Present.{present_elements, mask_of, expansion, present_places}
 use Rattle.zarrs_array_bytes.proofs.OffsetLemmas.{both_true}
 use Rattle.zarrs_array_bytes.proofs.UpdatedLemmas.{flags}
 
@@ -103,7 +103,7 @@ update-suc e es (p ∷ ps) [] = refl
 update-suc e es (p ∷ ps) (d ∷ ds) = update-suc e (set es p d) ps ds
 
 -- elements that are written at the marked places are put back under the mask
-pub flags-expanded : (mask : List ℕ) (es ds : Chunk) → length mask ≡ length es → length ds ≡ length (marked mask) → flags mask (update es (marked mask) ds) ≡ expanded mask ds
+pub flags-expanded : (mask : List ℕ) (es ds : Chunk) → length mask ≡ length es → length ds ≡ length (marked mask) → flags mask (update es (marked mask) ds) ≡ expansion mask ds
 flags-expanded [] es ds l n = refl
 flags-expanded (zero ∷ mask) [] ds l n = absurd (omega arith)
 flags-expanded (suc byte ∷ mask) [] ds l n = absurd (omega arith)
@@ -116,7 +116,7 @@ flags-expanded (suc byte ∷ mask) (e ∷ es) (d ∷ ds) l n =
     ∙ ap (λ xs. present d ∷ xs) (flags-expanded mask es ds (omega arith) (omega (arith, length-map (marked mask) suc)))
 
 -- where all are present, they are those under the mask
-pub flags-all : (mask : List ℕ) (es : Chunk) → length (marked mask) ≡ length mask → length mask ≡ length es → flags mask es ≡ expanded mask es
+pub flags-all : (mask : List ℕ) (es : Chunk) → length (marked mask) ≡ length mask → length mask ≡ length es → flags mask es ≡ expansion mask es
 flags-all [] es a l = refl
 flags-all (zero ∷ mask) es a l = absurd (omega (arith, length-map (marked mask) suc, length_marked mask))
 flags-all (suc byte ∷ mask) [] a l = absurd (omega arith)
@@ -129,7 +129,7 @@ present_elements-all (zero ∷ mask) es a l = absurd (omega (arith, length-map (
 present_elements-all (suc byte ∷ mask) [] a l = absurd (omega arith)
 present_elements-all (suc byte ∷ mask) (e ∷ es) a l = ap (λ xs. e ∷ xs) (present_elements-all mask es (omega (arith, length-map (marked mask) suc)) (omega arith))
 
-pub length-expanded : (mask : List ℕ) (ds : Chunk) → length (expanded mask ds) ≡ length mask
+pub length-expanded : (mask : List ℕ) (ds : Chunk) → length (expansion mask ds) ≡ length mask
 length-expanded [] ds = refl
 length-expanded (zero ∷ mask) ds = ap suc (length-expanded mask ds)
 length-expanded (suc byte ∷ mask) [] = ap suc (length-expanded mask [])
@@ -137,13 +137,13 @@ length-expanded (suc byte ∷ mask) (d ∷ ds) = ap suc (length-expanded mask ds
 
 -- ---- taken out and put back
 
-pub expanded-present : (type : ElementType) (chunk : Chunk) → AreElements (optional type) chunk → expanded (mask_of chunk) (present_elements chunk) ≡ chunk
+pub expanded-present : (type : ElementType) (chunk : Chunk) → AreElements (optional type) chunk → expansion (mask_of chunk) (present_elements chunk) ≡ chunk
 expanded-present type [] h = refl
 expanded-present type (plain items ∷ chunk) h = absurd (h 0 absent (omega arith))
 expanded-present type (absent ∷ chunk) h = ap (λ xs. absent ∷ xs) (expanded-present type chunk (All-tail (IsElement (optional type)) absent chunk h))
 expanded-present type (present e ∷ chunk) h = ap (λ xs. present e ∷ xs) (expanded-present type chunk (All-tail (IsElement (optional type)) (present e) chunk h))
 
-pub present-expanded : (mask : List ℕ) (ds : Chunk) → length ds ≡ length (marked mask) → present_elements (expanded mask ds) ≡ ds
+pub present-expanded : (mask : List ℕ) (ds : Chunk) → length ds ≡ length (marked mask) → present_elements (expansion mask ds) ≡ ds
 present-expanded [] [] n = refl
 present-expanded [] (d ∷ ds) n = absurd (omega arith)
 present-expanded (zero ∷ mask) ds n = present-expanded mask ds (omega (arith, length-map (marked mask) suc))
@@ -156,7 +156,7 @@ flag_first byte mask h =
     let both = both_true (nat_lt byte 2) (list_all (λ b. nat_lt b 2) mask) h in
     (ltb-true byte 2 both.0, both.1)
 
-pub mask_of-expanded : (mask : List ℕ) (ds : Chunk) → list_all (λ byte. nat_lt byte 2) mask ≡ true → length ds ≡ length (marked mask) → mask_of (expanded mask ds) ≡ mask
+pub mask_of-expanded : (mask : List ℕ) (ds : Chunk) → list_all (λ byte. nat_lt byte 2) mask ≡ true → length ds ≡ length (marked mask) → mask_of (expansion mask ds) ≡ mask
 mask_of-expanded [] ds h n = refl
 mask_of-expanded (zero ∷ mask) ds h n = ap (λ xs. 0 ∷ xs) (mask_of-expanded mask ds (flag_first 0 mask h).1 (omega (arith, length-map (marked mask) suc)))
 mask_of-expanded (suc byte ∷ mask) [] h n = absurd (omega arith)

@@ -7,7 +7,7 @@ use Rattle.zarrs_array_bytes.specs.Held.{Raw, Held, masked}
 use Rattle.zarrs_array_bytes.specs.Elements.{select}
 use Rattle.zarrs_array_bytes.specs.Validity.{sizes_fit, Holds}
 use Rattle.zarrs_array_bytes.specs.Update.{update}
-use Rattle.zarrs_array_bytes.specs.Present.{present_elements, mask_of, expanded, present_places, present_count, present_chunk, expanded_chunk}
+use Rattle.zarrs_array_bytes.specs.Present.{present_elements, mask_of, expansion, present_places, present_count, present_chunk, expanded_chunk}
 
 -- What a container holds as elements of a type are elements of that type.
 abbrev pub HeldAreElements : Type 0
@@ -46,14 +46,14 @@ PresentElementsAreHeld =
 abbrev pub ExpandedElementsAreHeld : Type 0
 ExpandedElementsAreHeld =
     (type : ElementType) (held : Held) (mask : List ℕ) (chunk : Chunk) → Holds type held chunk → present_count mask ≡ Ok (length chunk) → sizes_fit type (length mask) ≡ Ok tt
-    → expanded_chunk type held mask ≡ Ok (expanded mask chunk)
+    → expanded_chunk type held mask ≡ Ok (expansion mask chunk)
 
 -- What is present of a chunk, put back under the chunk's mask, is the chunk.
 abbrev pub ExpansionRestores : Type 0
-ExpansionRestores = (type : ElementType) (chunk : Chunk) → AreElements (optional type) chunk → expanded (mask_of chunk) (present_elements chunk) ≡ chunk
+ExpansionRestores = (type : ElementType) (chunk : Chunk) → AreElements (optional type) chunk → expansion (mask_of chunk) (present_elements chunk) ≡ chunk
 
 -- Of elements that are put back under a mask of zeros and ones, one for each 1, those are present, and the mask is that one.
 abbrev pub ExpansionKeepsElements : Type 0
 ExpansionKeepsElements =
     (mask : List ℕ) (elements : Chunk) → list_all (λ byte. nat_lt byte 2) mask ≡ true → length elements ≡ length (present_places mask)
-    → (present_elements (expanded mask elements) ≡ elements) × (mask_of (expanded mask elements) ≡ mask)
+    → (present_elements (expansion mask elements) ≡ elements) × (mask_of (expansion mask elements) ≡ mask)

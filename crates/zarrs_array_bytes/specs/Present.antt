@@ -28,11 +28,11 @@ abbrev pub mask_of : Chunk → List ℕ
 mask_of chunk = map presence chunk
 
 -- elements put back under a mask: at its bytes that aren't 0 these ones in order, each present, and elsewhere absent ones
-abbrev pub expanded : List ℕ → Chunk → Chunk
-expanded [] elements = []
-expanded (zero ∷ mask) elements = absent ∷ expanded mask elements
-expanded (suc byte ∷ mask) [] = absent ∷ expanded mask []
-expanded (suc byte ∷ mask) (element ∷ elements) = present element ∷ expanded mask elements
+abbrev pub expansion : List ℕ → Chunk → Chunk
+expansion [] elements = []
+expansion (zero ∷ mask) elements = absent ∷ expansion mask elements
+expansion (suc byte ∷ mask) [] = absent ∷ expansion mask []
+expansion (suc byte ∷ mask) (element ∷ elements) = present element ∷ expansion mask elements
 
 -- the places at which a mask byte isn't 0, in order
 abbrev pub present_places : List ℕ → List ℕ
@@ -65,7 +65,7 @@ expansion_fits type held mask = do
 abbrev pub expanded_chunk : ElementType → Held → List ℕ → Result Chunk CodecError
 expanded_chunk type held mask = do
   _ ← expansion_fits type held mask
-  Ok (expanded mask (elements type (length (present_places mask)) held))
+  Ok (expansion mask (elements type (length (present_places mask)) held))
 
 -- blank elements, as many as there are mask bytes, with those at the present places replaced by the elements of a container in order
 abbrev pub container_spread : ElementType → Held → List ℕ → Held

@@ -1,13 +1,14 @@
 -- The places of a chunk's elements, axis by axis.
-use Rattle.std.proofs.Common.{◌≡◌, ℕ, zero, suc, ◌+◌, ◌-◌, ◌*◌, ◌<◌, ◌≤◌, List, [], ◌∷◌, ◌++◌, length, get_or, map, take, arith, refl, ap, ap₂, ◌∙◌, sym, append_assoc}
+use Rattle.std.proofs.Common.{◌≡◌, ℕ, zero, suc, ◌+◌, ◌-◌, ◌*◌, ◌<◌, ◌≤◌, List, [], ◌∷◌, ◌++◌, length, get_or, map, take, drop, arith, refl, ap, ap₂, ◌∙◌, sym, append_assoc}
 use Rattle.std.specs.List.{flat_map, range_with_len}
-use Rattle.std.proofs.lemmas.List.{map_more}
+use Rattle.std.proofs.lemmas.List.{append-nil, map_more}
 use Rattle.std.proofs.lemmas.List.Concat.{flat_map-append}
 use Rattle.zarrs_array_to_array.specs.declared.axis.Axis.{Axis}
 use Rattle.zarrs_array_to_array.specs.Orders.{permuted}
-use Rattle.zarrs_array_to_array.specs.Strides.{row, next_rows, stepped, last_tuple, all_behind}
+use Rattle.zarrs_array_to_array.specs.Strides.{row, next_rows, stepped, last_tuple, all_behind, IsRoomy}
 use Rattle.zarrs_array_to_array.specs.Axes.{behind, reach, axes_of}
-use Rattle.zarrs_array_to_array.proofs.Rows.{row_more}
+use Rattle.zarrs_array_to_array.proofs.Rows.{row_more, next_rows-moved}
+use Rattle.zarrs_array_to_array.proofs.Steps.{IsRoomy-rows}
 
 -- ---- one axis more
 
@@ -29,6 +30,36 @@ behind-append (axis ∷ axes) xs ys =
 pub behind-nil : (axes : List Axis) → behind axes [] ≡ []
 behind-nil [] = refl
 behind-nil (axis ∷ axes) = behind-nil axes
+
+-- behind fronts that are moved on
+pub behind-moved : (by : ℕ) (axes : List Axis) (fronts : List ℕ) → behind axes (map (λ number. by + number) fronts) ≡ map (λ number. by + number) (behind axes fronts)
+behind-moved by [] fronts = refl
+behind-moved by (axis ∷ axes) fronts =
+    ap (behind axes) (next_rows-moved by axis.step axis.size fronts) ∙ behind-moved by axes (next_rows axis.step axis.size fronts)
+
+-- fronts that leave room for the last tuple leave room for all
+behind_roomy : (limit : ℕ) (axes : List Axis) (fronts : List ℕ) → IsRoomy limit (reach axes) fronts → IsRoomy limit 0 (behind axes fronts)
+behind_roomy limit [] fronts h = h
+behind_roomy limit (axis ∷ axes) fronts h = behind_roomy limit axes (next_rows axis.step axis.size fronts) (IsRoomy-rows limit (reach axes) axis.step axis.size fronts h)
+
+-- no place is further than the last one
+pub behind_below : (axes : List Axis) (front k : ℕ) → k < length (behind axes (front ∷ [])) → get_or (behind axes (front ∷ [])) k 0 ≤ front + reach axes
+behind_below axes front k l =
+    let room = behind_roomy (front + reach axes + 1) axes (front ∷ []) (only (front + reach axes + 1) (reach axes) front (omega arith)) in
+    omega (arith, room k l)
+  where
+    only : (limit behind front : ℕ) → front + behind < limit → IsRoomy limit behind (front ∷ [])
+    only limit behind front h zero l = h
+    only limit behind front h (suc k) l = absurd (omega arith)
+
+-- the first axis and those behind it
+pub reach_split : (axes : List Axis) (d : Axis) → 1 ≤ length axes → reach axes ≡ ((get_or axes 0 d).size - 1) * (get_or axes 0 d).step + reach (drop 1 axes)
+reach_split [] d l = absurd (omega arith)
+reach_split (axis ∷ axes) d l = refl
+
+pub behind_first : (axes : List Axis) (d : Axis) (front : ℕ) → 1 ≤ length axes → behind axes (front ∷ []) ≡ behind (drop 1 axes) (row front (get_or axes 0 d).step (get_or axes 0 d).size)
+behind_first [] d front l = absurd (omega arith)
+behind_first (axis ∷ axes) d front l = ap (behind axes) (append-nil (row front axis.step axis.size))
 
 -- behind one index more of the first axis
 pub more_behind : (out : List ℕ) (f : ℕ → List ℕ) (axes : List Axis) (front step n : ℕ)

@@ -1,16 +1,15 @@
 -- The tuples of a box, counted.
-use Rattle.std.proofs.Common.{◌≡◌, ℕ, zero, suc, ◌+◌, ◌*◌, ◌%◌, ◌<◌, ◌≤◌, nat_lt, true, Some, get_or, List, [], ◌∷◌, ◌++◌, length, map, arith, refl, ap, ap₂, ◌∙◌, sym}
-use Rattle.std.specs.List.{All, flat_map, range_with_len}
+use Rattle.std.proofs.Common.{◌≡◌, ℕ, zero, suc, ◌<◌, ◌≤◌, nat_lt, true, Some, get_or, List, [], ◌∷◌, length, map, arith, ap, ◌∙◌}
+use Rattle.std.specs.List.{All, range_with_len}
 use Rattle.std.proofs.lemmas.Bool.{and_parts}
 use Rattle.std.proofs.lemmas.List.{nil_from_length}
 use Rattle.std.proofs.lemmas.List.Elements.{All-cons}
 use Rattle.std.proofs.lemmas.Simd.{map-map}
-use Rattle.std.proofs.lemmas.Nat.{div-mul-add, mod-mul-add}
 use Rattle.zarrs_chunk.specs.ChunkShape.{product, shape_of}
-use Rattle.zarrs_chunk.specs.Tuples.{row_major, box_tuples, is_tuple_inside}
+use Rattle.zarrs_chunk.specs.Tuples.{box_tuples, is_tuple_inside}
 use Rattle.zarrs_chunk.proofs.BoxTuples.{length-box_tuples}
 use Rattle.zarrs_chunk.proofs.Inside.{is_tuple_inside-at}
-use Rattle.zarrs_chunk.specs.Indices.{indices_behind, box_tuple, tuple_of_number}
+use Rattle.zarrs_chunk.specs.Indices.{box_tuple, tuple_of_number}
 use Rattle.zarrs_array_to_array.specs.Boxes.{EndsFit}
 use Rattle.zarrs_array_to_array.specs.Orders.{permuted}
 use Rattle.zarrs_array_to_array.proofs.Transposition.{shape_of-positive}

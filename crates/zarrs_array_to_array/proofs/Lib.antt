@@ -22,3 +22,5 @@ pub mod CheckedTuples
 pub mod PlaneRows
 pub mod AxisRows
 pub mod FixedChunks
+pub mod Readers
+pub mod BlockRows

@@ -42,7 +42,7 @@ row_moved by front step from (suc n) =
     let e : by + front + from * step ≡ by + (front + from * step) = omega arith in
     ap₂ (λ x xs. x ∷ xs) e (row_moved by front step (from + 1) n)
 
-next_rows-moved : (by step size : ℕ) (fronts : List ℕ) → next_rows step size (map (λ number. by + number) fronts) ≡ map (λ number. by + number) (next_rows step size fronts)
+pub next_rows-moved : (by step size : ℕ) (fronts : List ℕ) → next_rows step size (map (λ number. by + number) fronts) ≡ map (λ number. by + number) (next_rows step size fronts)
 next_rows-moved by step size [] = refl
 next_rows-moved by step size (front ∷ fronts) =
     ap₂ (λ xs ys. xs ++ ys) (row_moved by front step 0 size) (next_rows-moved by step size fronts)

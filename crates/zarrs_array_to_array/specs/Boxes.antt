@@ -1,5 +1,5 @@
 -- Boxes whose ends 64 bits hold.
-use Rattle.std.specs.Prelude.{ℕ, ◌+◌, ◌<◌, ◌^◌, List, [], ◌∷◌, slice_index}
+use Rattle.std.specs.Prelude.{ℕ, ◌+◌, ◌<◌, ◌^◌, List, slice_index}
 
 -- 64 bits hold each start with its length
 abbrev pub EndsFit : List ℕ → List ℕ → Type 0

@@ -18,4 +18,5 @@ pub use Rattle.zarrs_codec.specs.CoordinateMap
 pub use Rattle.zarrs_codec.specs.MappedChunk
 pub use Rattle.zarrs_codec.specs.MappedSelection
 pub mod ArrayToArrayCodecPartial
+pub mod ReaderLaws
 pub mod Axes

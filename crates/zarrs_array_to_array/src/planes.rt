@@ -78,25 +78,60 @@ fn append_columns(
     Ok(())
 }
 
-/// Appends so many neighbouring columns, one after another. The block that they are in is copied
-/// together first, row by row, so that each row comes from memory once.
+/// Appends so many bytes from the element of each tuple over the axes on, the last axis fastest.
+fn append_stretches(
+    out: &mut Vec<u8>,
+    bytes: &[u8],
+    size: usize,
+    front: usize,
+    axes: &[Axis],
+    len: usize,
+) -> Result<(), AllocError>
+    requires sized { 0 < size }
+    requires axes { 1 ≤ length axes.now }
+    requires inside { (front + reach axes.now) * size + len ≤ length bytes.now }
+    ensures { OnOk result (out.new.items ≡ out.old.items ++ flat_map (stretch len size bytes.now) (behind axes.now (front ∷ []))) }
+{
+    let first = axes[0];
+    if axes.len() == 1 {
+        return append_row(out, bytes, size, front, first, len);
+    }
+    for index in 0..first.size {
+        append_stretches(
+            out,
+            bytes,
+            size,
+            front + index * first.step,
+            &axes[1..],
+            len,
+        )?;
+    }
+    Ok(())
+}
+
+/// Appends so many neighbouring columns, one after another: a column has the elements of all tuples
+/// over the axes. The block that they are in is copied together first, row by row, so that each row
+/// comes from memory once.
 fn append_turned(
     out: &mut Vec<u8>,
     block: &mut Vec<u8>,
     bytes: &[u8],
     size: usize,
     front: usize,
-    columns: Axis,
+    axes: &[Axis],
     width: usize,
 ) -> Result<(), AllocError>
     requires sized { 0 < size }
-    requires inside { (k : ℕ) → k < columns.size → (front + k * columns.step) * size + width * size ≤ length bytes.now }
-    requires small { width * size < 2 ^ 64 }
-    ensures { OnOk result (out.new.items ≡ out.old.items ++ flat_map (piece size bytes.now) (next_rows columns.step columns.size (row front 1 width))) }
+    requires axes { 1 ≤ length axes.now }
+    requires wide { 0 < width }
+    requires inside { (front + reach axes.now) * size + width * size ≤ length bytes.now }
+    ensures { OnOk result (out.new.items ≡ out.old.items ++ flat_map (piece size bytes.now) (behind axes.now (row front 1 width))) }
 {
+    let len = width * size;
     block.clear();
-    append_row(block, bytes, size, front, columns, width * size)?;
-    append_columns(out, block.as_slice(), size, columns.size, width)
+    append_stretches(block, bytes, size, front, axes, len)?;
+    let count = block.len() / len;
+    append_columns(out, block.as_slice(), size, count, width)
 }
 
 /// Appends `count` neighbouring columns, one after another, so many bytes wide blocks at a time.
@@ -106,21 +141,20 @@ fn append_blocks(
     bytes: &[u8],
     size: usize,
     front: usize,
-    columns: Axis,
+    axes: &[Axis],
     count: usize,
     wide: usize,
 ) -> Result<(), AllocError>
     requires sized { 0 < size }
+    requires axes { 1 ≤ length axes.now }
     requires wide { 0 < wide }
-    requires inside { (k : ℕ) → k < columns.size → (front + k * columns.step + count) * size ≤ length bytes.now }
-    requires fits { front + count < 2 ^ 64 }
-    requires small { count * size < 2 ^ 64 }
-    ensures { OnOk result (out.new.items ≡ out.old.items ++ flat_map (piece size bytes.now) (next_rows columns.step columns.size (row front 1 count))) }
+    requires inside { (front + reach axes.now + count) * size ≤ length bytes.now }
+    ensures { OnOk result (out.new.items ≡ out.old.items ++ flat_map (piece size bytes.now) (behind axes.now (row front 1 count))) }
 {
     let mut done = 0;
     while done < count {
         let width = wide.min(count - done);
-        append_turned(out, block, bytes, size, front + done, columns, width)?;
+        append_turned(out, block, bytes, size, front + done, axes, width)?;
         done += width;
     }
     Ok(())
@@ -146,10 +180,9 @@ fn append_rows(
 }
 
 /// Appends the elements of a plane, its rows one after another. Elements that stand one behind
-/// another are copied together, and columns that do so are turned block by block.
+/// another are copied together.
 fn append_plane(
     out: &mut Vec<u8>,
-    block: &mut Vec<u8>,
     bytes: &[u8],
     size: usize,
     front: usize,
@@ -163,15 +196,12 @@ fn append_plane(
     if columns.step == 1 {
         return append_row(out, bytes, size, front, rows, columns.size * size);
     }
-    let wide = (BLOCK / size).min(rows.size / 2);
-    if rows.step == 1 && wide > 1 {
-        return append_blocks(out, block, bytes, size, front, columns, rows.size, wide);
-    }
     append_rows(out, bytes, size, front, rows, columns)
 }
 
-/// Appends the elements of all tuples over the axes, plane by plane. Each axis has two indices or
-/// more, but for the first ones, so that 64 bits count few of them.
+/// Appends the elements of all tuples over the axes, plane by plane. Where neighbours come along the
+/// first axis, they are turned block by block, whatever the axes behind it are. Each axis has two
+/// indices or more, but for the first ones, so that 64 bits count few of them.
 fn append_axes(
     out: &mut Vec<u8>,
     block: &mut Vec<u8>,
@@ -186,8 +216,12 @@ fn append_axes(
     ensures { OnOk result (out.new.items ≡ out.old.items ++ flat_map (piece size bytes.now) (behind axes.now (front ∷ []))) }
 {
     let first = axes[0];
+    let wide = (BLOCK / size).min(first.size / 2);
+    if first.step == 1 && wide > 1 {
+        return append_blocks(out, block, bytes, size, front, &axes[1..], first.size, wide);
+    }
     if axes.len() == 2 {
-        return append_plane(out, block, bytes, size, front, first, axes[1]);
+        return append_plane(out, bytes, size, front, first, axes[1]);
     }
     for index in 0..first.size {
         append_axes(

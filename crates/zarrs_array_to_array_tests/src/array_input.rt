@@ -61,6 +61,16 @@ pub(crate) fn encoded_input<C: ArrayToArrayCodecTraits>(
     chunk: ArrayBytes<'static>,
 ) -> Result<ArrayInput, CodecError> {
     let elements = codec.encode(alloc, chunk, &form.shape, &form.data_type, &form.fill_value)?;
+    input_of(alloc, codec, form, elements)
+}
+
+/// The reader of these elements of an encoded chunk.
+fn input_of<C: ArrayToArrayCodecTraits>(
+    alloc: Global,
+    codec: &C,
+    form: &ChunkForm,
+    elements: ArrayBytes<'static>,
+) -> Result<ArrayInput, CodecError> {
     let shape = codec.encoded_shape(alloc, &form.shape)?;
     let data_type = codec.encoded_data_type(alloc, &form.data_type)?;
     Ok(ArrayInput {

@@ -5,7 +5,7 @@ use std::alloc::Global;
 use std::process::Abort;
 use std::test::Fail;
 use zarrs_array_to_array::{ArrayToArrayCodec, SqueezeCodec, encoded_places};
-use zarrs_chunk::{CodecError, Indexer};
+use zarrs_chunk::{ChunkShape, CodecError, Indexer};
 use zarrs_codec::ArrayToArrayCodecTraits;
 
 const SQUARE: &'static [u64] = &[4, 4];
@@ -13,7 +13,9 @@ const SQUARE: &'static [u64] = &[4, 4];
 const LINES: &'static [u64] = &[1, 4, 1, 4, 1];
 
 /// Codecs, sizes of chunks, what is asked of them, and its places in the encoded chunk.
-const PLACES: [(Codec, &'static [u64], Asked<'static>, &'static [u64]); 12] = [
+type Row = (Codec, &'static [u64], Asked<'static>, &'static [u64]);
+
+const PLACES: &'static [Row] = &[
     (
         Codec::Transpose(&[1, 0]),
         SQUARE,
@@ -81,52 +83,108 @@ fn asks_for<C: ArrayToArrayCodecTraits>(
     sizes: &[u64],
     indexer: &Indexer,
     places: &[u64],
-) -> Result<(), Fail> {
+) -> Result<(), CodecError> {
     let decoded = shape(alloc, sizes)?;
     let encoded = codec.encoded_shape(alloc, &decoded)?;
     let asked = codec.encoded_indexer(alloc, indexer, &decoded)?;
-    let came = asked.places(alloc, &encoded)?;
+    has_places(rt, alloc, &asked, &encoded, places)
+}
+
+fn has_places(
+    rt: &impl Abort,
+    alloc: Global,
+    asked: &Indexer,
+    encoded: &ChunkShape,
+    places: &[u64],
+) -> Result<(), CodecError> {
+    let came = asked.places(alloc, encoded)?;
     are(rt, "places", came.as_slice(), places);
     Ok(())
 }
 
+fn asks_for_row(
+    rt: &impl Abort,
+    alloc: Global,
+    codec: &ArrayToArrayCodec,
+    sizes: &[u64],
+    asked: &Asked<'_>,
+    places: &[u64],
+) -> Result<(), CodecError> {
+    asks_for(rt, alloc, codec, sizes, &indexer(alloc, asked)?, places)
+}
+
+fn asks_for_told(rt: &impl Abort, alloc: Global, row: &Row) -> Result<(), Fail> {
+    let (told, sizes, asked, places) = row;
+    let codec = codec_of(alloc, told)?;
+    Ok(asks_for_row(rt, alloc, &codec, sizes, asked, places)?)
+}
+
 #[test]
 fn encoded_indexers_have_the_places(rt: HostRuntime) -> Result<(), Fail> {
-    for (told, sizes, asked, places) in PLACES.iter() {
-        let codec = codec_of(rt.alloc(), told)?;
-        let indexer = indexer(rt.alloc(), asked)?;
-        asks_for(&rt, rt.alloc(), &codec, sizes, &indexer, places)?;
+    for row in PLACES.iter() {
+        asks_for_told(&rt, rt.alloc(), row)?;
     }
     Ok(())
 }
 
+/// The last row of a chunk of `[2, 1, 3]`.
+const LAST_ROW: Asked<'static> = Asked::Ranges(&[1..2, 0..1, 0..3]);
+
+fn asks_for_last_row<C: ArrayToArrayCodecTraits>(
+    rt: &impl Abort,
+    alloc: Global,
+    codec: &C,
+    places: &[u64],
+) -> Result<(), CodecError> {
+    let row = indexer(alloc, &LAST_ROW)?;
+    asks_for(rt, alloc, codec, &[2, 1, 3], &row, places)
+}
+
 /// The same of each codec by itself.
 #[test]
-fn each_codec_has_encoded_indexers(rt: HostRuntime) -> Result<(), Fail> {
-    let alloc = rt.alloc();
-    let sizes: &[u64] = &[2, 1, 3];
-    let row = indexer(alloc, &Asked::Ranges(&[1..2, 0..1, 0..3]))?;
-    let order = transpose(alloc, &[2, 1, 0])?;
-    asks_for(&rt, alloc, &order, sizes, &row, &[1, 3, 5])?;
-    let reshaped = reshape(alloc, &[Rest])?;
-    asks_for(&rt, alloc, &reshaped, sizes, &row, &[3, 4, 5])?;
-    asks_for(&rt, alloc, &SqueezeCodec::new(), sizes, &row, &[3, 4, 5])
+fn an_order_has_encoded_indexers(rt: HostRuntime) -> Result<(), Fail> {
+    let codec = transpose(rt.alloc(), &[2, 1, 0])?;
+    Ok(asks_for_last_row(&rt, rt.alloc(), &codec, &[1, 3, 5])?)
+}
+
+#[test]
+fn sizes_have_encoded_indexers(rt: HostRuntime) -> Result<(), Fail> {
+    let codec = reshape(rt.alloc(), &[Rest])?;
+    Ok(asks_for_last_row(&rt, rt.alloc(), &codec, &[3, 4, 5])?)
+}
+
+#[test]
+fn a_squeezing_codec_has_encoded_indexers(rt: HostRuntime) -> Result<(), Fail> {
+    Ok(asks_for_last_row(&rt, rt.alloc(), &SqueezeCodec::new(), &[3, 4, 5])?)
+}
+
+fn is_region(rt: &impl Abort, indexer: &Indexer) {
+    is(rt, "region", &matches!(indexer, Indexer::Subset(_)), &true);
+}
+
+fn squeezed(alloc: Global, row: &Indexer) -> Result<Indexer, CodecError> {
+    let chunk = shape(alloc, &[2, 1, 3])?;
+    SqueezeCodec::new().encoded_indexer(alloc, row, &chunk)
+}
+
+fn squeezed_row(alloc: Global) -> Result<Indexer, CodecError> {
+    let row = indexer(alloc, &LAST_ROW)?;
+    squeezed(alloc, &row)
 }
 
 /// A region of a chunk is one of the squeezed chunk.
 #[test]
 fn a_squeezed_region_is_a_region(rt: HostRuntime) -> Result<(), Fail> {
-    let row = indexer(rt.alloc(), &Asked::Ranges(&[1..2, 0..1, 0..3]))?;
-    let decoded = shape(rt.alloc(), &[2, 1, 3])?;
-    let encoded = SqueezeCodec::new().encoded_indexer(rt.alloc(), &row, &decoded)?;
-    is(&rt, "region", &matches!(encoded, Indexer::Subset(_)), &true);
+    is_region(&rt, &squeezed_row(rt.alloc())?);
     Ok(())
 }
 
 const AXES: CodecError = CodecError::IncompatibleDimensionality;
 
 /// Codecs, sizes of chunks, what can't be asked of them, and why.
-const REFUSED: [(Codec, &'static [u64], Asked<'static>, CodecError); 13] = [
+type RefusedRow = (Codec, &'static [u64], Asked<'static>, CodecError);
+
+const REFUSED: &'static [RefusedRow] = &[
     (
         Codec::Squeeze,
         &[1, 3],
@@ -217,11 +275,16 @@ fn refuses(
     )
 }
 
+fn refuses_told(rt: &impl Abort, alloc: Global, row: &RefusedRow) -> Result<(), Fail> {
+    let (told, sizes, asked, cause) = row;
+    let codec = codec_of(alloc, told)?;
+    refuses(rt, alloc, &codec, sizes, asked, *cause)
+}
+
 #[test]
 fn indexers_are_refused(rt: HostRuntime) -> Result<(), Fail> {
-    for (told, sizes, asked, cause) in REFUSED.iter() {
-        let codec = codec_of(rt.alloc(), told)?;
-        refuses(&rt, rt.alloc(), &codec, sizes, asked, *cause)?;
+    for row in REFUSED.iter() {
+        refuses_told(&rt, rt.alloc(), row)?;
     }
     Ok(())
 }
@@ -239,12 +302,14 @@ const CUBE: &'static [u64] = &[2, 2, 2];
 const TWICE: &'static [Codec] = &[Codec::Transpose(&[0, 2, 1]), Codec::Transpose(&[2, 0, 1])];
 
 /// Codecs, one after another, sizes of chunks, what is asked of them, and where it goes.
-const THROUGH: [(
+type ThroughRow = (
     &'static [Codec],
     &'static [u64],
     Asked<'static>,
     &'static [u64],
-); 5] = [
+);
+
+const THROUGH: &'static [ThroughRow] = &[
     (&[], &[2, 3], Asked::Ranges(&[1..2, 0..3]), &[3, 4, 5]),
     (
         &[Codec::Transpose(&[1, 0])],
@@ -278,19 +343,35 @@ fn go(
     sizes: &[u64],
     asked: &Asked<'_>,
     places: &[u64],
-) -> Result<(), Fail> {
+) -> Result<(), CodecError> {
     let shape = shape(alloc, sizes)?;
     let indexer = indexer(alloc, asked)?;
-    let came = encoded_places(alloc, codecs, &shape, &indexer)?;
+    go_to(rt, alloc, codecs, &shape, &indexer, places)
+}
+
+fn go_to(
+    rt: &impl Abort,
+    alloc: Global,
+    codecs: &[ArrayToArrayCodec],
+    shape: &ChunkShape,
+    indexer: &Indexer,
+    places: &[u64],
+) -> Result<(), CodecError> {
+    let came = encoded_places(alloc, codecs, shape, indexer)?;
     are(rt, "places", came.as_slice(), places);
     Ok(())
 }
 
+fn go_told(rt: &impl Abort, alloc: Global, row: &ThroughRow) -> Result<(), Fail> {
+    let (told, sizes, asked, places) = row;
+    let codecs = codecs(alloc, told)?;
+    Ok(go(rt, alloc, codecs.as_slice(), sizes, asked, places)?)
+}
+
 #[test]
 fn places_go_through_codecs(rt: HostRuntime) -> Result<(), Fail> {
-    for (told, sizes, asked, places) in THROUGH.iter() {
-        let codecs = codecs(rt.alloc(), told)?;
-        go(&rt, rt.alloc(), codecs.as_slice(), sizes, asked, places)?;
+    for row in THROUGH.iter() {
+        go_told(&rt, rt.alloc(), row)?;
     }
     Ok(())
 }

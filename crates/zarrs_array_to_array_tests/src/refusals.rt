@@ -3,10 +3,10 @@ use crate::forms::{ChunkForm, Codec, Told, Type, chunk_form, codec_of, fixed, te
 use std::alloc::Global;
 use std::process::Abort;
 use std::test::Fail;
-use zarrs_array_bytes::ArrayBytes;
 use zarrs_array_to_array::ArrayToArrayCodec;
 use zarrs_chunk::{CodecError, CodecName};
 use zarrs_codec::ArrayToArrayCodecTraits;
+use zarrs_data_type::DataType;
 
 const TURNED: Codec = Codec::Transpose(&[1, 0]);
 
@@ -16,7 +16,7 @@ const AXES: CodecError = CodecError::IncompatibleDimensionality;
 
 /// Chunks of six bytes, which the order of two axes doesn't take, and why: an optional type comes
 /// before a number of axes, that before a count, and that before bytes that are none of the chunk.
-const REFUSED: [(Told<'static>, CodecError); 7] = [
+const REFUSED: &'static [(Told<'static>, CodecError)] = &[
     ((&[2, 3], Type::OptionalByte, &[0]), UNSUPPORTED),
     ((&[6], Type::OptionalByte, &[0]), UNSUPPORTED),
     ((&[6], Type::Byte, &[0]), AXES),
@@ -51,12 +51,21 @@ fn refuses(
     is_refused(rt, "decoded", answer, cause)
 }
 
+fn refuses_row(
+    rt: &impl Abort,
+    alloc: Global,
+    told: &Told<'_>,
+    cause: CodecError,
+) -> Result<(), Fail> {
+    let codec = codec_of(alloc, &TURNED)?;
+    let form = chunk_form(alloc, told)?;
+    refuses(rt, alloc, &codec, &form, &[0, 1, 2, 3, 4, 5], cause)
+}
+
 #[test]
 fn chunks_are_refused_by_the_first_cause(rt: HostRuntime) -> Result<(), Fail> {
-    let codec = codec_of(rt.alloc(), &TURNED)?;
     for (told, cause) in REFUSED.iter() {
-        let form = chunk_form(rt.alloc(), told)?;
-        refuses(&rt, rt.alloc(), &codec, &form, &[0, 1, 2, 3, 4, 5], *cause)?;
+        refuses_row(&rt, rt.alloc(), told, *cause)?;
     }
     Ok(())
 }
@@ -66,8 +75,8 @@ fn refuses_kind(
     alloc: Global,
     codec: &ArrayToArrayCodec,
     form: &ChunkForm,
-    chunk: ArrayBytes<'_>,
 ) -> Result<(), Fail> {
+    let chunk = texts(alloc, b"ab", &[0, 1, 2])?;
     let answer = codec.encode(alloc, chunk, &form.shape, &form.data_type, &form.fill_value);
     is_refused(rt, "kind", answer, CodecError::ArrayBytesKind)
 }
@@ -76,12 +85,11 @@ fn refuses_kind(
 fn texts_are_no_bytes(rt: HostRuntime) -> Result<(), Fail> {
     let codec = codec_of(rt.alloc(), &TURNED)?;
     let form = chunk_form(rt.alloc(), &(&[1, 2], Type::Byte, &[0]))?;
-    let chunk = texts(rt.alloc(), b"ab", &[0, 1, 2])?;
-    refuses_kind(&rt, rt.alloc(), &codec, &form, chunk)
+    refuses_kind(&rt, rt.alloc(), &codec, &form)
 }
 
 /// Chunks that the order of two axes doesn't take, and why: the type comes before the axes.
-const UNREPRESENTED: [(Told<'static>, CodecError); 3] = [
+const UNREPRESENTED: &'static [(Told<'static>, CodecError)] = &[
     ((&[2, 3], Type::OptionalByte, &[0]), UNSUPPORTED),
     ((&[6], Type::OptionalByte, &[0]), UNSUPPORTED),
     ((&[6], Type::Byte, &[0]), AXES),
@@ -91,9 +99,10 @@ fn represents_not(
     rt: &impl Abort,
     alloc: Global,
     codec: &ArrayToArrayCodec,
-    form: &ChunkForm,
+    told: &Told<'_>,
     cause: CodecError,
 ) -> Result<(), Fail> {
+    let form = chunk_form(alloc, told)?;
     let answer = codec.encoded_representation(
         alloc,
         &form.shape,
@@ -103,28 +112,50 @@ fn represents_not(
     is_refused(rt, "represented", answer, cause)
 }
 
+fn represents_no_row(
+    rt: &impl Abort,
+    alloc: Global,
+    told: &Told<'_>,
+    cause: CodecError,
+) -> Result<(), Fail> {
+    let codec = codec_of(alloc, &TURNED)?;
+    represents_not(rt, alloc, &codec, told, cause)
+}
+
 #[test]
 fn a_type_is_refused_before_axes(rt: HostRuntime) -> Result<(), Fail> {
-    let codec = codec_of(rt.alloc(), &TURNED)?;
     for (told, cause) in UNREPRESENTED.iter() {
-        let form = chunk_form(rt.alloc(), told)?;
-        represents_not(&rt, rt.alloc(), &codec, &form, *cause)?;
+        represents_no_row(&rt, rt.alloc(), told, *cause)?;
     }
     Ok(())
+}
+
+/// What the codec makes of an optional type.
+fn optional_type_of(alloc: Global, codec: &ArrayToArrayCodec) -> Result<DataType, CodecError> {
+    let form = chunk_form(alloc, &(&[2, 3], Type::OptionalByte, &[0]))?;
+    codec.encoded_data_type(alloc, &form.data_type)
+}
+
+fn optional_type_told(alloc: Global, told: &Codec) -> Result<DataType, Fail> {
+    let codec = codec_of(alloc, told)?;
+    Ok(optional_type_of(alloc, &codec)?)
 }
 
 /// The other codecs take optional types.
 #[test]
 fn an_optional_type_is_refused_by_transpose_alone(rt: HostRuntime) -> Result<(), Fail> {
-    let form = chunk_form(rt.alloc(), &(&[2, 3], Type::OptionalByte, &[0]))?;
-    let order = codec_of(rt.alloc(), &TURNED)?;
+    let codec = codec_of(rt.alloc(), &TURNED)?;
     is_refused(
         &rt,
         "type",
-        order.encoded_data_type(rt.alloc(), &form.data_type),
+        optional_type_of(rt.alloc(), &codec),
         UNSUPPORTED,
-    )?;
-    codec_of(rt.alloc(), &Codec::Squeeze)?.encoded_data_type(rt.alloc(), &form.data_type)?;
-    codec_of(rt.alloc(), &Codec::Reshape(&[]))?.encoded_data_type(rt.alloc(), &form.data_type)?;
+    )
+}
+
+#[test]
+fn an_optional_type_is_taken_by_others(rt: HostRuntime) -> Result<(), Fail> {
+    optional_type_told(rt.alloc(), &Codec::Squeeze)?;
+    optional_type_told(rt.alloc(), &Codec::Reshape(&[]))?;
     Ok(())
 }

@@ -1,18 +1,20 @@
 use crate::array_input::{ArrayInput, encoded_input};
-use crate::checks::{Asked, are, indexer, is, is_refused};
+use crate::checks::{Asked, has_bytes, indexer, is, is_refused};
 use crate::forms::Size::{Of, Rest};
 use crate::forms::{
-    ChunkForm, Codec, Size, Told, Type, chunk_form, codec_of, fixed, numbers, reshape, transpose,
+    ChunkForm, Codec, Size, Told, Type, chunk_form, codec_of, numbers, reshape, transpose,
 };
 use std::alloc::Global;
+use std::borrow::CowSlice;
 use std::process::Abort;
 use std::test::Fail;
+use zarrs_array_bytes::ArrayBytes;
 use zarrs_array_to_array::{
     ArrayToArrayCodec, ArrayToArrayCodecPartial, ReshapeCodec, ReshapeCodecPartial, SqueezeCodec,
     SqueezeCodecPartial, TransposeCodec, TransposeCodecPartial,
 };
 use zarrs_chunk::{CodecError, CodecName};
-use zarrs_codec::{ArrayPartialDecoderTraits, Refused};
+use zarrs_codec::{ArrayPartialDecoderTraits, ArrayToArrayCodecTraits, Refused};
 
 const COUNTED: &'static [u8] = &[
     0, 1, 2, 3, 4, 5, 6, 7, 8, 9, 10, 11, 12, 13, 14, 15, 16, 17, 18, 19, 20, 21, 22, 23,
@@ -41,8 +43,28 @@ fn first(numbers: &[u8], count: usize) -> &[u8] {
     &numbers[..count]
 }
 
-fn counted_bytes(alloc: Global, size: usize, count: usize) -> Result<Vec<u8>, Fail> {
-    Ok(numbers(alloc, size, first(COUNTED, count))?)
+/// The reader of what the codec makes of such a chunk.
+fn counted_input<C: ArrayToArrayCodecTraits>(
+    alloc: Global,
+    codec: &C,
+    form: &ChunkForm,
+    chunk: &Counted,
+) -> Result<ArrayInput, CodecError> {
+    let bytes = numbers(alloc, chunk.1, first(COUNTED, chunk.2))?;
+    encoded_input(
+        alloc,
+        codec,
+        form,
+        ArrayBytes::new_flen(CowSlice::Owned(bytes)),
+    )
+}
+
+/// The stage, or why it wasn't made.
+fn made<D>(answer: Result<D, Refused<ArrayInput>>) -> Result<D, CodecError> {
+    match answer {
+        Ok(stage) => Ok(stage),
+        Err(Refused { error, handle: _ }) => Err(error),
+    }
 }
 
 fn transposed_chunk(
@@ -50,24 +72,18 @@ fn transposed_chunk(
     order: &[usize],
     chunk: &Counted,
 ) -> Result<TransposeCodecPartial<ArrayInput>, Fail> {
-    let (told, size, count) = chunk;
-    let form = chunk_form(alloc, told)?;
     let codec = transpose(alloc, order)?;
-    let bytes = counted_bytes(alloc, *size, *count)?;
-    let input = encoded_input(alloc, &codec, &form, fixed(alloc, bytes.as_slice())?)?;
-    transpose_stage(alloc, &codec, &form, input)
+    Ok(transpose_stage(alloc, &codec, &chunk_form(alloc, &chunk.0)?, chunk)?)
 }
 
 fn transpose_stage(
     alloc: Global,
     codec: &TransposeCodec,
     form: &ChunkForm,
-    input: ArrayInput,
-) -> Result<TransposeCodecPartial<ArrayInput>, Fail> {
-    match codec.partial_decoder(alloc, input, &form.shape, &form.data_type, &form.fill_value) {
-        Ok(stage) => Ok(stage),
-        Err(Refused { error, handle: _ }) => Err(error)?,
-    }
+    chunk: &Counted,
+) -> Result<TransposeCodecPartial<ArrayInput>, CodecError> {
+    let input = counted_input(alloc, codec, form, chunk)?;
+    made(codec.partial_decoder(alloc, input, &form.shape, &form.data_type, &form.fill_value))
 }
 
 fn reshaped_chunk(
@@ -75,45 +91,40 @@ fn reshaped_chunk(
     sizes: &[Size],
     chunk: &Counted,
 ) -> Result<ReshapeCodecPartial<ArrayInput>, Fail> {
-    let (told, size, count) = chunk;
-    let form = chunk_form(alloc, told)?;
     let codec = reshape(alloc, sizes)?;
-    let bytes = counted_bytes(alloc, *size, *count)?;
-    let input = encoded_input(alloc, &codec, &form, fixed(alloc, bytes.as_slice())?)?;
-    reshape_stage(alloc, &codec, &form, input)
+    Ok(reshape_stage(alloc, &codec, &chunk_form(alloc, &chunk.0)?, chunk)?)
 }
 
 fn reshape_stage(
     alloc: Global,
     codec: &ReshapeCodec,
     form: &ChunkForm,
-    input: ArrayInput,
-) -> Result<ReshapeCodecPartial<ArrayInput>, Fail> {
-    match codec.partial_decoder(alloc, input, &form.shape, &form.data_type, &form.fill_value) {
-        Ok(stage) => Ok(stage),
-        Err(Refused { error, handle: _ }) => Err(error)?,
-    }
+    chunk: &Counted,
+) -> Result<ReshapeCodecPartial<ArrayInput>, CodecError> {
+    let input = counted_input(alloc, codec, form, chunk)?;
+    made(codec.partial_decoder(alloc, input, &form.shape, &form.data_type, &form.fill_value))
 }
 
-fn squeezed_chunk(alloc: Global, chunk: &Counted) -> Result<SqueezeCodecPartial<ArrayInput>, Fail> {
-    let (told, size, count) = chunk;
-    let form = chunk_form(alloc, told)?;
-    let codec = SqueezeCodec::new();
-    let bytes = counted_bytes(alloc, *size, *count)?;
-    let input = encoded_input(alloc, &codec, &form, fixed(alloc, bytes.as_slice())?)?;
-    squeeze_stage(alloc, &codec, &form, input)
+fn squeezed_chunk(
+    alloc: Global,
+    chunk: &Counted,
+) -> Result<SqueezeCodecPartial<ArrayInput>, CodecError> {
+    squeeze_stage(
+        alloc,
+        &SqueezeCodec::new(),
+        &chunk_form(alloc, &chunk.0)?,
+        chunk,
+    )
 }
 
 fn squeeze_stage(
     alloc: Global,
     codec: &SqueezeCodec,
     form: &ChunkForm,
-    input: ArrayInput,
-) -> Result<SqueezeCodecPartial<ArrayInput>, Fail> {
-    match codec.partial_decoder(alloc, input, &form.shape, &form.data_type, &form.fill_value) {
-        Ok(stage) => Ok(stage),
-        Err(Refused { error, handle: _ }) => Err(error)?,
-    }
+    chunk: &Counted,
+) -> Result<SqueezeCodecPartial<ArrayInput>, CodecError> {
+    let input = counted_input(alloc, codec, form, chunk)?;
+    made(codec.partial_decoder(alloc, input, &form.shape, &form.data_type, &form.fill_value))
 }
 
 /// What is asked of a chunk has these numbers, of so many bytes each.
@@ -123,11 +134,10 @@ fn reads<D: ArrayPartialDecoderTraits>(
     decoder: &mut D,
     asked: &Asked<'_>,
     wanted: &[u8],
-) -> Result<(), Fail> {
+) -> Result<(), CodecError> {
     let indexer = indexer(alloc, asked)?;
     let elements = decoder.partial_decode(alloc, &indexer)?;
-    are(rt, "read", elements.as_fixed()?, wanted);
-    Ok(())
+    has_bytes(rt, "read", &elements, wanted)
 }
 
 fn reads_numbers<D: ArrayPartialDecoderTraits>(
@@ -137,7 +147,7 @@ fn reads_numbers<D: ArrayPartialDecoderTraits>(
     asked: &Asked<'_>,
     size: usize,
     told: &[u8],
-) -> Result<(), Fail> {
+) -> Result<(), CodecError> {
     let wanted = numbers(alloc, size, told)?;
     reads(rt, alloc, decoder, asked, wanted.as_slice())
 }
@@ -154,7 +164,7 @@ fn refuses<D: ArrayPartialDecoderTraits>(
 }
 
 /// Chunks, what is asked of them, and its numbers.
-const TRANSPOSED: [(Counted, Asked<'static>, &'static [u8]); 4] = [
+const TRANSPOSED: &'static [(Counted, Asked<'static>, &'static [u8])] = &[
     (
         SQUARE,
         Asked::Ranges(&[0..4, 0..4]),
@@ -165,11 +175,21 @@ const TRANSPOSED: [(Counted, Asked<'static>, &'static [u8]); 4] = [
     (BYTES, Asked::Tuples(&[&[1, 0], &[0, 2]]), &[3, 2]),
 ];
 
+fn reads_transposed(
+    rt: &impl Abort,
+    alloc: Global,
+    chunk: &Counted,
+    asked: &Asked<'_>,
+    wanted: &[u8],
+) -> Result<(), Fail> {
+    let mut stage = transposed_chunk(alloc, &[1, 0], chunk)?;
+    Ok(reads_numbers(rt, alloc, &mut stage, asked, chunk.1, wanted)?)
+}
+
 #[test]
 fn parts_of_transposed_chunks_are_read(rt: HostRuntime) -> Result<(), Fail> {
     for (chunk, asked, wanted) in TRANSPOSED.iter() {
-        let mut stage = transposed_chunk(rt.alloc(), &[1, 0], chunk)?;
-        reads_numbers(&rt, rt.alloc(), &mut stage, asked, chunk.1, wanted)?;
+        reads_transposed(&rt, rt.alloc(), chunk, asked, wanted)?;
     }
     Ok(())
 }
@@ -179,11 +199,11 @@ fn parts_of_reshaped_chunks_are_read(rt: HostRuntime) -> Result<(), Fail> {
     let asked = Asked::Ranges(&[1..2, 1..3, 1..4]);
     let mut stage = reshaped_chunk(rt.alloc(), &[Of(&[2]), Of(&[0, 1])], &WORDS)?;
     let wanted: &[u8] = &[17, 18, 19, 21, 22, 23];
-    reads_numbers(&rt, rt.alloc(), &mut stage, &asked, 2, wanted)
+    Ok(reads_numbers(&rt, rt.alloc(), &mut stage, &asked, 2, wanted)?)
 }
 
 /// Chunks, what is asked of them, and its numbers.
-const SQUEEZED: [(Counted, Asked<'static>, &'static [u8]); 4] = [
+const SQUEEZED: &'static [(Counted, Asked<'static>, &'static [u8])] = &[
     (
         LINES,
         Asked::Ranges(&[0..1, 1..3, 0..1, 1..4, 0..1]),
@@ -198,18 +218,28 @@ const SQUEEZED: [(Counted, Asked<'static>, &'static [u8]); 4] = [
     (POINT, Asked::Ranges(&[0..1, 1..1]), &[]),
 ];
 
+fn reads_squeezed(
+    rt: &impl Abort,
+    alloc: Global,
+    chunk: &Counted,
+    asked: &Asked<'_>,
+    wanted: &[u8],
+) -> Result<(), CodecError> {
+    let mut stage = squeezed_chunk(alloc, chunk)?;
+    reads_numbers(rt, alloc, &mut stage, asked, chunk.1, wanted)
+}
+
 #[test]
 fn parts_of_squeezed_chunks_are_read(rt: HostRuntime) -> Result<(), Fail> {
     for (chunk, asked, wanted) in SQUEEZED.iter() {
-        let mut stage = squeezed_chunk(rt.alloc(), chunk)?;
-        reads_numbers(&rt, rt.alloc(), &mut stage, asked, chunk.1, wanted)?;
+        reads_squeezed(&rt, rt.alloc(), chunk, asked, wanted)?;
     }
     Ok(())
 }
 
 /// Chunks, what can't be asked of them, and why: it is checked against the shape of the chunk, not of
 /// the encoded one.
-const OUTSIDE: [(Counted, Asked<'static>, CodecError); 4] = [
+const OUTSIDE: &'static [(Counted, Asked<'static>, CodecError)] = &[
     (LINE, Asked::Tuples(&[&[1, 0]]), CodecError::OutOfBounds),
     (POINT, Asked::Ranges(&[0..1, 1..2]), CodecError::OutOfBounds),
     (
@@ -224,11 +254,20 @@ const OUTSIDE: [(Counted, Asked<'static>, CodecError); 4] = [
     ),
 ];
 
+fn refuses_squeezed(
+    rt: &impl Abort,
+    alloc: Global,
+    chunk: &Counted,
+    asked: &Asked<'_>,
+    cause: CodecError,
+) -> Result<(), Fail> {
+    refuses(rt, alloc, &mut squeezed_chunk(alloc, chunk)?, asked, cause)
+}
+
 #[test]
 fn parts_outside_squeezed_chunks_are_refused(rt: HostRuntime) -> Result<(), Fail> {
     for (chunk, asked, cause) in OUTSIDE.iter() {
-        let mut stage = squeezed_chunk(rt.alloc(), chunk)?;
-        refuses(&rt, rt.alloc(), &mut stage, asked, *cause)?;
+        refuses_squeezed(&rt, rt.alloc(), chunk, asked, *cause)?;
     }
     Ok(())
 }
@@ -254,10 +293,21 @@ fn tells<D: ArrayPartialDecoderTraits>(
 }
 
 #[test]
-fn stages_tell_what_their_inputs_do(rt: HostRuntime) -> Result<(), Fail> {
-    tells(&rt, &mut transposed_chunk(rt.alloc(), &[1, 0], &SQUARE)?, 4)?;
-    tells(&rt, &mut reshaped_chunk(rt.alloc(), &[Rest], &WORDS)?, 2)?;
-    tells(&rt, &mut squeezed_chunk(rt.alloc(), &LINE)?, 1)
+fn a_transposed_stage_tells_what_its_input_does(rt: HostRuntime) -> Result<(), Fail> {
+    let mut stage = transposed_chunk(rt.alloc(), &[1, 0], &SQUARE)?;
+    tells(&rt, &mut stage, 4)
+}
+
+#[test]
+fn a_reshaped_stage_tells_what_its_input_does(rt: HostRuntime) -> Result<(), Fail> {
+    let mut stage = reshaped_chunk(rt.alloc(), &[Rest], &WORDS)?;
+    tells(&rt, &mut stage, 2)
+}
+
+#[test]
+fn a_squeezed_stage_tells_what_its_input_does(rt: HostRuntime) -> Result<(), Fail> {
+    let mut stage = squeezed_chunk(rt.alloc(), &LINE)?;
+    tells(&rt, &mut stage, 1)
 }
 
 /// The input of a transposed chunk reads the encoded one.
@@ -265,29 +315,33 @@ fn stages_tell_what_their_inputs_do(rt: HostRuntime) -> Result<(), Fail> {
 fn a_stage_hands_its_input_out(rt: HostRuntime) -> Result<(), Fail> {
     let mut input = transposed_chunk(rt.alloc(), &[1, 0], &BYTES)?.into_input();
     let row = Asked::Ranges(&[1..2, 0..2]);
-    reads(&rt, rt.alloc(), &mut input, &row, &[1, 4])
+    Ok(reads(&rt, rt.alloc(), &mut input, &row, &[1, 4])?)
 }
 
-/// The input that a refused making hands back.
-fn no_stage(
-    rt: &impl Abort,
+/// What a refused making answers, over the reader of a line.
+fn no_stage(alloc: Global, form: &ChunkForm) -> Result<Refused<ArrayInput>, Fail> {
+    let codec = transpose(alloc, &[1, 0])?;
+    no_stage_of(alloc, &codec, form)
+}
+
+fn no_stage_of(
     alloc: Global,
     codec: &TransposeCodec,
     form: &ChunkForm,
-    input: ArrayInput,
-    cause: CodecError,
-) -> Result<ArrayInput, Fail> {
-    match codec.partial_decoder(alloc, input, &form.shape, &form.data_type, &form.fill_value) {
-        Ok(_) => Err("a stage was made")?,
-        Err(Refused { error, handle }) => {
-            is_refused::<()>(rt, "stage", Err(error), cause)?;
-            Ok(handle)
-        }
-    }
+) -> Result<Refused<ArrayInput>, Fail> {
+    let input = squeezed_chunk(alloc, &LINE)?.into_input();
+    let answer = codec.partial_decoder(
+        alloc,
+        input,
+        &form.shape,
+        &form.data_type,
+        &form.fill_value,
+    );
+    Ok(answer.err().ok_or("a stage was made")?)
 }
 
 /// Chunks of which the order of two axes makes no stage, and why.
-const UNMADE: [(Told<'static>, CodecError); 2] = [
+const UNMADE: &'static [(Told<'static>, CodecError)] = &[
     (
         (&[6], Type::OptionalByte, &[0]),
         CodecError::UnsupportedDataType(CodecName::Transpose),
@@ -298,23 +352,43 @@ const UNMADE: [(Told<'static>, CodecError); 2] = [
     ),
 ];
 
+/// The cause is this one, and the input that is handed back reads the line.
 fn hands_back(
+    rt: &impl Abort,
+    alloc: Global,
+    refused: &mut Refused<ArrayInput>,
+    cause: CodecError,
+) -> Result<(), Fail> {
+    is_refused::<()>(rt, "stage", Err(refused.error), cause)?;
+    let wanted: &[u8] = &[1, 2];
+    Ok(reads(
+        rt,
+        alloc,
+        &mut refused.handle,
+        &Asked::Ranges(&[1..3]),
+        wanted,
+    )?)
+}
+
+fn no_stage_told(alloc: Global, told: &Told<'_>) -> Result<Refused<ArrayInput>, Fail> {
+    let form = chunk_form(alloc, told)?;
+    no_stage(alloc, &form)
+}
+
+fn hands_back_row(
     rt: &impl Abort,
     alloc: Global,
     told: &Told<'_>,
     cause: CodecError,
 ) -> Result<(), Fail> {
-    let form = chunk_form(alloc, told)?;
-    let codec = transpose(alloc, &[1, 0])?;
-    let input = squeezed_chunk(alloc, &LINE)?.into_input();
-    let mut input = no_stage(rt, alloc, &codec, &form, input, cause)?;
-    reads(rt, alloc, &mut input, &Asked::Ranges(&[1..3]), &[1, 2])
+    let mut refused = no_stage_told(alloc, told)?;
+    hands_back(rt, alloc, &mut refused, cause)
 }
 
 #[test]
 fn a_refused_stage_hands_its_input_back(rt: HostRuntime) -> Result<(), Fail> {
     for (told, cause) in UNMADE.iter() {
-        hands_back(&rt, rt.alloc(), told, *cause)?;
+        hands_back_row(&rt, rt.alloc(), told, *cause)?;
     }
     Ok(())
 }
@@ -323,21 +397,17 @@ fn any_stage(
     alloc: Global,
     codec: &ArrayToArrayCodec,
     form: &ChunkForm,
-    input: ArrayInput,
-) -> Result<ArrayToArrayCodecPartial<ArrayToArrayCodec, ArrayInput>, Fail> {
-    match codec.partial_decoder(alloc, input, &form.shape, &form.data_type, &form.fill_value) {
-        Ok(stage) => Ok(stage),
-        Err(Refused { error, handle: _ }) => Err(error)?,
-    }
+) -> Result<ArrayToArrayCodecPartial<ArrayToArrayCodec, ArrayInput>, CodecError> {
+    let input = counted_input(alloc, codec, form, &BYTES)?;
+    made(codec.partial_decoder(alloc, input, &form.shape, &form.data_type, &form.fill_value))
 }
 
-fn reads_through(rt: &impl Abort, alloc: Global, told: &Codec) -> Result<(), Fail> {
-    let (chunk, size, count) = BYTES;
-    let form = chunk_form(alloc, &chunk)?;
-    let codec = codec_of(alloc, told)?;
-    let bytes = counted_bytes(alloc, size, count)?;
-    let input = encoded_input(alloc, &codec, &form, fixed(alloc, bytes.as_slice())?)?;
-    let mut stage = any_stage(alloc, &codec, &form, input)?;
+fn reads_through(
+    rt: &impl Abort,
+    alloc: Global,
+    codec: &ArrayToArrayCodec,
+) -> Result<(), CodecError> {
+    let mut stage = any_stage(alloc, codec, &chunk_form(alloc, &BYTES.0)?)?;
     reads(
         rt,
         alloc,
@@ -357,7 +427,7 @@ fn parts_are_read_through_any_codec(rt: HostRuntime) -> Result<(), Fail> {
     ]
     .iter()
     {
-        reads_through(&rt, rt.alloc(), told)?;
+        reads_through(&rt, rt.alloc(), &codec_of(rt.alloc(), told)?)?;
     }
     Ok(())
 }

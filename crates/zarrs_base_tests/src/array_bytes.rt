@@ -1,22 +1,32 @@
 use crate::checks::{are, is, is_not, is_refused};
-use crate::containers::{Held, Type, container, data_type, raw};
+use crate::containers::{Held, Type, container, data_type, is_container};
 use Held::{Fixed, Masked, MaskedTexts, Nested, Texts};
 use std::alloc::Global;
 use std::process::Abort;
 use std::test::Fail;
 use zarrs_array_bytes::{ArrayBytes, ArrayBytesOffsets};
 use zarrs_chunk::CodecError;
+use zarrs_data_type::DataType;
+
+fn keeps(rt: &impl Abort, kept: &ArrayBytesOffsets, offsets: &[usize]) -> Result<(), CodecError> {
+    are(rt, "kept", kept.as_slice(), offsets);
+    is(rt, "copy", &kept.clone()?, kept);
+    Ok(())
+}
 
 #[test]
 fn offsets_rise(rt: HostRuntime) -> Result<(), Fail> {
-    let kept = ArrayBytesOffsets::new([1usize, 2, 2, 4].as_slice().to_vec(rt.alloc())?)?;
-    are(&rt, "kept", kept.as_slice(), &[1, 2, 2, 4]);
-    is(&rt, "copy", &kept.clone()?, &kept);
+    let offsets: &[usize] = &[1, 2, 2, 4];
+    keeps(
+        &rt,
+        &ArrayBytesOffsets::new(offsets.to_vec(rt.alloc())?)?,
+        offsets,
+    )?;
     Ok(())
 }
 
 /// What is not made, and why.
-const REFUSED: [(Held<'static>, CodecError); 6] = [
+const REFUSED: &'static [(Held<'static>, CodecError)] = &[
     (Texts(b"ab", &[0, 2, 1]), CodecError::InvalidOffsets),
     (Texts(b"", &[]), CodecError::InvalidOffsets),
     (Texts(b"abc", &[0, 2]), CodecError::InvalidOffsets),
@@ -25,17 +35,21 @@ const REFUSED: [(Held<'static>, CodecError); 6] = [
     (Nested(&[255], &[1], &[1]), CodecError::MaskValue),
 ];
 
+fn refuses(rt: &impl Abort, alloc: Global, held: &Held<'_>, cause: CodecError) -> Result<(), Fail> {
+    is_refused(rt, "parts", container(alloc, held), cause)
+}
+
 #[test]
 fn is_refused_where_parts_disagree(rt: HostRuntime) -> Result<(), Fail> {
     for (held, cause) in REFUSED.iter() {
-        is_refused(&rt, "parts", container(rt.alloc(), held), *cause)?;
+        refuses(&rt, rt.alloc(), held, *cause)?;
     }
     Ok(())
 }
 
 /// Containers, no two of them equal, and their sizes: one byte for each byte of an element and of a
 /// mask, and eight for each offset.
-const SIZES: [(Held<'static>, usize); 10] = [
+const SIZES: &'static [(Held<'static>, usize)] = &[
     (Fixed(&[]), 0),
     (Fixed(&[5, 9, 7]), 3),
     (Fixed(&[5, 9, 8]), 3),
@@ -49,16 +63,26 @@ const SIZES: [(Held<'static>, usize); 10] = [
 ];
 
 /// The container has this size, and its copy is equal.
-fn has_size(rt: &impl Abort, array: &ArrayBytes<'static>, size: usize) -> Result<(), Fail> {
+fn has_size(
+    rt: &impl Abort,
+    alloc: Global,
+    held: &Held<'_>,
+    size: usize,
+) -> Result<(), CodecError> {
+    let array = container(alloc, held)?;
     is(rt, "size", &array.size(), &size);
-    is(rt, "copy", &array.clone()?, array);
+    is_copied(rt, &array)
+}
+
+fn is_copied(rt: &impl Abort, array: &ArrayBytes<'static>) -> Result<(), CodecError> {
+    is_container(rt, "copy", &array.clone()?, array);
     Ok(())
 }
 
 #[test]
 fn has_a_size_and_an_equal_copy(rt: HostRuntime) -> Result<(), Fail> {
     for (held, size) in SIZES.iter() {
-        has_size(&rt, &container(rt.alloc(), held)?, *size)?;
+        has_size(&rt, rt.alloc(), held, *size)?;
     }
     Ok(())
 }
@@ -68,17 +92,29 @@ fn differs(
     alloc: Global,
     one: &ArrayBytes<'static>,
     other: &Held<'static>,
-) -> Result<(), Fail> {
+) -> Result<(), CodecError> {
     is_not(rt, "another", one, &container(alloc, other)?);
+    Ok(())
+}
+
+/// The container is none of the first ones.
+fn differs_from_first(
+    rt: &impl Abort,
+    alloc: Global,
+    one: &Held<'static>,
+    count: usize,
+) -> Result<(), CodecError> {
+    let one = container(alloc, one)?;
+    for (other, _) in SIZES.iter().take(count) {
+        differs(rt, alloc, &one, other)?;
+    }
     Ok(())
 }
 
 #[test]
 fn differs_by_kind_and_parts(rt: HostRuntime) -> Result<(), Fail> {
     for (place, (one, _)) in SIZES.iter().enumerate() {
-        for (other, _) in SIZES.iter().take(place) {
-            differs(&rt, rt.alloc(), &container(rt.alloc(), one)?, other)?;
-        }
+        differs_from_first(&rt, rt.alloc(), one, place)?;
     }
     Ok(())
 }
@@ -98,13 +134,15 @@ const THREE_FOR_FOUR: Result<(), CodecError> = Err(CodecError::InvalidBytesLengt
 });
 
 /// Elements, a type and how many of it they should be; what `validate` and `validate_data` answer.
-const VALID: [(
+type Row = (
     Held<'static>,
     Type,
     u64,
     Result<(), CodecError>,
     Result<(), CodecError>,
-); 11] = [
+);
+
+const VALID: &'static [Row] = &[
     (Fixed(&[1, 2]), Type::Bytes(1), 2, Ok(()), Ok(())),
     (Fixed(&[1, 2]), Type::Bytes(1), 3, TWO_FOR_THREE, MISMATCH),
     (Fixed(&[1, 2]), Type::Text, 2, KIND, KIND),
@@ -145,69 +183,96 @@ const VALID: [(
 
 fn fits(
     rt: &impl Abort,
-    alloc: Global,
     array: &ArrayBytes<'static>,
-    told: &Type,
+    told: &DataType,
     count: u64,
-    answers: [Result<(), CodecError>; 2],
-) -> Result<(), Fail> {
-    let told = data_type(alloc, told)?;
-    let came = [
-        array.validate(count, &told),
-        array.validate_data(count, &told),
-    ];
-    is(rt, "elements, data", &came, &answers);
+    answer: &Result<(), CodecError>,
+    as_data: &Result<(), CodecError>,
+) {
+    is(rt, "elements", &array.validate(count, told), answer);
+    is(rt, "data", &array.validate_data(count, told), as_data);
+}
+
+fn fits_row(rt: &impl Abort, alloc: Global, row: &Row) -> Result<(), CodecError> {
+    let (held, told, count, answer, as_data) = row;
+    let array = container(alloc, held)?;
+    fits(
+        rt,
+        &array,
+        &data_type(alloc, told)?,
+        *count,
+        answer,
+        as_data,
+    );
     Ok(())
 }
 
 #[test]
 fn fits_a_type_or_not(rt: HostRuntime) -> Result<(), Fail> {
-    for (held, told, count, answer, as_data) in VALID.iter() {
-        let array = container(rt.alloc(), held)?;
-        fits(&rt, rt.alloc(), &array, told, *count, [*answer, *as_data])?;
+    for row in VALID.iter() {
+        fits_row(&rt, rt.alloc(), row)?;
     }
+    Ok(())
+}
+
+fn gives_variable(rt: &impl Abort, texts: ArrayBytes<'static>) -> Result<(), CodecError> {
+    let (bytes, offsets) = texts.into_variable()?;
+    are(rt, "bytes", bytes.as_slice(), b"xabc");
+    are(rt, "offsets", offsets.as_slice(), &[1, 2, 4]);
     Ok(())
 }
 
 #[test]
 fn gives_variable_elements_back(rt: HostRuntime) -> Result<(), Fail> {
     let texts = container(rt.alloc(), &Texts(b"xabc", &[1, 2, 4]))?;
-    let (bytes, offsets) = texts.into_variable()?;
-    are(&rt, "bytes", bytes.as_slice(), b"xabc");
-    are(&rt, "offsets", offsets.as_slice(), &[1, 2, 4]);
+    Ok(gives_variable(&rt, texts)?)
+}
+
+fn gives_inside(rt: &impl Abort, inner: ArrayBytes<'static>) -> Result<(), CodecError> {
+    are(rt, "inside", inner.into_fixed()?.as_slice(), &[5, 9]);
     Ok(())
+}
+
+fn gives_optional(rt: &impl Abort, array: ArrayBytes<'static>) -> Result<(), CodecError> {
+    let (inner, mask) = array.into_optional()?;
+    are(rt, "mask", mask.as_slice(), &[1, 0]);
+    gives_inside(rt, Box::into_inner(inner))
 }
 
 #[test]
 fn gives_optional_elements_back(rt: HostRuntime) -> Result<(), Fail> {
     let array = container(rt.alloc(), &Masked(&[1, 0], &[5, 9]))?;
-    let (inner, mask) = array.into_optional()?;
-    are(&rt, "mask", mask.as_slice(), &[1, 0]);
-    are(
-        &rt,
-        "inside",
-        Box::into_inner(inner).into_fixed()?.as_slice(),
-        &[5, 9],
-    );
-    Ok(())
+    Ok(gives_optional(&rt, array)?)
 }
 
-#[test]
-fn has_no_parts_of_another_kind(rt: HostRuntime) -> Result<(), Fail> {
-    let texts = container(rt.alloc(), &Texts(b"a", &[0, 1]))?;
-    is_refused(&rt, "fixed", texts.into_fixed(), CodecError::ArrayBytesKind)?;
-    let bytes = ArrayBytes::new_flen(raw(rt.alloc(), &[1])?);
+fn has_no_elements_of_one_size(rt: &impl Abort, alloc: Global) -> Result<(), Fail> {
+    let texts = container(alloc, &Texts(b"a", &[0, 1]))?;
+    is_refused(rt, "fixed", texts.into_fixed(), CodecError::ArrayBytesKind)
+}
+
+fn has_no_elements_of_any_length(rt: &impl Abort, alloc: Global) -> Result<(), Fail> {
+    let bytes = container(alloc, &Fixed(&[1]))?;
     is_refused(
-        &rt,
+        rt,
         "variable",
         bytes.into_variable(),
         CodecError::ArrayBytesKind,
-    )?;
-    let bytes = ArrayBytes::new_flen(raw(rt.alloc(), &[1])?);
+    )
+}
+
+fn has_no_mask(rt: &impl Abort, alloc: Global) -> Result<(), Fail> {
+    let bytes = container(alloc, &Fixed(&[1]))?;
     is_refused(
-        &rt,
+        rt,
         "optional",
         bytes.into_optional(),
         CodecError::ArrayBytesKind,
     )
+}
+
+#[test]
+fn has_no_parts_of_another_kind(rt: HostRuntime) -> Result<(), Fail> {
+    has_no_elements_of_one_size(&rt, rt.alloc())?;
+    has_no_elements_of_any_length(&rt, rt.alloc())?;
+    has_no_mask(&rt, rt.alloc())
 }

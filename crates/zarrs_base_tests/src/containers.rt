@@ -27,12 +27,16 @@ pub(crate) fn data_type(alloc: Global, told: &Type) -> Result<DataType, CodecErr
         Type::Text => Ok(DataType::string()),
         Type::Optional(count) => optional_type(alloc, *count),
         Type::OptionalText => DataType::optional(alloc, DataType::string()),
-        Type::Nested(count) => DataType::optional(alloc, optional_type(alloc, *count)?),
+        Type::Nested(count) => nested_type(alloc, *count),
     }
 }
 
 fn optional_type(alloc: Global, count: u64) -> Result<DataType, CodecError> {
     DataType::optional(alloc, DataType::components(8, count, false)?)
+}
+
+fn nested_type(alloc: Global, count: u64) -> Result<DataType, CodecError> {
+    DataType::optional(alloc, optional_type(alloc, count)?)
 }
 
 /// Elements of one size; of any length, with their offsets; under a mask, or under two, the outer
@@ -63,18 +67,26 @@ fn masked(alloc: Global, mask: &[u8], inner: ArrayBytes<'static>) -> Elements {
     inner.with_optional_mask(alloc, raw(alloc, mask)?)
 }
 
+fn masked_bytes(alloc: Global, mask: &[u8], bytes: &[u8]) -> Elements {
+    masked(alloc, mask, fixed(alloc, bytes)?)
+}
+
+fn masked_texts(alloc: Global, mask: &[u8], bytes: &[u8], offsets: &[usize]) -> Elements {
+    masked(alloc, mask, texts(alloc, bytes, offsets)?)
+}
+
+fn nested(alloc: Global, outer: &[u8], mask: &[u8], bytes: &[u8]) -> Elements {
+    masked(alloc, outer, masked_bytes(alloc, mask, bytes)?)
+}
+
 /// The container, with bytes of its own.
 pub(crate) fn container(alloc: Global, held: &Held<'_>) -> Elements {
     match held {
         Held::Fixed(bytes) => fixed(alloc, bytes),
         Held::Texts(bytes, offsets) => texts(alloc, bytes, offsets),
-        Held::Masked(mask, bytes) => masked(alloc, mask, fixed(alloc, bytes)?),
-        Held::MaskedTexts(mask, bytes, offsets) => {
-            masked(alloc, mask, texts(alloc, bytes, offsets)?)
-        }
-        Held::Nested(outer, mask, bytes) => {
-            masked(alloc, outer, masked(alloc, mask, fixed(alloc, bytes)?)?)
-        }
+        Held::Masked(mask, bytes) => masked_bytes(alloc, mask, bytes),
+        Held::MaskedTexts(mask, bytes, offsets) => masked_texts(alloc, mask, bytes, offsets),
+        Held::Nested(outer, mask, bytes) => nested(alloc, outer, mask, bytes),
     }
 }
 
@@ -85,7 +97,7 @@ pub(crate) fn holds(
     about: &str,
     answer: Elements,
     wanted: &Held<'_>,
-) -> Result<(), Fail> {
+) -> Result<(), CodecError> {
     equals(rt, alloc, about, &answer?, wanted)
 }
 
@@ -95,9 +107,19 @@ fn equals(
     about: &str,
     came: &ArrayBytes<'static>,
     wanted: &Held<'_>,
-) -> Result<(), Fail> {
-    is(rt, about, came, &container(alloc, wanted)?);
+) -> Result<(), CodecError> {
+    is_container(rt, about, came, &container(alloc, wanted)?);
     Ok(())
+}
+
+/// The container that came is this one.
+pub(crate) fn is_container(
+    rt: &impl Abort,
+    about: &str,
+    came: &ArrayBytes<'static>,
+    wanted: &ArrayBytes<'static>,
+) {
+    is(rt, about, came, wanted);
 }
 
 /// The bytes 0, 1, 2 and so on, so that neighbours differ.

@@ -14,6 +14,10 @@ fn has_components(
     count: u64,
     sign: bool,
 ) {
+    is_fixed(rt, &data_type, size, bits, count, sign);
+}
+
+fn is_fixed(rt: &impl Abort, data_type: &DataType, size: usize, bits: u64, count: u64, sign: bool) {
     let components = Components {
         component_size_bits: bits,
         num_components: count,
@@ -54,7 +58,7 @@ fn names_of_unsigned_numbers(rt: HostRuntime) {
 fn is_made_of_components(rt: HostRuntime) -> Result<(), Fail> {
     has_components(&rt, DataType::components(12, 2, true)?, 4, 12, 2, true);
     has_components(&rt, DataType::components(65, 3, false)?, 27, 65, 3, false);
-    is(
+    is_type(
         &rt,
         "bool",
         &DataType::components(1, 1, false)?,
@@ -64,21 +68,20 @@ fn is_made_of_components(rt: HostRuntime) -> Result<(), Fail> {
 }
 
 /// Bits, components, and the cause by which such a type is refused.
-const REFUSED: [(u64, u64, CodecError); 3] = [
+const REFUSED: &'static [(u64, u64, CodecError)] = &[
     (0, 1, CodecError::BitRange),
     (1, 0, CodecError::BitRange),
     (18446744073709551615, 8, CodecError::Overflow),
 ];
 
+fn refuses(rt: &impl Abort, bits: u64, count: u64, cause: CodecError) -> Result<(), Fail> {
+    is_refused(rt, "type", DataType::components(bits, count, false), cause)
+}
+
 #[test]
 fn is_refused_without_bits_or_past_64_bits(rt: HostRuntime) -> Result<(), Fail> {
     for (bits, count, cause) in REFUSED.iter() {
-        is_refused(
-            &rt,
-            "type",
-            DataType::components(*bits, *count, false),
-            *cause,
-        )?;
+        refuses(&rt, *bits, *count, *cause)?;
     }
     Ok(())
 }
@@ -87,6 +90,11 @@ fn is_refused_without_bits_or_past_64_bits(rt: HostRuntime) -> Result<(), Fail> 
 fn has_none(rt: &impl Abort, data_type: &DataType, variable: bool) {
     is(rt, "size", &data_type.fixed_size(), &None);
     is(rt, "components", &data_type.components(), &None);
+    is_variable(rt, data_type, variable);
+}
+
+/// A type of elements of any length, or else an optional one.
+fn is_variable(rt: &impl Abort, data_type: &DataType, variable: bool) {
     is(rt, "variable", &data_type.is_variable(), &variable);
     is(rt, "optional", &data_type.is_optional(), &!variable);
     is(rt, "inner", &data_type.as_optional().is_some(), &!variable);
@@ -110,22 +118,25 @@ fn is_round_optional_text(
     text: &DataType,
 ) -> Result<(), Fail> {
     has_none(rt, data_type, false);
-    is(rt, "copy", &data_type.clone()?, data_type);
+    is_type(rt, "copy", &data_type.clone()?, data_type);
     is_not(rt, "levels", data_type, text);
-    is(
-        rt,
-        "inner",
-        data_type.as_optional().ok_or("no inner type")?,
-        text,
-    );
+    let inner = data_type.as_optional().ok_or("no inner type")?;
+    is_type(rt, "inner", inner, text);
     Ok(())
+}
+
+fn is_type(rt: &impl Abort, about: &str, came: &DataType, wanted: &DataType) {
+    is(rt, about, came, wanted);
+}
+
+fn twice_optional_text(alloc: Global) -> Result<DataType, CodecError> {
+    DataType::optional(alloc, optional_text(alloc)?)
 }
 
 #[test]
 fn nests(rt: HostRuntime) -> Result<(), Fail> {
     let text = optional_text(rt.alloc())?;
-    let twice = DataType::optional(rt.alloc(), optional_text(rt.alloc())?)?;
-    is_round_optional_text(&rt, &twice, &text)
+    is_round_optional_text(&rt, &twice_optional_text(rt.alloc())?, &text)
 }
 
 /// How many bits a component has, of any type that may have some.

@@ -1,13 +1,14 @@
 use crate::checks::{are, is, is_not};
 use crate::containers::{Type, data_type};
-use std::alloc::Global;
+use std::alloc::{AllocError, Global};
 use std::process::Abort;
 use std::test::Fail;
-use zarrs_data_type::FillValue;
+use zarrs_chunk::CodecError;
+use zarrs_data_type::{DataType, FillValue};
 
 /// A type, bytes, and whether they are a fill value of the type: one element of a fixed type, any
 /// bytes of a variable one, and of an optional one a flag behind them, alone where it is 0.
-const FITTING: [(Type, &'static [u8], bool); 16] = [
+const FITTING: &'static [(Type, &'static [u8], bool)] = &[
     (Type::Bytes(2), &[0, 0], true),
     (Type::Bytes(2), &[0], false),
     (Type::Bytes(2), &[0, 0, 0], false),
@@ -33,16 +34,20 @@ fn fits(
     bytes: &[u8],
     wanted: bool,
 ) -> Result<(), Fail> {
-    let fill_value = FillValue::new(bytes.to_vec(alloc)?);
+    let fill_value = of_bytes(alloc, bytes)?;
     are(rt, "bytes", fill_value.as_ne_bytes(), bytes);
-    is(
-        rt,
-        "fits",
-        &fill_value.fits(&data_type(alloc, told)?),
-        &wanted,
-    );
-    is(rt, "copy", &fill_value.clone()?, &fill_value);
+    is_copied(rt, &fill_value)?;
+    is_fitting(rt, &fill_value, &data_type(alloc, told)?, wanted);
     Ok(())
+}
+
+fn is_copied(rt: &impl Abort, fill_value: &FillValue) -> Result<(), CodecError> {
+    is(rt, "copy", &fill_value.clone()?, fill_value);
+    Ok(())
+}
+
+fn is_fitting(rt: &impl Abort, fill_value: &FillValue, told: &DataType, wanted: bool) {
+    is(rt, "fits", &fill_value.fits(told), &wanted);
 }
 
 #[test]
@@ -53,18 +58,28 @@ fn fits_a_type_or_not(rt: HostRuntime) -> Result<(), Fail> {
     Ok(())
 }
 
+fn is_present(rt: &impl Abort, null: FillValue) -> Result<(), CodecError> {
+    are(rt, "present", null.into_optional()?.as_ne_bytes(), &[0, 1]);
+    Ok(())
+}
+
 #[test]
 fn is_wrapped_level_by_level(rt: HostRuntime) -> Result<(), Fail> {
     let null = FillValue::new_optional_null(rt.alloc())?;
     are(&rt, "null", null.as_ne_bytes(), &[0]);
-    are(&rt, "present", null.into_optional()?.as_ne_bytes(), &[0, 1]);
+    Ok(is_present(&rt, null)?)
+}
+
+fn of_bytes(alloc: Global, bytes: &[u8]) -> Result<FillValue, AllocError> {
+    Ok(FillValue::new(bytes.to_vec(alloc)?))
+}
+
+fn differs(rt: &impl Abort, alloc: Global, word: &FillValue) -> Result<(), AllocError> {
+    is_not(rt, "order", word, &of_bytes(alloc, &[2, 1])?);
     Ok(())
 }
 
 #[test]
 fn differs_by_its_bytes(rt: HostRuntime) -> Result<(), Fail> {
-    let word = FillValue::new([1, 2].as_slice().to_vec(rt.alloc())?);
-    let other = FillValue::new([2, 1].as_slice().to_vec(rt.alloc())?);
-    is_not(&rt, "order", &word, &other);
-    Ok(())
+    Ok(differs(&rt, rt.alloc(), &of_bytes(rt.alloc(), &[1, 2])?)?)
 }

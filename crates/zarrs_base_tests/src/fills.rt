@@ -1,7 +1,7 @@
 use crate::checks::{are, is_refused};
 use crate::containers::{Elements, Held, Type, data_type, holds, numbered, repeated};
 use Held::{Fixed, Masked, MaskedTexts, Nested, Texts};
-use std::alloc::Global;
+use std::alloc::{AllocError, Global};
 use std::process::Abort;
 use std::test::Fail;
 use zarrs_array_bytes::{ArrayBytes, append_copies};
@@ -14,7 +14,7 @@ fn filled(alloc: Global, told: &Type, count: u64, fill: &[u8]) -> Elements {
 }
 
 /// A type, how many elements, a fill value that is refused, and why.
-const REFUSED: [(Type, u64, &'static [u8], CodecError); 3] = [
+const REFUSED: &'static [(Type, u64, &'static [u8], CodecError)] = &[
     (Type::Optional(1), 2, &[1], CodecError::InvalidFillValue),
     (
         Type::Bytes(2),
@@ -30,17 +30,28 @@ const REFUSED: [(Type, u64, &'static [u8], CodecError); 3] = [
     ),
 ];
 
+fn refuses(
+    rt: &impl Abort,
+    alloc: Global,
+    told: &Type,
+    count: u64,
+    fill: &[u8],
+    cause: CodecError,
+) -> Result<(), Fail> {
+    is_refused(rt, "fill", filled(alloc, told, count, fill), cause)
+}
+
 #[test]
 fn is_refused_by_the_first_cause(rt: HostRuntime) -> Result<(), Fail> {
     for (told, count, fill, cause) in REFUSED.iter() {
-        is_refused(&rt, "fill", filled(rt.alloc(), told, *count, fill), *cause)?;
+        refuses(&rt, rt.alloc(), told, *count, fill, *cause)?;
     }
     Ok(())
 }
 
 /// A type, how many elements, a fill value, and the container. What is absent stands over zeros,
 /// empty bytes and inner masks of zero.
-const FILLED: [(Type, u64, &'static [u8], Held<'static>); 12] = [
+const FILLED: &'static [(Type, u64, &'static [u8], Held<'static>)] = &[
     (Type::Bytes(1), 3, &[7], Fixed(&[7, 7, 7])),
     (Type::Bytes(2), 2, &[1, 2], Fixed(&[1, 2, 1, 2])),
     (Type::Bytes(2), 0, &[1, 2], Fixed(&[])),
@@ -65,11 +76,27 @@ const FILLED: [(Type, u64, &'static [u8], Held<'static>); 12] = [
     (Type::Nested(1), 1, &[42, 1, 1], Nested(&[1], &[1], &[42])),
 ];
 
+fn fills_with(
+    rt: &impl Abort,
+    alloc: Global,
+    told: &Type,
+    count: u64,
+    fill: &[u8],
+    wanted: &Held<'_>,
+) -> Result<(), CodecError> {
+    holds(
+        rt,
+        alloc,
+        "filled",
+        filled(alloc, told, count, fill),
+        wanted,
+    )
+}
+
 #[test]
 fn fills_elements_of_each_kind(rt: HostRuntime) -> Result<(), Fail> {
     for (told, count, fill, wanted) in FILLED.iter() {
-        let answer = filled(rt.alloc(), told, *count, fill);
-        holds(&rt, rt.alloc(), "filled", answer, wanted)?;
+        fills_with(&rt, rt.alloc(), told, *count, fill, wanted)?;
     }
     Ok(())
 }
@@ -80,7 +107,7 @@ const COUNTS: [usize; 22] = [
     2048, 2177,
 ];
 
-const FILLS: [&'static [u8]; 6] = [
+const FILLS: &'static [&'static [u8]] = &[
     &[7],
     &[1, 2],
     &[1, 2, 3],
@@ -89,18 +116,30 @@ const FILLS: [&'static [u8]; 6] = [
     &[1, 2, 3, 4, 5, 6, 7, 8, 9, 10, 11, 12, 13, 14, 15, 16],
 ];
 
-fn fills(rt: &impl Abort, alloc: Global, fill: &[u8], count: usize) -> Result<(), Fail> {
-    let answer = filled(alloc, &Type::Bytes(fill.len() as u64), count as u64, fill);
+fn fills(rt: &impl Abort, alloc: Global, fill: &[u8], count: usize) -> Result<(), CodecError> {
+    let told = Type::Bytes(fill.len() as u64);
     let wanted = repeated(alloc, fill, count)?;
-    holds(rt, alloc, "filled", answer, &Fixed(wanted.as_slice()))
+    fills_with(
+        rt,
+        alloc,
+        &told,
+        count as u64,
+        fill,
+        &Fixed(wanted.as_slice()),
+    )
 }
 
 #[test]
 fn fills_with_each_width(rt: HostRuntime) -> Result<(), Fail> {
     for fill in FILLS.iter() {
-        for count in COUNTS.iter() {
-            fills(&rt, rt.alloc(), fill, *count)?;
-        }
+        fills_each_count(&rt, rt.alloc(), fill)?;
+    }
+    Ok(())
+}
+
+fn fills_each_count(rt: &impl Abort, alloc: Global, fill: &[u8]) -> Result<(), CodecError> {
+    for count in COUNTS.iter() {
+        fills(rt, alloc, fill, *count)?;
     }
     Ok(())
 }
@@ -118,7 +157,7 @@ fn fills_with_wide_elements(rt: HostRuntime) -> Result<(), Fail> {
 }
 
 /// The offsets of so many elements of `size` bytes.
-fn steps(alloc: Global, size: usize, count: usize) -> Result<Vec<usize>, Fail> {
+fn steps(alloc: Global, size: usize, count: usize) -> Result<Vec<usize>, AllocError> {
     let mut offsets = Vec::new(alloc);
     for place in 0..=count {
         offsets.push(place.wrapping_mul(size))?;
@@ -126,39 +165,63 @@ fn steps(alloc: Global, size: usize, count: usize) -> Result<Vec<usize>, Fail> {
     Ok(offsets)
 }
 
-fn fills_texts(rt: &impl Abort, alloc: Global, fill: &[u8], count: usize) -> Result<(), Fail> {
+fn fills_texts(
+    rt: &impl Abort,
+    alloc: Global,
+    fill: &[u8],
+    count: usize,
+) -> Result<(), CodecError> {
     let bytes = repeated(alloc, fill, count)?;
     let offsets = steps(alloc, fill.len(), count)?;
-    let answer = filled(alloc, &Type::Text, count as u64, fill);
     let wanted = Texts(bytes.as_slice(), offsets.as_slice());
-    holds(rt, alloc, "filled", answer, &wanted)
+    fills_with(rt, alloc, &Type::Text, count as u64, fill, &wanted)
 }
 
 #[test]
 fn fills_texts_of_each_length(rt: HostRuntime) -> Result<(), Fail> {
     for fill in FILLS.iter() {
-        for count in COUNTS.iter() {
-            fills_texts(&rt, rt.alloc(), fill, *count)?;
-        }
+        fills_texts_each_count(&rt, rt.alloc(), fill)?;
+    }
+    Ok(())
+}
+
+fn fills_texts_each_count(rt: &impl Abort, alloc: Global, fill: &[u8]) -> Result<(), CodecError> {
+    for count in COUNTS.iter() {
+        fills_texts(rt, alloc, fill, *count)?;
     }
     Ok(())
 }
 
 /// Copies behind one that stands.
-fn appends(rt: &impl Abort, alloc: Global, fill: &[u8], count: usize) -> Result<(), Fail> {
-    let mut bytes = fill.to_vec(alloc)?;
-    append_copies(&mut bytes, fill, count as u64)?;
+fn appends(rt: &impl Abort, alloc: Global, fill: &[u8], count: usize) -> Result<(), CodecError> {
     let wanted = repeated(alloc, fill, count.saturating_add(1))?;
-    are(rt, "appended", bytes.as_slice(), wanted.as_slice());
+    appends_to(rt, alloc, fill, count as u64, wanted.as_slice())
+}
+
+fn appends_to(
+    rt: &impl Abort,
+    alloc: Global,
+    fill: &[u8],
+    count: u64,
+    wanted: &[u8],
+) -> Result<(), CodecError> {
+    let mut bytes = fill.to_vec(alloc)?;
+    append_copies(&mut bytes, fill, count)?;
+    are(rt, "appended", bytes.as_slice(), wanted);
     Ok(())
 }
 
 #[test]
 fn appends_copies_of_each_width(rt: HostRuntime) -> Result<(), Fail> {
     for fill in FILLS.iter() {
-        for count in COUNTS.iter() {
-            appends(&rt, rt.alloc(), fill, *count)?;
-        }
+        appends_each_count(&rt, rt.alloc(), fill)?;
+    }
+    Ok(())
+}
+
+fn appends_each_count(rt: &impl Abort, alloc: Global, fill: &[u8]) -> Result<(), CodecError> {
+    for count in COUNTS.iter() {
+        appends(rt, alloc, fill, *count)?;
     }
     Ok(())
 }

@@ -22,14 +22,16 @@ fn view<'a>(
 
 /// How many bytes an element has, the sizes and ranges, how many bytes the array has, the elements
 /// that are written, and the bytes afterwards. Before, each byte is 0.
-const WRITTEN: [(
+type Row = (
     usize,
     &'static [u64],
     &'static [Range<u64>],
     usize,
     &'static [u8],
     &'static [u8],
-); 9] = [
+);
+
+const WRITTEN: &'static [Row] = &[
     (1, &[2, 3], &[0..2, 1..2], 6, &[1, 2], &[0, 1, 0, 0, 2, 0]),
     (
         1,
@@ -78,6 +80,14 @@ fn is_written(
 ) -> Result<(), Fail> {
     view.copy_from_slice(elements)?;
     are(rt, "written", view.as_slice(), after);
+    takes_no_more(rt, view, after)
+}
+
+fn takes_no_more(
+    rt: &impl Abort,
+    view: &mut ArrayBytesFixedView<'_>,
+    after: &[u8],
+) -> Result<(), Fail> {
     let longer = view.copy_from_slice(&[5; 40]);
     is_refused(rt, "longer", longer, CodecError::TargetMismatch)?;
     are(rt, "left", view.as_slice(), after);
@@ -98,34 +108,32 @@ fn writes(
     is_written(rt, &mut made, elements, after)
 }
 
+fn writes_row(rt: &impl Abort, alloc: Global, row: &Row) -> Result<(), Fail> {
+    let (size, sizes, ranges, len, elements, after) = row;
+    let mut room = [0u8; 16];
+    let bytes = room.get_mut(..*len).ok_or("too many bytes")?;
+    writes(rt, alloc, *size, sizes, ranges, bytes, elements, after)
+}
+
 #[test]
 fn writes_elements_at_the_places_of_a_subset(rt: HostRuntime) -> Result<(), Fail> {
-    for (size, sizes, ranges, len, elements, after) in WRITTEN.iter() {
-        let mut room = [0u8; 16];
-        let bytes = &mut room[..*len];
-        writes(
-            &rt,
-            rt.alloc(),
-            *size,
-            sizes,
-            ranges,
-            bytes,
-            elements,
-            after,
-        )?;
+    for row in WRITTEN.iter() {
+        writes_row(&rt, rt.alloc(), row)?;
     }
     Ok(())
 }
 
 /// How many bytes an element has, the sizes and ranges, how many bytes there are, and why there is no
 /// view: the first of the causes that hold.
-const REFUSED: [(
+type RefusedRow = (
     usize,
     &'static [u64],
     &'static [Range<u64>],
     usize,
     CodecError,
-); 8] = [
+);
+
+const REFUSED: &'static [RefusedRow] = &[
     (0, &[2, 3], &[0..3], 5, CodecError::TargetMismatch),
     (
         1,
@@ -160,12 +168,22 @@ const REFUSED: [(
     ),
 ];
 
+fn refuses(rt: &impl Abort, alloc: Global, row: &RefusedRow) -> Result<(), Fail> {
+    let (size, sizes, ranges, len, cause) = row;
+    let mut room = [0u8; 16];
+    let bytes = room.get_mut(..*len).ok_or("too many bytes")?;
+    is_refused(
+        rt,
+        "refused",
+        view(alloc, bytes, *size, sizes, ranges),
+        *cause,
+    )
+}
+
 #[test]
 fn refuses_what_is_no_view(rt: HostRuntime) -> Result<(), Fail> {
-    for (size, sizes, ranges, len, cause) in REFUSED.iter() {
-        let mut room = [0u8; 16];
-        let made = view(rt.alloc(), &mut room[..*len], *size, sizes, ranges);
-        is_refused(&rt, "refused", made, *cause)?;
+    for row in REFUSED.iter() {
+        refuses(&rt, rt.alloc(), row)?;
     }
     Ok(())
 }

@@ -6,7 +6,7 @@ use std::test::Fail;
 use zarrs_chunk::{ArraySubset, ChunkShape, CodecError, Indexer};
 
 /// An equal copy can be made.
-fn is_copied(rt: &impl Abort, indexer: &Indexer) -> Result<(), Fail> {
+fn is_copied(rt: &impl Abort, indexer: &Indexer) -> Result<(), CodecError> {
     is(rt, "copy", &indexer.clone()?, indexer);
     Ok(())
 }
@@ -18,15 +18,21 @@ fn has_places(
     chunk: &ChunkShape,
     indexer: &Indexer,
     places: &[u64],
-) -> Result<(), Fail> {
+) -> Result<(), CodecError> {
     is(rt, "check", &indexer.check(chunk), &Ok(()));
     is(rt, "len", &indexer.len(), &Ok(places.len() as u64));
-    are(
-        rt,
-        "places",
-        indexer.places(alloc, chunk)?.as_slice(),
-        places,
-    );
+    are_places(rt, alloc, chunk, indexer, places)
+}
+
+fn are_places(
+    rt: &impl Abort,
+    alloc: Global,
+    chunk: &ChunkShape,
+    indexer: &Indexer,
+    places: &[u64],
+) -> Result<(), CodecError> {
+    let came = indexer.places(alloc, chunk)?;
+    are(rt, "places", came.as_slice(), places);
     Ok(())
 }
 
@@ -37,19 +43,19 @@ fn has_runs(
     chunk: &ChunkShape,
     indexer: &Indexer,
     runs: &[(u64, u64)],
-) -> Result<(), Fail> {
+) -> Result<(), CodecError> {
     are(rt, "runs", indexer.runs(alloc, chunk)?.as_slice(), runs);
     Ok(())
 }
 
 /// Sizes, what is asked for, its places, and its runs. A run covers one row of the last axis that a
 /// box doesn't cover whole, with all axes behind it.
-const BOXES: [(
+const BOXES: &'static [(
     &'static [u64],
     Asked<'static>,
     &'static [u64],
     &'static [(u64, u64)],
-); 14] = [
+)] = &[
     (&[4, 4], Ranges(&[1..3, 0..1]), &[4, 8], &[(4, 1), (8, 1)]),
     (
         &[4, 4],
@@ -101,12 +107,22 @@ fn covers(
     asked: &Asked<'_>,
     places: &[u64],
     runs: &[(u64, u64)],
-) -> Result<(), Fail> {
+) -> Result<(), CodecError> {
     let chunk = shape(alloc, sizes)?;
-    let asked = indexer(alloc, asked)?;
-    is_copied(rt, &asked)?;
-    has_places(rt, alloc, &chunk, &asked, places)?;
-    has_runs(rt, alloc, &chunk, &asked, runs)
+    has_all(rt, alloc, &chunk, &indexer(alloc, asked)?, places, runs)
+}
+
+fn has_all(
+    rt: &impl Abort,
+    alloc: Global,
+    chunk: &ChunkShape,
+    indexer: &Indexer,
+    places: &[u64],
+    runs: &[(u64, u64)],
+) -> Result<(), CodecError> {
+    is_copied(rt, indexer)?;
+    has_places(rt, alloc, chunk, indexer, places)?;
+    has_runs(rt, alloc, chunk, indexer, runs)
 }
 
 #[test]
@@ -118,7 +134,7 @@ fn subsets_have_places_and_runs(rt: HostRuntime) -> Result<(), Fail> {
 }
 
 /// Sizes, tuples, and their places in list order.
-const LISTS: [(&'static [u64], Asked<'static>, &'static [u64]); 7] = [
+const LISTS: &'static [(&'static [u64], Asked<'static>, &'static [u64])] = &[
     (
         &[4, 4],
         Tuples(&[&[1, 0], &[3, 3], &[0, 2], &[3, 3]]),
@@ -176,10 +192,19 @@ fn lists(
     places: &[u64],
 ) -> Result<(), Fail> {
     let chunk = shape(alloc, sizes)?;
-    let asked = indexer(alloc, asked)?;
-    is_copied(rt, &asked)?;
-    has_places(rt, alloc, &chunk, &asked, places)?;
-    covers_together(rt, alloc, &chunk, &asked, places)
+    lists_all(rt, alloc, &chunk, &indexer(alloc, asked)?, places)
+}
+
+fn lists_all(
+    rt: &impl Abort,
+    alloc: Global,
+    chunk: &ChunkShape,
+    indexer: &Indexer,
+    places: &[u64],
+) -> Result<(), Fail> {
+    is_copied(rt, indexer)?;
+    has_places(rt, alloc, chunk, indexer, places)?;
+    covers_together(rt, alloc, chunk, indexer, places)
 }
 
 #[test]
@@ -197,7 +222,7 @@ const OUTSIDE: CodecError = CodecError::OutOfBounds;
 const WIDE: &'static [u64] = &[4294967296, 4294967296];
 
 /// Sizes, what is asked for, and the cause by which it is refused.
-const REFUSED: [(&'static [u64], Asked<'static>, CodecError); 17] = [
+const REFUSED: &'static [(&'static [u64], Asked<'static>, CodecError)] = &[
     (&[4, 4], Ranges(&[0..1]), AXES),
     (&[4, 4], Ranges(&[0..1, 0..1, 0..1]), AXES),
     (&[4, 4], Ranges(&[0..5, 0..4]), OUTSIDE),
@@ -231,8 +256,18 @@ fn refuses(
     let chunk = shape(alloc, sizes)?;
     let asked = indexer(alloc, asked)?;
     is(rt, "check", &asked.check(&chunk), &checked);
-    is_refused(rt, "places", asked.places(alloc, &chunk), cause)?;
-    is_refused(rt, "runs", asked.runs(alloc, &chunk), cause)
+    refuses_both(rt, alloc, &chunk, &asked, cause)
+}
+
+fn refuses_both(
+    rt: &impl Abort,
+    alloc: Global,
+    chunk: &ChunkShape,
+    indexer: &Indexer,
+    cause: CodecError,
+) -> Result<(), Fail> {
+    is_refused(rt, "places", indexer.places(alloc, chunk), cause)?;
+    is_refused(rt, "runs", indexer.runs(alloc, chunk), cause)
 }
 
 #[test]
@@ -244,7 +279,7 @@ fn is_refused_by_the_first_cause(rt: HostRuntime) -> Result<(), Fail> {
 }
 
 /// What lies inside chunks whose elements are too many to number.
-const INSIDE: [Asked<'static>; 4] = [
+const INSIDE: &'static [Asked<'static>] = &[
     Ranges(&[0..1, 0..1]),
     Ranges(&[0..0, 0..0]),
     Tuples(&[]),
@@ -259,7 +294,7 @@ fn is_refused_where_the_elements_are_too_many(rt: HostRuntime) -> Result<(), Fai
     Ok(())
 }
 
-const UNLIKE: [Asked<'static>; 8] = [
+const UNLIKE: &'static [Asked<'static>] = &[
     Tuples(&[&[1, 0], &[3, 3]]),
     Tuples(&[&[3, 3], &[1, 0]]),
     Tuples(&[&[1, 0]]),
@@ -270,28 +305,40 @@ const UNLIKE: [Asked<'static>; 8] = [
     Ranges(&[1..3, 0..2]),
 ];
 
-fn differs(rt: &impl Abort, alloc: Global, one: &Asked<'_>, other: &Asked<'_>) -> Result<(), Fail> {
-    is_not(
-        rt,
-        "another",
-        &indexer(alloc, one)?,
-        &indexer(alloc, other)?,
-    );
+fn differs(
+    rt: &impl Abort,
+    alloc: Global,
+    one: &Indexer,
+    other: &Asked<'_>,
+) -> Result<(), CodecError> {
+    is_not(rt, "another", one, &indexer(alloc, other)?);
+    Ok(())
+}
+
+/// The indexer is none of the first ones.
+fn differs_from_first(
+    rt: &impl Abort,
+    alloc: Global,
+    one: &Asked<'_>,
+    count: usize,
+) -> Result<(), CodecError> {
+    let one = indexer(alloc, one)?;
+    for other in UNLIKE.iter().take(count) {
+        differs(rt, alloc, &one, other)?;
+    }
     Ok(())
 }
 
 #[test]
 fn differs_by_kind_and_content(rt: HostRuntime) -> Result<(), Fail> {
     for (place, one) in UNLIKE.iter().enumerate() {
-        for other in UNLIKE.iter().take(place) {
-            differs(&rt, rt.alloc(), one, other)?;
-        }
+        differs_from_first(&rt, rt.alloc(), one, place)?;
     }
     Ok(())
 }
 
 /// The whole of axes that all have length 1.
-fn is_one_element(rt: &impl Abort, alloc: Global, ones: &[u64]) -> Result<(), Fail> {
+fn is_one_element(rt: &impl Abort, alloc: Global, ones: &[u64]) -> Result<(), CodecError> {
     let chunk = shape(alloc, ones)?;
     let whole = Indexer::Subset(ArraySubset::new_with_shape(alloc, ones.to_vec(alloc)?)?);
     has_places(rt, alloc, &chunk, &whole, &[0])?;
@@ -301,5 +348,5 @@ fn is_one_element(rt: &impl Abort, alloc: Global, ones: &[u64]) -> Result<(), Fa
 #[test]
 fn takes_a_million_axes(rt: HostRuntime) -> Result<(), Fail> {
     let ones = vec![in rt.alloc(); 1; 1_000_000]?;
-    is_one_element(&rt, rt.alloc(), ones.as_slice())
+    Ok(is_one_element(&rt, rt.alloc(), ones.as_slice())?)
 }

@@ -5,7 +5,7 @@ use std::test::Fail;
 use zarrs_chunk::{ravel_indices, unravel_index};
 
 /// Sizes, a tuple, and its number.
-const NUMBERED: [(&'static [u64], &'static [u64], Option<u64>); 12] = [
+const NUMBERED: &'static [(&'static [u64], &'static [u64], Option<u64>)] = &[
     (&[4, 4], &[1, 0], Some(4)),
     (&[4, 4], &[3, 3], Some(15)),
     (&[2, 3, 4], &[1, 0, 2], Some(14)),
@@ -50,7 +50,7 @@ fn numbers_a_tuple(rt: HostRuntime) -> Result<(), Fail> {
 }
 
 /// Sizes, a number, and its tuple.
-const NAMED: [(&'static [u64], u64, &'static [u64]); 5] = [
+const NAMED: &'static [(&'static [u64], u64, &'static [u64])] = &[
     (&[], 0, &[]),
     (&[4, 4], 4, &[1, 0]),
     (&[4, 4], 15, &[3, 3]),
@@ -76,7 +76,7 @@ fn names(
 }
 
 /// Sizes, and a number that no tuple has.
-const NAMELESS: [(&'static [u64], u64); 3] = [(&[], 1), (&[4, 4], 16), (&[2, 3, 4], 24)];
+const NAMELESS: &'static [(&'static [u64], u64)] = &[(&[], 1), (&[4, 4], 16), (&[2, 3, 4], 24)];
 
 fn names_none(rt: &impl Abort, alloc: Global, sizes: &[u64], number: u64) -> Result<(), Fail> {
     let chunk = shape(alloc, sizes)?;
@@ -90,6 +90,11 @@ fn names_the_tuple_of_a_number(rt: HostRuntime) -> Result<(), Fail> {
     for (sizes, number, tuple) in NAMED.iter() {
         names(&rt, rt.alloc(), sizes, *number, tuple)?;
     }
+    Ok(())
+}
+
+#[test]
+fn names_none_past_the_last(rt: HostRuntime) -> Result<(), Fail> {
     for (sizes, number) in NAMELESS.iter() {
         names_none(&rt, rt.alloc(), sizes, *number)?;
     }

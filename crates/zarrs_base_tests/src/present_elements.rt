@@ -1,7 +1,7 @@
 //! Elements under a mask: those that are present, taken out and put back.
 
 use crate::checks::{is, is_refused};
-use crate::containers::{Elements, Held, Type, container, data_type, holds, raw};
+use crate::containers::{Elements, Held, Type, container, data_type, holds, is_container, raw};
 use Held::{Fixed, Masked, Texts};
 use std::alloc::Global;
 use std::borrow::CowSlice;
@@ -24,7 +24,7 @@ type Row = (
 const TEXT: Held<'static> = Texts(b"xabcdef", &[1, 2, 4, 4, 7]);
 
 /// What stands under an absent element of an inner mask goes with it.
-const ROWS: [Row; 16] = [
+const ROWS: &'static [Row] = &[
     (Type::Bytes(1), &[], Fixed(&[]), Fixed(&[]), Fixed(&[])),
     (
         Type::Bytes(1),
@@ -132,8 +132,9 @@ fn taken_out(alloc: Global, told: &Type, held: &Held<'_>, mask: &[u8]) -> Elemen
 }
 
 fn put_back(alloc: Global, told: &Type, held: &Held<'_>, mask: &[u8]) -> Elements {
-    let mask = raw(alloc, mask)?;
-    container(alloc, held)?.expand_present(alloc, mask, &data_type(alloc, told)?)
+    let told = data_type(alloc, told)?;
+    let held = container(alloc, held)?;
+    held.expand_present(alloc, raw(alloc, mask)?, &told)
 }
 
 /// The elements of a row where they are put back, under its mask.
@@ -148,23 +149,23 @@ fn restores_all(
     alloc: Global,
     came: &ArrayBytes<'static>,
     row: &Row,
-) -> Result<(), Fail> {
-    is(rt, "put back", came, &under_mask(alloc, row)?);
+) -> Result<(), CodecError> {
+    is_container(rt, "put back", came, &under_mask(alloc, row)?);
     Ok(())
 }
 
-fn takes_out(rt: &impl Abort, alloc: Global, row: &Row) -> Result<(), Fail> {
+fn takes_out(rt: &impl Abort, alloc: Global, row: &Row) -> Result<(), CodecError> {
     let (told, mask, whole, present, _) = row;
     let answer = taken_out(alloc, told, whole, mask);
     holds(rt, alloc, "taken out", answer, present)
 }
 
-fn puts_back(rt: &impl Abort, alloc: Global, row: &Row) -> Result<(), Fail> {
+fn puts_back(rt: &impl Abort, alloc: Global, row: &Row) -> Result<(), CodecError> {
     let (told, mask, _, present, _) = row;
     restores_all(rt, alloc, &put_back(alloc, told, present, mask)?, row)
 }
 
-fn restores(rt: &impl Abort, alloc: Global, row: &Row) -> Result<(), Fail> {
+fn restores(rt: &impl Abort, alloc: Global, row: &Row) -> Result<(), CodecError> {
     takes_out(rt, alloc, row)?;
     puts_back(rt, alloc, row)
 }
@@ -177,19 +178,21 @@ fn puts_back_what_is_taken_out(rt: HostRuntime) -> Result<(), Fail> {
     Ok(())
 }
 
+fn borrowed_texts(alloc: Global, bytes: &'static [u8], offsets: &[usize]) -> Elements {
+    let offsets = ArrayBytesOffsets::new(offsets.to_vec(alloc)?)?;
+    ArrayBytes::new_vlen(CowSlice::Borrowed(bytes), offsets)
+}
+
 /// A container of borrowed bytes.
 fn borrowed(alloc: Global, held: &Held<'static>) -> Elements {
     match held {
-        Texts(bytes, offsets) => {
-            let offsets = ArrayBytesOffsets::new(offsets.to_vec(alloc)?)?;
-            ArrayBytes::new_vlen(CowSlice::Borrowed(*bytes), offsets)
-        }
+        Texts(bytes, offsets) => borrowed_texts(alloc, bytes, offsets),
         Fixed(bytes) => Ok(ArrayBytes::new_flen(CowSlice::Borrowed(*bytes))),
         _ => container(alloc, held),
     }
 }
 
-fn takes_out_borrowed(rt: &impl Abort, alloc: Global, row: &Row) -> Result<(), Fail> {
+fn takes_out_borrowed(rt: &impl Abort, alloc: Global, row: &Row) -> Result<(), CodecError> {
     let (told, mask, whole, present, _) = row;
     let answer = borrowed(alloc, whole)?.extract_present(alloc, mask, &data_type(alloc, told)?);
     holds(rt, alloc, "taken out", answer, present)
@@ -197,11 +200,12 @@ fn takes_out_borrowed(rt: &impl Abort, alloc: Global, row: &Row) -> Result<(), F
 
 fn put_back_borrowed(alloc: Global, row: &Row) -> Elements {
     let (told, mask, _, present, _) = row;
+    let told = data_type(alloc, told)?;
     let mask = CowSlice::Borrowed(*mask);
-    borrowed(alloc, present)?.expand_present(alloc, mask, &data_type(alloc, told)?)
+    borrowed(alloc, present)?.expand_present(alloc, mask, &told)
 }
 
-fn restores_borrowed(rt: &impl Abort, alloc: Global, row: &Row) -> Result<(), Fail> {
+fn restores_borrowed(rt: &impl Abort, alloc: Global, row: &Row) -> Result<(), CodecError> {
     takes_out_borrowed(rt, alloc, row)?;
     restores_all(rt, alloc, &put_back_borrowed(alloc, row)?, row)
 }
@@ -214,7 +218,7 @@ fn puts_back_borrowed_elements(rt: HostRuntime) -> Result<(), Fail> {
     Ok(())
 }
 
-const COUNTS: [(&'static [u8], Result<u64, CodecError>); 6] = [
+const COUNTS: &'static [(&'static [u8], Result<u64, CodecError>)] = &[
     (&[], Ok(0)),
     (&[0, 0], Ok(0)),
     (&[1], Ok(1)),
@@ -232,7 +236,9 @@ fn counts_what_is_present(rt: HostRuntime) -> Result<(), Fail> {
 }
 
 /// A type, elements, a mask, and why they can't be taken out.
-const NOT_TAKEN: [(Type, Held<'static>, &'static [u8], CodecError); 2] = [
+type RefusedRow = (Type, Held<'static>, &'static [u8], CodecError);
+
+const NOT_TAKEN: &'static [RefusedRow] = &[
     (Type::Text, Fixed(&[1]), &[1], CodecError::ArrayBytesKind),
     (
         Type::Bytes(1),
@@ -246,7 +252,7 @@ const NOT_TAKEN: [(Type, Held<'static>, &'static [u8], CodecError); 2] = [
 ];
 
 /// A type, elements, a mask, and why they can't be put back.
-const NOT_PUT: [(Type, Held<'static>, &'static [u8], CodecError); 4] = [
+const NOT_PUT: &'static [RefusedRow] = &[
     (Type::Text, Fixed(&[1]), &[1, 2], CodecError::MaskValue),
     (Type::Text, Fixed(&[1]), &[1, 0], CodecError::ArrayBytesKind),
     (
@@ -268,13 +274,26 @@ const NOT_PUT: [(Type, Held<'static>, &'static [u8], CodecError); 4] = [
 
 #[test]
 fn is_refused_by_the_first_cause(rt: HostRuntime) -> Result<(), Fail> {
-    for (told, held, mask, cause) in NOT_TAKEN.iter() {
-        let answer = taken_out(rt.alloc(), told, held, mask);
-        is_refused(&rt, "taken out", answer, *cause)?;
+    for row in NOT_TAKEN.iter() {
+        takes_not(&rt, rt.alloc(), row)?;
     }
-    for (told, held, mask, cause) in NOT_PUT.iter() {
-        let answer = put_back(rt.alloc(), told, held, mask);
-        is_refused(&rt, "put back", answer, *cause)?;
+    Ok(())
+}
+
+fn takes_not(rt: &impl Abort, alloc: Global, row: &RefusedRow) -> Result<(), Fail> {
+    let (told, held, mask, cause) = row;
+    is_refused(rt, "taken out", taken_out(alloc, told, held, mask), *cause)
+}
+
+fn puts_not(rt: &impl Abort, alloc: Global, row: &RefusedRow) -> Result<(), Fail> {
+    let (told, held, mask, cause) = row;
+    is_refused(rt, "put back", put_back(alloc, told, held, mask), *cause)
+}
+
+#[test]
+fn putting_back_is_refused_by_the_first_cause(rt: HostRuntime) -> Result<(), Fail> {
+    for row in NOT_PUT.iter() {
+        puts_not(&rt, rt.alloc(), row)?;
     }
     Ok(())
 }

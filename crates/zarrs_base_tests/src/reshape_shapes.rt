@@ -1,4 +1,4 @@
-use crate::checks::{is, is_not};
+use crate::checks::{are, is, is_not};
 use std::alloc::Global;
 use std::process::Abort;
 use std::test::Fail;
@@ -30,7 +30,7 @@ fn dims(alloc: Global, told: &[Told]) -> Result<Vec<ReshapeDim>, PluginCreateErr
 }
 
 /// Sizes of a reshaped chunk, no two of them equal.
-const SHAPES: [&'static [Told]; 7] = [
+const SHAPES: &'static [&'static [Told]] = &[
     &[],
     &[Size(1)],
     &[Auto],
@@ -41,7 +41,7 @@ const SHAPES: [&'static [Told]; 7] = [
 ];
 
 /// Sizes that are refused, and why: a zero comes before two automatic ones.
-const REFUSED: [(&'static [Told], PluginCreateError); 4] = [
+const REFUSED: &'static [(&'static [Told], PluginCreateError)] = &[
     (&[Size(0)], PluginCreateError::ZeroSize),
     (
         &[Size(3), Input(&[0]), Size(0)],
@@ -51,15 +51,23 @@ const REFUSED: [(&'static [Told], PluginCreateError); 4] = [
     (&[Auto, Auto, Size(0)], PluginCreateError::ZeroSize),
 ];
 
-fn has_dims(rt: &impl Abort, alloc: Global, told: &[Told]) -> Result<(), Fail> {
-    let shape = ReshapeShape::new(dims(alloc, told)?)?;
+fn shape(alloc: Global, told: &[Told]) -> Result<ReshapeShape, PluginCreateError> {
+    ReshapeShape::new(dims(alloc, told)?)
+}
+
+fn has_dims(rt: &impl Abort, alloc: Global, told: &[Told]) -> Result<(), PluginCreateError> {
+    let shape = shape(alloc, told)?;
     is(rt, "copy", &shape.clone()?, &shape);
-    is(
-        rt,
-        "sizes",
-        &shape.as_slice(),
-        &dims(alloc, told)?.as_slice(),
-    );
+    are_dims(rt, alloc, shape.as_slice(), told)
+}
+
+fn are_dims(
+    rt: &impl Abort,
+    alloc: Global,
+    came: &[ReshapeDim],
+    told: &[Told],
+) -> Result<(), PluginCreateError> {
+    are(rt, "sizes", came, dims(alloc, told)?.as_slice());
     Ok(())
 }
 
@@ -68,7 +76,7 @@ fn is_refused(
     alloc: Global,
     told: &[Told],
     cause: PluginCreateError,
-) -> Result<(), Fail> {
+) -> Result<(), PluginCreateError> {
     let came = ReshapeShape::new(dims(alloc, told)?).err();
     is(rt, "refused", &came, &Some(cause));
     Ok(())
@@ -76,38 +84,54 @@ fn is_refused(
 
 #[test]
 fn has_no_zero_and_one_automatic_size(rt: HostRuntime) -> Result<(), Fail> {
-    for told in SHAPES.iter() {
-        has_dims(&rt, rt.alloc(), told)?;
-    }
     for (told, cause) in REFUSED.iter() {
         is_refused(&rt, rt.alloc(), told, *cause)?;
     }
     Ok(())
 }
 
-fn differs(rt: &impl Abort, alloc: Global, one: &[Told], other: &[Told]) -> Result<(), Fail> {
-    let shape = ReshapeShape::new(dims(alloc, one)?)?;
-    is_not(
-        rt,
-        "another",
-        &shape,
-        &ReshapeShape::new(dims(alloc, other)?)?,
-    );
+#[test]
+fn has_its_sizes(rt: HostRuntime) -> Result<(), Fail> {
+    for told in SHAPES.iter() {
+        has_dims(&rt, rt.alloc(), told)?;
+    }
+    Ok(())
+}
+
+fn differs(
+    rt: &impl Abort,
+    alloc: Global,
+    one: &ReshapeShape,
+    other: &[Told],
+) -> Result<(), PluginCreateError> {
+    is_not(rt, "another", one, &shape(alloc, other)?);
+    Ok(())
+}
+
+/// The shape is none of the first ones.
+fn differs_from_first(
+    rt: &impl Abort,
+    alloc: Global,
+    one: &[Told],
+    count: usize,
+) -> Result<(), PluginCreateError> {
+    let one = shape(alloc, one)?;
+    for other in SHAPES.iter().take(count) {
+        differs(rt, alloc, &one, other)?;
+    }
     Ok(())
 }
 
 #[test]
 fn differs_by_its_sizes(rt: HostRuntime) -> Result<(), Fail> {
     for (place, one) in SHAPES.iter().enumerate() {
-        for other in SHAPES.iter().take(place) {
-            differs(&rt, rt.alloc(), one, other)?;
-        }
+        differs_from_first(&rt, rt.alloc(), one, place)?;
     }
     Ok(())
 }
 
 /// Single sizes, no two of them equal.
-const DIMS: [Told; 6] = [
+const DIMS: &'static [Told] = &[
     Size(1),
     Size(2),
     Auto,
@@ -116,24 +140,48 @@ const DIMS: [Told; 6] = [
     Input(&[1, 0]),
 ];
 
-fn copies(rt: &impl Abort, alloc: Global, told: &Told) -> Result<(), Fail> {
+fn copies(rt: &impl Abort, alloc: Global, told: &Told) -> Result<(), PluginCreateError> {
     let size = dim(alloc, told)?;
     is(rt, "copy", &size.clone()?, &size);
     Ok(())
 }
 
-fn is_another(rt: &impl Abort, alloc: Global, one: &Told, other: &Told) -> Result<(), Fail> {
-    is_not(rt, "another", &dim(alloc, one)?, &dim(alloc, other)?);
+#[test]
+fn sizes_are_copied(rt: HostRuntime) -> Result<(), Fail> {
+    for told in DIMS.iter() {
+        copies(&rt, rt.alloc(), told)?;
+    }
+    Ok(())
+}
+
+fn is_another(
+    rt: &impl Abort,
+    alloc: Global,
+    one: &ReshapeDim,
+    other: &Told,
+) -> Result<(), PluginCreateError> {
+    is_not(rt, "another", one, &dim(alloc, other)?);
+    Ok(())
+}
+
+/// The size is none of the first ones.
+fn is_none_of_first(
+    rt: &impl Abort,
+    alloc: Global,
+    one: &Told,
+    count: usize,
+) -> Result<(), PluginCreateError> {
+    let one = dim(alloc, one)?;
+    for other in DIMS.iter().take(count) {
+        is_another(rt, alloc, &one, other)?;
+    }
     Ok(())
 }
 
 #[test]
 fn sizes_differ_by_kind_and_content(rt: HostRuntime) -> Result<(), Fail> {
     for (place, one) in DIMS.iter().enumerate() {
-        copies(&rt, rt.alloc(), one)?;
-        for other in DIMS.iter().take(place) {
-            is_another(&rt, rt.alloc(), one, other)?;
-        }
+        is_none_of_first(&rt, rt.alloc(), one, place)?;
     }
     Ok(())
 }

@@ -1,16 +1,16 @@
 //! Elements taken and written by runs of places, each a start and a length.
 
 use crate::checks::{are, is_refused};
-use crate::containers::{Held, Type, container, data_type, holds};
+use crate::containers::{Elements, Held, Type, container, data_type, holds};
 use Held::{Fixed, Masked, Texts};
 use std::alloc::Global;
 use std::process::Abort;
 use std::test::Fail;
-use zarrs_array_bytes::{ArrayBytes, update_runs};
+use zarrs_array_bytes::update_runs;
 use zarrs_chunk::{CodecError, runs_of_places};
 
 /// Places, and their runs: neighbours that follow one another are one.
-const RUNS: [(&'static [u64], &'static [(u64, u64)]); 9] = [
+const RUNS: &'static [(&'static [u64], &'static [(u64, u64)])] = &[
     (&[], &[]),
     (&[7], &[(7, 1)]),
     (&[3, 4, 5], &[(3, 3)]),
@@ -47,7 +47,7 @@ fn places_have_runs(rt: HostRuntime) -> Result<(), Fail> {
 }
 
 /// Types, five elements of each, and those of the places 3, 4, 0, 1 and 0.
-const TAKEN: [(Type, Held<'static>, Held<'static>); 3] = [
+const TAKEN: &'static [(Type, Held<'static>, Held<'static>)] = &[
     (
         Type::Bytes(2),
         Fixed(&[0, 1, 2, 3, 4, 5, 6, 7, 8, 9]),
@@ -65,17 +65,20 @@ const TAKEN: [(Type, Held<'static>, Held<'static>); 3] = [
     ),
 ];
 
+fn taken(alloc: Global, told: &Type, held: &Held<'_>) -> Elements {
+    let array = container(alloc, held)?;
+    let told = data_type(alloc, told)?;
+    array.extract_runs(alloc, &[(3, 2), (0, 2), (0, 1)], 5, &told)
+}
+
 fn takes(
     rt: &impl Abort,
     alloc: Global,
     told: &Type,
     held: &Held<'_>,
     wanted: &Held<'_>,
-) -> Result<(), Fail> {
-    let array = container(alloc, held)?;
-    let told = data_type(alloc, told)?;
-    let answer = array.extract_runs(alloc, &[(3, 2), (0, 2), (0, 1)], 5, &told);
-    holds(rt, alloc, "taken", answer, wanted)
+) -> Result<(), CodecError> {
+    holds(rt, alloc, "taken", taken(alloc, told, held), wanted)
 }
 
 #[test]
@@ -88,7 +91,7 @@ fn takes_elements_by_runs(rt: HostRuntime) -> Result<(), Fail> {
 
 /// Types, five elements of each, four new ones for the places 3, 4, 0 and 3, and the elements
 /// afterwards.
-const WRITTEN: [(Type, Held<'static>, Held<'static>, Held<'static>); 3] = [
+const WRITTEN: &'static [(Type, Held<'static>, Held<'static>, Held<'static>)] = &[
     (
         Type::Bytes(2),
         Fixed(&[0, 1, 2, 3, 4, 5, 6, 7, 8, 9]),
@@ -109,57 +112,53 @@ const WRITTEN: [(Type, Held<'static>, Held<'static>, Held<'static>); 3] = [
     ),
 ];
 
+fn written(alloc: Global, told: &Type, old: &Held<'_>, new: &Held<'_>) -> Elements {
+    let told = data_type(alloc, told)?;
+    let new = container(alloc, new)?;
+    let old = container(alloc, old)?;
+    update_runs(alloc, old, 5, &[(3, 2), (0, 1), (3, 1)], &new, &told)
+}
+
 fn writes(
     rt: &impl Abort,
     alloc: Global,
     told: &Type,
-    old: ArrayBytes<'static>,
-    new: &ArrayBytes<'static>,
+    old: &Held<'_>,
+    new: &Held<'_>,
     wanted: &Held<'_>,
-) -> Result<(), Fail> {
-    let told = data_type(alloc, told)?;
-    let answer = update_runs(alloc, old, 5, &[(3, 2), (0, 1), (3, 1)], new, &told);
-    holds(rt, alloc, "written", answer, wanted)
+) -> Result<(), CodecError> {
+    holds(rt, alloc, "written", written(alloc, told, old, new), wanted)
 }
 
 #[test]
 fn writes_elements_by_runs(rt: HostRuntime) -> Result<(), Fail> {
-    let alloc = rt.alloc();
     for (told, old, new, wanted) in WRITTEN.iter() {
-        writes(
-            &rt,
-            alloc,
-            told,
-            container(alloc, old)?,
-            &container(alloc, new)?,
-            wanted,
-        )?;
+        writes(&rt, rt.alloc(), told, old, new, wanted)?;
     }
     Ok(())
 }
 
-/// Four elements where five are due.
-fn refuses(rt: &impl Abort, alloc: Global, four: ArrayBytes<'static>) -> Result<(), Fail> {
+/// Four elements, where five are due.
+const FOUR: Held<'static> = Fixed(&[1, 2, 3, 4]);
+
+const FOUR_FOR_FIVE: CodecError = CodecError::InvalidBytesLength {
+    len: 4,
+    expected: 5,
+};
+
+fn first_taken(alloc: Global) -> Elements {
     let byte = data_type(alloc, &Type::Bytes(1))?;
-    let (len, expected) = (4, 5);
-    let cause = CodecError::InvalidBytesLength { len, expected };
-    is_refused(
-        rt,
-        "taken",
-        four.extract_runs(alloc, &[(0, 1)], 5, &byte),
-        cause,
-    )?;
+    container(alloc, &FOUR)?.extract_runs(alloc, &[(0, 1)], 5, &byte)
+}
+
+fn first_written(alloc: Global) -> Elements {
+    let byte = data_type(alloc, &Type::Bytes(1))?;
     let new = container(alloc, &Fixed(&[1]))?;
-    is_refused(
-        rt,
-        "written",
-        update_runs(alloc, four, 5, &[(0, 1)], &new, &byte),
-        cause,
-    )
+    update_runs(alloc, container(alloc, &FOUR)?, 5, &[(0, 1)], &new, &byte)
 }
 
 #[test]
 fn refuses_elements_of_another_number(rt: HostRuntime) -> Result<(), Fail> {
-    let four = container(rt.alloc(), &Fixed(&[1, 2, 3, 4]))?;
-    refuses(&rt, rt.alloc(), four)
+    is_refused(&rt, "taken", first_taken(rt.alloc()), FOUR_FOR_FIVE)?;
+    is_refused(&rt, "written", first_written(rt.alloc()), FOUR_FOR_FIVE)
 }

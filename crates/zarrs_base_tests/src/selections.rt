@@ -5,7 +5,7 @@ use Held::{Fixed, Masked, MaskedTexts, Nested, Texts};
 use std::alloc::Global;
 use std::process::Abort;
 use std::test::Fail;
-use zarrs_chunk::CodecError;
+use zarrs_chunk::{ChunkShape, CodecError, Indexer};
 
 fn selected(
     alloc: Global,
@@ -14,14 +14,20 @@ fn selected(
     sizes: &[u64],
     asked: &Asked<'_>,
 ) -> Elements {
-    let array = container(alloc, held)?;
+    let chunk = shape(alloc, sizes)?;
     let asked = indexer(alloc, asked)?;
-    array.extract_array_subset(
-        alloc,
-        &asked,
-        &shape(alloc, sizes)?,
-        &data_type(alloc, told)?,
-    )
+    part(alloc, told, held, &chunk, &asked)
+}
+
+fn part(
+    alloc: Global,
+    told: &Type,
+    held: &Held<'_>,
+    chunk: &ChunkShape,
+    asked: &Indexer,
+) -> Elements {
+    let told = data_type(alloc, told)?;
+    container(alloc, held)?.extract_array_subset(alloc, asked, chunk, &told)
 }
 
 const NUMBERS: Held<'static> = Fixed(&[0, 1, 2, 3, 4, 5, 6, 7, 8, 9, 10, 11, 12, 13, 14, 15]);
@@ -38,7 +44,7 @@ type Row = (
     Held<'static>,
 );
 
-const NUMBERS_SELECTED: [Row; 5] = [
+const NUMBERS_SELECTED: &'static [Row] = &[
     (
         Type::Bytes(1),
         NUMBERS,
@@ -76,7 +82,7 @@ const NUMBERS_SELECTED: [Row; 5] = [
     ),
 ];
 
-const RUNS_OF_TEXTS: [Row; 7] = [
+const RUNS_OF_TEXTS: &'static [Row] = &[
     (
         Type::Text,
         Texts(b"xabc", &[1, 2, 4]),
@@ -123,7 +129,7 @@ const RUNS_OF_TEXTS: [Row; 7] = [
 ];
 
 /// With repeats and neighbours.
-const LISTS_OF_TEXTS: [Row; 5] = [
+const LISTS_OF_TEXTS: &'static [Row] = &[
     (
         Type::Text,
         TEXTS,
@@ -155,7 +161,7 @@ const LISTS_OF_TEXTS: [Row; 5] = [
     ),
 ];
 
-const UNDER_MASKS: [Row; 4] = [
+const UNDER_MASKS: &'static [Row] = &[
     (
         Type::Optional(1),
         Masked(&[1, 0, 1], &[5, 9, 7]),
@@ -186,7 +192,7 @@ const UNDER_MASKS: [Row; 4] = [
     ),
 ];
 
-fn selects(rt: &impl Abort, alloc: Global, row: &Row) -> Result<(), Fail> {
+fn selects(rt: &impl Abort, alloc: Global, row: &Row) -> Result<(), CodecError> {
     let (told, held, sizes, asked, wanted) = row;
     let answer = selected(alloc, told, held, sizes, asked);
     holds(rt, alloc, "selected", answer, wanted)
@@ -226,7 +232,7 @@ fn selects_elements_under_masks(rt: HostRuntime) -> Result<(), Fail> {
 
 /// Elements of a chunk of 4 by 4, what is asked for, and why it is refused. The indexer comes before
 /// the elements.
-const REFUSED: [(Type, Held<'static>, Asked<'static>, CodecError); 5] = [
+const REFUSED: &'static [(Type, Held<'static>, Asked<'static>, CodecError)] = &[
     (
         Type::Bytes(1),
         NUMBERS,
@@ -257,11 +263,22 @@ const REFUSED: [(Type, Held<'static>, Asked<'static>, CodecError); 5] = [
     ),
 ];
 
+fn refuses(
+    rt: &impl Abort,
+    alloc: Global,
+    told: &Type,
+    held: &Held<'_>,
+    asked: &Asked<'_>,
+    cause: CodecError,
+) -> Result<(), Fail> {
+    let answer = selected(alloc, told, held, &[4, 4], asked);
+    is_refused(rt, "selected", answer, cause)
+}
+
 #[test]
 fn is_refused_by_the_first_cause(rt: HostRuntime) -> Result<(), Fail> {
     for (told, held, asked, cause) in REFUSED.iter() {
-        let answer = selected(rt.alloc(), told, held, &[4, 4], asked);
-        is_refused(&rt, "selected", answer, *cause)?;
+        refuses(&rt, rt.alloc(), told, held, asked, *cause)?;
     }
     Ok(())
 }
@@ -269,7 +286,7 @@ fn is_refused_by_the_first_cause(rt: HostRuntime) -> Result<(), Fail> {
 const WIDTHS: [usize; 6] = [1, 2, 3, 4, 8, 16];
 
 /// What is asked for of a chunk of 3 by 5, and its places.
-const PLACES: [(Asked<'static>, &'static [u64]); 3] = [
+const PLACES: &'static [(Asked<'static>, &'static [u64])] = &[
     (Ranges(&[1..2, 1..4]), &[6, 7, 8]),
     (Ranges(&[1..3, 0..5]), &[5, 6, 7, 8, 9, 10, 11, 12, 13, 14]),
     (
@@ -287,17 +304,34 @@ fn selects_width(
 ) -> Result<(), Fail> {
     let bytes = numbered(alloc, size.saturating_mul(15))?;
     let wanted = elements_at(alloc, bytes.as_slice(), size, places)?;
-    let held = Fixed(bytes.as_slice());
-    let answer = selected(alloc, &Type::Bytes(size as u64), &held, &[3, 5], asked);
-    holds(rt, alloc, "selected", answer, &Fixed(wanted.as_slice()))
+    selects_bytes(rt, alloc, size, asked, bytes.as_slice(), wanted.as_slice())?;
+    Ok(())
+}
+
+fn selects_bytes(
+    rt: &impl Abort,
+    alloc: Global,
+    size: usize,
+    asked: &Asked<'_>,
+    bytes: &[u8],
+    wanted: &[u8],
+) -> Result<(), CodecError> {
+    let told = Type::Bytes(size as u64);
+    let answer = selected(alloc, &told, &Fixed(bytes), &[3, 5], asked);
+    holds(rt, alloc, "selected", answer, &Fixed(wanted))
 }
 
 #[test]
 fn selects_elements_of_each_width(rt: HostRuntime) -> Result<(), Fail> {
     for size in WIDTHS.iter() {
-        for (asked, places) in PLACES.iter() {
-            selects_width(&rt, rt.alloc(), *size, asked, places)?;
-        }
+        selects_places(&rt, rt.alloc(), *size)?;
+    }
+    Ok(())
+}
+
+fn selects_places(rt: &impl Abort, alloc: Global, size: usize) -> Result<(), Fail> {
+    for (asked, places) in PLACES.iter() {
+        selects_width(rt, alloc, size, asked, places)?;
     }
     Ok(())
 }

@@ -26,7 +26,7 @@ fn is_made_of_ranges(rt: HostRuntime) -> Result<(), Fail> {
     has_parts(&rt, &made, &[1, 0, 5], &[2, 1, 0], Ok(0))
 }
 
-const REVERSED: [&'static [Range<u64>]; 3] = [
+const REVERSED: &'static [&'static [Range<u64>]] = &[
     &[3..1],
     &[3..1, 0..1],
     &[0..1, 18446744073709551615..0],
@@ -50,7 +50,7 @@ fn between(alloc: Global, start: &[u64], lengths: &[u64]) -> Result<ArraySubset,
 }
 
 /// Starts, lengths, and how many elements.
-const STARTING: [(&'static [u64], &'static [u64], u64); 4] = [
+const STARTING: &'static [(&'static [u64], &'static [u64], u64)] = &[
     (&[], &[], 1),
     (&[1, 0], &[2, 1], 2),
     (&[18446744073709551615], &[0], 0),
@@ -69,7 +69,7 @@ fn starts(
 }
 
 /// Starts and lengths that are refused, and why.
-const STARTING_NOWHERE: [(&'static [u64], &'static [u64], CodecError); 4] = [
+const STARTING_NOWHERE: &'static [(&'static [u64], &'static [u64], CodecError)] = &[
     (&[18446744073709551615], &[1], CodecError::Overflow),
     (&[0, 1], &[1, 18446744073709551615], CodecError::Overflow),
     (&[1], &[2, 1], CodecError::IncompatibleDimensionality),
@@ -86,15 +86,30 @@ fn is_made_of_start_and_shape(rt: HostRuntime) -> Result<(), Fail> {
     for (start, lengths, count) in STARTING.iter() {
         starts(&rt, rt.alloc(), start, lengths, *count)?;
     }
+    Ok(())
+}
+
+fn starts_nowhere(
+    rt: &impl Abort,
+    alloc: Global,
+    start: &[u64],
+    lengths: &[u64],
+    cause: CodecError,
+) -> Result<(), Fail> {
+    let answer = between(alloc, start, lengths);
+    is_refused(rt, "start and shape", answer, cause)
+}
+
+#[test]
+fn is_refused_by_axes_and_then_by_ends(rt: HostRuntime) -> Result<(), Fail> {
     for (start, lengths, cause) in STARTING_NOWHERE.iter() {
-        let answer = between(rt.alloc(), start, lengths);
-        is_refused(&rt, "start and shape", answer, *cause)?;
+        starts_nowhere(&rt, rt.alloc(), start, lengths, *cause)?;
     }
     Ok(())
 }
 
 /// Lengths, as many zeros, and how many elements.
-const WHOLES: [(&'static [u64], &'static [u64], Result<u64, CodecError>); 5] = [
+const WHOLES: &'static [(&'static [u64], &'static [u64], Result<u64, CodecError>)] = &[
     (&[], &[], Ok(1)),
     (&[4, 5], &[0, 0], Ok(20)),
     (
@@ -138,19 +153,31 @@ const UNLIKE: [&'static [Range<u64>]; 5] = [
 fn differs(
     rt: &impl Abort,
     alloc: Global,
-    ranges: &[Range<u64>],
+    subset: &ArraySubset,
     others: &[Range<u64>],
-) -> Result<(), Fail> {
+) -> Result<(), CodecError> {
+    is_not(
+        rt,
+        "another",
+        subset,
+        &ArraySubset::new_with_ranges(alloc, others)?,
+    );
+    Ok(())
+}
+
+fn differs_from_others(
+    rt: &impl Abort,
+    alloc: Global,
+    ranges: &[Range<u64>],
+) -> Result<(), CodecError> {
     let subset = ArraySubset::new_with_ranges(alloc, ranges)?;
-    let other = ArraySubset::new_with_ranges(alloc, others)?;
-    is_not(rt, "another", &subset, &other);
+    for others in UNLIKE[1..].iter() {
+        differs(rt, alloc, &subset, others)?;
+    }
     Ok(())
 }
 
 #[test]
 fn differs_by_its_ranges(rt: HostRuntime) -> Result<(), Fail> {
-    for others in UNLIKE[1..].iter() {
-        differs(&rt, rt.alloc(), UNLIKE[0], others)?;
-    }
-    Ok(())
+    Ok(differs_from_others(&rt, rt.alloc(), UNLIKE[0])?)
 }

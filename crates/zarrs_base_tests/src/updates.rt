@@ -1,4 +1,4 @@
-use crate::checks::{Asked, indexer, is, is_refused, shape};
+use crate::checks::{Asked, indexer, is_refused, shape};
 use crate::containers::{
     Elements, Held, Type, container, data_type, elements_after, holds, numbered, repeated,
 };
@@ -9,7 +9,7 @@ use std::borrow::CowSlice;
 use std::process::Abort;
 use std::test::Fail;
 use zarrs_array_bytes::{ArrayBytes, update_array_bytes};
-use zarrs_chunk::CodecError;
+use zarrs_chunk::{ChunkShape, CodecError, Indexer};
 
 fn updated(
     alloc: Global,
@@ -19,22 +19,22 @@ fn updated(
     asked: &Asked<'_>,
     new: &Held<'_>,
 ) -> Elements {
-    let old = container(alloc, old)?;
-    let new = container(alloc, new)?;
-    written(alloc, told, old, sizes, asked, &new)
+    let chunk = shape(alloc, sizes)?;
+    let asked = indexer(alloc, asked)?;
+    written(alloc, told, old, &chunk, &asked, new)
 }
 
 fn written(
     alloc: Global,
     told: &Type,
-    old: ArrayBytes<'_>,
-    sizes: &[u64],
-    asked: &Asked<'_>,
-    new: &ArrayBytes<'_>,
+    old: &Held<'_>,
+    chunk: &ChunkShape,
+    asked: &Indexer,
+    new: &Held<'_>,
 ) -> Elements {
-    let chunk = shape(alloc, sizes)?;
-    let asked = indexer(alloc, asked)?;
-    update_array_bytes(alloc, old, &chunk, &asked, new, &data_type(alloc, told)?)
+    let told = data_type(alloc, told)?;
+    let new = container(alloc, new)?;
+    update_array_bytes(alloc, container(alloc, old)?, chunk, asked, &new, &told)
 }
 
 /// The texts "a", "bc", "", "def" and "", behind a byte of no element.
@@ -45,14 +45,16 @@ const NEW_TEXTS: Held<'static> = Texts(b"wXYZ", &[1, 2, 2, 4]);
 
 /// A type, a chunk and its sizes, where it is written, the new elements, and the chunk afterwards.
 /// Of a tuple that comes twice the last one stands.
-const UPDATED: [(
+type Row = (
     Type,
     Held<'static>,
     &'static [u64],
     Asked<'static>,
     Held<'static>,
     Held<'static>,
-); 17] = [
+);
+
+const UPDATED: &'static [Row] = &[
     (
         Type::Bytes(1),
         Fixed(&[1, 2, 3, 4]),
@@ -194,24 +196,31 @@ const UPDATED: [(
     ),
 ];
 
+fn updates(rt: &impl Abort, alloc: Global, row: &Row) -> Result<(), CodecError> {
+    let (told, old, sizes, asked, new, wanted) = row;
+    let answer = updated(alloc, told, old, sizes, asked, new);
+    holds(rt, alloc, "updated", answer, wanted)
+}
+
 #[test]
 fn updates_in_the_order_asked_for(rt: HostRuntime) -> Result<(), Fail> {
-    for (told, old, sizes, asked, new, wanted) in UPDATED.iter() {
-        let answer = updated(rt.alloc(), told, old, sizes, asked, new);
-        holds(&rt, rt.alloc(), "updated", answer, wanted)?;
+    for row in UPDATED.iter() {
+        updates(&rt, rt.alloc(), row)?;
     }
     Ok(())
 }
 
 /// A type, a chunk of 2 by 2, where it is written, the new elements, and why they are refused: the
 /// indexer first, then the chunk, then the new elements.
-const REFUSED: [(
+type RefusedRow = (
     Type,
     Held<'static>,
     Asked<'static>,
     Held<'static>,
     CodecError,
-); 5] = [
+);
+
+const REFUSED: &'static [RefusedRow] = &[
     (
         Type::Text,
         Fixed(&[1, 2, 3, 4]),
@@ -252,11 +261,16 @@ const REFUSED: [(
     ),
 ];
 
+fn refuses(rt: &impl Abort, alloc: Global, row: &RefusedRow) -> Result<(), Fail> {
+    let (told, old, asked, new, cause) = row;
+    let answer = updated(alloc, told, old, &[2, 2], asked, new);
+    is_refused(rt, "updated", answer, *cause)
+}
+
 #[test]
 fn is_refused_by_the_first_cause(rt: HostRuntime) -> Result<(), Fail> {
-    for (told, old, asked, new, cause) in REFUSED.iter() {
-        let answer = updated(rt.alloc(), told, old, &[2, 2], asked, new);
-        is_refused(&rt, "updated", answer, *cause)?;
+    for row in REFUSED.iter() {
+        refuses(&rt, rt.alloc(), row)?;
     }
     Ok(())
 }
@@ -264,7 +278,7 @@ fn is_refused_by_the_first_cause(rt: HostRuntime) -> Result<(), Fail> {
 const WIDTHS: [usize; 6] = [1, 2, 3, 4, 8, 16];
 
 /// Where a chunk of 3 by 5 is written, and the places.
-const PLACES: [(Asked<'static>, &'static [u64]); 3] = [
+const PLACES: &'static [(Asked<'static>, &'static [u64])] = &[
     (Ranges(&[1..2, 1..4]), &[6, 7, 8]),
     (Ranges(&[1..3, 0..5]), &[5, 6, 7, 8, 9, 10, 11, 12, 13, 14]),
     (
@@ -302,29 +316,45 @@ fn becomes(
     old: &[u8],
     new: &[u8],
 ) -> Result<(), Fail> {
+    let wanted = elements_after(alloc, old, size, places, new)?;
     let told = Type::Bytes(size as u64);
     let answer = updated(alloc, &told, &Fixed(old), &[3, 5], asked, &Fixed(new));
-    let wanted = elements_after(alloc, old, size, places, new)?;
-    holds(rt, alloc, "updated", answer, &Fixed(wanted.as_slice()))
+    Ok(holds(rt, alloc, "updated", answer, &Fixed(wanted.as_slice()))?)
 }
 
 #[test]
 fn updates_elements_of_each_width(rt: HostRuntime) -> Result<(), Fail> {
     for size in WIDTHS.iter() {
-        for (asked, places) in PLACES.iter() {
-            updates_width(&rt, rt.alloc(), *size, asked, places)?;
-        }
+        updates_places(&rt, rt.alloc(), *size)?;
     }
     Ok(())
 }
 
+fn updates_places(rt: &impl Abort, alloc: Global, size: usize) -> Result<(), Fail> {
+    for (asked, places) in PLACES.iter() {
+        updates_width(rt, alloc, size, asked, places)?;
+    }
+    Ok(())
+}
+
+fn lent(bytes: &'static [u8]) -> ArrayBytes<'static> {
+    ArrayBytes::new_flen(CowSlice::Borrowed(bytes))
+}
+
+/// The second of two words is written, all of them lent.
+fn written_lent(alloc: Global, chunk: &ChunkShape, asked: &Indexer) -> Elements {
+    let told = data_type(alloc, &Type::Bytes(2))?;
+    let new = lent(&[5, 6]);
+    update_array_bytes(alloc, lent(&[1, 2, 3, 4]), chunk, asked, &new, &told)
+}
+
+fn updated_lent(alloc: Global) -> Elements {
+    let chunk = shape(alloc, &[2])?;
+    written_lent(alloc, &chunk, &indexer(alloc, &Ranges(&[1..2]))?)
+}
+
 #[test]
 fn updates_borrowed_bytes(rt: HostRuntime) -> Result<(), Fail> {
-    let old = ArrayBytes::new_flen(CowSlice::Borrowed([1, 2, 3, 4].as_slice()));
-    let new = ArrayBytes::new_flen(CowSlice::Borrowed([5, 6].as_slice()));
-    let second = Ranges(&[1..2]);
-    let after = written(rt.alloc(), &Type::Bytes(2), old, &[2], &second, &new)?;
-    let wanted = container(rt.alloc(), &Fixed(&[1, 2, 5, 6]))?;
-    is(&rt, "updated", &after, &wanted);
-    Ok(())
+    let answer = updated_lent(rt.alloc());
+    Ok(holds(&rt, rt.alloc(), "updated", answer, &Fixed(&[1, 2, 5, 6]))?)
 }

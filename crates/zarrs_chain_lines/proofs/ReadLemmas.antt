@@ -13,9 +13,8 @@ use Rattle.zarrs_bytes.specs.BytesCodecPartial.{BytesForm}
 use Rattle.zarrs_codec.specs.StorageState.{count_if}
 use Rattle.zarrs_bytes.specs.PartialRead.{bytes_read}
 use Rattle.zarrs_chain_lines.specs.declared.refusal.Refusal.{Refusal}
-use Rattle.zarrs_chain_lines.specs.Commands.{State, part_of, read_answer}
+use Rattle.zarrs_chain_lines.specs.Commands.{State, bytes_part, part_of, read_answer}
 use Rattle.zarrs_chain_lines.specs.Elements.{chunk_tree}
-use Rattle.zarrs_chain_lines.specs.Header.{Header}
 use Rattle.zarrs_chain_lines.specs.Json.{ok_line, tree_of}
 use Rattle.zarrs_chain_lines.specs.Indexer.{selection_in}
 use Rattle.zarrs_chain_lines.specs.Refusal.{codec_answer, wants_memory}
@@ -40,17 +39,16 @@ passes : {A B : Type 0} (r : Result A CodecError) (x : Result B CodecError) → 
 passes (Ok a) x h = refl
 passes (Err e) x h = absurd (cc)
 
--- what a decoder of the header's chunks answers
-pub part_read : (header : Header) (form : BytesForm) (stored value : Option (List ℕ)) (selection : Selection) (r : Result Held CodecError) →
-    form ≡ record { order = header.order; sizes = header.sizes; type = header.data_type; fill = header.fill } → value ≡ stored → seen (λ _. tt {0}) (bytes_length header.order header.sizes header.data_type header.fill) ≡ Ok tt
-    → is_fault r ≡ false → AnswersBy memory_or_fault (Holds form.type) r (bytes_read form.order form.sizes form.type form.fill value selection) → AnswersBy memory (Holds header.data_type) r (part_of header stored selection)
-part_read header form stored value selection r same_form same_value made quiet h =
-    let of_header : AnswersBy memory_or_fault (Holds header.data_type) r (bytes_read header.order header.sizes header.data_type header.fill stored selection) =
-    subst (λ (v : Option (List ℕ)). AnswersBy memory_or_fault (Holds header.data_type) r (bytes_read header.order header.sizes header.data_type header.fill v selection)) same_value
+-- what a decoder of such chunks answers
+pub part_read : (chunk form : BytesForm) (stored value : Option (List ℕ)) (selection : Selection) (r : Result Held CodecError) → form ≡ chunk → value ≡ stored → seen (λ _. tt {0}) (bytes_length chunk.order chunk.sizes chunk.type chunk.fill) ≡ Ok tt
+    → is_fault r ≡ false → AnswersBy memory_or_fault (Holds form.type) r (bytes_read form.order form.sizes form.type form.fill value selection) → AnswersBy memory (Holds chunk.type) r (bytes_part chunk.order chunk.sizes chunk.type chunk.fill stored selection)
+part_read chunk form stored value selection r same_form same_value made quiet h =
+    let of_chunk : AnswersBy memory_or_fault (Holds chunk.type) r (bytes_read chunk.order chunk.sizes chunk.type chunk.fill stored selection) =
+    subst (λ (v : Option (List ℕ)). AnswersBy memory_or_fault (Holds chunk.type) r (bytes_read chunk.order chunk.sizes chunk.type chunk.fill v selection)) same_value
     (subst (λ (f : BytesForm). AnswersBy memory_or_fault (Holds f.type) r (bytes_read f.order f.sizes f.type f.fill value selection)) same_form h) in
-    subst (λ (y : Result Chunk CodecError). AnswersBy memory (Holds header.data_type) r y)
-    (sym (passes (bytes_length header.order header.sizes header.data_type header.fill) (bytes_read header.order header.sizes header.data_type header.fill stored selection) made))
-    (without_faults header.data_type r (bytes_read header.order header.sizes header.data_type header.fill stored selection) quiet of_header)
+    subst (λ (y : Result Chunk CodecError). AnswersBy memory (Holds chunk.type) r y)
+    (sym (passes (bytes_length chunk.order chunk.sizes chunk.type chunk.fill) (bytes_read chunk.order chunk.sizes chunk.type chunk.fill stored selection) made))
+    (without_faults chunk.type r (bytes_read chunk.order chunk.sizes chunk.type chunk.fill stored selection) quiet of_chunk)
 
 -- ---- elements shown
 
@@ -69,5 +67,5 @@ shown_elements items type own held (Err e) r before after kept same holds shown 
 
 -- what `read` answers to an indexer that reads
 pub read_answer-selection : (state : State) (text : List ℕ) (tree : Data) (selection : Selection) → tree_of text ≡ Ok tree → selection_in tree ≡ Ok selection
-    → read_answer state text ≡ (codec_answer (part_of state.header state.stored selection) >>= λ chunk. Ok (ok_line (chunk_tree chunk), state))
+    → read_answer state text ≡ (codec_answer (part_of state.header state.value selection) >>= λ chunk. Ok (ok_line (chunk_tree chunk), state))
 read_answer-selection state text tree selection reads means = rw (reads, means) refl

@@ -1,11 +1,13 @@
--- The codecs of a header: a list of metadata with one `bytes`.
-use Rattle.std.specs.Prelude.{ℕ, ◌||◌, Bool, List, Option, Some, None, option_and_then, is_some, ok_or, Result, Ok, Err, codes, if◌then◌else◌}
+-- The codecs of a header: a list of metadata with one `bytes`, and the chain that is made of it.
+use Rattle.std.specs.Prelude.{ℕ, ◌||◌, Bool, List, [], Option, Some, None, option_and_then, is_some, ok_or, Result, Ok, Err, codes, if◌then◌else◌}
 use Rattle.std.specs.Str.{bytes_eq}
 use Rattle.serde_json.specs.Data.{Data, null, boolean, number, string, array, object, Items, no_items, item, Members}
 use Rattle.serde_json.specs.Find.{as_bool, as_null, as_object, as_str, get_member}
 use Rattle.zarrs_chunk.specs.Answer.{◌>>=◌, seen}
 use Rattle.zarrs_data_type.specs.declared.endianness.Endianness.{Endianness}
 use Rattle.zarrs_data_type.specs.declared.endianness.Endianness.TheVariants.{Little, Big}
+use Rattle.zarrs_codec.specs.declared.sample_bytes_codec.SampleBytesCodec.{SampleBytesCodec}
+use Rattle.zarrs_codec_chain.specs.PlainChain.{PlainCodec, bytes_codec, PlainChain}
 use Rattle.zarrs_chain_lines.specs.declared.refusal.Refusal.{Refusal}
 use Rattle.zarrs_chain_lines.specs.declared.refusal.Refusal.TheVariants.{UnknownName, InvalidConfiguration}
 
@@ -85,3 +87,18 @@ abbrev pub codec_in : Items → Result (Option Endianness) Refusal
 codec_in items = do
   _ ← are_metadata items
   lone_codec (lone_item items)
+
+-- ---- the chain
+
+-- the chain of `bytes` alone, with this byte order
+abbrev pub bytes_chain : Option Endianness → PlainChain SampleBytesCodec
+bytes_chain order = record { arrays = []; codec = bytes_codec order; outer = [] }
+
+-- the byte order of a codec to bytes; a header makes no other codec than `bytes`
+abbrev pub order_in : PlainCodec SampleBytesCodec → Option Endianness
+order_in (bytes_codec order) = order
+order_in _ = None
+
+-- the chain of a list of metadata
+abbrev pub chain_in : Items → Result (PlainChain SampleBytesCodec) Refusal
+chain_in items = seen bytes_chain (codec_in items)

@@ -5,24 +5,30 @@ use Rattle.zarrs_chunk.specs.Answer.{◌>>=◌}
 use Rattle.zarrs_chunk.specs.Selection.{Selection}
 use Rattle.zarrs_chunk.specs.declared.codec_error.CodecError.{CodecError}
 use Rattle.zarrs_data_type.specs.Element.{Chunk}
-use Rattle.zarrs_bytes.specs.BytesCodec.{bytes_length, bytes_value, bytes_chunk}
+use Rattle.zarrs_data_type.specs.ElementType.{ElementType}
+use Rattle.zarrs_data_type.specs.declared.endianness.Endianness.{Endianness}
+use Rattle.zarrs_codec.specs.SampleBytesCodec.{sample_codecs}
+use Rattle.zarrs_bytes.specs.BytesCodec.{bytes_length}
 use Rattle.zarrs_bytes.specs.PartialRead.{bytes_read}
+use Rattle.zarrs_codec_chain.specs.Chain.{held_value}
+use Rattle.zarrs_codec_chain.specs.Decode.{chain_chunk}
 use Rattle.zarrs_chain_lines.specs.declared.refusal.Refusal.{Refusal}
 use Rattle.zarrs_chain_lines.specs.declared.refusal.Refusal.TheVariants.{Syntax}
 use Rattle.zarrs_chain_lines.specs.Refusal.{codec_answer}
 use Rattle.zarrs_chain_lines.specs.Json.{tree_of, hex_of, hex_tree, ok_line}
 use Rattle.zarrs_chain_lines.specs.Elements.{elements_of, container_of, chunk_tree}
 use Rattle.zarrs_chain_lines.specs.Indexer.{selection_in}
+use Rattle.zarrs_chain_lines.specs.Codec.{order_in}
 use Rattle.zarrs_chain_lines.specs.Header.{Header}
 
 -- what a session keeps: the header that opened it, and the stored value
 pub record State : Type 0 where
   pub header : Header
-  pub stored : Option (List ℕ)
+  pub value : Option (List ℕ)
 
 -- at first nothing is stored
 abbrev pub first_state : Header → State
-first_state header = record { header = header; stored = None }
+first_state header = record { header = header; value = None }
 
 -- the answer to a line and the state after it, or why the line is refused
 abbrev pub LineAnswer : Type 0
@@ -44,7 +50,7 @@ abbrev pub encode_answer : State → List ℕ → LineAnswer
 encode_answer state text = do
   tree ← tree_of text
   chunk ← elements_of state.header.data_type tree
-  value ← codec_answer (bytes_value state.header.order state.header.sizes state.header.data_type state.header.fill (container_of chunk))
+  value ← codec_answer (held_value sample_codecs state.header.chain state.header.sizes state.header.data_type state.header.fill (container_of chunk))
   Ok (ok_line (hex_tree value), state)
 
 -- load "HEX": these bytes are stored
@@ -52,30 +58,35 @@ abbrev pub load_answer : State → List ℕ → LineAnswer
 load_answer state text = do
   tree ← tree_of text
   value ← ok_or (hex_of tree) Syntax
-  Ok (codes "ok", record { header = state.header; stored = Some value })
+  Ok (codes "ok", record { header = state.header; value = Some value })
 
 -- the chunk that a value stands for
 abbrev pub chunk_answer : State → List ℕ → LineAnswer
 chunk_answer state value = do
-  chunk ← codec_answer (bytes_chunk state.header.order state.header.sizes state.header.data_type state.header.fill value)
+  chunk ← codec_answer (chain_chunk sample_codecs state.header.chain state.header.sizes state.header.data_type state.header.fill value)
   Ok (ok_line (chunk_tree chunk), state)
 
 -- decode: the chunk that the stored value stands for, or none
 abbrev pub decode_answer : State → LineAnswer
-decode_answer state = stored_answer chunk_answer state state.stored
+decode_answer state = stored_answer chunk_answer state state.value
 
--- the elements that an indexer means, by a decoder that is made for it: what refuses the decoder comes first
+-- the elements that an indexer means, by a decoder of `bytes` that is made for it: what refuses the decoder comes first
+abbrev pub bytes_part : Option Endianness → List ℕ → ElementType → List ℕ → Option (List ℕ) → Selection → Result Chunk CodecError
+bytes_part order sizes type fill value selection = do
+  _ ← bytes_length order sizes type fill
+  bytes_read order sizes type fill value selection
+
+-- the same of a header's chunk, whose chain is `bytes` alone
 abbrev pub part_of : Header → Option (List ℕ) → Selection → Result Chunk CodecError
-part_of header stored selection = do
-  _ ← bytes_length header.order header.sizes header.data_type header.fill
-  bytes_read header.order header.sizes header.data_type header.fill stored selection
+part_of header value selection =
+    bytes_part (order_in header.chain.codec) header.sizes header.data_type header.fill value selection
 
 -- read INDEXER: the elements that it means
 abbrev pub read_answer : State → List ℕ → LineAnswer
 read_answer state text = do
   tree ← tree_of text
   selection ← selection_in tree
-  chunk ← codec_answer (part_of state.header state.stored selection)
+  chunk ← codec_answer (part_of state.header state.value selection)
   Ok (ok_line (chunk_tree chunk), state)
 
 -- a value in hex
@@ -84,7 +95,7 @@ hex_answer state value = Ok (ok_line (hex_tree value), state)
 
 -- value: the stored value, or none
 abbrev pub value_answer : State → LineAnswer
-value_answer state = stored_answer hex_answer state state.stored
+value_answer state = stored_answer hex_answer state state.value
 
 -- ---- lines
 

@@ -5,21 +5,23 @@ use Rattle.serde_json.specs.Find.{as_array, as_object, get_member}
 use Rattle.zarrs_chunk.specs.Answer.{◌>>=◌}
 use Rattle.zarrs_chunk.specs.ChunkShape.{shape_of}
 use Rattle.zarrs_data_type.specs.ElementType.{ElementType}
-use Rattle.zarrs_data_type.specs.declared.endianness.Endianness.{Endianness}
-use Rattle.zarrs_bytes.specs.BytesCodec.{bytes_length}
+use Rattle.zarrs_codec.specs.SampleBytesCodec.{sample_codecs}
+use Rattle.zarrs_codec.specs.declared.sample_bytes_codec.SampleBytesCodec.{SampleBytesCodec}
+use Rattle.zarrs_codec_chain.specs.PlainChain.{PlainChain}
+use Rattle.zarrs_codec_chain.specs.Representation.{chain_representation}
 use Rattle.zarrs_chain_lines.specs.declared.refusal.Refusal.{Refusal}
 use Rattle.zarrs_chain_lines.specs.declared.refusal.Refusal.TheVariants.{Syntax}
 use Rattle.zarrs_chain_lines.specs.Refusal.{codec_answer}
 use Rattle.zarrs_chain_lines.specs.Json.{tree_of, number_list, hex_of}
 use Rattle.zarrs_chain_lines.specs.DataType.{type_in}
-use Rattle.zarrs_chain_lines.specs.Codec.{codec_in}
+use Rattle.zarrs_chain_lines.specs.Codec.{chain_in}
 
--- a chunk's shape, type and fill value, and the byte order of its codec
+-- a chunk's shape, type and fill value, and the chain that it is encoded by
 pub record Header : Type 0 where
   pub sizes : List ℕ
   pub data_type : ElementType
   pub fill : List ℕ
-  pub order : Option Endianness
+  pub chain : PlainChain SampleBytesCodec
 
 -- ---- its keys
 
@@ -39,23 +41,23 @@ data_type_at (Some tree) = type_in tree
 abbrev pub fill_value_at : Option Data → Result (List ℕ) Refusal
 fill_value_at tree = ok_or (option_and_then hex_of tree) Syntax
 
--- the byte order of the one codec
-abbrev pub codecs_at : Option Data → Result (Option Endianness) Refusal
+-- the chain of these codecs
+abbrev pub codecs_at : Option Data → Result (PlainChain SampleBytesCodec) Refusal
 codecs_at tree = do
   codecs ← ok_or (option_and_then as_array tree) Syntax
-  codec_in codecs
+  chain_in codecs
 
 -- ---- the header
 
--- The keys in this order, and then whether the codec takes such chunks. The first fault answers.
+-- The keys in this order, and then whether the chain takes such chunks. The first fault answers.
 abbrev pub header_in : Members → Result Header Refusal
 header_in members = do
   sizes ← shape_at (get_member (codes "shape") members)
   data_type ← data_type_at (get_member (codes "data_type") members)
   fill ← fill_value_at (get_member (codes "fill_value") members)
-  order ← codecs_at (get_member (codes "codecs") members)
-  _ ← codec_answer (bytes_length order sizes data_type fill)
-  Ok (record { sizes = sizes; data_type = data_type; fill = fill; order = order })
+  chain ← codecs_at (get_member (codes "codecs") members)
+  _ ← codec_answer (chain_representation sample_codecs chain sizes data_type fill)
+  Ok (record { sizes = sizes; data_type = data_type; fill = fill; chain = chain })
 
 -- the header that a line is, a JSON object; keys that it doesn't need are passed over
 abbrev pub line_header : List ℕ → Result Header Refusal

@@ -6,7 +6,9 @@ ghost use Rattle.zarrs_chunk.specs.Indexer.{selection_of};
 ghost use Rattle.zarrs_data_type.specs.ElementType.{fixed_size_of};
 ghost use Rattle.zarrs_array_bytes.specs.Validity.{Holds};
 ghost use Rattle.zarrs_codec.specs.MemoryHandle.{handle_value};
-ghost use Rattle.zarrs_chain_lines.specs.Commands.{first_state, part_of, encode_answer, load_answer, chunk_answer, decode_answer, read_answer, value_answer, answer_to};
+ghost use Rattle.zarrs_codec_chain.specs.ChainView.{plain_chain};
+ghost use Rattle.zarrs_chain_lines.specs.Codec.{bytes_chain, order_in};
+ghost use Rattle.zarrs_chain_lines.specs.Commands.{first_state, bytes_part, part_of, encode_answer, load_answer, chunk_answer, decode_answer, read_answer, value_answer, answer_to};
 ghost use Rattle.zarrs_chain_lines.specs.Header.{shape_at, data_type_at, fill_value_at, codecs_at, header_in, line_header};
 ghost use Rattle.zarrs_chain_lines.specs.Refusal.{wants_memory};
 
@@ -23,18 +25,22 @@ use std::borrow::CowSlice;
 use zarrs_array_bytes::ArrayBytes;
 use zarrs_bytes::BytesCodec;
 use zarrs_chunk::{ChunkShape, CodecError, Indexer};
-use zarrs_codec::MemoryHandle;
+use zarrs_codec::{MemoryHandle, SampleBytesCodec};
+use zarrs_codec_chain::{ArrayToBytesCodec, CodecChain};
 use zarrs_data_type::{DataType, FillValue};
 
 /// What a header opened, and what is stored since.
 #[derive(Drop)]
 pub struct Session {
+    chain: CodecChain<SampleBytesCodec>,
+    /// The chain's codec to bytes, which reads in part.
     codec: BytesCodec,
     shape: ChunkShape,
     data_type: DataType,
     fill_value: FillValue,
     handle: MemoryHandle,
     ghost fixed: { is_some (fixed_size_of data_type) ≡ true },
+    ghost order: { order_in (plain_chain chain).codec ≡ codec },
 }
 
 fn shape(alloc: Global, tree: Option<&Value>) -> Result<ChunkShape, Refusal>
@@ -68,12 +74,23 @@ fn fill_value(alloc: Global, tree: Option<&Value>) -> Result<FillValue, Refusal>
 }
 
 fn bytes_codec(tree: Option<&Value>) -> Result<BytesCodec, Refusal>
-    ensures { result ≡ codecs_at (option_map (λ v. view v.now) tree.entry) }
+    ensures { seen bytes_chain result ≡ codecs_at (option_map (λ v. view v.now) tree.entry) }
 {
     match tree {
         Some(Value::Array(items)) => Ok(BytesCodec::new(codec(items)?)),
         _ => Err(Refusal::Syntax),
     }
+}
+
+/// The chain of this codec alone.
+fn chain_of(alloc: Global, codec: BytesCodec) -> CodecChain<SampleBytesCodec>
+    ensures { plain_chain result ≡ bytes_chain codec }
+{
+    CodecChain::new(
+        Vec::new(alloc),
+        ArrayToBytesCodec::Bytes(codec),
+        Vec::new(alloc),
+    )
 }
 
 /// The elements that an indexer means, by a decoder that is made for this call.
@@ -87,7 +104,7 @@ fn read_part(
     indexer: &Indexer,
 ) -> Result<ArrayBytes<'static>, CodecError>
     ensures answer { AnswersBy memory (Holds data_type.now) result
-        (part_of (record { sizes = shape.now; data_type = data_type.now; fill = fill_value.now; order = codec.now }) (handle_value handle.old) (selection_of indexer.now)) }
+        (bytes_part codec.now shape.now data_type.now fill_value.now (handle_value handle.old) (selection_of indexer.now)) }
     ensures kept { handle_value handle.new ≡ handle_value handle.old }
 {
     match codec.partial_decoder(alloc, handle, shape, data_type, fill_value) {
@@ -110,8 +127,10 @@ impl Session {
         let data_type = named_type(member(members, "data_type"))?;
         let fill_value = fill_value(alloc, member(members, "fill_value"))?;
         let codec = bytes_codec(member(members, "codecs"))?;
-        codec.encoded_representation(&shape, &data_type, &fill_value)?;
+        let chain = chain_of(alloc, codec);
+        chain.encoded_representation(alloc, &shape, &data_type, &fill_value)?;
         Ok(Session {
+            chain,
             codec,
             shape,
             data_type,
@@ -122,7 +141,7 @@ impl Session {
 
     /// The session that a header opens, with nothing stored. Refusals, the first that holds:
     /// `Syntax` where the line is no JSON object, or its `shape`, `data_type`, `fill_value` or
-    /// `codecs` don't read, in this order and each with its own refusals; then those of the codec's
+    /// `codecs` don't read, in this order and each with its own refusals; then those of the chain's
     /// representation; `OutOfMemory`.
     pub fn open(alloc: Global, header: &[u8]) -> Result<Session, Refusal>
         ensures answer { Answers wants_memory state_of result (seen first_state (line_header header.now)) }
@@ -137,7 +156,7 @@ impl Session {
     {
         let tree = tree(alloc, text)?;
         let elements = elements(alloc, &self.data_type, &tree)?;
-        let value = self.codec.encode(
+        let value = self.chain.encode(
             alloc,
             elements,
             &self.shape,
@@ -162,7 +181,7 @@ impl Session {
     fn decode_value(&self, alloc: Global, value: &[u8]) -> Result<Vec<u8>, Refusal>
         ensures { Answers wants_memory (λ line. (line.items, state_of self.now)) result (chunk_answer (state_of self.now) value.now) }
     {
-        let elements = self.codec.decode(
+        let elements = self.chain.decode(
             alloc,
             CowSlice::Borrowed(value),
             &self.shape,
@@ -186,7 +205,7 @@ impl Session {
         alloc: Global,
         indexer: &Indexer,
     ) -> Result<ArrayBytes<'static>, CodecError>
-        ensures answer { let state = state_of self.old in AnswersBy memory (Holds state.header.data_type) result (part_of state.header state.stored (selection_of indexer.now)) }
+        ensures answer { let state = state_of self.old in AnswersBy memory (Holds state.header.data_type) result (part_of state.header state.value (selection_of indexer.now)) }
         ensures kept { state_of self.new ≡ state_of self.old }
     {
         read_part(

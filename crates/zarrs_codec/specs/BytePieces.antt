@@ -18,12 +18,12 @@ furthest_end [] = 0
 furthest_end (piece ∷ pieces) = max (end_of piece.0 piece.1) (furthest_end pieces)
 
 -- the value, with zeros behind it where it has fewer bytes than these
-abbrev pub padded : List ℕ → ℕ → List ℕ
-padded value count = value ++ replicate (count - length value) 0
+abbrev pub with_zeros : List ℕ → ℕ → List ℕ
+with_zeros value count = value ++ replicate (count - length value) 0
 
 -- the value up to the furthest end, with the bytes of the pieces' numbers replaced by the new ones, the last write of a byte standing
 abbrev pub with_pieces : List ℕ → List (ℕ × ℕ) → List ℕ → List ℕ
-with_pieces value pieces bytes = update (padded value (furthest_end pieces)) (joined_runs pieces) bytes
+with_pieces value pieces bytes = update (with_zeros value (furthest_end pieces)) (joined_runs pieces) bytes
 
 -- pieces can be written with so many bytes: each ends below 2^64, so many are they together, and so many bytes are there; or the first cause why not
 abbrev pub pieces_fit : List (ℕ × ℕ) → ℕ → Result (Unit {0}) CodecError

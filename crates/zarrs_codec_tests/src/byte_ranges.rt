@@ -7,19 +7,19 @@ use zarrs_codec::{ByteRange, BytesRepresentation};
 const LAST: u64 = 18446744073709551615;
 
 /// Starts and ends of ranges, no two of them equal.
-const RANGES: [(u64, u64); 6] = [(0, 0), (3, 7), (3, 8), (2, 7), (0, LAST), (LAST, LAST)];
+const RANGES: &'static [(u64, u64)] = &[(0, 0), (3, 7), (3, 8), (2, 7), (0, LAST), (LAST, LAST)];
 
 fn has_ends(rt: &impl Abort, alloc: Global, start: u64, end: u64) -> Result<(), Fail> {
     let range = ByteRange::new(start..end).ok_or("no range")?;
     is(rt, "start", &range.start(), &start);
     is(rt, "end", &range.end(), &end);
     is(rt, "copy", &range.clone()?, &range);
-    is(
-        rt,
-        "shown",
-        &format!(in alloc; "{range:?}")?.contains("start"),
-        &true,
-    );
+    is_shown(rt, alloc, &range)
+}
+
+fn is_shown(rt: &impl Abort, alloc: Global, range: &ByteRange) -> Result<(), Fail> {
+    let text = format!(in alloc; "{range:?}")?;
+    is(rt, "shown", &text.contains("start"), &true);
     Ok(())
 }
 
@@ -34,10 +34,15 @@ fn has_a_start_and_an_end(rt: HostRuntime) -> Result<(), Fail> {
 #[test]
 fn differs_by_its_ends(rt: HostRuntime) {
     for (place, (start, end)) in RANGES.iter().enumerate() {
-        for (other_place, (other_start, other_end)) in RANGES.iter().enumerate() {
-            let same = ByteRange::new(*start..*end) == ByteRange::new(*other_start..*other_end);
-            is(&rt, "same", &same, &(place == other_place));
-        }
+        is_at(&rt, *start, *end, place);
+    }
+}
+
+/// The range is the one at this place alone.
+fn is_at(rt: &impl Abort, start: u64, end: u64, place: usize) {
+    for (other_place, (other_start, other_end)) in RANGES.iter().enumerate() {
+        let same = ByteRange::new(start..end) == ByteRange::new(*other_start..*other_end);
+        is(rt, "same", &same, &(place == other_place));
     }
 }
 
@@ -49,7 +54,7 @@ fn never_ends_before_it_starts(rt: HostRuntime) {
 }
 
 /// Representations, no two of them equal, their greatest sizes, and what `Debug` writes.
-const REPRESENTATIONS: [(BytesRepresentation, Option<u64>, &'static str); 5] = [
+const REPRESENTATIONS: &'static [(BytesRepresentation, Option<u64>, &'static str)] = &[
     (BytesRepresentation::FixedSize(4), Some(4), "FixedSize(4)"),
     (BytesRepresentation::FixedSize(9), Some(9), "FixedSize(9)"),
     (
@@ -74,12 +79,8 @@ fn has_size(
 ) -> Result<(), Fail> {
     is(rt, text, &representation.size(), &size);
     is(rt, text, &representation.clone()?, &representation);
-    is(
-        rt,
-        text,
-        &format!(in alloc; "{representation:?}")?.as_str(),
-        &text,
-    );
+    let shown = format!(in alloc; "{representation:?}")?;
+    is(rt, text, &shown.as_str(), &text);
     Ok(())
 }
 
@@ -94,8 +95,13 @@ fn representations_have_a_greatest_size(rt: HostRuntime) -> Result<(), Fail> {
 #[test]
 fn representations_differ_by_kind_and_size(rt: HostRuntime) {
     for (place, (one, _, text)) in REPRESENTATIONS.iter().enumerate() {
-        for (other_place, (other, _, _)) in REPRESENTATIONS.iter().enumerate() {
-            is(&rt, text, &(one == other), &(place == other_place));
-        }
+        is_representation_at(&rt, one, text, place);
+    }
+}
+
+/// The representation is the one at this place alone.
+fn is_representation_at(rt: &impl Abort, one: &BytesRepresentation, text: &str, place: usize) {
+    for (other_place, (other, _, _)) in REPRESENTATIONS.iter().enumerate() {
+        is(rt, text, &(one == other), &(place == other_place));
     }
 }

@@ -1,13 +1,14 @@
 //! Reads of many short runs, whose ranges are made and asked for a batch at a time.
 
-use crate::checks::{are, is_refused, stored};
+use crate::bytes_parts::reads_indexed;
+use crate::checks::{is_refused, stored};
 use crate::forms::{Told, Type, decoder, elements_at, numbered, repeated, reversed};
 use std::alloc::{AllocError, Global};
 use std::process::Abort;
 use std::test::Fail;
-use zarrs_bytes::BytesCodec;
+use zarrs_bytes::{BytesCodec, BytesCodecPartial};
 use zarrs_chunk::{CodecError, Indexer};
-use zarrs_codec::BytesPartialDecoderTraits;
+use zarrs_codec::{BytesPartialDecoderTraits, MemoryHandle};
 
 const WORDS: Told<'static> = (&[700], Type::Bits(16, 1), &[1, 2]);
 
@@ -39,11 +40,9 @@ fn reads<H: BytesPartialDecoderTraits + Drop>(
     handle: H,
     places: &[usize],
     wanted: &[u8],
-) -> Result<(), Fail> {
+) -> Result<(), CodecError> {
     let mut decoder = decoder(alloc, BytesCodec::big(), &WORDS, handle)?;
-    let part = decoder.partial_decode(alloc, &listed(alloc, places)?)?;
-    are(rt, "read", part.into_fixed()?.as_slice(), wanted);
-    Ok(())
+    reads_indexed(rt, alloc, &mut decoder, &listed(alloc, places)?, wanted)
 }
 
 /// The words by a slow rule: one after another, each of them turned round.
@@ -52,14 +51,23 @@ fn words_at(alloc: Global, value: &[u8], places: &[usize]) -> Result<Vec<u8>, Al
     reversed(alloc, words.as_slice(), 2)
 }
 
-fn reads_stored(rt: &impl Abort, alloc: Global, places: &[usize]) -> Result<(), Fail> {
+fn reads_stored(rt: &impl Abort, alloc: Global, places: &[usize]) -> Result<(), CodecError> {
     let value = numbered(alloc, 1400)?;
     let wanted = words_at(alloc, value.as_slice(), places)?;
-    let handle = stored(alloc, Some(value.as_slice()))?;
-    reads(rt, alloc, handle, places, wanted.as_slice())
+    reads_value(rt, alloc, value.as_slice(), places, wanted.as_slice())
 }
 
-fn reads_unstored(rt: &impl Abort, alloc: Global, places: &[usize]) -> Result<(), Fail> {
+fn reads_value(
+    rt: &impl Abort,
+    alloc: Global,
+    value: &[u8],
+    places: &[usize],
+    wanted: &[u8],
+) -> Result<(), CodecError> {
+    reads(rt, alloc, stored(alloc, Some(value))?, places, wanted)
+}
+
+fn reads_unstored(rt: &impl Abort, alloc: Global, places: &[usize]) -> Result<(), CodecError> {
     let wanted = repeated(alloc, &[1, 2], places.len())?;
     reads(rt, alloc, stored(alloc, None)?, places, wanted.as_slice())
 }
@@ -67,32 +75,50 @@ fn reads_unstored(rt: &impl Abort, alloc: Global, places: &[usize]) -> Result<()
 #[test]
 fn reads_lists_of_each_length(rt: HostRuntime) -> Result<(), Fail> {
     for count in COUNTS.iter() {
-        let places = places(rt.alloc(), *count)?;
-        reads_stored(&rt, rt.alloc(), places.as_slice())?;
-        reads_unstored(&rt, rt.alloc(), places.as_slice())?;
+        reads_count(&rt, rt.alloc(), *count)?;
     }
     Ok(())
+}
+
+fn reads_count(rt: &impl Abort, alloc: Global, count: usize) -> Result<(), CodecError> {
+    let places = places(alloc, count)?;
+    reads_stored(rt, alloc, places.as_slice())?;
+    reads_unstored(rt, alloc, places.as_slice())
 }
 
 /// A value that lacks the last byte of the last word.
 fn lacks_a_byte(rt: &impl Abort, alloc: Global, places: &[usize]) -> Result<(), Fail> {
     let value = numbered(alloc, 1399)?;
     let handle = stored(alloc, Some(value.as_slice()))?;
-    let mut decoder = decoder(alloc, BytesCodec::big(), &WORDS, handle)?;
-    let answer = decoder.partial_decode(alloc, &listed(alloc, places)?);
+    let decoder = decoder(alloc, BytesCodec::big(), &WORDS, handle)?;
+    lacks_for(rt, alloc, decoder, &listed(alloc, places)?)
+}
+
+fn lacks_for(
+    rt: &impl Abort,
+    alloc: Global,
+    mut decoder: BytesCodecPartial<MemoryHandle>,
+    asked: &Indexer,
+) -> Result<(), Fail> {
+    let answer = decoder.partial_decode(alloc, asked);
     is_refused(rt, "read", answer, CodecError::InvalidByteRange)
 }
 
 // The last word is asked for as the last place of the first batch, and of the second.
 #[test]
 fn refuses_a_byte_that_is_missing(rt: HostRuntime) -> Result<(), Fail> {
-    for count in [1023usize, 1024] {
-        let mut places = places(rt.alloc(), 0)?;
-        for _place in 0..count {
-            places.push(0)?;
-        }
-        places.push(699)?;
-        lacks_a_byte(&rt, rt.alloc(), places.as_slice())?;
-    }
-    Ok(())
+    lacks_behind(&rt, rt.alloc(), 1023)?;
+    lacks_behind(&rt, rt.alloc(), 1024)
+}
+
+/// The first word so many times, and then the last one.
+fn last_behind(alloc: Global, count: usize) -> Result<Vec<usize>, AllocError> {
+    let mut places = vec![in alloc; 0usize; count]?;
+    places.push(699)?;
+    Ok(places)
+}
+
+fn lacks_behind(rt: &impl Abort, alloc: Global, count: usize) -> Result<(), Fail> {
+    let places = last_behind(alloc, count)?;
+    lacks_a_byte(rt, alloc, places.as_slice())
 }

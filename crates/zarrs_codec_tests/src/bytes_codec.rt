@@ -1,4 +1,4 @@
-use crate::checks::{are, is, is_refused};
+use crate::checks::{are, has_bytes, is, is_refused};
 use crate::forms::{ChunkForm, Told, Type, chunk_form};
 use std::alloc::Global;
 use std::borrow::CowSlice;
@@ -15,15 +15,21 @@ const LITTLE: Option<Endianness> = Some(Endianness::Little);
 const BIG: Option<Endianness> = Some(Endianness::Big);
 
 /// Byte orders, no two of them equal, and what `Debug` writes of the codec.
-const ORDERS: [(Option<Endianness>, &'static str); 3] = [
+const ORDERS: &'static [(Option<Endianness>, &'static str)] = &[
     (LITTLE, "BytesCodec { endianness: Some(Little) }"),
     (BIG, "BytesCodec { endianness: Some(Big) }"),
     (None, "BytesCodec { endianness: None }"),
 ];
 
-fn is_shown(rt: &impl Abort, alloc: Global, codec: BytesCodec, text: &str) -> Result<(), Fail> {
+fn is_shown(
+    rt: &impl Abort,
+    alloc: Global,
+    codec: BytesCodec,
+    text: &str,
+) -> Result<(), CodecError> {
     is(rt, text, &codec.clone()?, &codec);
-    is(rt, text, &format!(in alloc; "{codec:?}")?.as_str(), &text);
+    let shown = format!(in alloc; "{codec:?}")?;
+    is(rt, text, &shown.as_str(), &text);
     Ok(())
 }
 
@@ -38,10 +44,15 @@ fn is_shown_with_its_order(rt: HostRuntime) -> Result<(), Fail> {
 #[test]
 fn differs_by_its_order(rt: HostRuntime) {
     for (place, (one, text)) in ORDERS.iter().enumerate() {
-        for (other_place, (other, _)) in ORDERS.iter().enumerate() {
-            let same = BytesCodec::new(*one) == BytesCodec::new(*other);
-            is(&rt, text, &same, &(place == other_place));
-        }
+        is_at(&rt, BytesCodec::new(*one), text, place);
+    }
+}
+
+/// The codec is the one of the order at this place alone.
+fn is_at(rt: &impl Abort, codec: BytesCodec, text: &str, place: usize) {
+    for (other_place, (other, _)) in ORDERS.iter().enumerate() {
+        let same = codec == BytesCodec::new(*other);
+        is(rt, text, &same, &(place == other_place));
     }
 }
 
@@ -63,7 +74,7 @@ fn has_names_for_its_orders(rt: HostRuntime) {
 }
 
 /// Byte orders, chunks, and how many bytes they have.
-const LENGTHS: [(Option<Endianness>, Told<'static>, u64); 7] = [
+const LENGTHS: &'static [(Option<Endianness>, Told<'static>, u64)] = &[
     (None, (&[4, 4], Type::Bits(8, 1), &[0]), 16),
     (None, (&[], Type::Bits(1, 1), &[9]), 1),
     (None, (&[5], Type::Bits(3, 4), &[0, 0, 0, 0]), 20),
@@ -95,13 +106,19 @@ pub(crate) fn represents(rt: &impl Abort, codec: BytesCodec, form: &ChunkForm, b
 #[test]
 fn represents_elements_times_size(rt: HostRuntime) -> Result<(), Fail> {
     for (order, told, bytes) in LENGTHS.iter() {
-        represents(
-            &rt,
-            BytesCodec::new(*order),
-            &chunk_form(rt.alloc(), told)?,
-            *bytes,
-        );
+        represents_told(&rt, rt.alloc(), BytesCodec::new(*order), told, *bytes)?;
     }
+    Ok(())
+}
+
+fn represents_told(
+    rt: &impl Abort,
+    alloc: Global,
+    codec: BytesCodec,
+    told: &Told<'_>,
+    bytes: u64,
+) -> Result<(), CodecError> {
+    represents(rt, codec, &chunk_form(alloc, told)?, bytes);
     Ok(())
 }
 
@@ -117,7 +134,7 @@ fn encodes(
     form: &ChunkForm,
     raw: ArrayBytesRaw<'_>,
     value: &[u8],
-) -> Result<(), Fail> {
+) -> Result<(), CodecError> {
     let elements = ArrayBytes::new_flen(raw);
     let encoded = codec.encode(
         alloc,
@@ -137,22 +154,21 @@ fn decodes(
     form: &ChunkForm,
     value: ArrayBytesRaw<'_>,
     memory: &[u8],
-) -> Result<(), Fail> {
+) -> Result<(), CodecError> {
     let decoded = codec.decode(alloc, value, &form.shape, &form.data_type, &form.fill_value)?;
-    are(rt, "decoded", decoded.into_fixed()?.as_slice(), memory);
-    Ok(())
+    has_bytes(rt, "decoded", &decoded, memory)
 }
 
 /// A chunk of these elements, as they stand in memory, has this value, and the value stands for it:
 /// of owned bytes and of lent ones.
-pub(crate) fn codes(
+fn codes(
     rt: &impl Abort,
     alloc: Global,
     codec: BytesCodec,
     form: &ChunkForm,
     memory: &[u8],
     value: &[u8],
-) -> Result<(), Fail> {
+) -> Result<(), CodecError> {
     represents(rt, codec, form, memory.len() as u64);
     encodes(rt, alloc, codec, form, owned(alloc, memory)?, value)?;
     encodes(rt, alloc, codec, form, CowSlice::Borrowed(memory), value)?;
@@ -160,16 +176,28 @@ pub(crate) fn codes(
     decodes(rt, alloc, codec, form, CowSlice::Borrowed(value), memory)
 }
 
+/// The same of a chunk that is told of.
+pub(crate) fn codes_told(
+    rt: &impl Abort,
+    alloc: Global,
+    codec: BytesCodec,
+    told: &Told<'_>,
+    memory: &[u8],
+    value: &[u8],
+) -> Result<(), CodecError> {
+    codes(rt, alloc, codec, &chunk_form(alloc, told)?, memory, value)
+}
+
 const WORDS: Told<'static> = (&[2], Type::Bits(16, 1), &[0, 0]);
 
 /// Byte orders, chunks, their elements in memory, and their values. Of words, the elements are 1 and
 /// 258, each lowest byte first.
-const CODED: [(
+const CODED: &'static [(
     Option<Endianness>,
     Told<'static>,
     &'static [u8],
     &'static [u8],
-); 4] = [
+)] = &[
     (BIG, WORDS, &[1, 0, 2, 1], &[0, 1, 1, 2]),
     (LITTLE, WORDS, &[1, 0, 2, 1], &[1, 0, 2, 1]),
     (
@@ -189,12 +217,11 @@ const CODED: [(
 #[test]
 fn writes_big_components_highest_byte_first(rt: HostRuntime) -> Result<(), Fail> {
     for (order, told, memory, value) in CODED.iter() {
-        let form = chunk_form(rt.alloc(), told)?;
-        codes(
+        codes_told(
             &rt,
             rt.alloc(),
             BytesCodec::new(*order),
-            &form,
+            told,
             memory,
             value,
         )?;
@@ -203,7 +230,7 @@ fn writes_big_components_highest_byte_first(rt: HostRuntime) -> Result<(), Fail>
 }
 
 /// Bytes of a wrong length, and the length that is due.
-const WRONG_LENGTHS: [(Option<Endianness>, Told<'static>, &'static [u8], u64); 8] = [
+const WRONG_LENGTHS: &'static [(Option<Endianness>, Told<'static>, &'static [u8], u64)] = &[
     (None, (&[2], Type::Bits(8, 1), &[0]), &[], 2),
     (None, (&[2], Type::Bits(8, 1), &[0]), &[1], 2),
     (None, (&[2], Type::Bits(8, 1), &[0]), &[1, 2, 3], 2),
@@ -219,41 +246,72 @@ fn has_wrong_length(
     rt: &impl Abort,
     alloc: Global,
     codec: BytesCodec,
-    form: &ChunkForm,
+    told: &Told<'_>,
     bytes: &[u8],
     expected: u64,
 ) -> Result<(), Fail> {
     let len = bytes.len() as u64;
     let cause = CodecError::InvalidBytesLength { len, expected };
+    codes_not(rt, alloc, codec, &chunk_form(alloc, told)?, bytes, cause)
+}
+
+fn codes_not(
+    rt: &impl Abort,
+    alloc: Global,
+    codec: BytesCodec,
+    form: &ChunkForm,
+    bytes: &[u8],
+    cause: CodecError,
+) -> Result<(), Fail> {
+    encodes_not(rt, alloc, codec, form, bytes, cause)?;
+    decodes_not(rt, alloc, codec, form, CowSlice::Borrowed(bytes), cause)?;
+    decodes_not(rt, alloc, codec, form, owned(alloc, bytes)?, cause)
+}
+
+/// The encoding of lent bytes is refused.
+pub(crate) fn encodes_not(
+    rt: &impl Abort,
+    alloc: Global,
+    codec: BytesCodec,
+    form: &ChunkForm,
+    bytes: &[u8],
+    cause: CodecError,
+) -> Result<(), Fail> {
     let elements = ArrayBytes::new_flen(CowSlice::Borrowed(bytes));
-    let encoded = codec.encode(
+    let answer = codec.encode(
         alloc,
         elements,
         &form.shape,
         &form.data_type,
         &form.fill_value,
     );
-    is_refused(rt, "encoded", encoded, cause)?;
-    let value = CowSlice::Borrowed(bytes);
-    let decoded = codec.decode(alloc, value, &form.shape, &form.data_type, &form.fill_value);
-    is_refused(rt, "lent", decoded, cause)?;
-    let value = owned(alloc, bytes)?;
-    let decoded = codec.decode(alloc, value, &form.shape, &form.data_type, &form.fill_value);
-    is_refused(rt, "owned", decoded, cause)
+    is_refused(rt, "encoded", answer, cause)
+}
+
+/// The decoding is refused.
+pub(crate) fn decodes_not(
+    rt: &impl Abort,
+    alloc: Global,
+    codec: BytesCodec,
+    form: &ChunkForm,
+    value: ArrayBytesRaw<'_>,
+    cause: CodecError,
+) -> Result<(), Fail> {
+    let answer = codec.decode(alloc, value, &form.shape, &form.data_type, &form.fill_value);
+    is_refused(rt, "decoded", answer, cause)
 }
 
 #[test]
 fn wants_the_exact_length(rt: HostRuntime) -> Result<(), Fail> {
     for (order, told, bytes, expected) in WRONG_LENGTHS.iter() {
-        let form = chunk_form(rt.alloc(), told)?;
         let codec = BytesCodec::new(*order);
-        has_wrong_length(&rt, rt.alloc(), codec, &form, bytes, *expected)?;
+        has_wrong_length(&rt, rt.alloc(), codec, told, bytes, *expected)?;
     }
     Ok(())
 }
 
 /// Byte orders, chunks of four bytes, and whether all bytes stay in their places.
-const STAYING: [(Option<Endianness>, Told<'static>, bool); 6] = [
+const STAYING: &'static [(Option<Endianness>, Told<'static>, bool)] = &[
     (None, (&[4], Type::Bits(8, 1), &[0]), true),
     (BIG, (&[4], Type::Bits(8, 1), &[0]), true),
     (BIG, (&[2], Type::Bits(7, 2), &[0, 0]), true),
@@ -270,15 +328,40 @@ fn stays(
     form: &ChunkForm,
     bytes: &[u8],
     stay: bool,
-) -> Result<(), Fail> {
+) -> Result<(), CodecError> {
     let lent = ArrayBytes::new_flen(CowSlice::Borrowed(bytes));
     let value = codec.encode(alloc, lent, &form.shape, &form.data_type, &form.fill_value)?;
     is_lent(rt, "encoded", &value, stay);
     is(rt, "same bytes", &(value.as_slice() == bytes), &stay);
+    Ok(())
+}
+
+/// The same of a value that is decoded.
+fn stays_decoded(
+    rt: &impl Abort,
+    alloc: Global,
+    codec: BytesCodec,
+    form: &ChunkForm,
+    bytes: &[u8],
+    stay: bool,
+) -> Result<(), CodecError> {
     let lent = CowSlice::Borrowed(bytes);
     let elements = codec.decode(alloc, lent, &form.shape, &form.data_type, &form.fill_value)?;
     is_lent(rt, "decoded", &elements.into_fixed()?, stay);
     Ok(())
+}
+
+fn stays_told(
+    rt: &impl Abort,
+    alloc: Global,
+    codec: BytesCodec,
+    told: &Told<'_>,
+    stay: bool,
+) -> Result<(), CodecError> {
+    let bytes: &[u8] = &[1, 0, 2, 1];
+    let form = chunk_form(alloc, told)?;
+    stays(rt, alloc, codec, &form, bytes, stay)?;
+    stays_decoded(rt, alloc, codec, &form, bytes, stay)
 }
 
 fn is_lent(rt: &impl Abort, about: &str, raw: &ArrayBytesRaw<'_>, wanted: bool) {
@@ -288,15 +371,7 @@ fn is_lent(rt: &impl Abort, about: &str, raw: &ArrayBytesRaw<'_>, wanted: bool) 
 #[test]
 fn copies_only_borrowed_bytes_that_are_turned(rt: HostRuntime) -> Result<(), Fail> {
     for (order, told, stay) in STAYING.iter() {
-        let form = chunk_form(rt.alloc(), told)?;
-        stays(
-            &rt,
-            rt.alloc(),
-            BytesCodec::new(*order),
-            &form,
-            &[1, 0, 2, 1],
-            *stay,
-        )?;
+        stays_told(&rt, rt.alloc(), BytesCodec::new(*order), told, *stay)?;
     }
     Ok(())
 }

@@ -1,12 +1,11 @@
-use crate::checks::{Asked, are, indexer, is, is_refused, is_value, stored};
+use crate::checks::{Asked, are, has_bytes, indexer, is, is_refused, is_value, stored};
 use crate::forms::{Told, Type, chunk_form, decoder, repeated};
 use Asked::{Ranges, Tuples};
 use std::alloc::{AllocError, Global};
 use std::process::Abort;
 use std::test::Fail;
-use zarrs_array_bytes::ArrayBytes;
-use zarrs_bytes::BytesCodec;
-use zarrs_chunk::CodecError;
+use zarrs_bytes::{BytesCodec, BytesCodecPartial};
+use zarrs_chunk::{CodecError, Indexer};
 use zarrs_codec::{ByteRange, BytesPartialDecoderTraits, MemoryHandle};
 use zarrs_data_type::Endianness;
 
@@ -26,15 +25,27 @@ fn plans(
     told: &Told<'_>,
     asked: &Asked<'_>,
     ranges: &[(u64, u64)],
-) -> Result<(), Fail> {
+) -> Result<(), CodecError> {
     let decoder = decoder(alloc, BytesCodec::big(), told, MemoryHandle::new())?;
-    let planned = decoder.planned_ranges(alloc, &indexer(alloc, asked)?)?;
-    are(
-        rt,
-        "planned",
-        ends(alloc, planned.as_slice())?.as_slice(),
-        ranges,
-    );
+    let planned = planned(alloc, &decoder, asked)?;
+    are_ranges(rt, alloc, planned.as_slice(), ranges)
+}
+
+fn planned(
+    alloc: Global,
+    decoder: &BytesCodecPartial<MemoryHandle>,
+    asked: &Asked<'_>,
+) -> Result<Vec<ByteRange>, CodecError> {
+    decoder.planned_ranges(alloc, &indexer(alloc, asked)?)
+}
+
+fn are_ranges(
+    rt: &impl Abort,
+    alloc: Global,
+    came: &[ByteRange],
+    wanted: &[(u64, u64)],
+) -> Result<(), CodecError> {
+    are(rt, "planned", ends(alloc, came)?.as_slice(), wanted);
     Ok(())
 }
 
@@ -47,12 +58,45 @@ pub(crate) fn reads(
     value: Option<&[u8]>,
     asked: &Asked<'_>,
     elements: &[u8],
-) -> Result<(), Fail> {
+) -> Result<(), CodecError> {
     let mut decoder = decoder(alloc, codec, told, stored(alloc, value)?)?;
-    let part = decoder.partial_decode(alloc, &indexer(alloc, asked)?)?;
-    are(rt, "read", part.into_fixed()?.as_slice(), elements);
+    reads_part(rt, alloc, &mut decoder, asked, elements)?;
     is_value(rt, "stored", decoder.into_handle().value(), value);
     Ok(())
+}
+
+/// A read by a decoder.
+pub(crate) fn reads_part<H: BytesPartialDecoderTraits>(
+    rt: &impl Abort,
+    alloc: Global,
+    decoder: &mut BytesCodecPartial<H>,
+    asked: &Asked<'_>,
+    elements: &[u8],
+) -> Result<(), CodecError> {
+    reads_indexed(rt, alloc, decoder, &indexer(alloc, asked)?, elements)
+}
+
+pub(crate) fn reads_indexed<H: BytesPartialDecoderTraits>(
+    rt: &impl Abort,
+    alloc: Global,
+    decoder: &mut BytesCodecPartial<H>,
+    asked: &Indexer,
+    elements: &[u8],
+) -> Result<(), CodecError> {
+    let part = decoder.partial_decode(alloc, asked)?;
+    has_bytes(rt, "read", &part, elements)
+}
+
+/// A read by a decoder that is refused.
+pub(crate) fn refuses_part<H: BytesPartialDecoderTraits>(
+    rt: &impl Abort,
+    alloc: Global,
+    decoder: &mut BytesCodecPartial<H>,
+    asked: &Asked<'_>,
+    cause: CodecError,
+) -> Result<(), Fail> {
+    let asked = indexer(alloc, asked)?;
+    is_refused(rt, "refused", decoder.partial_decode(alloc, &asked), cause)
 }
 
 /// A read that is refused by this cause, over what is stored, which stays.
@@ -65,8 +109,7 @@ fn refuses(
     cause: CodecError,
 ) -> Result<(), Fail> {
     let mut decoder = decoder(alloc, BytesCodec::big(), told, stored(alloc, Some(value))?)?;
-    let answer = decoder.partial_decode(alloc, &indexer(alloc, asked)?);
-    is_refused(rt, "read", answer, cause)?;
+    refuses_part(rt, alloc, &mut decoder, asked, cause)?;
     is_value(rt, "stored", decoder.into_handle().value(), Some(value));
     Ok(())
 }
@@ -92,7 +135,7 @@ const LAST: Asked<'static> = Ranges(&[18446744073709551614..18446744073709551615
 const LAST_WORD: Asked<'static> = Tuples(&[&[9223372036854775806]]);
 
 /// Chunks, what is asked for, and the ranges of bytes that a read asks for.
-const PLANNED: [(Told<'static>, Asked<'static>, &'static [(u64, u64)]); 13] = [
+const PLANNED: &'static [(Told<'static>, Asked<'static>, &'static [(u64, u64)])] = &[
     (SQUARE, COLUMN, &[(4, 5), (8, 9)]),
     (SQUARE, Ranges(&[0..4, 0..4]), &[(0, 16)]),
     (SQUARE, Ranges(&[1..3, 0..4]), &[(4, 12)]),
@@ -131,13 +174,13 @@ const BIG: Option<Endianness> = Some(Endianness::Big);
 /// Byte orders, chunks, stored values, what is asked for, and the elements. The bytes of other places
 /// may be missing, and more may follow. The fill value stands in memory's order, whatever the codec's
 /// is.
-const READ: [(
+const READ: &'static [(
     Option<Endianness>,
     Told<'static>,
     Option<&'static [u8]>,
     Asked<'static>,
     &'static [u8],
-); 21] = [
+)] = &[
     (
         None,
         SQUARE,
@@ -220,7 +263,7 @@ fn reads_the_bytes_of_the_places_alone(rt: HostRuntime) -> Result<(), Fail> {
 }
 
 /// Chunks, stored values that lack a byte of what is asked for, and what that is.
-const LACKING: [(Told<'static>, &'static [u8], Asked<'static>); 7] = [
+const LACKING: &'static [(Told<'static>, &'static [u8], Asked<'static>)] = &[
     (SQUARE, &[0, 1, 2, 3, 4, 5, 6, 7], COLUMN),
     (FOUR, &[10, 11, 12], Ranges(&[2..4])),
     (WORDS, &[10, 11, 20, 21, 30, 31, 40], RIGHT),
@@ -251,7 +294,7 @@ const OUTSIDE: CodecError = CodecError::OutOfBounds;
 
 /// What is asked for of a chunk of 4 by 4, and why it is refused. The indexer comes first: the value
 /// that is stored has none of the bytes.
-const REFUSED: [(Asked<'static>, CodecError); 7] = [
+const REFUSED: &'static [(Asked<'static>, CodecError)] = &[
     (Ranges(&[0..1]), AXES),
     (Ranges(&[9..10]), AXES),
     (Ranges(&[0..5, 0..4]), OUTSIDE),
@@ -268,8 +311,7 @@ fn plans_nothing(
     cause: CodecError,
 ) -> Result<(), Fail> {
     let decoder = decoder(alloc, BytesCodec::little(), &SQUARE, MemoryHandle::new())?;
-    let answer = decoder.planned_ranges(alloc, &indexer(alloc, asked)?);
-    is_refused(rt, "planned", answer, cause)
+    is_refused(rt, "planned", planned(alloc, &decoder, asked), cause)
 }
 
 #[test]
@@ -287,7 +329,7 @@ const COUNTS: [u64; 14] = [
     0, 1, 15, 16, 17, 63, 64, 65, 255, 256, 257, 1023, 1024, 1040,
 ];
 
-const FILLS: [&'static [u8]; 6] = [
+const FILLS: &'static [&'static [u8]] = &[
     &[7],
     &[1, 2],
     &[1, 2, 3],
@@ -297,44 +339,48 @@ const FILLS: [&'static [u8]; 6] = [
 ];
 
 /// The first elements of a chunk of which nothing is stored.
-fn reads_fill(rt: &impl Abort, alloc: Global, fill: &[u8], count: u64) -> Result<(), Fail> {
+fn reads_fill(rt: &impl Abort, alloc: Global, fill: &[u8], count: u64) -> Result<(), CodecError> {
     let told: Told = (&[1500], Type::Bits(8, fill.len() as u64), fill);
     let wanted = repeated(alloc, fill, count as usize)?;
     let asked = [0..count];
-    reads(
-        rt,
-        alloc,
-        BytesCodec::big(),
-        &told,
-        None,
-        &Ranges(&asked),
-        wanted.as_slice(),
-    )
+    reads_unstored(rt, alloc, &told, &Ranges(&asked), wanted.as_slice())
+}
+
+fn reads_unstored(
+    rt: &impl Abort,
+    alloc: Global,
+    told: &Told<'_>,
+    asked: &Asked<'_>,
+    elements: &[u8],
+) -> Result<(), CodecError> {
+    reads(rt, alloc, BytesCodec::big(), told, None, asked, elements)
 }
 
 /// As many first elements of three rows.
-fn reads_fill_of_rows(rt: &impl Abort, alloc: Global, fill: &[u8], count: u64) -> Result<(), Fail> {
+fn reads_fill_of_rows(
+    rt: &impl Abort,
+    alloc: Global,
+    fill: &[u8],
+    count: u64,
+) -> Result<(), CodecError> {
     let told: Told = (&[3, 1500], Type::Bits(8, fill.len() as u64), fill);
     let wanted = repeated(alloc, fill, (count as usize).saturating_mul(3))?;
     let asked = [0..3, 0..count];
-    reads(
-        rt,
-        alloc,
-        BytesCodec::big(),
-        &told,
-        None,
-        &Ranges(&asked),
-        wanted.as_slice(),
-    )
+    reads_unstored(rt, alloc, &told, &Ranges(&asked), wanted.as_slice())
 }
 
 #[test]
 fn reads_the_fill_value_of_each_width(rt: HostRuntime) -> Result<(), Fail> {
     for fill in FILLS.iter() {
-        for count in COUNTS.iter() {
-            reads_fill(&rt, rt.alloc(), fill, *count)?;
-            reads_fill_of_rows(&rt, rt.alloc(), fill, *count)?;
-        }
+        reads_each_count(&rt, rt.alloc(), fill)?;
+    }
+    Ok(())
+}
+
+fn reads_each_count(rt: &impl Abort, alloc: Global, fill: &[u8]) -> Result<(), CodecError> {
+    for count in COUNTS.iter() {
+        reads_fill(rt, alloc, fill, *count)?;
+        reads_fill_of_rows(rt, alloc, fill, *count)?;
     }
     Ok(())
 }
@@ -346,25 +392,29 @@ fn read_once<H: BytesPartialDecoderTraits + Drop>(
     rt: &impl Abort,
     alloc: Global,
     handle: H,
-) -> Result<H, Fail> {
+) -> Result<H, CodecError> {
     let mut decoder = decoder(alloc, BytesCodec::big(), &THREE, handle)?;
-    is(
-        rt,
-        "type",
-        decoder.data_type(),
-        &chunk_form(alloc, &THREE)?.data_type,
-    );
-    is(rt, "in part", &decoder.supports_partial_decode(), &true);
-    is(rt, "held", &decoder.size_held(), &6);
-    is(rt, "there", &decoder.exists(), &Ok(true));
-    let part = decoder.partial_decode(alloc, &indexer(alloc, &Ranges(&[1..3]))?)?;
-    has_bytes(rt, part, &[4, 3, 6, 5])?;
+    has_words(rt, alloc, &decoder)?;
+    tells(rt, &mut decoder);
+    reads_part(rt, alloc, &mut decoder, &Ranges(&[1..3]), &[4, 3, 6, 5])?;
     Ok(decoder.into_handle())
 }
 
-fn has_bytes(rt: &impl Abort, part: ArrayBytes<'_>, bytes: &[u8]) -> Result<(), Fail> {
-    are(rt, "read", part.into_fixed()?.as_slice(), bytes);
+fn has_words<H: BytesPartialDecoderTraits>(
+    rt: &impl Abort,
+    alloc: Global,
+    decoder: &BytesCodecPartial<H>,
+) -> Result<(), CodecError> {
+    let form = chunk_form(alloc, &THREE)?;
+    is(rt, "type", decoder.data_type(), &form.data_type);
     Ok(())
+}
+
+/// What a decoder over a value of six bytes tells without reading.
+fn tells<H: BytesPartialDecoderTraits>(rt: &impl Abort, decoder: &mut BytesCodecPartial<H>) {
+    is(rt, "in part", &decoder.supports_partial_decode(), &true);
+    is(rt, "held", &decoder.size_held(), &6);
+    is(rt, "there", &decoder.exists(), &Ok(true));
 }
 
 #[test]
@@ -373,15 +423,28 @@ fn borrows_or_owns_its_handle(rt: HostRuntime) -> Result<(), Fail> {
     let mut handle = stored(rt.alloc(), Some(value))?;
     read_once(&rt, rt.alloc(), &mut handle)?;
     is_value(&rt, "lent", handle.value(), Some(value));
-    let handle = read_once(&rt, rt.alloc(), handle)?;
-    is_value(&rt, "owned", handle.value(), Some(value));
+    Ok(owns(&rt, rt.alloc(), handle, value)?)
+}
+
+fn owns(
+    rt: &impl Abort,
+    alloc: Global,
+    handle: MemoryHandle,
+    value: &[u8],
+) -> Result<(), CodecError> {
+    let handle = read_once(rt, alloc, handle)?;
+    is_value(rt, "owned", handle.value(), Some(value));
     Ok(())
 }
 
 #[test]
 fn tells_that_nothing_is_stored(rt: HostRuntime) -> Result<(), Fail> {
     let mut decoder = decoder(rt.alloc(), BytesCodec::big(), &THREE, MemoryHandle::new())?;
-    is(&rt, "there", &decoder.exists(), &Ok(false));
-    is(&rt, "held", &decoder.size_held(), &0);
+    tells_of_nothing(&rt, &mut decoder);
     Ok(())
+}
+
+fn tells_of_nothing(rt: &impl Abort, decoder: &mut BytesCodecPartial<MemoryHandle>) {
+    is(rt, "there", &decoder.exists(), &Ok(false));
+    is(rt, "held", &decoder.size_held(), &0);
 }

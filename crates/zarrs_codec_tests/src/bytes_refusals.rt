@@ -1,3 +1,4 @@
+use crate::bytes_codec::{decodes_not, encodes_not};
 use crate::checks::{is, is_refused, is_value, stored};
 use crate::forms::{ChunkForm, Told, Type, chunk_form};
 use std::alloc::Global;
@@ -21,7 +22,7 @@ const WIDE: &'static [u64] = &[4294967296, 4294967296];
 const HALF: &'static [u64] = &[9223372036854775808];
 
 /// Byte orders, chunks that the codec doesn't take, and why.
-const REFUSED: [(Option<Endianness>, Told<'static>, CodecError); 23] = [
+const REFUSED: &'static [(Option<Endianness>, Told<'static>, CodecError)] = &[
     // Types that are not fixed. In the last ones the fill value doesn't fit and the elements are too
     // many besides: the type comes first.
     (LITTLE, (&[2], Type::Text, &[]), UNSUPPORTED),
@@ -120,29 +121,17 @@ fn codes_not(
     let answer = codec.encoded_representation(&form.shape, &form.data_type, &form.fill_value);
     is(rt, "represented", &answer, &Err(cause));
     let lent: &[u8] = &[1];
-    let elements = ArrayBytes::new_flen(CowSlice::Borrowed(lent));
-    let answer = codec.encode(
-        alloc,
-        elements,
-        &form.shape,
-        &form.data_type,
-        &form.fill_value,
-    );
-    is_refused(rt, "encoded", answer, cause)?;
-    let value = CowSlice::Borrowed(lent);
-    let answer = codec.decode(alloc, value, &form.shape, &form.data_type, &form.fill_value);
-    is_refused(rt, "decoded", answer, cause)
+    encodes_not(rt, alloc, codec, form, lent, cause)?;
+    decodes_not(rt, alloc, codec, form, CowSlice::Borrowed(lent), cause)
 }
 
 /// Why no decoder was made, and the handle that comes back.
 fn no_decoder<H: BytesPartialDecoderTraits + Drop>(
-    rt: &impl Abort,
     alloc: Global,
     codec: BytesCodec,
     form: &ChunkForm,
     handle: H,
-    cause: CodecError,
-) -> Result<H, Fail> {
+) -> Result<Refused<H>, Fail> {
     let made = codec.partial_decoder(
         alloc,
         handle,
@@ -150,13 +139,7 @@ fn no_decoder<H: BytesPartialDecoderTraits + Drop>(
         &form.data_type,
         &form.fill_value,
     );
-    match made {
-        Ok(_) => Err("a decoder was made")?,
-        Err(Refused { error, handle }) => {
-            is_refused::<()>(rt, "decoder", Err(error), cause)?;
-            Ok(handle)
-        }
-    }
+    Ok(made.err().ok_or("a decoder was made")?)
 }
 
 /// The making of a decoder hands the handle back with its value.
@@ -168,25 +151,34 @@ fn hands_back(
     cause: CodecError,
 ) -> Result<(), Fail> {
     let value: &[u8] = &[9, 8];
-    let handle = stored(alloc, Some(value))?;
-    let handle = no_decoder(rt, alloc, codec, form, handle, cause)?;
-    is_value(rt, "handed back", handle.value(), Some(value));
-    Ok(())
+    let refused = no_decoder(alloc, codec, form, stored(alloc, Some(value))?)?;
+    is_value(rt, "handed back", refused.handle.value(), Some(value));
+    is_refused::<()>(rt, "decoder", Err(refused.error), cause)
+}
+
+fn refuses(
+    rt: &impl Abort,
+    alloc: Global,
+    codec: BytesCodec,
+    told: &Told<'_>,
+    cause: CodecError,
+) -> Result<(), Fail> {
+    let form = chunk_form(alloc, told)?;
+    codes_not(rt, alloc, codec, &form, cause)?;
+    hands_back(rt, alloc, codec, &form, cause)
 }
 
 #[test]
 fn is_refused_by_the_first_cause(rt: HostRuntime) -> Result<(), Fail> {
     for (order, told, cause) in REFUSED.iter() {
-        let form = chunk_form(rt.alloc(), told)?;
-        codes_not(&rt, rt.alloc(), BytesCodec::new(*order), &form, *cause)?;
-        hands_back(&rt, rt.alloc(), BytesCodec::new(*order), &form, *cause)?;
+        refuses(&rt, rt.alloc(), BytesCodec::new(*order), told, *cause)?;
     }
     Ok(())
 }
 
 /// Byte orders and chunks of two elements, whose elements come as other kinds, and why they are
 /// refused. In the last one the order is missing besides, and comes first.
-const OTHER_KINDS: [(Option<Endianness>, Told<'static>, CodecError); 4] = [
+const OTHER_KINDS: &'static [(Option<Endianness>, Told<'static>, CodecError)] = &[
     (
         LITTLE,
         (&[2], Type::Bits(8, 1), &[0]),
@@ -239,43 +231,47 @@ fn refuses_elements(
 
 #[test]
 fn takes_elements_of_the_kind(rt: HostRuntime) -> Result<(), Fail> {
-    let alloc = rt.alloc();
     for (order, told, cause) in OTHER_KINDS.iter() {
-        let form = chunk_form(alloc, told)?;
-        let codec = BytesCodec::new(*order);
-        refuses_elements(&rt, alloc, codec, &form, variable(alloc)?, *cause)?;
-        refuses_elements(&rt, alloc, codec, &form, masked(alloc)?, *cause)?;
+        refuses_kinds(&rt, rt.alloc(), BytesCodec::new(*order), told, *cause)?;
     }
     Ok(())
+}
+
+fn refuses_kinds(
+    rt: &impl Abort,
+    alloc: Global,
+    codec: BytesCodec,
+    told: &Told<'_>,
+    cause: CodecError,
+) -> Result<(), Fail> {
+    let form = chunk_form(alloc, told)?;
+    refuses_elements(rt, alloc, codec, &form, variable(alloc)?, cause)?;
+    refuses_elements(rt, alloc, codec, &form, masked(alloc)?, cause)
 }
 
 /// What a refused making hands back, where the handle is lent.
 fn hands_back_lent(
     rt: &impl Abort,
     alloc: Global,
-    form: &ChunkForm,
     handle: &mut MemoryHandle,
     value: &[u8],
 ) -> Result<(), Fail> {
-    let codec = BytesCodec::new(None);
-    let lent = no_decoder(
+    let form = chunk_form(alloc, &(&[2], Type::Bits(16, 1), &[0, 0]))?;
+    let refused = no_decoder(alloc, BytesCodec::new(None), &form, handle)?;
+    is_value(rt, "handed back", refused.handle.value(), Some(value));
+    is_refused::<()>(
         rt,
-        alloc,
-        codec,
-        form,
-        handle,
+        "decoder",
+        Err(refused.error),
         CodecError::EndiannessMissing,
-    )?;
-    is_value(rt, "handed back", lent.value(), Some(value));
-    Ok(())
+    )
 }
 
 #[test]
 fn hands_back_what_was_lent(rt: HostRuntime) -> Result<(), Fail> {
     let value: &[u8] = &[1, 2, 3, 4];
-    let form = chunk_form(rt.alloc(), &(&[2], Type::Bits(16, 1), &[0, 0]))?;
     let mut handle = stored(rt.alloc(), Some(value))?;
-    hands_back_lent(&rt, rt.alloc(), &form, &mut handle, value)?;
+    hands_back_lent(&rt, rt.alloc(), &mut handle, value)?;
     is_value(&rt, "there again", handle.value(), Some(value));
     Ok(())
 }

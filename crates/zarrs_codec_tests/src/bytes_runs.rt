@@ -1,6 +1,6 @@
 //! Elements of a chunk's value, read by runs of places over a handle.
 
-use crate::checks::{are, is_refused, is_value, stored};
+use crate::checks::{has_bytes, is_refused, is_value, stored};
 use std::alloc::Global;
 use std::process::Abort;
 use std::test::Fail;
@@ -25,7 +25,7 @@ fn words(
 }
 
 /// Byte orders, stored values, and those words.
-const READ: [(Endianness, Option<&'static [u8]>, &'static [u8]); 3] = [
+const READ: &'static [(Endianness, Option<&'static [u8]>, &'static [u8])] = &[
     (
         Endianness::Little,
         Some(&[10, 11, 20, 21, 30, 31, 40, 41]),
@@ -45,12 +45,22 @@ fn reads(
     order: Endianness,
     value: Option<&[u8]>,
     wanted: &[u8],
-) -> Result<(), Fail> {
+) -> Result<(), CodecError> {
     let mut handle = stored(alloc, value)?;
-    let part = words(alloc, BytesCodec::new(Some(order)), &mut handle)?;
-    are(rt, "read", part.into_fixed()?.as_slice(), wanted);
+    reads_words(rt, alloc, BytesCodec::new(Some(order)), &mut handle, wanted)?;
     is_value(rt, "stored", handle.value(), value);
     Ok(())
+}
+
+fn reads_words(
+    rt: &impl Abort,
+    alloc: Global,
+    codec: BytesCodec,
+    handle: &mut MemoryHandle,
+    wanted: &[u8],
+) -> Result<(), CodecError> {
+    let part = words(alloc, codec, handle)?;
+    has_bytes(rt, "read", &part, wanted)
 }
 
 #[test]

@@ -1,17 +1,18 @@
 //! Components of each width in both orders, against bytes that are reversed one by one.
 
-use crate::bytes_codec::codes;
+use crate::bytes_codec::codes_told;
 use crate::bytes_parts::reads;
 use crate::checks::Asked;
-use crate::forms::{Told, Type, chunk_form, elements_at, numbered, repeated, reversed};
+use crate::forms::{Told, Type, elements_at, numbered, repeated, reversed};
 use Asked::{Ranges, Tuples};
 use std::alloc::Global;
 use std::process::Abort;
 use std::test::Fail;
 use zarrs_bytes::BytesCodec;
+use zarrs_chunk::CodecError;
 
 /// Bits of a component, and the bytes that hold them.
-const WIDTHS: [(u64, usize); 12] = [
+const WIDTHS: &'static [(u64, usize)] = &[
     (1, 1),
     (2, 1),
     (4, 1),
@@ -27,7 +28,7 @@ const WIDTHS: [(u64, usize); 12] = [
 ];
 
 /// What is asked for of a chunk of 2 by 3, and its places.
-const PLACES: [(Asked<'static>, &'static [usize]); 3] = [
+const PLACES: &'static [(Asked<'static>, &'static [usize])] = &[
     (Ranges(&[0..2, 1..3]), &[1, 2, 4, 5]),
     (Ranges(&[0..2, 0..3]), &[0, 1, 2, 3, 4, 5]),
     (Tuples(&[&[1, 2], &[0, 0], &[1, 2]]), &[5, 0, 5]),
@@ -38,26 +39,31 @@ fn six(rt: &impl Abort, alloc: Global, bits: u64, size: usize, count: usize) -> 
     let element = size.saturating_mul(count);
     let memory = numbered(alloc, element.saturating_mul(6))?;
     let turned = reversed(alloc, memory.as_slice(), size)?;
-    let fill = repeated(alloc, &[0], element)?;
-    let told: Told = (&[2, 3], Type::Bits(bits, count as u64), fill.as_slice());
-    in_order(
+    let told = Type::Bits(bits, count as u64);
+    in_orders(
         rt,
         alloc,
-        BytesCodec::little(),
-        &told,
-        memory.as_slice(),
-        memory.as_slice(),
+        told,
         element,
-    )?;
-    in_order(
-        rt,
-        alloc,
-        BytesCodec::big(),
-        &told,
         memory.as_slice(),
         turned.as_slice(),
-        element,
     )
+}
+
+/// The elements in both orders.
+fn in_orders(
+    rt: &impl Abort,
+    alloc: Global,
+    told: Type,
+    element: usize,
+    memory: &[u8],
+    turned: &[u8],
+) -> Result<(), Fail> {
+    let fill = repeated(alloc, &[0], element)?;
+    let told: Told = (&[2, 3], told, fill.as_slice());
+    let (little, big) = (BytesCodec::little(), BytesCodec::big());
+    in_order(rt, alloc, little, &told, memory, memory, element)?;
+    in_order(rt, alloc, big, &told, memory, turned, element)
 }
 
 fn in_order(
@@ -69,7 +75,7 @@ fn in_order(
     value: &[u8],
     element: usize,
 ) -> Result<(), Fail> {
-    codes(rt, alloc, codec, &chunk_form(alloc, told)?, memory, value)?;
+    codes_told(rt, alloc, codec, told, memory, value)?;
     for (asked, places) in PLACES.iter() {
         reads_places(
             rt, alloc, codec, told, memory, value, element, asked, places,
@@ -90,7 +96,7 @@ fn reads_places(
     places: &[usize],
 ) -> Result<(), Fail> {
     let wanted = elements_at(alloc, memory, element, places)?;
-    reads(
+    Ok(reads(
         rt,
         alloc,
         codec,
@@ -98,7 +104,7 @@ fn reads_places(
         Some(value),
         asked,
         wanted.as_slice(),
-    )
+    )?)
 }
 
 #[test]
@@ -120,43 +126,52 @@ const FEW: [usize; 13] = [1, 2, 3, 4, 5, 7, 8, 9, 15, 16, 17, 32, 33];
 const MANY: [usize; 2] = [3072, 6144];
 
 /// So many components, all of them turned round or none.
-fn components(rt: &impl Abort, alloc: Global, size: usize, count: usize) -> Result<(), Fail> {
+fn components(rt: &impl Abort, alloc: Global, size: usize, count: usize) -> Result<(), CodecError> {
     let memory = numbered(alloc, size.saturating_mul(count))?;
     let turned = reversed(alloc, memory.as_slice(), size)?;
-    let fill = repeated(alloc, &[0], size)?;
-    let bits = (size as u64).saturating_mul(8);
-    let sizes: [u64; 1] = [count as u64];
-    let form = chunk_form(alloc, &(&sizes, Type::Bits(bits, 1), fill.as_slice()))?;
-    codes(
+    turns(
         rt,
         alloc,
-        BytesCodec::little(),
-        &form,
-        memory.as_slice(),
-        memory.as_slice(),
-    )?;
-    codes(
-        rt,
-        alloc,
-        BytesCodec::big(),
-        &form,
+        size,
+        count as u64,
         memory.as_slice(),
         turned.as_slice(),
     )
 }
 
+fn turns(
+    rt: &impl Abort,
+    alloc: Global,
+    size: usize,
+    count: u64,
+    memory: &[u8],
+    turned: &[u8],
+) -> Result<(), CodecError> {
+    let fill = repeated(alloc, &[0], size)?;
+    let bits = (size as u64).saturating_mul(8);
+    let sizes: [u64; 1] = [count];
+    let told: Told = (&sizes, Type::Bits(bits, 1), fill.as_slice());
+    codes_told(rt, alloc, BytesCodec::little(), &told, memory, memory)?;
+    codes_told(rt, alloc, BytesCodec::big(), &told, memory, turned)
+}
+
 #[test]
 fn turns_groups_and_what_is_left(rt: HostRuntime) -> Result<(), Fail> {
     for size in SIZES.iter() {
-        for count in FEW.iter() {
-            components(&rt, rt.alloc(), *size, *count)?;
-        }
+        components_of_few(&rt, rt.alloc(), *size)?;
+    }
+    Ok(())
+}
+
+fn components_of_few(rt: &impl Abort, alloc: Global, size: usize) -> Result<(), CodecError> {
+    for count in FEW.iter() {
+        components(rt, alloc, size, *count)?;
     }
     Ok(())
 }
 
 /// One component less than so many bytes hold, as many, and one more.
-fn round(rt: &impl Abort, alloc: Global, size: usize, bytes: usize) -> Result<(), Fail> {
+fn round(rt: &impl Abort, alloc: Global, size: usize, bytes: usize) -> Result<(), CodecError> {
     let count = bytes / size.max(1);
     components(rt, alloc, size, count.saturating_sub(1))?;
     components(rt, alloc, size, count)?;
@@ -166,9 +181,14 @@ fn round(rt: &impl Abort, alloc: Global, size: usize, bytes: usize) -> Result<()
 #[test]
 fn turns_blocks_and_what_is_left(rt: HostRuntime) -> Result<(), Fail> {
     for size in SIZES.iter() {
-        for bytes in MANY.iter() {
-            round(&rt, rt.alloc(), *size, *bytes)?;
-        }
+        round_many(&rt, rt.alloc(), *size)?;
+    }
+    Ok(())
+}
+
+fn round_many(rt: &impl Abort, alloc: Global, size: usize) -> Result<(), CodecError> {
+    for bytes in MANY.iter() {
+        round(rt, alloc, size, *bytes)?;
     }
     Ok(())
 }

@@ -4,7 +4,8 @@ ghost use Rattle.zarrs_chunk.specs.Answer.{Answers, fault, is_fault};
 ghost use Rattle.zarrs_codec.specs.StorageState.{count_if, last_failure};
 
 use crate::bytes_batches::listed;
-use crate::checks::{Asked, are, indexer, is, is_refused, stored};
+use crate::bytes_parts::{reads_indexed, reads_part, refuses_part};
+use crate::checks::{Asked, indexer, is, is_refused, stored};
 use crate::forms::{Told, Type, decoder, repeated};
 use std::alloc::Global;
 use std::process::Abort;
@@ -106,70 +107,69 @@ fn failing(
     Ok(decoder(alloc, BytesCodec::big(), told, handle)?)
 }
 
-fn refuses(
-    rt: &impl Abort,
-    alloc: Global,
-    decoder: &mut BytesCodecPartial<FailingHandle>,
-    asked: &Asked<'_>,
-    cause: CodecError,
-) -> Result<(), Fail> {
-    let asked = indexer(alloc, asked)?;
-    is_refused(rt, "refused", decoder.partial_decode(alloc, &asked), cause)
-}
-
-fn reads_first(
-    rt: &impl Abort,
-    alloc: Global,
-    decoder: &mut BytesCodecPartial<FailingHandle>,
-    elements: &[u8],
-) -> Result<(), Fail> {
-    let part = decoder.partial_decode(alloc, &indexer(alloc, &FIRST)?)?;
-    are(rt, "read", part.into_fixed()?.as_slice(), elements);
-    Ok(())
+/// The handle has failed once.
+fn has_failed(rt: &impl Abort, decoder: BytesCodecPartial<FailingHandle>) {
+    is(rt, "faults", &decoder.into_handle().faults, &1);
 }
 
 /// The read behind the first call is refused, and the next one isn't.
 fn fails_once(
     rt: &impl Abort,
     alloc: Global,
-    mut decoder: BytesCodecPartial<FailingHandle>,
+    decoder: &mut BytesCodecPartial<FailingHandle>,
     is_there: bool,
     elements: &[u8],
 ) -> Result<(), Fail> {
     is(rt, "there", &decoder.exists(), &Ok(is_there));
-    refuses(rt, alloc, &mut decoder, &FIRST, FAILED)?;
-    reads_first(rt, alloc, &mut decoder, elements)?;
-    is(rt, "faults", &decoder.into_handle().faults, &1);
-    Ok(())
+    refuses_part(rt, alloc, decoder, &FIRST, FAILED)?;
+    Ok(reads_part(rt, alloc, decoder, &FIRST, elements)?)
 }
 
 #[test]
 fn a_failing_read_is_refused(rt: HostRuntime) -> Result<(), Fail> {
-    let stored = failing(rt.alloc(), &WORDS, Some(&[1, 2]))?;
-    fails_once(&rt, rt.alloc(), stored, true, &[2, 1])?;
-    let unstored = failing(rt.alloc(), &WORDS, None)?;
-    fails_once(&rt, rt.alloc(), unstored, false, &[9, 9])
+    let mut stored = failing(rt.alloc(), &WORDS, Some(&[1, 2]))?;
+    fails_once(&rt, rt.alloc(), &mut stored, true, &[2, 1])?;
+    has_failed(&rt, stored);
+    Ok(())
+}
+
+#[test]
+fn a_failing_read_of_nothing_is_refused(rt: HostRuntime) -> Result<(), Fail> {
+    let mut unstored = failing(rt.alloc(), &WORDS, None)?;
+    fails_once(&rt, rt.alloc(), &mut unstored, false, &[9, 9])?;
+    has_failed(&rt, unstored);
+    Ok(())
+}
+
+fn plans_nothing(
+    rt: &impl Abort,
+    alloc: Global,
+    decoder: &BytesCodecPartial<FailingHandle>,
+) -> Result<(), Fail> {
+    let outside = indexer(alloc, &OUTSIDE)?;
+    let planned = decoder.planned_ranges(alloc, &outside);
+    is_refused(rt, "planned", planned, CodecError::OutOfBounds)
 }
 
 /// No call of the handle is made for an indexer that lies outside, or for the plan.
 fn is_not_asked_in_vain(
     rt: &impl Abort,
     alloc: Global,
-    mut decoder: BytesCodecPartial<FailingHandle>,
+    decoder: &mut BytesCodecPartial<FailingHandle>,
 ) -> Result<(), Fail> {
-    refuses(rt, alloc, &mut decoder, &OUTSIDE, CodecError::OutOfBounds)?;
-    let planned = decoder.planned_ranges(alloc, &indexer(alloc, &OUTSIDE)?);
-    is_refused(rt, "planned", planned, CodecError::OutOfBounds)?;
+    refuses_part(rt, alloc, decoder, &OUTSIDE, CodecError::OutOfBounds)?;
+    plans_nothing(rt, alloc, decoder)?;
     is(rt, "there", &decoder.exists(), &Ok(false));
     is(rt, "failed", &decoder.exists(), &Err(FAILED));
-    is(rt, "faults", &decoder.into_handle().faults, &1);
     Ok(())
 }
 
 #[test]
 fn an_indexer_is_refused_before_the_handle_is_asked(rt: HostRuntime) -> Result<(), Fail> {
-    let decoder = failing(rt.alloc(), &WORDS, None)?;
-    is_not_asked_in_vain(&rt, rt.alloc(), decoder)
+    let mut decoder = failing(rt.alloc(), &WORDS, None)?;
+    is_not_asked_in_vain(&rt, rt.alloc(), &mut decoder)?;
+    has_failed(&rt, decoder);
+    Ok(())
 }
 
 /// The first word, as often as this.
@@ -177,36 +177,33 @@ fn firsts(alloc: Global, count: usize) -> Result<Indexer, CodecError> {
     listed(alloc, vec![in alloc; 0usize; count]?.as_slice())
 }
 
-fn reads_bytes(
+fn reads_firsts(
     rt: &impl Abort,
     alloc: Global,
     decoder: &mut BytesCodecPartial<FailingHandle>,
     asked: &Indexer,
-    elements: &[u8],
-) -> Result<(), Fail> {
-    let part = decoder.partial_decode(alloc, asked)?;
-    are(rt, "read", part.into_fixed()?.as_slice(), elements);
-    Ok(())
+) -> Result<(), CodecError> {
+    let wanted = repeated(alloc, &[2, 1], 1025)?;
+    reads_indexed(rt, alloc, decoder, asked, wanted.as_slice())
 }
 
 /// The second batch is refused, and so is the read; the next read isn't.
 fn fails_in_its_second_batch(
     rt: &impl Abort,
     alloc: Global,
-    mut decoder: BytesCodecPartial<FailingHandle>,
+    decoder: &mut BytesCodecPartial<FailingHandle>,
 ) -> Result<(), Fail> {
     let asked = firsts(alloc, 1025)?;
     is_refused(rt, "refused", decoder.partial_decode(alloc, &asked), FAILED)?;
-    let wanted = repeated(alloc, &[2, 1], 1025)?;
-    reads_bytes(rt, alloc, &mut decoder, &asked, wanted.as_slice())?;
-    is(rt, "faults", &decoder.into_handle().faults, &1);
-    Ok(())
+    Ok(reads_firsts(rt, alloc, decoder, &asked)?)
 }
 
 #[test]
 fn a_failing_batch_refuses_the_read(rt: HostRuntime) -> Result<(), Fail> {
-    let decoder = failing(rt.alloc(), &WORDS, Some(&[1, 2]))?;
-    fails_in_its_second_batch(&rt, rt.alloc(), decoder)
+    let mut decoder = failing(rt.alloc(), &WORDS, Some(&[1, 2]))?;
+    fails_in_its_second_batch(&rt, rt.alloc(), &mut decoder)?;
+    has_failed(&rt, decoder);
+    Ok(())
 }
 
 const ROWS: Told<'static> = (&[1025, 17], Type::Bits(8, 1), &[9]);
@@ -220,23 +217,26 @@ fn reads_rows(
     rt: &impl Abort,
     alloc: Global,
     decoder: &mut BytesCodecPartial<FailingHandle>,
-) -> Result<(), Fail> {
+) -> Result<(), CodecError> {
     let wanted = repeated(alloc, &[5], 16400)?;
-    let asked = indexer(alloc, &BY_ONE_CALL)?;
-    reads_bytes(rt, alloc, decoder, &asked, wanted.as_slice())
+    reads_part(rt, alloc, decoder, &BY_ONE_CALL, wanted.as_slice())
+}
+
+/// A decoder over rows of fives, the second call of whose handle fails.
+fn failing_rows(alloc: Global) -> Result<BytesCodecPartial<FailingHandle>, Fail> {
+    let value = repeated(alloc, &[5], 17425)?;
+    failing(alloc, &ROWS, Some(value.as_slice()))
 }
 
 #[test]
 fn long_ranges_are_read_by_one_call(rt: HostRuntime) -> Result<(), Fail> {
-    let value = repeated(rt.alloc(), &[5], 17425)?;
-    let mut decoder = failing(rt.alloc(), &ROWS, Some(value.as_slice()))?;
+    let mut decoder = failing_rows(rt.alloc())?;
     reads_rows(&rt, rt.alloc(), &mut decoder)?;
-    refuses(&rt, rt.alloc(), &mut decoder, &BY_ONE_CALL, FAILED)
+    refuses_part(&rt, rt.alloc(), &mut decoder, &BY_ONE_CALL, FAILED)
 }
 
 #[test]
 fn short_ranges_are_read_in_batches(rt: HostRuntime) -> Result<(), Fail> {
-    let value = repeated(rt.alloc(), &[5], 17425)?;
-    let mut decoder = failing(rt.alloc(), &ROWS, Some(value.as_slice()))?;
-    refuses(&rt, rt.alloc(), &mut decoder, &BY_TWO_CALLS, FAILED)
+    let mut decoder = failing_rows(rt.alloc())?;
+    refuses_part(&rt, rt.alloc(), &mut decoder, &BY_TWO_CALLS, FAILED)
 }

@@ -22,10 +22,12 @@ fn data_type(alloc: Global, told: &Type) -> Result<DataType, CodecError> {
         Type::Text => Ok(DataType::string()),
         Type::Bytes => Ok(DataType::bytes()),
         Type::OptionalByte => DataType::optional(alloc, DataType::uint8()),
-        Type::NestedText => {
-            DataType::optional(alloc, DataType::optional(alloc, DataType::string())?)
-        }
+        Type::NestedText => nested_text(alloc),
     }
+}
+
+fn nested_text(alloc: Global) -> Result<DataType, CodecError> {
+    DataType::optional(alloc, DataType::optional(alloc, DataType::string())?)
 }
 
 /// A chunk: its sizes, its type and its fill value.
@@ -58,15 +60,27 @@ pub(crate) fn decoder<H: BytesPartialDecoderTraits + Drop>(
     told: &Told<'_>,
     handle: H,
 ) -> Result<BytesCodecPartial<H>, CodecError> {
-    let form = chunk_form(alloc, told)?;
-    let made = codec.partial_decoder(
+    decoder_of(alloc, codec, &chunk_form(alloc, told)?, handle)
+}
+
+fn decoder_of<H: BytesPartialDecoderTraits + Drop>(
+    alloc: Global,
+    codec: BytesCodec,
+    form: &ChunkForm,
+    handle: H,
+) -> Result<BytesCodecPartial<H>, CodecError> {
+    made(codec.partial_decoder(
         alloc,
         handle,
         &form.shape,
         &form.data_type,
         &form.fill_value,
-    );
-    match made {
+    ))
+}
+
+/// The decoder, or why it wasn't made.
+fn made<D, H: Drop>(answer: Result<D, Refused<H>>) -> Result<D, CodecError> {
+    match answer {
         Ok(decoder) => Ok(decoder),
         Err(Refused { error, handle: _ }) => Err(error),
     }

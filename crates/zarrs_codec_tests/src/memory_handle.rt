@@ -5,7 +5,7 @@ use std::test::Fail;
 use zarrs_chunk::CodecError;
 use zarrs_codec::{ByteRange, BytesPartialDecoderTraits};
 
-const VALUES: [Option<&'static [u8]>; 3] = [None, Some(&[]), Some(&[10, 11, 12])];
+const VALUES: &'static [Option<&'static [u8]>] = &[None, Some(&[]), Some(&[10, 11, 12])];
 
 /// What a handle over this value, or over none, tells of it without reading.
 fn tells<H: BytesPartialDecoderTraits>(
@@ -70,7 +70,7 @@ const VALUE: [u8; 20] = [
 ];
 
 /// Starts and ends of ranges, and their bytes.
-const JOINED: [(&'static [(u64, u64)], &'static [u8]); 7] = [
+const JOINED: &'static [(&'static [(u64, u64)], &'static [u8])] = &[
     (&[(0, 3)], &[10, 11, 12]),
     (&[(2, 3), (0, 1), (2, 3)], &[12, 10, 12]),
     (&[(20, 20)], &[]),
@@ -81,7 +81,7 @@ const JOINED: [(&'static [(u64, u64)], &'static [u8]); 7] = [
 ];
 
 /// Ranges of which one ends past the value, as an empty one behind the end does.
-const PAST: [&'static [(u64, u64)]; 4] = [
+const PAST: &'static [&'static [(u64, u64)]] = &[
     &[(2, 21)],
     &[(0, 1), (20, 21)],
     &[(0, 18446744073709551615)],

@@ -15,7 +15,7 @@ type Written = (
     &'static [u8],
 );
 
-const WRITTEN: [Written; 14] = [
+const WRITTEN: &'static [Written] = &[
     // Inside the value, in any order.
     (Some(&[1, 2, 3]), &[(1, 1)], &[9], &[1, 9, 3]),
     (
@@ -111,7 +111,7 @@ fn writes_pieces(rt: HostRuntime) -> Result<(), Fail> {
 }
 
 /// Pieces and bytes that are refused, and why.
-const REFUSED: [(&'static [(u64, u64)], &'static [u8], CodecError); 7] = [
+const REFUSED: &'static [(&'static [(u64, u64)], &'static [u8], CodecError)] = &[
     (&[(LAST, 1)], &[1], CodecError::Overflow),
     (&[(0, 1), (1, LAST)], &[1], CodecError::Overflow),
     // Each ends where 64 bits hold it, and together they are too many.

@@ -1,5 +1,5 @@
 -- Where all bits of whole bytes are kept, values are those of the codec `bytes` in little order.
-use Rattle.std.proofs.Common.{◌≡◌, ◌↔◌, ℕ, zero, suc, ◌+◌, ◌*◌, ◌<◌, ◌≤◌, ◌^◌, Bool, true, false, nat_lt, Some, Result, Ok, Err, List, [], ◌∷◌, ◌++◌, length, get_or, lit<, arith, refl, ap, sym, ◌∙◌, subst}
+use Rattle.std.proofs.Common.{◌≡◌, ◌↔◌, ℕ, zero, suc, ◌*◌, ◌<◌, ◌≤◌, ◌^◌, Bool, true, nat_lt, Some, Result, Ok, Err, List, [], ◌∷◌, ◌++◌, length, get_or, lit<, arith, refl, ap, sym, ◌∙◌}
 use Rattle.std.specs.List.{All}
 use Rattle.std.proofs.Math.Nat.{mul-le-mul_left}
 use Rattle.std.proofs.lemmas.Bool.Decides.{nat_tests}
@@ -7,7 +7,7 @@ use Rattle.std.proofs.lemmas.List.Elements.{All-append, All-head, All-nil, All-t
 use Rattle.zarrs_chunk.specs.ChunkShape.{product}
 use Rattle.zarrs_chunk.specs.declared.codec_error.CodecError.{CodecError}
 use Rattle.zarrs_data_type.specs.Element.{Element, plain, absent, present, Chunk}
-use Rattle.zarrs_data_type.specs.ElementType.{ElementType, fixed, text, bytes, optional, element_size}
+use Rattle.zarrs_data_type.specs.ElementType.{fixed, text, bytes, optional, element_size}
 use Rattle.zarrs_data_type.specs.FillValue.{fill_fits}
 use Rattle.zarrs_data_type.specs.declared.endianness.Endianness.TheVariants.{Little}
 use Rattle.zarrs_bytes.specs.BytesCodec.{bytes_length, spelling, BytesWritten}
@@ -18,20 +18,20 @@ use Rattle.zarrs_packbits.specs.Laws.{HasBytes}
 use Rattle.zarrs_packbits.specs.Laws as laws
 use Rattle.zarrs_packbits.specs.PackBitsCodec.{PackBitsWritten}
 use Rattle.zarrs_packbits.specs.PackBitsSettings.{PackBitsSettings, packed_layout, keeps_all_bytes}
-use Rattle.zarrs_packbits.specs.PackedLayout.{IsPackedLayout, is_whole, parts_of}
+use Rattle.zarrs_packbits.specs.PackedLayout.{is_whole, parts_of}
 use Rattle.zarrs_packbits.specs.PaddingByte.{value_with}
 use Rattle.zarrs_packbits.proofs.Exact.{element_bytes, joined, is_cut, stream_cut}
 use Rattle.zarrs_packbits.proofs.LayoutLemmas.{whole_encoded}
-use Rattle.zarrs_packbits.proofs.Taken.{IsTaken, taken}
+use Rattle.zarrs_packbits.proofs.Taken.{taken}
 
-layout_kept : (r : Result PackedLayout CodecError) → keeps_all_bytes r ≡ true → (l : PackedLayout) × (r ≡ Ok l) × (is_whole l ≡ true)
+pub layout_kept : (r : Result PackedLayout CodecError) → keeps_all_bytes r ≡ true → (l : PackedLayout) × (r ≡ Ok l) × (is_whole l ≡ true)
 layout_kept (Ok l) h = (l, refl, h)
 layout_kept (Err e) h = absurd cc
 
 same_layout : (k l : PackedLayout) (r : Result PackedLayout CodecError) → r ≡ Ok k → r ≡ Ok l → k ≡ l
 same_layout k l r e f = cc
 
-spelling_is : (width components : ℕ) (sign : Bool) (chunk : Chunk) → spelling (Some Little) (fixed width components sign) chunk ≡ joined chunk
+pub spelling_is : (width components : ℕ) (sign : Bool) (chunk : Chunk) → spelling (Some Little) (fixed width components sign) chunk ≡ joined chunk
 spelling_is width components sign [] = refl
 spelling_is width components sign (plain items ∷ chunk) = ap (λ (l : List ℕ). items ++ l) (spelling_is width components sign chunk)
 spelling_is width components sign (absent ∷ chunk) = spelling_is width components sign chunk
@@ -58,6 +58,25 @@ length_is sizes width components sign fill f n m =
     let b : nat_lt (product sizes * element_size width components) (2 ^ 64) ≡ true = grind (arith, nat_tests) in
     rw (f, a, b) refl
 
+-- 64 bits count the bytes of a chunk that is taken
+whole_fits : (settings : PackBitsSettings) (sizes : List ℕ) (width components : ℕ) (sign : Bool) (fill : List ℕ) (l : PackedLayout) → packed_layout settings sizes (fixed width components sign) fill ≡ Ok l → (product sizes * (l.group * l.size) ≡ parts_of l * l.size) × (product sizes ≤ product sizes * (l.group * l.size)) × (product sizes * element_size width components < 2 ^ 64)
+whole_fits settings sizes width components sign fill l e =
+    let t = taken settings sizes width components sign fill l e in
+    let s = t.sound in
+    let size : 1 ≤ l.size = omega (arith, s.size, s.some) in
+    let group : 1 ≤ l.group = omega (arith, s.group) in
+    let one : l.group * 1 ≤ l.group * l.size = mul-le-mul_left l.group size in
+    let many : product sizes * 1 ≤ product sizes * (l.group * l.size) = mul-le-mul_left (product sizes) (let d : 1 ≤ l.group * l.size = omega arith in d) in
+    let all : product sizes * (l.group * l.size) ≡ parts_of l * l.size = ap (λ n. n * (l.group * l.size)) (sym t.elements) ∙ (let d : l.elements * (l.group * l.size) ≡ parts_of l * l.size = omega arith in d) in
+    let bytes_fit : product sizes * element_size width components < 2 ^ 64 = omega (arith, ap (λ k. product sizes * k) t.size, all, s.bytes_fit) in
+    (all, omega (arith, many), bytes_fit)
+
+pub length_fits : (settings : PackBitsSettings) (sizes : List ℕ) (width components : ℕ) (sign : Bool) (fill : List ℕ) (l : PackedLayout) → packed_layout settings sizes (fixed width components sign) fill ≡ Ok l → bytes_length (Some Little) sizes (fixed width components sign) fill ≡ ok (product sizes * element_size width components)
+length_fits settings sizes width components sign fill l e =
+    let t = taken settings sizes width components sign fill l e in
+    let all = whole_fits settings sizes width components sign fill l e in
+    length_is sizes width components sign fill t.filled (omega (arith, all.1, all.0, t.sound.bytes_fit)) all.2
+
 fixed_written : (settings : PackBitsSettings) (sizes : List ℕ) (width components : ℕ) (sign : Bool) (fill value : List ℕ) (chunk : Chunk) → keeps_all_bytes (packed_layout settings sizes (fixed width components sign) fill) ≡ true → All HasBytes chunk
     → PackBitsWritten settings sizes (fixed width components sign) fill value chunk ↔ BytesWritten (Some Little) sizes (fixed width components sign) fill value chunk
 fixed_written settings sizes width components sign fill value chunk keeps small =
@@ -67,13 +86,7 @@ fixed_written settings sizes width components sign fill value chunk keeps small 
     let e = whole.1 in
     let t = taken settings sizes width components sign fill l e in
     let s = t.sound in
-    let size : 1 ≤ l.size = omega (arith, s.size, s.some) in
-    let group : 1 ≤ l.group = omega (arith, s.group) in
-    let one : l.group * 1 ≤ l.group * l.size = mul-le-mul_left l.group size in
-    let many : product sizes * 1 ≤ product sizes * (l.group * l.size) = mul-le-mul_left (product sizes) (let d : 1 ≤ l.group * l.size = omega arith in d) in
-    let all : product sizes * (l.group * l.size) ≡ parts_of l * l.size = ap (λ n. n * (l.group * l.size)) (sym t.elements) ∙ (let d : l.elements * (l.group * l.size) ≡ parts_of l * l.size = omega arith in d) in
-    let bytes_fit : product sizes * element_size width components < 2 ^ 64 = omega (arith, ap (λ k. product sizes * k) t.size, all, s.bytes_fit) in
-    let length_so = length_is sizes width components sign fill t.filled (omega (arith, many, all, s.bytes_fit)) bytes_fit in (
+    let length_so = length_fits settings sizes width components sign fill l e in (
       λ w.
           let c = is_cut l (product sizes) width components sign chunk w.elements t.size t.elements in
           let same : w.layout ≡ l = same_layout w.layout l (packed_layout settings sizes type fill) w.taken e in

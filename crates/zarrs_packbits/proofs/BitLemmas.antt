@@ -1,15 +1,13 @@
 -- Lists of bits, and pieces of one length.
 use Rattle.std.proofs.Common.{◌≡◌, ℕ, zero, suc, ◌+◌, ◌-◌, ◌*◌, ◌/◌, ◌%◌, ◌^◌, ◌<◌, ◌≤◌, List, [], ◌∷◌, ◌++◌, Bool, true, false, length, take, drop, replicate, get_or, arith, refl, ap, sym, ◌∙◌, lit<}
 use Rattle.std.specs.List.{flat_map, range_with_len}
-use Rattle.std.proofs.lemmas.List.{append_assoc, append-nil, drop-drop, length-append, length-drop, length-take, length-take-le, length-replicate, take_at, drop_at, take_all, drop_all, take-append-drop, replicate-append-replicate}
+use Rattle.std.proofs.lemmas.List.{append_assoc, append-nil, length-append, length-drop, length-take, length-take-le, take_at, drop_at, take_all, drop_all, take-append-drop, replicate-append-replicate}
 use Rattle.std.proofs.lemmas.Nat.{pow_pos}
 use Rattle.std.proofs.lemmas.Bool.{cases_lt}
 use Rattle.std.proofs.Math.Nat.{pow-suc}
-use Rattle.std.proofs.Common.{◌⊎◌, inl, inr}
-use Rattle.std.proofs.lemmas.List.Concat.{flat_map-append}
+use Rattle.std.proofs.Common.{inl, inr}
 use Rattle.zarrs_packbits.specs.Bits.{low_bits, bits_of, field}
-use Rattle.zarrs_packbits.proofs.LowBits.{length-low_bits, length-bits_of, bits_of-drop, bits_of-take, take-drop-take}
-use Rattle.zarrs_packbits.specs.KeptBits.{top_of, full_component, kept_component, component_bits}
+use Rattle.zarrs_packbits.specs.KeptBits.{top_of, full_component}
 use Rattle.zarrs_packbits.specs.Packing.{number_of, bytes_from_bits, packing}
 use Rattle.zarrs_packbits.proofs.FieldLemmas.{flat_more}
 

@@ -1,39 +1,38 @@
 -- The laws of the codec.
-use Rattle.std.proofs.Common.{◌≡◌, ◌==◌, ◌↔◌, ℕ, zero, suc, ◌+◌, ◌-◌, ◌*◌, ◌/◌, ◌%◌, ◌<◌, ◌≤◌, ◌^◌, ◌&&◌, Bool, true, false, nat_lt, nat_le, Option, Some, Result, Ok, Err, List, [], ◌∷◌, ◌++◌, length, map, take, drop, get_or, arith, refl, ap, sym, ◌∙◌, subst, if◌then◌else◌, set}
-use Rattle.std.specs.List.{All, concat, flat_map, list_all, range_with_len}
+use Rattle.std.proofs.Common.{◌≡◌, ◌==◌, ℕ, zero, suc, ◌+◌, ◌-◌, ◌*◌, ◌%◌, ◌<◌, ◌≤◌, ◌&&◌, Bool, true, false, nat_lt, Some, Result, Ok, List, [], ◌∷◌, ◌++◌, length, map, take, drop, get_or, arith, refl, ap, sym, ◌∙◌, subst, if◌then◌else◌, set}
+use Rattle.std.specs.List.{All, range_with_len}
 use Rattle.std.proofs.lemmas.Bool.Decides.{nat_tests}
-use Rattle.std.proofs.lemmas.List.{drop_more, length-map, length-append}
+use Rattle.std.proofs.lemmas.List.{drop_more, length-append}
 use Rattle.std.proofs.lemmas.List.Elements.{All-head, All-tail}
-use Rattle.std.proofs.lemmas.List.Folds.{list_all-append}
-use Rattle.std.proofs.lemmas.List.FromFn.{length-range_with_len, get_or-map-range_with_len}
+use Rattle.std.proofs.lemmas.List.FromFn.{get_or-map-range_with_len}
 use Rattle.zarrs_chunk.specs.Answer.{◌>>=◌, demand, seen}
 use Rattle.zarrs_chunk.specs.ChunkShape.{product}
 use Rattle.zarrs_chunk.specs.declared.codec_error.CodecError.{CodecError}
-use Rattle.zarrs_chunk.specs.declared.codec_error.CodecError.TheVariants.{InvalidByteRange, InvalidBytesLength, PaddingByte}
-use Rattle.zarrs_data_type.specs.Element.{Element, plain, absent, present, Chunk}
+use Rattle.zarrs_chunk.specs.declared.codec_error.CodecError.TheVariants.{InvalidBytesLength, PaddingByte}
+use Rattle.zarrs_data_type.specs.Element.{Element, plain, absent, Chunk}
 use Rattle.zarrs_data_type.specs.ElementType.{ElementType, fixed, text, bytes, optional}
 use Rattle.zarrs_array_bytes.specs.Elements.{select}
 use Rattle.zarrs_array_bytes.specs.Update.{update}
 use Rattle.zarrs_bytes.proofs.Coding.{bind_ok, ok}
 use Rattle.zarrs_codec.specs.ByteRanges.{SameByte}
 use Rattle.zarrs_packbits.specs.Bits.{bits_of}
-use Rattle.zarrs_packbits.specs.BitStream.{chunk_stream, stream_of_bytes, components_from, element_bits, packed_element}
+use Rattle.zarrs_packbits.specs.BitStream.{chunk_stream, components_from, element_bits, packed_element}
 use Rattle.zarrs_packbits.specs.declared.layout.PackedLayout.{PackedLayout}
 use Rattle.zarrs_packbits.specs.Laws as laws
 use Rattle.zarrs_packbits.specs.NormalForm.{kept_element, normal_element, normal_chunk}
-use Rattle.zarrs_packbits.specs.PackBitsCodec.{packbits_chunk, PackBitsStands, PackBitsWritten}
-use Rattle.zarrs_packbits.specs.PackBitsSettings.{PackBitsSettings, packed_layout, packbits_length, has_bits, layout_for}
+use Rattle.zarrs_packbits.specs.PackBitsCodec.{PackBitsStands, PackBitsWritten}
+use Rattle.zarrs_packbits.specs.PackBitsSettings.{PackBitsSettings, packed_layout, has_bits, layout_for}
 use Rattle.zarrs_packbits.specs.PackedLayout.{IsPackedLayout, element_bits_len}
-use Rattle.zarrs_packbits.specs.PaddingByte.{lead, padding_holds, value_len, value_with}
+use Rattle.zarrs_packbits.specs.PaddingByte.{padding_holds, value_len, value_with}
 use Rattle.zarrs_packbits.specs.Packing.{packing}
-use Rattle.zarrs_packbits.specs.PartialRead.{span_start, span_end, packed_place_bytes, packed_places_bytes, all_below, read_packed_places, read_places_of}
-use Rattle.zarrs_packbits.proofs.Exact.{joined, cut, is_cut, cut_chunk, normal_cut, stream_cut, flat_stands, stands_flat, decoded_only, decoded_found}
+use Rattle.zarrs_packbits.specs.PartialRead.{span_start, span_end, packed_place_bytes, packed_places_bytes, all_below, read_packed_places}
+use Rattle.zarrs_packbits.proofs.Exact.{joined, cut, is_cut, normal_cut, stream_cut, stands_flat, decoded_only}
 use Rattle.zarrs_packbits.proofs.FlatChunk.{nf, encoded}
 use Rattle.zarrs_packbits.proofs.LocalLemmas.{element_of_piece, element_some}
 use Rattle.zarrs_packbits.proofs.Standing.{encoded_stands, stream_nf, places_inside}
 use Rattle.zarrs_packbits.proofs.ElementBits.{stream_of_pieces}
 use Rattle.std.proofs.lemmas.List.{get_or-append-add, get_or_append_left}
-use Rattle.zarrs_packbits.proofs.Taken.{taken, taken_width}
+use Rattle.zarrs_packbits.proofs.Taken.{taken}
 
 -- ---- the normal form
 

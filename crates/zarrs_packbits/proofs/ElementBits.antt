@@ -1,25 +1,24 @@
 -- Chunks of elements, and the same as their bytes joined.
-use Rattle.std.proofs.Common.{◌≡◌, ℕ, zero, suc, ◌+◌, ◌-◌, ◌*◌, ◌/◌, ◌^◌, ◌<◌, ◌≤◌, ◌==◌, Bool, true, nat_lt, List, [], ◌∷◌, ◌++◌, length, map, take, drop, get_or, Ok, arith, refl, ap, ap₂, sym, ◌∙◌, subst}
+use Rattle.std.proofs.Common.{◌≡◌, ℕ, zero, suc, ◌+◌, ◌-◌, ◌*◌, ◌/◌, ◌^◌, ◌<◌, ◌≤◌, ◌==◌, Bool, true, nat_lt, List, [], ◌∷◌, ◌++◌, length, map, take, drop, arith, refl, ap, ap₂, sym, ◌∙◌, subst}
 use Rattle.std.specs.List.{concat, flat_map, range_with_len}
 use Rattle.std.proofs.Math.Nat.{mul-le-mul_right}
 use Rattle.std.proofs.lemmas.Bool.Decides.{nat_tests}
 use Rattle.std.proofs.lemmas.List.{append_assoc, append-nil, drop-drop, length-append, length-drop, length-map, nil_from_length, take-append-le, drop-append-le}
 use Rattle.std.proofs.lemmas.Simd.{map-map}
-use Rattle.zarrs_chunk.specs.ChunkShape.{product}
-use Rattle.zarrs_data_type.specs.Element.{Element, plain, absent, present, Chunk, IsElement, AreElements}
-use Rattle.zarrs_data_type.specs.ElementType.{ElementType, fixed, element_size}
+use Rattle.zarrs_data_type.specs.Element.{plain}
+use Rattle.zarrs_data_type.specs.ElementType.{fixed, element_size}
 use Rattle.zarrs_array_bytes.specs.Elements.{piece, elements}
 use Rattle.zarrs_array_bytes.specs.Held.{Raw, flen}
 use Rattle.zarrs_array_bytes.specs.Pieces.{pieces}
 use Rattle.zarrs_array_bytes.specs.Validity.{Holds}
-use Rattle.zarrs_array_bytes.proofs.Pieces.{AllSized, length-pieces as count-pieces, pieces_sized, length-concat, pieces-concat, concat-pieces, elements-pieces}
+use Rattle.zarrs_array_bytes.proofs.Pieces.{AllSized, length-concat, pieces-concat, elements-pieces}
 use Rattle.zarrs_array_bytes.proofs.RunLemmas.{piece_is as piece_at}
-use Rattle.zarrs_packbits.specs.Bits.{low_bits, bits_of, field}
-use Rattle.zarrs_packbits.specs.BitStream.{chunk_stream, element_stream, stream_of_bytes, components_from, element_bits, packed_element}
+use Rattle.zarrs_packbits.specs.Bits.{bits_of, field}
+use Rattle.zarrs_packbits.specs.BitStream.{chunk_stream, element_stream, stream_of_bytes, element_bits, packed_element}
 use Rattle.zarrs_packbits.specs.KeptBits.{component_bits, full_component, kept_component}
-use Rattle.zarrs_packbits.specs.NormalForm.{normal_bytes, kept_element}
+use Rattle.zarrs_packbits.specs.NormalForm.{normal_bytes}
 use Rattle.zarrs_packbits.specs.declared.layout.PackedLayout.{PackedLayout}
-use Rattle.zarrs_packbits.specs.PackedLayout.{IsPackedLayout, parts_of, bits_in, element_bits_len}
+use Rattle.zarrs_packbits.specs.PackedLayout.{IsPackedLayout, parts_of, element_bits_len}
 use Rattle.zarrs_packbits.specs.PaddingByte.{lead}
 use Rattle.zarrs_packbits.specs.Packing.{number_of, bytes_from_bits, packing}
 use Rattle.zarrs_packbits.specs.PartialRead.{span_end}

@@ -1,6 +1,6 @@
 -- Values are written and read exactly where the grammar says.
-use Rattle.std.proofs.Common.{◌≡◌, ℕ, zero, suc, ◌+◌, ◌*◌, ◌/◌, ◌<◌, ◌^◌, ◌==◌, Bool, true, nat_lt, Result, Ok, Err, List, [], ◌∷◌, ◌++◌, length, map, get_or, arith, refl, ap, sym, ◌∙◌, subst}
-use Rattle.std.specs.List.{All, concat, flat_map, range_with_len}
+use Rattle.std.proofs.Common.{◌≡◌, ℕ, zero, suc, ◌+◌, ◌*◌, ◌<◌, ◌^◌, ◌==◌, Bool, true, nat_lt, Result, Ok, Err, List, [], ◌∷◌, ◌++◌, length, map, get_or, arith, refl, ap, sym, ◌∙◌, subst}
+use Rattle.std.specs.List.{concat, flat_map, range_with_len}
 use Rattle.std.proofs.Common.{Global}
 use Rattle.std.specs.Prelude.{IfOk, IsOkAnd}
 use Rattle.std.specs.declared.borrow.CowSlice.{CowSlice}
@@ -12,7 +12,7 @@ use Rattle.zarrs_chunk.specs.Answer.{◌>>=◌, demand, seen}
 use Rattle.zarrs_chunk.specs.ChunkShape.{product}
 use Rattle.zarrs_chunk.specs.declared.codec_error.CodecError.{CodecError}
 use Rattle.zarrs_chunk.specs.declared.codec_error.CodecError.TheVariants.{InvalidBytesLength, Overflow, PaddingByte}
-use Rattle.zarrs_data_type.specs.Element.{Element, plain, absent, present, Chunk, IsElement, AreElements}
+use Rattle.zarrs_data_type.specs.Element.{Element, plain, Chunk, IsElement, AreElements}
 use Rattle.zarrs_data_type.specs.ElementType.{ElementType, fixed, text, bytes, optional, element_size}
 use Rattle.zarrs_array_bytes.specs.Elements.{elements}
 use Rattle.zarrs_array_bytes.specs.Held.{Held, Raw, flen, vlen, masked, raw_of}
@@ -23,20 +23,18 @@ use Rattle.zarrs_array_bytes.proofs.ElementLaw.{AreElements-held}
 use Rattle.zarrs_array_bytes.proofs.Pieces.{AllSized, length-pieces as count-pieces, pieces_sized, length-concat, pieces-concat, concat-pieces, elements-pieces}
 use Rattle.zarrs_bytes.specs.BytesCodec.{IsChunk}
 use Rattle.zarrs_bytes.proofs.Coding.{bind_ok, demand_ok, ok}
-use Rattle.zarrs_bytes.proofs.Exact.{PiecesOf, pieces_of}
-use Rattle.zarrs_packbits.specs.Bits.{bits_of}
+use Rattle.zarrs_bytes.proofs.Exact.{pieces_of}
 use Rattle.zarrs_packbits.specs.BitStream.{chunk_stream, stream_of_bytes, element_bits, packed_element}
 use Rattle.zarrs_packbits.specs.declared.layout.PackedLayout.{PackedLayout}
-use Rattle.zarrs_packbits.specs.NormalForm.{normal_bytes, kept_element, normal_element, normal_chunk}
+use Rattle.zarrs_packbits.specs.NormalForm.{normal_bytes, normal_element, normal_chunk}
 use Rattle.zarrs_packbits.specs.PackBitsCodec.{packbits_value, packbits_chunk, PackBitsStands, PackBitsWritten}
 use Rattle.zarrs_packbits.specs.PackBitsSettings.{PackBitsSettings, packed_layout, has_bits, layout_for}
-use Rattle.zarrs_packbits.specs.PackedLayout.{IsPackedLayout, parts_of}
+use Rattle.zarrs_packbits.specs.PackedLayout.{parts_of}
 use Rattle.zarrs_packbits.specs.PaddingByte.{value_len, padding_holds, value_with}
 use Rattle.zarrs_packbits.specs.Packing.{packing}
-use Rattle.zarrs_packbits.proofs.BitLemmas.{bytes_of-small}
-use Rattle.zarrs_packbits.proofs.Coding.{two_of, stream_of_elements, all_places, all_components}
+use Rattle.zarrs_packbits.proofs.Coding.{two_of, all_places, all_components}
 use Rattle.zarrs_packbits.proofs.ElementBits.{packed_joined, packed_sized, stream_of_pieces, normal_joined, normal_sized}
-use Rattle.zarrs_packbits.proofs.FlatChunk.{nf, encoded, decoded, FlatStands}
+use Rattle.zarrs_packbits.proofs.FlatChunk.{nf, decoded, FlatStands}
 use Rattle.zarrs_packbits.proofs.LayoutLemmas.{chosen}
 use Rattle.zarrs_packbits.proofs.Standing.{nf_small, encoded_stands, decoded_stands, stands_decoded}
 use Rattle.zarrs_packbits.proofs.Taken.{IsTaken, taken}

@@ -1,15 +1,15 @@
 -- Fields, and bits as bytes.
-use Rattle.std.proofs.Common.{◌≡◌, ℕ, zero, suc, ◌+◌, ◌-◌, ◌*◌, ◌/◌, ◌%◌, ◌^◌, ◌<◌, ◌≤◌, List, [], ◌∷◌, ◌++◌, Bool, true, false, length, take, drop, replicate, get_or, arith, refl, ap, sym, ◌∙◌, lit<}
+use Rattle.std.proofs.Common.{◌≡◌, ℕ, zero, suc, ◌+◌, ◌-◌, ◌*◌, ◌/◌, ◌%◌, ◌^◌, ◌<◌, ◌≤◌, List, [], ◌∷◌, ◌++◌, length, take, drop, replicate, get_or, arith, refl, ap, sym, ◌∙◌}
 use Rattle.std.proofs.Math.Seq.{take-add}
-use Rattle.std.proofs.Math.Nat.{pow-suc, mod-eq_of_lt}
+use Rattle.std.proofs.Math.Nat.{pow-suc}
 use Rattle.std.proofs.lemmas.Nat.{pow_pos, pow-add, shr_high}
-use Rattle.std.proofs.lemmas.List.{append_assoc, append-nil, drop-drop, length-append, length-drop, length-take-le, length-replicate, take_at, drop_at, take-append-le, drop-append-le, replicate-append-replicate, drop-replicate, take-replicate, get_or-take, get_or-drop}
+use Rattle.std.proofs.lemmas.List.{append-nil, drop-drop, length-append, length-replicate, take_at, drop_at, drop-replicate}
 use Rattle.std.specs.List.{flat_map, range_with_len}
-use Rattle.std.proofs.lemmas.List.{length-take, take_all}
+use Rattle.std.proofs.lemmas.List.{length-take}
 use Rattle.std.proofs.lemmas.List.Concat.{flat_map-append}
-use Rattle.zarrs_packbits.specs.Bits.{low_bits, bits_of, field, bit_of}
+use Rattle.zarrs_packbits.specs.Bits.{low_bits, bits_of, field}
 use Rattle.zarrs_packbits.proofs.LowBits.{length-low_bits, length-bits_of, range-more}
-use Rattle.zarrs_packbits.specs.KeptBits.{top_of, full_component, component_bits}
+use Rattle.zarrs_packbits.specs.KeptBits.{component_bits}
 use Rattle.zarrs_packbits.specs.Packing.{number_of, bytes_from_bits, packing}
 
 -- one part more

@@ -1,26 +1,24 @@
 -- Packing all bits of whole bytes, and streams part by part.
-use Rattle.std.proofs.Common.{◌≡◌, ℕ, zero, suc, ◌+◌, ◌-◌, ◌*◌, ◌/◌, ◌%◌, ◌^◌, ◌<◌, ◌≤◌, ◌==◌, ◌&&◌, List, [], ◌∷◌, ◌++◌, Bool, true, false, length, take, drop, replicate, get_or, arith, refl, ap, sym, ◌∙◌, lit<}
+use Rattle.std.proofs.Common.{◌≡◌, ℕ, ◌+◌, ◌*◌, ◌^◌, ◌<◌, ◌≤◌, ◌==◌, ◌&&◌, List, ◌++◌, Bool, true, false, length, drop, replicate, get_or, arith, refl, ap, sym, ◌∙◌}
 use Rattle.std.specs.List.{flat_map, range_with_len}
 use Rattle.std.proofs.lemmas.List.{append_assoc, append-nil}
-use Rattle.std.proofs.lemmas.List.Concat.{flat_map-append}
 use Rattle.std.proofs.lemmas.Bool.Decides.{nat_tests}
 use Rattle.std.proofs.lemmas.Bool.{false≢true}
 use Rattle.std.proofs.lemmas.List.{take_all}
 use Rattle.std.proofs.Common.{◌||◌, nat_lt}
-use Rattle.std.proofs.Common.{Result, Ok, Err, if◌then◌else◌}
+use Rattle.std.proofs.Common.{Ok, Err, if◌then◌else◌}
 use Rattle.zarrs_packbits.proofs.LowBits.{length-bits_of}
 use Rattle.zarrs_packbits.proofs.FieldLemmas.{flat_more, flat_map_same, joined_fields, joined_components, component-len, packed_bytes, packed_one}
-use Rattle.zarrs_packbits.specs.Bits.{low_bits, bits_of, field, bit_of}
+use Rattle.zarrs_packbits.specs.Bits.{low_bits, bits_of, field}
 use Rattle.zarrs_packbits.specs.declared.layout.PackedLayout.{PackedLayout}
 use Rattle.zarrs_packbits.specs.PackedLayout.{is_in_reach, IsPackedLayout, is_whole, parts_of, bits_in, spare_of}
 use Rattle.zarrs_metadata.specs.declared.codec.packbits.PackBitsPaddingEncoding.{PackBitsPaddingEncoding}
 use Rattle.zarrs_metadata.specs.declared.codec.packbits.PackBitsPaddingEncoding.TheVariants.{None, FirstByte, LastByte}
-use Rattle.zarrs_packbits.specs.KeptBits.{top_of, full_component, kept_component, component_bits}
-use Rattle.zarrs_packbits.specs.Packing.{number_of, bytes_from_bits, packing, spare_bits}
-use Rattle.zarrs_packbits.specs.PaddingByte.{value_len, lead, trail, bytes_before, bytes_behind, padding_holds, padding_is}
+use Rattle.zarrs_packbits.specs.KeptBits.{top_of, full_component, component_bits}
+use Rattle.zarrs_packbits.specs.Packing.{packing}
+use Rattle.zarrs_packbits.specs.PaddingByte.{value_len, lead, trail, bytes_before, bytes_behind}
 use Rattle.zarrs_packbits.specs.BitStream.{stream_of_bytes, components_from}
-use Rattle.zarrs_packbits.proofs.FlatChunk.{encoded, decoded}
-use Rattle.zarrs_chunk.specs.declared.codec_error.CodecError.{CodecError}
+use Rattle.zarrs_packbits.proofs.FlatChunk.{encoded}
 use Rattle.zarrs_chunk.specs.declared.codec_error.CodecError.TheVariants.{InvalidBytesLength, PaddingByte}
 
 pub zero_first : (a b : ℕ) → ((a == 0) && (b == 0)) ≡ true → a ≡ 0

@@ -6,9 +6,11 @@ pub mod DecoderReads
 pub mod ElementBits
 pub mod Exact
 pub mod FieldLemmas
+pub mod FlagLemmas
 pub mod FlatChunk
 pub mod FlatRead
 pub mod LayoutLemmas
+pub mod LocalBits
 pub mod LocalLemmas
 pub mod LowBits
 pub mod PartReads
@@ -16,3 +18,5 @@ pub mod RunLemmas
 pub mod Standing
 pub mod Taken
 pub mod Tests
+pub mod WholeChunk
+pub mod WholeReads

@@ -1,26 +1,21 @@
 -- Places' bytes, and elements made of them.
-use Rattle.std.proofs.Common.{◌≡◌, ℕ, zero, suc, ◌+◌, ◌-◌, ◌*◌, ◌/◌, ◌%◌, ◌^◌, ◌<◌, ◌≤◌, ◌==◌, ◌&&◌, List, [], ◌∷◌, ◌++◌, Bool, true, false, nat_lt, map, length, take, drop, get_or, arith, refl, ap, sym, ◌∙◌, Option, Some, None, Result, Ok, Err, if◌then◌else◌}
+use Rattle.std.proofs.Common.{◌≡◌, ℕ, zero, suc, ◌+◌, ◌-◌, ◌*◌, ◌/◌, ◌%◌, ◌<◌, ◌≤◌, List, [], ◌∷◌, ◌++◌, true, length, take, drop, arith, refl, ap, sym, ◌∙◌}
 use Rattle.std.specs.List.{flat_map, range_with_len}
 use Rattle.std.proofs.Math.Nat.{mul-le-mul_right}
-use Rattle.std.proofs.lemmas.List.{append_assoc, append-nil, map-append, drop-drop, drop-take, take-take, length-take, length-drop, length-append, take_at, drop_at}
-use Rattle.std.proofs.lemmas.Bool.Decides.{nat_tests}
-use Rattle.std.proofs.lemmas.List.{length-take-le, nil_from_length, take_all, take-append-drop}
-use Rattle.std.proofs.lemmas.List.Concat.{flat_map-append}
-use Rattle.zarrs_packbits.proofs.LowBits.{length-bits_of, bits_of-drop, bits_of-take, take-drop-take}
-use Rattle.zarrs_packbits.specs.Bits.{low_bits, bits_of, field}
+use Rattle.std.proofs.lemmas.List.{append_assoc, map-append, drop-drop, length-drop}
+use Rattle.zarrs_packbits.proofs.LowBits.{bits_of-drop, bits_of-take, take-drop-take}
+use Rattle.zarrs_packbits.specs.Bits.{bits_of, field}
 use Rattle.zarrs_codec.specs.ByteSpan.{ByteSpan}
 use Rattle.zarrs_packbits.specs.PartialRead.{span_start, span_end}
-use Rattle.zarrs_packbits.proofs.Tests.{to_nat_lt, from_nat_le, from_nat_lt, and_first, and_second}
 use Rattle.zarrs_packbits.specs.declared.layout.PackedLayout.{PackedLayout}
-use Rattle.zarrs_packbits.specs.PackedLayout.{IsPackedLayout, is_whole, parts_of, bits_in, element_bits_len}
+use Rattle.zarrs_packbits.specs.PackedLayout.{IsPackedLayout, is_whole, bits_in, element_bits_len}
 use Rattle.zarrs_metadata.specs.declared.codec.packbits.PackBitsPaddingEncoding.{PackBitsPaddingEncoding}
 use Rattle.zarrs_packbits.specs.KeptBits.{full_component, component_bits}
-use Rattle.zarrs_packbits.specs.Packing.{packing}
 use Rattle.zarrs_packbits.specs.PaddingByte.{lead, bytes_before}
 use Rattle.zarrs_packbits.specs.BitStream.{components_from, element_bits}
 use Rattle.zarrs_packbits.specs.ReadPlan.{spans}
 use Rattle.zarrs_packbits.proofs.FieldLemmas.{flat_more}
-use Rattle.zarrs_packbits.proofs.LayoutLemmas.{zero_first, zero_second, whole_bits, whole_restored}
+use Rattle.zarrs_packbits.proofs.LayoutLemmas.{zero_first, zero_second}
 
 pub whole_element : (l : PackedLayout) → IsPackedLayout l → is_whole l ≡ true → element_bits_len l ≡ 8 * (l.group * l.size)
 whole_element l s h =

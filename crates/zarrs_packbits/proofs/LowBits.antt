@@ -1,5 +1,5 @@
 use Rattle.std.proofs.Common.{◌≡◌, ℕ, zero, suc, ◌+◌, ◌-◌, ◌*◌, ◌/◌, ◌%◌, ◌^◌, ◌<◌, ◌≤◌, List, [], ◌∷◌, ◌++◌, length, arith, refl, ap, ◌∙◌, sym}
-use Rattle.std.specs.List.{flat_map, range_with_len}
+use Rattle.std.specs.List.{range_with_len}
 use Rattle.std.proofs.lemmas.List.FromFn.{map-range_with_len_more}
 use Rattle.std.proofs.Common.{replicate}
 use Rattle.std.proofs.Math.Nat.{div-eq_of_lt}
@@ -8,7 +8,7 @@ use Rattle.std.proofs.lemmas.Nat.{shr_split, shr_high, pow_pos, pow-add, or_shif
 use Rattle.std.proofs.Math.Nat.{add-mul-mod_self_right, add-mul-div_right, div-div-eq-div-mul, pow-suc}
 use Rattle.std.specs.Prelude.{bit_or}
 use Rattle.std.proofs.Common.{lit<}
-use Rattle.std.proofs.lemmas.List.{append_assoc, append-nil, map-id, get_or_append_left, get_or-append_right, get_or-drop, length-append, length-drop, take_more, drop_at, drop_all, drop-drop, take_at, drop-take, take-take, length-take-le, take-append-drop}
+use Rattle.std.proofs.lemmas.List.{append_assoc, map-id, get_or_append_left, get_or-append_right, get_or-drop, length-append, length-drop, take_more, drop_at, drop_all, drop-drop, take_at, drop-take, take-take, length-take-le, take-append-drop}
 use Rattle.std.proofs.Common.{get_or, take, drop}
 use Rattle.std.specs.Int.{from_le_bytes}
 use Rattle.std.proofs.lemmas.Nat.{le_bytes_8}

@@ -1,9 +1,8 @@
 -- Reads in part.
-use Rattle.std.proofs.Common.{◌≡◌, ℕ, zero, suc, ◌+◌, ◌-◌, ◌*◌, ◌/◌, ◌<◌, ◌≤◌, ◌^◌, ◌&&◌, Bool, true, false, nat_lt, Option, Some, None, Result, Ok, Err, List, [], ◌∷◌, ◌++◌, length, map, arith, refl, ap, sym, ◌∙◌, subst}
-use Rattle.std.specs.List.{All, concat, flat_map, list_all, range_with_len, sum_by}
+use Rattle.std.proofs.Common.{◌≡◌, ℕ, zero, suc, ◌+◌, ◌-◌, ◌*◌, ◌<◌, ◌≤◌, ◌^◌, ◌&&◌, Bool, true, false, nat_lt, Option, Some, None, Result, Ok, Err, List, [], ◌∷◌, ◌++◌, length, map, arith, refl, ap, sym, ◌∙◌, subst}
+use Rattle.std.specs.List.{concat, flat_map, list_all, range_with_len, sum_by}
 use Rattle.std.specs.Prelude.{IsOkAnd}
 use Rattle.std.proofs.Common.{if◌then◌else◌}
-use Rattle.std.proofs.Math.Nat.{mul-le-mul_right}
 use Rattle.std.proofs.lemmas.Bool.Decides.{nat_tests}
 use Rattle.std.proofs.lemmas.List.{length-append}
 use Rattle.std.proofs.lemmas.List.Concat.{flat_map-append}
@@ -14,7 +13,7 @@ use Rattle.zarrs_chunk.specs.Answer.{◌>>=◌, demand}
 use Rattle.zarrs_chunk.specs.Runs.{joined_runs}
 use Rattle.zarrs_chunk.specs.declared.codec_error.CodecError.{CodecError}
 use Rattle.zarrs_chunk.specs.declared.codec_error.CodecError.TheVariants.{InvalidByteRange}
-use Rattle.zarrs_data_type.specs.Element.{Chunk, plain, fill_element}
+use Rattle.zarrs_data_type.specs.Element.{Chunk, plain}
 use Rattle.zarrs_data_type.specs.ElementType.{ElementType, fixed, text, bytes, optional, element_size}
 use Rattle.zarrs_array_bytes.specs.Held.{flen, owned_bytes}
 use Rattle.zarrs_array_bytes.specs.Validity.{Holds}
@@ -28,11 +27,11 @@ use Rattle.zarrs_packbits.specs.PackBitsSettings.{PackBitsSettings, packed_layou
 use Rattle.zarrs_packbits.specs.PackedLayout.{IsPackedLayout, is_whole, element_bits_len}
 use Rattle.zarrs_packbits.specs.Packing.{packing}
 use Rattle.zarrs_packbits.specs.PartialRead.{span_start, span_end, packed_place_bytes, packed_places_bytes, all_below, read_packed_bytes, read_packed_places}
-use Rattle.zarrs_packbits.specs.ReadPlan.{run_start, run_end, run_span, spans, IsPlan, SameNumbers}
+use Rattle.zarrs_packbits.specs.ReadPlan.{run_start, run_end, run_span, spans, IsPlan}
 use Rattle.zarrs_packbits.proofs.ElementBits.{AllLong, element_long, places_hold, plain_holds}
 use Rattle.zarrs_packbits.proofs.FlatRead.{are_runs}
-use Rattle.zarrs_packbits.proofs.RunLemmas.{IsRun, is_run, all_at, all_from, place_end, runs_sure, whole_run_start, whole_run_end, head_of, tail_of}
-use Rattle.zarrs_packbits.proofs.Taken.{IsTaken, taken}
+use Rattle.zarrs_packbits.proofs.RunLemmas.{all_at, all_from, place_end, runs_sure, whole_run_start, whole_run_end, head_of, tail_of}
+use Rattle.zarrs_packbits.proofs.Taken.{taken}
 use Rattle.zarrs_packbits.proofs.Tests.{and_first, and_second, from_nat_le}
 
 -- ---- elements of the bytes that are read
@@ -50,7 +49,7 @@ places_refused l type fill places (Some v) e h =
     refused_if (all_below (length v) (packed_places_bytes l places)) (packing (flat_map (element_bits l v) places)) (map (packed_element l v) places) e h
 
 -- places whose bytes lie in the value have their elements
-all_read : (l : PackedLayout) (v places : List ℕ) → IsPackedLayout l → all_below (length v) (packed_places_bytes l places) ≡ true → AllLong (l.group * l.size) (element_bits l v) places
+pub all_read : (l : PackedLayout) (v places : List ℕ) → IsPackedLayout l → all_below (length v) (packed_places_bytes l places) ≡ true → AllLong (l.group * l.size) (element_bits l v) places
 all_read l v [] s h = tt
 all_read l v (p ∷ ps) s h =
     let both = sym (list_all-append (λ k. nat_lt k (length v)) (packed_place_bytes l p) (packed_places_bytes l ps)) ∙ h in

@@ -1,11 +1,11 @@
 -- Runs of places.
 use Rattle.std.proofs.Common.{◌≡◌, ℕ, zero, suc, ◌+◌, ◌-◌, ◌*◌, ◌/◌, ◌%◌, ◌^◌, ◌<◌, ◌≤◌, ◌&&◌, List, [], ◌∷◌, ◌++◌, Bool, true, false, nat_lt, nat_le, map, length, take, drop, arith, refl, ap, sym, ◌∙◌, Option, Some, None, Result, Ok, Err, if◌then◌else◌}
 use Rattle.std.specs.List.{flat_map, range_with_len, list_all}
-use Rattle.std.proofs.Common.{get_or, ◌⊎◌, inl, inr}
+use Rattle.std.proofs.Common.{get_or, inl, inr}
 use Rattle.std.proofs.lemmas.Bool.{cases_lt}
 use Rattle.std.proofs.lemmas.List.{drop_more, nil_from_length, take_all, take-append-drop}
 use Rattle.std.proofs.Math.Nat.{mul-le-mul_right}
-use Rattle.std.proofs.lemmas.List.{append_assoc, append-nil, map-append, drop-drop, length-take-le, length-drop, length-append, take_at, drop_at}
+use Rattle.std.proofs.lemmas.List.{append_assoc, append-nil, drop-drop, length-take-le, length-drop, length-append, take_at, drop_at}
 use Rattle.std.proofs.lemmas.List.Concat.{flat_map-append}
 use Rattle.std.proofs.lemmas.List.Folds.{list_all-append}
 use Rattle.std.proofs.lemmas.Bool.Decides.{nat_tests}
@@ -20,7 +20,7 @@ use Rattle.zarrs_codec.specs.StorageState.{are_sure}
 use Rattle.zarrs_chunk.specs.Answer.{◌>>=◌, demand}
 use Rattle.zarrs_chunk.specs.declared.codec_error.CodecError.{CodecError}
 use Rattle.zarrs_chunk.specs.declared.codec_error.CodecError.TheVariants.{InvalidByteRange}
-use Rattle.zarrs_packbits.proofs.Tests.{to_nat_lt, from_nat_le, from_nat_lt, and_first, and_second}
+use Rattle.zarrs_packbits.proofs.Tests.{from_nat_le, from_nat_lt, and_first, and_second}
 use Rattle.zarrs_packbits.specs.declared.layout.PackedLayout.{PackedLayout}
 use Rattle.zarrs_packbits.specs.PackedLayout.{IsPackedLayout, is_whole, parts_of, bits_in, element_bits_len}
 use Rattle.zarrs_metadata.specs.declared.codec.packbits.PackBitsPaddingEncoding.{PackBitsPaddingEncoding}

@@ -1,18 +1,15 @@
 -- What is written_bits stands for the chunk's kept bits, and the other laws.
-use Rattle.std.proofs.Common.{◌≡◌, ℕ, zero, suc, ◌+◌, ◌-◌, ◌*◌, ◌/◌, ◌%◌, ◌^◌, ◌<◌, ◌≤◌, ◌==◌, List, [], ◌∷◌, ◌++◌, Bool, true, false, map, length, take, drop, replicate, get_or, slice_index, arith, refl, ap, sym, ◌∙◌, Result, Ok, Err, if◌then◌else◌}
+use Rattle.std.proofs.Common.{◌≡◌, ℕ, zero, suc, ◌+◌, ◌-◌, ◌*◌, ◌/◌, ◌<◌, ◌≤◌, ◌==◌, List, [], ◌∷◌, ◌++◌, Bool, true, false, length, take, drop, replicate, get_or, arith, refl, ap, sym, ◌∙◌, Result, Ok, Err, if◌then◌else◌}
 use Rattle.std.specs.List.{flat_map, range_with_len}
-use Rattle.std.proofs.lemmas.List.{append_assoc, append-nil, drop-drop, length-append, length-drop, length-take, length-take-le, length-replicate, take_at, drop_at, take_all, take-append-le}
+use Rattle.std.proofs.lemmas.List.{append_assoc, append-nil, length-append, length-drop, length-take-le, length-replicate, take_at, drop_at}
 use Rattle.std.proofs.lemmas.List.Concat.{flat_map-append}
-use Rattle.std.proofs.lemmas.Bool.Decides.{nat_tests}
 use Rattle.std.proofs.Math.Nat.{mul-le-mul_right}
 use Rattle.std.proofs.Common.{subst, eq-eqb, eqb-true}
 use Rattle.std.proofs.lemmas.List.{get_or_at}
 use Rattle.std.proofs.Common.{lit<, nat_lt, ◌&&◌}
 use Rattle.std.proofs.lemmas.List.Folds.{list_all-append}
-use Rattle.std.proofs.lemmas.List.{map-append}
-use Rattle.std.proofs.Common.{nat_le}
 use Rattle.zarrs_packbits.specs.Bits.{low_bits, bits_of, field}
-use Rattle.zarrs_packbits.proofs.LowBits.{length-low_bits, length-bits_of, bits_of-drop, bits_of-take, take-drop-take}
+use Rattle.zarrs_packbits.proofs.LowBits.{length-bits_of, bits_of-drop, bits_of-take, take-drop-take}
 use Rattle.zarrs_chunk.specs.declared.codec_error.CodecError.{CodecError}
 use Rattle.zarrs_chunk.specs.declared.codec_error.CodecError.TheVariants.{InvalidBytesLength, PaddingByte, InvalidByteRange}
 use Rattle.zarrs_packbits.specs.declared.layout.PackedLayout.{PackedLayout}
@@ -20,17 +17,17 @@ use Rattle.zarrs_packbits.specs.PackedLayout.{IsPackedLayout, parts_of, bits_in,
 use Rattle.zarrs_metadata.specs.declared.codec.packbits.PackBitsPaddingEncoding.{PackBitsPaddingEncoding}
 use Rattle.zarrs_metadata.specs.declared.codec.packbits.PackBitsPaddingEncoding.TheVariants.{None, FirstByte, LastByte}
 use Rattle.zarrs_packbits.specs.KeptBits.{top_of, full_component, kept_component, component_bits}
-use Rattle.zarrs_packbits.specs.Packing.{number_of, bytes_from_bits, packing}
-use Rattle.zarrs_packbits.specs.PaddingByte.{value_len, lead, trail, bytes_before, bytes_behind, padding_holds, padding_is}
-use Rattle.zarrs_packbits.specs.BitStream.{stream_of_bytes, components_from, element_bits}
+use Rattle.zarrs_packbits.specs.Packing.{packing}
+use Rattle.zarrs_packbits.specs.PaddingByte.{value_len, lead, bytes_before, bytes_behind, padding_holds, padding_is}
+use Rattle.zarrs_packbits.specs.BitStream.{stream_of_bytes, element_bits}
 use Rattle.zarrs_packbits.proofs.FlatChunk.{nf, encoded, decoded, IsFlatChunk, FlatStands, flat_selection}
 use Rattle.zarrs_packbits.proofs.LayoutLemmas.{chosen}
 use Rattle.zarrs_packbits.specs.PartialRead.{all_below, span_start, span_end, packed_place_bytes}
-use Rattle.zarrs_packbits.proofs.FlatRead.{all_below-range, local_answer}
-use Rattle.zarrs_packbits.proofs.Tests.{to_nat_lt, from_nat_lt, from_nat_le, and_first, and_second}
-use Rattle.zarrs_packbits.proofs.LocalLemmas.{element_within, element_some, element_of_piece, flat_range_same, field_of_rest}
-use Rattle.zarrs_packbits.proofs.FieldLemmas.{packed_bytes, flat_more, joined_fields}
-use Rattle.zarrs_packbits.proofs.BitLemmas.{AreBits, are_bits-append, are_bits-flat_map, are_bits-bits_of, are_bits-widened, are_bits-field, are_bits-take, are_bits-replicate, bits_of-packed, bits_of-full, length-bytes_of, bytes_of-small, length-pieces, piece_is}
+use Rattle.zarrs_packbits.proofs.FlatRead.{local_answer}
+use Rattle.zarrs_packbits.proofs.Tests.{to_nat_lt, from_nat_lt, and_first, and_second}
+use Rattle.zarrs_packbits.proofs.LocalLemmas.{element_within, flat_range_same}
+use Rattle.zarrs_packbits.proofs.FieldLemmas.{packed_bytes, joined_fields}
+use Rattle.zarrs_packbits.proofs.BitLemmas.{AreBits, are_bits-flat_map, are_bits-bits_of, are_bits-widened, are_bits-field, bits_of-packed, bits_of-full, length-bytes_of, bytes_of-small, length-pieces, piece_is}
 
 -- ---- one component_bits
 

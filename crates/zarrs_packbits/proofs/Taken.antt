@@ -1,16 +1,14 @@
 -- What is known of chunks that the codec takes.
-use Rattle.std.proofs.Common.{◌≡◌, ℕ, ◌+◌, ◌-◌, ◌*◌, ◌^◌, ◌<◌, ◌≤◌, ◌==◌, ◌&&◌, Bool, true, false, nat_lt, nat_le, Result, Ok, Err, List, length, arith, refl, ap, sym, ◌∙◌, subst}
-use Rattle.std.proofs.lemmas.Bool.Decides.{nat_tests}
-use Rattle.zarrs_chunk.specs.Answer.{◌>>=◌, demand, checked_u64}
+use Rattle.std.proofs.Common.{◌≡◌, ℕ, ◌+◌, ◌-◌, ◌*◌, ◌<◌, ◌≤◌, ◌&&◌, Bool, true, nat_lt, nat_le, Ok, List, arith, refl, ap, sym, ◌∙◌, subst}
+use Rattle.zarrs_chunk.specs.Answer.{demand, checked_u64}
 use Rattle.zarrs_chunk.specs.ChunkShape.{product}
-use Rattle.zarrs_chunk.specs.declared.codec_error.CodecError.{CodecError}
 use Rattle.zarrs_chunk.specs.declared.codec_error.CodecError.TheVariants.{InvalidFillValue, BitRange, Overflow}
 use Rattle.zarrs_data_type.specs.ElementType.{ElementType, fixed, text, bytes, optional, element_size, component_bytes}
 use Rattle.zarrs_data_type.specs.FillValue.{fill_fits}
 use Rattle.zarrs_bytes.proofs.Coding.{bind_ok, demand_ok, checked_ok, ok}
 use Rattle.zarrs_packbits.specs.declared.layout.PackedLayout.{PackedLayout}
 use Rattle.zarrs_packbits.specs.PackBitsSettings.{PackBitsSettings, first_of, last_of, has_bits, layout_for, packed_layout}
-use Rattle.zarrs_packbits.specs.PackedLayout.{IsPackedLayout, is_in_reach, is_whole}
+use Rattle.zarrs_packbits.specs.PackedLayout.{IsPackedLayout, is_in_reach}
 use Rattle.zarrs_packbits.proofs.LayoutLemmas.{layout_sound, bare_padding}
 use Rattle.zarrs_packbits.proofs.Tests.{and_first, and_second, from_nat_lt, from_nat_le}
 

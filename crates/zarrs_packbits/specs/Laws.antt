@@ -1,6 +1,6 @@
 -- Laws of the codec `packbits`.
-use Rattle.std.specs.Prelude.{◌≡◌, ◌<◌, ◌↔◌, ℕ, Bool, true, false, Option, Some, List, length, map, All, Ok}
-use Rattle.zarrs_data_type.specs.Element.{Element, plain, absent, present, Chunk, AreElements}
+use Rattle.std.specs.Prelude.{◌≡◌, ◌<◌, ◌↔◌, ℕ, true, Some, List, length, All, Ok, ◌*◌, ◌≤◌, drop}
+use Rattle.zarrs_data_type.specs.Element.{Element, plain, absent, present, Chunk}
 use Rattle.zarrs_data_type.specs.ElementType.{ElementType}
 use Rattle.zarrs_data_type.specs.declared.endianness.Endianness.TheVariants.{Little}
 use Rattle.zarrs_array_bytes.specs.Elements.{select}
@@ -11,7 +11,10 @@ use Rattle.zarrs_packbits.specs.declared.layout.PackedLayout.{PackedLayout}
 use Rattle.zarrs_packbits.specs.NormalForm.{normal_chunk}
 use Rattle.zarrs_packbits.specs.PackBitsCodec.{packbits_chunk, PackBitsStands, PackBitsWritten}
 use Rattle.zarrs_packbits.specs.PackBitsSettings.{PackBitsSettings, packed_layout, packbits_length, keeps_all_bytes}
-use Rattle.zarrs_packbits.specs.PartialRead.{packed_places_bytes, read_packed_places, read_places_of}
+use Rattle.zarrs_packbits.specs.Bits.{bits_of, field}
+use Rattle.zarrs_packbits.specs.PackedLayout.{element_bits_len}
+use Rattle.zarrs_packbits.specs.PaddingByte.{lead}
+use Rattle.zarrs_packbits.specs.PartialRead.{packed_places_bytes, span_end, read_packed_places, read_places_of}
 
 -- A value that is written for a chunk stands for the chunk's normal form.
 abbrev pub WrittenStands : Type 0
@@ -80,6 +83,23 @@ abbrev pub ReadsAlike : Type 0
 ReadsAlike =
     (settings : PackBitsSettings) (sizes : List ℕ) (type : ElementType) (fill : List ℕ) (layout : PackedLayout) (value other places : List ℕ)
     → packed_layout settings sizes type fill ≡ Ok layout → All (SameByte value other) (packed_places_bytes layout places)
+    → read_packed_places layout type fill (Some value) places ≡ read_packed_places layout type fill (Some other) places
+
+-- the kept bits of the element at a place
+abbrev pub place_bits : PackedLayout → List ℕ → ℕ → List ℕ
+place_bits l value place = field (place * element_bits_len l) (element_bits_len l) (bits_of (drop (lead l) value))
+
+-- two values both have all bytes of the place, and the same kept bits there
+pub record SameBits (l : PackedLayout) (value other : List ℕ) (place : ℕ) : Type 0 where
+  pub in_value : span_end l place ≤ length value
+  pub in_other : span_end l place ≤ length other
+  pub same : place_bits l value place ≡ place_bits l other place
+
+-- Two values that both have all bytes of these places, and the same kept bits there, are read alike at these places, whatever else stands in these bytes.
+abbrev pub ReadsBitsAlike : Type 0
+ReadsBitsAlike =
+    (settings : PackBitsSettings) (sizes : List ℕ) (type : ElementType) (fill : List ℕ) (layout : PackedLayout) (value other places : List ℕ)
+    → packed_layout settings sizes type fill ≡ Ok layout → All (SameBits layout value other) places
     → read_packed_places layout type fill (Some value) places ≡ read_packed_places layout type fill (Some other) places
 
 -- the bytes of an element are below 256, as all bytes are

@@ -1,5 +1,5 @@
 -- What the codec `packbits` answers, for which chunk a value stands, and which value is written for a chunk.
-use Rattle.std.specs.Prelude.{◌≡◌, ℕ, ◌==◌, true, List, length, drop, map, Result, Ok, Err}
+use Rattle.std.specs.Prelude.{◌≡◌, ℕ, ◌==◌, true, List, length, drop, map, Result, Ok}
 use Rattle.std.specs.List.{range_with_len}
 use Rattle.zarrs_chunk.specs.Answer.{◌>>=◌, demand}
 use Rattle.zarrs_chunk.specs.ChunkShape.{product}

@@ -5,10 +5,10 @@ ghost use Rattle.zarrs_packbits.specs.BitStream.{stream_of_bytes, components_fro
 ghost use Rattle.zarrs_packbits.specs.KeptBits.{full_component};
 ghost use Rattle.zarrs_packbits.specs.PackedLayout.{IsPackedLayout, parts_of};
 ghost use Rattle.zarrs_packbits.specs.Packing.{packing, spare_bits};
-ghost use Rattle.zarrs_packbits.specs.WrittenBits.{written_bits};
+ghost use Rattle.zarrs_packbits.specs.WrittenBits.{flags_of, written_bits};
 
 use crate::layout::PackedLayout;
-use crate::words::{append_bits, read_bits};
+use crate::words::{append_bits, gather_flags, read_bits};
 use std::alloc::{AllocError, Global};
 use std::marker::Model;
 
@@ -136,7 +136,23 @@ impl BitWriter {
         self.put_repeated(top, above)
     }
 
-    /// Puts the kept bits of all components of a chunk.
+    /// Puts one bit of each of these bytes, 64 bytes at a time.
+    fn put_flags(&mut self, bytes: &[u8], bit: u64) -> Result<(), AllocError>
+        requires bit { bit < 8 }
+        ensures { IfOk result (λ _. self.new ≡ self.old ++ flags_of bit bytes.now) }
+    {
+        let mut done = 0;
+        while done < bytes.len() {
+            let more = (bytes.len() - done).min(64);
+            let flags = gather_flags(&bytes[done..done + more], bit);
+            self.put(flags, more as u32)?;
+            done += more;
+        }
+        Ok(())
+    }
+
+    /// Puts the kept bits of all components of a chunk. Where one bit of each byte is kept, they go
+    /// through a word together.
     pub(crate) fn put_stream(
         &mut self,
         layout: &PackedLayout,
@@ -147,6 +163,9 @@ impl BitWriter {
         requires len { length bytes.now ≡ parts_of layout.now * layout.now.size }
         ensures { IfOk result (λ _. self.new ≡ self.old ++ stream_of_bytes layout.now bytes.now) }
     {
+        if layout.size == 1 && layout.count == 1 {
+            return self.put_flags(bytes, layout.first);
+        }
         for part in 0..layout.elements * layout.group {
             let start = (part * layout.size) as usize;
             self.put_field(&bytes[start..], layout.first, layout.count)?;

@@ -1,5 +1,5 @@
 //! Laws of the codec, over its definitions. The functions do nothing; their contracts are the laws.
-ghost use Rattle.zarrs_packbits.specs.Laws.{WrittenStands, DecodedIsNormal, NormalOnce, NormalWritten, NormalSelected, NormalUpdated, StandsForOne, WrittenAlike, WrittenAsBytes, HasRepresentedLength, ReadSelects, ReadsAlike};
+ghost use Rattle.zarrs_packbits.specs.Laws.{WrittenStands, DecodedIsNormal, NormalOnce, NormalWritten, NormalSelected, NormalUpdated, StandsForOne, WrittenAlike, WrittenAsBytes, HasRepresentedLength, ReadSelects, ReadsAlike, ReadsBitsAlike};
 
 /// A value that is written for a chunk stands for the chunk's normal form.
 pub fn written_stands()
@@ -61,4 +61,10 @@ pub fn read_selects()
 /// same ones, are read alike.
 pub fn reads_alike()
     ensures law { ReadsAlike }
+{}
+
+/// Of these bytes it looks at the places' kept bits alone: two values that both have the bytes, and
+/// the same bits at the places, are read alike.
+pub fn reads_bits_alike()
+    ensures law { ReadsBitsAlike }
 {}

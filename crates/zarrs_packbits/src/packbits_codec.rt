@@ -20,6 +20,7 @@ use std::alloc::{AllocError, Global};
 use std::borrow::CowSlice;
 use std::marker::Model;
 use zarrs_array_bytes::{ArrayBytes, ArrayBytesRaw};
+use zarrs_bytes::BytesCodec;
 use zarrs_chunk::{ChunkShape, CodecError, CodecName};
 use zarrs_codec::{
     ArrayCodecTraits, BytesRepresentation, CodecTraits, PartialDecoderCapability,
@@ -52,7 +53,7 @@ impl Model for PackBitsCodec {
 }
 
 /// The bytes are below 256, as all bytes are.
-fn bytes_are(_bytes: &[u8])
+pub(crate) fn bytes_are(_bytes: &[u8])
     ensures { (i : ℕ) → slice_index _bytes.now i < 256 }
 {}
 
@@ -107,45 +108,34 @@ fn unpacked_bytes(alloc: Global, layout: &PackedLayout, value: &[u8]) -> Result<
     writer.finish()
 }
 
-/// The value of a chunk, of its elements' bytes. Where all bits of whole bytes are kept, these are
-/// the value.
+/// The value of a chunk, of its elements' bytes, which are let go.
 fn packed_raw<'a>(
     alloc: Global,
     layout: &PackedLayout,
-    raw: ArrayBytesRaw<'a>,
+    raw: ArrayBytesRaw<'_>,
 ) -> Result<ArrayBytesRaw<'a>, CodecError>
     requires layout { IsPackedLayout layout.now }
     requires last { layout.now.first + layout.now.count < 2 ^ 64 }
     requires len { length (raw_of raw).items ≡ parts_of layout.now * layout.now.size }
     ensures exact { Answers memory (λ value. (raw_of value).items) result (Ok (value_with layout.now (stream_of_bytes layout.now (raw_of raw.entry).items))) }
-    ensures kept { is_whole layout.now ≡ true → seen raw_of result ≡ Ok (raw_of raw.entry) }
     ensures no_fault { is_fault result ≡ false }
 {
-    bytes_are(&raw);
-    if layout.is_whole() {
-        return Ok(raw);
-    }
     let value = packed_value(alloc, layout, &raw)?;
     Ok(CowSlice::Owned(value))
 }
 
-/// The bytes of the elements of the chunk that a value stands for. Where all bits of whole bytes are
-/// kept, the value is these bytes.
+/// The bytes of the elements of the chunk that a value stands for, which is let go.
 fn unpacked_raw<'a>(
     alloc: Global,
     layout: &PackedLayout,
-    value: ArrayBytesRaw<'a>,
+    value: ArrayBytesRaw<'_>,
 ) -> Result<ArrayBytesRaw<'a>, CodecError>
     requires layout { IsPackedLayout layout.now }
+    requires in_part { is_whole layout.now ≡ false }
     requires len { length (raw_of value).items ≡ value_len layout.now }
     ensures exact { Answers memory (λ bytes. (raw_of bytes).items) result (Ok (packing (components_from layout.now 0 (parts_of layout.now) (bits_of (drop (lead layout.now) (raw_of value.entry).items))))) }
-    ensures kept { is_whole layout.now ≡ true → seen raw_of result ≡ Ok (raw_of value.entry) }
     ensures no_fault { is_fault result ≡ false }
 {
-    bytes_are(&value);
-    if layout.is_whole() {
-        return Ok(value);
-    }
     let bytes = unpacked_bytes(alloc, layout, &value)?;
     Ok(CowSlice::Owned(bytes))
 }
@@ -262,6 +252,45 @@ impl PackBitsCodec {
         Ok(BytesRepresentation::FixedSize(layout.value_len()))
     }
 
+    /// The value of a chunk of which all bits of whole bytes are kept: the codec `bytes` in little
+    /// order writes it.
+    fn encode_whole<'a>(
+        &self,
+        alloc: Global,
+        elements: ArrayBytes<'a>,
+        shape: &ChunkShape,
+        data_type: &DataType,
+        fill_value: &FillValue,
+    ) -> Result<ArrayBytesRaw<'a>, CodecError>
+        requires whole { keeps_all_bytes (packed_layout self.now shape.now data_type.now fill_value.now) ≡ true }
+        ensures exact { seen (λ value. (raw_of value).items) result ≡ packbits_value self.now shape.now data_type.now fill_value.now elements.entry }
+        ensures kept { IfOk result (λ value. elements.entry ≡ flen (raw_of value)) }
+        ensures no_fault { is_fault result ≡ false }
+    {
+        let value = BytesCodec::little().encode(alloc, elements, shape, data_type, fill_value)?;
+        bytes_are(&value);
+        Ok(value)
+    }
+
+    /// The chunk that a value stands for of which all bits of whole bytes are kept: the codec `bytes`
+    /// in little order reads it.
+    fn decode_whole<'a>(
+        &self,
+        alloc: Global,
+        value: ArrayBytesRaw<'a>,
+        shape: &ChunkShape,
+        data_type: &DataType,
+        fill_value: &FillValue,
+    ) -> Result<ArrayBytes<'a>, CodecError>
+        requires whole { keeps_all_bytes (packed_layout self.now shape.now data_type.now fill_value.now) ≡ true }
+        ensures exact { AnswersBy never (Holds data_type.now) result (packbits_chunk self.now shape.now data_type.now fill_value.now (raw_of value.entry).items) }
+        ensures kept { IfOk result (λ elements. elements ≡ flen (raw_of value.entry)) }
+        ensures no_fault { is_fault result ≡ false }
+    {
+        bytes_are(&value);
+        BytesCodec::little().decode(alloc, value, shape, data_type, fill_value)
+    }
+
     /// The value that is written for the chunk that `elements` hold. Refusals, the first that
     /// holds: those of `encoded_representation`, those of `ArrayBytes::validate`; `OutOfMemory`.
     ///
@@ -282,6 +311,9 @@ impl PackBitsCodec {
         ensures no_fault { is_fault result ≡ false }
     {
         let layout = self.layout(shape, data_type, fill_value)?;
+        if layout.is_whole() {
+            return self.encode_whole(alloc, elements, shape, data_type, fill_value);
+        }
         elements.validate(layout.elements, data_type)?;
         let raw = elements.into_fixed()?;
         packed_raw(alloc, &layout, raw)
@@ -308,6 +340,9 @@ impl PackBitsCodec {
         ensures no_fault { is_fault result ≡ false }
     {
         let layout = self.layout(shape, data_type, fill_value)?;
+        if layout.is_whole() {
+            return self.decode_whole(alloc, value, shape, data_type, fill_value);
+        }
         let expected = layout.value_len();
         let found = value.len() as u64;
         if found != expected {

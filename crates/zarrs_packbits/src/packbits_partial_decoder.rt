@@ -1,26 +1,28 @@
-ghost use Rattle.std.specs.Prelude.{◌≡◌, ◌<◌, ◌≤◌, ◌+◌, ℕ, true, false, List, Some, None, Ok, IfOk, IfErr, All, is_some, is_ok, map};
+ghost use Rattle.std.specs.Prelude.{◌≡◌, ◌<◌, ◌≤◌, ◌+◌, ℕ, true, false, List, Some, None, Ok, IfOk, IfErr, All, is_some, is_ok, map, slice_index};
 ghost use Rattle.zarrs_chunk.specs.Answer.{Answers, AnswersBy, fault, is_fault, memory, memory_or_fault, seen};
 ghost use Rattle.zarrs_chunk.specs.Indexer.{selection_of};
 ghost use Rattle.zarrs_chunk.specs.Runs.{joined_runs};
 ghost use Rattle.zarrs_chunk.specs.Selection.{places_of};
 ghost use Rattle.zarrs_data_type.specs.Element.{Chunk, fill_element};
 ghost use Rattle.zarrs_array_bytes.specs.Elements.{select};
+ghost use Rattle.zarrs_array_bytes.specs.Held.{Raw, flen};
 ghost use Rattle.zarrs_array_bytes.specs.Validity.{Holds};
 ghost use Rattle.zarrs_codec.specs.Refused.{outcome};
 ghost use Rattle.zarrs_codec.specs.StorageState.{after_reading, are_sure};
 ghost use Rattle.zarrs_packbits.specs.PackBitsCodec.{PackBitsStands};
-ghost use Rattle.zarrs_packbits.specs.PackBitsSettings.{packed_layout};
+ghost use Rattle.zarrs_packbits.specs.PackBitsSettings.{keeps_all_bytes, packed_layout};
 ghost use Rattle.zarrs_packbits.specs.PartialRead.{bytes_of_places, packbits_places, packbits_plan, packbits_read, read_places_of};
 ghost use Rattle.zarrs_packbits.specs.ReadPlan.{IsPlan};
 ghost use Rattle.zarrs_packbits.specs.PackedLayout.{IsPackedLayout};
 ghost use Rattle.zarrs_chunk.specs.ChunkShape.{product};
 
 use crate::layout::PackedLayout;
-use crate::packbits_codec::PackBitsCodec;
+use crate::packbits_codec::{PackBitsCodec, bytes_are};
 use crate::runs::{read_runs, run_ranges};
 use std::alloc::Global;
 use std::borrow::CowSlice;
 use zarrs_array_bytes::ArrayBytes;
+use zarrs_bytes::BytesCodec;
 use zarrs_chunk::{ChunkShape, CodecError, Indexer};
 use zarrs_codec::{ArrayPartialDecoderTraits, ByteRange, BytesPartialDecoderTraits, Refused};
 use zarrs_data_type::{DataType, FillValue};
@@ -36,6 +38,15 @@ pub struct PackBitsPartialDecoder<H> {
     data_type: DataType,
     fill_value: FillValue,
     ghost taken: { is_ok (packed_layout codec shape data_type fill_value) ≡ true },
+}
+
+/// The bytes of elements of one size are below 256, as all bytes are.
+fn elements_are_bytes(elements: &ArrayBytes<'_>)
+    ensures { (raw : Raw) → elements.now ≡ flen raw → (i : ℕ) → slice_index raw.items i < 256 }
+{
+    if let Ok(bytes) = elements.as_fixed() {
+        bytes_are(bytes);
+    }
 }
 
 impl PackBitsCodec {
@@ -59,6 +70,30 @@ impl PackBitsCodec {
         }
     }
 
+    /// The elements at the places of these runs of a chunk of which all bits of whole bytes are kept:
+    /// the codec `bytes` in little order reads them.
+    fn read_whole_runs<H: BytesPartialDecoderTraits>(
+        &self,
+        alloc: Global,
+        handle: &mut H,
+        shape: &ChunkShape,
+        data_type: &DataType,
+        fill_value: &FillValue,
+        runs: &[(u64, u64)],
+    ) -> Result<ArrayBytes<'static>, CodecError>
+        requires whole { keeps_all_bytes (packed_layout self.now shape.now data_type.now fill_value.now) ≡ true }
+        requires filled { All (λ run. 0 < run.1) runs.now }
+        requires below { All (λ run. run.0 + run.1 ≤ product shape.now) runs.now }
+        ensures answer { AnswersBy memory_or_fault (Holds data_type.now) result (read_places_of self.now shape.now data_type.now fill_value.now (H.state handle.old).value (joined_runs runs.now)) }
+        ensures sure { IfOk (bytes_of_places self.now shape.now data_type.now fill_value.now (joined_runs runs.now)) (λ numbers. are_sure (H.state handle.old).sure numbers ≡ true → is_fault result ≡ false) }
+        ensures left { H.state handle.new ≡ after_reading result (H.state handle.old) }
+        ensures same_reference { H.lent handle.new ≡ H.lent handle.old }
+    {
+        let elements = BytesCodec::little().read_runs(alloc, handle, data_type, fill_value, runs)?;
+        elements_are_bytes(&elements);
+        Ok(elements)
+    }
+
     /// The elements at the places of these runs, each a start and a length, in order, over a handle
     /// that keeps a chunk's value.
     fn read_runs<H: BytesPartialDecoderTraits>(
@@ -79,6 +114,9 @@ impl PackBitsCodec {
         ensures same_reference { H.lent handle.new ≡ H.lent handle.old }
     {
         let layout = self.taken_layout(shape, data_type, fill_value);
+        if layout.is_whole() {
+            return self.read_whole_runs(alloc, handle, shape, data_type, fill_value, runs);
+        }
         let fill = fill_value.as_ne_bytes();
         let bytes = read_runs(alloc, handle, &layout, fill, runs)?;
         Ok(ArrayBytes::new_flen(CowSlice::Owned(bytes)))
@@ -132,7 +170,7 @@ impl PackBitsCodec {
 }
 
 impl<H: BytesPartialDecoderTraits> PackBitsPartialDecoder<H> {
-    ghost use Rattle.zarrs_packbits.specs.PackBitsPartialDecoder.{packbits_form_of, packbits_handle_of};
+    ghost use Rattle.zarrs_packbits.specs.PackBitsPartialDecoder.{packbits_form_of, packbits_handle_of, SelectsStored, FillsUnstored};
 
     /// The type of the elements.
     pub fn data_type(&self) -> &DataType
@@ -151,8 +189,8 @@ impl<H: BytesPartialDecoderTraits> PackBitsPartialDecoder<H> {
         alloc: Global,
         indexer: &Indexer,
     ) -> Result<ArrayBytes<'static>, CodecError>
-        ensures selected { let form = packbits_form_of self.old in (value : List ℕ) (chunk : Chunk) → (H.state (packbits_handle_of self.old)).value ≡ Some value → PackBitsStands form.settings form.sizes form.type form.fill value chunk → AnswersBy memory_or_fault (Holds form.type) result (seen (select chunk) (places_of (selection_of indexer.now) form.sizes)) }
-        ensures unstored { let form = packbits_form_of self.old in (H.state (packbits_handle_of self.old)).value ≡ None → AnswersBy memory_or_fault (Holds form.type) result (seen (map (λ _. fill_element form.type form.fill)) (places_of (selection_of indexer.now) form.sizes)) }
+        ensures selected { SelectsStored H.state self.old indexer.now result }
+        ensures unstored { FillsUnstored H.state self.old indexer.now result }
         ensures answer { let form = packbits_form_of self.old in AnswersBy memory_or_fault (Holds form.type) result (packbits_read form.settings form.sizes form.type form.fill (H.state (packbits_handle_of self.old)).value (selection_of indexer.now)) }
         ensures indexer_first { is_ok (places_of (selection_of indexer.now) (packbits_form_of self.old).sizes) ≡ false → is_fault result ≡ false }
         ensures sure { let form = packbits_form_of self.old in IfOk (packbits_plan form.settings form.sizes form.type form.fill (selection_of indexer.now)) (λ numbers. are_sure (H.state (packbits_handle_of self.old)).sure numbers ≡ true → is_fault result ≡ false) }

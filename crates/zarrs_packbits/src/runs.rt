@@ -9,7 +9,7 @@ ghost use Rattle.zarrs_packbits.specs.Packing.{packing};
 ghost use Rattle.zarrs_packbits.specs.PartialRead.{packed_places_bytes, read_packed_bytes};
 ghost use Rattle.zarrs_packbits.specs.ReadPlan.{run_span, run_bits, runs_len, spans};
 
-use crate::bit_writer::{BitWriter, in_range};
+use crate::bit_writer::BitWriter;
 use crate::layout::PackedLayout;
 use std::alloc::{AllocError, Global};
 use zarrs_array_bytes::append_copies;
@@ -75,27 +75,24 @@ fn count_of(runs: &[(u64, u64)]) -> u64
     count
 }
 
-/// The elements of the runs, of the runs' bytes joined. Where all bits of whole bytes are kept,
-/// these are the elements.
+/// The elements of the runs, of the runs' bytes joined.
 fn unpack_runs(
     alloc: Global,
     layout: &PackedLayout,
-    bytes: Vec<u8>,
+    bytes: &[u8],
     runs: &[(u64, u64)],
 ) -> Result<Vec<u8>, AllocError>
     requires layout { IsPackedLayout layout.now }
+    requires in_part { is_whole layout.now ≡ false }
     requires filled { All (λ run. 0 < run.1) runs.now }
     requires below { All (λ run. run.0 + run.1 ≤ layout.now.elements) runs.now }
-    requires len { length bytes.items ≡ runs_len layout.now runs.now }
-    ensures { IfOk result (λ v. v.items ≡ packing (run_bits layout.now bytes.items runs.now)) }
+    requires len { length bytes.now ≡ runs_len layout.now runs.now }
+    ensures { IfOk result (λ v. v.items ≡ packing (run_bits layout.now bytes.now runs.now)) }
 {
-    if layout.is_whole() {
-        return Ok(in_range(bytes));
-    }
     let element = layout.group.saturating_mul(layout.size);
     let room = count_of(runs).saturating_mul(element);
     let mut writer = BitWriter::with_capacity(alloc, room as usize)?;
-    put_runs(&mut writer, layout, bytes.as_slice(), runs)?;
+    put_runs(&mut writer, layout, bytes, runs)?;
     writer.finish()
 }
 
@@ -113,7 +110,7 @@ fn fill_runs(alloc: Global, fill: &[u8], runs: &[(u64, u64)]) -> Result<Vec<u8>,
 }
 
 /// The elements at the places of these runs of what a handle keeps, joined; the fill element at
-/// each where nothing is stored.
+/// each where nothing is stored. Not all bits of whole bytes are kept.
 pub(crate) fn read_runs<H: BytesPartialDecoderTraits>(
     alloc: Global,
     handle: &mut H,
@@ -122,6 +119,7 @@ pub(crate) fn read_runs<H: BytesPartialDecoderTraits>(
     runs: &[(u64, u64)],
 ) -> Result<Vec<u8>, CodecError>
     requires layout { IsPackedLayout layout.now }
+    requires in_part { is_whole layout.now ≡ false }
     requires fill { 0 < length fill.now }
     requires filled { All (λ run. 0 < run.1) runs.now }
     requires below { All (λ run. run.0 + run.1 ≤ layout.now.elements) runs.now }
@@ -132,7 +130,7 @@ pub(crate) fn read_runs<H: BytesPartialDecoderTraits>(
 {
     let ranges = run_ranges(alloc, layout, runs)?;
     match handle.partial_decode_many(alloc, ranges.as_slice())? {
-        Some(bytes) => Ok(unpack_runs(alloc, layout, bytes, runs)?),
+        Some(bytes) => Ok(unpack_runs(alloc, layout, bytes.as_slice(), runs)?),
         None => Ok(fill_runs(alloc, fill, runs)?),
     }
 }

@@ -1,6 +1,7 @@
 //! Bits that are read and written through words of 64.
 ghost use Rattle.std.specs.Prelude.{◌≡◌, ℕ, ◌+◌, ◌*◌, ◌^◌, ◌<◌, ◌≤◌, ◌++◌, length, IfOk};
 ghost use Rattle.zarrs_packbits.specs.Bits.{low_bits, bits_of, field};
+ghost use Rattle.zarrs_packbits.specs.WrittenBits.{flags_of};
 
 use std::alloc::AllocError;
 
@@ -44,6 +45,21 @@ fn gather_bits(bytes: &[u8], at: u64, count: u32) -> u64
         let place = at + index as u64;
         let bit = (bytes[(place / 8) as usize] >> (place % 8)) & 1;
         word |= (bit as u64) << index;
+    }
+    word
+}
+
+/// One bit of each of these bytes as a number, the first byte's lowest.
+pub(crate) fn gather_flags(bytes: &[u8], bit: u64) -> u64
+    requires count { length bytes.now ≤ 64 }
+    requires bit { bit < 8 }
+    ensures bits { low_bits (length bytes.now) result ≡ flags_of bit bytes.now }
+    ensures below { result < 2 ^ length bytes.now }
+{
+    let mut word = 0u64;
+    for index in 0..bytes.len() {
+        let flag = (bytes[index] >> bit) & 1;
+        word |= (flag as u64) << index;
     }
     word
 }

@@ -30,6 +30,13 @@ const THIRDS: &'static [u8] = &[
     0, 1, 0, 0, 1, 0, 0, 1,
 ];
 
+/// More flags than a word has bits, every third of them set.
+const SEVENTY: &'static [u8] = &[
+    1, 0, 0, 1, 0, 0, 1, 0, 0, 1, 0, 0, 1, 0, 0, 1, 0, 0, 1, 0, 0, 1, 0, 0, 1, 0, 0, 1, 0, 0, 1, 0,
+    0, 1, 0, 0, 1, 0, 0, 1, 0, 0, 1, 0, 0, 1, 0, 0, 1, 0, 0, 1, 0, 0, 1, 0, 0, 1, 0, 0, 1, 0, 0, 1,
+    0, 0, 1, 0, 0, 1,
+];
+
 /// A codec, a chunk, its elements, its value, and what is decoded of it.
 type Coded = (
     Kept,
@@ -40,7 +47,7 @@ type Coded = (
 );
 
 /// Flags at each padding, and components of some bits.
-const PACKED: [Coded; 7] = [
+const PACKED: [Coded; 8] = [
     ((NONE, None, None), FLAGS, &[1, 1], &[3], &[1, 1]),
     ((FIRST, None, None), FLAGS, &[1, 1], &[6, 3], &[1, 1]),
     ((LAST, None, None), FLAGS, &[1, 1], &[3, 6], &[1, 1]),
@@ -50,6 +57,13 @@ const PACKED: [Coded; 7] = [
         THIRDS,
         &[73, 146, 36, 73, 146],
         THIRDS,
+    ),
+    (
+        (FIRST, None, None),
+        (&[7, 10], (1, 1, false), &[0]),
+        SEVENTY,
+        &[2, 73, 146, 36, 73, 146, 36, 73, 146, 36],
+        SEVENTY,
     ),
     (
         (NONE, None, None),
@@ -75,13 +89,20 @@ const PACKED: [Coded; 7] = [
 ];
 
 /// Bits that are left out, whole bytes, and components of more than a word.
-const CUT: [Coded; 8] = [
+const CUT: [Coded; 9] = [
     (
         (FIRST, None, None),
         (&[4], (2, 1, false), &[0]),
         &[0, 1, 2, 3],
         &[0, 228],
         &[0, 1, 2, 3],
+    ),
+    (
+        (NONE, Some(3), Some(3)),
+        (&[3], (8, 1, true), &[0]),
+        &[8, 247, 255],
+        &[5],
+        &[248, 0, 248],
     ),
     (
         (NONE, Some(1), None),

@@ -1,12 +1,13 @@
 use Rattle.std.proofs.Common.{◌≡◌, ◌++◌, ◌≤◌, ◌-◌}
 use Rattle.std.specs.List.{flat_map}
 use Rattle.zarrs_array_bytes.specs.Elements.{piece}
-use Rattle.zarrs_array_to_array.specs.Strides.{row, next_rows}
+use Rattle.zarrs_array_to_array.specs.Strides.{row}
+use Rattle.zarrs_array_to_array.specs.Axes.{behind}
 use Rattle.zarrs_array_to_array.proofs.planes.append_blocks.Given as goal
 
 abbrev pub invariant-loop-done : goal.invariant-loop-done
 invariant-loop-done l = record {
-  appended : l.out.items ≡ l.initial.out.items ++ flat_map (piece l.size l.bytes) (next_rows l.columns.step l.columns.size (row l.front 1 l.done));
+  appended : l.out.items ≡ l.initial.out.items ++ flat_map (piece l.size l.bytes) (behind l.axes (row l.front 1 l.done));
   within : l.done ≤ l.count;
 }
 

@@ -28,13 +28,3 @@ returns-then-columns-eq1 c =
     ∙ ap (λ (xs : List ℕ). c.args.out.now.items ++ xs)
     (stretches_are_runs c.args.size columns.size c.args.bytes.now fronts ∙ ap (λ (step : ℕ). flat_map f (next_rows step columns.size fronts)) (sym c.if-columns-eq1.true)))
     c.append_row.ensures
-
-pub append_blocks-requires-clause-inside : goal.append_blocks-requires-clause-inside
-append_blocks-requires-clause-inside c = λ k l.
-    let rows = c.args.rows in
-    let columns = c.args.columns in
-    let at : ℕ = c.args.front + k * columns.step + rows.size in
-    let end : ℕ = c.args.front + (rows.size - 1) * rows.step + (columns.size - 1) * columns.step + 1 in
-    let one : (rows.size - 1) * rows.step ≡ rows.size - 1 = ap (λ (n : ℕ). (rows.size - 1) * n) c.if-rows-eq1.true ∙ omega arith in
-    let below : at ≤ end = omega (arith, steps_below k columns.size columns.step l, one) in
-    bytes_below at end c.args.size _ below c.requires.inside

@@ -1,4 +1,4 @@
-use Rattle.std.proofs.Common.{◌≡◌, ℕ, ◌+◌, ◌/◌, ◌++◌, take, arith, ap, ◌∙◌}
+use Rattle.std.proofs.Common.{◌+◌, ◌/◌, ◌++◌, take, arith, ap, ◌∙◌}
 use Rattle.zarrs_packbits.proofs.bit_writer.flushed.Goals as goal
 use Rattle.zarrs_packbits.specs.Bits.{bits_of}
 use Rattle.zarrs_packbits.proofs.LowBits.{flush}

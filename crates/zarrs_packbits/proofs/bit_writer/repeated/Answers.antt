@@ -1,4 +1,4 @@
-use Rattle.std.proofs.Common.{◌≡◌, ℕ, ◌-◌, ◌/◌, ◌^◌, replicate, arith, ap, ◌∙◌, sym}
+use Rattle.std.proofs.Common.{replicate, arith, ap, ◌∙◌, sym}
 use Rattle.std.proofs.lemmas.Nat.{pow_pos}
 use Rattle.zarrs_packbits.proofs.bit_writer.repeated.Goals as goal
 use Rattle.zarrs_packbits.specs.Bits.{low_bits, bit_of}

@@ -1,4 +1,4 @@
-use Rattle.std.proofs.Common.{◌≡◌, ℕ, List, ◌++◌, ap, ◌∙◌}
+use Rattle.std.proofs.Common.{◌++◌, ap, ◌∙◌}
 use Rattle.std.proofs.lemmas.List.{append_assoc}
 use Rattle.zarrs_packbits.specs.BitStream.{stream_of_bytes}
 use Rattle.zarrs_packbits.specs.PackedLayout.{spare_of}

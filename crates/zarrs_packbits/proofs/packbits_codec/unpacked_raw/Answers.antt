@@ -1,5 +1,4 @@
-use Rattle.std.proofs.Common.{◌≡◌, ℕ, ◌*◌, ◌<◌, List, Ok, length, drop, get_or, ap, subst, sym, ◌∙◌}
-use Rattle.zarrs_array_bytes.specs.Held.{raw_of}
+use Rattle.std.proofs.Common.{ℕ, List, length, drop, ap, sym, ◌∙◌}
 use Rattle.zarrs_array_bytes.proofs.ValidLemmas.{raw_items}
 use Rattle.zarrs_bytes.proofs.Coding.{ok}
 use Rattle.zarrs_packbits.specs.Bits.{bits_of}
@@ -7,18 +6,12 @@ use Rattle.zarrs_packbits.specs.BitStream.{components_from}
 use Rattle.zarrs_packbits.specs.PackedLayout.{parts_of}
 use Rattle.zarrs_packbits.specs.PaddingByte.{lead}
 use Rattle.zarrs_packbits.specs.Packing.{packing}
-use Rattle.zarrs_packbits.proofs.LayoutLemmas.{whole_unpacked}
 use Rattle.zarrs_packbits.proofs.packbits_codec.unpacked_raw.Goals as goal
 
-pub returns-then-is_whole-clause-exact : goal.returns-then-is_whole-clause-exact
-returns-then-is_whole-clause-exact c =
-    let small : (i : ℕ) → get_or (raw_of c.args.value).items i 0 < 256 = subst (λ (b : List ℕ). (i : ℕ) → get_or b i 0 < 256) (c.deref.ensures.value ∙ raw_items c.args.value) c.bytes_are.ensures in
-    ap ok (whole_unpacked c.args.layout.now (raw_of c.args.value).items c.requires.layout (sym c.if-is_whole.ensures) c.requires.len small)
-
 pub unpacked_bytes-requires-clause-len : goal.unpacked_bytes-requires-clause-len
-unpacked_bytes-requires-clause-len c = ap length (c.deref-2.ensures.value ∙ raw_items c.args.value) ∙ c.requires.len
+unpacked_bytes-requires-clause-len c = ap length (c.deref.ensures.value ∙ raw_items c.args.value) ∙ c.requires.len
 
 pub returns-clause-exact : goal.returns-clause-exact
 returns-clause-exact c =
     let l = c.args.layout.now in
-    ap ok (ap (λ (b : List ℕ). packing (components_from l 0 (parts_of l) (bits_of (drop (lead l) b)))) (sym (c.deref-2.ensures.value ∙ raw_items c.args.value)) ∙ sym c.in_ok-bytes.ensures)
+    ap ok (ap (λ (b : List ℕ). packing (components_from l 0 (parts_of l) (bits_of (drop (lead l) b)))) (sym (c.deref.ensures.value ∙ raw_items c.args.value)) ∙ sym c.in_ok-bytes.ensures)

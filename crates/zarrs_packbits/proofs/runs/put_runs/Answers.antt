@@ -1,5 +1,4 @@
-use Rattle.std.proofs.Common.{◌≡◌, ℕ, ◌+◌, ◌*◌, get_or, arith, ap, sym, ◌∙◌}
-use Rattle.std.proofs.lemmas.List.{drop_more}
+use Rattle.std.proofs.Common.{◌≡◌, ℕ, ◌+◌, ◌*◌, get_or, arith}
 use Rattle.zarrs_packbits.proofs.runs.put_runs.Goals as goal
 use Rattle.zarrs_packbits.proofs.RunLemmas.{run_within, run_parts, run_some}
 

@@ -1,7 +1,9 @@
-use Rattle.std.proofs.Common.{◌≡◌, ◌∙◌, ap, sym, Ok, ℕ, List, map}
+use Rattle.std.proofs.Common.{◌∙◌, ap, sym, Ok, length}
 use Rattle.std.proofs.lemmas.Result.{err_from_is_err_and}
 use Rattle.zarrs_chunk.specs.Answer.{memory_or_fault}
 use Rattle.zarrs_bytes.proofs.Reading.{Excused-weaker}
+use Rattle.zarrs_packbits.specs.Packing.{packing}
+use Rattle.zarrs_packbits.specs.ReadPlan.{run_bits}
 use Rattle.zarrs_packbits.proofs.FlatRead.{are_runs-from}
 use Rattle.zarrs_packbits.proofs.RunLemmas.{runs_read, runs_read_len, finished_runs, sure_runs}
 use Rattle.zarrs_packbits.proofs.runs.read_runs.Goals as goal
@@ -31,7 +33,8 @@ unpack_runs-requires-clause-len g c =
     let runs = c.args.runs.now in
     let rs = c.in_ok-ranges.ranges.items in
     let read = rw c.in-Some.is at c.in_ok-bytes.ensures.answer in
-    runs_read_len l (g.H.BytesPartialDecoderTraits.state c.args.handle.now).value c.in-Some.bytes.items runs rs c.as_slice.result.now (sym c.in_ok-ranges.ensures.spans) c.as_slice.ensures.value read
+    ap length c.as_slice-in-Some.ensures.value
+    ∙ runs_read_len l (g.H.BytesPartialDecoderTraits.state c.args.handle.now).value c.in-Some.bytes.items runs rs c.as_slice.result.now (sym c.in_ok-ranges.ensures.spans) c.as_slice.ensures.value read
 
 pub returns-in-Some-clause-answer : goal.returns-in-Some-clause-answer
 returns-in-Some-clause-answer g c =
@@ -41,4 +44,5 @@ returns-in-Some-clause-answer g c =
     let are = are_runs-from l.elements runs c.requires.filled c.requires.below in
     let through = runs_read l (g.H.BytesPartialDecoderTraits.state c.args.handle.now).value c.args.fill.now runs rs c.as_slice.result.now c.requires.layout are (sym c.in_ok-ranges.ensures.spans) c.as_slice.ensures.value in
     let read = rw c.in-Some.is at c.in_ok-bytes.ensures.answer in
-    through ∙ ap (finished_runs l c.args.fill.now runs) read ∙ ap Ok (sym c.in_ok-unpack_runs-in-Some.ensures)
+    through ∙ ap (finished_runs l c.args.fill.now runs) read ∙ ap (λ b. Ok (packing (run_bits l b runs))) (sym c.as_slice-in-Some.ensures.value)
+    ∙ ap Ok (sym c.in_ok-unpack_runs-in-Some.ensures)

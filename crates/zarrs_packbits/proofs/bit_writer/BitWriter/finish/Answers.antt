@@ -1,7 +1,7 @@
-use Rattle.std.proofs.Common.{◌≡◌, ℕ, ◌++◌, replicate, arith, ap, ◌∙◌, Vec, Global}
+use Rattle.std.proofs.Common.{ℕ, ◌++◌, replicate, arith, ap, ◌∙◌, Vec, Global}
 use Rattle.zarrs_packbits.proofs.bit_writer.BitWriter.finish.Goals as goal
 use Rattle.zarrs_packbits.proofs.FieldLemmas.{packed_is}
-use Rattle.zarrs_packbits.specs.Packing.{packing, spare_bits}
+use Rattle.zarrs_packbits.specs.Packing.{spare_bits}
 use Rattle.zarrs_packbits.specs.Bits.{bits_of}
 
 pub returns : goal.returns

@@ -1,4 +1,4 @@
-use Rattle.std.proofs.Common.{◌≡◌, ℕ, List, ◌+◌, ◌*◌, refl}
+use Rattle.std.proofs.Common.{ℕ, List, ◌+◌, ◌*◌, refl}
 use Rattle.zarrs_packbits.proofs.bit_writer.BitWriter.put_components.Goals as goal
 use Rattle.zarrs_packbits.specs.Bits.{bits_of, field}
 use Rattle.zarrs_packbits.specs.KeptBits.{full_component}

@@ -1,4 +1,4 @@
-use Rattle.std.proofs.Common.{◌≡◌, ℕ, ◌+◌, ◌++◌, arith, ap, ◌∙◌}
+use Rattle.std.proofs.Common.{◌+◌, ◌++◌, arith, ap, ◌∙◌}
 use Rattle.std.proofs.lemmas.List.{append_assoc}
 use Rattle.zarrs_packbits.proofs.bit_writer.BitWriter.put_field.Goals as goal
 use Rattle.zarrs_packbits.specs.Bits.{bits_of, low_bits, field}

@@ -1,4 +1,4 @@
-use Rattle.std.proofs.Common.{◌≡◌, ℕ, ◌+◌, ◌++◌, replicate, arith, ap, ◌∙◌}
+use Rattle.std.proofs.Common.{◌++◌, replicate, arith, ap, ◌∙◌}
 use Rattle.std.proofs.lemmas.List.{append_assoc, replicate-append-replicate}
 use Rattle.zarrs_packbits.proofs.bit_writer.BitWriter.put_repeated.Goals as goal
 use Rattle.zarrs_packbits.specs.Bits.{low_bits, bit_of}

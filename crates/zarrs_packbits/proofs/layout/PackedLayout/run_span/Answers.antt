@@ -1,6 +1,5 @@
-use Rattle.std.proofs.Common.{◌≡◌, ◌*◌, arith, sym}
+use Rattle.std.proofs.Common.{arith, sym}
 use Rattle.zarrs_packbits.proofs.layout.PackedLayout.run_span.Goals as goal
-use Rattle.zarrs_packbits.specs.PackedLayout.{bits_in}
 use Rattle.zarrs_packbits.proofs.LayoutLemmas.{lead_small}
 use Rattle.zarrs_packbits.proofs.RunLemmas.{whole_run_start, whole_run_end, whole_run_bytes, run_within, run_some}
 

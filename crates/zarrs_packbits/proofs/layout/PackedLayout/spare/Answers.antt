@@ -1,4 +1,4 @@
-use Rattle.std.proofs.Common.{◌≡◌, sym, ◌∙◌}
+use Rattle.std.proofs.Common.{sym}
 use Rattle.zarrs_packbits.proofs.layout.PackedLayout.spare.Goals as goal
 use Rattle.zarrs_packbits.proofs.LayoutLemmas.{whole_spare}
 

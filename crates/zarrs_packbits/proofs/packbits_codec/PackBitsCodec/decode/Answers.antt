@@ -1,15 +1,17 @@
-use Rattle.std.proofs.Common.{◌≡◌, ◌<◌, ◌^◌, ℕ, List, Bool, true, false, length, arith, sym, ◌∙◌, ap}
+use Rattle.std.proofs.Common.{◌≡◌, ℕ, List, true, length, arith, sym, ◌∙◌, ap, subst}
 use Rattle.std.specs.Prelude.{IsOkAnd}
+use Rattle.std.proofs.lemmas.Bool.{false≢true}
+use Rattle.zarrs_chunk.specs.Answer.{AnswersBy, memory}
 use Rattle.zarrs_array_bytes.specs.Held.{raw_of}
 use Rattle.zarrs_array_bytes.specs.Validity.{Holds}
 use Rattle.zarrs_array_bytes.proofs.ValidLemmas.{raw_items}
 use Rattle.zarrs_bytes.proofs.Coding.{ok}
 use Rattle.zarrs_packbits.specs.PackBitsCodec.{packbits_chunk}
 use Rattle.zarrs_packbits.specs.PackBitsSettings.{keeps_all_bytes}
-use Rattle.zarrs_packbits.specs.PackedLayout.{is_whole}
 use Rattle.zarrs_packbits.specs.PaddingByte.{value_len, padding_holds}
 use Rattle.zarrs_packbits.proofs.Coding.{decoded_holds}
-use Rattle.zarrs_packbits.proofs.Exact.{holds_stands, holds_only}
+use Rattle.zarrs_packbits.proofs.Exact.{decoded_only, holds_stands, holds_only}
+use Rattle.zarrs_packbits.proofs.WholeChunk.{answer_stands, answers_excused}
 use Rattle.zarrs_packbits.proofs.packbits_codec.PackBitsCodec.decode.Goals as goal
 
 items_are : (xs ys : List ℕ) → ok xs ≡ ok ys → ys ≡ xs
@@ -38,3 +40,20 @@ returns-clause-only c = λ chunk stands. holds_only c.args.self.now c.args.shape
 
 pub returns-clause-in_place : goal.returns-clause-in_place
 returns-clause-in_place c = λ _. exactly c
+
+pub returns-clause-kept : goal.returns-clause-kept
+returns-clause-kept c = λ h. absurd (false≢true (c.if-is_whole.ensures ∙ ap keeps_all_bytes c.in_ok-layout.ensures.answer ∙ h))
+
+pub decode_whole-requires : goal.decode_whole-requires
+decode_whole-requires c = record { whole = sym (ap keeps_all_bytes c.in_ok-layout.ensures.answer) ∙ sym c.if-is_whole.ensures }
+
+pub returns-then-is_whole-clause-exact : goal.returns-then-is_whole-clause-exact
+returns-then-is_whole-clause-exact c = answers_excused memory (Holds c.args.data_type.now) c.decode_whole.result _ c.decode_whole.ensures.exact
+
+pub returns-then-is_whole-clause-found : goal.returns-then-is_whole-clause-found
+returns-then-is_whole-clause-found c = answer_stands c.args.self.now c.args.shape.now c.args.data_type.now c.args.fill_value.now (raw_of c.args.value).items c.decode_whole.result c.decode_whole.ensures.exact
+
+pub returns-then-is_whole-clause-only : goal.returns-then-is_whole-clause-only
+returns-then-is_whole-clause-only c = λ chunk stands.
+    subst (AnswersBy memory (Holds c.args.data_type.now) c.decode_whole.result) (decoded_only c.args.self.now c.args.shape.now c.args.data_type.now c.args.fill_value.now (raw_of c.args.value).items chunk stands)
+    (answers_excused memory (Holds c.args.data_type.now) c.decode_whole.result _ c.decode_whole.ensures.exact)

@@ -1,17 +1,16 @@
-use Rattle.std.proofs.Common.{◌≡◌, ℕ, ◌*◌, List, Ok, Global, length, true, ap, subst, sym, ◌∙◌}
+use Rattle.std.proofs.Common.{ℕ, List, Global, ap, subst, sym, ◌∙◌}
+use Rattle.std.proofs.lemmas.Bool.{false≢true}
 use Rattle.std.specs.declared.borrow.CowSlice.{CowSlice}
-use Rattle.zarrs_chunk.specs.Answer.{Answers, memory, seen}
-use Rattle.zarrs_chunk.specs.AnswerLaws.{found_from, seen_from}
-use Rattle.zarrs_chunk.specs.ChunkShape.{product}
+use Rattle.zarrs_chunk.specs.Answer.{Answers, memory}
+use Rattle.zarrs_chunk.specs.AnswerLaws.{found_from}
 use Rattle.zarrs_data_type.specs.Element.{Chunk}
 use Rattle.zarrs_array_bytes.specs.Held.{raw_of}
 use Rattle.zarrs_array_bytes.specs.Validity.{Holds, validity}
-use Rattle.zarrs_bytes.proofs.Coding.{ok, ok_from_seen}
 use Rattle.zarrs_packbits.specs.PackBitsCodec.{packbits_value, PackBitsWritten}
-use Rattle.zarrs_packbits.specs.PackBitsSettings.{packed_layout, keeps_all_bytes}
-use Rattle.zarrs_packbits.specs.PackedLayout.{is_whole, parts_of}
+use Rattle.zarrs_packbits.specs.PackBitsSettings.{keeps_all_bytes}
 use Rattle.zarrs_packbits.proofs.Coding.{encoded_is, raw_length}
-use Rattle.zarrs_packbits.proofs.Exact.{encoded_found, encoded_only, held_seen}
+use Rattle.zarrs_packbits.proofs.Exact.{encoded_found, encoded_only}
+use Rattle.zarrs_packbits.proofs.WholeChunk.{answers_seen}
 use Rattle.zarrs_packbits.proofs.packbits_codec.PackBitsCodec.encode.Goals as goal
 
 abbrev items : CowSlice ℕ Global → List ℕ
@@ -42,11 +41,24 @@ returns-clause-only c = λ chunk value holds written.
     subst (Answers memory items c.packed_raw.result) (encoded_only c.args.self.now c.args.shape.now c.args.data_type.now c.args.fill_value.now value c.args.elements chunk holds written) (exactly c)
 
 pub returns-clause-in_place : goal.returns-clause-in_place
-returns-clause-in_place c = λ h.
-    let whole : is_whole c.in_ok-layout.layout ≡ true = ap keeps_all_bytes c.in_ok-layout.ensures.answer ∙ h in
-    seen_from memory items c.packed_raw.result (packbits_value c.args.self.now c.args.shape.now c.args.data_type.now c.args.fill_value.now c.args.elements) (ok_from_seen raw_of c.packed_raw.result (raw_of c.in_ok-raw.raw) (c.packed_raw.ensures.kept whole)) (exactly c)
+returns-clause-in_place c = λ h. absurd (false≢true (c.if-is_whole.ensures ∙ ap keeps_all_bytes c.in_ok-layout.ensures.answer ∙ h))
 
 pub returns-clause-kept : goal.returns-clause-kept
-returns-clause-kept c = λ h.
-    let whole : is_whole c.in_ok-layout.layout ≡ true = ap keeps_all_bytes c.in_ok-layout.ensures.answer ∙ h in
-    held_seen c.packed_raw.result c.args.elements (raw_of c.in_ok-raw.raw) (sym c.in_ok-raw.ensures.answer) (c.packed_raw.ensures.kept whole)
+returns-clause-kept c = λ h. absurd (false≢true (c.if-is_whole.ensures ∙ ap keeps_all_bytes c.in_ok-layout.ensures.answer ∙ h))
+
+pub encode_whole-requires : goal.encode_whole-requires
+encode_whole-requires c = record { whole = sym (ap keeps_all_bytes c.in_ok-layout.ensures.answer) ∙ sym c.if-is_whole.ensures }
+
+pub returns-then-is_whole-clause-exact : goal.returns-then-is_whole-clause-exact
+returns-then-is_whole-clause-exact c = answers_seen memory items c.encode_whole.result _ c.encode_whole.ensures.exact
+
+pub returns-then-is_whole-clause-found : goal.returns-then-is_whole-clause-found
+returns-then-is_whole-clause-found c =
+    found_from memory items c.encode_whole.result (packbits_value c.args.self.now c.args.shape.now c.args.data_type.now c.args.fill_value.now c.args.elements)
+    (λ v. (chunk : Chunk) × Holds c.args.data_type.now c.args.elements chunk × PackBitsWritten c.args.self.now c.args.shape.now c.args.data_type.now c.args.fill_value.now v chunk)
+    (answers_seen memory items c.encode_whole.result _ c.encode_whole.ensures.exact)
+    (λ v e. encoded_found c.args.self.now c.args.shape.now c.args.data_type.now c.args.fill_value.now v c.args.elements e)
+
+pub returns-then-is_whole-clause-only : goal.returns-then-is_whole-clause-only
+returns-then-is_whole-clause-only c = λ chunk value holds written.
+    subst (Answers memory items c.encode_whole.result) (encoded_only c.args.self.now c.args.shape.now c.args.data_type.now c.args.fill_value.now value c.args.elements chunk holds written) (answers_seen memory items c.encode_whole.result _ c.encode_whole.ensures.exact)

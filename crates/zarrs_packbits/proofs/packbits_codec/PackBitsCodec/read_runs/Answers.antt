@@ -1,13 +1,9 @@
-use Rattle.std.proofs.Common.{◌≡◌, ◌<◌, ◌≤◌, ◌+◌, ◌^◌, ℕ, List, Ok, Err, length, arith, ap, sym, ◌∙◌, subst}
-use Rattle.std.specs.Prelude.{IsOkAnd}
-use Rattle.std.specs.List.{All}
+use Rattle.std.proofs.Common.{◌<◌, ◌^◌, length, arith, ap, sym, ◌∙◌}
 use Rattle.std.proofs.lemmas.Result.{err_from_is_err_and}
 use Rattle.zarrs_chunk.specs.Answer.{memory_or_fault}
 use Rattle.zarrs_chunk.specs.Runs.{joined_runs}
-use Rattle.zarrs_array_bytes.specs.Held.{flen, owned_bytes}
-use Rattle.zarrs_array_bytes.specs.Validity.{Holds}
 use Rattle.zarrs_bytes.proofs.Reading.{Excused-weaker}
-use Rattle.zarrs_packbits.specs.PackBitsSettings.{packed_layout}
+use Rattle.zarrs_packbits.specs.PackBitsSettings.{keeps_all_bytes, packed_layout}
 use Rattle.zarrs_packbits.specs.PartialRead.{read_packed_places}
 use Rattle.zarrs_packbits.proofs.CodecLaws.{read_at}
 use Rattle.zarrs_packbits.proofs.DecoderReads.{taken_fill}
@@ -51,3 +47,6 @@ returns-clause-answer g c =
     let read = rw c.as_ne_bytes-fill.ensures.value at c.in_ok-bytes.ensures.answer in
     let found = places_found c.args.self.now c.args.shape.now c.args.data_type.now c.args.fill_value.now places bytes.items stored l c.taken_layout-layout.ensures.is read small in
     rw c.new_flen.ensures.made (rw (read_at (packed_layout c.args.self.now c.args.shape.now c.args.data_type.now c.args.fill_value.now) l (λ k. read_packed_places k type fill stored places) c.taken_layout-layout.ensures.is) found)
+
+pub read_whole_runs-requires-clause-whole : goal.read_whole_runs-requires-clause-whole
+read_whole_runs-requires-clause-whole g c = ap keeps_all_bytes c.taken_layout-layout.ensures.is ∙ sym c.if-is_whole.ensures

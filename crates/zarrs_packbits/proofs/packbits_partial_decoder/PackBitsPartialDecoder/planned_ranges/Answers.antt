@@ -1,11 +1,10 @@
-use Rattle.std.proofs.Common.{◌≡◌, ◌≤◌, ◌+◌, ℕ, List, sym, ◌∙◌, subst, ap, refl}
-use Rattle.std.specs.List.{All}
+use Rattle.std.proofs.Common.{ℕ, List, sym, ap}
 use Rattle.zarrs_chunk.specs.Indexer.{selection_of}
 use Rattle.zarrs_chunk.specs.Runs.{joined_runs}
 use Rattle.zarrs_chunk.specs.Selection.{places_of}
 use Rattle.zarrs_packbits.specs.declared.layout.PackedLayout.{PackedLayout}
 use Rattle.zarrs_packbits.specs.PackBitsSettings.{packed_layout}
-use Rattle.zarrs_packbits.specs.ReadPlan.{IsPlan, run_span, spans}
+use Rattle.zarrs_packbits.specs.ReadPlan.{IsPlan}
 use Rattle.zarrs_packbits.proofs.FlatRead.{are_runs-from}
 use Rattle.zarrs_packbits.proofs.PartReads.{both_found, is_plan}
 use Rattle.zarrs_packbits.proofs.packbits_partial_decoder.PackBitsPartialDecoder.planned_ranges.Goals as goal
