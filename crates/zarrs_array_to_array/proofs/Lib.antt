@@ -2,6 +2,7 @@ pub mod Chains
 pub mod CodecAnswers
 pub mod CoordinateMaps
 pub mod Folded
+pub mod MadeAgain
 pub mod MovedPlaces
 pub mod MovedTuples
 pub mod Orders
@@ -24,3 +25,5 @@ pub mod AxisRows
 pub mod FixedChunks
 pub mod Readers
 pub mod BlockRows
+pub mod Writers
+pub mod WritingStages

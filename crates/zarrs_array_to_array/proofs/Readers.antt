@@ -63,16 +63,16 @@ module _ (codec : ArrayMapping) (sizes : List ℕ) (m : CoordinateMap) (is : IsM
   map_is = codec_map codec sizes m is positive takes
 
   -- the tuples that are asked for are as many
-  image_few : (selection image : Selection) → IsImage sizes m selection image → length (tuples_of selection) < 2 ^ 64 → length (tuples_of image) < 2 ^ 64
+  pub image_few : (selection image : Selection) → IsImage sizes m selection image → length (tuples_of selection) < 2 ^ 64 → length (tuples_of image) < 2 ^ 64
   image_few selection image at few =
       omega (arith, few, ap length at.places, length-map (tuples_of image) (row_major m.encoded), length-map (map (row_major sizes) (tuples_of selection)) m.to, length-map (tuples_of selection) (row_major sizes))
 
-  image_is : (selection : Selection) → bounds_of selection sizes ≡ Ok tt → length (tuples_of selection) < 2 ^ 64 → image_of (coordinates codec sizes) (selection_in codec sizes) sizes selection ≡ Ok (selection_in codec sizes m.encoded selection)
+  pub image_is : (selection : Selection) → bounds_of selection sizes ≡ Ok tt → length (tuples_of selection) < 2 ^ 64 → image_of (coordinates codec sizes) (selection_in codec sizes) sizes selection ≡ Ok (selection_in codec sizes m.encoded selection)
   image_is selection inside few = rw (inside, takes, few_counted selection few) refl
 
   -- the places of what is asked for are those where the selection's go
-  image_places : (selection image : Selection) (answer : List ℕ → Result Chunk CodecError) → bounds_of selection sizes ≡ Ok tt → IsImage sizes m selection image → (places_of image m.encoded >>= answer) ≡ (places_of selection sizes >>= λ places. answer (map m.to places))
-  image_places selection image answer inside at =
+  pub image_places : {B : Type 0} (selection image : Selection) (answer : List ℕ → Result B CodecError) → bounds_of selection sizes ≡ Ok tt → IsImage sizes m selection image → (places_of image m.encoded >>= answer) ≡ (places_of selection sizes >>= λ places. answer (map m.to places))
+  image_places {B} selection image answer inside at =
       rw (inside, at.inside, map_is.count) (go (checked_u64 (product sizes)))
     where
       go : (counted : Result ℕ CodecError) → ((counted >>= λ _. Ok (map (row_major m.encoded) (tuples_of image))) >>= answer) ≡ ((counted >>= λ _. Ok (map (row_major sizes) (tuples_of selection))) >>= λ places. answer (map m.to places))
@@ -93,8 +93,8 @@ module _ (codec : ArrayMapping) (sizes : List ℕ) (m : CoordinateMap) (is : IsM
           ∙ image_places selection image answer inside at
 
   -- places that are known may be asked otherwise
-  where_known : (selection : Selection) (f g : List ℕ → Result Chunk CodecError) → ((places : List ℕ) → All (λ place. place < product sizes) places → f places ≡ g places) → (places_of selection sizes >>= f) ≡ (places_of selection sizes >>= g)
-  where_known selection f g h = go (places_of selection sizes) refl
+  pub where_known : {B : Type 0} (selection : Selection) (f g : List ℕ → Result B CodecError) → ((places : List ℕ) → All (λ place. place < product sizes) places → f places ≡ g places) → (places_of selection sizes >>= f) ≡ (places_of selection sizes >>= g)
+  where_known {B} selection f g h = go (places_of selection sizes) refl
     where
       go : (at : Result (List ℕ) CodecError) → places_of selection sizes ≡ at → (at >>= f) ≡ (at >>= g)
       go (Ok places) e = h places (known_below selection sizes places e)

@@ -14,9 +14,13 @@ pub mod TupleLaws
 pub mod EncodedSelection
 pub mod Boxes
 pub mod CodecAnswers
+pub mod MappingMetadata
 pub use Rattle.zarrs_codec.specs.CoordinateMap
 pub use Rattle.zarrs_codec.specs.MappedChunk
 pub use Rattle.zarrs_codec.specs.MappedSelection
 pub mod ArrayToArrayCodecPartial
 pub mod ReaderLaws
+pub mod WriterLaws
+pub use Rattle.zarrs_codec.specs.ArrayWriter
+pub use Rattle.zarrs_codec.specs.ChunkEdits
 pub mod Axes

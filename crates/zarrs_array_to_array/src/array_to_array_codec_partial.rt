@@ -1,6 +1,7 @@
 ghost use Rattle.std.specs.Prelude.{◌≡◌, ◌&&◌, ℕ, List, Option, Ok, Err, IfOk, IfErr, true, false};
 ghost use Rattle.zarrs_chunk.specs.Answer.{Answers, memory, is_fault, seen};
 ghost use Rattle.zarrs_codec.specs.ArrayReader.{mapped_reader};
+ghost use Rattle.zarrs_codec.specs.ArrayWriter.{mapped_writer};
 ghost use Rattle.zarrs_array_to_array.specs.ArrayToArrayCodecPartial.{codec_of, input_of, sizes_of};
 ghost use Rattle.zarrs_codec.specs.Refused.{outcome};
 ghost use Rattle.zarrs_codec.specs.MappedChunk.{encoded_form};
@@ -12,11 +13,14 @@ use crate::array_to_array_codec::ArrayToArrayCodec;
 use std::alloc::Global;
 use zarrs_array_bytes::ArrayBytes;
 use zarrs_chunk::{ChunkShape, CodecError, Indexer};
-use zarrs_codec::{ArrayPartialDecoderTraits, ArrayToArrayCodecTraits, Refused};
+use zarrs_codec::{
+    ArrayPartialDecoderTraits, ArrayPartialEncoderTraits, ArrayToArrayCodecTraits, Refused,
+};
 use zarrs_data_type::{DataType, FillValue};
 
 /// Reads a chunk in part over the reader of its encoded chunk, which it owns: it asks that one for
-/// the encoded indexer. The indexer is checked against the decoded shape first.
+/// the encoded indexer. Over a writer it writes too, the same elements at the encoded indexer. The
+/// indexer is checked against the decoded shape first.
 #[derive(Drop)]
 pub struct ArrayToArrayCodecPartial<C, I> {
     input: I,
@@ -65,6 +69,8 @@ impl<C: ArrayToArrayCodecTraits, I: ArrayPartialDecoderTraits> ArrayPartialDecod
     for ArrayToArrayCodecPartial<C, I> {
     ghost reader = { λ stage. mapped_reader (C.coordinates (codec_of stage) (sizes_of stage)) (C.asked (codec_of stage) (sizes_of stage)) (C.reads_in_part (codec_of stage)).partial_decode (sizes_of stage) (I.reader (input_of stage)) };
 
+    ghost writer = { λ stage. mapped_writer (C.coordinates (codec_of stage) (sizes_of stage)) (C.asked (codec_of stage) (sizes_of stage)) (C.reads_in_part (codec_of stage)).partial_decode (sizes_of stage) (I.writer (input_of stage)) };
+
     ghost state = { λ stage. I.state (input_of stage) };
 
     ghost lent = { λ stage. I.lent (input_of stage) };
@@ -97,6 +103,38 @@ impl<C: ArrayToArrayCodecTraits, I: ArrayPartialDecoderTraits> ArrayPartialDecod
     fn supports_partial_decode(&self) -> bool {
         self.codec.partial_decoder_capability().partial_decode
             && self.input.supports_partial_decode()
+    }
+}
+
+impl<C: ArrayToArrayCodecTraits, I: ArrayPartialEncoderTraits> ArrayPartialEncoderTraits
+    for ArrayToArrayCodecPartial<C, I> {
+    ghost use Rattle.std.proofs.Common.{ap};
+
+    ghost atomic = { I.atomic };
+
+    ghost writes_part = { λ stage. (C.writes_in_part (codec_of stage)).partial_encode && I.writes_part (input_of stage) };
+
+    ghost tells = { λ stage. ap (mapped_reader (C.coordinates (codec_of stage) (sizes_of stage)) (C.asked (codec_of stage) (sizes_of stage)) (C.reads_in_part (codec_of stage)).partial_decode (sizes_of stage)) (I.tells (input_of stage)) };
+
+    fn partial_encode(
+        &mut self,
+        alloc: Global,
+        indexer: &Indexer,
+        elements: &ArrayBytes<'_>,
+    ) -> Result<(), CodecError> {
+        match self.codec.encoded_indexer(alloc, indexer, &self.shape) {
+            Ok(encoded) => self.input.partial_encode(alloc, &encoded, elements),
+            Err(refusal) => Err(refusal),
+        }
+    }
+
+    fn erase(&mut self) -> Result<(), CodecError> {
+        self.input.erase()
+    }
+
+    fn supports_partial_encode(&self) -> bool {
+        self.codec.partial_encoder_capability().partial_encode
+            && self.input.supports_partial_encode()
     }
 }
 
@@ -137,5 +175,23 @@ impl ArrayToArrayCodec {
             self.parts_of_decoder(alloc, shape, data_type, fill_value),
             input,
         )
+    }
+    /// A reader of a chunk in part that writes too, over the writer of the encoded chunk. Refusals:
+    /// those of `encoded_representation`; `OutOfMemory`. A refusal hands the input back as it was.
+    pub fn partial_encoder<I: ArrayPartialEncoderTraits>(
+        &self,
+        alloc: Global,
+        input: I,
+        shape: &ChunkShape,
+        data_type: &DataType,
+        fill_value: &FillValue,
+    ) -> Result<ArrayToArrayCodecPartial<ArrayToArrayCodec, I>, Refused<I>>
+        ensures answer { Answers memory (λ made. made) (outcome result) (seen (λ _. tt) (encoded_form (type_taken (mapping_of self.now) data_type.now) (coordinates_of (mapping_of self.now) shape.now) data_type.now fill_value.now)) }
+        ensures no_fault { is_fault (outcome result) ≡ false }
+        ensures form { IfOk result (λ stage. (mapping_of (codec_of stage) ≡ mapping_of self.now) × (sizes_of stage ≡ shape.now)) }
+        ensures over { IfOk result (λ stage. input_of stage ≡ input) }
+        ensures handed_back { IfErr result (λ refused. refused.handle ≡ input) }
+    {
+        self.partial_decoder(alloc, input, shape, data_type, fill_value)
     }
 }

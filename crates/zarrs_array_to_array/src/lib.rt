@@ -11,6 +11,7 @@ mod axis;
 mod axis_positions;
 mod boxes;
 pub mod laws;
+mod metadata;
 mod planes;
 mod reshape;
 mod squeeze;

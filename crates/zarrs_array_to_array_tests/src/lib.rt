@@ -20,6 +20,8 @@ mod forms;
 #[cfg(test)]
 mod indexers;
 #[cfg(test)]
+mod metadata;
+#[cfg(test)]
 mod moves;
 #[cfg(test)]
 mod refusals;
@@ -27,3 +29,5 @@ mod refusals;
 mod shapes;
 #[cfg(test)]
 mod stages;
+#[cfg(test)]
+mod writes;

@@ -3,11 +3,14 @@ pub mod BytesAt
 pub mod CodecLaws
 pub mod Coding
 pub mod ReversedPieces
+pub mod ByteRuns
 pub mod Exact
+pub mod InPlace
 pub mod Turned
 pub mod TurnedParts
 pub mod Ranges
 pub mod Reading
 pub mod PartReads
+pub mod PartWrites
 pub mod Spelled
 pub mod Taken

@@ -20,7 +20,7 @@ All-from limit at len h k d l =
     let short : k < len = omega (arith, l, length-range_with_len at len) in
     rw (get_or-range_with_len at len k d short) (omega (arith, h, short))
 
-runs_below : (limit : ℕ) (runs : List (ℕ × ℕ)) → All (λ run. run.0 + run.1 ≤ limit) runs → All (λ place. place < limit) (joined_runs runs)
+pub runs_below : (limit : ℕ) (runs : List (ℕ × ℕ)) → All (λ run. run.0 + run.1 ≤ limit) runs → All (λ place. place < limit) (joined_runs runs)
 runs_below limit [] h = All-nil (λ place. place < limit)
 runs_below limit (run ∷ runs) h =
     All-append (λ place. place < limit) (range_with_len run.0 run.1) (joined_runs runs)

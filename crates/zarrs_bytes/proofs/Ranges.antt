@@ -223,7 +223,7 @@ range_lengths [] = refl
 range_lengths (range ∷ ranges) =
     omega (arith, length-append (range_with_len range.start (range.end - range.start)) (range_indices ranges), length-range_with_len range.start (range.end - range.start), range_lengths ranges, sum_by-cons (λ (r : ByteSpan). r.end - r.start) range ranges)
 
-place_lengths : (size : ℕ) (places : List ℕ) → length (place_bytes size places) ≡ length places * size
+pub place_lengths : (size : ℕ) (places : List ℕ) → length (place_bytes size places) ≡ length places * size
 place_lengths size [] = omega arith
 place_lengths size (place ∷ places) =
     omega (arith, length-append (range_with_len (place * size) size) (place_bytes size places), length-range_with_len (place * size) size, place_lengths size places)

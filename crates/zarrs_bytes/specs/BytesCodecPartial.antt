@@ -1,4 +1,4 @@
--- What a partial decoder of `bytes` is made of, and what it reads of a chunk.
+-- What a partial coder of `bytes` is made of, and what it reads and writes of a chunk.
 use Rattle.std.specs.Prelude.{◌≡◌, ℕ, Bool, Option, Some, None, is_some, List, map, Result}
 use Rattle.zarrs_chunk.specs.Answer.{AnswersBy, memory_or_fault, seen}
 use Rattle.zarrs_chunk.specs.Indexer.{selection_of}
@@ -12,9 +12,12 @@ use Rattle.zarrs_array_bytes.specs.Elements.{select}
 use Rattle.zarrs_array_bytes.specs.Held.{Held}
 use Rattle.zarrs_array_bytes.specs.Validity.{Holds}
 use Rattle.zarrs_codec.specs.ArrayReader.{ArrayReader}
+use Rattle.zarrs_codec.specs.ArrayWriter.{ArrayWriter}
+use Rattle.zarrs_codec.specs.ChunkEdits.{data_checked, edited_chunk}
 use Rattle.zarrs_codec.specs.StorageState.{StorageState}
 use Rattle.zarrs_bytes.specs.BytesCodec.{BytesStands}
 use Rattle.zarrs_bytes.specs.PartialRead.{bytes_read}
+use Rattle.zarrs_bytes.specs.PartialWrite.{bytes_written, StartsFrom, StoresChunk}
 use Rattle.zarrs_bytes.specs.declared.bytes_codec_partial.BytesCodecPartial.{BytesCodecPartial}
 
 -- the chunks that a decoder reads: the byte order, the shape, the type and the fill value
@@ -56,3 +59,18 @@ bytes_reader form stored in_part = record {
   answer = bytes_read form.order form.sizes form.type form.fill stored;
   in_part = in_part;
 }
+
+-- the writer of a chunk of this form: it leaves of a selection and new elements what `bytes_written` says
+abbrev pub bytes_writer : BytesForm → Bool → ArrayWriter
+bytes_writer form in_part = record {
+  reads = λ stored. bytes_reader form stored in_part;
+  checks = data_checked form.sizes form.type;
+  written = bytes_written form.order form.sizes form.type form.fill;
+}
+
+-- Where an edit of what was stored before starts from a chunk, the write is accepted just where the indexer is in bounds and there is one new element for each of its places, and the value afterwards is the one that is written for the chunk with these elements; else the first cause is answered. Only a want of memory or a failure of the handle may come in its place.
+abbrev pub WritesEdit : {H : Type 0} → (H → StorageState) → BytesCodecPartial H → BytesCodecPartial H → Indexer → Held → Result (Unit {0}) CodecError → Type 0
+WritesEdit state before after indexer new answer =
+    let form = bytes_form_of before in
+    (chunk : Chunk) → StartsFrom form.order form.sizes form.type form.fill (state (bytes_handle_of before)).value chunk
+    → AnswersBy memory_or_fault (λ _ edited. StoresChunk form.order form.sizes form.type form.fill (state (bytes_handle_of after)).value edited) answer (edited_chunk form.sizes form.type chunk (selection_of indexer) new)

@@ -1,13 +1,18 @@
 -- Laws of the codec `bytes`.
-use Rattle.std.specs.Prelude.{◌≡◌, ◌<◌, ◌↔◌, ℕ, Option, Some, List, length, Ok}
+use Rattle.std.specs.Prelude.{◌≡◌, ◌<◌, ◌↔◌, ℕ, Option, Some, List, length, true, is_ok, Ok}
 use Rattle.std.specs.List.{All}
 use Rattle.zarrs_data_type.specs.Element.{Chunk}
 use Rattle.zarrs_data_type.specs.ElementType.{ElementType}
 use Rattle.zarrs_data_type.specs.declared.endianness.Endianness.{Endianness}
+use Rattle.zarrs_chunk.specs.ChunkShape.{product}
 use Rattle.zarrs_array_bytes.specs.Elements.{select}
+use Rattle.zarrs_array_bytes.specs.Held.{Held}
+use Rattle.zarrs_array_bytes.specs.Validity.{data_fit}
 use Rattle.zarrs_bytes.specs.BytesCodec.{bytes_length, BytesStands, BytesWritten}
 use Rattle.zarrs_codec.specs.ByteRanges.{SameByte}
+use Rattle.zarrs_codec.specs.ChunkEdits.{with_elements}
 use Rattle.zarrs_bytes.specs.PartialRead.{place_bytes, place_size, read_places}
+use Rattle.zarrs_bytes.specs.PartialWrite.{bytes_left, StartsFrom}
 
 -- A value that is written for a chunk stands for it.
 abbrev pub WrittenStands : Type 0
@@ -46,3 +51,10 @@ ReadsAlike =
     (order : Option Endianness) (type : ElementType) (fill value other places : List ℕ)
     → All (SameByte value other) (place_bytes (place_size type) places)
     → read_places order type fill (Some value) places ≡ read_places order type fill (Some other) places
+
+-- What is left where new elements are written at places inside is what is written for the chunk with these elements: over a value that stands for a chunk, whose places' bytes alone are replaced; and where nothing is stored, over fill elements.
+abbrev pub WriteUpdates : Type 0
+WriteUpdates =
+    (order : Option Endianness) (sizes : List ℕ) (type : ElementType) (fill : List ℕ) (stored : Option (List ℕ)) (chunk : Chunk) (places : List ℕ) (new : Held)
+    → is_ok (bytes_length order sizes type fill) ≡ true → StartsFrom order sizes type fill stored chunk → All (λ place. place < product sizes) places → data_fit type (length places) new ≡ Ok tt
+    → BytesWritten order sizes type fill (bytes_left order sizes type fill stored places new) (with_elements type chunk places new)

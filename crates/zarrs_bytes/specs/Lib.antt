@@ -3,6 +3,7 @@ pub mod BytesCodec
 pub mod BytesCodecPartial
 pub mod Laws
 pub mod PartialRead
+pub mod PartialWrite
 pub use Rattle.zarrs_chunk.specs.Answer
 pub use Rattle.zarrs_chunk.specs.ChunkShape
 pub use Rattle.zarrs_chunk.specs.Indexer
@@ -15,6 +16,8 @@ pub use Rattle.zarrs_array_bytes.specs.Elements
 pub use Rattle.zarrs_array_bytes.specs.Held
 pub use Rattle.zarrs_array_bytes.specs.Validity
 pub use Rattle.zarrs_codec.specs.ArrayReader
+pub use Rattle.zarrs_codec.specs.ArrayWriter
 pub use Rattle.zarrs_codec.specs.ByteRanges
+pub use Rattle.zarrs_codec.specs.ChunkEdits
 pub use Rattle.zarrs_codec.specs.Refused
 pub use Rattle.zarrs_codec.specs.StorageState

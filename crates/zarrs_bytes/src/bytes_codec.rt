@@ -19,7 +19,7 @@ use zarrs_data_type::{DataType, Endianness, FillValue, HasComponents};
 /// the byte order that was asked for (Zarr v3 codec `bytes`). It takes every fixed data type.
 #[derive(Clone, Copy, Debug, PartialEq, Eq)]
 pub struct BytesCodec {
-    endianness: Option<Endianness>,
+    pub(crate) endianness: Option<Endianness>,
 }
 
 impl Model for BytesCodec {

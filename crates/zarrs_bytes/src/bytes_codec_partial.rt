@@ -1,17 +1,21 @@
-ghost use Rattle.std.specs.Prelude.{◌≡◌, ◌<◌, ◌+◌, ◌*◌, ◌-◌, ◌^◌, true, false, Some, None, Ok, IfOk, IfErr, All, is_some, is_ok, sum_by, length};
+ghost use Rattle.std.specs.Prelude.{◌≡◌, ◌<◌, ◌≤◌, ◌+◌, ◌*◌, ◌-◌, ◌^◌, true, false, Some, None, Ok, Err, IfOk, IfErr, All, OnOk, OnErr, is_some, is_ok, sum_by, length};
 ghost use Rattle.std.specs.List.{flat_map};
 ghost use Rattle.zarrs_chunk.specs.Answer.{Answers, AnswersBy, fault, is_fault, memory, memory_or_fault, seen};
 ghost use Rattle.zarrs_chunk.specs.Indexer.{selection_of};
 ghost use Rattle.zarrs_chunk.specs.Runs.{joined_runs};
-ghost use Rattle.zarrs_chunk.specs.Selection.{places_of};
+ghost use Rattle.zarrs_chunk.specs.Selection.{bounds_of, places_of};
 ghost use Rattle.zarrs_data_type.specs.ElementType.{fixed_size_of};
 ghost use Rattle.zarrs_data_type.specs.FillValue.{fill_fits};
-ghost use Rattle.zarrs_array_bytes.specs.Validity.{Holds};
+ghost use Rattle.zarrs_array_bytes.specs.Validity.{Holds, data_fit};
+ghost use Rattle.zarrs_chunk.specs.ChunkShape.{product};
+ghost use Rattle.zarrs_codec.specs.ArrayWriter.{IsRefusedWrite};
 ghost use Rattle.zarrs_codec.specs.ByteRanges.{range_indices};
 ghost use Rattle.zarrs_codec.specs.Refused.{outcome};
-ghost use Rattle.zarrs_codec.specs.StorageState.{after_reading, are_sure};
+ghost use Rattle.zarrs_codec.specs.StorageState.{after_reading, after_writing, apart_from_value, are_sure};
 ghost use Rattle.zarrs_bytes.specs.BytesCodec.{bytes_length};
 ghost use Rattle.zarrs_bytes.specs.PartialRead.{place_bytes, bytes_plan, bytes_read, read_places, place_size, IsFilledType};
+ghost use Rattle.zarrs_bytes.specs.PartialWrite.{bytes_written};
+ghost use Rattle.zarrs_codec.specs.ChunkEdits.{data_checked, data_places};
 
 use crate::batches::{count_of, read_bytes, run_ranges};
 use crate::byte_order::turn;
@@ -20,12 +24,15 @@ use std::alloc::{AllocError, Global};
 use std::borrow::CowSlice;
 use zarrs_array_bytes::{ArrayBytes, append_copies};
 use zarrs_chunk::{ChunkShape, CodecError, Indexer};
-use zarrs_codec::{ArrayPartialDecoderTraits, ByteRange, BytesPartialDecoderTraits, Refused};
+use zarrs_codec::{
+    ArrayPartialDecoderTraits, ArrayPartialEncoderTraits, ByteRange, BytesPartialDecoderTraits,
+    BytesPartialEncoderTraits, Refused,
+};
 use zarrs_data_type::{DataType, FillValue};
 
-/// Reads a chunk of [`BytesCodec`] in part, over a storage handle that it owns. A read looks at the
-/// bytes of the places that are asked for and at no others: it checks neither the value's length
-/// nor what else stands there.
+/// Reads and writes a chunk of [`BytesCodec`] in part, over a storage handle that it owns. A read
+/// looks at the bytes of the places that are asked for and at no others, and a write over a stored
+/// value replaces these alone: they check neither the value's length nor what else stands there.
 #[derive(Drop)]
 pub struct BytesCodecPartial<H> {
     handle: H,
@@ -37,7 +44,7 @@ pub struct BytesCodecPartial<H> {
 }
 
 /// How many bytes an element of a fixed type has.
-fn element_size(data_type: &DataType, fill_value: &FillValue) -> usize
+pub(crate) fn element_size(data_type: &DataType, fill_value: &FillValue) -> usize
     requires fixed { is_some (fixed_size_of data_type.now) ≡ true }
     requires fits { fill_fits data_type.now fill_value.now ≡ true }
     ensures size { result ≡ place_size data_type.now }
@@ -149,6 +156,46 @@ impl BytesCodec {
             Err(error) => Err(Refused { error, handle }),
         }
     }
+
+    /// A coder of a chunk in part, over a handle, that writes too. Refusals: those of
+    /// `encoded_representation`; `OutOfMemory`. A refusal hands the handle back as it was.
+    pub fn partial_encoder<H: BytesPartialEncoderTraits>(
+        &self,
+        alloc: Global,
+        handle: H,
+        shape: &ChunkShape,
+        data_type: &DataType,
+        fill_value: &FillValue,
+    ) -> Result<BytesCodecPartial<H>, Refused<H>>
+        ensures answer { Answers memory (λ made. made) (outcome result) (seen (λ _. tt) (bytes_length self.now shape.now data_type.now fill_value.now)) }
+        ensures form { IfOk result (λ encoder. bytes_form_of encoder ≡ record { order = self.now; sizes = shape.now; type = data_type.now; fill = fill_value.now }) }
+        ensures over { IfOk result (λ encoder. bytes_handle_of encoder ≡ handle) }
+        ensures handed_back { IfErr result (λ refused. refused.handle ≡ handle) }
+        ensures no_fault { is_fault (outcome result) ≡ false }
+    {
+        self.partial_decoder(alloc, handle, shape, data_type, fill_value)
+    }
+}
+
+/// The runs of the places that the indexer means, where there is one new element for each. Refusals,
+/// the first that holds, `OutOfMemory` aside: those of `Indexer::places`; those of
+/// `ArrayBytes::validate_data`.
+fn runs_for(
+    alloc: Global,
+    indexer: &Indexer,
+    shape: &ChunkShape,
+    data_type: &DataType,
+    elements: &ArrayBytes<'_>,
+) -> Result<Vec<(u64, u64)>, CodecError>
+    ensures answer { Answers memory (λ runs. joined_runs runs.items) result (data_places shape.now data_type.now (selection_of indexer.now) elements.now) }
+    ensures filled { IfOk result (λ runs. All (λ run. 0 < run.1) runs.items) }
+    ensures below { IfOk result (λ runs. All (λ run. run.0 + run.1 ≤ product shape.now) runs.items) }
+    ensures fit { IfOk result (λ runs. data_fit data_type.now (length (joined_runs runs.items)) elements.now ≡ Ok tt) }
+    ensures no_fault { is_fault result ≡ false }
+{
+    let runs = indexer.runs(alloc, shape)?;
+    elements.validate_data(count_of(runs.as_slice()), data_type)?;
+    Ok(runs)
 }
 
 impl<H: BytesPartialDecoderTraits> BytesCodecPartial<H> {
@@ -235,10 +282,73 @@ impl<H: BytesPartialDecoderTraits> BytesCodecPartial<H> {
     }
 }
 
+impl<H: BytesPartialEncoderTraits> BytesCodecPartial<H> {
+    ghost use Rattle.zarrs_bytes.specs.BytesCodecPartial.{bytes_form_of, bytes_handle_of, WritesEdit};
+
+    /// Writes these elements at the places that the indexer means, in its order: where a place comes
+    /// twice, the last one stands. Of a stored value the places' bytes alone are replaced, and it
+    /// grows with zeros up to the furthest place. Where nothing is stored, the value of the whole
+    /// chunk is written, which begins as fill elements, for an indexer without places too. Refusals,
+    /// the first that holds: those of `Indexer::places`; those of `ArrayBytes::validate_data` for so
+    /// many places, `ArrayBytesKind` or `DataMismatch`; then `Storage`. `OutOfMemory` may come at any
+    /// time.
+    ///
+    /// The handle is asked whether a value is stored, and then one writing call is made. A refusal
+    /// leaves the value as it was, but where that call is refused and the handle isn't atomic.
+    pub fn partial_encode(
+        &mut self,
+        alloc: Global,
+        indexer: &Indexer,
+        elements: &ArrayBytes<'_>,
+    ) -> Result<(), CodecError>
+        ensures edited { WritesEdit H.state self.old self.new indexer.now elements.now result }
+        ensures answer { let form = bytes_form_of self.old in Answers memory_or_fault (λ _. (H.state (bytes_handle_of self.new)).value) result (seen Some (bytes_written form.order form.sizes form.type form.fill (H.state (bytes_handle_of self.old)).value (selection_of indexer.now) elements.now)) }
+        ensures indexer_first { IfErr (bounds_of (selection_of indexer.now) (bytes_form_of self.old).sizes) (λ cause. Answers memory (λ done. done) result (Err cause)) }
+        ensures checked_first { IfErr (data_checked (bytes_form_of self.old).sizes (bytes_form_of self.old).type (selection_of indexer.now) elements.now) (λ cause. Answers memory (λ done. done) result (Err cause)) }
+        ensures untouched { IfErr (data_checked (bytes_form_of self.old).sizes (bytes_form_of self.old).type (selection_of indexer.now) elements.now) (λ _. H.state (bytes_handle_of self.new) ≡ H.state (bytes_handle_of self.old)) }
+        ensures one_write { OnOk result (apart_from_value (H.state (bytes_handle_of self.new)) ≡ after_writing result (H.state (bytes_handle_of self.old))) }
+        ensures refused { OnErr result (IsRefusedWrite result (H.state (bytes_handle_of self.old)) (H.state (bytes_handle_of self.new))) }
+        ensures kept_if_atomic { OnErr result (H.atomic ≡ true → (H.state (bytes_handle_of self.new)).value ≡ (H.state (bytes_handle_of self.old)).value) }
+        ensures same_reference { H.lent (bytes_handle_of self.new) ≡ H.lent (bytes_handle_of self.old) }
+        ensures form_kept { bytes_form_of self.new ≡ bytes_form_of self.old }
+    {
+        let runs = runs_for(alloc, indexer, &self.shape, &self.data_type, elements)?;
+        self.codec.write_runs(
+            alloc,
+            &mut self.handle,
+            &self.shape,
+            &self.data_type,
+            &self.fill_value,
+            runs,
+            elements,
+        )
+    }
+
+    /// Leaves no value; there may have been none. Refusals: `Storage`.
+    pub fn erase(&mut self) -> Result<(), CodecError>
+        ensures answer { Answers fault (λ _. (H.state (bytes_handle_of self.new)).value) result (Ok None) }
+        ensures left { apart_from_value (H.state (bytes_handle_of self.new)) ≡ after_writing result (H.state (bytes_handle_of self.old)) }
+        ensures kept_if_atomic { OnErr result (H.atomic ≡ true → (H.state (bytes_handle_of self.new)).value ≡ (H.state (bytes_handle_of self.old)).value) }
+        ensures same_reference { H.lent (bytes_handle_of self.new) ≡ H.lent (bytes_handle_of self.old) }
+        ensures form_kept { bytes_form_of self.new ≡ bytes_form_of self.old }
+    {
+        self.handle.erase()
+    }
+
+    /// Whether a part is written without the rest: where the handle writes pieces by themselves.
+    pub fn supports_partial_encode(&self) -> bool
+        ensures value { result ≡ H.writes_ranges }
+    {
+        self.handle.supports_partial_encode()
+    }
+}
+
 impl<H: BytesPartialDecoderTraits> ArrayPartialDecoderTraits for BytesCodecPartial<H> {
-    ghost use Rattle.zarrs_bytes.specs.BytesCodecPartial.{bytes_form_of, bytes_handle_of, bytes_reader};
+    ghost use Rattle.zarrs_bytes.specs.BytesCodecPartial.{bytes_form_of, bytes_handle_of, bytes_reader, bytes_writer};
 
     ghost reader = { λ decoder. bytes_reader (bytes_form_of decoder) (H.state (bytes_handle_of decoder)).value H.reads_ranges };
+
+    ghost writer = { λ decoder. bytes_writer (bytes_form_of decoder) H.reads_ranges };
 
     ghost state = { λ decoder. H.state (bytes_handle_of decoder) };
 
@@ -268,6 +378,33 @@ impl<H: BytesPartialDecoderTraits> ArrayPartialDecoderTraits for BytesCodecParti
 
     fn supports_partial_decode(&self) -> bool {
         BytesCodecPartial::supports_partial_decode(self)
+    }
+}
+
+impl<H: BytesPartialEncoderTraits> ArrayPartialEncoderTraits for BytesCodecPartial<H> {
+    ghost use Rattle.std.proofs.Common.{refl};
+
+    ghost atomic = { H.atomic };
+
+    ghost writes_part = { λ _. H.writes_ranges };
+
+    ghost tells = { λ _. refl };
+
+    fn partial_encode(
+        &mut self,
+        alloc: Global,
+        indexer: &Indexer,
+        elements: &ArrayBytes<'_>,
+    ) -> Result<(), CodecError> {
+        BytesCodecPartial::partial_encode(self, alloc, indexer, elements)
+    }
+
+    fn erase(&mut self) -> Result<(), CodecError> {
+        BytesCodecPartial::erase(self)
+    }
+
+    fn supports_partial_encode(&self) -> bool {
+        BytesCodecPartial::supports_partial_encode(self)
     }
 }
 

@@ -1,5 +1,5 @@
 //! Laws of the codec, over its definitions. The functions do nothing; their contracts are the laws.
-ghost use Rattle.zarrs_bytes.specs.Laws.{WrittenStands, StandsForOne, WrittenAlike, HasRepresentedLength, ReadSelects, ReadsAlike};
+ghost use Rattle.zarrs_bytes.specs.Laws.{WrittenStands, StandsForOne, WrittenAlike, HasRepresentedLength, ReadSelects, ReadsAlike, WriteUpdates};
 
 /// A value that is written for a chunk stands for it.
 pub fn written_stands()
@@ -30,4 +30,10 @@ pub fn read_selects()
 /// same ones, are read alike.
 pub fn reads_alike()
     ensures law { ReadsAlike }
+{}
+
+/// What is left where new elements are written at places inside is what is written for the chunk
+/// with these elements: over a value that stands for a chunk, and where nothing is stored.
+pub fn write_updates()
+    ensures law { WriteUpdates }
 {}

@@ -1,8 +1,8 @@
 //! The array codec `bytes`: the elements of a chunk in row-major order, each component in a byte
 //! order (Zarr v3 codec `bytes`).
 //!
-//! [`BytesCodec`] encodes and decodes whole chunks, [`BytesCodecPartial`] reads a chunk in part,
-//! over a storage handle.
+//! [`BytesCodec`] encodes and decodes whole chunks, [`BytesCodecPartial`] reads and writes a chunk
+//! in part, over a storage handle.
 #![tactic(auto)]
 
 mod batches;
@@ -10,6 +10,9 @@ mod byte_order;
 mod bytes_codec;
 mod bytes_codec_partial;
 pub mod laws;
+mod metadata;
+mod planned_runs;
+mod write_runs;
 
 pub use bytes_codec::BytesCodec;
 pub use bytes_codec_partial::BytesCodecPartial;

@@ -13,4 +13,6 @@ mod forms;
 #[cfg(test)]
 mod parts;
 #[cfg(test)]
+mod reads;
+#[cfg(test)]
 mod rows;

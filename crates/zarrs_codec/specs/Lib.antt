@@ -1,9 +1,11 @@
 pub mod ArrayReader
+pub mod ArrayWriter
 pub mod BytePieces
 pub mod ByteRanges
 pub mod ByteSpan
 pub mod BytesRepresentation
 pub mod BytesToBytesCodec
+pub mod ChunkEdits
 pub mod SampleBytesCodec
 pub mod SampleLaws
 pub mod MemoryHandle

@@ -5,6 +5,7 @@ ghost use Rattle.zarrs_chunk.specs.Indexer.{selection_of};
 ghost use Rattle.zarrs_chunk.specs.Selection.{bounds_of};
 ghost use Rattle.zarrs_array_bytes.specs.Validity.{Holds};
 ghost use Rattle.zarrs_codec.specs.ArrayReader.{ArrayReader};
+ghost use Rattle.zarrs_codec.specs.ArrayWriter.{ArrayWriter, no_writer};
 ghost use Rattle.zarrs_codec.specs.StorageState.{StorageState, after_reading};
 
 use std::alloc::Global;
@@ -19,6 +20,9 @@ use zarrs_data_type::DataType;
 pub trait ArrayPartialDecoderTraits {
     // The chunk, and what is answered of it.
     ghost reader: { Self → ArrayReader };
+
+    // What is read of each value that may be stored, and what a write leaves of it. A chunk that is only read needs none.
+    ghost writer: { Self → ArrayWriter } = { λ _. no_writer };
 
     // The handle under the reader, and the name of the reference that it is, where it is one.
     ghost state: { Self → StorageState };
@@ -37,7 +41,8 @@ pub trait ArrayPartialDecoderTraits {
         ensures answer { Answers fault (λ there. there) result (Ok (reader self.old).is_stored) }
         ensures left { state self.new ≡ after_reading result (state self.old) }
         ensures same_reference { lent self.new ≡ lent self.old }
-        ensures reader_kept { reader self.new ≡ reader self.old };
+        ensures reader_kept { reader self.new ≡ reader self.old }
+        ensures writer_kept { writer self.new ≡ writer self.old };
 
     /// How many bytes are kept in memory.
     fn size_held(&self) -> usize
@@ -55,7 +60,8 @@ pub trait ArrayPartialDecoderTraits {
         ensures indexer_first { IfErr (bounds_of (selection_of indexer.now) (reader self.old).sizes) (λ cause. AnswersBy memory (Holds (reader self.old).type) result (Err cause)) }
         ensures left { state self.new ≡ after_reading result (state self.old) }
         ensures same_reference { lent self.new ≡ lent self.old }
-        ensures reader_kept { reader self.new ≡ reader self.old };
+        ensures reader_kept { reader self.new ≡ reader self.old }
+        ensures writer_kept { writer self.new ≡ writer self.old };
 
     /// Whether a part is read without the rest of the chunk.
     fn supports_partial_decode(&self) -> bool

@@ -1,11 +1,15 @@
-ghost use Rattle.std.specs.Prelude.{◌≡◌, Ok};
+ghost use Rattle.std.specs.Prelude.{◌≡◌, ℕ, List, Ok, Option, option_map};
 ghost use Rattle.zarrs_chunk.specs.Answer.{Answers, memory};
+ghost use Rattle.zarrs_metadata.specs.Data.{Members};
+ghost use Rattle.zarrs_metadata.specs.MetadataV3.{configuration_seen};
+ghost use Rattle.zarrs_metadata.specs.PluginCreateError.{plugin_memory};
 ghost use Rattle.zarrs_codec.specs.declared.capabilities.PartialDecoderCapability.{PartialDecoderCapability};
 ghost use Rattle.zarrs_codec.specs.declared.capabilities.PartialEncoderCapability.{PartialEncoderCapability};
 
 use crate::capabilities::{PartialDecoderCapability, PartialEncoderCapability};
 use std::alloc::Global;
 use zarrs_chunk::{ChunkShape, CodecError};
+use zarrs_metadata::{Configuration, PluginCreateError};
 
 /// A codec of any kind.
 pub trait CodecTraits {
@@ -13,6 +17,19 @@ pub trait CodecTraits {
     ghost reads_in_part: { Self → PartialDecoderCapability };
 
     ghost writes_in_part: { Self → PartialEncoderCapability };
+
+    // Its name in metadata and what is written of it there, where it has one.
+    ghost named: { Self → Option (List ℕ) };
+
+    ghost written: { Self → Option Members };
+
+    /// The codec's name in Zarr v3 metadata, where it has one.
+    fn name_v3(&self) -> Option<&'static str>
+        ensures value { option_map (λ name. name.now) result ≡ named self.now };
+
+    /// The codec's configuration in metadata, where it has one. Refusals: `OutOfMemory`.
+    fn configuration(&self, alloc: Global) -> Result<Option<Configuration>, PluginCreateError>
+        ensures answer { Answers plugin_memory (option_map configuration_seen) result (Ok (written self.now)) };
 
     /// What it can read in part.
     fn partial_decoder_capability(&self) -> PartialDecoderCapability

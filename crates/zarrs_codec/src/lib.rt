@@ -7,6 +7,7 @@
 #![tactic(auto)]
 
 mod array_partial_decoder_traits;
+mod array_partial_encoder_traits;
 mod array_to_array_codec_traits;
 mod byte_pieces;
 mod byte_range;
@@ -21,6 +22,7 @@ mod refused;
 mod sample_bytes_codec;
 
 pub use array_partial_decoder_traits::ArrayPartialDecoderTraits;
+pub use array_partial_encoder_traits::ArrayPartialEncoderTraits;
 pub use array_to_array_codec_traits::ArrayToArrayCodecTraits;
 pub use byte_range::ByteRange;
 pub use bytes_partial_decoder_traits::BytesPartialDecoderTraits;

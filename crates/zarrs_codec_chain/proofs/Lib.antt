@@ -16,3 +16,7 @@ pub mod NestedEncode
 pub mod NestedFound
 pub mod NestedDecode
 pub mod ChainRelations
+pub mod PartialReads
+pub mod CachePlaces
+pub mod PartialCalls
+pub mod SureReads

@@ -107,7 +107,8 @@ outer_once f (codec ∷ codecs) below value other h g = outer_once f codecs (f.e
 chained_more : (codec : ArrayMapping) (codecs : List ArrayMapping) (sizes : List ℕ) (first rest : CoordinateMap) → coordinates codec sizes ≡ Ok first → chained codecs first.encoded ≡ Ok rest → chained (codec ∷ codecs) sizes ≡ Ok (composition first rest)
 chained_more codec codecs sizes first rest a b = opened_more (coordinates codec sizes) first (λ m. chained codecs m.encoded >>= (λ n. ok (composition m n))) a ∙ opened_more (chained codecs first.encoded) rest (λ n. ok (composition first n)) b
 
-chained_of : (type : ElementType) (codecs : List ArrayMapping) (sizes : List ℕ) (m : CoordinateMap) → arrays_map type codecs sizes ≡ Ok m → chained codecs sizes ≡ Ok m
+-- where codecs take a chunk of the type, they do what they do of any
+pub chained_of : (type : ElementType) (codecs : List ArrayMapping) (sizes : List ℕ) (m : CoordinateMap) → arrays_map type codecs sizes ≡ Ok m → chained codecs sizes ≡ Ok m
 chained_of type [] sizes m e = e
 chained_of type (codec ∷ codecs) sizes m e =
     let p = map_parts type codec codecs sizes m e in

@@ -10,6 +10,13 @@ pub mod Written
 pub mod Chain
 pub mod ChainView
 pub mod Laws
+pub mod CachePlace
+pub mod ChunkRead
+pub mod ChunkSource
+pub mod SliceHandle
+pub mod ChunkReader
+pub mod PartialDecoder
+pub mod ElementCode
 pub use Rattle.zarrs_chunk.specs.Answer
 pub use Rattle.zarrs_data_type.specs.Element
 pub use Rattle.zarrs_array_bytes.specs.Elements

@@ -5,6 +5,7 @@ ghost use Rattle.zarrs_array_bytes.specs.Validity.{Holds};
 ghost use Rattle.zarrs_codec_chain.specs.Chain.{codec_held_value, codec_reads as codec_reads_of, codec_writes as codec_writes_of};
 ghost use Rattle.zarrs_codec_chain.specs.ChainView.{plain_codec};
 ghost use Rattle.zarrs_codec_chain.specs.Decode.{codec_chunk};
+ghost use Rattle.zarrs_codec_chain.specs.Laws.{HasMappings};
 ghost use Rattle.zarrs_codec_chain.specs.Representation.{codec_representation as codec_representation_of};
 
 use std::alloc::Global;
@@ -25,6 +26,16 @@ pub enum ArrayToBytesCodec {
     Bytes(BytesCodec),
     /// Some bits of each component (codec `packbits`).
     PackBits(PackBitsCodec),
+}
+
+/// The array codecs of the chains inside hold to what their types do.
+pub(crate) fn codec_is_sound<B>(codec: &ArrayToBytesCodec)
+    ensures { HasMappings {B = B} (plain_codec codec.now) }
+{
+    match codec {
+        ArrayToBytesCodec::Bytes(_) => {}
+        ArrayToBytesCodec::PackBits(_) => {}
+    }
 }
 
 /// How many bytes the value of such a chunk has. Refusals: the codec's own.

@@ -1,22 +1,25 @@
-ghost use Rattle.std.specs.Prelude.{◌≡◌, ℕ, List, ◌<◌, ◌^◌, IfOk, Ok, map, false};
+ghost use Rattle.std.specs.Prelude.{◌≡◌, ℕ, List, ◌<◌, ◌^◌, All, IfOk, Ok, None, map, false};
 ghost use Rattle.std.specs.List.{list_all};
 ghost use Rattle.zarrs_chunk.specs.Answer.{Answers, AnswersBy, memory, is_fault, checked_u64};
 ghost use Rattle.zarrs_chunk.specs.ChunkShape.{product};
 ghost use Rattle.zarrs_data_type.specs.Element.{Chunk};
 ghost use Rattle.zarrs_array_bytes.specs.Held.{raw_of};
 ghost use Rattle.zarrs_array_bytes.specs.Validity.{Holds, validity};
+ghost use Rattle.zarrs_array_to_array.specs.ArrayToArrayCodec.{IsMapping};
 ghost use Rattle.zarrs_array_to_array.specs.Mapping.{mapping_of};
 ghost use Rattle.zarrs_codec_chain.specs.ArrayStages.{IsMapWhere};
 ghost use Rattle.zarrs_codec_chain.specs.Chain.{taken_form as taken_form_of, held_value, outer_reads as outer_reads_of};
 ghost use Rattle.zarrs_codec_chain.specs.ChainView.{plain_chain, plain_codec};
 ghost use Rattle.zarrs_codec_chain.specs.Decode.{chain_chunk};
+ghost use Rattle.zarrs_codec_chain.specs.Laws.{IsChainOfMappings};
 ghost use Rattle.zarrs_codec_chain.specs.Representation.{chain_representation};
 ghost use Rattle.zarrs_codec_chain.specs.Stands.{ChainStands};
 ghost use Rattle.zarrs_codec_chain.specs.Written.{ChainWritten};
 
 use crate::array_stages::{decode_arrays, encode_arrays, shape_through};
 use crate::array_to_bytes_codec::{
-    ArrayToBytesCodec, codec_decode, codec_encode, codec_reads, codec_representation, codec_writes,
+    ArrayToBytesCodec, codec_decode, codec_encode, codec_is_sound, codec_reads,
+    codec_representation, codec_writes,
 };
 use crate::bytes_stages::{decode_bytes, encode_bytes, outer_representation};
 use std::alloc::Global;
@@ -28,14 +31,15 @@ use zarrs_codec::{
     PartialDecoderCapability, PartialEncoderCapability,
 };
 use zarrs_data_type::{DataType, FillValue};
+use zarrs_metadata::{Configuration, PluginCreateError};
 
 /// A chain of codecs: codecs of chunks to chunks, one of chunks to bytes, and the caller's codecs of
 /// bytes to bytes, each list in the order in which they encode.
 #[derive(Drop)]
 pub struct CodecChain<B> {
-    array_to_array: Vec<ArrayToArrayCodec>,
-    array_to_bytes: ArrayToBytesCodec,
-    bytes_to_bytes: Vec<B>,
+    pub(crate) array_to_array: Vec<ArrayToArrayCodec>,
+    pub(crate) array_to_bytes: ArrayToBytesCodec,
+    pub(crate) bytes_to_bytes: Vec<B>,
 }
 
 impl<B> CodecChain<B> {
@@ -78,9 +82,30 @@ impl<B> CodecChain<B> {
 
 /// What a chain's codec to bytes gets, and how many bytes it makes of it.
 #[derive(Drop)]
-struct TakenForm {
-    shape: ChunkShape,
-    representation: BytesRepresentation,
+pub(crate) struct TakenForm {
+    pub(crate) shape: ChunkShape,
+    pub(crate) representation: BytesRepresentation,
+}
+
+/// What the array codecs are made of holds.
+fn arrays_are_sound(codecs: &[ArrayToArrayCodec])
+    ensures { All IsMapping (map mapping_of codecs.now) }
+{
+    match codecs {
+        [] => {}
+        [first, rest @ ..] => {
+            first.is_sound();
+            arrays_are_sound(rest)
+        }
+    }
+}
+
+/// What the array codecs of the chain are made of holds.
+pub(crate) fn chain_is_sound<B>(chain: &CodecChain<B>)
+    ensures { IsChainOfMappings (plain_chain chain.now) }
+{
+    arrays_are_sound(&chain.array_to_array);
+    codec_is_sound::<B>(&chain.array_to_bytes);
 }
 
 /// That the container holds a chunk of this shape and type. Refusals: those of
@@ -101,7 +126,7 @@ fn check_elements(
 impl<B: BytesToBytesCodecTraits> CodecChain<B> {
     /// What the codec to bytes gets of such a chunk. Refusals: those of `encoded_representation`.
     #[tactic(auto, using(crate::proofs::ChainSteps::chain_counted))]
-    fn taken_form(
+    pub(crate) fn taken_form(
         &self,
         alloc: Global,
         shape: &ChunkShape,
@@ -293,6 +318,22 @@ impl<B: BytesToBytesCodecTraits> CodecTraits for CodecChain<B> {
     ghost reads_in_part = { λ chain. chain_reads B.reads_in_part (plain_chain chain) };
 
     ghost writes_in_part = { λ chain. chain_writes B.writes_in_part (plain_chain chain) };
+
+    ghost named = { λ _. None };
+
+    ghost written = { λ _. None };
+
+    /// None: a chain is no codec of metadata, but a list of them.
+    fn name_v3(&self) -> Option<&'static str> {
+        None
+    }
+
+    /// None, as the name. Nothing is refused.
+    fn configuration(&self, _alloc: Global) -> Result<Option<Configuration>, PluginCreateError>
+        ensures none { result ≡ Ok None }
+    {
+        Ok(None)
+    }
 
     fn partial_decoder_capability(&self) -> PartialDecoderCapability {
         let codec = codec_reads::<B>(&self.array_to_bytes);

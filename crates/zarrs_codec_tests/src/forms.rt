@@ -3,7 +3,7 @@
 use std::alloc::{AllocError, Global};
 use zarrs_bytes::{BytesCodec, BytesCodecPartial};
 use zarrs_chunk::{ChunkShape, CodecError};
-use zarrs_codec::{BytesPartialDecoderTraits, Refused};
+use zarrs_codec::{BytesPartialDecoderTraits, BytesPartialEncoderTraits, Refused};
 use zarrs_data_type::{DataType, FillValue};
 
 /// A type: so many components of so many bits, or one that the codec doesn't take.
@@ -78,7 +78,32 @@ fn decoder_of<H: BytesPartialDecoderTraits + Drop>(
     ))
 }
 
-/// The decoder, or why it wasn't made.
+/// A coder of such a chunk in part that writes too, over a handle.
+pub(crate) fn encoder<H: BytesPartialEncoderTraits + Drop>(
+    alloc: Global,
+    codec: BytesCodec,
+    told: &Told<'_>,
+    handle: H,
+) -> Result<BytesCodecPartial<H>, CodecError> {
+    encoder_of(alloc, codec, &chunk_form(alloc, told)?, handle)
+}
+
+fn encoder_of<H: BytesPartialEncoderTraits + Drop>(
+    alloc: Global,
+    codec: BytesCodec,
+    form: &ChunkForm,
+    handle: H,
+) -> Result<BytesCodecPartial<H>, CodecError> {
+    made(codec.partial_encoder(
+        alloc,
+        handle,
+        &form.shape,
+        &form.data_type,
+        &form.fill_value,
+    ))
+}
+
+/// The coder, or why it wasn't made.
 fn made<D, H: Drop>(answer: Result<D, Refused<H>>) -> Result<D, CodecError> {
     match answer {
         Ok(decoder) => Ok(decoder),

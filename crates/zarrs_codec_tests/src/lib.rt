@@ -26,6 +26,8 @@ mod bytes_runs;
 #[cfg(test)]
 mod bytes_widths;
 #[cfg(test)]
+mod bytes_writes;
+#[cfg(test)]
 mod checks;
 #[cfg(test)]
 mod failing_handle;

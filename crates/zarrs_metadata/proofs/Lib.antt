@@ -1,3 +1,4 @@
+pub mod MadeAgain
 pub mod Named
 pub mod Orders
 pub mod ReadBack

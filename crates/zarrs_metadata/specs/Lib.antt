@@ -1,4 +1,5 @@
 pub mod BytesConfiguration
+pub mod CodecMetadata
 pub mod Dims
 pub mod Laws
 pub mod Metadata
@@ -17,4 +18,5 @@ pub mod TransposeConfiguration
 pub mod TransposeOrder
 pub mod Trees
 pub mod VlenConfiguration
+pub use Rattle.serde_json.specs.Data
 pub use Rattle.zarrs_chunk.specs.Answer

@@ -1,6 +1,7 @@
 //! Laws of the definitions that the contracts of this crate cite. The functions do nothing: their
 //! contracts hold for all lists and trees, and proofs may take them from here.
 ghost use Rattle.zarrs_metadata.specs.BytesConfiguration.{BytesReadsBack};
+ghost use Rattle.zarrs_metadata.specs.CodecMetadata.{BytesMadeAgain, PackBitsMadeAgain, ReshapeMadeAgain, SqueezeMadeAgain, TransposeMadeAgain};
 ghost use Rattle.zarrs_metadata.specs.Laws.{OrdersGoByEntry, OrdersHaveEachAxis, OrdersArePermutations, ReshapesGoBySize};
 ghost use Rattle.zarrs_metadata.specs.Metadata.{MetadataReadsBack};
 ghost use Rattle.zarrs_metadata.specs.OptionalConfiguration.{OptionalReadsBack};
@@ -41,4 +42,14 @@ pub fn configurations_read_back()
     ensures packbits { PackBitsReadsBack }
     ensures optional { OptionalReadsBack }
     ensures vlen { VlenReadsBack }
+{}
+
+/// What is written of a codec's name and settings makes these settings: of `packbits` with its
+/// padding said and its bits in order.
+pub fn codecs_are_made_again()
+    ensures transpose { TransposeMadeAgain }
+    ensures reshape { ReshapeMadeAgain }
+    ensures squeeze { SqueezeMadeAgain }
+    ensures bytes { BytesMadeAgain }
+    ensures packbits { PackBitsMadeAgain }
 {}

@@ -13,6 +13,7 @@ pub mod LayoutLemmas
 pub mod LocalBits
 pub mod LocalLemmas
 pub mod LowBits
+pub mod MadeAgain
 pub mod PartReads
 pub mod RunLemmas
 pub mod Standing

@@ -12,6 +12,7 @@ pub mod Packing
 pub mod PaddingByte
 pub mod PartialRead
 pub mod ReadPlan
+pub mod SettingsMetadata
 pub mod WrittenBits
 pub use Rattle.zarrs_chunk.specs.Answer
 pub use Rattle.zarrs_chunk.specs.ChunkShape

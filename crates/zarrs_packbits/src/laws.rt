@@ -1,5 +1,6 @@
 //! Laws of the codec, over its definitions. The functions do nothing; their contracts are the laws.
 ghost use Rattle.zarrs_packbits.specs.Laws.{WrittenStands, DecodedIsNormal, NormalOnce, NormalWritten, NormalSelected, NormalUpdated, StandsForOne, WrittenAlike, WrittenAsBytes, HasRepresentedLength, ReadSelects, ReadsAlike, ReadsBitsAlike};
+ghost use Rattle.zarrs_packbits.specs.SettingsMetadata.{SettingsMadeAgain};
 
 /// A value that is written for a chunk stands for the chunk's normal form.
 pub fn written_stands()
@@ -67,4 +68,9 @@ pub fn reads_alike()
 /// the same bits at the places, are read alike.
 pub fn reads_bits_alike()
     ensures law { ReadsBitsAlike }
+{}
+
+/// What is written of a codec makes an equal one.
+pub fn codecs_are_made_again()
+    ensures law { SettingsMadeAgain }
 {}

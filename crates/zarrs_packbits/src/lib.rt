@@ -9,6 +9,7 @@ mod bit_places;
 mod bit_writer;
 pub mod laws;
 mod layout;
+mod metadata;
 mod packbits_codec;
 mod packbits_partial_decoder;
 mod runs;

@@ -1,9 +1,12 @@
-ghost use Rattle.std.specs.Prelude.{◌≡◌, ℕ, ◌+◌, ◌*◌, ◌^◌, ◌<◌, List, ◌++◌, IfOk, Ok, drop, length, true, false, slice_index};
+ghost use Rattle.std.specs.Prelude.{◌≡◌, ℕ, ◌+◌, ◌*◌, ◌^◌, ◌<◌, List, ◌++◌, IfOk, IfSome, Ok, Some, drop, length, true, false, option_map, slice_index};
 ghost use Rattle.zarrs_chunk.specs.Answer.{Answers, AnswersBy, is_fault, memory, never, seen};
 ghost use Rattle.zarrs_chunk.specs.ChunkShape.{product};
 ghost use Rattle.zarrs_data_type.specs.Element.{Chunk};
 ghost use Rattle.zarrs_array_bytes.specs.Held.{flen, raw_of};
 ghost use Rattle.zarrs_array_bytes.specs.Validity.{Holds};
+ghost use Rattle.zarrs_metadata.specs.CodecMetadata.{codec_metadata, packbits_name};
+ghost use Rattle.zarrs_metadata.specs.MetadataV3.{configuration_seen};
+ghost use Rattle.zarrs_metadata.specs.PluginCreateError.{plugin_memory};
 ghost use Rattle.zarrs_codec.specs.declared.capabilities.PartialDecoderCapability.{PartialDecoderCapability};
 ghost use Rattle.zarrs_codec.specs.declared.capabilities.PartialEncoderCapability.{PartialEncoderCapability};
 ghost use Rattle.zarrs_packbits.specs.Bits.{bits_of};
@@ -12,6 +15,7 @@ ghost use Rattle.zarrs_packbits.specs.PackBitsCodec.{packbits_value, packbits_ch
 ghost use Rattle.zarrs_packbits.specs.PackBitsSettings.{packbits_settings, keeps_all_bytes, packed_layout, packbits_length, first_of, last_of, padding_for};
 ghost use Rattle.zarrs_packbits.specs.PackedLayout.{IsPackedLayout, is_whole, parts_of, spare_of};
 ghost use Rattle.zarrs_packbits.specs.Packing.{packing};
+ghost use Rattle.zarrs_packbits.specs.SettingsMetadata.{settings_made, write_settings};
 ghost use Rattle.zarrs_packbits.specs.PaddingByte.{bytes_before, bytes_behind, lead, value_len, value_with};
 
 use crate::bit_writer::BitWriter;
@@ -27,7 +31,10 @@ use zarrs_codec::{
     PartialEncoderCapability,
 };
 use zarrs_data_type::{DataType, FillValue, HasComponents};
-use zarrs_metadata::{PackBitsPaddingEncoding, PluginCreateError};
+use zarrs_metadata::{
+    Configuration, PackBitsCodecConfiguration, PackBitsCodecConfigurationV1,
+    PackBitsPaddingEncoding, PluginCreateError,
+};
 
 /// The array codec `packbits`: of each component of a chunk's elements some bits are kept, and these
 /// are packed one behind another, the lowest first (zarr-extensions codec `packbits`). It takes
@@ -43,11 +50,14 @@ pub struct PackBitsCodec {
 }
 
 impl Model for PackBitsCodec {
-    ghost use Rattle.zarrs_packbits.specs.PackBitsSettings.{PackBitsSettings};
+    ghost use Rattle.std.specs.Prelude.{◌≡◌, false};
+    ghost use Rattle.zarrs_packbits.specs.PackBitsSettings.{PackBitsSettings, is_reversed};
 
     ghost Value = { PackBitsSettings };
 
     ghost view = { λ codec. record { padding = codec.padding_encoding; first_bit = codec.first_bit; last_bit = codec.last_bit } };
+
+    ghost invariant = { λ codec. is_reversed codec.first_bit codec.last_bit ≡ false };
 
     ghost inverse = { λ settings. record { padding_encoding = settings.padding; first_bit = settings.first_bit; last_bit = settings.last_bit } };
 }
@@ -376,6 +386,30 @@ impl CodecTraits for PackBitsCodec {
     ghost reads_in_part = { λ _. record { partial_read = true; partial_decode = true } };
 
     ghost writes_in_part = { λ _. record { partial_encode = false } };
+
+    ghost named = { λ _. Some packbits_name };
+
+    ghost written = { λ settings. Some (write_settings settings) };
+
+    /// The codec's name in metadata, `packbits`.
+    fn name_v3(&self) -> Option<&'static str> {
+        Some("packbits")
+    }
+
+    /// The codec's configuration, always by its three keys. With its name it makes an equal
+    /// codec. Refusals: `OutOfMemory`.
+    #[tactic(auto, using(crate::proofs::MadeAgain::settings_made_again))]
+    fn configuration(&self, alloc: Global) -> Result<Option<Configuration>, PluginCreateError>
+        ensures answer { Answers plugin_memory (option_map configuration_seen) result (Ok (Some (write_settings self.now))) }
+        ensures made_again { IfOk result (λ written. IfSome written (λ c. settings_made (codec_metadata packbits_name (configuration_seen c)) ≡ Ok self.now)) }
+    {
+        let configuration = PackBitsCodecConfiguration::V1(PackBitsCodecConfigurationV1 {
+            padding_encoding: Some(self.padding_encoding),
+            first_bit: self.first_bit,
+            last_bit: self.last_bit,
+        });
+        Ok(Some(configuration.to_configuration(alloc)?))
+    }
 
     fn partial_decoder_capability(&self) -> PartialDecoderCapability {
         PartialDecoderCapability {

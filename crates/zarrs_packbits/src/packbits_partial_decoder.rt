@@ -95,8 +95,12 @@ impl PackBitsCodec {
     }
 
     /// The elements at the places of these runs, each a start and a length, in order, over a handle
-    /// that keeps a chunk's value.
-    fn read_runs<H: BytesPartialDecoderTraits>(
+    /// that keeps a chunk's value: those of the stored value by the places' bits alone, and the fill
+    /// value at each place where nothing is stored. The codec takes such chunks, no run is empty, and
+    /// each ends inside the chunk. Refusals: `InvalidByteRange` where a place's bytes lie past the
+    /// value's end; `OutOfMemory` and `Storage`, which may come before. `Storage` never comes where
+    /// all bytes of the places are sure.
+    pub fn read_runs<H: BytesPartialDecoderTraits>(
         &self,
         alloc: Global,
         handle: &mut H,
@@ -120,6 +124,30 @@ impl PackBitsCodec {
         let fill = fill_value.as_ne_bytes();
         let bytes = read_runs(alloc, handle, &layout, fill, runs)?;
         Ok(ArrayBytes::new_flen(CowSlice::Owned(bytes)))
+    }
+
+    /// The ranges of bytes that `read_runs` asks for of these runs, one for each: the bytes that hold
+    /// bits of their places, and no others. None is empty. Where all bits of whole bytes are kept,
+    /// their lengths sum to the elements' bytes. The codec takes such chunks, no run is empty, and
+    /// each ends inside the chunk. Refusals: `OutOfMemory`.
+    pub fn planned_runs(
+        &self,
+        alloc: Global,
+        shape: &ChunkShape,
+        data_type: &DataType,
+        fill_value: &FillValue,
+        runs: &[(u64, u64)],
+    ) -> Result<Vec<ByteRange>, CodecError>
+        requires taken { is_ok (packed_layout self.now shape.now data_type.now fill_value.now) ≡ true }
+        requires filled { All (λ run. 0 < run.1) runs.now }
+        requires below { All (λ run. run.0 + run.1 ≤ product shape.now) runs.now }
+        ensures plan { AnswersBy memory (λ ranges layout. IsPlan layout (joined_runs runs.now) ranges.items) result (packed_layout self.now shape.now data_type.now fill_value.now) }
+        ensures filled { IfOk result (λ ranges. All (λ range. range.start < range.end) ranges.items) }
+        ensures no_fault { is_fault result ≡ false }
+    {
+        let layout = self.taken_layout(shape, data_type, fill_value);
+        let planned = run_ranges(alloc, &layout, runs)?;
+        Ok(planned)
     }
 
     /// What a partial decoder keeps of a chunk that the codec takes.

@@ -1,5 +1,5 @@
-//! Tests of the codec `packbits`, over the public calls of `zarrs_packbits`. Without tests the crate
-//! is empty.
+//! Tests of the codec `packbits`, over the public calls of `zarrs_packbits`, and of the metadata of
+//! both codecs to bytes. Without tests the crate is empty.
 //!
 //! Answers are written by hand. A want of memory ends a test with that error and is never compared,
 //! so a run in which an allocation fails shows each answer that changes otherwise.
@@ -14,6 +14,8 @@ mod bit_places;
 mod checks;
 #[cfg(test)]
 mod forms;
+#[cfg(test)]
+mod metadata;
 #[cfg(test)]
 mod packbits_codec;
 #[cfg(test)]

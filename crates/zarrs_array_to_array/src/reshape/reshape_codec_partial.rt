@@ -10,10 +10,13 @@ use crate::array_to_array_codec_partial::{ArrayToArrayCodecPartial, partial_deco
 use crate::reshape::reshape_codec::ReshapeCodec;
 use std::alloc::Global;
 use zarrs_chunk::{ChunkShape, CodecError};
-use zarrs_codec::{ArrayPartialDecoderTraits, ArrayToArrayCodecTraits, Refused};
+use zarrs_codec::{
+    ArrayPartialDecoderTraits, ArrayPartialEncoderTraits, ArrayToArrayCodecTraits, Refused,
+};
 use zarrs_data_type::{DataType, FillValue};
 
-/// Reads a chunk of [`ReshapeCodec`] in part, over the reader of its encoded chunk.
+/// Reads a chunk of [`ReshapeCodec`] in part, over the reader of its encoded chunk, and writes it over
+/// a writer.
 pub type ReshapeCodecPartial<I> = ArrayToArrayCodecPartial<ReshapeCodec, I>;
 
 impl ReshapeCodec {
@@ -53,5 +56,23 @@ impl ReshapeCodec {
             self.parts_of_decoder(alloc, shape, data_type, fill_value),
             input,
         )
+    }
+    /// A reader of a chunk in part that writes too, over the writer of the encoded chunk. Refusals:
+    /// those of `encoded_representation`; `OutOfMemory`. A refusal hands the input back as it was.
+    pub fn partial_encoder<I: ArrayPartialEncoderTraits>(
+        &self,
+        alloc: Global,
+        input: I,
+        shape: &ChunkShape,
+        data_type: &DataType,
+        fill_value: &FillValue,
+    ) -> Result<ArrayToArrayCodecPartial<ReshapeCodec, I>, Refused<I>>
+        ensures answer { Answers memory (λ made. made) (outcome result) (seen (λ _. tt) (encoded_form (type_taken (reshape self.now) data_type.now) (coordinates_of (reshape self.now) shape.now) data_type.now fill_value.now)) }
+        ensures no_fault { is_fault (outcome result) ≡ false }
+        ensures form { IfOk result (λ stage. (codec_of stage ≡ self.now) × (sizes_of stage ≡ shape.now)) }
+        ensures over { IfOk result (λ stage. input_of stage ≡ input) }
+        ensures handed_back { IfErr result (λ refused. refused.handle ≡ input) }
+    {
+        self.partial_decoder(alloc, input, shape, data_type, fill_value)
     }
 }

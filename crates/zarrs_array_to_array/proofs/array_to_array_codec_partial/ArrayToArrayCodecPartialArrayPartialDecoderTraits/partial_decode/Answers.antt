@@ -4,6 +4,7 @@ use Rattle.zarrs_array_bytes.specs.Held.{Held}
 use Rattle.zarrs_array_bytes.specs.Validity.{Holds}
 use Rattle.zarrs_chunk.specs.Answer.{AnswersBy, memory}
 use Rattle.zarrs_codec.specs.ArrayReader.{mapped_reader}
+use Rattle.zarrs_codec.specs.ArrayWriter.{mapped_writer}
 use Rattle.zarrs_codec.specs.MappedSelection.{image_of}
 use Rattle.zarrs_array_to_array.proofs.Stages.{refused_answer, passed_answer, refused_first, passed_first, left_alone}
 use Rattle.zarrs_array_to_array.proofs.array_to_array_codec_partial.ArrayToArrayCodecPartialArrayPartialDecoderTraits.partial_decode.Goals as goal
@@ -53,3 +54,10 @@ returns-in-Ok-clause-reader_kept g c =
     let coordinates = g.C.ArrayToArrayCodecTraits.coordinates stage.codec stage.shape in
     let asked = g.C.ArrayToArrayCodecTraits.asked stage.codec stage.shape in
     ap (mapped_reader coordinates asked (g.C.CodecTraits.reads_in_part stage.codec).partial_decode stage.shape) c.partial_decode.ensures.reader_kept
+
+pub returns-in-Ok-clause-writer_kept : goal.returns-in-Ok-clause-writer_kept
+returns-in-Ok-clause-writer_kept g c =
+    let stage = c.args.self.now in
+    let coordinates = g.C.ArrayToArrayCodecTraits.coordinates stage.codec stage.shape in
+    let asked = g.C.ArrayToArrayCodecTraits.asked stage.codec stage.shape in
+    ap (mapped_writer coordinates asked (g.C.CodecTraits.reads_in_part stage.codec).partial_decode stage.shape) c.partial_decode.ensures.writer_kept

@@ -1,0 +1,34 @@
+-- The metadata of codecs that move elements.
+use Rattle.std.specs.Prelude.{◌≡◌, ℕ, List, Result, Ok, if◌then◌else◌}
+use Rattle.zarrs_metadata.specs.Data.{Members}
+use Rattle.zarrs_chunk.specs.Answer.{seen}
+use Rattle.zarrs_metadata.specs.CodecMetadata.{codec_metadata, transpose_name, is_transpose_name, transpose_made, reshape_name, is_reshape_name, reshape_made, squeeze_name, squeeze_made}
+use Rattle.zarrs_metadata.specs.Metadata.{Metadata}
+use Rattle.zarrs_metadata.specs.ReshapeConfiguration.{write_reshape}
+use Rattle.zarrs_metadata.specs.SqueezeConfiguration.{write_squeeze}
+use Rattle.zarrs_metadata.specs.TransposeConfiguration.{write_transpose}
+use Rattle.zarrs_metadata.specs.declared.plugin_create_error.PluginCreateError.{PluginCreateError}
+use Rattle.zarrs_array_to_array.specs.ArrayToArrayCodec.{ArrayMapping, transpose, reshape, squeeze, IsMapping}
+
+-- the codec of a metadata, by its name; no other name is known
+abbrev pub mapping_made : Metadata → Result ArrayMapping PluginCreateError
+mapping_made metadata =
+    if is_transpose_name metadata.name then seen transpose (transpose_made metadata)
+    else if is_reshape_name metadata.name then seen reshape (reshape_made metadata)
+    else seen (λ _. squeeze) (squeeze_made metadata)
+
+-- the name that is written of a codec
+abbrev pub mapping_name : ArrayMapping → List ℕ
+mapping_name (transpose order) = transpose_name
+mapping_name (reshape dims) = reshape_name
+mapping_name squeeze = squeeze_name
+
+-- and its configuration
+abbrev pub mapping_configuration : ArrayMapping → Members
+mapping_configuration (transpose order) = write_transpose order
+mapping_configuration (reshape dims) = write_reshape dims
+mapping_configuration squeeze = write_squeeze
+
+-- what is written of a codec makes an equal one
+abbrev pub MappingsMadeAgain : Type 0
+MappingsMadeAgain = (codec : ArrayMapping) → IsMapping codec → mapping_made (codec_metadata (mapping_name codec) (mapping_configuration codec)) ≡ Ok codec

@@ -1,0 +1,136 @@
+//! The codecs made from their configurations and their metadata.
+ghost use Rattle.std.specs.Prelude.{◌≡◌, Ok, IsOk};
+ghost use Rattle.zarrs_chunk.specs.Answer.{Answers, seen};
+ghost use Rattle.zarrs_metadata.specs.CodecMetadata.{transpose_made, reshape_made, is_squeeze_name, squeeze_made};
+ghost use Rattle.zarrs_metadata.specs.MetadataV3.{metadata_seen};
+ghost use Rattle.zarrs_metadata.specs.PluginCreateError.{plugin_memory};
+ghost use Rattle.zarrs_metadata.specs.ReshapeConfiguration.{reshape_seen};
+ghost use Rattle.zarrs_metadata.specs.TransposeConfiguration.{transpose_seen};
+ghost use Rattle.zarrs_array_to_array.specs.Mapping.{mapping_of};
+ghost use Rattle.zarrs_array_to_array.specs.MappingMetadata.{mapping_made};
+
+use crate::array_to_array_codec::ArrayToArrayCodec;
+use crate::reshape::reshape_codec::ReshapeCodec;
+use crate::squeeze::squeeze_codec::SqueezeCodec;
+use crate::transpose::transpose_codec::TransposeCodec;
+use std::alloc::Global;
+use zarrs_metadata::{
+    MetadataV3, PluginCreateError, ReshapeCodecConfiguration, SqueezeCodecConfiguration,
+    TransposeCodecConfiguration,
+};
+
+impl TransposeCodec {
+    /// The codec of a configuration. Refusals: `OutOfMemory`.
+    pub fn new_with_configuration(
+        _alloc: Global,
+        configuration: &TransposeCodecConfiguration,
+    ) -> Result<TransposeCodec, PluginCreateError>
+        ensures made { Answers plugin_memory (λ codec. codec) result (Ok (transpose_seen configuration.now)) }
+    {
+        let TransposeCodecConfiguration::V1(configuration) = configuration;
+        Ok(TransposeCodec::new(configuration.order.clone()?))
+    }
+
+    /// The codec of a metadata, whose name is `transpose` (Zarr v3 codec `transpose`). A missing
+    /// configuration is read as one without members. Refusals, the first that holds, `OutOfMemory`
+    /// aside: `UnknownName` for another name; those of
+    /// `TransposeCodecConfiguration::from_configuration`.
+    pub fn create(alloc: Global, metadata: &MetadataV3) -> Result<TransposeCodec, PluginCreateError>
+        ensures answer { Answers plugin_memory (λ codec. codec) result (transpose_made (metadata_seen metadata.now)) }
+    {
+        if metadata.name() != "transpose" {
+            return Err(PluginCreateError::UnknownName);
+        }
+        let Some(configuration) = metadata.configuration() else {
+            return Err(PluginCreateError::InvalidConfiguration);
+        };
+        let TransposeCodecConfiguration::V1(configuration) =
+            TransposeCodecConfiguration::from_configuration(alloc, configuration)?;
+        Ok(TransposeCodec::new(configuration.order))
+    }
+}
+
+impl ReshapeCodec {
+    /// The codec of a configuration. Refusals: `OutOfMemory`.
+    pub fn new_with_configuration(
+        _alloc: Global,
+        configuration: &ReshapeCodecConfiguration,
+    ) -> Result<ReshapeCodec, PluginCreateError>
+        ensures made { Answers plugin_memory (λ codec. codec) result (Ok (reshape_seen configuration.now)) }
+    {
+        let ReshapeCodecConfiguration::V1(configuration) = configuration;
+        Ok(ReshapeCodec::new(configuration.shape.clone()?))
+    }
+
+    /// The codec of a metadata, whose name is `reshape` (zarr-extensions codec `reshape`). A missing
+    /// configuration is read as one without members. Refusals, the first that holds, `OutOfMemory`
+    /// aside: `UnknownName` for another name; those of
+    /// `ReshapeCodecConfiguration::from_configuration`.
+    pub fn create(alloc: Global, metadata: &MetadataV3) -> Result<ReshapeCodec, PluginCreateError>
+        ensures answer { Answers plugin_memory (λ codec. codec) result (reshape_made (metadata_seen metadata.now)) }
+    {
+        if metadata.name() != "reshape" {
+            return Err(PluginCreateError::UnknownName);
+        }
+        let Some(configuration) = metadata.configuration() else {
+            return Err(PluginCreateError::InvalidConfiguration);
+        };
+        let ReshapeCodecConfiguration::V1(configuration) =
+            ReshapeCodecConfiguration::from_configuration(alloc, configuration)?;
+        Ok(ReshapeCodec::new(configuration.shape))
+    }
+}
+
+/// Whether the codec `squeeze` is known by this name.
+fn is_squeeze(name: &str) -> bool
+    ensures { result ≡ is_squeeze_name name.now }
+{
+    name == "zarrs.squeeze" || name == "https://codec.zarrs.dev/array_to_array/squeeze"
+}
+
+impl SqueezeCodec {
+    /// The codec of a configuration. Nothing is refused.
+    pub fn new_with_configuration(
+        _configuration: &SqueezeCodecConfiguration,
+    ) -> Result<SqueezeCodec, PluginCreateError>
+        ensures made { IsOk result }
+    {
+        Ok(SqueezeCodec::new())
+    }
+
+    /// The codec of a metadata, whose name is `zarrs.squeeze` or
+    /// `https://codec.zarrs.dev/array_to_array/squeeze` (codec.zarrs.dev). Refusals, the first that
+    /// holds: `UnknownName` for another name; those of
+    /// `SqueezeCodecConfiguration::from_configuration`.
+    pub fn create(metadata: &MetadataV3) -> Result<SqueezeCodec, PluginCreateError>
+        ensures answer { seen (λ _. tt) result ≡ squeeze_made (metadata_seen metadata.now) }
+    {
+        if !is_squeeze(metadata.name()) {
+            return Err(PluginCreateError::UnknownName);
+        }
+        if let Some(configuration) = metadata.configuration() {
+            SqueezeCodecConfiguration::from_configuration(configuration)?;
+        }
+        Ok(SqueezeCodec::new())
+    }
+}
+
+impl ArrayToArrayCodec {
+    /// The codec of a metadata, by its name: `transpose`, `reshape`, `zarrs.squeeze` or
+    /// `https://codec.zarrs.dev/array_to_array/squeeze`. Refusals, the first that holds,
+    /// `OutOfMemory` aside: `UnknownName` for another name; those of the codec's configuration.
+    pub fn create(
+        alloc: Global,
+        metadata: &MetadataV3,
+    ) -> Result<ArrayToArrayCodec, PluginCreateError>
+        ensures answer { Answers plugin_memory mapping_of result (mapping_made (metadata_seen metadata.now)) }
+    {
+        match metadata.name() {
+            "transpose" => Ok(ArrayToArrayCodec::Transpose(TransposeCodec::create(
+                alloc, metadata,
+            )?)),
+            "reshape" => Ok(ArrayToArrayCodec::Reshape(ReshapeCodec::create(alloc, metadata)?)),
+            _ => Ok(ArrayToArrayCodec::Squeeze(SqueezeCodec::create(metadata)?)),
+        }
+    }
+}

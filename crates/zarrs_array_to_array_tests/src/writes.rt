@@ -1,0 +1,271 @@
+//! Writes through stages, over a chunk of `bytes` in memory.
+
+use crate::checks::{Asked, are, indexer, is, is_refused};
+use crate::forms::Size::Of;
+use crate::forms::{ChunkForm, Codec, Told, Type, chunk_form, codec_of, numbers};
+use std::alloc::Global;
+use std::borrow::CowSlice;
+use std::process::Abort;
+use std::test::Fail;
+use zarrs_array_bytes::ArrayBytes;
+use zarrs_array_to_array::{ArrayToArrayCodec, ArrayToArrayCodecPartial};
+use zarrs_bytes::{BytesCodec, BytesCodecPartial};
+use zarrs_chunk::CodecError;
+use zarrs_codec::{ArrayPartialEncoderTraits, ArrayToArrayCodecTraits, MemoryHandle, Refused};
+
+const BYTES: Told<'static> = (&[2, 3], Type::Byte, &[5]);
+
+const LINE: Told<'static> = (&[1, 3], Type::Byte, &[0]);
+
+const CUBE: Told<'static> = (&[2, 2, 2], Type::Long, &[0, 0, 0, 0]);
+
+const REVERSED: Codec = Codec::Transpose(&[1, 0]);
+
+/// The stage, or why it wasn't made.
+fn made<D, I: Drop>(answer: Result<D, Refused<I>>) -> Result<D, CodecError> {
+    match answer {
+        Ok(stage) => Ok(stage),
+        Err(Refused { error, handle: _ }) => Err(error),
+    }
+}
+
+type Input = BytesCodecPartial<MemoryHandle>;
+
+type Stage<I> = ArrayToArrayCodecPartial<ArrayToArrayCodec, I>;
+
+/// A handle over this value, or over none.
+fn stored(alloc: Global, value: Option<&[u8]>) -> Result<MemoryHandle, CodecError> {
+    match value {
+        None => Ok(MemoryHandle::new()),
+        Some(value) => Ok(MemoryHandle::with_value(value.to_vec(alloc)?)),
+    }
+}
+
+/// The form of what the codec makes of a chunk of this form.
+fn encoded_form<C: ArrayToArrayCodecTraits>(
+    alloc: Global,
+    codec: &C,
+    form: &ChunkForm,
+) -> Result<ChunkForm, CodecError> {
+    let (shape, data_type, fill_value) = codec.encoded_representation(
+        alloc,
+        &form.shape,
+        &form.data_type,
+        &form.fill_value,
+    )?;
+    Ok(ChunkForm {
+        shape,
+        data_type,
+        fill_value,
+    })
+}
+
+/// The coder of chunks of this form in part, big, over this value.
+fn input(alloc: Global, form: &ChunkForm, value: Option<&[u8]>) -> Result<Input, CodecError> {
+    made(BytesCodec::big().partial_encoder(
+        alloc,
+        stored(alloc, value)?,
+        &form.shape,
+        &form.data_type,
+        &form.fill_value,
+    ))
+}
+
+/// The stage of the codec over the coder of what it makes of a chunk of this form.
+fn stage(
+    alloc: Global,
+    codec: &ArrayToArrayCodec,
+    form: &ChunkForm,
+    value: Option<&[u8]>,
+) -> Result<Stage<Input>, CodecError> {
+    let input = input(alloc, &encoded_form(alloc, codec, form)?, value)?;
+    made(codec.partial_encoder(alloc, input, &form.shape, &form.data_type, &form.fill_value))
+}
+
+fn stage_told(
+    alloc: Global,
+    codec: &Codec,
+    told: &Told<'_>,
+    value: Option<&[u8]>,
+) -> Result<Stage<Input>, Fail> {
+    let codec = codec_of(alloc, codec)?;
+    Ok(stage(alloc, &codec, &chunk_form(alloc, told)?, value)?)
+}
+
+/// Where elements are written, and their bytes, the lowest of each first.
+type Write = (Asked<'static>, &'static [u8]);
+
+fn write<E: ArrayPartialEncoderTraits>(
+    alloc: Global,
+    encoder: &mut E,
+    asked: &Asked<'_>,
+    bytes: &[u8],
+) -> Result<(), CodecError> {
+    let elements = ArrayBytes::new_flen(CowSlice::Borrowed(bytes));
+    encoder.partial_encode(alloc, &indexer(alloc, asked)?, &elements)
+}
+
+/// What the handle has then, and how many writing calls there were.
+fn is_left(rt: &impl Abort, input: Input, value: Option<&[u8]>, calls: u64) {
+    let handle = input.into_handle();
+    is(rt, "stored", &handle.value().is_some(), &value.is_some());
+    if let (Some(came), Some(wanted)) = (handle.value(), value) {
+        are(rt, "left", came, wanted);
+    }
+    is(rt, "writing calls", &handle.write_calls(), &calls);
+}
+
+/// Codecs, chunks, what is stored, what is written, and the value afterwards.
+const WRITES: &'static [(
+    Codec,
+    Told<'static>,
+    Option<&'static [u8]>,
+    Write,
+    &'static [u8],
+)] = &[
+    (
+        REVERSED,
+        BYTES,
+        Some(&[0, 3, 1, 4, 2, 5]),
+        (Asked::Tuples(&[&[0, 0], &[0, 0]]), &[7, 8]),
+        &[8, 3, 1, 4, 2, 5],
+    ),
+    (
+        REVERSED,
+        BYTES,
+        Some(&[0, 3, 1, 4, 2, 5]),
+        (Asked::Ranges(&[1..2, 0..3]), &[7, 8, 9]),
+        &[0, 7, 1, 8, 2, 9],
+    ),
+    (
+        REVERSED,
+        BYTES,
+        None,
+        (Asked::Ranges(&[0..1, 1..3]), &[7, 8]),
+        &[5, 5, 7, 5, 8, 5],
+    ),
+    (
+        Codec::Reshape(&[Of(&[1]), Of(&[0])]),
+        BYTES,
+        Some(&[0, 1, 2, 3, 4, 5]),
+        (Asked::Ranges(&[0..2, 2..3]), &[7, 8]),
+        &[0, 1, 7, 3, 4, 8],
+    ),
+    (
+        Codec::Squeeze,
+        LINE,
+        Some(&[1]),
+        (Asked::Tuples(&[&[0, 2], &[0, 0]]), &[7, 8]),
+        &[8, 0, 7],
+    ),
+];
+
+fn writes(
+    rt: &impl Abort,
+    alloc: Global,
+    codec: &Codec,
+    told: &Told<'_>,
+    value: Option<&[u8]>,
+    written: &Write,
+    after: &[u8],
+) -> Result<(), Fail> {
+    let mut stage = stage_told(alloc, codec, told, value)?;
+    write(alloc, &mut stage, &written.0, written.1)?;
+    is_left(rt, stage.into_input(), Some(after), 1);
+    Ok(())
+}
+
+#[test]
+fn parts_are_written_through_any_codec(rt: HostRuntime) -> Result<(), Fail> {
+    for (codec, told, value, written, after) in WRITES.iter() {
+        writes(&rt, rt.alloc(), codec, told, *value, written, after)?;
+    }
+    Ok(())
+}
+
+/// What isn't written to a transposed chunk, and why.
+const REFUSED: &'static [(Write, CodecError)] = &[
+    (
+        (Asked::Ranges(&[0..1]), &[]),
+        CodecError::IncompatibleDimensionality,
+    ),
+    ((Asked::Ranges(&[0..3, 0..2]), &[]), CodecError::OutOfBounds),
+    (
+        (Asked::Ranges(&[0..1, 0..2]), &[1]),
+        CodecError::DataMismatch,
+    ),
+];
+
+fn refuses(rt: &impl Abort, alloc: Global, written: &Write, cause: CodecError) -> Result<(), Fail> {
+    let mut stage = stage_told(alloc, &REVERSED, &BYTES, Some(&[1]))?;
+    let answer = write(alloc, &mut stage, &written.0, written.1);
+    is_refused(rt, "write", answer, cause)?;
+    is_left(rt, stage.into_input(), Some(&[1]), 0);
+    Ok(())
+}
+
+#[test]
+fn a_refused_write_leaves_the_value(rt: HostRuntime) -> Result<(), Fail> {
+    for (written, cause) in REFUSED.iter() {
+        refuses(&rt, rt.alloc(), written, *cause)?;
+    }
+    Ok(())
+}
+
+#[test]
+fn a_stage_erases_what_its_input_does(rt: HostRuntime) -> Result<(), Fail> {
+    let mut stage = stage_told(rt.alloc(), &REVERSED, &BYTES, Some(&[1]))?;
+    is(&rt, "in part", &stage.supports_partial_encode(), &true);
+    is(&rt, "erased", &stage.erase(), &Ok(()));
+    is_left(&rt, stage.into_input(), None, 1);
+    Ok(())
+}
+
+/// Words of four bytes each, the highest first.
+fn words(alloc: Global, told: &[u8]) -> Result<Vec<u8>, CodecError> {
+    let mut bytes = Vec::new(alloc);
+    for word in told {
+        bytes.extend_from_slice(&[0, 0, 0, *word])?;
+    }
+    Ok(bytes)
+}
+
+/// A stage over a stage.
+fn nested(alloc: Global, value: &[u8]) -> Result<Stage<Stage<Input>>, Fail> {
+    let outer = codec_of(alloc, &Codec::Transpose(&[0, 2, 1]))?;
+    let inner = codec_of(alloc, &Codec::Transpose(&[2, 0, 1]))?;
+    Ok(nested_of(alloc, &outer, &inner, &chunk_form(alloc, &CUBE)?, value)?)
+}
+
+fn nested_of(
+    alloc: Global,
+    outer: &ArrayToArrayCodec,
+    inner: &ArrayToArrayCodec,
+    form: &ChunkForm,
+    value: &[u8],
+) -> Result<Stage<Stage<Input>>, CodecError> {
+    let below = stage(
+        alloc,
+        inner,
+        &encoded_form(alloc, outer, form)?,
+        Some(value),
+    )?;
+    made(outer.partial_encoder(alloc, below, &form.shape, &form.data_type, &form.fill_value))
+}
+
+#[test]
+fn parts_are_written_through_two_codecs(rt: HostRuntime) -> Result<(), Fail> {
+    let before = words(rt.alloc(), &[0, 1, 4, 5, 2, 3, 6, 7])?;
+    let mut stage = nested(rt.alloc(), before.as_slice())?;
+    let bytes = numbers(rt.alloc(), 4, &[20, 60])?;
+    let asked = Asked::Ranges(&[0..2, 1..2, 0..1]);
+    write(rt.alloc(), &mut stage, &asked, bytes.as_slice())?;
+    let after = words(rt.alloc(), &[0, 1, 4, 5, 20, 3, 60, 7])?;
+    is_left(
+        &rt,
+        stage.into_input().into_input(),
+        Some(after.as_slice()),
+        1,
+    );
+    Ok(())
+}

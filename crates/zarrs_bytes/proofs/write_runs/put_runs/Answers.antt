@@ -1,0 +1,31 @@
+use Rattle.std.proofs.Common.{◌≡◌, ◌∙◌, ap, arith, subst, Some, ℕ, List, Result, length}
+use Rattle.std.specs.Prelude.{OnOk}
+use Rattle.std.proofs.lemmas.List.{take_at}
+use Rattle.zarrs_chunk.specs.Answer.{Answers, memory_or_fault}
+use Rattle.zarrs_chunk.specs.declared.codec_error.CodecError.{CodecError}
+use Rattle.zarrs_codec.specs.BytePieces.{pieces_fit, with_pieces}
+use Rattle.zarrs_codec.specs.StorageState.{value_or_empty}
+use Rattle.zarrs_bytes.specs.PartialWrite.{byte_runs}
+use Rattle.zarrs_bytes.proofs.ByteRuns.{length-byte_runs, byte_runs-ready, byte_runs-written}
+use Rattle.zarrs_bytes.proofs.write_runs.put_runs.Given.{Over}
+use Rattle.zarrs_bytes.proofs.write_runs.put_runs.Goals as goal
+
+-- the pieces that are handed on are the runs of bytes
+pieces_are : (g : Over) (c : goal.After-drop-runs g) → c.as_slice.result.now ≡ byte_runs c.args.size c.args.runs.items
+pieces_are g c =
+    let scaled : c.scale_runs.new.runs ≡ byte_runs c.args.size c.args.runs.items = c.scale_runs.ensures.scaled ∙ ap (byte_runs c.args.size) c.deref_mut.ensures.value in
+    let long : length c.scale_runs.new.runs ≡ c.args.runs.len = omega (arith, ap length scaled, length-byte_runs c.args.size c.args.runs.items, c.args.runs.ok) in
+    c.as_slice.ensures.value ∙ take_at c.scale_runs.new.runs _ c.args.runs.len long ∙ scaled
+
+pub returns-clause-answer : goal.returns-clause-answer
+returns-clause-answer g c =
+    let bytes = c.args.bytes.now in
+    let ready = byte_runs-ready c.args.size c.args.runs.items (length bytes) c.requires.ends c.requires.enough (omega arith) in
+    subst (λ (fits : Result (Unit {0}) CodecError). Answers memory_or_fault (λ done. done) c.partial_encode_many.result fits) (ap (λ pieces. pieces_fit pieces (length bytes)) (pieces_are g c) ∙ ready) c.partial_encode_many.ensures.answer
+
+pub returns-clause-written : goal.returns-clause-written
+returns-clause-written g c =
+    let bytes = c.args.bytes.now in
+    let value = value_or_empty (g.H.BytesPartialDecoderTraits.state c.args.handle.now).value in
+    let written = byte_runs-written c.args.size c.args.runs.items value bytes c.requires.positive c.requires.filled in
+    subst (λ (left : List ℕ). OnOk c.partial_encode_many.result ((g.H.BytesPartialDecoderTraits.state c.partial_encode_many.new.self).value ≡ Some left)) (ap (λ pieces. with_pieces value pieces bytes) (pieces_are g c) ∙ written) c.partial_encode_many.ensures.written

@@ -1,0 +1,168 @@
+//! New elements written at runs of places, over a handle that keeps a chunk's value.
+ghost use Rattle.std.specs.Prelude.{◌≡◌, ◌<◌, ◌≤◌, ◌+◌, ◌*◌, ◌^◌, true, false, Ok, Some, None, All, IsOk, OnOk, OnErr, is_ok, is_some, length};
+ghost use Rattle.zarrs_chunk.specs.Answer.{Answers, is_fault, memory, memory_or_fault};
+ghost use Rattle.zarrs_chunk.specs.ChunkShape.{product};
+ghost use Rattle.zarrs_chunk.specs.Runs.{joined_runs};
+ghost use Rattle.zarrs_array_bytes.specs.Held.{raw_of};
+ghost use Rattle.zarrs_array_bytes.specs.Parts.{fixed_part, bytes_in};
+ghost use Rattle.zarrs_array_bytes.specs.Validity.{data_fit};
+ghost use Rattle.zarrs_codec.specs.ArrayWriter.{IsRefusedWrite};
+ghost use Rattle.zarrs_codec.specs.StorageState.{after_writing, apart_from_value, value_or_empty};
+ghost use Rattle.zarrs_bytes.specs.ByteOrder.{turned_bytes};
+ghost use Rattle.zarrs_bytes.specs.BytesCodec.{bytes_length, turn_size as turn_size_of};
+ghost use Rattle.zarrs_bytes.specs.PartialWrite.{byte_runs, bytes_left, with_place_bytes};
+
+use crate::byte_order::turn;
+use crate::bytes_codec::BytesCodec;
+use crate::bytes_codec_partial::element_size;
+use std::alloc::Global;
+use std::borrow::CowSlice;
+use zarrs_array_bytes::{ArrayBytes, ArrayBytesRaw, update_runs};
+use zarrs_chunk::{ChunkShape, CodecError};
+use zarrs_codec::BytesPartialEncoderTraits;
+use zarrs_data_type::{DataType, FillValue};
+
+/// Makes runs of elements of `size` bytes runs of their bytes, in place.
+fn scale_runs(runs: &mut [(u64, u64)], size: u64)
+    requires ends { All (λ run. (run.0 + run.1) * size < 2 ^ 64) runs.old }
+    ensures scaled { runs.new ≡ byte_runs size runs.old }
+{
+    for index in 0..runs.len() {
+        let (start, len) = runs[index];
+        runs[index] = (start * size, len * size);
+    }
+}
+
+/// Writes the bytes of these runs of elements of `size` bytes into the value, by one call of the
+/// handle.
+fn put_runs<H: BytesPartialEncoderTraits>(
+    alloc: Global,
+    handle: &mut H,
+    size: u64,
+    mut runs: Vec<(u64, u64)>,
+    bytes: &[u8],
+) -> Result<(), CodecError>
+    requires filled { All (λ run. 0 < run.1) runs.items }
+    requires ends { All (λ run. (run.0 + run.1) * size < 2 ^ 64) runs.items }
+    requires positive { 0 < size }
+    requires enough { length bytes.now ≡ length (joined_runs runs.items) * size }
+    ensures answer { Answers memory_or_fault (λ done. done) result (Ok tt) }
+    ensures written { OnOk result ((H.state handle.new).value ≡ Some (with_place_bytes size (value_or_empty (H.state handle.old).value) (joined_runs runs.items) bytes.now)) }
+    ensures kept_if_atomic { OnErr result (H.atomic ≡ true → (H.state handle.new).value ≡ (H.state handle.old).value) }
+    ensures left { apart_from_value (H.state handle.new) ≡ after_writing result (H.state handle.old) }
+    ensures same_reference { H.lent handle.new ≡ H.lent handle.old }
+{
+    scale_runs(&mut runs, size);
+    handle.partial_encode_many(alloc, runs.as_slice(), bytes)
+}
+
+impl BytesCodec {
+    /// The bytes of elements of a fixed type as they stand in a value. Refusals: `ArrayBytesKind` for
+    /// any other elements; `OutOfMemory`.
+    fn spelled<'b>(
+        &self,
+        alloc: Global,
+        elements: &'b ArrayBytes<'_>,
+        data_type: &DataType,
+    ) -> Result<ArrayBytesRaw<'b>, CodecError>
+        requires kind { IsOk (fixed_part elements.now) }
+        ensures answer { Answers memory (λ raw. (raw_of raw).items) result (Ok (turned_bytes (turn_size_of self.now data_type.now) (bytes_in elements.now))) }
+        ensures no_fault { is_fault result ≡ false }
+    {
+        let bytes = elements.as_fixed()?;
+        turn(alloc, CowSlice::Borrowed(bytes), self.turn_size(data_type))
+    }
+
+    /// Writes the bytes of new elements over those of the runs' places, by one call of the handle.
+    fn write_over<H: BytesPartialEncoderTraits>(
+        &self,
+        alloc: Global,
+        handle: &mut H,
+        data_type: &DataType,
+        size: u64,
+        runs: Vec<(u64, u64)>,
+        elements: &ArrayBytes<'_>,
+    ) -> Result<(), CodecError>
+        requires filled { All (λ run. 0 < run.1) runs.items }
+        requires ends { All (λ run. (run.0 + run.1) * size < 2 ^ 64) runs.items }
+        requires positive { 0 < size }
+        requires kind { IsOk (fixed_part elements.now) }
+        requires enough { length (bytes_in elements.now) ≡ length (joined_runs runs.items) * size }
+        ensures answer { Answers memory_or_fault (λ done. done) result (Ok tt) }
+        ensures written { OnOk result ((H.state handle.new).value ≡ Some (with_place_bytes size (value_or_empty (H.state handle.old).value) (joined_runs runs.items) (turned_bytes (turn_size_of self.now data_type.now) (bytes_in elements.now)))) }
+        ensures one_write { OnOk result (apart_from_value (H.state handle.new) ≡ after_writing result (H.state handle.old)) }
+        ensures refused { OnErr result (IsRefusedWrite result (H.state handle.old) (H.state handle.new)) }
+        ensures kept_if_atomic { OnErr result (H.atomic ≡ true → (H.state handle.new).value ≡ (H.state handle.old).value) }
+        ensures same_reference { H.lent handle.new ≡ H.lent handle.old }
+    {
+        let bytes = self.spelled(alloc, elements, data_type)?;
+        put_runs(alloc, handle, size, runs, bytes.as_slice())
+    }
+
+    /// The value of a chunk of fill elements with these at the runs' places.
+    fn value_from_fill(
+        &self,
+        alloc: Global,
+        shape: &ChunkShape,
+        data_type: &DataType,
+        fill_value: &FillValue,
+        runs: &[(u64, u64)],
+        elements: &ArrayBytes<'_>,
+    ) -> Result<ArrayBytesRaw<'static>, CodecError>
+        requires taken { is_ok (bytes_length self.now shape.now data_type.now fill_value.now) ≡ true }
+        requires below { All (λ run. run.0 + run.1 ≤ product shape.now) runs.now }
+        requires fit { data_fit data_type.now (length (joined_runs runs.now)) elements.now ≡ Ok tt }
+        ensures answer { Answers memory (λ raw. (raw_of raw).items) result (Ok (bytes_left self.now shape.now data_type.now fill_value.now None (joined_runs runs.now) elements.now)) }
+        ensures no_fault { is_fault result ≡ false }
+    {
+        let count = shape.num_elements()?;
+        let filled = ArrayBytes::new_fill_value(alloc, data_type, count, fill_value)?;
+        let edited = update_runs(alloc, filled, count, runs, elements, data_type)?;
+        self.encode(alloc, edited, shape, data_type, fill_value)
+    }
+
+    /// Writes new elements at the places of these runs, each a start and a length, in order, over a
+    /// handle that keeps the value of a chunk of this form: where a place comes twice, the last one
+    /// stands. Of a stored value the places' bytes alone are replaced, and it grows with zeros up to
+    /// the furthest place. Where nothing is stored, the value of the whole chunk is written, which
+    /// begins as fill elements, without runs too. The codec takes such chunks, no run is empty, each
+    /// ends within the chunk, and there is one new element of the type for each place. Refusals:
+    /// `OutOfMemory` and `Storage`.
+    ///
+    /// The handle is asked whether a value is stored, and then one writing call is made.
+    pub fn write_runs<H: BytesPartialEncoderTraits>(
+        &self,
+        alloc: Global,
+        handle: &mut H,
+        shape: &ChunkShape,
+        data_type: &DataType,
+        fill_value: &FillValue,
+        runs: Vec<(u64, u64)>,
+        elements: &ArrayBytes<'_>,
+    ) -> Result<(), CodecError>
+        requires taken { is_ok (bytes_length self.now shape.now data_type.now fill_value.now) ≡ true }
+        requires filled { All (λ run. 0 < run.1) runs.items }
+        requires below { All (λ run. run.0 + run.1 ≤ product shape.now) runs.items }
+        requires fit { data_fit data_type.now (length (joined_runs runs.items)) elements.now ≡ Ok tt }
+        ensures answer { Answers memory_or_fault (λ _. (H.state handle.new).value) result (Ok (Some (bytes_left self.now shape.now data_type.now fill_value.now (H.state handle.old).value (joined_runs runs.items) elements.now))) }
+        ensures one_write { OnOk result (apart_from_value (H.state handle.new) ≡ after_writing result (H.state handle.old)) }
+        ensures refused { OnErr result (IsRefusedWrite result (H.state handle.old) (H.state handle.new)) }
+        ensures kept_if_atomic { OnErr result (H.atomic ≡ true → (H.state handle.new).value ≡ (H.state handle.old).value) }
+        ensures same_reference { H.lent handle.new ≡ H.lent handle.old }
+    {
+        if handle.exists()? {
+            let size = element_size(data_type, fill_value) as u64;
+            self.write_over(alloc, handle, data_type, size, runs, elements)
+        } else {
+            let value = self.value_from_fill(
+                alloc,
+                shape,
+                data_type,
+                fill_value,
+                runs.as_slice(),
+                elements,
+            )?;
+            handle.replace(alloc, value.as_slice())
+        }
+    }
+}

@@ -1,0 +1,38 @@
+-- What contracts see of a partial encoder of chunks.
+use Rattle.std.specs.Prelude.{◌≡◌, ◌⊎◌, ℕ, Bool, false, Option, is_some, List, [], Result, Ok}
+use Rattle.zarrs_chunk.specs.Answer.{◌>>=◌, no_refusal}
+use Rattle.zarrs_chunk.specs.Selection.{Selection}
+use Rattle.zarrs_chunk.specs.declared.codec_error.CodecError.{CodecError}
+use Rattle.zarrs_data_type.specs.ElementType.{bytes}
+use Rattle.zarrs_array_bytes.specs.Held.{Held}
+use Rattle.zarrs_codec.specs.ArrayReader.{ArrayReader, mapped_reader}
+use Rattle.zarrs_codec.specs.CoordinateMap.{CoordinateMap}
+use Rattle.zarrs_codec.specs.MappedSelection.{image_of}
+use Rattle.zarrs_codec.specs.StorageState.{StorageState, after_reading, after_writing, apart_from_value, value_or_empty}
+
+-- What is read where this value, or none, is stored; whether new elements at a selection are refused whatever is stored, and the first cause; and the value that writing them leaves of the stored one, or the first cause of a refusal.
+pub record ArrayWriter : Type 0 where
+  pub reads : Option (List ℕ) → ArrayReader
+  pub checks : Selection → Held → Result (Unit {0}) CodecError
+  pub written : Option (List ℕ) → Selection → Held → Result (List ℕ) CodecError
+
+-- what stands in the place of one where a chunk is only read: nothing is asked of it
+abbrev pub no_writer : ArrayWriter
+no_writer = record {
+  reads = λ stored. record { sizes = []; type = bytes; is_stored = is_some stored; answer = λ selection. Ok []; in_part = false };
+  checks = λ selection new. no_refusal;
+  written = λ stored selection new. Ok (value_or_empty stored);
+}
+
+-- The writer of a decoded chunk of these sizes over one of the encoded chunk: what that one is asked for, and given the same elements at, is the encoded selection.
+abbrev pub mapped_writer : Result CoordinateMap CodecError → (List ℕ → Selection → Selection) → Bool → List ℕ → ArrayWriter → ArrayWriter
+mapped_writer coordinates asked in_part sizes input = record {
+  reads = λ stored. mapped_reader coordinates asked in_part sizes (input.reads stored);
+  checks = λ selection new. image_of coordinates asked sizes selection >>= λ image. input.checks image new;
+  written = λ stored selection new. image_of coordinates asked sizes selection >>= λ image. input.written stored image new;
+}
+
+-- what a refused write leaves of the handle: nothing was written, and all is as a reading call leaves it that answers the same; or the one writing call that was made was refused
+abbrev pub IsRefusedWrite : {T : Type 0} → Result T CodecError → StorageState → StorageState → Type 0
+IsRefusedWrite result old new =
+    (new ≡ after_reading result old) ⊎ (apart_from_value new ≡ after_writing result old)

@@ -1,0 +1,61 @@
+ghost use Rattle.std.specs.Prelude.{◌≡◌, Bool, true, Some, None, Ok, Err, OnOk, OnErr, IfErr};
+ghost use Rattle.zarrs_chunk.specs.Answer.{Answers, memory, fault, memory_or_fault, seen};
+ghost use Rattle.zarrs_chunk.specs.Indexer.{selection_of};
+ghost use Rattle.zarrs_chunk.specs.Selection.{bounds_of};
+ghost use Rattle.zarrs_codec.specs.ArrayWriter.{IsRefusedWrite};
+ghost use Rattle.zarrs_codec.specs.StorageState.{after_writing, apart_from_value};
+
+use crate::array_partial_decoder_traits::ArrayPartialDecoderTraits;
+use std::alloc::Global;
+use zarrs_array_bytes::ArrayBytes;
+use zarrs_chunk::{CodecError, Indexer};
+
+/// Writes a chunk in part, over a storage handle or over the writer of an encoded chunk.
+///
+/// A call that is accepted makes exactly one writing call of the handle. One that is refused makes
+/// none, or the one that refused it, and leaves the stored value as it was, but where that writing
+/// call may leave any. What is read afterwards is what the value tells that is stored then.
+pub trait ArrayPartialEncoderTraits: ArrayPartialDecoderTraits {
+    // Whether a writing call of the handle that is refused leaves the value as it was.
+    ghost atomic: { Bool };
+
+    // Whether a part is written without the rest of the chunk.
+    ghost writes_part: { Self → Bool };
+
+    /// Writes these elements at the places that the indexer means, in its order: where a place comes
+    /// twice, the last one stands. Where nothing is stored, the chunk begins as fill values, and all
+    /// of it is written, for an indexer without places too. Refusals, the first that holds: those of
+    /// `Indexer::check` at the chunk's shape; those of `ArrayBytes::validate_data` for so many places
+    /// (`ArrayBytesKind`, `DataMismatch`); then, once the handle is asked, those of the codecs and
+    /// `Storage`. `OutOfMemory` may come at any time.
+    fn partial_encode(
+        &mut self,
+        alloc: Global,
+        indexer: &Indexer,
+        elements: &ArrayBytes<'_>,
+    ) -> Result<(), CodecError>
+        ensures answer { Answers memory_or_fault (λ _. (Self.state self.new).value) result (seen Some ((Self.writer self.old).written (Self.state self.old).value (selection_of indexer.now) elements.now)) }
+        ensures indexer_first { IfErr (bounds_of (selection_of indexer.now) (Self.reader self.old).sizes) (λ cause. Answers memory (λ done. done) result (Err cause)) }
+        ensures checked_first { IfErr ((Self.writer self.old).checks (selection_of indexer.now) elements.now) (λ cause. Answers memory (λ done. done) result (Err cause)) }
+        ensures untouched { IfErr ((Self.writer self.old).checks (selection_of indexer.now) elements.now) (λ _. Self.state self.new ≡ Self.state self.old) }
+        ensures one_write { OnOk result (apart_from_value (Self.state self.new) ≡ after_writing result (Self.state self.old)) }
+        ensures refused { OnErr result (IsRefusedWrite result (Self.state self.old) (Self.state self.new)) }
+        ensures kept_if_atomic { OnErr result (atomic ≡ true → (Self.state self.new).value ≡ (Self.state self.old).value) }
+        ensures same_reference { Self.lent self.new ≡ Self.lent self.old }
+        ensures writer_kept { Self.writer self.new ≡ Self.writer self.old };
+
+    /// Leaves no value; there may have been none. Refusals: `Storage`.
+    fn erase(&mut self) -> Result<(), CodecError>
+        ensures answer { Answers fault (λ _. (Self.state self.new).value) result (Ok None) }
+        ensures left { apart_from_value (Self.state self.new) ≡ after_writing result (Self.state self.old) }
+        ensures kept_if_atomic { OnErr result (atomic ≡ true → (Self.state self.new).value ≡ (Self.state self.old).value) }
+        ensures same_reference { Self.lent self.new ≡ Self.lent self.old }
+        ensures writer_kept { Self.writer self.new ≡ Self.writer self.old };
+
+    /// Whether a part is written without the rest of the chunk.
+    fn supports_partial_encode(&self) -> bool
+        ensures value { result ≡ writes_part self.now };
+
+    // What is read is what the stored value tells.
+    ghost tells: { (encoder : Self) → Self.reader encoder ≡ (Self.writer encoder).reads (Self.state encoder).value };
+}

@@ -1,0 +1,42 @@
+-- An element as plain parts, so that equations of chunks are propositions.
+use Rattle.std.specs.Prelude.{◌≡◌, ℕ, zero, suc, Bool, true, false, List, [], cond}
+use Rattle.std.proofs.Common.{refl, ap}
+use Rattle.std.specs.Coded.{Coded, code_by, coded×, coded_ℕ, coded_bool, coded_list, coded_option}
+use Rattle.zarrs_data_type.specs.Element.{Element, plain, absent, present, Chunk}
+use Rattle.std.proofs.Props.{props}
+use mathlib.Core.HLevel.{collapsible→set}
+use mathlib.Core.List.{is_set as List-set}
+use Rattle.std.proofs.Common.{sym, ◌∙◌}
+
+abbrev ElementParts : Type 0
+ElementParts = ℕ × (Bool × List ℕ)
+
+abbrev pub parts_of : Element → ElementParts
+parts_of (plain bytes) = (0, (true, bytes))
+parts_of absent = (0, (false, []))
+parts_of (present element) = (suc (parts_of element).0, (parts_of element).1)
+
+abbrev present_times : ℕ → Element → Element
+present_times zero element = element
+present_times (suc levels) element = present (present_times levels element)
+
+abbrev pub element_of_parts : ElementParts → Element
+element_of_parts p = present_times p.0 (cond p.1.0 (plain p.1.1) absent)
+
+pub element_of_parts-parts_of : (element : Element) → element_of_parts (parts_of element) ≡ element
+element_of_parts-parts_of (plain bytes) = refl
+element_of_parts-parts_of absent = refl
+element_of_parts-parts_of (present element) = ap present (element_of_parts-parts_of element)
+
+abbrev pub element_code : Coded Element
+element_code = code_by ElementParts (coded× coded_ℕ (coded× coded_bool (coded_list coded_ℕ))) parts_of element_of_parts element_of_parts-parts_of
+
+retract_set : {A B : Type 0} (to : A → B) (from : B → A) → ((x : A) → from (to x) ≡ x) → IsSet B → IsSet A
+retract_set to from back set = collapsible→set (λ x y p. sym (back x) ∙ ap from (ap to p) ∙ back y)
+    (λ x y p q. ap (λ z. sym (back x) ∙ ap from z ∙ back y) (set (to x) (to y) (ap to p) (ap to q)))
+
+pub Element-set : IsSet Element
+Element-set = retract_set parts_of element_of_parts element_of_parts-parts_of (hlevel (props, List-set))
+
+pub Chunk-set : IsSet (List Element)
+Chunk-set = List-set Element-set

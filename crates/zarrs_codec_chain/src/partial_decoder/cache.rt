@@ -1,0 +1,20 @@
+//! What a partial decoder keeps of the stored value.
+use zarrs_array_bytes::ArrayBytes;
+
+/// Where the cache stands: nowhere; at the bytes above so many of the first bytes codecs; at the chunk
+/// that the codec to bytes reads.
+#[derive(Clone, Copy, Debug, PartialEq, Eq)]
+pub(crate) enum CacheStage {
+    Nowhere,
+    Bytes(usize),
+    Chunk,
+}
+
+/// What is kept: nothing, so that the handle is asked; the bytes above so many of the first bytes
+/// codecs; the chunk that the codec to bytes reads. `None` inside says that nothing is stored.
+#[derive(Drop)]
+pub(crate) enum Cache {
+    Handle,
+    Bytes(usize, Option<Vec<u8>>),
+    Chunk(Option<ArrayBytes<'static>>),
+}

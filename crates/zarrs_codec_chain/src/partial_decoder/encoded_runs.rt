@@ -1,0 +1,34 @@
+//! Where an indexer's places go through the array codecs of a chain.
+ghost use Rattle.std.specs.Prelude.{◌≡◌, ◌<◌, ◌≤◌, ◌+◌, ◌^◌, IfOk, All, length, map, false};
+ghost use Rattle.zarrs_chunk.specs.Answer.{Answers, memory, is_fault};
+ghost use Rattle.zarrs_chunk.specs.ChunkShape.{product};
+ghost use Rattle.zarrs_chunk.specs.Indexer.{selection_of};
+ghost use Rattle.zarrs_chunk.specs.Runs.{joined_runs};
+ghost use Rattle.zarrs_array_to_array.specs.Mapping.{mapping_of, chained_places};
+
+use std::alloc::Global;
+use zarrs_array_to_array::{ArrayToArrayCodec, encoded_places};
+use zarrs_chunk::{ChunkShape, CodecError, Indexer, runs_of_places};
+
+/// Where the places that an indexer means go through the codecs, in order, as runs of a start and a
+/// length. Without codecs the indexer's own runs are lent on, so that no place is written down by
+/// itself. Refusals, the first that holds, `OutOfMemory` aside: those of `Indexer::places`, and then
+/// those of each codec's `encoded_shape`.
+pub(crate) fn encoded_runs(
+    alloc: Global,
+    codecs: &[ArrayToArrayCodec],
+    shape: &ChunkShape,
+    indexer: &Indexer,
+) -> Result<Vec<(u64, u64)>, CodecError>
+    ensures answer { Answers memory (λ runs. joined_runs runs.items) result (chained_places (map mapping_of codecs.now) (selection_of indexer.now) shape.now) }
+    ensures filled { IfOk result (λ runs. All (λ run. 0 < run.1) runs.items) }
+    ensures below { IfOk result (λ runs. All (λ run. run.0 + run.1 ≤ product shape.now) runs.items) }
+    ensures count { IfOk result (λ runs. length (joined_runs runs.items) < 2 ^ 64) }
+    ensures no_fault { is_fault result ≡ false }
+{
+    if codecs.is_empty() {
+        return indexer.runs(alloc, shape);
+    }
+    let places = encoded_places(alloc, codecs, shape, indexer)?;
+    runs_of_places(alloc, &places)
+}
