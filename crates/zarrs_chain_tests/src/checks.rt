@@ -77,7 +77,7 @@ pub(crate) fn represents(
 }
 
 /// The answer is this refusal. A want of memory is an error of the test.
-fn is_refused<T: Drop>(
+pub(crate) fn is_refused<T: Drop>(
     rt: &impl Abort,
     about: &str,
     answer: Result<T, CodecError>,

@@ -51,7 +51,7 @@ fn array_codec(alloc: Global, told: &Moving) -> Result<ArrayToArrayCodec, Fail> 
     }
 }
 
-fn bytes_codec(told: &ToBytes) -> Result<ArrayToBytesCodec, Fail> {
+fn bytes_codec(told: &ToBytes) -> Result<ArrayToBytesCodec<SampleBytesCodec>, Fail> {
     match told {
         ToBytes::Bytes(order) => Ok(ArrayToBytesCodec::Bytes(BytesCodec::new(*order))),
         ToBytes::Packed(padding, first, last) => {

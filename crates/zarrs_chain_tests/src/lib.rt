@@ -11,6 +11,10 @@ mod checks;
 #[cfg(test)]
 mod forms;
 #[cfg(test)]
+mod nested;
+#[cfg(test)]
+mod nested_forms;
+#[cfg(test)]
 mod parts;
 #[cfg(test)]
 mod reads;

@@ -1,15 +1,18 @@
 -- The steps of a chain's calls.
-use Rattle.std.proofs.Common.{◌≡◌, ◌&&◌, ℕ, nat_lt, false, List, length, Result, Ok, Err, IfOk, Option, refl, ap, sym, subst, ◌∙◌}
+use Rattle.std.proofs.Common.{◌≡◌, ◌&&◌, ℕ, suc, ◌+◌, nat_lt, Bool, true, false, List, [], ◌∷◌, length, Result, Ok, Err, IfOk, Option, refl, ap, sym, subst, ◌∙◌}
+use Rattle.std.proofs.lemmas.List.FromFn.{length-map-range_with_len}
 use Rattle.zarrs_chunk.specs.Answer.{◌>>=◌, demand, seen, checked_u64, Answers, AnswersBy, memory}
 use Rattle.zarrs_chunk.specs.ChunkShape.{product}
 use Rattle.zarrs_chunk.specs.declared.codec_error.CodecError.{CodecError}
-use Rattle.zarrs_chunk.specs.declared.codec_error.CodecError.TheVariants.{InvalidFillValue, BitRange}
+use Rattle.zarrs_chunk.specs.declared.codec_error.CodecError.TheVariants.{InvalidFillValue, BitRange, UnsupportedDataType, InvalidOffsets}
+use Rattle.zarrs_chunk.specs.declared.codec_error.CodecName.TheVariants as name
 use Rattle.zarrs_data_type.specs.ElementType.{ElementType, fixed, text, bytes, optional}
 use Rattle.zarrs_data_type.specs.FillValue.{fill_fits}
-use Rattle.zarrs_data_type.specs.Element.{Chunk}
+use Rattle.zarrs_data_type.specs.Element.{plain, Chunk}
 use Rattle.zarrs_data_type.specs.declared.endianness.Endianness.{Endianness}
 use Rattle.zarrs_array_to_array.specs.ArrayToArrayCodec.{ArrayMapping}
-use Rattle.zarrs_array_bytes.specs.Elements.{elements}
+use Rattle.zarrs_array_bytes.specs.Elements.{cut, elements}
+use Rattle.zarrs_array_bytes.specs.Offsets.{rises, last_of}
 use Rattle.zarrs_array_bytes.specs.Held.{Held}
 use Rattle.zarrs_array_bytes.specs.Validity.{validity, sizes_fit, Holds}
 use Rattle.zarrs_codec.specs.BytesToBytesCodec.{BytesCodecs}
@@ -23,16 +26,14 @@ use Rattle.zarrs_packbits.specs.PackBitsSettings.{PackBitsSettings, packed_layou
 use Rattle.zarrs_packbits.specs.PaddingByte.{value_len}
 use Rattle.zarrs_packbits.proofs.Exact as packbits
 use Rattle.zarrs_array_to_array.proofs.CoordinateMaps.{length-moved}
-use Rattle.zarrs_codec_chain.specs.PlainChain.{PlainChain}
+use Rattle.zarrs_codec_chain.specs.PlainChain.{PlainCodec, bytes_codec, packbits_codec, vlen_codec, optional_codec, PlainChain}
 use Rattle.zarrs_codec_chain.specs.ArrayStages.{arrays_map, IsMapWhere}
 use Rattle.zarrs_codec_chain.specs.BytesStages.{outer_value, outer_bytes, outer_representation}
 use Rattle.zarrs_codec_chain.specs.Chain.{taken_form, codec_held_value, held_value}
-use Rattle.zarrs_codec_chain.specs.ChainView.{plain_codec}
-use Rattle.zarrs_codec_chain.specs.Encode.{codec_value}
-use Rattle.zarrs_codec_chain.specs.Decode.{codec_chunk, chain_chunk}
-use Rattle.zarrs_codec_chain.specs.Representation.{codec_representation, chain_representation}
-use Rattle.zarrs_codec_chain.specs.declared.array_to_bytes_codec.ArrayToBytesCodec.{ArrayToBytesCodec}
-use Rattle.zarrs_codec_chain.specs.declared.array_to_bytes_codec.ArrayToBytesCodec.TheVariants.{Bytes, PackBits}
+use Rattle.zarrs_codec_chain.specs.Encode.{offset_bytes, all_bytes, codec_value}
+use Rattle.zarrs_codec_chain.specs.Decode.{Decoder, part_chunk, offsets_in_chunk, slices, vlen_parts, vlen_chunk, optional_parts, flag_in, flags_in, count_set, under_flags, optional_chunk, around_chunk, codec_chunk, chain_chunk}
+use Rattle.zarrs_codec_chain.specs.Representation.{Measure, is_variable, flag_type, byte_type, offset_type, blank_fill, codec_representation, chain_representation}
+use Rattle.zarrs_codec_chain.proofs.NestedParts.{length_under}
 use Rattle.zarrs_codec_chain.proofs.ArraySteps.{ok, err, at_ok, bind_ok, ok_is, ok_no_err, counted_so}
 
 -- ---- what a chain takes
@@ -120,26 +121,37 @@ counted_packed settings sizes bytes fill len e = absurd cc
 counted_packed settings sizes (optional type) fill len e = absurd cc
 
 -- 64 bits count the elements of a chunk that a codec to bytes takes
-codec_counted : {B : Type 0} (f : BytesCodecs B) (codec : ArrayToBytesCodec) (sizes : List ℕ) (type : ElementType) (fill : List ℕ) (r : BytesRepresentation) → codec_representation f (plain_codec codec) sizes type fill ≡ Ok r → checked_u64 (product sizes) ≡ Ok (product sizes)
+codec_counted : {B : Type 0} (f : BytesCodecs B) (codec : PlainCodec B) (sizes : List ℕ) (type : ElementType) (fill : List ℕ) (r : BytesRepresentation) → codec_representation f codec sizes type fill ≡ Ok r → checked_u64 (product sizes) ≡ Ok (product sizes)
 unfolding codec_representation
-codec_counted f (Bytes order) sizes type fill r e =
+codec_counted f (bytes_codec order) sizes type fill r e =
     let a = seen_ok FixedSize (bytes_length order sizes type fill) r e in
     counted_bytes order sizes type fill a.0 a.1
-codec_counted f (PackBits settings) sizes type fill r e =
+codec_counted f (packbits_codec settings) sizes type fill r e =
     let a = seen_ok FixedSize (packbits_length settings sizes type fill) r e in
     counted_packed settings sizes type fill a.0 a.1
+codec_counted f (vlen_codec ia ix ib da dx db wide at_end) sizes type fill r e =
+    let a = bind_ok (demand (is_variable type) (UnsupportedDataType name.Vlen)) _ r e in
+    let b = bind_ok (checked_u64 (product sizes)) _ r a.2 in
+    counted_so (product sizes) b.0 b.1
+codec_counted f (optional_codec ma mx mb da dx db) sizes (optional type) fill r e =
+    let a = bind_ok (demand (fill_fits (optional type) fill) InvalidFillValue) _ r e in
+    let b = bind_ok (checked_u64 (product sizes)) _ r a.2 in
+    counted_so (product sizes) b.0 b.1
+codec_counted f (optional_codec ma mx mb da dx db) sizes (fixed width components sign) fill r e = absurd cc
+codec_counted f (optional_codec ma mx mb da dx db) sizes text fill r e = absurd cc
+codec_counted f (optional_codec ma mx mb da dx db) sizes bytes fill r e = absurd cc
 
 -- and of one that a chain takes
-pub chain_counted : {B : Type 0} (f : BytesCodecs B) (arrays : List ArrayMapping) (codec : ArrayToBytesCodec) (outer : List B) (sizes : List ℕ) (type : ElementType) (fill : List ℕ) (form : List ℕ × BytesRepresentation)
-    → IsMapWhere type arrays sizes → taken_form f (record { arrays = arrays; codec = plain_codec codec; outer = outer }) sizes type fill ≡ Ok form → checked_u64 (product sizes) ≡ Ok (product sizes)
+pub chain_counted : {B : Type 0} (f : BytesCodecs B) (arrays : List ArrayMapping) (codec : PlainCodec B) (outer : List B) (sizes : List ℕ) (type : ElementType) (fill : List ℕ) (form : List ℕ × BytesRepresentation)
+    → IsMapWhere type arrays sizes → taken_form f (record { arrays = arrays; codec = codec; outer = outer }) sizes type fill ≡ Ok form → checked_u64 (product sizes) ≡ Ok (product sizes)
 chain_counted f arrays codec outer sizes type fill form maps e =
-    let t = is_taken f (record { arrays = arrays; codec = plain_codec codec; outer = outer }) sizes type fill form e in
+    let t = is_taken f (record { arrays = arrays; codec = codec; outer = outer }) sizes type fill form e in
     let m = at_ok (arrays_map type arrays sizes) (λ (m : CoordinateMap). IsCoordinateMap sizes m) t.map_is t.mapped maps in
     subst (λ (k : ℕ). checked_u64 k ≡ Ok k) m.count (codec_counted f codec t.map_is.encoded type fill form.1 t.measured)
 
 -- the same, by the sizes that the array codecs make
-pub form_counted : {B : Type 0} (f : BytesCodecs B) (arrays : List ArrayMapping) (codec : ArrayToBytesCodec) (sizes : List ℕ) (type : ElementType) (fill encoded : List ℕ) (r : BytesRepresentation)
-    → IsMapWhere type arrays sizes → seen (λ (m : CoordinateMap). m.encoded) (arrays_map type arrays sizes) ≡ Ok encoded → codec_representation f (plain_codec codec) encoded type fill ≡ Ok r → checked_u64 (product sizes) ≡ Ok (product sizes)
+pub form_counted : {B : Type 0} (f : BytesCodecs B) (arrays : List ArrayMapping) (codec : PlainCodec B) (sizes : List ℕ) (type : ElementType) (fill encoded : List ℕ) (r : BytesRepresentation)
+    → IsMapWhere type arrays sizes → seen (λ (m : CoordinateMap). m.encoded) (arrays_map type arrays sizes) ≡ Ok encoded → codec_representation f codec encoded type fill ≡ Ok r → checked_u64 (product sizes) ≡ Ok (product sizes)
 form_counted f arrays codec sizes type fill encoded r maps e measured =
     let a = seen_ok (λ (m : CoordinateMap). m.encoded) (arrays_map type arrays sizes) encoded e in
     let m = at_ok (arrays_map type arrays sizes) (λ (m : CoordinateMap). IsCoordinateMap sizes m) a.0 a.1 maps in
@@ -237,11 +249,52 @@ chunk_through f chain sizes type fill form value e =
     let whole : chain_chunk f chain sizes type fill value ≡ outer_bytes f chain.outer form.1 value >>= (λ below. codec_chunk f chain.codec t.map_is.encoded type fill below >>= (λ chunk. Ok (moved_chunk (inverse_map sizes t.map_is) chunk))) = rw (t.mapped, t.measured) refl in
     whole ∙ ap (λ s. outer_bytes f chain.outer form.1 value >>= (λ below. codec_chunk f chain.codec s type fill below >>= (λ chunk. Ok (moved_chunk (inverse_map sizes t.map_is) chunk)))) t.encoded_is
 
+flags_long : (chunk : Chunk) (flags : List Bool) → flags_in chunk ≡ ok flags → length flags ≡ length chunk
+flags_long [] flags e = ap length (sym (ok_is [] flags e))
+flags_long (element ∷ chunk) flags e =
+    let a = bind_ok (flag_in element) _ flags e in
+    let b = bind_ok (flags_in chunk) _ flags a.2 in
+    ap length (sym (ok_is (a.0 ∷ b.0) flags b.2)) ∙ ap suc (flags_long chunk b.0 b.1)
+
+around_long : {B : Type 0} (f : BytesCodecs B) (arrays : List ArrayMapping) (measure : Measure) (content : Decoder) (outer : List B) (sizes : List ℕ) (type : ElementType) (fill value : List ℕ) (chunk : Chunk) → around_chunk f arrays measure content outer sizes type fill value ≡ Ok chunk → length chunk ≡ product sizes
+around_long f arrays measure content outer sizes type fill value chunk e =
+    let m = bind_ok (arrays_map type arrays sizes) _ chunk e in
+    let r = bind_ok (measure m.0.encoded type fill) _ chunk m.2 in
+    let below = bind_ok (outer_bytes f outer r.0 value) _ chunk r.2 in
+    let c = bind_ok (content m.0.encoded type fill below.0) _ chunk below.2 in
+    ap length (sym (ok_is (moved_chunk (inverse_map sizes m.0) c.0) chunk c.2)) ∙ length-moved (inverse_map sizes m.0) c.0
+
+vlen_long : (wide at_end : Bool) (index content : Decoder) (count : ℕ) (value : List ℕ) (chunk : Chunk) → vlen_chunk wide at_end index content count value ≡ Ok chunk → length chunk ≡ count
+vlen_long wide at_end index content count value chunk e =
+    let parts = bind_ok (vlen_parts at_end value) _ chunk e in
+    let more = bind_ok (checked_u64 (count + 1)) _ chunk parts.2 in
+    let rows = bind_ok (index ((count + 1) ∷ []) (offset_type wide) (offset_bytes wide 0) parts.0.0) _ chunk more.2 in
+    let offsets = offsets_in_chunk wide rows.0 in
+    let rising = bind_ok (demand (rises offsets) InvalidOffsets) _ chunk rows.2 in
+    let items = bind_ok (part_chunk content byte_type (0 ∷ []) (last_of offsets) parts.0.1) _ chunk rising.2 in
+    ap length (sym (ok_is (slices count offsets (all_bytes items.0)) chunk items.2)) ∙ length-map-range_with_len (λ place. plain (cut offsets (all_bytes items.0) place)) 0 count
+
+optional_long : (mask content : Decoder) (sizes : List ℕ) (type : ElementType) (value : List ℕ) (chunk : Chunk) → ((part : List ℕ) (flags : Chunk) → mask sizes flag_type (0 ∷ []) part ≡ Ok flags → length flags ≡ product sizes)
+    → optional_chunk mask content sizes (optional type) value ≡ Ok chunk → length chunk ≡ product sizes
+optional_long mask content sizes type value chunk long e =
+    let parts = bind_ok (optional_parts value) _ chunk e in
+    let flags = bind_ok (mask sizes flag_type (0 ∷ []) parts.0.0) _ chunk parts.2 in
+    let bits = bind_ok (flags_in flags.0) _ chunk flags.2 in
+    let items = bind_ok (part_chunk content type (blank_fill type) (count_set bits.0) parts.0.1) _ chunk bits.2 in
+    ap length (sym (ok_is (under_flags bits.0 items.0) chunk items.2)) ∙ length_under bits.0 items.0 ∙ flags_long flags.0 bits.0 bits.1 ∙ long parts.0.0 flags.0 flags.1
+
 -- a chunk that a codec to bytes reads has as many elements as were asked for
-pub chunk_count : {B : Type 0} (f : BytesCodecs B) (codec : ArrayToBytesCodec) (sizes : List ℕ) (type : ElementType) (fill value : List ℕ) (chunk : Chunk) → codec_chunk f (plain_codec codec) sizes type fill value ≡ Ok chunk → length chunk ≡ product sizes
+pub chunk_count : {B : Type 0} (f : BytesCodecs B) (codec : PlainCodec B) (sizes : List ℕ) (type : ElementType) (fill value : List ℕ) (chunk : Chunk) → codec_chunk f codec sizes type fill value ≡ Ok chunk → length chunk ≡ product sizes
 unfolding codec_chunk
-chunk_count f (Bytes order) sizes type fill value chunk e = (decoded_found order sizes type fill value chunk e).elements.count_is
-chunk_count f (PackBits settings) sizes type fill value chunk e = (packbits.decoded_found settings sizes type fill value chunk e).elements.count_is
+chunk_count f (bytes_codec order) sizes type fill value chunk e = (decoded_found order sizes type fill value chunk e).elements.count_is
+chunk_count f (packbits_codec settings) sizes type fill value chunk e = (packbits.decoded_found settings sizes type fill value chunk e).elements.count_is
+chunk_count f (vlen_codec ia ix ib da dx db wide at_end) sizes type fill value chunk e =
+    vlen_long wide at_end (around_chunk f ia (codec_representation f ix) (codec_chunk f ix) ib) (around_chunk f da (codec_representation f dx) (codec_chunk f dx) db) (product sizes) value chunk e
+chunk_count f (optional_codec ma mx mb da dx db) sizes (optional type) fill value chunk e =
+    optional_long (around_chunk f ma (codec_representation f mx) (codec_chunk f mx) mb) (around_chunk f da (codec_representation f dx) (codec_chunk f dx) db) sizes type value chunk (λ part flags h. around_long f ma (codec_representation f mx) (codec_chunk f mx) mb sizes flag_type (0 ∷ []) part flags h) e
+chunk_count f (optional_codec ma mx mb da dx db) sizes (fixed width components sign) fill value chunk e = absurd cc
+chunk_count f (optional_codec ma mx mb da dx db) sizes text fill value chunk e = absurd cc
+chunk_count f (optional_codec ma mx mb da dx db) sizes bytes fill value chunk e = absurd cc
 
 pub bytes_refused : {B : Type 0} (f : BytesCodecs B) (chain : PlainChain B) (sizes : List ℕ) (type : ElementType) (fill : List ℕ) (form : List ℕ × BytesRepresentation) (value : List ℕ) (error : CodecError)
     → taken_form f chain sizes type fill ≡ Ok form → outer_bytes f chain.outer form.1 value ≡ Err error → chain_chunk f chain sizes type fill value ≡ Err error
@@ -264,20 +317,20 @@ pub held_chunk : (type : ElementType) (held : Held) (r : Result Chunk CodecError
 held_chunk type held (Ok chunk) h = (chunk, refl, h)
 held_chunk type held (Err error) h = absurd h
 
-pub chunk_back : {B : Type 0} (f : BytesCodecs B) (arrays : List ArrayMapping) (codec : ArrayToBytesCodec) (outer : List B) (sizes : List ℕ) (type : ElementType) (fill : List ℕ) (form : List ℕ × BytesRepresentation) (value below : List ℕ) (held : Held) (r : Result Held CodecError)
-    → IsMapWhere type arrays sizes → taken_form f (record { arrays = arrays; codec = plain_codec codec; outer = outer }) sizes type fill ≡ Ok form
+pub chunk_back : {B : Type 0} (f : BytesCodecs B) (arrays : List ArrayMapping) (codec : PlainCodec B) (outer : List B) (sizes : List ℕ) (type : ElementType) (fill : List ℕ) (form : List ℕ × BytesRepresentation) (value below : List ℕ) (held : Held) (r : Result Held CodecError)
+    → IsMapWhere type arrays sizes → taken_form f (record { arrays = arrays; codec = codec; outer = outer }) sizes type fill ≡ Ok form
     → outer_bytes f outer form.1 value ≡ Ok below
-    → AnswersBy memory (Holds type) (Ok held) (codec_chunk f (plain_codec codec) form.0 type fill below)
+    → AnswersBy memory (Holds type) (Ok held) (codec_chunk f codec form.0 type fill below)
     → IfOk (decoded_chunk (Ok tt) (arrays_map type arrays sizes) type sizes held) (λ chunk. AnswersBy memory (Holds type) r (Ok chunk))
-    → AnswersBy memory (Holds type) r (chain_chunk f (record { arrays = arrays; codec = plain_codec codec; outer = outer }) sizes type fill value)
+    → AnswersBy memory (Holds type) r (chain_chunk f (record { arrays = arrays; codec = codec; outer = outer }) sizes type fill value)
 chunk_back {B} f arrays codec outer sizes type fill form value below held r maps e opened answers found =
-    let chain : PlainChain B = record { arrays = arrays; codec = plain_codec codec; outer = outer } in
+    let chain : PlainChain B = record { arrays = arrays; codec = codec; outer = outer } in
     let t = is_taken f chain sizes type fill form e in
     let m = at_ok (arrays_map type arrays sizes) (λ (m : CoordinateMap). IsCoordinateMap sizes m) t.map_is t.mapped maps in
-    let c = held_chunk type held (codec_chunk f (plain_codec codec) form.0 type fill below) answers in
+    let c = held_chunk type held (codec_chunk f codec form.0 type fill below) answers in
     let long : length c.0 ≡ product sizes = chunk_count f codec form.0 type fill below c.0 c.1 ∙ ap product (sym t.encoded_is) ∙ m.count in
     let counted = chain_counted f arrays codec outer sizes type fill form maps e in
     let chunk = moved_chunk (inverse_map sizes t.map_is) c.0 in
     let last : AnswersBy memory (Holds type) r (Ok chunk) = at_ok (decoded_chunk (Ok tt) (arrays_map type arrays sizes) type sizes held) (λ (x : Chunk). AnswersBy memory (Holds type) r (Ok x)) chunk (moved_back_held f chain sizes type fill held c.0 form.0 form.1 t counted long c.2) found in
-    let is : chain_chunk f chain sizes type fill value ≡ Ok chunk = chunk_through f chain sizes type fill form value e ∙ two_ok (outer_bytes f outer form.1 value) below (codec_chunk f (plain_codec codec) form.0 type fill) c.0 (λ (x : Chunk). ok (moved_chunk (inverse_map sizes t.map_is) x)) opened c.1 in
+    let is : chain_chunk f chain sizes type fill value ≡ Ok chunk = chunk_through f chain sizes type fill form value e ∙ two_ok (outer_bytes f outer form.1 value) below (codec_chunk f codec form.0 type fill) c.0 (λ (x : Chunk). ok (moved_chunk (inverse_map sizes t.map_is) x)) opened c.1 in
     subst (λ (x : Result Chunk CodecError). AnswersBy memory (Holds type) r x) (sym is) last

@@ -1,6 +1,6 @@
 -- One codec to bytes.
-use Rattle.std.proofs.Common.{◌≡◌, ◌&&◌, ℕ, ◌^◌, nat_lt, Bool, true, false, if◌then◌else◌, List, Option, Result, Ok, Err, refl}
-use Rattle.zarrs_chunk.specs.Answer.{◌>>=◌, demand, checked_u64, seen, fault, is_fault}
+use Rattle.std.proofs.Common.{◌≡◌, ◌&&◌, ℕ, ◌^◌, nat_lt, Bool, true, false, if◌then◌else◌, List, [], Option, Result, Ok, Err, refl, sym}
+use Rattle.zarrs_chunk.specs.Answer.{◌>>=◌, Answers, memory, demand, checked_u64, seen, fault, is_fault}
 use Rattle.zarrs_chunk.specs.declared.codec_error.CodecError.{CodecError}
 use Rattle.zarrs_chunk.specs.declared.codec_error.CodecError.TheVariants.{InvalidFillValue, BitRange, Overflow}
 use Rattle.zarrs_data_type.specs.ElementType.{ElementType, fixed, text, bytes, optional}
@@ -11,17 +11,21 @@ use Rattle.zarrs_array_bytes.specs.Elements.{elements}
 use Rattle.zarrs_array_bytes.specs.Validity.{validity}
 use Rattle.zarrs_chunk.specs.ChunkShape.{product}
 use Rattle.zarrs_codec.specs.BytesToBytesCodec.{BytesCodecs}
+use Rattle.zarrs_codec.specs.declared.bytes_representation.BytesRepresentation.{BytesRepresentation}
 use Rattle.zarrs_codec.specs.declared.bytes_representation.BytesRepresentation.TheVariants.{FixedSize}
-use Rattle.zarrs_bytes.specs.BytesCodec.{bytes_length, bytes_value, spelling}
+use Rattle.zarrs_bytes.specs.BytesCodec.{bytes_length, bytes_value, bytes_chunk, spelling}
 use Rattle.zarrs_packbits.specs.BitStream.{chunk_stream}
-use Rattle.zarrs_packbits.specs.PackBitsCodec.{packbits_value}
+use Rattle.zarrs_packbits.specs.PackBitsCodec.{packbits_value, packbits_chunk}
 use Rattle.zarrs_packbits.specs.PackBitsSettings.{PackBitsSettings, packed_layout, packbits_length, has_bits, layout_for}
 use Rattle.zarrs_packbits.specs.PackedLayout.{is_in_reach}
 use Rattle.zarrs_packbits.specs.PaddingByte.{value_len, value_with}
 use Rattle.zarrs_codec_chain.specs.PlainChain.{bytes_codec, packbits_codec}
 use Rattle.zarrs_codec_chain.specs.Chain.{codec_held_value}
+use Rattle.zarrs_codec_chain.specs.ChainView.{plain_vlen, plain_vlen_at}
+use Rattle.zarrs_codec_chain.specs.Decode.{codec_chunk}
 use Rattle.zarrs_codec_chain.specs.Encode.{codec_value}
-use Rattle.zarrs_codec_chain.specs.Representation.{codec_representation}
+use Rattle.zarrs_codec_chain.specs.Representation.{vlen_representation, codec_representation}
+use Rattle.zarrs_codec_chain.specs.declared.vlen_codec.VlenCodec.{VlenCodec}
 
 seen_then : {A : Type 0} (r : Result ℕ CodecError) (f : Result A CodecError) → seen FixedSize r >>= (λ _. f) ≡ r >>= (λ _. f)
 seen_then (Ok n) f = refl
@@ -73,3 +77,29 @@ seen_no_fault view (Err cause) e = e
 pub packbits_no_fault : (settings : PackBitsSettings) (sizes : List ℕ) (type : ElementType) (fill : List ℕ) → is_fault (seen FixedSize (packbits_length settings sizes type fill)) ≡ false
 packbits_no_fault settings sizes type fill =
     seen_no_fault FixedSize (packbits_length settings sizes type fill) (seen_no_fault value_len (packed_layout settings sizes type fill) (layout_no_fault settings sizes type fill))
+
+-- ---- one level of a codec's answers, as the code sees it
+
+same_answer : (r expected : Result BytesRepresentation CodecError) → r ≡ expected → Answers memory (λ x. x) r expected
+same_answer (Ok x) expected e = sym e
+same_answer (Err cause) expected e = λ _. sym e
+
+pub bytes_measured : {B : Type 0} (f : BytesCodecs B) (order : Option Endianness) (sizes : List ℕ) (type : ElementType) (fill : List ℕ) (r : Result BytesRepresentation CodecError) → r ≡ seen FixedSize (bytes_length order sizes type fill) → Answers memory (λ x. x) r (codec_representation f (bytes_codec order) sizes type fill)
+unfolding codec_representation
+bytes_measured f order sizes type fill r e = same_answer r (seen FixedSize (bytes_length order sizes type fill)) e
+
+pub packbits_measured : {B : Type 0} (f : BytesCodecs B) (settings : PackBitsSettings) (sizes : List ℕ) (type : ElementType) (fill : List ℕ) (r : Result BytesRepresentation CodecError) → r ≡ seen FixedSize (packbits_length settings sizes type fill) → Answers memory (λ x. x) r (codec_representation f (packbits_codec settings) sizes type fill)
+unfolding codec_representation
+packbits_measured f settings sizes type fill r e = same_answer r (seen FixedSize (packbits_length settings sizes type fill)) e
+
+pub vlen_measured : {B : Type 0} (f : BytesCodecs B) (codec : VlenCodec B) (sizes : List ℕ) (type : ElementType) (fill : List ℕ) (r : Result BytesRepresentation CodecError) → r ≡ vlen_representation sizes type [] → Answers memory (λ x. x) r (codec_representation f (plain_vlen codec) sizes type fill)
+unfolding codec_representation
+vlen_measured f codec sizes type fill r e = rw (plain_vlen_at codec) (same_answer r (vlen_representation sizes type []) e)
+
+pub bytes_chunk_at : {B : Type 0} (f : BytesCodecs B) (order : Option Endianness) (sizes : List ℕ) (type : ElementType) (fill value : List ℕ) → codec_chunk f (bytes_codec order) sizes type fill value ≡ bytes_chunk order sizes type fill value
+unfolding codec_chunk
+bytes_chunk_at f order sizes type fill value = refl
+
+pub packbits_chunk_at : {B : Type 0} (f : BytesCodecs B) (settings : PackBitsSettings) (sizes : List ℕ) (type : ElementType) (fill value : List ℕ) → codec_chunk f (packbits_codec settings) sizes type fill value ≡ packbits_chunk settings sizes type fill value
+unfolding codec_chunk
+packbits_chunk_at f settings sizes type fill value = refl

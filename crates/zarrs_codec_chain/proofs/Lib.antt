@@ -1,6 +1,12 @@
 pub mod ArraySteps
 pub mod CodecSteps
+pub mod NestedParts
 pub mod ChainSteps
+pub mod PartSteps
+pub mod VlenOffsets
+pub mod VlenKept
+pub mod VlenEncode
+pub mod VlenDecode
 pub mod PackedElements
 pub mod NestedNormal
 pub mod NestedStages
@@ -15,6 +21,11 @@ pub mod NestedWrittenStands
 pub mod NestedEncode
 pub mod NestedFound
 pub mod NestedDecode
+pub mod NestedRead
+pub mod OptionalFlags
+pub mod OptionalSteps
+pub mod OptionalAt
+pub mod OptionalRoom
 pub mod ChainRelations
 pub mod PartialReads
 pub mod CachePlaces

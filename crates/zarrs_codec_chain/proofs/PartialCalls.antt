@@ -98,10 +98,12 @@ packed_is_ok : {B : Type 0} (f : BytesCodecs B) (settings : PackBitsSettings) (s
 unfolding codec_representation
 packed_is_ok f settings sizes type fill e = seen_is_ok value_len (packed_layout settings sizes type fill) (seen_is_ok FixedSize (packbits_length settings sizes type fill) e)
 
-pub bytes_taken : {B : Type 0} (f : BytesCodecs B) (codec : ArrayToBytesCodec) (order : Option Endianness) (sizes : List ℕ) (type : ElementType) (fill : List ℕ) → codec ≡ Bytes order → is_ok (codec_representation f (plain_codec codec) sizes type fill) ≡ true → is_ok (bytes_length order sizes type fill) ≡ true
+pub bytes_taken : {B : Type 0} (f : BytesCodecs B) (codec : ArrayToBytesCodec B) (order : Option Endianness) (sizes : List ℕ) (type : ElementType) (fill : List ℕ) → codec ≡ Bytes order → is_ok (codec_representation f (plain_codec codec) sizes type fill) ≡ true → is_ok (bytes_length order sizes type fill) ≡ true
+unfolding plain_codec
 bytes_taken f codec order sizes type fill is e = bytes_is_ok f order sizes type fill (subst (λ x. is_ok (codec_representation f (plain_codec x) sizes type fill) ≡ true) is e)
 
-pub packed_taken : {B : Type 0} (f : BytesCodecs B) (codec : ArrayToBytesCodec) (settings : PackBitsSettings) (sizes : List ℕ) (type : ElementType) (fill : List ℕ) → codec ≡ PackBits settings → is_ok (codec_representation f (plain_codec codec) sizes type fill) ≡ true → is_ok (packed_layout settings sizes type fill) ≡ true
+pub packed_taken : {B : Type 0} (f : BytesCodecs B) (codec : ArrayToBytesCodec B) (settings : PackBitsSettings) (sizes : List ℕ) (type : ElementType) (fill : List ℕ) → codec ≡ PackBits settings → is_ok (codec_representation f (plain_codec codec) sizes type fill) ≡ true → is_ok (packed_layout settings sizes type fill) ≡ true
+unfolding plain_codec
 packed_taken f codec settings sizes type fill is e = packed_is_ok f settings sizes type fill (subst (λ x. is_ok (codec_representation f (plain_codec x) sizes type fill) ≡ true) is e)
 
 variable_fits : (type : ElementType) (fill : List ℕ) → is_variable type ≡ true → fill_fits type fill ≡ true
@@ -166,15 +168,17 @@ kept_of f chain sizes type fill encoded r maps counted e =
 
 -- ---- plans
 
-pub bytes_planned : (B : Type 0) {A : Type 0} (view : A → List ByteSpan) (r : Result A CodecError) (codec : ArrayToBytesCodec) (order : Option Endianness) (sizes : List ℕ) (type : ElementType) (fill places : List ℕ) → codec ≡ Bytes order
+pub bytes_planned : (B : Type 0) {A : Type 0} (view : A → List ByteSpan) (r : Result A CodecError) (codec : ArrayToBytesCodec B) (order : Option Endianness) (sizes : List ℕ) (type : ElementType) (fill places : List ℕ) → codec ≡ Bytes order
     → Answers memory (λ x. range_indices (view x)) r (Ok (place_bytes (place_size type) places)) → IfOk r (λ x. sum_by (λ range. range.end - range.start) (view x) ≡ length places * place_size type)
     → AnswersBy memory (λ x (_ : Unit {0}). IsCodecPlan {B = B} (plain_codec codec) sizes type fill places (view x)) r no_refusal
+unfolding plain_codec
 bytes_planned B view (Ok x) codec order sizes type fill places is h sum = subst (λ k. IsCodecPlan {B = B} (plain_codec k) sizes type fill places (view x)) (sym is) (sym (ok_is _ _ h), sum)
 bytes_planned B view (Err e) codec order sizes type fill places is h sum = λ ne. let never : ⊥ = cc (h ne) in absurd never
 
-pub packed_planned : (B : Type 0) {A : Type 0} (view : A → List ByteSpan) (r : Result A CodecError) (codec : ArrayToBytesCodec) (settings : PackBitsSettings) (sizes : List ℕ) (type : ElementType) (fill places : List ℕ) → codec ≡ PackBits settings
+pub packed_planned : (B : Type 0) {A : Type 0} (view : A → List ByteSpan) (r : Result A CodecError) (codec : ArrayToBytesCodec B) (settings : PackBitsSettings) (sizes : List ℕ) (type : ElementType) (fill places : List ℕ) → codec ≡ PackBits settings
     → is_ok (packed_layout settings sizes type fill) ≡ true → AnswersBy memory (λ x layout. IsPlan layout places (view x)) r (packed_layout settings sizes type fill)
     → AnswersBy memory (λ x (_ : Unit {0}). IsCodecPlan {B = B} (plain_codec codec) sizes type fill places (view x)) r no_refusal
+unfolding plain_codec
 packed_planned B view (Ok x) codec settings sizes type fill places is taken h = subst (λ k. IsCodecPlan {B = B} (plain_codec k) sizes type fill places (view x)) (sym is) h
 packed_planned B view (Err e) codec settings sizes type fill places is taken h = λ ne.
     let l = from_ok (packed_layout settings sizes type fill) taken in
@@ -202,13 +206,13 @@ held_of type count held (Ok chunk) long h =
     (ap ok (sym h.elements_are ∙ ap (λ k. elements type k held) n), subst (λ k. validity type k held ≡ Ok tt) n h.valid)
 held_of type count held (Err e) long h = absurd h
 
-counted_after : {B : Type 0} (f : BytesCodecs B) (codec : ArrayToBytesCodec) (encoded : List ℕ) (type : ElementType) (fill : List ℕ) (o : Result (List ℕ) CodecError) (chunk : Chunk) → (o >>= codec_chunk f (plain_codec codec) encoded type fill) ≡ Ok chunk → length chunk ≡ product encoded
+counted_after : {B : Type 0} (f : BytesCodecs B) (codec : ArrayToBytesCodec B) (encoded : List ℕ) (type : ElementType) (fill : List ℕ) (o : Result (List ℕ) CodecError) (chunk : Chunk) → (o >>= codec_chunk f (plain_codec codec) encoded type fill) ≡ Ok chunk → length chunk ≡ product encoded
 counted_after f codec encoded type fill o chunk e =
     let a = bind_ok o (codec_chunk f (plain_codec codec) encoded type fill) chunk e in
-    chunk_count f codec encoded type fill a.0 chunk a.2
+    chunk_count f (plain_codec codec) encoded type fill a.0 chunk a.2
 
 -- the container of the chunk that the codec to bytes reads
-pub held_after : {B : Type 0} (f : BytesCodecs B) (codec : ArrayToBytesCodec) (encoded : List ℕ) (type : ElementType) (fill : List ℕ) (held : Held) (o : Result (List ℕ) CodecError) → IsOkAnd (o >>= codec_chunk f (plain_codec codec) encoded type fill) (Holds type held)
+pub held_after : {B : Type 0} (f : BytesCodecs B) (codec : ArrayToBytesCodec B) (encoded : List ℕ) (type : ElementType) (fill : List ℕ) (held : Held) (o : Result (List ℕ) CodecError) → IsOkAnd (o >>= codec_chunk f (plain_codec codec) encoded type fill) (Holds type held)
     → ((o >>= codec_chunk f (plain_codec codec) encoded type fill) ≡ ok (elements type (product encoded) held)) × (validity type (product encoded) held ≡ Ok tt)
 held_after f codec encoded type fill held o h = held_of type (product encoded) held (o >>= codec_chunk f (plain_codec codec) encoded type fill) (counted_after f codec encoded type fill o) h
 

@@ -1,5 +1,5 @@
 -- What a chain's calls answer.
-use Rattle.std.specs.Prelude.{ℕ, ◌&&◌, true, false, List, Result, Ok}
+use Rattle.std.specs.Prelude.{ℕ, zero, suc, ◌&&◌, true, false, List, [], ◌∷◌, Option, None, Some, Result, Ok}
 use Rattle.std.specs.List.{list_all}
 use Rattle.zarrs_chunk.specs.Answer.{◌>>=◌, seen}
 use Rattle.zarrs_chunk.specs.ChunkShape.{product}
@@ -14,6 +14,7 @@ use Rattle.zarrs_codec.specs.declared.capabilities.PartialDecoderCapability.{Par
 use Rattle.zarrs_codec.specs.declared.capabilities.PartialEncoderCapability.{PartialEncoderCapability}
 use Rattle.zarrs_codec_chain.specs.PlainChain.{PlainCodec, bytes_codec, packbits_codec, vlen_codec, optional_codec, PlainChain}
 use Rattle.zarrs_codec_chain.specs.ArrayStages.{arrays_map}
+use Rattle.zarrs_codec_chain.specs.Decode.{Decoder, codec_chunk}
 use Rattle.zarrs_codec_chain.specs.Encode.{codec_value, chain_value}
 use Rattle.zarrs_codec_chain.specs.Representation.{codec_representation, chain_representation}
 
@@ -31,12 +32,28 @@ codec_held_value f codec sizes type fill held = do
   _ ← validity type (product sizes) held
   codec_value f codec sizes type fill (elements type (product sizes) held)
 
+-- the chunk that a codec to bytes reads of a value, or the first refusal: its representation, the value
+abbrev pub taken_chunk : {B : Type 0} → BytesCodecs B → PlainCodec B → Decoder
+taken_chunk f codec sizes type fill value = do
+  _ ← codec_representation f codec sizes type fill
+  codec_chunk f codec sizes type fill value
+
 -- the value of the chunk that a container holds, or the first refusal: the chain's representation, the container, the content
 abbrev pub held_value : {B : Type 0} → BytesCodecs B → PlainChain B → List ℕ → ElementType → List ℕ → Held → Result (List ℕ) CodecError
 held_value f chain sizes type fill held = do
   _ ← chain_representation f chain sizes type fill
   _ ← validity type (product sizes) held
   chain_value f chain sizes type fill (elements type (product sizes) held)
+
+-- the sizes of a row of so many elements, if there are any
+abbrev pub row_sizes : ℕ → Option (List ℕ)
+row_sizes zero = None
+row_sizes (suc count) = Some (suc count ∷ [])
+
+-- the part that a chain writes of a row of so many elements that a container holds; nothing of none
+abbrev pub held_part : {B : Type 0} → BytesCodecs B → PlainChain B → ℕ → ElementType → List ℕ → Held → Result (List ℕ) CodecError
+held_part f chain zero type fill held = Ok []
+held_part f chain (suc count) type fill held = held_value f chain (suc count ∷ []) type fill held
 
 -- what a codec to bytes reads in part: `bytes` and `packbits` all, one with chains inside nothing
 abbrev pub codec_reads : {B : Type 0} → PlainCodec B → PartialDecoderCapability

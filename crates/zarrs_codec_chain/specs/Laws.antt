@@ -51,6 +51,13 @@ StandsIsAnswered {B} f =
     → IsChainOfMappings chain → All (λ size. 0 < size) sizes
     → ChainStands f chain sizes type fill value chunk → chain_chunk f chain sizes type fill value ≡ Ok chunk
 
+-- What a chain answers of a value is a chunk that it stands for.
+abbrev pub AnsweredStands : {B : Type 0} → BytesCodecs B → Type 0
+AnsweredStands {B} f =
+    (chain : PlainChain B) (sizes : List ℕ) (type : ElementType) (fill value : List ℕ) (chunk : Chunk)
+    → IsChainOfMappings chain → All (λ size. 0 < size) sizes
+    → chain_chunk f chain sizes type fill value ≡ Ok chunk → ChainStands f chain sizes type fill value chunk
+
 -- For a chunk at most one value is written.
 abbrev pub WrittenOnce : {B : Type 0} → BytesCodecs B → Type 0
 WrittenOnce {B} f =

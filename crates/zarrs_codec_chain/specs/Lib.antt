@@ -9,6 +9,8 @@ pub mod Stands
 pub mod Written
 pub mod Chain
 pub mod ChainView
+pub mod VlenSteps
+pub mod OptionalParts
 pub mod Laws
 pub mod CachePlace
 pub mod ChunkRead

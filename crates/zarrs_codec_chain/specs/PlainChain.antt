@@ -20,3 +20,13 @@ pub record PlainChain (B : Type 0) : Type 0 where
   pub arrays : List ArrayMapping
   pub codec : PlainCodec B
   pub outer : List B
+
+-- `vlen` with these chains inside
+abbrev pub vlen_codec_of : {B : Type 0} → PlainChain B → PlainChain B → Bool → Bool → PlainCodec B
+vlen_codec_of index content wide at_end =
+    vlen_codec index.arrays index.codec index.outer content.arrays content.codec content.outer wide at_end
+
+-- `optional` with these chains inside
+abbrev pub optional_codec_of : {B : Type 0} → PlainChain B → PlainChain B → PlainCodec B
+optional_codec_of mask content =
+    optional_codec mask.arrays mask.codec mask.outer content.arrays content.codec content.outer

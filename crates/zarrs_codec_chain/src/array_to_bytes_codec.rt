@@ -1,4 +1,4 @@
-ghost use Rattle.std.specs.Prelude.{◌≡◌, false};
+ghost use Rattle.std.specs.Prelude.{◌≡◌, IsOk, false};
 ghost use Rattle.zarrs_chunk.specs.Answer.{Answers, AnswersBy, memory, is_fault};
 ghost use Rattle.zarrs_array_bytes.specs.Held.{raw_of};
 ghost use Rattle.zarrs_array_bytes.specs.Validity.{Holds};
@@ -8,6 +8,10 @@ ghost use Rattle.zarrs_codec_chain.specs.Decode.{codec_chunk};
 ghost use Rattle.zarrs_codec_chain.specs.Laws.{HasMappings};
 ghost use Rattle.zarrs_codec_chain.specs.Representation.{codec_representation as codec_representation_of};
 
+use crate::optional_codec::{
+    OptionalCodec, optional_decode, optional_encode, optional_is_sound, optional_representation,
+};
+use crate::vlen_codec::{VlenCodec, vlen_decode, vlen_encode, vlen_is_sound, vlen_representation};
 use std::alloc::Global;
 use zarrs_array_bytes::{ArrayBytes, ArrayBytesRaw};
 use zarrs_bytes::BytesCodec;
@@ -20,33 +24,44 @@ use zarrs_data_type::{DataType, FillValue};
 use zarrs_packbits::PackBitsCodec;
 
 /// A codec of chunks to bytes.
-#[derive(Clone, Copy, Debug)]
-pub enum ArrayToBytesCodec {
+#[cycle(chain)]
+#[derive(Drop)]
+pub enum ArrayToBytesCodec<B> {
     /// The bytes of the elements (codec `bytes`).
     Bytes(BytesCodec),
     /// Some bits of each component (codec `packbits`).
     PackBits(PackBitsCodec),
+    /// Elements of any length, with where each begins (codec `vlen`).
+    Vlen(VlenCodec<B>),
+    /// The present elements, and which ones are present (codec `optional`).
+    Optional(OptionalCodec<B>),
 }
 
 /// The array codecs of the chains inside hold to what their types do.
-pub(crate) fn codec_is_sound<B>(codec: &ArrayToBytesCodec)
-    ensures { HasMappings {B = B} (plain_codec codec.now) }
+#[cycle(sound)]
+#[tactic(auto, unfolding(crate::specs::ChainView::plain_codec))]
+pub(crate) fn codec_is_sound<B>(codec: &ArrayToBytesCodec<B>)
+    ensures { HasMappings (plain_codec codec.now) }
 {
     match codec {
         ArrayToBytesCodec::Bytes(_) => {}
         ArrayToBytesCodec::PackBits(_) => {}
+        ArrayToBytesCodec::Vlen(codec) => vlen_is_sound(codec),
+        ArrayToBytesCodec::Optional(codec) => optional_is_sound(codec),
     }
 }
 
 /// How many bytes the value of such a chunk has. Refusals: the codec's own.
-#[tactic(auto, unfolding(crate::specs::Representation::codec_representation), using(crate::proofs::CodecSteps::packbits_no_fault))]
+#[cycle(representation)]
+#[tactic(auto, unfolding(crate::specs::ChainView::plain_codec), using(crate::proofs::CodecSteps::bytes_measured, crate::proofs::CodecSteps::packbits_measured, crate::proofs::CodecSteps::vlen_measured, crate::proofs::CodecSteps::packbits_no_fault))]
 pub(crate) fn codec_representation<B: BytesToBytesCodecTraits>(
-    codec: &ArrayToBytesCodec,
+    alloc: Global,
+    codec: &ArrayToBytesCodec<B>,
     shape: &ChunkShape,
     data_type: &DataType,
     fill_value: &FillValue,
 ) -> Result<BytesRepresentation, CodecError>
-    ensures answer { result ≡ codec_representation_of B.functions (plain_codec codec.now) shape.now data_type.now fill_value.now }
+    ensures answer { Answers memory (λ representation. representation) result (codec_representation_of B.functions (plain_codec codec.now) shape.now data_type.now fill_value.now) }
     ensures no_fault { is_fault result ≡ false }
 {
     match codec {
@@ -56,14 +71,19 @@ pub(crate) fn codec_representation<B: BytesToBytesCodecTraits>(
         ArrayToBytesCodec::PackBits(codec) => {
             codec.encoded_representation(shape, data_type, fill_value)
         }
+        ArrayToBytesCodec::Vlen(_) => vlen_representation(shape, data_type),
+        ArrayToBytesCodec::Optional(codec) => {
+            optional_representation(alloc, codec, shape, data_type, fill_value)
+        }
     }
 }
 
 /// The value of the chunk that `elements` hold. Refusals: the codec's own.
-#[tactic(auto, using(crate::proofs::CodecSteps::bytes_held_value, crate::proofs::CodecSteps::packbits_held_value))]
+#[cycle(encode)]
+#[tactic(auto, unfolding(crate::specs::ChainView::plain_codec), using(crate::proofs::CodecSteps::bytes_held_value, crate::proofs::CodecSteps::packbits_held_value))]
 pub(crate) fn codec_encode<'a, B: BytesToBytesCodecTraits>(
     alloc: Global,
-    codec: &ArrayToBytesCodec,
+    codec: &ArrayToBytesCodec<B>,
     elements: ArrayBytes<'a>,
     shape: &ChunkShape,
     data_type: &DataType,
@@ -79,19 +99,27 @@ pub(crate) fn codec_encode<'a, B: BytesToBytesCodecTraits>(
         ArrayToBytesCodec::PackBits(codec) => {
             codec.encode(alloc, elements, shape, data_type, fill_value)
         }
+        ArrayToBytesCodec::Vlen(codec) => {
+            vlen_encode(alloc, codec, elements, shape, data_type, fill_value)
+        }
+        ArrayToBytesCodec::Optional(codec) => {
+            optional_encode(alloc, codec, elements, shape, data_type, fill_value)
+        }
     }
 }
 
 /// The chunk that a value stands for. Refusals: the codec's own.
-#[tactic(auto, unfolding(crate::specs::Decode::codec_chunk))]
+#[cycle(decode)]
+#[tactic(auto, unfolding(crate::specs::ChainView::plain_codec), using(crate::proofs::CodecSteps::bytes_chunk_at, crate::proofs::CodecSteps::packbits_chunk_at))]
 pub(crate) fn codec_decode<'a, B: BytesToBytesCodecTraits>(
     alloc: Global,
-    codec: &ArrayToBytesCodec,
+    codec: &ArrayToBytesCodec<B>,
     value: ArrayBytesRaw<'a>,
     shape: &ChunkShape,
     data_type: &DataType,
     fill_value: &FillValue,
 ) -> Result<ArrayBytes<'a>, CodecError>
+    requires taken { IsOk (codec_representation_of B.functions (plain_codec codec.now) shape.now data_type.now fill_value.now) }
     ensures answer { AnswersBy memory (Holds data_type.now) result (codec_chunk B.functions (plain_codec codec.now) shape.now data_type.now fill_value.now (raw_of value.entry).items) }
     ensures no_fault { is_fault result ≡ false }
 {
@@ -100,12 +128,19 @@ pub(crate) fn codec_decode<'a, B: BytesToBytesCodecTraits>(
         ArrayToBytesCodec::PackBits(codec) => {
             codec.decode(alloc, value, shape, data_type, fill_value)
         }
+        ArrayToBytesCodec::Vlen(codec) => {
+            vlen_decode(alloc, codec, value, shape, data_type, fill_value)
+        }
+        ArrayToBytesCodec::Optional(codec) => {
+            optional_decode(alloc, codec, value, shape, data_type, fill_value)
+        }
     }
 }
 
 /// What the codec reads in part.
-pub(crate) fn codec_reads<B>(codec: &ArrayToBytesCodec) -> PartialDecoderCapability
-    ensures value { result ≡ codec_reads_of {B = B} (plain_codec codec.now) }
+#[tactic(auto, unfolding(crate::specs::ChainView::plain_codec), using(crate::specs::ChainView::plain_vlen_at, crate::specs::ChainView::plain_optional_at))]
+pub(crate) fn codec_reads<B>(codec: &ArrayToBytesCodec<B>) -> PartialDecoderCapability
+    ensures value { result ≡ codec_reads_of (plain_codec codec.now) }
 {
     match codec {
         ArrayToBytesCodec::Bytes(_) => PartialDecoderCapability {
@@ -113,17 +148,25 @@ pub(crate) fn codec_reads<B>(codec: &ArrayToBytesCodec) -> PartialDecoderCapabil
             partial_decode: true,
         },
         ArrayToBytesCodec::PackBits(codec) => codec.partial_decoder_capability(),
+        ArrayToBytesCodec::Vlen(_) | ArrayToBytesCodec::Optional(_) => PartialDecoderCapability {
+            partial_read: false,
+            partial_decode: false,
+        },
     }
 }
 
 /// What the codec writes in part.
-pub(crate) fn codec_writes<B>(codec: &ArrayToBytesCodec) -> PartialEncoderCapability
-    ensures value { result ≡ codec_writes_of {B = B} (plain_codec codec.now) }
+#[tactic(auto, unfolding(crate::specs::ChainView::plain_codec), using(crate::specs::ChainView::plain_vlen_at, crate::specs::ChainView::plain_optional_at))]
+pub(crate) fn codec_writes<B>(codec: &ArrayToBytesCodec<B>) -> PartialEncoderCapability
+    ensures value { result ≡ codec_writes_of (plain_codec codec.now) }
 {
     match codec {
         ArrayToBytesCodec::Bytes(_) => PartialEncoderCapability {
             partial_encode: true,
         },
         ArrayToBytesCodec::PackBits(codec) => codec.partial_encoder_capability(),
+        ArrayToBytesCodec::Vlen(_) | ArrayToBytesCodec::Optional(_) => PartialEncoderCapability {
+            partial_encode: false,
+        },
     }
 }

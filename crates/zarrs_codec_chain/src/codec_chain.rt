@@ -1,27 +1,23 @@
-ghost use Rattle.std.specs.Prelude.{◌≡◌, ℕ, List, ◌<◌, ◌^◌, All, IfOk, Ok, None, map, false};
+ghost use Rattle.std.specs.Prelude.{◌≡◌, ℕ, List, IfOk, Ok, None, All, map, false};
 ghost use Rattle.std.specs.List.{list_all};
-ghost use Rattle.zarrs_chunk.specs.Answer.{Answers, AnswersBy, memory, is_fault, checked_u64};
-ghost use Rattle.zarrs_chunk.specs.ChunkShape.{product};
+ghost use Rattle.zarrs_chunk.specs.Answer.{Answers, AnswersBy, memory, is_fault};
 ghost use Rattle.zarrs_data_type.specs.Element.{Chunk};
 ghost use Rattle.zarrs_array_bytes.specs.Held.{raw_of};
-ghost use Rattle.zarrs_array_bytes.specs.Validity.{Holds, validity};
+ghost use Rattle.zarrs_array_bytes.specs.Validity.{Holds};
 ghost use Rattle.zarrs_array_to_array.specs.ArrayToArrayCodec.{IsMapping};
 ghost use Rattle.zarrs_array_to_array.specs.Mapping.{mapping_of};
-ghost use Rattle.zarrs_codec_chain.specs.ArrayStages.{IsMapWhere};
-ghost use Rattle.zarrs_codec_chain.specs.Chain.{taken_form as taken_form_of, held_value, outer_reads as outer_reads_of};
+ghost use Rattle.zarrs_codec_chain.specs.Chain.{held_value, outer_reads as outer_reads_of};
 ghost use Rattle.zarrs_codec_chain.specs.ChainView.{plain_chain, plain_codec};
 ghost use Rattle.zarrs_codec_chain.specs.Decode.{chain_chunk};
 ghost use Rattle.zarrs_codec_chain.specs.Laws.{IsChainOfMappings};
-ghost use Rattle.zarrs_codec_chain.specs.Representation.{chain_representation};
+ghost use Rattle.zarrs_codec_chain.specs.Representation.{chain_representation as chain_representation_of};
 ghost use Rattle.zarrs_codec_chain.specs.Stands.{ChainStands};
 ghost use Rattle.zarrs_codec_chain.specs.Written.{ChainWritten};
 
-use crate::array_stages::{decode_arrays, encode_arrays, shape_through};
-use crate::array_to_bytes_codec::{
-    ArrayToBytesCodec, codec_decode, codec_encode, codec_is_sound, codec_reads,
-    codec_representation, codec_writes,
-};
-use crate::bytes_stages::{decode_bytes, encode_bytes, outer_representation};
+use crate::array_to_bytes_codec::{ArrayToBytesCodec, codec_is_sound, codec_reads, codec_writes};
+use crate::decode::chain_decode;
+use crate::encode::chain_encode;
+use crate::representation::chain_representation;
 use std::alloc::Global;
 use zarrs_array_bytes::{ArrayBytes, ArrayBytesRaw};
 use zarrs_array_to_array::ArrayToArrayCodec;
@@ -35,10 +31,11 @@ use zarrs_metadata::{Configuration, PluginCreateError};
 
 /// A chain of codecs: codecs of chunks to chunks, one of chunks to bytes, and the caller's codecs of
 /// bytes to bytes, each list in the order in which they encode.
+#[cycle(chain)]
 #[derive(Drop)]
 pub struct CodecChain<B> {
     pub(crate) array_to_array: Vec<ArrayToArrayCodec>,
-    pub(crate) array_to_bytes: ArrayToBytesCodec,
+    pub(crate) array_to_bytes: ArrayToBytesCodec<B>,
     pub(crate) bytes_to_bytes: Vec<B>,
 }
 
@@ -46,7 +43,7 @@ impl<B> CodecChain<B> {
     /// The chain of these codecs, each list in the order in which they encode.
     pub fn new(
         array_to_array: Vec<ArrayToArrayCodec>,
-        array_to_bytes: ArrayToBytesCodec,
+        array_to_bytes: ArrayToBytesCodec<B>,
         bytes_to_bytes: Vec<B>,
     ) -> CodecChain<B>
         ensures made { plain_chain result ≡ record { arrays = map mapping_of array_to_array.items; codec = plain_codec array_to_bytes; outer = bytes_to_bytes.items } }
@@ -66,7 +63,7 @@ impl<B> CodecChain<B> {
     }
 
     /// The codec of chunks to bytes.
-    pub fn array_to_bytes_codec(&self) -> &ArrayToBytesCodec
+    pub fn array_to_bytes_codec(&self) -> &ArrayToBytesCodec<B>
         ensures value { plain_codec result.now ≡ (plain_chain self.now).codec }
     {
         &self.array_to_bytes
@@ -78,13 +75,6 @@ impl<B> CodecChain<B> {
     {
         &self.bytes_to_bytes
     }
-}
-
-/// What a chain's codec to bytes gets, and how many bytes it makes of it.
-#[derive(Drop)]
-pub(crate) struct TakenForm {
-    pub(crate) shape: ChunkShape,
-    pub(crate) representation: BytesRepresentation,
 }
 
 /// What the array codecs are made of holds.
@@ -100,61 +90,19 @@ fn arrays_are_sound(codecs: &[ArrayToArrayCodec])
     }
 }
 
-/// What the array codecs of the chain are made of holds.
+/// What the array codecs of the chain, and of those inside it, are made of holds.
+#[cycle(sound)]
 pub(crate) fn chain_is_sound<B>(chain: &CodecChain<B>)
     ensures { IsChainOfMappings (plain_chain chain.now) }
 {
     arrays_are_sound(&chain.array_to_array);
-    codec_is_sound::<B>(&chain.array_to_bytes);
-}
-
-/// That the container holds a chunk of this shape and type. Refusals: those of
-/// `ArrayBytes::validate`.
-fn check_elements(
-    elements: &ArrayBytes<'_>,
-    shape: &ChunkShape,
-    data_type: &DataType,
-) -> Result<(), CodecError>
-    requires counted { checked_u64 (product shape.now) ≡ Ok (product shape.now) }
-    ensures answer { result ≡ validity data_type.now (product shape.now) elements.now }
-    ensures no_fault { is_fault result ≡ false }
-{
-    let count = shape.num_elements()?;
-    elements.validate(count, data_type)
+    codec_is_sound(&chain.array_to_bytes);
 }
 
 impl<B: BytesToBytesCodecTraits> CodecChain<B> {
-    /// What the codec to bytes gets of such a chunk. Refusals: those of `encoded_representation`.
-    #[tactic(auto, using(crate::proofs::ChainSteps::chain_counted))]
-    pub(crate) fn taken_form(
-        &self,
-        alloc: Global,
-        shape: &ChunkShape,
-        data_type: &DataType,
-        fill_value: &FillValue,
-    ) -> Result<TakenForm, CodecError>
-        ensures answer { Answers memory (λ taken. (taken.shape, taken.representation)) result (taken_form_of B.functions (plain_chain self.now) shape.now data_type.now fill_value.now) }
-        ensures map { IfOk result (λ _. IsMapWhere data_type.now (plain_chain self.now).arrays shape.now) }
-        ensures counted { IfOk result (λ _. checked_u64 (product shape.now) ≡ Ok (product shape.now)) }
-        ensures no_fault { is_fault result ≡ false }
-    {
-        let encoded = shape_through(alloc, &self.array_to_array, shape, data_type)?;
-        let representation = codec_representation::<B>(
-            &self.array_to_bytes,
-            &encoded,
-            data_type,
-            fill_value,
-        )?;
-        Ok(TakenForm {
-            shape: encoded,
-            representation,
-        })
-    }
-
     /// How many bytes the value of such a chunk has. Refusals, the first that holds, `OutOfMemory`
     /// aside: those of the array codecs in order, of each its type and then its shape; those of the
     /// codec to bytes.
-    #[tactic(auto, using(crate::proofs::ChainSteps::refused_representation, crate::proofs::ChainSteps::form_representation))]
     pub fn encoded_representation(
         &self,
         alloc: Global,
@@ -162,78 +110,10 @@ impl<B: BytesToBytesCodecTraits> CodecChain<B> {
         data_type: &DataType,
         fill_value: &FillValue,
     ) -> Result<BytesRepresentation, CodecError>
-        ensures answer { Answers memory (λ representation. representation) result (chain_representation B.functions (plain_chain self.now) shape.now data_type.now fill_value.now) }
+        ensures answer { Answers memory (λ representation. representation) result (chain_representation_of B.functions (plain_chain self.now) shape.now data_type.now fill_value.now) }
         ensures no_fault { is_fault result ≡ false }
     {
-        let taken = self.taken_form(alloc, shape, data_type, fill_value)?;
-        Ok(outer_representation(&self.bytes_to_bytes, taken.representation))
-    }
-
-    /// The value that `encode` answers.
-    fn value_of<'a>(
-        &self,
-        alloc: Global,
-        elements: ArrayBytes<'a>,
-        shape: &ChunkShape,
-        data_type: &DataType,
-        fill_value: &FillValue,
-    ) -> Result<ArrayBytesRaw<'a>, CodecError>
-        ensures exact { Answers memory (λ value. (raw_of value).items) result (held_value B.functions (plain_chain self.now) shape.now data_type.now fill_value.now elements.entry) }
-        ensures map { IfOk result (λ _. IsMapWhere data_type.now (plain_chain self.now).arrays shape.now) }
-        ensures no_fault { is_fault result ≡ false }
-    {
-        let taken = self.taken_form(alloc, shape, data_type, fill_value)?;
-        check_elements(&elements, shape, data_type)?;
-        let chunk = encode_arrays(
-            alloc,
-            &self.array_to_array,
-            elements,
-            shape,
-            data_type,
-            fill_value,
-        )?;
-        let below = codec_encode::<B>(
-            alloc,
-            &self.array_to_bytes,
-            chunk,
-            &taken.shape,
-            data_type,
-            fill_value,
-        )?;
-        encode_bytes(alloc, &self.bytes_to_bytes, below)
-    }
-
-    /// The chunk that `decode` answers.
-    fn chunk_of<'a>(
-        &self,
-        alloc: Global,
-        value: ArrayBytesRaw<'a>,
-        shape: &ChunkShape,
-        data_type: &DataType,
-        fill_value: &FillValue,
-    ) -> Result<ArrayBytes<'a>, CodecError>
-        ensures exact { AnswersBy memory (Holds data_type.now) result (chain_chunk B.functions (plain_chain self.now) shape.now data_type.now fill_value.now (raw_of value.entry).items) }
-        ensures map { IfOk result (λ _. IsMapWhere data_type.now (plain_chain self.now).arrays shape.now) }
-        ensures no_fault { is_fault result ≡ false }
-    {
-        let taken = self.taken_form(alloc, shape, data_type, fill_value)?;
-        let below = decode_bytes(alloc, &self.bytes_to_bytes, &taken.representation, value)?;
-        let chunk = codec_decode::<B>(
-            alloc,
-            &self.array_to_bytes,
-            below,
-            &taken.shape,
-            data_type,
-            fill_value,
-        )?;
-        decode_arrays(
-            alloc,
-            &self.array_to_array,
-            chunk,
-            shape,
-            data_type,
-            fill_value,
-        )
+        chain_representation(alloc, self, shape, data_type, fill_value)
     }
 
     /// The value that is written for the chunk that `elements` hold. Refusals, the first that holds,
@@ -253,7 +133,9 @@ impl<B: BytesToBytesCodecTraits> CodecChain<B> {
         ensures exact { Answers memory (λ value. (raw_of value).items) result (held_value B.functions (plain_chain self.now) shape.now data_type.now fill_value.now elements.entry) }
         ensures no_fault { is_fault result ≡ false }
     {
-        self.value_of(alloc, elements, shape, data_type, fill_value)
+        chain_is_sound(self);
+        shape.as_slice();
+        chain_encode(alloc, self, elements, shape, data_type, fill_value)
     }
 
     /// The chunk that a value stands for. Refusals, the first that holds, `OutOfMemory` aside: those
@@ -275,7 +157,9 @@ impl<B: BytesToBytesCodecTraits> CodecChain<B> {
         ensures exact { AnswersBy memory (Holds data_type.now) result (chain_chunk B.functions (plain_chain self.now) shape.now data_type.now fill_value.now (raw_of value.entry).items) }
         ensures no_fault { is_fault result ≡ false }
     {
-        self.chunk_of(alloc, value, shape, data_type, fill_value)
+        chain_is_sound(self);
+        shape.as_slice();
+        chain_decode(alloc, self, value, shape, data_type, fill_value)
     }
 }
 
@@ -336,7 +220,7 @@ impl<B: BytesToBytesCodecTraits> CodecTraits for CodecChain<B> {
     }
 
     fn partial_decoder_capability(&self) -> PartialDecoderCapability {
-        let codec = codec_reads::<B>(&self.array_to_bytes);
+        let codec = codec_reads(&self.array_to_bytes);
         let outer = outer_reads(&self.bytes_to_bytes);
         PartialDecoderCapability {
             partial_read: outer.partial_read && codec.partial_read,
@@ -345,7 +229,7 @@ impl<B: BytesToBytesCodecTraits> CodecTraits for CodecChain<B> {
     }
 
     fn partial_encoder_capability(&self) -> PartialEncoderCapability {
-        let codec = codec_writes::<B>(&self.array_to_bytes);
+        let codec = codec_writes(&self.array_to_bytes);
         PartialEncoderCapability {
             partial_encode: outer_writes(&self.bytes_to_bytes) && codec.partial_encode,
         }

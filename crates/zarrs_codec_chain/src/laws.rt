@@ -1,7 +1,7 @@
 //! Laws over the definitions alone: each function's contract is one. They are of all chains, those
 //! with chains inside too.
 ghost use Rattle.zarrs_codec.specs.BytesToBytesCodec.{BytesCodecs};
-ghost use Rattle.zarrs_codec_chain.specs.Laws.{WrittenStands, StandsForOne, StandsIsAnswered, WrittenOnce, ValueIsWritten, NormalTwice, NormalMoved, NormalUpdated, WrittenForNormal, WrittenAlike, WrittenKeeps};
+ghost use Rattle.zarrs_codec_chain.specs.Laws.{WrittenStands, StandsForOne, StandsIsAnswered, AnsweredStands, WrittenOnce, ValueIsWritten, NormalTwice, NormalMoved, NormalUpdated, WrittenForNormal, WrittenAlike, WrittenKeeps};
 
 /// What is written for a chunk stands for its normal form.
 pub fn written_stands<B>()
@@ -16,6 +16,11 @@ pub fn stands_for_one<B>()
 /// The chunk that a value stands for is what a chain answers.
 pub fn stands_is_answered<B>()
     ensures law { (f : BytesCodecs B) → StandsIsAnswered f }
+{}
+
+/// What a chain answers of a value is a chunk that it stands for.
+pub fn answered_stands<B>()
+    ensures law { (f : BytesCodecs B) → AnsweredStands f }
 {}
 
 /// For a chunk at most one value is written.

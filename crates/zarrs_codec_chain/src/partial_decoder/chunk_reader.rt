@@ -10,7 +10,7 @@ ghost use Rattle.zarrs_array_bytes.specs.Elements.{elements};
 ghost use Rattle.zarrs_array_bytes.specs.Held.{raw_of};
 ghost use Rattle.zarrs_array_bytes.specs.Validity.{Holds};
 ghost use Rattle.zarrs_codec.specs.StorageState.{after_reading, are_sure};
-ghost use Rattle.zarrs_codec_chain.specs.Chain.{chain_reads, codec_reads as codec_reads_of, taken_form};
+ghost use Rattle.zarrs_codec_chain.specs.Chain.{chain_reads, codec_reads as codec_reads_of, taken_form as taken_form_of};
 ghost use Rattle.zarrs_codec_chain.specs.ChainView.{plain_chain};
 ghost use Rattle.zarrs_codec_chain.specs.ChunkRead.{codec_place_bytes, encoded_places, IsReadPlan, planned_places, reads_places, WhereSure};
 ghost use Rattle.zarrs_codec_chain.specs.ChunkSource.{bytes_above, cache_fits, chunk_below, held_by, is_kept, is_there, source_made, source_places, source_read};
@@ -25,6 +25,7 @@ use crate::partial_decoder::codec_read::{planned_runs, read_runs, read_runs_of_b
 use crate::partial_decoder::encoded_runs::encoded_runs;
 use crate::partial_decoder::fill_runs::fill_runs;
 use crate::partial_decoder::make_cache::{cache_stage, make_cache};
+use crate::representation::taken_form;
 use std::alloc::Global;
 use std::borrow::CowSlice;
 use zarrs_array_bytes::{ArrayBytes, ArrayBytesRaw};
@@ -45,7 +46,7 @@ pub(crate) struct ChunkReader<'a, B: BytesToBytesCodecTraits> {
     data_type: DataType,
     fill_value: FillValue,
     representation: BytesRepresentation,
-    ghost taken: { taken_form B.functions (plain_chain chain.now) shape data_type fill_value ≡ Ok (encoded, representation) },
+    ghost taken: { taken_form_of B.functions (plain_chain chain.now) shape data_type fill_value ≡ Ok (encoded, representation) },
     ghost measured: { is_ok (codec_representation B.functions (plain_chain chain.now).codec encoded data_type fill_value) ≡ true },
     ghost filling: { fill_fits data_type fill_value ≡ true },
     ghost counted: { product encoded < 2 ^ 64 },
@@ -74,7 +75,7 @@ impl<'a, B: BytesToBytesCodecTraits> ChunkReader<'a, B> {
         let shape = shape.clone()?;
         let data_type = data_type.clone()?;
         let fill_value = fill_value.clone()?;
-        let taken = chain.taken_form(alloc, &shape, &data_type, &fill_value)?;
+        let taken = taken_form(alloc, chain, &shape, &data_type, &fill_value)?;
         let cache = make_cache(
             alloc,
             chain,
@@ -335,7 +336,7 @@ fn asks_for_places<B: BytesToBytesCodecTraits>(chain: &CodecChain<B>) -> bool
     ensures value { result ≡ reads_places (plain_chain chain.now).outer (plain_chain chain.now).codec }
 {
     match chain.bytes_to_bytes.as_slice() {
-        [] => codec_reads::<B>(&chain.array_to_bytes).partial_decode,
+        [] => codec_reads(&chain.array_to_bytes).partial_decode,
         _ => false,
     }
 }

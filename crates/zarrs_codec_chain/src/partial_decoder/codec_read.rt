@@ -21,9 +21,10 @@ use zarrs_data_type::{DataType, FillValue};
 /// The elements at the places of these runs of a chunk that the codec takes, over a handle that keeps
 /// its bytes: the fill value at each place where nothing is stored. Refusals: the codec's own;
 /// `OutOfMemory` and `Storage`, which may come before.
+#[tactic(auto, unfolding(crate::specs::ChainView::plain_codec), using(crate::specs::ChainView::plain_vlen_at, crate::specs::ChainView::plain_optional_at))]
 pub(crate) fn read_runs<H: BytesPartialDecoderTraits, B: BytesToBytesCodecTraits>(
     alloc: Global,
-    codec: &ArrayToBytesCodec,
+    codec: &ArrayToBytesCodec<B>,
     handle: &mut H,
     shape: &ChunkShape,
     data_type: &DataType,
@@ -31,11 +32,11 @@ pub(crate) fn read_runs<H: BytesPartialDecoderTraits, B: BytesToBytesCodecTraits
     runs: &[(u64, u64)],
 ) -> Result<ArrayBytes<'static>, CodecError>
     requires taken { is_ok (codec_representation B.functions (plain_codec codec.now) shape.now data_type.now fill_value.now) ≡ true }
-    requires in_part { (codec_reads_of {B = B} (plain_codec codec.now)).partial_decode ≡ true }
+    requires in_part { (codec_reads_of (plain_codec codec.now)).partial_decode ≡ true }
     requires filled { All (λ run. 0 < run.1) runs.now }
     requires below { All (λ run. run.0 + run.1 ≤ product shape.now) runs.now }
     ensures answer { AnswersBy memory_or_fault (Holds data_type.now) result (codec_read B.functions (plain_codec codec.now) shape.now data_type.now fill_value.now (H.state handle.old).value (joined_runs runs.now)) }
-    ensures sure { IfOk (codec_place_bytes {B = B} (plain_codec codec.now) shape.now data_type.now fill_value.now (joined_runs runs.now)) (λ numbers. are_sure (H.state handle.old).sure numbers ≡ true → is_fault result ≡ false) }
+    ensures sure { IfOk (codec_place_bytes (plain_codec codec.now) shape.now data_type.now fill_value.now (joined_runs runs.now)) (λ numbers. are_sure (H.state handle.old).sure numbers ≡ true → is_fault result ≡ false) }
     ensures left { H.state handle.new ≡ after_reading result (H.state handle.old) }
     ensures same_reference { H.lent handle.new ≡ H.lent handle.old }
 {
@@ -46,13 +47,14 @@ pub(crate) fn read_runs<H: BytesPartialDecoderTraits, B: BytesToBytesCodecTraits
         ArrayToBytesCodec::PackBits(codec) => {
             codec.read_runs(alloc, handle, shape, data_type, fill_value, runs)
         }
+        ArrayToBytesCodec::Vlen(_) | ArrayToBytesCodec::Optional(_) => unreachable!(),
     }
 }
 
 /// The same, of bytes in memory, or of none.
 pub(crate) fn read_runs_of_bytes<B: BytesToBytesCodecTraits>(
     alloc: Global,
-    codec: &ArrayToBytesCodec,
+    codec: &ArrayToBytesCodec<B>,
     bytes: Option<&[u8]>,
     shape: &ChunkShape,
     data_type: &DataType,
@@ -60,7 +62,7 @@ pub(crate) fn read_runs_of_bytes<B: BytesToBytesCodecTraits>(
     runs: &[(u64, u64)],
 ) -> Result<ArrayBytes<'static>, CodecError>
     requires taken { is_ok (codec_representation B.functions (plain_codec codec.now) shape.now data_type.now fill_value.now) ≡ true }
-    requires in_part { (codec_reads_of {B = B} (plain_codec codec.now)).partial_decode ≡ true }
+    requires in_part { (codec_reads_of (plain_codec codec.now)).partial_decode ≡ true }
     requires filled { All (λ run. 0 < run.1) runs.now }
     requires below { All (λ run. run.0 + run.1 ≤ product shape.now) runs.now }
     ensures answer { AnswersBy memory (Holds data_type.now) result (codec_read B.functions (plain_codec codec.now) shape.now data_type.now fill_value.now (option_map (λ items. items.now) bytes.entry) (joined_runs runs.now)) }
@@ -71,19 +73,20 @@ pub(crate) fn read_runs_of_bytes<B: BytesToBytesCodecTraits>(
 }
 
 /// The ranges of bytes that a read of these runs asks for. Refusals: `OutOfMemory`.
+#[tactic(auto, unfolding(crate::specs::ChainView::plain_codec), using(crate::specs::ChainView::plain_vlen_at, crate::specs::ChainView::plain_optional_at))]
 pub(crate) fn planned_runs<B: BytesToBytesCodecTraits>(
     alloc: Global,
-    codec: &ArrayToBytesCodec,
+    codec: &ArrayToBytesCodec<B>,
     shape: &ChunkShape,
     data_type: &DataType,
     fill_value: &FillValue,
     runs: &[(u64, u64)],
 ) -> Result<Vec<ByteRange>, CodecError>
     requires taken { is_ok (codec_representation B.functions (plain_codec codec.now) shape.now data_type.now fill_value.now) ≡ true }
-    requires in_part { (codec_reads_of {B = B} (plain_codec codec.now)).partial_decode ≡ true }
+    requires in_part { (codec_reads_of (plain_codec codec.now)).partial_decode ≡ true }
     requires filled { All (λ run. 0 < run.1) runs.now }
     requires below { All (λ run. run.0 + run.1 ≤ product shape.now) runs.now }
-    ensures plan { AnswersBy memory (λ ranges _. IsCodecPlan {B = B} (plain_codec codec.now) shape.now data_type.now fill_value.now (joined_runs runs.now) ranges.items) result no_refusal }
+    ensures plan { AnswersBy memory (λ ranges _. IsCodecPlan (plain_codec codec.now) shape.now data_type.now fill_value.now (joined_runs runs.now) ranges.items) result no_refusal }
     ensures filled { IfOk result (λ ranges. All (λ range. range.start < range.end) ranges.items) }
     ensures no_fault { is_fault result ≡ false }
 {
@@ -92,5 +95,6 @@ pub(crate) fn planned_runs<B: BytesToBytesCodecTraits>(
         ArrayToBytesCodec::PackBits(codec) => {
             codec.planned_runs(alloc, shape, data_type, fill_value, runs)
         }
+        ArrayToBytesCodec::Vlen(_) | ArrayToBytesCodec::Optional(_) => unreachable!(),
     }
 }

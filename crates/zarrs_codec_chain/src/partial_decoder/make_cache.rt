@@ -1,5 +1,5 @@
 //! What a partial decoder keeps of the stored value when it is made.
-ghost use Rattle.std.specs.Prelude.{◌≡◌, ◌≤◌, ℕ, IfOk, Ok, Some, length, map, take, drop, true, false};
+ghost use Rattle.std.specs.Prelude.{◌≡◌, ◌≤◌, ℕ, IfOk, Ok, Some, is_ok, length, map, take, drop, true, false};
 ghost use Rattle.zarrs_chunk.specs.Answer.{Answers, AnswersBy, memory, memory_or_fault, is_fault};
 ghost use Rattle.zarrs_chunk.specs.ChunkShape.{product};
 ghost use Rattle.zarrs_array_bytes.specs.Held.{raw_of};
@@ -7,6 +7,7 @@ ghost use Rattle.zarrs_array_bytes.specs.Validity.{Holds};
 ghost use Rattle.zarrs_codec.specs.StorageState.{after_reading};
 ghost use Rattle.zarrs_codec_chain.specs.BytesStages.{outer_bytes, outer_representation as outer_representation_of};
 ghost use Rattle.zarrs_codec_chain.specs.Chain.{codec_reads as codec_reads_of};
+ghost use Rattle.zarrs_codec_chain.specs.Representation.{codec_representation};
 ghost use Rattle.zarrs_codec_chain.specs.ChainView.{plain_chain};
 ghost use Rattle.zarrs_codec_chain.specs.ChunkSource.{bytes_left, cache_fits, cache_stage as cache_stage_of, opened_chunk, source_at, source_of, stage_by, stage_fits};
 
@@ -69,7 +70,7 @@ pub(crate) fn cache_stage<B: BytesToBytesCodecTraits>(chain: &CodecChain<B>) -> 
     ensures value { result ≡ cache_stage_of B.reads_in_part (plain_chain chain.now) }
     ensures fits { stage_fits (codec_reads_of (plain_chain chain.now).codec) (length (plain_chain chain.now).outer) result ≡ true }
 {
-    let codec = codec_reads::<B>(&chain.array_to_bytes);
+    let codec = codec_reads(&chain.array_to_bytes);
     stage_of(codec, codecs_left(&chain.bytes_to_bytes))
 }
 
@@ -113,6 +114,7 @@ fn chunk_below<B: BytesToBytesCodecTraits>(
     representation: &BytesRepresentation,
     value: Vec<u8>,
 ) -> Result<ArrayBytes<'static>, CodecError>
+    requires taken { is_ok (codec_representation B.functions (plain_chain chain.now).codec encoded.now data_type.now fill_value.now) ≡ true }
     ensures answer { AnswersBy memory (Holds data_type.now) result (opened_chunk B.functions (plain_chain chain.now) encoded.now data_type.now fill_value.now representation.now value.items) }
     ensures no_fault { is_fault result ≡ false }
 {
@@ -122,7 +124,7 @@ fn chunk_below<B: BytesToBytesCodecTraits>(
         representation,
         CowSlice::Owned(value),
     )?;
-    codec_decode::<B>(
+    codec_decode(
         alloc,
         &chain.array_to_bytes,
         bytes,
@@ -145,6 +147,7 @@ pub(crate) fn make_cache<H: BytesPartialDecoderTraits, B: BytesToBytesCodecTrait
     fill_value: &FillValue,
     representation: BytesRepresentation,
 ) -> Result<Cache, CodecError>
+    requires taken { is_ok (codec_representation B.functions (plain_chain chain.now).codec encoded.now data_type.now fill_value.now) ≡ true }
     requires stage { stage_fits (codec_reads_of (plain_chain chain.now).codec) (length (plain_chain chain.now).outer) stage ≡ true }
     ensures answer { Answers memory_or_fault (source_of data_type.now (product encoded.now) (length (plain_chain chain.now).outer) (H.state handle.old).value) result (source_at B.functions (plain_chain chain.now) encoded.now data_type.now fill_value.now representation stage (H.state handle.old).value) }
     ensures fits { IfOk result (λ cache. cache_fits (codec_reads_of (plain_chain chain.now).codec) data_type.now (product encoded.now) (length (plain_chain chain.now).outer) cache ≡ true) }

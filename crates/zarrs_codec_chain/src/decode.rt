@@ -1,0 +1,74 @@
+//! The chunk that a value stands for, through a chain.
+ghost use Rattle.std.specs.Prelude.{◌≡◌, true, false};
+ghost use Rattle.zarrs_chunk.specs.Answer.{AnswersBy, memory, is_fault};
+ghost use Rattle.zarrs_array_bytes.specs.Held.{raw_of};
+ghost use Rattle.zarrs_array_bytes.specs.Validity.{Holds};
+ghost use Rattle.zarrs_codec_chain.specs.ChainView.{plain_chain};
+ghost use Rattle.zarrs_codec_chain.specs.Decode.{chain_chunk, part_chunk};
+ghost use Rattle.zarrs_data_type.specs.FillValue.{fill_fits};
+
+use crate::array_stages::decode_arrays;
+use crate::array_to_bytes_codec::codec_decode;
+use crate::bytes_stages::decode_bytes;
+use crate::codec_chain::CodecChain;
+use crate::encode::row_of;
+use crate::representation::taken_form;
+use std::alloc::Global;
+use zarrs_array_bytes::{ArrayBytes, ArrayBytesRaw};
+use zarrs_chunk::{ChunkShape, CodecError};
+use zarrs_codec::BytesToBytesCodecTraits;
+use zarrs_data_type::{DataType, FillValue};
+
+/// The chunk that a value stands for through the chain. Refusals: those of `CodecChain::decode`.
+#[cycle(decode)]
+pub(crate) fn chain_decode<'a, B: BytesToBytesCodecTraits>(
+    alloc: Global,
+    chain: &CodecChain<B>,
+    value: ArrayBytesRaw<'a>,
+    shape: &ChunkShape,
+    data_type: &DataType,
+    fill_value: &FillValue,
+) -> Result<ArrayBytes<'a>, CodecError>
+    ensures exact { AnswersBy memory (Holds data_type.now) result (chain_chunk B.functions (plain_chain chain.now) shape.now data_type.now fill_value.now (raw_of value.entry).items) }
+    ensures no_fault { is_fault result ≡ false }
+{
+    let taken = taken_form(alloc, chain, shape, data_type, fill_value)?;
+    let below = decode_bytes(alloc, &chain.bytes_to_bytes, &taken.representation, value)?;
+    let chunk = codec_decode(
+        alloc,
+        &chain.array_to_bytes,
+        below,
+        &taken.shape,
+        data_type,
+        fill_value,
+    )?;
+    decode_arrays(
+        alloc,
+        &chain.array_to_array,
+        chunk,
+        shape,
+        data_type,
+        fill_value,
+    )
+}
+
+/// The row of so many elements that a part stands for through the chain; of none, whatever the part
+/// is. Refusals: those of `chain_decode`.
+#[cycle(decode)]
+pub(crate) fn part_decode<'a, B: BytesToBytesCodecTraits>(
+    alloc: Global,
+    chain: &CodecChain<B>,
+    part: ArrayBytesRaw<'a>,
+    count: u64,
+    data_type: &DataType,
+    fill_value: &FillValue,
+) -> Result<ArrayBytes<'a>, CodecError>
+    requires fits { fill_fits data_type.now fill_value.now ≡ true }
+    ensures exact { AnswersBy memory (Holds data_type.now) result (part_chunk (chain_chunk B.functions (plain_chain chain.now)) data_type.now fill_value.now count (raw_of part.entry).items) }
+    ensures no_fault { is_fault result ≡ false }
+{
+    match row_of(alloc, count)? {
+        Some(row) => chain_decode(alloc, chain, part, &row, data_type, fill_value),
+        None => ArrayBytes::new_fill_value(alloc, data_type, 0, fill_value),
+    }
+}

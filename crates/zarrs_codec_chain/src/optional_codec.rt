@@ -1,0 +1,312 @@
+ghost use Rattle.std.specs.Prelude.{◌≡◌, ◌+◌, ◌<◌, ◌^◌, [], ◌∷◌, length, Ok, IsOk, false};
+ghost use Rattle.zarrs_chunk.specs.Answer.{Answers, AnswersBy, memory, is_fault, checked_u64};
+ghost use Rattle.zarrs_chunk.specs.ChunkShape.{product};
+ghost use Rattle.zarrs_data_type.specs.ElementType.{optional};
+ghost use Rattle.zarrs_array_bytes.specs.Elements.{elements as elements_of};
+ghost use Rattle.zarrs_array_bytes.specs.Held.{raw_of};
+ghost use Rattle.zarrs_array_bytes.specs.Validity.{Holds, sizes_fit, validity};
+ghost use Rattle.zarrs_codec_chain.specs.Chain.{codec_held_value, held_part, taken_chunk};
+ghost use Rattle.zarrs_codec_chain.specs.ChainView.{plain_chain, plain_optional};
+ghost use Rattle.zarrs_codec_chain.specs.Decode.{codec_chunk, chain_chunk};
+ghost use Rattle.zarrs_codec_chain.specs.Encode.{byte_elements, chain_value, codec_value};
+ghost use Rattle.zarrs_codec_chain.specs.Laws.{HasMappings};
+ghost use Rattle.zarrs_codec_chain.specs.OptionalParts.{optional_inner, present_part};
+ghost use Rattle.zarrs_codec_chain.specs.PlainChain.{optional_codec_of};
+ghost use Rattle.zarrs_codec_chain.specs.Representation.{codec_representation, flag_type, blank_fill as blank_fill_of};
+
+use crate::codec_chain::{CodecChain, chain_is_sound};
+use crate::decode::{chain_decode, part_decode};
+use crate::encode::{chain_encode, check_elements, part_encode};
+use crate::optional_parts::{
+    blank_fill, both_representations, inner_type, join_parts, lent, masked_parts, split_value,
+};
+use crate::representation::chain_representation;
+use std::alloc::Global;
+use zarrs_array_bytes::{ArrayBytes, ArrayBytesRaw, count_present};
+use zarrs_chunk::{ChunkShape, CodecError};
+use zarrs_codec::{BytesRepresentation, BytesToBytesCodecTraits};
+use zarrs_data_type::{DataType, FillValue};
+
+/// Optional elements: which ones are present, through one chain, and those that are, through another
+/// (codec.zarrs.dev codec `zarrs.optional`).
+///
+/// The value has four parts: the lengths of the mask part and of the data part as 8 bytes each, the
+/// lowest first; the mask part; the data part. The mask is a chunk of flags of the full shape, 1 for
+/// present; the data are a row of the present elements, in order.
+#[cycle(chain)]
+#[derive(Drop)]
+pub struct OptionalCodec<B> {
+    mask_codecs: Box<CodecChain<B>>,
+    data_codecs: Box<CodecChain<B>>,
+}
+
+impl<B> OptionalCodec<B> {
+    /// The codec with these chains for the mask and for the present elements.
+    #[tactic(auto, using(crate::specs::ChainView::plain_optional_made))]
+    pub fn new(mask_codecs: Box<CodecChain<B>>, data_codecs: Box<CodecChain<B>>) -> OptionalCodec<B>
+        ensures made { plain_optional result ≡ optional_codec_of (plain_chain mask_codecs.value) (plain_chain data_codecs.value) }
+    {
+        OptionalCodec {
+            mask_codecs,
+            data_codecs,
+        }
+    }
+}
+
+/// The array codecs of the chains inside hold to what their types do.
+#[cycle(sound)]
+#[tactic(auto, using(crate::specs::ChainView::plain_optional_at))]
+pub(crate) fn optional_is_sound<B>(codec: &OptionalCodec<B>)
+    ensures { HasMappings (plain_optional codec.now) }
+{
+    chain_is_sound(&codec.mask_codecs);
+    chain_is_sound(&codec.data_codecs);
+}
+
+/// How many bytes the value of such a chunk has. Refusals: those of
+/// `OptionalCodec::encoded_representation`.
+#[cycle(representation)]
+#[tactic(auto, using(crate::proofs::OptionalAt::representation_at))]
+pub(crate) fn optional_representation<B: BytesToBytesCodecTraits>(
+    alloc: Global,
+    codec: &OptionalCodec<B>,
+    shape: &ChunkShape,
+    data_type: &DataType,
+    fill_value: &FillValue,
+) -> Result<BytesRepresentation, CodecError>
+    ensures answer { Answers memory (λ representation. representation) result (codec_representation B.functions (plain_optional codec.now) shape.now data_type.now fill_value.now) }
+    ensures no_fault { is_fault result ≡ false }
+{
+    let inner = inner_type(data_type)?;
+    if !fill_value.fits(data_type) {
+        return Err(CodecError::InvalidFillValue);
+    }
+    shape.num_elements()?;
+    let flag = DataType::bool();
+    let zero = blank_fill(alloc, &flag)?;
+    let mask = chain_representation(alloc, &codec.mask_codecs, shape, &flag, &zero)?;
+    let blank = blank_fill(alloc, inner)?;
+    let content = chain_representation(alloc, &codec.data_codecs, shape, inner, &blank)?;
+    Ok(both_representations(&mask, &content))
+}
+
+/// What the chain writes of these mask bytes as a chunk of flags. Refusals: those of `chain_encode`.
+#[cycle(encode)]
+#[tactic(auto, using(crate::proofs::OptionalSteps::mask_answers))]
+fn mask_encode<'a, B: BytesToBytesCodecTraits>(
+    alloc: Global,
+    chain: &CodecChain<B>,
+    mask: ArrayBytesRaw<'a>,
+    shape: &ChunkShape,
+) -> Result<ArrayBytesRaw<'a>, CodecError>
+    requires long { length (raw_of mask).items ≡ product shape.now }
+    requires counted { checked_u64 (product shape.now) ≡ Ok (product shape.now) }
+    ensures answer { Answers memory (λ value. (raw_of value).items) result (chain_value B.functions (plain_chain chain.now) shape.now flag_type (0 ∷ []) (byte_elements (raw_of mask.entry).items)) }
+    ensures no_fault { is_fault result ≡ false }
+{
+    let flag = DataType::bool();
+    let zero = blank_fill(alloc, &flag)?;
+    chain_encode(
+        alloc,
+        chain,
+        ArrayBytes::new_flen(mask),
+        shape,
+        &flag,
+        &zero,
+    )
+}
+
+/// What the chain writes of a row of so many present elements. Refusals: those of `chain_encode`.
+#[cycle(encode)]
+fn present_encode<'a, B: BytesToBytesCodecTraits>(
+    alloc: Global,
+    chain: &CodecChain<B>,
+    present: ArrayBytes<'a>,
+    count: u64,
+    data_type: &DataType,
+) -> Result<ArrayBytesRaw<'a>, CodecError>
+    ensures exact { Answers memory (λ value. (raw_of value).items) result (held_part B.functions (plain_chain chain.now) count data_type.now (blank_fill_of data_type.now) present.entry) }
+    ensures no_fault { is_fault result ≡ false }
+{
+    let blank = blank_fill(alloc, data_type)?;
+    part_encode(alloc, chain, present, count, data_type, &blank)
+}
+
+/// The value of a container of optional elements of this inner type, as many as the shape has.
+/// Refusals: those of the chains.
+#[cycle(encode)]
+#[tactic(auto, using(crate::proofs::OptionalSteps::mask_long, crate::proofs::OptionalSteps::never_unmasked, crate::proofs::OptionalSteps::present_taken, crate::proofs::OptionalAt::content_at, crate::proofs::OptionalAt::written_at))]
+fn content_encode<'a, B: BytesToBytesCodecTraits>(
+    alloc: Global,
+    codec: &OptionalCodec<B>,
+    elements: ArrayBytes<'a>,
+    shape: &ChunkShape,
+    inner: &DataType,
+) -> Result<ArrayBytesRaw<'a>, CodecError>
+    requires valid { validity (optional inner.now) (product shape.now) elements ≡ Ok tt }
+    requires counted { checked_u64 (product shape.now) ≡ Ok (product shape.now) }
+    ensures answer { Answers memory (λ value. (raw_of value).items) result (codec_value B.functions (plain_optional codec.now) shape.now (optional inner.now) [] (elements_of (optional inner.now) (product shape.now) elements.entry)) }
+    ensures no_fault { is_fault result ≡ false }
+{
+    let (inside, mask, count) = masked_parts(elements)?;
+    let present = inside.extract_present(alloc, lent(&mask), inner)?;
+    let mask_part = mask_encode(alloc, &codec.mask_codecs, mask, shape)?;
+    let data_part = present_encode(alloc, &codec.data_codecs, present, count, inner)?;
+    join_parts(alloc, lent(&mask_part), lent(&data_part))
+}
+
+/// The value of the chunk that `elements` hold. Refusals: those of `OptionalCodec::encode`.
+#[cycle(encode)]
+#[tactic(auto, using(crate::proofs::OptionalAt::counted_at, crate::proofs::OptionalAt::inner_refused_at, crate::proofs::OptionalAt::inner_valid, crate::proofs::OptionalAt::value_at))]
+pub(crate) fn optional_encode<'a, B: BytesToBytesCodecTraits>(
+    alloc: Global,
+    codec: &OptionalCodec<B>,
+    elements: ArrayBytes<'a>,
+    shape: &ChunkShape,
+    data_type: &DataType,
+    fill_value: &FillValue,
+) -> Result<ArrayBytesRaw<'a>, CodecError>
+    ensures answer { Answers memory (λ value. (raw_of value).items) result (codec_held_value B.functions (plain_optional codec.now) shape.now data_type.now fill_value.now elements.entry) }
+    ensures no_fault { is_fault result ≡ false }
+{
+    let inner = inner_type(data_type)?;
+    optional_representation(alloc, codec, shape, data_type, fill_value)?;
+    check_elements(&elements, shape, data_type)?;
+    content_encode(alloc, codec, elements, shape, inner)
+}
+
+/// The mask bytes of the chunk of flags that a part stands for. Refusals: those of `chain_decode`.
+#[cycle(decode)]
+#[tactic(auto, using(crate::proofs::OptionalFlags::flags_in_bytes, crate::proofs::OptionalFlags::flags_are_fixed))]
+fn mask_decode<'a, B: BytesToBytesCodecTraits>(
+    alloc: Global,
+    chain: &CodecChain<B>,
+    part: ArrayBytesRaw<'a>,
+    shape: &ChunkShape,
+) -> Result<ArrayBytesRaw<'a>, CodecError>
+    ensures answer { Answers memory (λ mask. byte_elements (raw_of mask).items) result (chain_chunk B.functions (plain_chain chain.now) shape.now flag_type (0 ∷ []) (raw_of part.entry).items) }
+    ensures no_fault { is_fault result ≡ false }
+{
+    let flag = DataType::bool();
+    let zero = blank_fill(alloc, &flag)?;
+    chain_decode(alloc, chain, part, shape, &flag, &zero)?.into_fixed()
+}
+
+/// The elements of this inner type that a part stands for, put back under the mask. Refusals, the
+/// first that holds, `OutOfMemory` aside: `MaskValue` where a mask byte isn't 0 or 1; those of the
+/// chain.
+#[cycle(decode)]
+#[tactic(auto, using(crate::proofs::OptionalSteps::mask_refused, crate::proofs::OptionalSteps::present_opened, crate::proofs::OptionalSteps::part_expanded))]
+fn present_decode<'a, B: BytesToBytesCodecTraits>(
+    alloc: Global,
+    chain: &CodecChain<B>,
+    mask: ArrayBytesRaw<'a>,
+    part: ArrayBytesRaw<'a>,
+    data_type: &DataType,
+) -> Result<ArrayBytes<'a>, CodecError>
+    requires room { length (raw_of mask).items + 1 < 2 ^ 64 → sizes_fit data_type.now (length (raw_of mask).items) ≡ Ok tt }
+    ensures answer { AnswersBy memory (Holds (optional data_type.now)) result (present_part (chain_chunk B.functions (plain_chain chain.now)) data_type.now (byte_elements (raw_of mask.entry).items) (raw_of part.entry).items) }
+    ensures no_fault { is_fault result ≡ false }
+{
+    let count = count_present(lent(&mask))?;
+    let blank = blank_fill(alloc, data_type)?;
+    let present = part_decode(alloc, chain, part, count, data_type, &blank)?;
+    present.expand_present(alloc, mask, data_type)
+}
+
+/// A codec that takes a chunk has room for its elements under the mask. The call does nothing; its
+/// contract is for proofs.
+fn has_room<B: BytesToBytesCodecTraits>(
+    codec: &OptionalCodec<B>,
+    shape: &ChunkShape,
+    data_type: &DataType,
+    fill_value: &FillValue,
+    inner: &DataType,
+    mask: &ArrayBytesRaw<'_>,
+)
+    requires taken { IsOk (codec_representation B.functions (plain_optional codec.now) shape.now data_type.now fill_value.now) }
+    requires inside { optional_inner data_type.now ≡ Ok inner.now }
+    requires long { length (raw_of mask.now).items ≡ product shape.now }
+    ensures room { length (raw_of mask.now).items + 1 < 2 ^ 64 → sizes_fit inner.now (length (raw_of mask.now).items) ≡ Ok tt }
+{
+    optional_is_sound(codec);
+    shape.as_slice();
+}
+
+/// The chunk that a value stands for. Refusals: those of `OptionalCodec::decode`.
+#[cycle(decode)]
+#[tactic(auto, using(crate::proofs::OptionalAt::chunk_opened_at, crate::proofs::OptionalAt::chunk_at))]
+pub(crate) fn optional_decode<'a, B: BytesToBytesCodecTraits>(
+    alloc: Global,
+    codec: &OptionalCodec<B>,
+    value: ArrayBytesRaw<'a>,
+    shape: &ChunkShape,
+    data_type: &DataType,
+    fill_value: &FillValue,
+) -> Result<ArrayBytes<'a>, CodecError>
+    requires taken { IsOk (codec_representation B.functions (plain_optional codec.now) shape.now data_type.now fill_value.now) }
+    ensures answer { AnswersBy memory (Holds data_type.now) result (codec_chunk B.functions (plain_optional codec.now) shape.now data_type.now fill_value.now (raw_of value.entry).items) }
+    ensures no_fault { is_fault result ≡ false }
+{
+    let inner = inner_type(data_type)?;
+    let (mask_part, data_part) = split_value(alloc, value)?;
+    let mask = mask_decode(alloc, &codec.mask_codecs, mask_part, shape)?;
+    has_room(codec, shape, data_type, fill_value, inner, &mask);
+    present_decode(alloc, &codec.data_codecs, mask, data_part, inner)
+}
+
+impl<B: BytesToBytesCodecTraits> OptionalCodec<B> {
+    /// How many bytes the value of such a chunk has: the two lengths, and what the mask chain and the
+    /// data chain make, each of a chunk of the full shape. Refusals, the first that holds,
+    /// `OutOfMemory` aside: `UnsupportedDataType` where the type isn't optional; `InvalidFillValue`;
+    /// `Overflow` where 64 bits don't count the elements; those of the mask chain; those of the data
+    /// chain.
+    pub fn encoded_representation(
+        &self,
+        alloc: Global,
+        shape: &ChunkShape,
+        data_type: &DataType,
+        fill_value: &FillValue,
+    ) -> Result<BytesRepresentation, CodecError>
+        ensures answer { Answers memory (λ representation. representation) result (codec_representation B.functions (plain_optional self.now) shape.now data_type.now fill_value.now) }
+        ensures no_fault { is_fault result ≡ false }
+    {
+        optional_representation(alloc, self, shape, data_type, fill_value)
+    }
+
+    /// The value that is written for the chunk that `elements` hold. Refusals, the first that holds,
+    /// `OutOfMemory` aside: those of `encoded_representation`; those of `ArrayBytes::validate`; those
+    /// of the mask chain; those of the data chain at the row of present elements.
+    pub fn encode<'a>(
+        &self,
+        alloc: Global,
+        elements: ArrayBytes<'a>,
+        shape: &ChunkShape,
+        data_type: &DataType,
+        fill_value: &FillValue,
+    ) -> Result<ArrayBytesRaw<'a>, CodecError>
+        ensures exact { Answers memory (λ value. (raw_of value).items) result (codec_held_value B.functions (plain_optional self.now) shape.now data_type.now fill_value.now elements.entry) }
+        ensures no_fault { is_fault result ≡ false }
+    {
+        optional_encode(alloc, self, elements, shape, data_type, fill_value)
+    }
+
+    /// The chunk that a value stands for. Refusals, the first that holds, `OutOfMemory` aside: those
+    /// of `encoded_representation`; `InvalidBytesLength` where there are fewer than 16 bytes; `HeaderOverflow` where 64 bits don't count what the two lengths say;
+    /// `InvalidBytesLength` where there are more bytes, or fewer; those of the mask chain; `MaskValue`
+    /// where a mask byte isn't 0 or 1; those of the data chain at the row of present elements.
+    pub fn decode<'a>(
+        &self,
+        alloc: Global,
+        value: ArrayBytesRaw<'a>,
+        shape: &ChunkShape,
+        data_type: &DataType,
+        fill_value: &FillValue,
+    ) -> Result<ArrayBytes<'a>, CodecError>
+        ensures exact { AnswersBy memory (Holds data_type.now) result (taken_chunk B.functions (plain_optional self.now) shape.now data_type.now fill_value.now (raw_of value.entry).items) }
+        ensures no_fault { is_fault result ≡ false }
+    {
+        optional_representation(alloc, self, shape, data_type, fill_value)?;
+        optional_decode(alloc, self, value, shape, data_type, fill_value)
+    }
+}
