@@ -83,6 +83,7 @@ fn bytes_codec(tree: Option<&Value>) -> Result<BytesCodec, Refusal>
 }
 
 /// The chain of this codec alone.
+#[tactic(auto, unfolding(zarrs_codec_chain::specs::ChainView::plain_codec))]
 fn chain_of(alloc: Global, codec: BytesCodec) -> CodecChain<SampleBytesCodec>
     ensures { plain_chain result ≡ bytes_chain codec }
 {
