@@ -236,7 +236,7 @@ fn decodes(
     alloc: Global,
     chain: &Chain,
     form: &ChunkForm,
-    value: &[u8],
+    value: &'static [u8],
     elements: &Held,
 ) -> Result<(), Fail> {
     let value = CowSlice::Borrowed(value);
