@@ -18,3 +18,5 @@ pub mod UpdateLaw
 pub mod AnswerLemmas
 pub mod PresentLemmas
 pub mod PresentAnswers
+pub mod TargetLemmas
+pub mod ViewLaw

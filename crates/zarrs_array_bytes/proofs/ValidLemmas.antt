@@ -14,7 +14,7 @@ use Rattle.zarrs_array_bytes.specs.Validity.{LengthRefusal, levels_fit, length_i
 use Rattle.zarrs_array_bytes.specs.Extracted.{IsSmall}
 use Rattle.zarrs_array_bytes.proofs.OffsetLemmas.{both_true}
 
-demand_ok : (b : Bool) (e : CodecError) → demand b e ≡ Ok tt → b ≡ true
+pub demand_ok : (b : Bool) (e : CodecError) → demand b e ≡ Ok tt → b ≡ true
 demand_ok true e h = refl
 demand_ok false e h = cc
 

@@ -1,10 +1,13 @@
 -- Laws over the definitions alone.
-use Rattle.std.specs.Prelude.{◌≡◌, ◌≢◌, ℕ, ◌<◌, true, nat_lt, List, length, get_or, Ok}
-use Rattle.std.specs.List.{list_all}
+use Rattle.std.specs.Prelude.{◌≡◌, ◌≢◌, ℕ, ◌*◌, ◌<◌, true, nat_lt, List, length, get_or, All, Ok}
+use Rattle.std.specs.List.{list_all, flat_map}
+use Rattle.std.specs.List.Sorted.{IsStrictlyIncreasing}
+use Rattle.zarrs_chunk.specs.Region.{Region}
 use Rattle.zarrs_data_type.specs.ElementType.{ElementType, optional}
 use Rattle.zarrs_data_type.specs.Element.{absent, Chunk, AreElements}
 use Rattle.zarrs_array_bytes.specs.Held.{Raw, Held, masked}
-use Rattle.zarrs_array_bytes.specs.Elements.{select}
+use Rattle.zarrs_array_bytes.specs.Elements.{piece, select}
+use Rattle.zarrs_array_bytes.specs.FixedView.{FixedView, fixed_view, written_bytes, written_view, elements_fit}
 use Rattle.zarrs_array_bytes.specs.Validity.{sizes_fit, Holds}
 use Rattle.zarrs_array_bytes.specs.Update.{update}
 use Rattle.zarrs_array_bytes.specs.Present.{present_elements, mask_of, expansion, present_places, present_count, present_chunk, expanded_chunk}
@@ -57,3 +60,27 @@ abbrev pub ExpansionKeepsElements : Type 0
 ExpansionKeepsElements =
     (mask : List ℕ) (elements : Chunk) → list_all (λ byte. nat_lt byte 2) mask ≡ true → length elements ≡ length (present_places mask)
     → (present_elements (expansion mask elements) ≡ elements) × (mask_of (expansion mask elements) ≡ mask)
+
+-- A view of an array: it has all of the array's bytes, and its places are below the array's count and rise.
+pub record IsView (view : FixedView) : Type 0 where
+  pub whole : length view.bytes ≡ view.count * view.element_size
+  pub below : All (λ place. place < view.count) view.places
+  pub rising : IsStrictlyIncreasing view.places
+
+-- the bytes of the elements at a view's places, in order
+abbrev pub bytes_at_places : FixedView → List ℕ
+bytes_at_places view = flat_map (piece view.element_size view.bytes) view.places
+
+-- What is made of a subset is a view.
+abbrev pub SubsetsAreViews : Type 0
+SubsetsAreViews = (bytes : List ℕ) (size : ℕ) (sizes : List ℕ) (region : Region) (view : FixedView) → fixed_view bytes size sizes region ≡ Ok view → IsView view
+
+-- After a write, the new elements stand at the view's places, in order.
+abbrev pub WrittenElementsStand : Type 0
+WrittenElementsStand = (view : FixedView) (new : List ℕ) → IsView view → elements_fit view new ≡ Ok tt → bytes_at_places (written_view view new) ≡ new
+
+-- After a write, every element at another place is the old one.
+abbrev pub OtherElementsStay : Type 0
+OtherElementsStay =
+    (view : FixedView) (new : List ℕ) (place : ℕ) → IsView view → elements_fit view new ≡ Ok tt → place < view.count → IsUntouched view.places place
+    → piece view.element_size (written_bytes view new) place ≡ piece view.element_size view.bytes place

@@ -17,6 +17,8 @@ pub mod Chunks
 pub mod Present
 pub mod FixedView
 pub mod ArrayBytesFixedView
+pub mod DecodeTarget
+pub mod ArrayBytesDecodeIntoTarget
 pub mod Laws
 pub use Rattle.zarrs_chunk.specs.Answer
 pub use Rattle.zarrs_chunk.specs.Indexer

@@ -23,6 +23,7 @@ impl<'a> ArrayBytesFixedView<'a> {
     ghost use Rattle.std.specs.Prelude.{◌≡◌, OnOk, OnErr, IfOk};
     ghost use Rattle.zarrs_chunk.specs.Answer.{Answers, memory};
     ghost use Rattle.zarrs_array_bytes.specs.ArrayBytesFixedView.{view_of};
+    ghost use Rattle.zarrs_array_bytes.specs.DecodeTarget.{takes_elements};
     ghost use Rattle.zarrs_array_bytes.specs.FixedView.{fixed_view, written_view, elements_fit};
 
     /// The elements of the subset of an array of this shape, whose elements have `element_size` bytes
@@ -81,6 +82,16 @@ impl<'a> ArrayBytesFixedView<'a> {
         if elements.len() as u128 != expected {
             return Err(CodecError::TargetMismatch);
         }
+        self.write(elements);
+        Ok(())
+    }
+
+    /// Writes the subset's elements, as many bytes as they have.
+    pub(crate) fn write(&mut self, elements: &[u8])
+        requires enough { length elements.now ≡ length (view_of self.old).places * (view_of self.old).element_size }
+        ensures written { view_of self.new ≡ written_view (view_of self.old) elements.now }
+        ensures same_reference { self.new.bytes.ghost_name ≡ self.old.bytes.ghost_name }
+    {
         write_places(
             self.bytes,
             elements,
@@ -88,6 +99,19 @@ impl<'a> ArrayBytesFixedView<'a> {
             self.count,
             self.runs.as_slice(),
         );
-        Ok(())
+    }
+
+    /// How many elements these are.
+    pub(crate) fn count(&self) -> u64
+        ensures value { result ≡ length (view_of self.now).places }
+    {
+        count_places(self.runs.as_slice()) as u64
+    }
+
+    /// Whether these are so many elements of this size.
+    pub(crate) fn takes(&self, size: usize, count: u64) -> bool
+        ensures value { result ≡ takes_elements (view_of self.now) size count }
+    {
+        self.element_size == size && self.count() == count
     }
 }

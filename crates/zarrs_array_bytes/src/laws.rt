@@ -1,5 +1,5 @@
 //! Laws over the definitions alone: each function's contract is one.
-ghost use Rattle.zarrs_array_bytes.specs.Laws.{HeldAreElements, UpdateThenSelect, PresentElementsAreHeld, ExpandedElementsAreHeld, ExpansionRestores, ExpansionKeepsElements};
+ghost use Rattle.zarrs_array_bytes.specs.Laws.{HeldAreElements, UpdateThenSelect, PresentElementsAreHeld, ExpandedElementsAreHeld, ExpansionRestores, ExpansionKeepsElements, SubsetsAreViews, WrittenElementsStand, OtherElementsStay};
 
 /// What a container holds as elements of a type are elements of that type.
 pub fn held_are_elements()
@@ -19,4 +19,12 @@ pub fn present_elements_are_restored()
     ensures expanded { ExpandedElementsAreHeld }
     ensures restored { ExpansionRestores }
     ensures kept { ExpansionKeepsElements }
+{}
+
+/// After a write to the view of a subset, the new elements stand at its places, in order, and every
+/// other element of the array is the old one.
+pub fn views_write_their_places()
+    ensures subsets { SubsetsAreViews }
+    ensures written { WrittenElementsStand }
+    ensures others { OtherElementsStay }
 {}

@@ -4,6 +4,7 @@
 #![tactic(auto)]
 
 mod array_bytes;
+mod array_bytes_decode_into_target;
 mod array_bytes_fixed_view;
 mod array_bytes_offsets;
 mod array_bytes_raw;
@@ -21,6 +22,7 @@ mod validate;
 mod write;
 
 pub use array_bytes::ArrayBytes;
+pub use array_bytes_decode_into_target::ArrayBytesDecodeIntoTarget;
 pub use array_bytes_fixed_view::ArrayBytesFixedView;
 pub use array_bytes_offsets::ArrayBytesOffsets;
 pub use array_bytes_raw::ArrayBytesRaw;

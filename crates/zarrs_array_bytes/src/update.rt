@@ -196,7 +196,7 @@ fn write_mask<'b>(
 }
 
 impl<'a> ArrayBytes<'a> {
-    fn fixed_bytes(&self) -> &[u8]
+    pub(crate) fn fixed_bytes(&self) -> &[u8]
         requires kind { IsOk (fixed_part self.now) }
         ensures bytes { result.now ≡ bytes_in self.now }
     {
@@ -221,7 +221,7 @@ impl<'a> ArrayBytes<'a> {
         }
     }
 
-    fn optional_parts(&self) -> (&ArrayBytes<'a>, &[u8])
+    pub(crate) fn optional_parts(&self) -> (&ArrayBytes<'a>, &[u8])
         requires kind { IsOk (optional_part self.now) }
         ensures inner { result.0.now ≡ inner_in self.now }
         ensures bytes { result.1.now ≡ bytes_in self.now }

@@ -19,23 +19,27 @@ use zarrs_metadata::{
 /// Metadata, and what is written of its codec; or the first cause why there is none.
 type Row = (&'static str, Result<&'static str, PluginCreateError>);
 
-const ROWS: [Row; 18] = [
-    (
-        r#"{"name":"transpose","configuration":{"order":[1,0]}}"#,
-        Ok(r#"{"configuration":{"order":[1,0]},"name":"transpose"}"#),
-    ),
+const ORDER: &'static str = r#"{"name":"transpose","configuration":{"order":[1,0]}}"#;
+
+const ORDER_WRITTEN: &'static str = r#"{"configuration":{"order":[1,0]},"name":"transpose"}"#;
+
+const SIZES: &'static str = r#"{"name":"reshape","configuration":{"shape":[[0,1],-1,[3],10]}}"#;
+
+const SIZES_WRITTEN: &'static str =
+    r#"{"configuration":{"shape":[[0,1],-1,[3],10]},"name":"reshape"}"#;
+
+const SQUEEZE: &'static str = r#""zarrs.squeeze""#;
+
+const SQUEEZE_WRITTEN: &'static str = r#"{"configuration":{},"name":"zarrs.squeeze"}"#;
+
+const ROWS: &'static [Row] = &[
+    (ORDER, Ok(ORDER_WRITTEN)),
     (
         r#"{"name":"transpose","configuration":{"order":[],"x":"C"},"must_understand":false}"#,
         Ok(r#"{"configuration":{"order":[]},"name":"transpose"}"#),
     ),
-    (
-        r#"{"name":"reshape","configuration":{"shape":[[0,1],-1,[3],10]}}"#,
-        Ok(r#"{"configuration":{"shape":[[0,1],-1,[3],10]},"name":"reshape"}"#),
-    ),
-    (
-        r#""zarrs.squeeze""#,
-        Ok(r#"{"configuration":{},"name":"zarrs.squeeze"}"#),
-    ),
+    (SIZES, Ok(SIZES_WRITTEN)),
+    (SQUEEZE, Ok(SQUEEZE_WRITTEN)),
     (
         r#"{"name":"https://codec.zarrs.dev/array_to_array/squeeze","configuration":{"x":1}}"#,
         Ok(r#"{"configuration":{},"name":"zarrs.squeeze"}"#),
@@ -142,6 +146,14 @@ fn makes_each_by_its_name(rt: HostRuntime) -> Result<(), Fail> {
     Ok(())
 }
 
+/// A codec that is made by its own call.
+#[derive(Clone, Copy)]
+enum Maker {
+    Transpose,
+    Reshape,
+    Squeeze,
+}
+
 fn transpose_again(alloc: Global, text: &str) -> Result<String, PluginCreateError> {
     written(
         alloc,
@@ -160,40 +172,30 @@ fn squeeze_again(alloc: Global, text: &str) -> Result<String, PluginCreateError>
     written(alloc, &SqueezeCodec::create(&metadata(alloc, text)?)?)
 }
 
+fn made_again(alloc: Global, maker: &Maker, text: &str) -> Result<String, PluginCreateError> {
+    match maker {
+        Maker::Transpose => transpose_again(alloc, text),
+        Maker::Reshape => reshape_again(alloc, text),
+        Maker::Squeeze => squeeze_again(alloc, text),
+    }
+}
+
+/// Metadata of one's own name, and of another's.
+const NAMED: &'static [(Maker, &'static str, Result<&'static str, PluginCreateError>)] = &[
+    (Maker::Transpose, ORDER, Ok(ORDER_WRITTEN)),
+    (Maker::Reshape, SIZES, Ok(SIZES_WRITTEN)),
+    (Maker::Squeeze, SQUEEZE, Ok(SQUEEZE_WRITTEN)),
+    (Maker::Transpose, SIZES, Err(UnknownName)),
+    (Maker::Reshape, ORDER, Err(UnknownName)),
+    (Maker::Squeeze, ORDER, Err(UnknownName)),
+];
+
 #[test]
 fn knows_no_other_name(rt: HostRuntime) -> Result<(), Fail> {
-    let (order, shape) = (ROWS[0].0, ROWS[2].0);
-    answers(
-        &rt,
-        "transpose",
-        transpose_again(rt.alloc(), order),
-        ROWS[0].1,
-    )?;
-    answers(&rt, "reshape", reshape_again(rt.alloc(), shape), ROWS[2].1)?;
-    answers(
-        &rt,
-        "squeeze",
-        squeeze_again(rt.alloc(), ROWS[3].0),
-        ROWS[3].1,
-    )?;
-    answers(
-        &rt,
-        "shape",
-        transpose_again(rt.alloc(), shape),
-        Err(UnknownName),
-    )?;
-    answers(
-        &rt,
-        "order",
-        reshape_again(rt.alloc(), order),
-        Err(UnknownName),
-    )?;
-    answers(
-        &rt,
-        "order",
-        squeeze_again(rt.alloc(), order),
-        Err(UnknownName),
-    )
+    for (maker, text, wanted) in NAMED.iter() {
+        answers(&rt, text, made_again(rt.alloc(), maker, text), *wanted)?;
+    }
+    Ok(())
 }
 
 fn transpose_of(alloc: Global, text: &str) -> Result<String, PluginCreateError> {
@@ -220,15 +222,25 @@ fn squeeze_of(alloc: Global, text: &str) -> Result<String, PluginCreateError> {
     written(alloc, &SqueezeCodec::new_with_configuration(&fields)?)
 }
 
+fn made_of(alloc: Global, maker: &Maker, text: &str) -> Result<String, PluginCreateError> {
+    match maker {
+        Maker::Transpose => transpose_of(alloc, text),
+        Maker::Reshape => reshape_of(alloc, text),
+        Maker::Squeeze => squeeze_of(alloc, text),
+    }
+}
+
+/// What stands under a configuration's one key, and what is written of its codec.
+const CONFIGURED: &'static [(Maker, &'static str, Result<&'static str, PluginCreateError>)] = &[
+    (Maker::Transpose, "[1,0]", Ok(ORDER_WRITTEN)),
+    (Maker::Reshape, "[[0,1],-1,[3],10]", Ok(SIZES_WRITTEN)),
+    (Maker::Squeeze, "null", Ok(SQUEEZE_WRITTEN)),
+];
+
 #[test]
 fn makes_each_of_its_configuration(rt: HostRuntime) -> Result<(), Fail> {
-    answers(
-        &rt,
-        "transpose",
-        transpose_of(rt.alloc(), "[1,0]"),
-        ROWS[0].1,
-    )?;
-    let sizes = "[[0,1],-1,[3],10]";
-    answers(&rt, "reshape", reshape_of(rt.alloc(), sizes), ROWS[2].1)?;
-    answers(&rt, "squeeze", squeeze_of(rt.alloc(), "null"), ROWS[3].1)
+    for (maker, text, wanted) in CONFIGURED.iter() {
+        answers(&rt, text, made_of(rt.alloc(), maker, text), *wanted)?;
+    }
+    Ok(())
 }

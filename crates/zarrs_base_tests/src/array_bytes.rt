@@ -101,20 +101,28 @@ fn differs(
 fn differs_from_first(
     rt: &impl Abort,
     alloc: Global,
-    one: &Held<'static>,
+    one: &ArrayBytes<'static>,
     count: usize,
 ) -> Result<(), CodecError> {
-    let one = container(alloc, one)?;
     for (other, _) in SIZES.iter().take(count) {
-        differs(rt, alloc, &one, other)?;
+        differs(rt, alloc, one, other)?;
     }
     Ok(())
+}
+
+fn is_new(
+    rt: &impl Abort,
+    alloc: Global,
+    held: &Held<'static>,
+    count: usize,
+) -> Result<(), CodecError> {
+    differs_from_first(rt, alloc, &container(alloc, held)?, count)
 }
 
 #[test]
 fn differs_by_kind_and_parts(rt: HostRuntime) -> Result<(), Fail> {
     for (place, (one, _)) in SIZES.iter().enumerate() {
-        differs_from_first(&rt, rt.alloc(), one, place)?;
+        is_new(&rt, rt.alloc(), one, place)?;
     }
     Ok(())
 }
@@ -181,30 +189,23 @@ const VALID: &'static [Row] = &[
     (Masked(&[1, 0], &[5, 9]), Type::Nested(1), 2, KIND, KIND),
 ];
 
-fn fits(
+fn fits(rt: &impl Abort, array: &ArrayBytes<'static>, told: &DataType, row: &Row) {
+    is(rt, "elements", &array.validate(row.2, told), &row.3);
+    is(rt, "data", &array.validate_data(row.2, told), &row.4);
+}
+
+fn fits_type(
     rt: &impl Abort,
+    alloc: Global,
     array: &ArrayBytes<'static>,
-    told: &DataType,
-    count: u64,
-    answer: &Result<(), CodecError>,
-    as_data: &Result<(), CodecError>,
-) {
-    is(rt, "elements", &array.validate(count, told), answer);
-    is(rt, "data", &array.validate_data(count, told), as_data);
+    row: &Row,
+) -> Result<(), CodecError> {
+    fits(rt, array, &data_type(alloc, &row.1)?, row);
+    Ok(())
 }
 
 fn fits_row(rt: &impl Abort, alloc: Global, row: &Row) -> Result<(), CodecError> {
-    let (held, told, count, answer, as_data) = row;
-    let array = container(alloc, held)?;
-    fits(
-        rt,
-        &array,
-        &data_type(alloc, told)?,
-        *count,
-        answer,
-        as_data,
-    );
-    Ok(())
+    fits_type(rt, alloc, &container(alloc, &row.0)?, row)
 }
 
 #[test]

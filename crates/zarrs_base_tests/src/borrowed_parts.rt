@@ -3,6 +3,7 @@
 use crate::checks::{are, is, is_refused};
 use crate::containers::{Held, container};
 use Held::{Fixed, MaskedTexts, Texts};
+use std::alloc::Global;
 use std::process::Abort;
 use std::test::Fail;
 use zarrs_array_bytes::ArrayBytes;
@@ -44,29 +45,44 @@ fn lends_texts(
 }
 
 /// Under a mask, the texts.
-fn lends_inside(rt: &impl Abort, array: &ArrayBytes<'_>, mask: &[u8]) -> Result<(), CodecError> {
+fn lends_inside(
+    rt: &impl Abort,
+    array: &ArrayBytes<'_>,
+    mask: &[u8],
+    bytes: &[u8],
+    offsets: &[usize],
+) -> Result<(), CodecError> {
     let (inner, lent) = array.as_optional()?;
     are(rt, "mask", lent, mask);
-    lends_texts(rt, inner, b"xabc", &[1, 2, 4])?;
     lends_no_bytes(rt, array);
     lends_no_texts(rt, array);
+    lends_texts(rt, inner, bytes, offsets)
+}
+
+/// Containers that lend their parts, and no others.
+const LENT: &'static [Held<'static>] = &[
+    Fixed(&[1, 2]),
+    Texts(b"xabc", &[1, 2, 4]),
+    MaskedTexts(&[1, 0], b"xabc", &[1, 2, 4]),
+];
+
+fn lends(rt: &impl Abort, array: &ArrayBytes<'_>, held: &Held<'_>) -> Result<(), CodecError> {
+    match held {
+        Held::Fixed(bytes) => lends_bytes(rt, array, bytes),
+        Held::Texts(bytes, offsets) => lends_texts(rt, array, bytes, offsets),
+        Held::MaskedTexts(mask, bytes, offsets) => lends_inside(rt, array, mask, bytes, offsets),
+        _ => Err(CodecError::ArrayBytesKind),
+    }
+}
+
+fn lends_held(rt: &impl Abort, alloc: Global, held: &Held<'_>) -> Result<(), CodecError> {
+    lends(rt, &container(alloc, held)?, held)
+}
+
+#[test]
+fn lends_its_parts_alone(rt: HostRuntime) -> Result<(), Fail> {
+    for held in LENT.iter() {
+        lends_held(&rt, rt.alloc(), held)?;
+    }
     Ok(())
-}
-
-#[test]
-fn lends_its_bytes_alone(rt: HostRuntime) -> Result<(), Fail> {
-    let bytes = container(rt.alloc(), &Fixed(&[1, 2]))?;
-    Ok(lends_bytes(&rt, &bytes, &[1, 2])?)
-}
-
-#[test]
-fn lends_its_texts_alone(rt: HostRuntime) -> Result<(), Fail> {
-    let texts = container(rt.alloc(), &Texts(b"xabc", &[1, 2, 4]))?;
-    Ok(lends_texts(&rt, &texts, b"xabc", &[1, 2, 4])?)
-}
-
-#[test]
-fn lends_what_is_under_its_mask_alone(rt: HostRuntime) -> Result<(), Fail> {
-    let masked = container(rt.alloc(), &MaskedTexts(&[1, 0], b"xabc", &[1, 2, 4]))?;
-    Ok(lends_inside(&rt, &masked, &[1, 0])?)
 }

@@ -23,8 +23,12 @@ fn is_fixed(rt: &impl Abort, data_type: &DataType, size: usize, bits: u64, count
         num_components: count,
         sign_extension: sign,
     };
-    is(rt, "size", &data_type.fixed_size(), &Some(size));
     is(rt, "components", &data_type.components(), &Some(components));
+    has_size(rt, data_type, size);
+}
+
+fn has_size(rt: &impl Abort, data_type: &DataType, size: usize) {
+    is(rt, "size", &data_type.fixed_size(), &Some(size));
     is(rt, "optional", &data_type.is_optional(), &false);
     is(rt, "variable", &data_type.is_variable(), &false);
 }
@@ -118,10 +122,15 @@ fn is_round_optional_text(
     text: &DataType,
 ) -> Result<(), Fail> {
     has_none(rt, data_type, false);
-    is_type(rt, "copy", &data_type.clone()?, data_type);
+    is_copied(rt, data_type)?;
     is_not(rt, "levels", data_type, text);
     let inner = data_type.as_optional().ok_or("no inner type")?;
     is_type(rt, "inner", inner, text);
+    Ok(())
+}
+
+fn is_copied(rt: &impl Abort, data_type: &DataType) -> Result<(), CodecError> {
+    is_type(rt, "copy", &data_type.clone()?, data_type);
     Ok(())
 }
 

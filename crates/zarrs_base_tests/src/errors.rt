@@ -107,6 +107,16 @@ fn has_name(
 ) -> Result<(), Fail> {
     is(rt, name, &error.name(), &name);
     is(rt, name, &error.clone()?, &error);
+    says(rt, alloc, error, name, part)
+}
+
+fn says(
+    rt: &impl Abort,
+    alloc: Global,
+    error: CodecError,
+    name: &str,
+    part: &str,
+) -> Result<(), Fail> {
     let text = format!(in alloc; "{error}")?;
     names(rt, text.as_str(), name, part);
     Ok(())

@@ -33,11 +33,21 @@ fn fits(
     told: &Type,
     bytes: &[u8],
     wanted: bool,
-) -> Result<(), Fail> {
+) -> Result<(), CodecError> {
     let fill_value = of_bytes(alloc, bytes)?;
     are(rt, "bytes", fill_value.as_ne_bytes(), bytes);
-    is_copied(rt, &fill_value)?;
-    is_fitting(rt, &fill_value, &data_type(alloc, told)?, wanted);
+    fits_type(rt, alloc, &fill_value, told, wanted)
+}
+
+fn fits_type(
+    rt: &impl Abort,
+    alloc: Global,
+    fill_value: &FillValue,
+    told: &Type,
+    wanted: bool,
+) -> Result<(), CodecError> {
+    is_copied(rt, fill_value)?;
+    is_fitting(rt, fill_value, &data_type(alloc, told)?, wanted);
     Ok(())
 }
 
@@ -58,16 +68,22 @@ fn fits_a_type_or_not(rt: HostRuntime) -> Result<(), Fail> {
     Ok(())
 }
 
-fn is_present(rt: &impl Abort, null: FillValue) -> Result<(), CodecError> {
-    are(rt, "present", null.into_optional()?.as_ne_bytes(), &[0, 1]);
+fn is_null(rt: &impl Abort, alloc: Global) -> Result<(), CodecError> {
+    let null = FillValue::new_optional_null(alloc)?;
+    are(rt, "null", null.as_ne_bytes(), &[0]);
+    Ok(())
+}
+
+fn is_present(rt: &impl Abort, alloc: Global) -> Result<(), CodecError> {
+    let present = FillValue::new_optional_null(alloc)?.into_optional()?;
+    are(rt, "present", present.as_ne_bytes(), &[0, 1]);
     Ok(())
 }
 
 #[test]
 fn is_wrapped_level_by_level(rt: HostRuntime) -> Result<(), Fail> {
-    let null = FillValue::new_optional_null(rt.alloc())?;
-    are(&rt, "null", null.as_ne_bytes(), &[0]);
-    Ok(is_present(&rt, null)?)
+    is_null(&rt, rt.alloc())?;
+    Ok(is_present(&rt, rt.alloc())?)
 }
 
 fn of_bytes(alloc: Global, bytes: &[u8]) -> Result<FillValue, AllocError> {

@@ -6,11 +6,15 @@ use std::process::Abort;
 use std::test::Fail;
 use zarrs_array_bytes::{ArrayBytes, append_copies};
 use zarrs_chunk::CodecError;
-use zarrs_data_type::FillValue;
+use zarrs_data_type::{DataType, FillValue};
 
 fn filled(alloc: Global, told: &Type, count: u64, fill: &[u8]) -> Elements {
+    filled_of(alloc, &data_type(alloc, told)?, count, fill)
+}
+
+fn filled_of(alloc: Global, told: &DataType, count: u64, fill: &[u8]) -> Elements {
     let fill_value = FillValue::new(fill.to_vec(alloc)?);
-    ArrayBytes::new_fill_value(alloc, &data_type(alloc, told)?, count, &fill_value)
+    ArrayBytes::new_fill_value(alloc, told, count, &fill_value)
 }
 
 /// A type, how many elements, a fill value that is refused, and why.

@@ -319,20 +319,28 @@ fn differs(
 fn differs_from_first(
     rt: &impl Abort,
     alloc: Global,
-    one: &Asked<'_>,
+    one: &Indexer,
     count: usize,
 ) -> Result<(), CodecError> {
-    let one = indexer(alloc, one)?;
     for other in UNLIKE.iter().take(count) {
-        differs(rt, alloc, &one, other)?;
+        differs(rt, alloc, one, other)?;
     }
     Ok(())
+}
+
+fn is_new(
+    rt: &impl Abort,
+    alloc: Global,
+    asked: &Asked<'_>,
+    count: usize,
+) -> Result<(), CodecError> {
+    differs_from_first(rt, alloc, &indexer(alloc, asked)?, count)
 }
 
 #[test]
 fn differs_by_kind_and_content(rt: HostRuntime) -> Result<(), Fail> {
     for (place, one) in UNLIKE.iter().enumerate() {
-        differs_from_first(&rt, rt.alloc(), one, place)?;
+        is_new(&rt, rt.alloc(), one, place)?;
     }
     Ok(())
 }

@@ -9,6 +9,7 @@ use std::process::Abort;
 use std::test::Fail;
 use zarrs_array_bytes::{ArrayBytes, ArrayBytesOffsets, count_present};
 use zarrs_chunk::CodecError;
+use zarrs_data_type::DataType;
 
 /// The type inside, a mask, the elements under it, those that are present, and what stands under the
 /// mask where they are put back.
@@ -128,13 +129,20 @@ const ROWS: &'static [Row] = &[
 ];
 
 fn taken_out(alloc: Global, told: &Type, held: &Held<'_>, mask: &[u8]) -> Elements {
-    container(alloc, held)?.extract_present(alloc, mask, &data_type(alloc, told)?)
+    taken_out_of(alloc, &data_type(alloc, told)?, held, mask)
+}
+
+fn taken_out_of(alloc: Global, told: &DataType, held: &Held<'_>, mask: &[u8]) -> Elements {
+    container(alloc, held)?.extract_present(alloc, mask, told)
 }
 
 fn put_back(alloc: Global, told: &Type, held: &Held<'_>, mask: &[u8]) -> Elements {
-    let told = data_type(alloc, told)?;
+    put_back_of(alloc, &data_type(alloc, told)?, held, mask)
+}
+
+fn put_back_of(alloc: Global, told: &DataType, held: &Held<'_>, mask: &[u8]) -> Elements {
     let held = container(alloc, held)?;
-    held.expand_present(alloc, raw(alloc, mask)?, &told)
+    held.expand_present(alloc, raw(alloc, mask)?, told)
 }
 
 /// The elements of a row where they are put back, under its mask.
@@ -192,22 +200,38 @@ fn borrowed(alloc: Global, held: &Held<'static>) -> Elements {
     }
 }
 
-fn takes_out_borrowed(rt: &impl Abort, alloc: Global, row: &Row) -> Result<(), CodecError> {
-    let (told, mask, whole, present, _) = row;
-    let answer = borrowed(alloc, whole)?.extract_present(alloc, mask, &data_type(alloc, told)?);
-    holds(rt, alloc, "taken out", answer, present)
+fn taken_out_borrowed(alloc: Global, told: &DataType, row: &Row) -> Elements {
+    let (_, mask, whole, _, _) = row;
+    borrowed(alloc, whole)?.extract_present(alloc, mask, told)
 }
 
-fn put_back_borrowed(alloc: Global, row: &Row) -> Elements {
-    let (told, mask, _, present, _) = row;
-    let told = data_type(alloc, told)?;
-    let mask = CowSlice::Borrowed(*mask);
-    borrowed(alloc, present)?.expand_present(alloc, mask, &told)
+fn put_back_borrowed(alloc: Global, told: &DataType, row: &Row) -> Elements {
+    let (_, mask, _, present, _) = row;
+    borrowed(alloc, present)?.expand_present(alloc, CowSlice::Borrowed(*mask), told)
+}
+
+fn takes_out_borrowed(
+    rt: &impl Abort,
+    alloc: Global,
+    told: &DataType,
+    row: &Row,
+) -> Result<(), CodecError> {
+    let answer = taken_out_borrowed(alloc, told, row);
+    holds(rt, alloc, "taken out", answer, &row.3)
+}
+
+fn restores_of(
+    rt: &impl Abort,
+    alloc: Global,
+    told: &DataType,
+    row: &Row,
+) -> Result<(), CodecError> {
+    takes_out_borrowed(rt, alloc, told, row)?;
+    restores_all(rt, alloc, &put_back_borrowed(alloc, told, row)?, row)
 }
 
 fn restores_borrowed(rt: &impl Abort, alloc: Global, row: &Row) -> Result<(), CodecError> {
-    takes_out_borrowed(rt, alloc, row)?;
-    restores_all(rt, alloc, &put_back_borrowed(alloc, row)?, row)
+    restores_of(rt, alloc, &data_type(alloc, &row.0)?, row)
 }
 
 #[test]

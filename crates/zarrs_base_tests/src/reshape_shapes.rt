@@ -56,9 +56,22 @@ fn shape(alloc: Global, told: &[Told]) -> Result<ReshapeShape, PluginCreateError
 }
 
 fn has_dims(rt: &impl Abort, alloc: Global, told: &[Told]) -> Result<(), PluginCreateError> {
-    let shape = shape(alloc, told)?;
-    is(rt, "copy", &shape.clone()?, &shape);
+    has_all(rt, alloc, &shape(alloc, told)?, told)
+}
+
+fn has_all(
+    rt: &impl Abort,
+    alloc: Global,
+    shape: &ReshapeShape,
+    told: &[Told],
+) -> Result<(), PluginCreateError> {
+    is_copied(rt, shape)?;
     are_dims(rt, alloc, shape.as_slice(), told)
+}
+
+fn is_copied(rt: &impl Abort, shape: &ReshapeShape) -> Result<(), PluginCreateError> {
+    is(rt, "copy", &shape.clone()?, shape);
+    Ok(())
 }
 
 fn are_dims(
@@ -112,20 +125,28 @@ fn differs(
 fn differs_from_first(
     rt: &impl Abort,
     alloc: Global,
-    one: &[Told],
+    one: &ReshapeShape,
     count: usize,
 ) -> Result<(), PluginCreateError> {
-    let one = shape(alloc, one)?;
     for other in SHAPES.iter().take(count) {
-        differs(rt, alloc, &one, other)?;
+        differs(rt, alloc, one, other)?;
     }
     Ok(())
+}
+
+fn is_new(
+    rt: &impl Abort,
+    alloc: Global,
+    told: &[Told],
+    count: usize,
+) -> Result<(), PluginCreateError> {
+    differs_from_first(rt, alloc, &shape(alloc, told)?, count)
 }
 
 #[test]
 fn differs_by_its_sizes(rt: HostRuntime) -> Result<(), Fail> {
     for (place, one) in SHAPES.iter().enumerate() {
-        differs_from_first(&rt, rt.alloc(), one, place)?;
+        is_new(&rt, rt.alloc(), one, place)?;
     }
     Ok(())
 }
@@ -168,20 +189,28 @@ fn is_another(
 fn is_none_of_first(
     rt: &impl Abort,
     alloc: Global,
-    one: &Told,
+    one: &ReshapeDim,
     count: usize,
 ) -> Result<(), PluginCreateError> {
-    let one = dim(alloc, one)?;
     for other in DIMS.iter().take(count) {
-        is_another(rt, alloc, &one, other)?;
+        is_another(rt, alloc, one, other)?;
     }
     Ok(())
+}
+
+fn is_new_size(
+    rt: &impl Abort,
+    alloc: Global,
+    told: &Told,
+    count: usize,
+) -> Result<(), PluginCreateError> {
+    is_none_of_first(rt, alloc, &dim(alloc, told)?, count)
 }
 
 #[test]
 fn sizes_differ_by_kind_and_content(rt: HostRuntime) -> Result<(), Fail> {
     for (place, one) in DIMS.iter().enumerate() {
-        is_none_of_first(&rt, rt.alloc(), one, place)?;
+        is_new_size(&rt, rt.alloc(), one, place)?;
     }
     Ok(())
 }

@@ -14,3 +14,4 @@ pub mod PartReads
 pub mod PartWrites
 pub mod Spelled
 pub mod Taken
+pub mod Counted

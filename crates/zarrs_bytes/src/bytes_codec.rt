@@ -35,9 +35,9 @@ impl Model for BytesCodec {
 
 /// How many elements a chunk has, and how many bytes its value.
 #[derive(Clone, Copy)]
-struct ChunkLengths {
-    elements: u64,
-    bytes: u64,
+pub(crate) struct ChunkLengths {
+    pub(crate) elements: u64,
+    pub(crate) bytes: u64,
 }
 
 impl BytesCodec {
@@ -89,7 +89,7 @@ impl BytesCodec {
     }
 
     /// How long a chunk of this form is. Refusals are those of `encoded_representation`.
-    fn lengths(
+    pub(crate) fn lengths(
         &self,
         shape: &ChunkShape,
         data_type: &DataType,

@@ -5,6 +5,7 @@
 //! in part, over a storage handle.
 #![tactic(auto)]
 
+mod array_to_bytes;
 mod batches;
 mod byte_order;
 mod bytes_codec;

@@ -1,5 +1,7 @@
 pub mod LineLemmas
 pub mod JsonLemmas
 pub mod RunLemmas
-pub mod ElementLemmas
+pub mod TypeLemmas
+pub mod ContainerLemmas
+pub mod ShownLemmas
 pub mod ReadLemmas

@@ -1,21 +1,23 @@
 -- Elements that a codec answers, shown.
 use Rattle.std.proofs.Common.{◌≡◌, ℕ, Bool, true, false, ◌||◌, List, Option, Result, Ok, Err, IsOkAnd, refl, sym, arith, subst}
 use Rattle.serde_json.specs.Data.{Data}
-use Rattle.zarrs_chunk.specs.Answer.{Answers, AnswersBy, Excused, memory, fault, memory_or_fault, is_fault, seen, ◌>>=◌}
+use Rattle.zarrs_chunk.specs.Answer.{Answers, AnswersBy, Excused, memory, fault, memory_or_fault, is_fault, ◌>>=◌}
 use Rattle.zarrs_chunk.specs.Selection.{Selection}
 use Rattle.zarrs_chunk.specs.declared.codec_error.CodecError.{CodecError}
 use Rattle.zarrs_data_type.specs.Element.{Chunk}
 use Rattle.zarrs_data_type.specs.ElementType.{ElementType}
 use Rattle.zarrs_array_bytes.specs.Held.{Held}
 use Rattle.zarrs_array_bytes.specs.Validity.{Holds}
-use Rattle.zarrs_bytes.specs.BytesCodec.{bytes_length}
-use Rattle.zarrs_bytes.specs.BytesCodecPartial.{BytesForm}
+use Rattle.zarrs_codec.specs.SampleBytesCodec.{sample_codecs}
 use Rattle.zarrs_codec.specs.StorageState.{count_if}
-use Rattle.zarrs_bytes.specs.PartialRead.{bytes_read}
+use Rattle.zarrs_codec.specs.declared.sample_bytes_codec.SampleBytesCodec.{SampleBytesCodec}
+use Rattle.zarrs_codec_chain.specs.ChunkRead.{ChunkForm, stored_read}
+use Rattle.zarrs_codec_chain.specs.ChunkSource.{Source, source_made}
 use Rattle.zarrs_chain_lines.specs.declared.refusal.Refusal.{Refusal}
-use Rattle.zarrs_chain_lines.specs.Commands.{State, bytes_part, part_of, read_answer}
+use Rattle.zarrs_chain_lines.specs.Commands.{State, sample_reads, chunk_part, part_of, read_answer}
 use Rattle.zarrs_chain_lines.specs.Elements.{chunk_tree}
 use Rattle.zarrs_chain_lines.specs.Json.{ok_line, tree_of}
+use Rattle.zarrs_chain_lines.specs.Shown.{HoldsSome}
 use Rattle.zarrs_chain_lines.specs.Indexer.{selection_in}
 use Rattle.zarrs_chain_lines.specs.Refusal.{codec_answer, wants_memory}
 
@@ -35,22 +37,37 @@ without_faults : (type : ElementType) (r : Result Held CodecError) (expected : R
 without_faults type (Ok held) expected quiet h = h
 without_faults type (Err e) expected quiet h = excused_less (memory e) (fault e) (expected ≡ Err e) quiet h
 
-passes : {A B : Type 0} (r : Result A CodecError) (x : Result B CodecError) → seen (λ _. tt {0}) r ≡ Ok tt → (r >>= λ _. x) ≡ x
-passes (Ok a) x h = refl
-passes (Err e) x h = absurd (cc)
+passes : {A B : Type 0} (r : Result A CodecError) (a : A) (x : Result B CodecError) → r ≡ Ok a → (r >>= λ _. x) ≡ x
+passes (Ok b) a x h = refl
+passes (Err e) a x h = absurd (cc)
 
 -- what a decoder of such chunks answers
-pub part_read : (chunk form : BytesForm) (stored value : Option (List ℕ)) (selection : Selection) (r : Result Held CodecError) → form ≡ chunk → value ≡ stored → seen (λ _. tt {0}) (bytes_length chunk.order chunk.sizes chunk.type chunk.fill) ≡ Ok tt
-    → is_fault r ≡ false → AnswersBy memory_or_fault (Holds form.type) r (bytes_read form.order form.sizes form.type form.fill value selection) → AnswersBy memory (Holds chunk.type) r (bytes_part chunk.order chunk.sizes chunk.type chunk.fill stored selection)
-part_read chunk form stored value selection r same_form same_value made quiet h =
-    let of_chunk : AnswersBy memory_or_fault (Holds chunk.type) r (bytes_read chunk.order chunk.sizes chunk.type chunk.fill stored selection) =
-    subst (λ (v : Option (List ℕ)). AnswersBy memory_or_fault (Holds chunk.type) r (bytes_read chunk.order chunk.sizes chunk.type chunk.fill v selection)) same_value
-    (subst (λ (f : BytesForm). AnswersBy memory_or_fault (Holds f.type) r (bytes_read f.order f.sizes f.type f.fill value selection)) same_form h) in
+pub part_read : (chunk form : ChunkForm SampleBytesCodec) (stored value : Option (List ℕ)) (selection : Selection) (r : Result Held CodecError) (source : Source) → form ≡ chunk → value ≡ stored → source_made sample_codecs sample_reads chunk stored ≡ Ok source
+    → is_fault r ≡ false → AnswersBy memory_or_fault (Holds form.type) r (stored_read sample_codecs form value selection) → AnswersBy memory (Holds chunk.type) r (chunk_part chunk stored selection)
+part_read chunk form stored value selection r source same_form same_value made quiet h =
+    let of_chunk : AnswersBy memory_or_fault (Holds chunk.type) r (stored_read sample_codecs chunk stored selection) =
+    subst (λ (v : Option (List ℕ)). AnswersBy memory_or_fault (Holds chunk.type) r (stored_read sample_codecs chunk v selection)) same_value
+    (subst (λ (f : ChunkForm SampleBytesCodec). AnswersBy memory_or_fault (Holds f.type) r (stored_read sample_codecs f value selection)) same_form h) in
     subst (λ (y : Result Chunk CodecError). AnswersBy memory (Holds chunk.type) r y)
-    (sym (passes (bytes_length chunk.order chunk.sizes chunk.type chunk.fill) (bytes_read chunk.order chunk.sizes chunk.type chunk.fill stored selection) made))
-    (without_faults chunk.type r (bytes_read chunk.order chunk.sizes chunk.type chunk.fill stored selection) quiet of_chunk)
+    (sym (passes (source_made sample_codecs sample_reads chunk stored) source (stored_read sample_codecs chunk stored selection) made))
+    (without_faults chunk.type r (stored_read sample_codecs chunk stored selection) quiet of_chunk)
+
+stops : {A B : Type 0} (r : Result A CodecError) (x : Result B CodecError) (e : CodecError) → r ≡ Err e → (r >>= λ _. x) ≡ Err e
+stops (Ok a) x e h = absurd (cc)
+stops (Err f) x e h = cc
+
+-- where no decoder is made
+pub part_refused : (chunk : ChunkForm SampleBytesCodec) (stored : Option (List ℕ)) (selection : Selection) (e : CodecError) → fault e ≡ false
+    → Excused (memory_or_fault e) (source_made sample_codecs sample_reads chunk stored ≡ Err e) → Excused (memory e) (chunk_part chunk stored selection ≡ Err e)
+part_refused chunk stored selection e quiet h = λ wants.
+    stops (source_made sample_codecs sample_reads chunk stored) (stored_read sample_codecs chunk stored selection) e (excused_less (memory e) (fault e) (source_made sample_codecs sample_reads chunk stored ≡ Err e) quiet h wants)
 
 -- ---- elements shown
+
+-- what is answered of a chunk is held
+pub held_some : (type own : ElementType) (held : Held) (expected : Result Chunk CodecError) → own ≡ type → IsOkAnd expected (Holds type held) → HoldsSome own held
+held_some type own held (Ok chunk) same h = (chunk, subst (λ (t : ElementType). Holds t held chunk) (sym same) h)
+held_some type own held (Err e) same h = absurd h
 
 shown_by : {T : Type 0} (items : T → List ℕ) (r : Result T Refusal) (line : List ℕ) (state : State) → Answers wants_memory items r (Ok line) → Answers {V = List ℕ × State} wants_memory (λ x. (items x, state)) r (Ok (line, state))
 shown_by items (Ok x) line state h = cc

@@ -3,8 +3,9 @@ use Rattle.std.proofs.Common.{◌≡◌, ◌∙◌, ℕ, List, [], ◌∷◌, �
 use Rattle.std.specs.Io.KnownBytes.{Appends, Keeps}
 use Rattle.zarrs_chunk.specs.Answer.{Excused, seen}
 use Rattle.zarrs_chunk.specs.declared.codec_error.CodecError.TheVariants.{OutOfMemory}
+use Rattle.zarrs_metadata.specs.declared.plugin_create_error.PluginCreateError.TheVariants.{OutOfMemory as NoMemory}
 use Rattle.zarrs_chain_lines.specs.declared.refusal.Refusal.{Refusal}
-use Rattle.zarrs_chain_lines.specs.declared.refusal.Refusal.TheVariants.{Codec}
+use Rattle.zarrs_chain_lines.specs.declared.refusal.Refusal.TheVariants.{Making, Codec}
 use Rattle.zarrs_chain_lines.specs.Refusal.{wants_memory, error_line}
 use Rattle.zarrs_chain_lines.specs.Lines.{filled_lines}
 use Rattle.zarrs_chain_lines.specs.Header.{Header, line_header}
@@ -91,6 +92,7 @@ reply-given now next line reply h = inl (sym (ap (reply_of now) h))
 
 -- want of memory is shown by its name
 error_line-memory : (refusal : Refusal) → wants_memory refusal ≡ true → error_line refusal ≡ out_of_memory
+error_line-memory (Making NoMemory) h = refl
 error_line-memory (Codec OutOfMemory) h = refl
 error_line-memory _ h = absurd (cc)
 

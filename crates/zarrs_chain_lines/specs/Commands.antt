@@ -1,24 +1,24 @@
 -- What each command answers, and what is stored afterwards.
-use Rattle.std.specs.Prelude.{◌==◌, ◌+◌, ℕ, List, take, drop, position, Option, Some, None, ok_or, Result, Ok, Err, codes, if◌then◌else◌}
+use Rattle.std.specs.Prelude.{false, ◌==◌, ◌+◌, ℕ, List, take, drop, position, Option, Some, None, ok_or, Result, Ok, Err, codes, if◌then◌else◌}
 use Rattle.std.specs.Str.{bytes_eq}
 use Rattle.zarrs_chunk.specs.Answer.{◌>>=◌}
 use Rattle.zarrs_chunk.specs.Selection.{Selection}
 use Rattle.zarrs_chunk.specs.declared.codec_error.CodecError.{CodecError}
 use Rattle.zarrs_data_type.specs.Element.{Chunk}
-use Rattle.zarrs_data_type.specs.ElementType.{ElementType}
-use Rattle.zarrs_data_type.specs.declared.endianness.Endianness.{Endianness}
 use Rattle.zarrs_codec.specs.SampleBytesCodec.{sample_codecs}
-use Rattle.zarrs_bytes.specs.BytesCodec.{bytes_length}
-use Rattle.zarrs_bytes.specs.PartialRead.{bytes_read}
+use Rattle.zarrs_codec.specs.declared.capabilities.PartialDecoderCapability.{PartialDecoderCapability}
+use Rattle.zarrs_codec.specs.declared.sample_bytes_codec.SampleBytesCodec.{SampleBytesCodec}
 use Rattle.zarrs_codec_chain.specs.Chain.{held_value}
+use Rattle.zarrs_codec_chain.specs.ChunkRead.{ChunkForm, stored_read}
+use Rattle.zarrs_codec_chain.specs.ChunkSource.{source_made}
 use Rattle.zarrs_codec_chain.specs.Decode.{chain_chunk}
 use Rattle.zarrs_chain_lines.specs.declared.refusal.Refusal.{Refusal}
 use Rattle.zarrs_chain_lines.specs.declared.refusal.Refusal.TheVariants.{Syntax}
 use Rattle.zarrs_chain_lines.specs.Refusal.{codec_answer}
 use Rattle.zarrs_chain_lines.specs.Json.{tree_of, hex_of, hex_tree, ok_line}
-use Rattle.zarrs_chain_lines.specs.Elements.{elements_of, container_of, chunk_tree}
+use Rattle.zarrs_chain_lines.specs.Elements.{elements_of, chunk_tree}
+use Rattle.zarrs_chain_lines.specs.Containers.{container_of}
 use Rattle.zarrs_chain_lines.specs.Indexer.{selection_in}
-use Rattle.zarrs_chain_lines.specs.Codec.{order_in}
 use Rattle.zarrs_chain_lines.specs.Header.{Header}
 
 -- what a session keeps: the header that opened it, and the stored value
@@ -50,7 +50,7 @@ abbrev pub encode_answer : State → List ℕ → LineAnswer
 encode_answer state text = do
   tree ← tree_of text
   chunk ← elements_of state.header.data_type tree
-  value ← codec_answer (held_value sample_codecs state.header.chain state.header.sizes state.header.data_type state.header.fill (container_of chunk))
+  value ← codec_answer (held_value sample_codecs state.header.chain state.header.sizes state.header.data_type state.header.fill (container_of state.header.data_type chunk))
   Ok (ok_line (hex_tree value), state)
 
 -- load "HEX": these bytes are stored
@@ -70,16 +70,24 @@ chunk_answer state value = do
 abbrev pub decode_answer : State → LineAnswer
 decode_answer state = stored_answer chunk_answer state state.value
 
--- the elements that an indexer means, by a decoder of `bytes` that is made for it: what refuses the decoder comes first
-abbrev pub bytes_part : Option Endianness → List ℕ → ElementType → List ℕ → Option (List ℕ) → Selection → Result Chunk CodecError
-bytes_part order sizes type fill value selection = do
-  _ ← bytes_length order sizes type fill
-  bytes_read order sizes type fill value selection
+-- the sample codecs read nothing in part
+abbrev pub sample_reads : SampleBytesCodec → PartialDecoderCapability
+sample_reads codec = record { partial_read = false; partial_decode = false }
 
--- the same of a header's chunk, whose chain is `bytes` alone
+-- the chunk that a header speaks of
+abbrev pub form_of : Header → ChunkForm SampleBytesCodec
+form_of header =
+    record { chain = header.chain; sizes = header.sizes; type = header.data_type; fill = header.fill }
+
+-- the elements that an indexer means of a stored value, by a decoder that is made for it: what refuses the making comes first
+abbrev pub chunk_part : ChunkForm SampleBytesCodec → Option (List ℕ) → Selection → Result Chunk CodecError
+chunk_part form value selection = do
+  _ ← source_made sample_codecs sample_reads form value
+  stored_read sample_codecs form value selection
+
+-- the same of a header's chunk
 abbrev pub part_of : Header → Option (List ℕ) → Selection → Result Chunk CodecError
-part_of header value selection =
-    bytes_part (order_in header.chain.codec) header.sizes header.data_type header.fill value selection
+part_of header value selection = chunk_part (form_of header) value selection
 
 -- read INDEXER: the elements that it means
 abbrev pub read_answer : State → List ℕ → LineAnswer
@@ -88,6 +96,10 @@ read_answer state text = do
   selection ← selection_in tree
   chunk ← codec_answer (part_of state.header state.value selection)
   Ok (ok_line (chunk_tree chunk), state)
+
+-- erase: nothing is stored from here on
+abbrev pub erase_answer : State → LineAnswer
+erase_answer state = Ok (codes "ok", record { header = state.header; value = None })
 
 -- a value in hex
 abbrev pub hex_answer : State → List ℕ → LineAnswer
@@ -105,13 +117,17 @@ pub data Command : Type 0 where
   load : List ℕ → Command
   read_part : List ℕ → Command
   decode : Command
+  erase : Command
   value : Command
   unknown : Command
 
 -- the command of this word, with the argument behind it where there is one
 abbrev pub command_named : List ℕ → Option (List ℕ) → Command
 command_named word None =
-    if bytes_eq word (codes "decode") then decode else if bytes_eq word (codes "value") then value else unknown
+    if bytes_eq word (codes "decode") then decode
+    else if bytes_eq word (codes "erase") then erase
+    else if bytes_eq word (codes "value") then value
+    else unknown
 command_named word (Some argument) =
     if bytes_eq word (codes "encode") then encode argument
     else if bytes_eq word (codes "load") then load argument
@@ -133,6 +149,7 @@ command_answer state (encode text) = encode_answer state text
 command_answer state (load text) = load_answer state text
 command_answer state (read_part text) = read_answer state text
 command_answer state decode = decode_answer state
+command_answer state erase = erase_answer state
 command_answer state value = value_answer state
 command_answer state unknown = Err Syntax
 

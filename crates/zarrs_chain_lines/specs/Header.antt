@@ -11,10 +11,10 @@ use Rattle.zarrs_codec_chain.specs.PlainChain.{PlainChain}
 use Rattle.zarrs_codec_chain.specs.Representation.{chain_representation}
 use Rattle.zarrs_chain_lines.specs.declared.refusal.Refusal.{Refusal}
 use Rattle.zarrs_chain_lines.specs.declared.refusal.Refusal.TheVariants.{Syntax}
-use Rattle.zarrs_chain_lines.specs.Refusal.{codec_answer}
+use Rattle.zarrs_chain_lines.specs.Refusal.{codec_answer, making_answer}
 use Rattle.zarrs_chain_lines.specs.Json.{tree_of, number_list, hex_of}
 use Rattle.zarrs_chain_lines.specs.DataType.{type_in}
-use Rattle.zarrs_chain_lines.specs.Codec.{chain_in}
+use Rattle.zarrs_chain_lines.specs.Codecs.{chain_in}
 
 -- a chunk's shape, type and fill value, and the chain that it is encoded by
 pub record Header : Type 0 where
@@ -32,7 +32,7 @@ shape_at (Some tree) = do
   sizes ← number_list tree
   ok_or (shape_of sizes) Syntax
 
--- a type of a fixed size
+-- the type of the elements
 abbrev pub data_type_at : Option Data → Result ElementType Refusal
 data_type_at None = Err Syntax
 data_type_at (Some tree) = type_in tree
@@ -45,7 +45,7 @@ fill_value_at tree = ok_or (option_and_then hex_of tree) Syntax
 abbrev pub codecs_at : Option Data → Result (PlainChain SampleBytesCodec) Refusal
 codecs_at tree = do
   codecs ← ok_or (option_and_then as_array tree) Syntax
-  chain_in codecs
+  making_answer (chain_in codecs)
 
 -- ---- the header
 

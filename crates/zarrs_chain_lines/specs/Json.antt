@@ -47,6 +47,12 @@ only_member key no_members = None
 only_member key (member name tree no_members) = get_member key (member name tree no_members)
 only_member key (member name tree (member other more rest)) = None
 
+-- the only tree of a list
+abbrev pub lone_item : Items → Option Data
+lone_item no_items = None
+lone_item (item tree no_items) = Some tree
+lone_item (item tree (item other items)) = None
+
 -- the answer that shows a tree: compact JSON
 abbrev pub ok_line : Data → List ℕ
 ok_line tree = codes "ok " ++ compact_text tree

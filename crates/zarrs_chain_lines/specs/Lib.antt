@@ -1,9 +1,12 @@
 pub mod Refusal
 pub mod Json
 pub mod Elements
+pub mod Containers
+pub mod Element
+pub mod Shown
 pub mod Indexer
 pub mod DataType
-pub mod Codec
+pub mod Codecs
 pub mod Header
 pub mod Commands
 pub mod Lines

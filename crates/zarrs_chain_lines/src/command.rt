@@ -10,6 +10,7 @@ pub enum Command<'a> {
     Load(&'a [u8]),
     Read(&'a [u8]),
     Decode,
+    Erase,
     Value,
     Unknown,
 }
@@ -33,6 +34,8 @@ fn alone(word: &[u8]) -> Command<'static>
 {
     if word == b"decode".as_slice() {
         Command::Decode
+    } else if word == b"erase".as_slice() {
+        Command::Erase
     } else if word == b"value".as_slice() {
         Command::Value
     } else {

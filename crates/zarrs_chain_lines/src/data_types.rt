@@ -1,15 +1,17 @@
 //! Data types read from JSON.
-ghost use Rattle.std.specs.Prelude.{◌≡◌, option_and_then, ok_or, true, IfOk, is_some, codes};
+ghost use Rattle.std.specs.Prelude.{◌≡◌, Result, option_and_then, ok_or, codes};
 ghost use Rattle.serde_json.specs.Find.{as_object};
 ghost use Rattle.serde_json.specs.View.{view, members_view};
-ghost use Rattle.zarrs_chunk.specs.Answer.{seen};
-ghost use Rattle.zarrs_data_type.specs.ElementType.{fixed_size_of};
+ghost use Rattle.zarrs_chunk.specs.Answer.{Answers, seen};
+ghost use Rattle.zarrs_data_type.specs.ElementType.{ElementType, optional as optional_of};
 ghost use Rattle.zarrs_chain_lines.specs.Json.{only_member as only_member_of};
-ghost use Rattle.zarrs_chain_lines.specs.DataType.{type_named, number_at, truth_at, components_in, type_in};
+ghost use Rattle.zarrs_chain_lines.specs.Refusal.{wants_memory};
+ghost use Rattle.zarrs_chain_lines.specs.DataType.{type_named, number_at, truth_at, components_in, components_among, type_in};
 
 use crate::json::{Members, member, only_member};
 use crate::refusal::Refusal;
 use serde_json::Value;
+use std::alloc::Global;
 use zarrs_data_type::DataType;
 
 fn type_by_name(name: &str) -> Option<DataType>
@@ -29,6 +31,8 @@ fn type_by_name(name: &str) -> Option<DataType>
         "uint16" => Some(DataType::uint16()),
         "uint32" => Some(DataType::uint32()),
         "uint64" => Some(DataType::uint64()),
+        "string" => Some(DataType::string()),
+        "bytes" => Some(DataType::bytes()),
         _ => None,
     }
 }
@@ -75,18 +79,34 @@ fn components_of(members: &Members) -> Result<&Members, Refusal>
     }
 }
 
-/// The type that a tree names: one with a fixed size. Refusals: `Syntax` where the tree names none;
-/// `BitRange` or `Overflow` of components that are none.
-pub fn data_type(tree: &Value) -> Result<DataType, Refusal>
-    ensures answer { result ≡ type_in (view tree.now) }
-    ensures fixed { IfOk result (λ data_type. is_some (fixed_size_of data_type) ≡ true) }
+fn several(members: &Members) -> Result<DataType, Refusal>
+    ensures { Answers wants_memory (λ data_type. data_type) result (components_among (members_view members.now.entries)) }
+{
+    components(components_of(members)?)
+}
+
+/// The type of elements that may be absent, by what was read of the type inside.
+fn optional(alloc: Global, inner: Result<DataType, Refusal>) -> Result<DataType, Refusal>
+    ensures { (expected : Result ElementType Refusal) → Answers wants_memory (λ data_type. data_type) inner expected
+        → Answers wants_memory (λ data_type. data_type) result (seen optional_of expected) }
+{
+    match inner {
+        Ok(inner) => Ok(DataType::optional(alloc, inner)?),
+        Err(refusal) => Err(refusal),
+    }
+}
+
+/// The type that a tree names. Refusals: `Syntax` where the tree names none; `BitRange` or `Overflow`
+/// of components that are none; `OutOfMemory`.
+pub fn data_type(alloc: Global, tree: &Value) -> Result<DataType, Refusal>
+    ensures answer { Answers wants_memory (λ data_type. data_type) result (type_in (view tree.now)) }
 {
     match tree {
         Value::String(name) => type_by_name(name.as_str()).ok_or(Refusal::Syntax),
-        Value::Object(members) => {
-            let inner = components_of(members)?;
-            components(inner)
-        }
+        Value::Object(members) => match only_member(members, "optional") {
+            Some(inner) => optional(alloc, data_type(alloc, inner)),
+            None => several(members),
+        },
         _ => Err(Refusal::Syntax),
     }
 }

@@ -5,7 +5,7 @@ ghost use Rattle.serde_json.specs.View.{view, items_view, members_view};
 ghost use Rattle.serde_json.specs.Find.{as_number, as_object, as_u64, get_member};
 ghost use Rattle.zarrs_chunk.specs.Answer.{Answers, seen};
 ghost use Rattle.zarrs_chain_lines.specs.Refusal.{wants_memory};
-ghost use Rattle.zarrs_chain_lines.specs.Json.{tree_of, number_list, numbers_in, hex_of, only_member as only_member_of, ok_line as line_of, hex_tree as hex_tree_of};
+ghost use Rattle.zarrs_chain_lines.specs.Json.{tree_of, number_list, numbers_in, hex_of, only_member as only_member_of, ok_line as line_of, hex_tree as hex_tree_of, lone_item};
 
 use crate::refusal::Refusal;
 use hex::FromHexError;
@@ -99,6 +99,17 @@ pub fn only_member<'v>(members: &'v Members, name: &str) -> Option<&'v Value>
 {
     if members.len() == 1 {
         member(members, name)
+    } else {
+        None
+    }
+}
+
+/// The only item of a list.
+pub fn lone(items: &Vec<Value>) -> Option<&Value>
+    ensures value { option_map (λ value. view value.now) result ≡ lone_item (items_view items.now.items) }
+{
+    if items.len() == 1 {
+        Some(&items[0])
     } else {
         None
     }

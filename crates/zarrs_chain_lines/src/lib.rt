@@ -4,9 +4,11 @@
 //! and `codecs`. Each line after it is a command, which one line answers.
 #![tactic(auto)]
 
-mod codec;
+mod codecs;
 mod command;
+mod containers;
 mod data_types;
+mod element;
 mod elements;
 mod indexers;
 mod json;
@@ -14,3 +16,4 @@ mod lines;
 mod refusal;
 pub mod run;
 mod session;
+mod shown;

@@ -1,21 +1,20 @@
 //! Why a line is refused.
 ghost use Rattle.std.specs.Prelude.{◌≡◌};
 ghost use Rattle.zarrs_chain_lines.specs.Refusal.{refusal_name};
-ghost use Rattle.zarrs_chain_lines.specs.declared.refusal.Refusal.TheVariants.{Codec};
+ghost use Rattle.zarrs_chain_lines.specs.declared.refusal.Refusal.TheVariants.{Making, Codec};
 ghost use Rattle.zarrs_chunk.specs.declared.codec_error.CodecError.TheVariants.{OutOfMemory};
 
 use std::alloc::{AllocError, AllocFailed};
 use zarrs_chunk::CodecError;
+use zarrs_metadata::PluginCreateError;
 
 /// Why a line is refused.
 #[derive(Clone, Copy, Debug, PartialEq, Eq)]
 pub enum Refusal {
     /// The line doesn't read: no such command, no such argument, no UTF-8, or a float in it.
     Syntax,
-    /// A codec of this name can't be made.
-    UnknownName,
-    /// A codec's metadata or configuration doesn't read.
-    InvalidConfiguration,
+    /// No chain can be made of a list of metadata, or memory is wanting for it.
+    Making(PluginCreateError),
     /// A codec refuses, or memory is wanting.
     Codec(CodecError),
 }
@@ -27,10 +26,17 @@ impl Refusal {
     {
         match self {
             Refusal::Syntax => "Syntax",
-            Refusal::UnknownName => "UnknownName",
-            Refusal::InvalidConfiguration => "InvalidConfiguration",
+            Refusal::Making(error) => error.name(),
             Refusal::Codec(error) => error.name(),
         }
+    }
+}
+
+impl From<PluginCreateError> for Refusal {
+    ghost from_gives = { λ error refusal. refusal ≡ Making error };
+
+    fn from(error: PluginCreateError) -> Refusal {
+        Refusal::Making(error)
     }
 }
 

@@ -1,46 +1,40 @@
 //! A session: what a header opened, and the stored value.
-ghost use Rattle.std.specs.Prelude.{◌≡◌, OnErr, IfOk, option_map, is_some, true};
+ghost use Rattle.std.specs.Prelude.{◌≡◌, OnErr, option_map};
 ghost use Rattle.serde_json.specs.View.{view, members_view};
 ghost use Rattle.zarrs_chunk.specs.Answer.{Answers, AnswersBy, memory, seen};
 ghost use Rattle.zarrs_chunk.specs.Indexer.{selection_of};
-ghost use Rattle.zarrs_data_type.specs.ElementType.{fixed_size_of};
 ghost use Rattle.zarrs_array_bytes.specs.Validity.{Holds};
 ghost use Rattle.zarrs_codec.specs.MemoryHandle.{handle_value};
 ghost use Rattle.zarrs_codec_chain.specs.ChainView.{plain_chain};
-ghost use Rattle.zarrs_chain_lines.specs.Codec.{bytes_chain, order_in};
-ghost use Rattle.zarrs_chain_lines.specs.Commands.{first_state, bytes_part, part_of, encode_answer, load_answer, chunk_answer, decode_answer, read_answer, value_answer, answer_to};
+ghost use Rattle.zarrs_chain_lines.specs.Commands.{first_state, chunk_part, part_of, encode_answer, load_answer, chunk_answer, decode_answer, read_answer, erase_answer, value_answer, answer_to};
 ghost use Rattle.zarrs_chain_lines.specs.Header.{shape_at, data_type_at, fill_value_at, codecs_at, header_in, line_header};
 ghost use Rattle.zarrs_chain_lines.specs.Refusal.{wants_memory};
 
-use crate::codec::codec;
+use crate::codecs::chain;
 use crate::command::{Command, command_of};
 use crate::data_types::data_type;
-use crate::elements::{elements, ok_elements};
+use crate::elements::elements;
 use crate::indexers::indexer;
 use crate::json::{Members, hex_bytes, member, numbers, object, ok_hex, tree};
 use crate::refusal::Refusal;
+use crate::shown::ok_elements;
 use serde_json::Value;
 use std::alloc::Global;
 use std::borrow::CowSlice;
 use zarrs_array_bytes::ArrayBytes;
-use zarrs_bytes::BytesCodec;
 use zarrs_chunk::{ChunkShape, CodecError, Indexer};
 use zarrs_codec::{MemoryHandle, SampleBytesCodec};
-use zarrs_codec_chain::{ArrayToBytesCodec, CodecChain};
+use zarrs_codec_chain::CodecChain;
 use zarrs_data_type::{DataType, FillValue};
 
 /// What a header opened, and what is stored since.
 #[derive(Drop)]
 pub struct Session {
     chain: CodecChain<SampleBytesCodec>,
-    /// The chain's codec to bytes, which reads in part.
-    codec: BytesCodec,
     shape: ChunkShape,
     data_type: DataType,
     fill_value: FillValue,
     handle: MemoryHandle,
-    ghost fixed: { is_some (fixed_size_of data_type) ≡ true },
-    ghost order: { order_in (plain_chain chain).codec ≡ codec },
 }
 
 fn shape(alloc: Global, tree: Option<&Value>) -> Result<ChunkShape, Refusal>
@@ -53,12 +47,11 @@ fn shape(alloc: Global, tree: Option<&Value>) -> Result<ChunkShape, Refusal>
     ChunkShape::new(sizes).ok_or(Refusal::Syntax)
 }
 
-fn named_type(tree: Option<&Value>) -> Result<DataType, Refusal>
-    ensures answer { result ≡ data_type_at (option_map (λ v. view v.now) tree.entry) }
-    ensures fixed { IfOk result (λ data_type. is_some (fixed_size_of data_type) ≡ true) }
+fn named_type(alloc: Global, tree: Option<&Value>) -> Result<DataType, Refusal>
+    ensures { Answers wants_memory (λ data_type. data_type) result (data_type_at (option_map (λ v. view v.now) tree.entry)) }
 {
     match tree {
-        Some(tree) => data_type(tree),
+        Some(tree) => data_type(alloc, tree),
         None => Err(Refusal::Syntax),
     }
 }
@@ -73,42 +66,30 @@ fn fill_value(alloc: Global, tree: Option<&Value>) -> Result<FillValue, Refusal>
     Ok(FillValue::new(bytes))
 }
 
-fn bytes_codec(tree: Option<&Value>) -> Result<BytesCodec, Refusal>
-    ensures { seen bytes_chain result ≡ codecs_at (option_map (λ v. view v.now) tree.entry) }
+fn codecs(alloc: Global, tree: Option<&Value>) -> Result<CodecChain<SampleBytesCodec>, Refusal>
+    ensures { Answers wants_memory plain_chain result (codecs_at (option_map (λ v. view v.now) tree.entry)) }
 {
     match tree {
-        Some(Value::Array(items)) => Ok(BytesCodec::new(codec(items)?)),
+        Some(Value::Array(items)) => Ok(chain(alloc, items)?),
         _ => Err(Refusal::Syntax),
     }
-}
-
-/// The chain of this codec alone.
-#[tactic(auto, unfolding(zarrs_codec_chain::specs::ChainView::plain_codec))]
-fn chain_of(alloc: Global, codec: BytesCodec) -> CodecChain<SampleBytesCodec>
-    ensures { plain_chain result ≡ bytes_chain codec }
-{
-    CodecChain::new(
-        Vec::new(alloc),
-        ArrayToBytesCodec::Bytes(codec),
-        Vec::new(alloc),
-    )
 }
 
 /// The elements that an indexer means, by a decoder that is made for this call.
 fn read_part(
     handle: &mut MemoryHandle,
     alloc: Global,
-    codec: &BytesCodec,
+    chain: &CodecChain<SampleBytesCodec>,
     shape: &ChunkShape,
     data_type: &DataType,
     fill_value: &FillValue,
     indexer: &Indexer,
 ) -> Result<ArrayBytes<'static>, CodecError>
     ensures answer { AnswersBy memory (Holds data_type.now) result
-        (bytes_part codec.now shape.now data_type.now fill_value.now (handle_value handle.old) (selection_of indexer.now)) }
+        (chunk_part (record { chain = plain_chain chain.now; sizes = shape.now; type = data_type.now; fill = fill_value.now }) (handle_value handle.old) (selection_of indexer.now)) }
     ensures kept { handle_value handle.new ≡ handle_value handle.old }
 {
-    match codec.partial_decoder(alloc, handle, shape, data_type, fill_value) {
+    match chain.partial_decoder(alloc, handle, shape, data_type, fill_value) {
         Err(refused) => Err(refused.error),
         Ok(mut decoder) => {
             let elements = decoder.partial_decode(alloc, indexer);
@@ -125,14 +106,12 @@ impl Session {
         ensures { Answers wants_memory state_of result (seen first_state (header_in (members_view members.now.entries))) }
     {
         let shape = shape(alloc, member(members, "shape"))?;
-        let data_type = named_type(member(members, "data_type"))?;
+        let data_type = named_type(alloc, member(members, "data_type"))?;
         let fill_value = fill_value(alloc, member(members, "fill_value"))?;
-        let codec = bytes_codec(member(members, "codecs"))?;
-        let chain = chain_of(alloc, codec);
+        let chain = codecs(alloc, member(members, "codecs"))?;
         chain.encoded_representation(alloc, &shape, &data_type, &fill_value)?;
         Ok(Session {
             chain,
-            codec,
             shape,
             data_type,
             fill_value,
@@ -189,7 +168,7 @@ impl Session {
             &self.data_type,
             &self.fill_value,
         )?;
-        ok_elements(alloc, &self.data_type, elements)
+        ok_elements(alloc, &self.data_type, &elements)
     }
 
     fn decode(&self, alloc: Global) -> Result<Vec<u8>, Refusal>
@@ -212,7 +191,7 @@ impl Session {
         read_part(
             &mut self.handle,
             alloc,
-            &self.codec,
+            &self.chain,
             &self.shape,
             &self.data_type,
             &self.fill_value,
@@ -227,7 +206,16 @@ impl Session {
         let tree = tree(alloc, text)?;
         let indexer = indexer(alloc, &tree)?;
         let elements = self.selected(alloc, &indexer)?;
-        ok_elements(alloc, &self.data_type, elements)
+        ok_elements(alloc, &self.data_type, &elements)
+    }
+
+    fn erase(&mut self, alloc: Global) -> Result<Vec<u8>, Refusal>
+        ensures answer { Answers wants_memory (λ line. (line.items, state_of self.new)) result (erase_answer (state_of self.old)) }
+        ensures kept { OnErr result (state_of self.new ≡ state_of self.old) }
+    {
+        let line = Vec::from_slice(alloc, b"ok")?;
+        self.handle = MemoryHandle::new();
+        Ok(line)
     }
 
     fn value(&self, alloc: Global) -> Result<Vec<u8>, Refusal>
@@ -251,6 +239,7 @@ impl Session {
             Command::Load(text) => self.load(alloc, text),
             Command::Read(text) => self.read(alloc, text),
             Command::Decode => self.decode(alloc),
+            Command::Erase => self.erase(alloc),
             Command::Value => self.value(alloc),
             Command::Unknown => Err(Refusal::Syntax),
         }

@@ -9,14 +9,24 @@
 #[cfg(test)]
 mod checks;
 #[cfg(test)]
+mod default_vlen;
+#[cfg(test)]
+mod edits;
+#[cfg(test)]
 mod forms;
 #[cfg(test)]
 mod nested;
 #[cfg(test)]
 mod nested_forms;
 #[cfg(test)]
+mod nested_reads;
+#[cfg(test)]
 mod parts;
 #[cfg(test)]
 mod reads;
 #[cfg(test)]
 mod rows;
+#[cfg(test)]
+mod targets;
+#[cfg(test)]
+mod vlen_reads;

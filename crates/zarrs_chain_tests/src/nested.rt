@@ -18,14 +18,14 @@ const LITTLE: Nested = Nested::Bytes(Some(Endianness::Little));
 
 const PACKED: Nested = Nested::Packed(None);
 
-const STRINGS: Nested = Nested::Strings(
+pub(crate) const STRINGS: Nested = Nested::Strings(
     &LITTLE,
     &PLAIN,
     VlenIndexDataType::UInt64,
     VlenIndexLocation::Start,
 );
 
-const SHORT_OFFSETS: Nested = Nested::Strings(
+pub(crate) const SHORT_OFFSETS: Nested = Nested::Strings(
     &LITTLE,
     &PLAIN,
     VlenIndexDataType::UInt32,
@@ -48,23 +48,23 @@ const NARROW: Nested = Nested::Strings(
 );
 
 /// Bytes below 16 alone.
-const HALF_BYTES: Nested = Nested::Strings(
+pub(crate) const HALF_BYTES: Nested = Nested::Strings(
     &LITTLE,
     &Nested::Packed(Some(3)),
     VlenIndexDataType::UInt64,
     VlenIndexLocation::Start,
 );
 
-const OPTIONS: Nested = Nested::Options(&PLAIN, &PLAIN);
+pub(crate) const OPTIONS: Nested = Nested::Options(&PLAIN, &PLAIN);
 
 const TURNED_OPTIONS: Nested = Nested::Options(&PLAIN, &Nested::Turned);
 
-const TWO_LEVELS: Nested = Nested::Options(&PLAIN, &OPTIONS);
+pub(crate) const TWO_LEVELS: Nested = Nested::Options(&PLAIN, &OPTIONS);
 
-const OPTIONAL_STRINGS: Nested = Nested::Options(&PACKED, &STRINGS);
+pub(crate) const OPTIONAL_STRINGS: Nested = Nested::Options(&PACKED, &STRINGS);
 
 /// Three codecs, one inside another, with bytes codecs inside them.
-const THREE_LEVELS: Nested = Nested::Options(
+pub(crate) const THREE_LEVELS: Nested = Nested::Options(
     &PACKED,
     &Nested::Options(
         &PLAIN,
@@ -92,7 +92,7 @@ const ANY: BytesRepresentation = BytesRepresentation::UnboundedSize;
 
 /// Strings "a" and "bc"; the same with short offsets behind them; "abc" over offsets of two bits;
 /// "a" and "b", of which half of each byte is kept; "bc" and "" out of "xbc".
-const STRING_ROWS: [Row; 5] = [
+const STRING_ROWS: &'static [Row] = &[
     (
         &STRINGS,
         (&[2], true, 0),
@@ -147,7 +147,7 @@ const STRING_ROWS: [Row; 5] = [
 
 /// 5, absent over 9, and 7; present 42, a present absent element, and absent; none present where the
 /// data chain turns axes; "hi" and absent; all of three levels.
-const OPTIONAL_ROWS: [Row; 5] = [
+const OPTIONAL_ROWS: &'static [Row] = &[
     (
         &OPTIONS,
         (&[3], false, 1),
@@ -267,7 +267,7 @@ type Read = (&'static Nested, Form, &'static [u8], Held);
 
 /// Offsets of nothing before a data part that is never looked at; no present element before such a
 /// part.
-const READ: [Read; 2] = [
+const READ: &'static [Read] = &[
     (
         &STRINGS,
         (&[2], true, 0),
@@ -331,7 +331,7 @@ fn reads_offsets_from_above_zero(rt: HostRuntime) -> Result<(), Fail> {
 /// A chain, a chunk, a value that stands for none, and the first cause why.
 type Damaged = (&'static Nested, Form, &'static [u8], CodecError);
 
-const DAMAGED: [Damaged; 8] = [
+const DAMAGED: &'static [Damaged] = &[
     (
         &STRINGS,
         (&[2], true, 0),
@@ -414,7 +414,7 @@ fn refuses_damaged_parts(rt: HostRuntime) -> Result<(), Fail> {
 /// A chain, a chunk, elements that it doesn't write, and the first cause why.
 type Unwritten = (&'static Nested, Form, Held, CodecError);
 
-const UNWRITTEN: [Unwritten; 4] = [
+const UNWRITTEN: &'static [Unwritten] = &[
     (
         &NARROW,
         (&[1], true, 0),

@@ -20,7 +20,8 @@ pub(crate) type Chain = CodecChain<SampleBytesCodec>;
 
 /// A chain: `bytes` in an order; `packbits` with the last bit that is kept; axes turned before
 /// `bytes`; `vlen` with an index chain and a data chain; `optional` with a mask chain and a data
-/// chain; `bytes` with its value's length before it.
+/// chain; `bytes` with its value's length before it; axes turned before `vlen` as it is made without
+/// settings, and its value turned round.
 pub(crate) enum Nested {
     Bytes(Option<Endianness>),
     Packed(Option<u64>),
@@ -28,10 +29,15 @@ pub(crate) enum Nested {
     Strings(&'static Nested, &'static Nested, VlenIndexDataType, VlenIndexLocation),
     Options(&'static Nested, &'static Nested),
     WithLength,
+    TurnedStrings,
 }
 
 fn chain_of(alloc: Global, codec: ArrayToBytesCodec<SampleBytesCodec>) -> Result<Chain, Fail> {
     Ok(CodecChain::new(Vec::new(alloc), codec, Vec::new(alloc)))
+}
+
+fn bytes_in(alloc: Global, order: Option<Endianness>) -> Result<Chain, Fail> {
+    chain_of(alloc, ArrayToBytesCodec::Bytes(BytesCodec::new(order)))
 }
 
 fn packed(alloc: Global, last_bit: Option<u64>) -> Result<Chain, Fail> {
@@ -39,12 +45,29 @@ fn packed(alloc: Global, last_bit: Option<u64>) -> Result<Chain, Fail> {
     chain_of(alloc, ArrayToBytesCodec::PackBits(codec))
 }
 
-fn turned(alloc: Global) -> Result<Chain, Fail> {
+fn turning(alloc: Global) -> Result<Vec<ArrayToArrayCodec>, Fail> {
     let order = TransposeOrder::new(alloc, &[1, 0])?;
     let mut arrays = Vec::new(alloc);
     arrays.push(ArrayToArrayCodec::Transpose(TransposeCodec::new(order)))?;
+    Ok(arrays)
+}
+
+fn turned(alloc: Global) -> Result<Chain, Fail> {
     let codec = ArrayToBytesCodec::Bytes(BytesCodec::new(None));
-    Ok(CodecChain::new(arrays, codec, Vec::new(alloc)))
+    Ok(CodecChain::new(turning(alloc)?, codec, Vec::new(alloc)))
+}
+
+fn turned_strings(alloc: Global) -> Result<Chain, Fail> {
+    let codec = VlenCodec::new(
+        Box::new(alloc, bytes_in(alloc, Some(Endianness::Little))?)?,
+        Box::new(alloc, bytes_in(alloc, None)?)?,
+        VlenIndexDataType::UInt64,
+        VlenIndexLocation::Start,
+    );
+    let mut codecs = Vec::new(alloc);
+    codecs.push(SampleBytesCodec::Reverse)?;
+    let arrays = turning(alloc)?;
+    Ok(CodecChain::new(arrays, ArrayToBytesCodec::Vlen(codec), codecs))
 }
 
 fn strings(
@@ -79,10 +102,11 @@ fn with_length(alloc: Global) -> Result<Chain, Fail> {
 /// The chain of these codecs.
 pub(crate) fn nested_chain(alloc: Global, told: &Nested) -> Result<Chain, Fail> {
     match told {
-        Nested::Bytes(order) => chain_of(alloc, ArrayToBytesCodec::Bytes(BytesCodec::new(*order))),
+        Nested::Bytes(order) => bytes_in(alloc, *order),
         Nested::Packed(last_bit) => packed(alloc, *last_bit),
         Nested::Turned => turned(alloc),
         Nested::WithLength => with_length(alloc),
+        Nested::TurnedStrings => turned_strings(alloc),
         Nested::Strings(index, data, index_data_type, index_location) => {
             let index = nested_chain(alloc, index)?;
             let data = nested_chain(alloc, data)?;

@@ -43,7 +43,7 @@ fn shows_its_parts(rt: HostRuntime) -> Result<(), Fail> {
 /// A chain, whether it reads in part, and whether it writes in part.
 type Capable = (Told, bool, bool);
 
-const CAPABLE: [Capable; 4] = [
+const CAPABLE: &'static [Capable] = &[
     ((&[Moving::Flat], PLAIN, &[]), true, true),
     ((&[Moving::Flat], PACKED, &[]), true, false),
     ((&[], PLAIN, OUTER), false, false),

@@ -9,7 +9,7 @@ use std::test::Fail;
 use zarrs_chunk::{ArraySubset, CodecError, Indexer};
 use zarrs_codec::{ByteRange, MemoryHandle, SampleBytesCodec};
 use zarrs_codec_chain::ArrayPartialDecoder;
-use zarrs_data_type::Endianness;
+use zarrs_data_type::{Endianness, FillValue};
 use zarrs_metadata::PackBitsPaddingEncoding;
 
 type Decoder<'a> = ArrayPartialDecoder<'a, MemoryHandle, SampleBytesCodec>;
@@ -47,7 +47,7 @@ type Read = (
 );
 
 /// Reads of the places' bytes alone: of a value that is cut short too.
-const LOCAL: [Read; 8] = [
+const LOCAL: &'static [Read] = &[
     (
         (&[], PLAIN, &[]),
         (&[4, 4], 8, false),
@@ -111,6 +111,14 @@ const LOCAL: [Read; 8] = [
     (
         (&[], PLAIN, &[]),
         (&[4], 8, false),
+        Some(&[10, 11, 12]),
+        &[4..4],
+        &[],
+        3,
+    ),
+    (
+        (&[], PLAIN, &[]),
+        (&[4], 8, false),
         None,
         &[1..3],
         &[0, 0],
@@ -119,7 +127,7 @@ const LOCAL: [Read; 8] = [
 ];
 
 /// Reads of what a cache keeps.
-const CACHED: [Read; 3] = [
+const CACHED: &'static [Read] = &[
     (
         (&[], PLAIN, WITH_LENGTH),
         (&[2], 8, false),
@@ -146,11 +154,11 @@ const CACHED: [Read; 3] = [
     ),
 ];
 
-fn subset(alloc: Global, ranges: &[Range<u64>]) -> Result<Indexer, CodecError> {
+pub(crate) fn subset(alloc: Global, ranges: &[Range<u64>]) -> Result<Indexer, CodecError> {
     Ok(Indexer::Subset(ArraySubset::new_with_ranges(alloc, ranges)?))
 }
 
-fn stored(alloc: Global, value: &Option<&[u8]>) -> Result<MemoryHandle, AllocError> {
+pub(crate) fn stored(alloc: Global, value: &Option<&[u8]>) -> Result<MemoryHandle, AllocError> {
     match value {
         None => Ok(MemoryHandle::new()),
         Some(value) => Ok(MemoryHandle::with_value(value.to_vec(alloc)?)),
@@ -228,7 +236,7 @@ fn reads_what_a_cache_keeps(rt: HostRuntime) -> Result<(), Fail> {
 type Unread = (Told, Form, &'static [u8], &'static [Range<u64>], CodecError);
 
 /// Why no decoder is made: the chain doesn't take the chunk; its cache can't be filled.
-const UNMADE: [Unread; 2] = [
+const UNMADE: &'static [Unread] = &[
     (
         (&[], PLAIN, &[]),
         (&[10, 10], 32, true),
@@ -246,7 +254,7 @@ const UNMADE: [Unread; 2] = [
 ];
 
 /// Why nothing is read: the indexer, and then a place's bytes past the end.
-const UNREAD: [Unread; 4] = [
+const UNREAD: &'static [Unread] = &[
     (
         (&[], PLAIN, &[]),
         (&[4], 8, false),
@@ -346,7 +354,7 @@ type Planned = (
     Option<&'static [(u64, u64)]>,
 );
 
-const PLANNED: [Planned; 3] = [
+const PLANNED: &'static [Planned] = &[
     (
         (&[], PLAIN, &[]),
         (&[4, 4], 8, false),
@@ -358,6 +366,22 @@ const PLANNED: [Planned; 3] = [
         (&[4, 4], 8, false),
         &[0..1, 1..3],
         Some(&[(4, 5), (8, 9)]),
+    ),
+    (
+        (
+            &[Moving::By(&[0, 2, 1]), Moving::By(&[2, 0, 1])],
+            ToBytes::Bytes(Some(Endianness::Big)),
+            &[],
+        ),
+        (&[2, 2, 2], 32, false),
+        &[0..2, 1..2, 0..1],
+        Some(&[(16, 20), (24, 28)]),
+    ),
+    (
+        (&[], KEPT_BITS, &[]),
+        (&[8, 5], 1, false),
+        &[1..4, 1..4],
+        Some(&[(0, 2), (1, 2), (2, 3)]),
     ),
     ((&[], PLAIN, WITH_LENGTH), (&[2], 8, false), &[0..1], None),
 ];
@@ -405,4 +429,24 @@ fn plans_the_bytes_of_its_places(rt: HostRuntime) -> Result<(), Fail> {
         plans_row(&rt, rt.alloc(), row)?;
     }
     Ok(())
+}
+
+/// Reads a chunk of one number of 4 bits, of which nothing is stored: the fill value as it is given,
+/// with bits that would be filled up in decoding.
+#[test]
+fn reads_the_raw_fill_value(rt: HostRuntime) -> Result<(), Fail> {
+    let chain = chain(rt.alloc(), &(&[], KEPT_BITS, &[]))?;
+    let mut form = chunk_form(rt.alloc(), &(&[1], 4, true))?;
+    form.fill_value = FillValue::new([15].to_vec(rt.alloc())?);
+    let indexer = subset(rt.alloc(), &[0..1])?;
+    match chain.partial_decoder(
+        rt.alloc(),
+        MemoryHandle::new(),
+        &form.shape,
+        &form.data_type,
+        &form.fill_value,
+    ) {
+        Err(refused) => Err(refused.error)?,
+        Ok(mut decoder) => reads(&rt, rt.alloc(), &mut decoder, &indexer, &[15]),
+    }
 }

@@ -36,7 +36,7 @@ const MOVED: &'static [u8] = &[
 type Row = (Told, Form, &'static [u8], &'static [u8], &'static [u8]);
 
 /// Chains over `bytes`.
-const SPELT: [Row; 4] = [
+const SPELT: &'static [Row] = &[
     (
         (
             &[Moving::By(&[0, 2, 1]), Moving::By(&[2, 0, 1])],
@@ -78,7 +78,7 @@ const SPELT: [Row; 4] = [
 /// Chains over `packbits`: whole words; 7 and -1, which without their first bits are 6 and -2 and
 /// are written alike; flags 1, 1, 0, 0, which are 1, 0, 1, 0 where axes are turned, the number 5,
 /// with four spare bits.
-const PACKED: [Row; 4] = [
+const PACKED: &'static [Row] = &[
     (
         (&[], FIRST_BYTE, &[]),
         (&[2], 16, false),
@@ -149,7 +149,7 @@ fn ignores_spare_bits(rt: HostRuntime) -> Result<(), Fail> {
 }
 
 /// A chain, a chunk, and how many bytes its value has.
-const SIZES: [(Told, Form, BytesRepresentation); 3] = [
+const SIZES: &'static [(Told, Form, BytesRepresentation)] = &[
     (
         (&[], PLAIN, WITH_LENGTH),
         (&[18446744073709551607], 8, false),
@@ -180,7 +180,7 @@ fn bounds_what_64_bits_count(rt: HostRuntime) -> Result<(), Fail> {
 /// A chain, a chunk that it doesn't take, and the first cause why.
 type Refused = (Told, Form, CodecError);
 
-const REFUSED: [Refused; 2] = [
+const REFUSED: &'static [Refused] = &[
     (
         (&[], PLAIN, &[]),
         (&[10, 10], 32, true),
@@ -213,7 +213,7 @@ fn refuses_other_chunks(rt: HostRuntime) -> Result<(), Fail> {
 /// A chain, a chunk, a value that stands for none, and the first cause why.
 type Damaged = (Told, Form, &'static [u8], CodecError);
 
-const DAMAGED: [Damaged; 3] = [
+const DAMAGED: &'static [Damaged] = &[
     (
         (&[], PLAIN, WITH_LENGTH),
         (&[2], 8, false),

@@ -8,13 +8,17 @@ pub mod BytesToBytesCodec
 pub mod ChunkEdits
 pub mod SampleBytesCodec
 pub mod SampleLaws
+pub mod SampleMetadata
 pub mod MemoryHandle
 pub mod Refused
 pub mod StorageState
 pub use Rattle.zarrs_chunk.specs.Answer
+pub mod DecodeInto
 pub mod CoordinateMap
 pub mod MappedChunk
 pub mod MappedSelection
 pub use Rattle.zarrs_array_bytes.specs.Elements
 pub use Rattle.zarrs_array_bytes.specs.Validity
 pub use Rattle.zarrs_chunk.specs.Selection
+pub use Rattle.zarrs_array_bytes.specs.DecodeTarget
+pub use Rattle.zarrs_array_bytes.specs.ArrayBytesDecodeIntoTarget

@@ -1,6 +1,9 @@
 ghost use Rattle.std.specs.Prelude.{◌≡◌, Ok, false};
 ghost use Rattle.zarrs_chunk.specs.Answer.{Answers, memory, is_fault};
 ghost use Rattle.zarrs_array_bytes.specs.Held.{raw_of};
+ghost use Rattle.zarrs_metadata.specs.Metadata.{Metadata};
+ghost use Rattle.zarrs_metadata.specs.MetadataV3.{metadata_seen};
+ghost use Rattle.zarrs_metadata.specs.PluginCreateError.{plugin_memory};
 ghost use Rattle.zarrs_codec.specs.BytesToBytesCodec.{BytesCodecs, IsLawful};
 ghost use Rattle.zarrs_codec.specs.declared.capabilities.PartialDecoderCapability.{PartialDecoderCapability};
 ghost use Rattle.zarrs_codec.specs.declared.capabilities.PartialEncoderCapability.{PartialEncoderCapability};
@@ -10,6 +13,7 @@ use crate::capabilities::{PartialDecoderCapability, PartialEncoderCapability};
 use std::alloc::Global;
 use zarrs_array_bytes::ArrayBytesRaw;
 use zarrs_chunk::CodecError;
+use zarrs_metadata::{MetadataV3, PluginCreateError};
 
 /// A codec of bytes to bytes, as a compressor is: the caller's own.
 ///
@@ -25,6 +29,9 @@ pub trait BytesToBytesCodecTraits {
     ghost reads_in_part: { Self → PartialDecoderCapability };
 
     ghost writes_in_part: { Self → PartialEncoderCapability };
+
+    // The metadata that is written of it.
+    ghost described: { Self → Metadata };
 
     /// The encoded bytes. Refusals: `OutOfMemory`.
     fn encode<'a>(
@@ -61,6 +68,11 @@ pub trait BytesToBytesCodecTraits {
     /// What it can write in part. The codec itself always encodes whole values.
     fn partial_encoder_capability(&self) -> PartialEncoderCapability
         ensures value { result ≡ writes_in_part self.now };
+
+    /// The codec's metadata: its name, its configuration where it has one, and whether a reader that
+    /// can't make the codec has to refuse. Refusals: `OutOfMemory`.
+    fn metadata(&self, alloc: Global) -> Result<MetadataV3, PluginCreateError>
+        ensures answer { Answers plugin_memory metadata_seen result (Ok (described self.now)) };
 
     // The laws of what they compute.
     ghost lawful: { IsLawful functions };

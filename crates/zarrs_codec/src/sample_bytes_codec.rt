@@ -1,6 +1,9 @@
-ghost use Rattle.std.specs.Prelude.{◌≡◌, ◌++◌, ◌≤◌, Ok, IfOk, false, reverse, length, drop};
+ghost use Rattle.std.specs.Prelude.{◌≡◌, ◌++◌, ◌≤◌, Ok, Some, IfOk, false, reverse, length, drop};
 ghost use Rattle.zarrs_chunk.specs.Answer.{Answers, memory, is_fault, seen};
 ghost use Rattle.zarrs_array_bytes.specs.Held.{raw_of};
+ghost use Rattle.zarrs_metadata.specs.MetadataV3.{metadata_seen};
+ghost use Rattle.zarrs_metadata.specs.PluginCreateError.{plugin_memory};
+ghost use Rattle.zarrs_codec.specs.SampleMetadata.{sample_name, sample_metadata, sample_made};
 ghost use Rattle.zarrs_codec.specs.SampleBytesCodec.{length_bytes, stored_length as stored_length_of, behind_length as behind_length_of, with_length as with_length_of};
 
 use crate::bytes_representation::BytesRepresentation;
@@ -10,6 +13,7 @@ use std::alloc::Global;
 use std::borrow::CowSlice;
 use zarrs_array_bytes::ArrayBytesRaw;
 use zarrs_chunk::CodecError;
+use zarrs_metadata::{MetadataV3, PluginCreateError};
 
 /// How many bytes a length takes.
 const LENGTH_SIZE: usize = 8;
@@ -21,6 +25,16 @@ pub enum SampleBytesCodec {
     Reverse,
     /// The bytes behind how many they are, as 8 bytes with the lowest first (`sample.length`).
     Length,
+}
+
+/// The codec's name in metadata.
+fn name_of(codec: SampleBytesCodec) -> &'static str
+    ensures value { result.now ≡ sample_name codec }
+{
+    match codec {
+        SampleBytesCodec::Reverse => "sample.reverse",
+        SampleBytesCodec::Length => "sample.length",
+    }
 }
 
 /// The bytes in reverse. Owned bytes are turned round in place.
@@ -118,6 +132,8 @@ impl BytesToBytesCodecTraits for SampleBytesCodec {
 
     ghost writes_in_part = { λ _. record { partial_encode = false } };
 
+    ghost described = { sample_metadata };
+
     ghost lawful = { sample_is_lawful };
 
     fn encode<'a>(
@@ -166,5 +182,14 @@ impl BytesToBytesCodecTraits for SampleBytesCodec {
         PartialEncoderCapability {
             partial_encode: false,
         }
+    }
+
+    /// The codec's name, without a configuration, by which `SampleMaker` makes it. Refusals:
+    /// `OutOfMemory`.
+    fn metadata(&self, alloc: Global) -> Result<MetadataV3, PluginCreateError>
+        ensures answer { Answers plugin_memory metadata_seen result (Ok (sample_metadata self.now)) }
+        ensures made_again { IfOk result (λ metadata. sample_made (metadata_seen metadata) ≡ Ok (Some self.now)) }
+    {
+        MetadataV3::new(alloc, name_of(*self))
     }
 }

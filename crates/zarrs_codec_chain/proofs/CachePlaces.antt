@@ -1,16 +1,23 @@
 -- Where the cache of a chain stands.
 use Rattle.std.proofs.Common.{◌≡◌, ℕ, zero, suc, ◌+◌, ◌-◌, ◌<◌, ◌≤◌, max, nat_le, Bool, true, false, not, if◌then◌else◌, Option, Some, None, List, [], ◌∷◌, ◌++◌, length, map, arith, refl, ap, sym, ◌∙◌, subst}
-use Rattle.std.specs.Prelude.{option_map, ◌&&◌}
+use Rattle.std.specs.Prelude.{option_map, is_some, is_ok, IsOkAnd, ◌&&◌, Result, Ok, Err}
 use Rattle.std.proofs.lemmas.Bool.Decides.{nat_tests}
 use Rattle.std.proofs.lemmas.List.{length-map}
+use Rattle.zarrs_chunk.specs.declared.codec_error.CodecError.{CodecError}
+use Rattle.zarrs_data_type.specs.ElementType.{ElementType}
+use Rattle.zarrs_array_bytes.specs.Validity.{validity}
 use Rattle.zarrs_codec.specs.declared.capabilities.PartialDecoderCapability.{PartialDecoderCapability}
 use Rattle.zarrs_array_to_array.specs.ArrayToArrayCodec.{ArrayMapping}
 use Rattle.zarrs_codec_chain.specs.CachePlace.{array_reads, codecs_read, last_without, greater, cache_place}
 use Rattle.zarrs_codec_chain.specs.Chain.{codec_reads}
-use Rattle.zarrs_codec_chain.specs.ChunkSource.{bytes_left, bytes_stage, cache_stage, stage_at, stage_by, stage_fits}
-use Rattle.zarrs_codec_chain.specs.PlainChain.{PlainChain}
+use Rattle.zarrs_codec_chain.specs.ChunkRead.{reads_places}
+use Rattle.zarrs_codec_chain.specs.ChunkSource.{IsSizeOf, bytes_left, bytes_stage, cache_fits, cache_stage, has_cache, held_by, is_kept, source_of, stage_at, stage_by, stage_fits}
+use Rattle.zarrs_codec_chain.specs.PlainChain.{PlainCodec, bytes_codec, packbits_codec, vlen_codec, optional_codec, PlainChain}
+use Rattle.zarrs_codec_chain.specs.declared.partial_decoder.cache.Cache.{Cache}
+use Rattle.zarrs_codec_chain.specs.declared.partial_decoder.cache.Cache.TheVariants as kept
 use Rattle.zarrs_codec_chain.specs.declared.partial_decoder.cache.CacheStage.{CacheStage}
 use Rattle.zarrs_codec_chain.specs.declared.partial_decoder.cache.CacheStage.TheVariants as stage
+use Rattle.zarrs_codec_chain.proofs.ArraySteps.{holds_elements}
 
 abbrev some : ℕ → Option ℕ
 some n = Some n
@@ -157,3 +164,49 @@ fits_by codec true true n left e h = fits_left codec n left e h
 -- and it is one of the chain
 pub stage_by_fits : (codec : PartialDecoderCapability) (codecs : List PartialDecoderCapability) → stage_fits codec (length codecs) (stage_by codec (bytes_left codecs)) ≡ true
 stage_by_fits codec codecs = fits_by codec codec.partial_decode codec.partial_read (length codecs) (bytes_left codecs) refl (left_within codecs)
+
+-- ---- whether there is a cache
+
+either_stage : (b : Bool) (below : ℕ) → has_cache (if b then stage.Bytes below else stage.Chunk) ≡ true
+either_stage true below = refl
+either_stage false below = refl
+
+stage_there : (count : ℕ) (place : Option ℕ) → has_cache (stage_at count place) ≡ is_some place
+stage_there count None = refl
+stage_there count (Some place) = either_stage (nat_le place count) (count - place)
+
+-- a chain has a cache where it has a place for one
+pub cache_there : {B : Type 0} (reads_of : B → PartialDecoderCapability) (chain : PlainChain B) → has_cache (cache_stage reads_of chain) ≡ is_some (cache_place (codecs_read reads_of chain))
+cache_there reads_of chain = stage_there (length chain.outer) (cache_place (codecs_read reads_of chain))
+
+pub no_stage : {B : Type 0} (reads_of : B → PartialDecoderCapability) (chain : PlainChain B) → cache_place (codecs_read reads_of chain) ≡ None → cache_stage reads_of chain ≡ stage.Nowhere
+no_stage reads_of chain e = ap (stage_at (length chain.outer)) e
+
+no_place_of : {B : Type 0} (reads_of : B → PartialDecoderCapability) (outer : List B) (codec : PlainCodec B) → reads_places outer codec ≡ true → cache_place (codec_reads codec ∷ map reads_of outer) ≡ None
+no_place_of reads_of [] (bytes_codec order) e = refl
+no_place_of reads_of [] (packbits_codec settings) e = refl
+no_place_of reads_of [] (vlen_codec ia ix ib da dx db wide at_end) e = absurd cc
+no_place_of reads_of [] (optional_codec ma mx mb da dx db) e = absurd cc
+no_place_of reads_of (first ∷ rest) codec e = absurd cc
+
+-- where a read asks for its places alone, there is none
+pub no_place : {B : Type 0} (reads_of : B → PartialDecoderCapability) (chain : PlainChain B) → reads_places chain.outer chain.codec ≡ true → cache_place (codecs_read reads_of chain) ≡ None
+no_place reads_of chain e = arrays_pass chain.arrays (codec_reads chain.codec ∷ map reads_of chain.outer) ∙ no_place_of reads_of chain.outer chain.codec e
+
+-- ---- how much a cache keeps
+
+valid_so : (r : Result (Unit {0}) CodecError) → is_ok r ≡ true → r ≡ Ok tt
+valid_so (Ok u) e = refl
+valid_so (Err x) e = absurd cc
+
+-- a cache keeps as many bytes as what answers rest on has
+pub size_kept : (reads : PartialDecoderCapability) (type : ElementType) (count codecs handle : ℕ) (stored : Option (List ℕ)) (cache : Cache) → cache_fits reads type count codecs cache ≡ true → is_kept cache ≡ true
+    → IsSizeOf type (source_of type count codecs stored cache) (held_by handle cache)
+size_kept reads type count codecs handle stored kept.Handle fits e = absurd cc
+size_kept reads type count codecs handle stored (kept.Bytes below None) fits e = refl
+size_kept reads type count codecs handle stored (kept.Bytes below (Some value)) fits e = refl
+size_kept reads type count codecs handle stored (kept.Chunk None) fits e = refl
+size_kept reads type count codecs handle stored (kept.Chunk (Some held)) fits e = (held, holds_elements type count held (valid_so (validity type count held) fits), refl)
+
+pub answered : {A : Type 0} (r : Result A CodecError) (x : A) (P : A → Type 0) → r ≡ Ok x → P x → IsOkAnd r P
+answered r x P e h = rw e h

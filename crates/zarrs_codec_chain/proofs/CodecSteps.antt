@@ -96,6 +96,10 @@ pub vlen_measured : {B : Type 0} (f : BytesCodecs B) (codec : VlenCodec B) (size
 unfolding codec_representation
 vlen_measured f codec sizes type fill r e = rw (plain_vlen_at codec) (same_answer r (vlen_representation sizes type []) e)
 
+pub vlen_measured_exactly : {B : Type 0} (f : BytesCodecs B) (codec : VlenCodec B) (sizes : List ℕ) (type : ElementType) (fill : List ℕ) (r : Result BytesRepresentation CodecError) → r ≡ vlen_representation sizes type [] → r ≡ codec_representation f (plain_vlen codec) sizes type fill
+unfolding codec_representation
+vlen_measured_exactly f codec sizes type fill r e = rw (plain_vlen_at codec) e
+
 pub bytes_chunk_at : {B : Type 0} (f : BytesCodecs B) (order : Option Endianness) (sizes : List ℕ) (type : ElementType) (fill value : List ℕ) → codec_chunk f (bytes_codec order) sizes type fill value ≡ bytes_chunk order sizes type fill value
 unfolding codec_chunk
 bytes_chunk_at f order sizes type fill value = refl

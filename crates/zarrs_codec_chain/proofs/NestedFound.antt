@@ -170,6 +170,28 @@ optional_found mw cw me ce mlaw claw sizes type value chunk positive is e =
       data_written = part_found cw ce claw type (blank_fill type) d.0 (present_of chunk) (present_are type chunk is.each) d.1;
     }
 
+-- ---- no value is longer than memory
+
+abbrev any : Standing
+any sizes type fill value chunk = Unit {0}
+
+pub vlen_small : (wide at_end : Bool) (keep : Keeping) (ie ce : Encoder) → KeepsTypes keep → (value : List ℕ) (chunk : Chunk) → vlen_value wide at_end keep ie ce chunk ≡ Ok value → length value < 2 ^ 64
+vlen_small wide at_end keep ie ce k value chunk e =
+    (vlen_found wide at_end keep any any ie ce k (λ sizes type fill part rows positive is h. tt) (λ sizes type fill part rows positive is h. tt) value chunk e).small
+
+nothing_small : (value : List ℕ) → ok [] ≡ ok value → length value < 2 ^ 64
+nothing_small value e = subst (λ (x : List ℕ). length x < 2 ^ 64) (ok_is [] value e) (omega arith)
+
+pub optional_small : (me ce : Encoder) (sizes : List ℕ) (type : ElementType) (value : List ℕ) (chunk : Chunk) → optional_value me ce sizes type chunk ≡ Ok value → length value < 2 ^ 64
+optional_small me ce sizes (optional type) value chunk e =
+    let m = bind_ok (me sizes flag_type (0 ∷ []) (map flag_of chunk)) _ value e in
+    let d = bind_ok (part_value ce type (blank_fill type) (present_of chunk)) _ value m.2 in
+    let whole = in_memory_so (optional_layout m.0 d.0) value d.2 in
+    subst (λ (x : List ℕ). length x < 2 ^ 64) (sym whole.1) whole.0
+optional_small me ce sizes (fixed width components sign) value chunk e = nothing_small value e
+optional_small me ce sizes text value chunk e = nothing_small value e
+optional_small me ce sizes bytes value chunk e = nothing_small value e
+
 -- ---- chains
 
 through_found : {B : Type 0} (f : BytesCodecs B) (arrays : List ArrayMapping) (measure : Measure) (write : Standing) (encode : Encoder) (outer : List B) → All IsMapping arrays → FoundsTaken write encode measure

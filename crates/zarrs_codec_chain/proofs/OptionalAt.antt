@@ -118,16 +118,6 @@ chunk_opened_at f codec sizes type fill value =
     ap (λ x. codec_chunk f x sizes type fill value) (plain_optional_at codec)
     ∙ chunk_opened f (plain_chain (out-OptionalCodec _ codec).mask_codecs.value) (plain_chain (out-OptionalCodec _ codec).data_codecs.value) sizes type fill value
 
-pub type_not_read : {B : Type 0} (f : BytesCodecs B) (codec : OptionalCodec B) (sizes : List ℕ) (type : ElementType) (fill value : List ℕ) (cause : CodecError) → optional_inner type ≡ Err cause → codec_chunk f (plain_optional codec) sizes type fill value ≡ Err cause
-type_not_read f codec sizes type fill value cause e = chunk_opened_at f codec sizes type fill value ∙ rw e refl
-
-pub parts_not_read : {B : Type 0} (f : BytesCodecs B) (codec : OptionalCodec B) (sizes : List ℕ) (type inner : ElementType) (fill value : List ℕ) (cause : CodecError) → Ok inner ≡ optional_inner type → optional_parts value ≡ Err cause → codec_chunk f (plain_optional codec) sizes type fill value ≡ Err cause
-parts_not_read f codec sizes type inner fill value cause e parts = chunk_opened_at f codec sizes type fill value ∙ rw (← e, parts) refl
-
-pub mask_not_read : {B : Type 0} (f : BytesCodecs B) (codec : OptionalCodec B) (sizes : List ℕ) (type inner : ElementType) (fill value mask_part data_part : List ℕ) (cause : CodecError) → Ok inner ≡ optional_inner type → optional_parts value ≡ Ok (mask_part, data_part)
-    → chain_chunk f (plain_chain (out-OptionalCodec _ codec).mask_codecs.value) sizes flag_type (0 ∷ []) mask_part ≡ Err cause → codec_chunk f (plain_optional codec) sizes type fill value ≡ Err cause
-mask_not_read f codec sizes type inner fill value mask_part data_part cause e parts read = chunk_opened_at f codec sizes type fill value ∙ rw (← e, parts, read) refl
-
 pub chunk_at : {B : Type 0} (result : Result Held CodecError) (f : BytesCodecs B) (codec : OptionalCodec B) (sizes : List ℕ) (type inner : ElementType) (fill value mask_part data_part : List ℕ) (flags : Chunk)
     → Ok inner ≡ optional_inner type → optional_parts value ≡ Ok (mask_part, data_part) → chain_chunk f (plain_chain (out-OptionalCodec _ codec).mask_codecs.value) sizes flag_type (0 ∷ []) mask_part ≡ Ok flags
     → AnswersBy memory (Holds (optional inner)) result (present_part (chain_chunk f (plain_chain (out-OptionalCodec _ codec).data_codecs.value)) inner flags data_part)

@@ -67,30 +67,13 @@ filled_by type fill places held (Err x) e h = absurd h
 pub filled_places : (type : ElementType) (fill places : List ℕ) (held : Held) (count : ℕ) → count ≡ length places → IsOkAnd (fill_chunk type count fill) (Holds type held) → Holds type held (map (λ _. fill_element type fill) places)
 filled_places type fill places held count e h = filled_by type fill places held (fill_chunk type (length places) fill) refl (subst (λ n. IsOkAnd (fill_chunk type n fill) (Holds type held)) e h)
 
--- ---- a handle that never fails
-
-counted_by : (b : Bool) → 0 ≡ count_if b 0 → b ≡ false
-counted_by true e = absurd (omega arith)
-counted_by false e = refl
-
-pub still_reads : {T : Type 0} (r : Result T CodecError) (before after : Option (List ℕ)) → still_state after ≡ after_reading r (still_state before) → is_fault r ≡ false
-still_reads r before after e = counted_by (is_fault r) (ap (λ (s : StorageState). s.faults) e)
-
-either : (a b : Bool) → a ≡ false → b ≡ false → a || b ≡ false
-either a b e f = rw (e, f) refl
-
--- an answer without a fault is an answer but for memory
-pub unfailed : {T V : Type 0} (R : T → V → Type 0) (r : Result T CodecError) (expected : Result V CodecError) → is_fault r ≡ false → AnswersBy memory_or_fault R r expected → AnswersBy memory R r expected
-unfailed R (Ok x) expected calm h = h
-unfailed R (Err e) expected calm h = λ m. h (either (memory e) (fault e) m calm)
-
 -- ---- what a codec to bytes takes
 
 seen_is_ok : {A C : Type 0} (g : A → C) (r : Result A CodecError) → is_ok (seen g r) ≡ true → is_ok r ≡ true
 seen_is_ok g (Ok x) e = refl
 seen_is_ok g (Err x) e = absurd cc
 
-bytes_is_ok : {B : Type 0} (f : BytesCodecs B) (order : Option Endianness) (sizes : List ℕ) (type : ElementType) (fill : List ℕ) → is_ok (codec_representation f (bytes_codec order) sizes type fill) ≡ true → is_ok (bytes_length order sizes type fill) ≡ true
+pub bytes_is_ok : {B : Type 0} (f : BytesCodecs B) (order : Option Endianness) (sizes : List ℕ) (type : ElementType) (fill : List ℕ) → is_ok (codec_representation f (bytes_codec order) sizes type fill) ≡ true → is_ok (bytes_length order sizes type fill) ≡ true
 unfolding codec_representation
 bytes_is_ok f order sizes type fill e = seen_is_ok FixedSize (bytes_length order sizes type fill) e
 
@@ -106,7 +89,7 @@ pub packed_taken : {B : Type 0} (f : BytesCodecs B) (codec : ArrayToBytesCodec B
 unfolding plain_codec
 packed_taken f codec settings sizes type fill is e = packed_is_ok f settings sizes type fill (subst (λ x. is_ok (codec_representation f (plain_codec x) sizes type fill) ≡ true) is e)
 
-variable_fits : (type : ElementType) (fill : List ℕ) → is_variable type ≡ true → fill_fits type fill ≡ true
+pub variable_fits : (type : ElementType) (fill : List ℕ) → is_variable type ≡ true → fill_fits type fill ≡ true
 variable_fits (fixed width components sign) fill e = absurd cc
 variable_fits text fill e = refl
 variable_fits bytes fill e = refl
@@ -120,7 +103,7 @@ packed_fits settings sizes text fill l e = absurd cc
 packed_fits settings sizes bytes fill l e = absurd cc
 packed_fits settings sizes (optional type) fill l e = absurd cc
 
-from_ok : {A : Type 0} (r : Result A CodecError) → is_ok r ≡ true → (x : A) × (r ≡ Ok x)
+pub from_ok : {A : Type 0} (r : Result A CodecError) → is_ok r ≡ true → (x : A) × (r ≡ Ok x)
 from_ok (Ok x) e = (x, refl)
 from_ok (Err x) e = absurd cc
 
@@ -145,7 +128,7 @@ counted_test : (test : Bool) (n m : ℕ) → (if test then ok n else Err Overflo
 counted_test true n m e = refl
 counted_test false n m e = absurd cc
 
-counted_is : (n m : ℕ) → checked_u64 n ≡ Ok m → n < 2 ^ 64
+pub counted_is : (n m : ℕ) → checked_u64 n ≡ Ok m → n < 2 ^ 64
 counted_is n m e = let t = counted_test (nat_lt n (2 ^ 64)) n m e in grind (arith, nat_tests, t)
 
 -- what a reader keeps of a chunk that a chain takes
@@ -153,6 +136,7 @@ pub record IsKept {B : Type 0} (f : BytesCodecs B) (chain : PlainChain B) (sizes
   pub measured : is_ok (codec_representation f chain.codec encoded type fill) ≡ true
   pub filled : fill_fits type fill ≡ true
   pub counted : product encoded < 2 ^ 64
+  pub counted_whole : product sizes < 2 ^ 64
 
 pub kept_of : {B : Type 0} (f : BytesCodecs B) (chain : PlainChain B) (sizes : List ℕ) (type : ElementType) (fill encoded : List ℕ) (r : BytesRepresentation) → IsMapWhere type chain.arrays sizes → checked_u64 (product sizes) ≡ Ok (product sizes)
     → taken_form f chain sizes type fill ≡ Ok (encoded, r) → IsKept f chain sizes type fill encoded
@@ -164,6 +148,7 @@ kept_of f chain sizes type fill encoded r maps counted e =
       measured = is_ok_of _ r measured;
       filled = codec_fits f chain.codec encoded type fill r measured;
       counted = subst (λ n. n < 2 ^ 64) (sym h.count ∙ ap product t.encoded_is) (counted_is (product sizes) (product sizes) counted);
+      counted_whole = counted_is (product sizes) (product sizes) counted;
     }
 
 -- ---- plans
@@ -194,13 +179,10 @@ runs_answer view r type arrays given sizes selection m is e h =
 
 -- ---- a chunk that is kept
 
-ok_stored : Option (List ℕ) → Result (Option (List ℕ)) CodecError
-ok_stored value = Ok value
-
 pub same_stored : (one other : Option (List ℕ)) → ◌≡◌ {A = Result (Option (List ℕ)) CodecError} (Ok one) (Ok other) → one ≡ other
 same_stored one other e = cc
 
-held_of : (type : ElementType) (count : ℕ) (held : Held) (r : Result Chunk CodecError) → ((chunk : Chunk) → r ≡ Ok chunk → length chunk ≡ count) → IsOkAnd r (Holds type held) → (r ≡ ok (elements type count held)) × (validity type count held ≡ Ok tt)
+pub held_of : (type : ElementType) (count : ℕ) (held : Held) (r : Result Chunk CodecError) → ((chunk : Chunk) → r ≡ Ok chunk → length chunk ≡ count) → IsOkAnd r (Holds type held) → (r ≡ ok (elements type count held)) × (validity type count held ≡ Ok tt)
 held_of type count held (Ok chunk) long h =
     let n = long chunk refl in
     (ap ok (sym h.elements_are ∙ ap (λ k. elements type k held) n), subst (λ k. validity type k held ≡ Ok tt) n h.valid)

@@ -17,7 +17,6 @@ use Rattle.zarrs_codec.specs.BytesToBytesCodec.{BytesCodecs}
 use Rattle.zarrs_codec.specs.CoordinateMap.{CoordinateMap, IsCoordinateMap, moved_chunk, inverse_map}
 use Rattle.zarrs_codec.specs.declared.bytes_representation.BytesRepresentation.{BytesRepresentation}
 use Rattle.zarrs_codec.specs.declared.bytes_representation.BytesRepresentation.TheVariants.{FixedSize}
-use Rattle.zarrs_codec.specs.declared.capabilities.PartialDecoderCapability.{PartialDecoderCapability}
 use Rattle.zarrs_array_to_array.specs.ArrayToArrayCodec.{ArrayMapping, IsMapping}
 use Rattle.zarrs_array_to_array.specs.Mapping.{chained_places, moved_by}
 use Rattle.zarrs_bytes.proofs.CodecLaws.{read_selects}
@@ -31,7 +30,7 @@ use Rattle.zarrs_codec_chain.specs.ArrayStages.{arrays_map}
 use Rattle.zarrs_codec_chain.specs.BytesStages.{outer_bytes, outer_representation}
 use Rattle.zarrs_codec_chain.specs.Chain.{taken_form}
 use Rattle.zarrs_codec_chain.specs.ChunkRead.{ChunkForm, codec_read, encoded_places, outer_stored, stored_read}
-use Rattle.zarrs_codec_chain.specs.ChunkSource.{Source, bytes_above, chunk_below, cache_stage, is_there, opened_chunk, source_at, source_made, source_places, source_read}
+use Rattle.zarrs_codec_chain.specs.ChunkSource.{Source, bytes_above, chunk_below, is_there, opened_chunk, source_at, source_made_at, source_places, source_read}
 use Rattle.zarrs_codec_chain.specs.Decode.{codec_chunk, chain_chunk}
 use Rattle.zarrs_codec_chain.specs.PlainChain.{PlainCodec, bytes_codec, packbits_codec, vlen_codec, optional_codec, PlainChain}
 use Rattle.zarrs_codec_chain.specs.Representation.{codec_representation}
@@ -130,7 +129,7 @@ outer_split f codecs below r value u e =
     ∙ outer_append f (take below codecs) (drop below codecs) r value
     ∙ ap (λ (o : Result (List ℕ) CodecError). o >>= outer_bytes f (take below codecs) r) e
 
-take_codecs : {B : Type 0} (codecs : List B) → take (length codecs) codecs ≡ codecs
+pub take_codecs : {B : Type 0} (codecs : List B) → take (length codecs) codecs ≡ codecs
 take_codecs codecs = take_all (length codecs) codecs (omega arith)
 
 -- ---- what a cache keeps changes no answer
@@ -185,18 +184,18 @@ form_read : {B : Type 0} (f : BytesCodecs B) (form : ChunkForm B) (encoded : Lis
     → stored_read f form stored selection ≡ (encoded_places form.type form.chain.arrays form.sizes selection >>= λ places. outer_stored f form.chain.outer r stored >>= λ below. codec_read f form.chain.codec encoded form.type form.fill below places)
 form_read f form encoded r stored selection e = rw e refl
 
-made_at : {B : Type 0} (f : BytesCodecs B) (reads : B → PartialDecoderCapability) (form : ChunkForm B) (stored : Option (List ℕ)) (source : Source) (encoded : List ℕ) (r : BytesRepresentation) → taken_form f form.chain form.sizes form.type form.fill ≡ Ok (encoded, r)
-    → source_made f reads form stored ≡ Ok source → source_at f form.chain encoded form.type form.fill r (cache_stage reads form.chain) stored ≡ Ok source
-made_at f reads form stored source encoded r e made = rw e at made
+made_at : {B : Type 0} (f : BytesCodecs B) (s : CacheStage) (form : ChunkForm B) (stored : Option (List ℕ)) (source : Source) (encoded : List ℕ) (r : BytesRepresentation) → taken_form f form.chain form.sizes form.type form.fill ≡ Ok (encoded, r)
+    → source_made_at f form s stored ≡ Ok source → source_at f form.chain encoded form.type form.fill r s stored ≡ Ok source
+made_at f s form stored source encoded r e made = rw e at made
 
 -- What a decoder reads by what its answers rest on is what is read of the stored value.
-pub source_is_stored : {B : Type 0} (f : BytesCodecs B) (reads : B → PartialDecoderCapability) (form : ChunkForm B) (encoded : List ℕ) (r : BytesRepresentation) (stored : Option (List ℕ)) (source : Source) (selection : Selection)
-    → All IsMapping form.chain.arrays → All (λ size. 0 < size) form.sizes → taken_form f form.chain form.sizes form.type form.fill ≡ Ok (encoded, r) → source_made f reads form stored ≡ Ok source
+pub source_is_stored : {B : Type 0} (f : BytesCodecs B) (s : CacheStage) (form : ChunkForm B) (encoded : List ℕ) (r : BytesRepresentation) (stored : Option (List ℕ)) (source : Source) (selection : Selection)
+    → All IsMapping form.chain.arrays → All (λ size. 0 < size) form.sizes → taken_form f form.chain form.sizes form.type form.fill ≡ Ok (encoded, r) → source_made_at f form s stored ≡ Ok source
     → source_read f form encoded r source selection ≡ stored_read f form stored selection
-source_is_stored f reads form encoded r stored source selection mappings positive e made =
+source_is_stored f s form encoded r stored source selection mappings positive e made =
     let h = is_readable f form.chain form.sizes form.type form.fill encoded r mappings positive e in
     at_both (encoded_places form.type form.chain.arrays form.sizes selection) (All (λ place. place < product encoded)) _ _ (mapped_below form.type form.chain.arrays form.sizes encoded selection h.map_is h.mapped h.is_map h.count)
-    (λ places inside. unchanged f form.chain encoded form.type form.fill r h.measured (cache_stage reads form.chain) stored source places (made_at f reads form stored source encoded r e made) inside)
+    (λ places inside. unchanged f form.chain encoded form.type form.fill r h.measured s stored source places (made_at f s form stored source encoded r e made) inside)
     ∙ sym (form_read f form encoded r stored selection e)
 
 there_at : {B : Type 0} (f : BytesCodecs B) (chain : PlainChain B) (encoded : List ℕ) (type : ElementType) (fill : List ℕ) (r : BytesRepresentation) (s : CacheStage) (stored : Option (List ℕ)) (source : Source) → source_at f chain encoded type fill r s stored ≡ Ok source → is_there source ≡ is_some stored
@@ -211,10 +210,10 @@ there_at f chain encoded type fill r stage.Chunk (Some value) source e =
     ap is_there (same_source _ _ a.2)
 
 -- something is there just where something is stored
-pub source_there : {B : Type 0} (f : BytesCodecs B) (reads : B → PartialDecoderCapability) (form : ChunkForm B) (stored : Option (List ℕ)) (source : Source) → source_made f reads form stored ≡ Ok source → is_there source ≡ is_some stored
-source_there f reads form stored source made =
+pub source_there : {B : Type 0} (f : BytesCodecs B) (s : CacheStage) (form : ChunkForm B) (stored : Option (List ℕ)) (source : Source) → source_made_at f form s stored ≡ Ok source → is_there source ≡ is_some stored
+source_there f s form stored source made =
     let t = bind_ok (taken_form f form.chain form.sizes form.type form.fill) _ source made in
-    there_at f form.chain t.0.0 form.type form.fill t.0.1 (cache_stage reads form.chain) stored source t.2
+    there_at f form.chain t.0.0 form.type form.fill t.0.1 s stored source t.2
 
 -- ---- selections of the chunk that is stored
 

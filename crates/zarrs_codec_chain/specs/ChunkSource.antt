@@ -6,8 +6,8 @@ use Rattle.zarrs_chunk.specs.declared.codec_error.CodecError.{CodecError}
 use Rattle.zarrs_data_type.specs.Element.{Chunk, fill_element}
 use Rattle.zarrs_data_type.specs.ElementType.{ElementType}
 use Rattle.zarrs_array_bytes.specs.Elements.{elements, select}
-use Rattle.zarrs_array_bytes.specs.Held.{byte_count}
-use Rattle.zarrs_array_bytes.specs.Validity.{validity}
+use Rattle.zarrs_array_bytes.specs.Held.{Held, byte_count}
+use Rattle.zarrs_array_bytes.specs.Validity.{Holds, validity}
 use Rattle.zarrs_codec.specs.BytesToBytesCodec.{BytesCodecs}
 use Rattle.zarrs_codec.specs.declared.bytes_representation.BytesRepresentation.{BytesRepresentation}
 use Rattle.zarrs_codec.specs.declared.capabilities.PartialDecoderCapability.{PartialDecoderCapability}
@@ -67,6 +67,12 @@ bytes_stage (Some left) = stage.Bytes left
 abbrev pub stage_by : PartialDecoderCapability → Option ℕ → CacheStage
 stage_by codec left = if not codec.partial_decode then stage.Chunk else (if not codec.partial_read then stage.Bytes 0 else bytes_stage left)
 
+-- a cache stands there
+abbrev pub has_cache : CacheStage → Bool
+has_cache stage.Nowhere = false
+has_cache (stage.Bytes below) = true
+has_cache stage.Chunk = true
+
 -- the stage is one of a chain of so many bytes codecs: a cache of bytes, or none, only where the codec to bytes decodes a part
 abbrev pub stage_fits : PartialDecoderCapability → ℕ → CacheStage → Bool
 stage_fits reads codecs stage.Nowhere = reads.partial_decode
@@ -89,11 +95,15 @@ source_at f chain encoded type fill r stage.Chunk (Some value) = do
   chunk ← opened_chunk f chain encoded type fill r value
   Ok (chunk_below (Some chunk))
 
--- What a decoder's answers rest on that is made of what is stored, or the first refusal: the chain's representation, and then what decodes the value up to the cache.
-abbrev pub source_made : {B : Type 0} → BytesCodecs B → (B → PartialDecoderCapability) → ChunkForm B → Option (List ℕ) → Result Source CodecError
-source_made f reads form stored = do
+-- What answers rest on that is made of what is stored, where the cache stands here; or the first refusal: the chain's representation, and then what decodes the value up to the cache.
+abbrev pub source_made_at : {B : Type 0} → BytesCodecs B → ChunkForm B → CacheStage → Option (List ℕ) → Result Source CodecError
+source_made_at f form cache stored = do
   taken ← taken_form f form.chain form.sizes form.type form.fill
-  source_at f form.chain taken.0 form.type form.fill taken.1 (cache_stage reads form.chain) stored
+  source_at f form.chain taken.0 form.type form.fill taken.1 cache stored
+
+-- What a decoder's answers rest on that is made of what is stored, or the first refusal: its cache stands where the chain wants it.
+abbrev pub source_made : {B : Type 0} → BytesCodecs B → (B → PartialDecoderCapability) → ChunkForm B → Option (List ℕ) → Result Source CodecError
+source_made f reads form stored = source_made_at f form (cache_stage reads form.chain) stored
 
 -- ---- what is kept
 
@@ -105,10 +115,16 @@ source_of type count codecs stored (kept.Chunk held) = chunk_below (option_map (
 
 -- the cache is one of a chunk of so many elements, for a chain of so many bytes codecs: bytes are kept only where the codec to bytes reads in part
 abbrev pub cache_fits : PartialDecoderCapability → ElementType → ℕ → ℕ → Cache → Bool
-cache_fits reads type count codecs kept.Handle = reads.partial_decode
+cache_fits reads type count codecs kept.Handle = true
 cache_fits reads type count codecs (kept.Bytes below value) = reads.partial_decode && nat_le below codecs
 cache_fits reads type count codecs (kept.Chunk None) = true
 cache_fits reads type count codecs (kept.Chunk (Some held)) = is_ok (validity type count held)
+
+-- where the cache stands
+abbrev pub kept_stage : Cache → CacheStage
+kept_stage kept.Handle = stage.Nowhere
+kept_stage (kept.Bytes below value) = stage.Bytes below
+kept_stage (kept.Chunk held) = stage.Chunk
 
 -- something is stored
 abbrev pub is_there : Source → Bool
@@ -128,3 +144,10 @@ held_by handle (kept.Bytes below None) = 0
 held_by handle (kept.Bytes below (Some value)) = length value.items
 held_by handle (kept.Chunk None) = 0
 held_by handle (kept.Chunk (Some held)) = min (byte_count held) (2 ^ 64 - 1)
+
+-- A cache of what answers rest on has so many bytes: those that it keeps, or those of a container that holds the chunk; none where nothing is stored. (At most 2^64 - 1 are counted.)
+abbrev pub IsSizeOf : ElementType → Source → ℕ → Type 0
+IsSizeOf type (bytes_above below None) size = size ≡ 0
+IsSizeOf type (bytes_above below (Some value)) size = size ≡ length value
+IsSizeOf type (chunk_below None) size = size ≡ 0
+IsSizeOf type (chunk_below (Some chunk)) size = (held : Held) × Holds type held chunk × (size ≡ min (byte_count held) (2 ^ 64 - 1))

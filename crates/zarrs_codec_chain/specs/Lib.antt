@@ -8,7 +8,14 @@ pub mod Decode
 pub mod Stands
 pub mod Written
 pub mod Chain
+pub mod Compact
 pub mod ChainView
+pub mod DefaultVlen
+pub mod CodecNames
+pub mod MadeChain
+pub mod ChainParts
+pub mod WrittenMetadata
+pub mod MadeAgain
 pub mod VlenSteps
 pub mod OptionalParts
 pub mod Laws
@@ -18,6 +25,10 @@ pub mod ChunkSource
 pub mod SliceHandle
 pub mod ChunkReader
 pub mod PartialDecoder
+pub mod VlenPartialDecoder
+pub mod ChunkWrite
+pub mod PartialEncoder
+pub mod Edits
 pub mod ElementCode
 pub use Rattle.zarrs_chunk.specs.Answer
 pub use Rattle.zarrs_data_type.specs.Element

@@ -26,6 +26,13 @@ abbrev pub vlen_codec_of : {B : Type 0} → PlainChain B → PlainChain B → Bo
 vlen_codec_of index content wide at_end =
     vlen_codec index.arrays index.codec index.outer content.arrays content.codec content.outer wide at_end
 
+-- `vlen` with the index at the end or at the start; any other codec as it is
+abbrev pub with_location : {B : Type 0} → Bool → PlainCodec B → PlainCodec B
+with_location at_end (bytes_codec order) = bytes_codec order
+with_location at_end (packbits_codec settings) = packbits_codec settings
+with_location at_end (vlen_codec ia ix ib da dx db wide before) = vlen_codec ia ix ib da dx db wide at_end
+with_location at_end (optional_codec ma mx mb da dx db) = optional_codec ma mx mb da dx db
+
 -- `optional` with these chains inside
 abbrev pub optional_codec_of : {B : Type 0} → PlainChain B → PlainChain B → PlainCodec B
 optional_codec_of mask content =

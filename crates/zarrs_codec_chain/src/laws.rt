@@ -1,6 +1,8 @@
 //! Laws over the definitions alone: each function's contract is one. They are of all chains, those
 //! with chains inside too.
 ghost use Rattle.zarrs_codec.specs.BytesToBytesCodec.{BytesCodecs};
+ghost use Rattle.zarrs_codec_chain.specs.MadeAgain.{ChainsAreMadeAgain};
+ghost use Rattle.zarrs_codec_chain.specs.MadeChain.{ChainsAreMadeAlike};
 ghost use Rattle.zarrs_codec_chain.specs.Laws.{WrittenStands, StandsForOne, StandsIsAnswered, AnsweredStands, WrittenOnce, ValueIsWritten, NormalTwice, NormalMoved, NormalUpdated, WrittenForNormal, WrittenAlike, WrittenKeeps};
 
 /// What is written for a chunk stands for its normal form.
@@ -57,4 +59,15 @@ pub fn written_alike<B>()
 /// A written value is as many bytes as the representation says.
 pub fn written_keeps<B>()
     ensures law { (f : BytesCodecs B) → WrittenKeeps f }
+{}
+
+/// The chains inside a chain are made of their metadata as the chain itself is.
+pub fn chains_are_made_alike<B>()
+    ensures law { ChainsAreMadeAlike B }
+{}
+
+/// What is written of a chain makes an equal one, where each bytes codec's metadata has a name that no
+/// codec of the table has, and no float, and the maker makes an equal codec of it.
+pub fn chains_are_made_again<B>()
+    ensures law { ChainsAreMadeAgain B }
 {}

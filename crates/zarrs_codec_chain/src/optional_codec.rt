@@ -1,10 +1,13 @@
-ghost use Rattle.std.specs.Prelude.{◌≡◌, ◌+◌, ◌<◌, ◌^◌, [], ◌∷◌, length, Ok, IsOk, false};
+ghost use Rattle.std.specs.Prelude.{◌≡◌, ◌+◌, ◌<◌, ◌^◌, ℕ, List, [], ◌∷◌, length, Ok, IfOk, IsOk, false};
 ghost use Rattle.zarrs_chunk.specs.Answer.{Answers, AnswersBy, memory, is_fault, checked_u64};
 ghost use Rattle.zarrs_chunk.specs.ChunkShape.{product};
+ghost use Rattle.zarrs_data_type.specs.Element.{Chunk};
 ghost use Rattle.zarrs_data_type.specs.ElementType.{optional};
 ghost use Rattle.zarrs_array_bytes.specs.Elements.{elements as elements_of};
 ghost use Rattle.zarrs_array_bytes.specs.Held.{raw_of};
 ghost use Rattle.zarrs_array_bytes.specs.Validity.{Holds, sizes_fit, validity};
+ghost use Rattle.zarrs_metadata.specs.MetadataV3.{configuration_seen};
+ghost use Rattle.zarrs_metadata.specs.PluginCreateError.{plugin_memory};
 ghost use Rattle.zarrs_codec_chain.specs.Chain.{codec_held_value, held_part, taken_chunk};
 ghost use Rattle.zarrs_codec_chain.specs.ChainView.{plain_chain, plain_optional};
 ghost use Rattle.zarrs_codec_chain.specs.Decode.{codec_chunk, chain_chunk};
@@ -13,10 +16,15 @@ ghost use Rattle.zarrs_codec_chain.specs.Laws.{HasMappings};
 ghost use Rattle.zarrs_codec_chain.specs.OptionalParts.{optional_inner, present_part};
 ghost use Rattle.zarrs_codec_chain.specs.PlainChain.{optional_codec_of};
 ghost use Rattle.zarrs_codec_chain.specs.Representation.{codec_representation, flag_type, blank_fill as blank_fill_of};
+ghost use Rattle.zarrs_codec_chain.specs.Stands.{CodecStands};
+ghost use Rattle.zarrs_codec_chain.specs.Written.{CodecWritten};
+ghost use Rattle.zarrs_codec_chain.specs.WrittenMetadata.{codec_configuration};
 
 use crate::codec_chain::{CodecChain, chain_is_sound};
 use crate::decode::{chain_decode, part_decode};
 use crate::encode::{chain_encode, check_elements, part_encode};
+use crate::metadata::configurations::optional_members;
+use crate::metadata::write_chain::chain_written;
 use crate::optional_parts::{
     blank_fill, both_representations, inner_type, join_parts, lent, masked_parts, split_value,
 };
@@ -26,6 +34,7 @@ use zarrs_array_bytes::{ArrayBytes, ArrayBytesRaw, count_present};
 use zarrs_chunk::{ChunkShape, CodecError};
 use zarrs_codec::{BytesRepresentation, BytesToBytesCodecTraits};
 use zarrs_data_type::{DataType, FillValue};
+use zarrs_metadata::{Configuration, PluginCreateError};
 
 /// Optional elements: which ones are present, through one chain, and those that are, through another
 /// (codec.zarrs.dev codec `zarrs.optional`).
@@ -61,6 +70,20 @@ pub(crate) fn optional_is_sound<B>(codec: &OptionalCodec<B>)
 {
     chain_is_sound(&codec.mask_codecs);
     chain_is_sound(&codec.data_codecs);
+}
+
+/// The configuration that is written of the codec. Refusals: `OutOfMemory`.
+#[cycle(written)]
+#[tactic(auto, using(crate::specs::ChainView::plain_optional_at))]
+pub(crate) fn optional_written<B: BytesToBytesCodecTraits>(
+    alloc: Global,
+    codec: &OptionalCodec<B>,
+) -> Result<Configuration, PluginCreateError>
+    ensures answer { Answers plugin_memory configuration_seen result (Ok (codec_configuration B.described (plain_optional codec.now))) }
+{
+    let mask_codecs = chain_written(alloc, &codec.mask_codecs)?;
+    let data_codecs = chain_written(alloc, &codec.data_codecs)?;
+    optional_members(alloc, mask_codecs, data_codecs)
 }
 
 /// How many bytes the value of such a chunk has. Refusals: those of
@@ -255,6 +278,23 @@ pub(crate) fn optional_decode<'a, B: BytesToBytesCodecTraits>(
     present_decode(alloc, &codec.data_codecs, mask, data_part, inner)
 }
 
+/// The chunk that a value stands for, where the codec takes such chunks. Refusals: those of
+/// `OptionalCodec::decode`.
+fn optional_taken_decode<'a, B: BytesToBytesCodecTraits>(
+    alloc: Global,
+    codec: &OptionalCodec<B>,
+    value: ArrayBytesRaw<'a>,
+    shape: &ChunkShape,
+    data_type: &DataType,
+    fill_value: &FillValue,
+) -> Result<ArrayBytes<'a>, CodecError>
+    ensures exact { AnswersBy memory (Holds data_type.now) result (taken_chunk B.functions (plain_optional codec.now) shape.now data_type.now fill_value.now (raw_of value.entry).items) }
+    ensures no_fault { is_fault result ≡ false }
+{
+    optional_representation(alloc, codec, shape, data_type, fill_value)?;
+    optional_decode(alloc, codec, value, shape, data_type, fill_value)
+}
+
 impl<B: BytesToBytesCodecTraits> OptionalCodec<B> {
     /// How many bytes the value of such a chunk has: the two lengths, and what the mask chain and the
     /// data chain make, each of a chunk of the full shape. Refusals, the first that holds,
@@ -285,9 +325,13 @@ impl<B: BytesToBytesCodecTraits> OptionalCodec<B> {
         data_type: &DataType,
         fill_value: &FillValue,
     ) -> Result<ArrayBytesRaw<'a>, CodecError>
+        ensures found { IfOk result (λ value. (chunk : Chunk) × Holds data_type.now elements.entry chunk × CodecWritten B.functions (plain_optional self.now) shape.now data_type.now fill_value.now (raw_of value).items chunk) }
+        ensures only { IsOk (codec_representation B.functions (plain_optional self.now) shape.now data_type.now fill_value.now) → (chunk : Chunk) (value : List ℕ) → Holds data_type.now elements.entry chunk → length chunk ≡ product shape.now → CodecWritten B.functions (plain_optional self.now) shape.now data_type.now fill_value.now value chunk → Answers memory (λ bytes. (raw_of bytes).items) result (Ok value) }
         ensures exact { Answers memory (λ value. (raw_of value).items) result (codec_held_value B.functions (plain_optional self.now) shape.now data_type.now fill_value.now elements.entry) }
         ensures no_fault { is_fault result ≡ false }
     {
+        optional_is_sound(self);
+        shape.as_slice();
         optional_encode(alloc, self, elements, shape, data_type, fill_value)
     }
 
@@ -303,10 +347,13 @@ impl<B: BytesToBytesCodecTraits> OptionalCodec<B> {
         data_type: &DataType,
         fill_value: &FillValue,
     ) -> Result<ArrayBytes<'a>, CodecError>
+        ensures found { IfOk result (λ elements. (chunk : Chunk) × Holds data_type.now elements chunk × CodecStands B.functions (plain_optional self.now) shape.now data_type.now fill_value.now (raw_of value.entry).items chunk) }
+        ensures only { IsOk (codec_representation B.functions (plain_optional self.now) shape.now data_type.now fill_value.now) → (chunk : Chunk) → CodecStands B.functions (plain_optional self.now) shape.now data_type.now fill_value.now (raw_of value.entry).items chunk → AnswersBy memory (Holds data_type.now) result (Ok chunk) }
         ensures exact { AnswersBy memory (Holds data_type.now) result (taken_chunk B.functions (plain_optional self.now) shape.now data_type.now fill_value.now (raw_of value.entry).items) }
         ensures no_fault { is_fault result ≡ false }
     {
-        optional_representation(alloc, self, shape, data_type, fill_value)?;
-        optional_decode(alloc, self, value, shape, data_type, fill_value)
+        optional_is_sound(self);
+        shape.as_slice();
+        optional_taken_decode(alloc, self, value, shape, data_type, fill_value)
     }
 }

@@ -1,8 +1,9 @@
 pub(crate) mod array_partial_decoder;
 mod cache;
-mod chunk_reader;
+pub(crate) mod chunk_reader;
 mod codec_read;
-mod encoded_runs;
-mod fill_runs;
+pub(crate) mod encoded_runs;
+pub(crate) mod fill_runs;
 mod make_cache;
 mod slice_handle;
+pub(crate) mod vlen_partial_decoder;

@@ -1,30 +1,41 @@
-ghost use Rattle.std.specs.Prelude.{◌≡◌, ◌<◌, ◌+◌, [], IfOk, IsOk, false, length, true};
+ghost use Rattle.std.specs.Prelude.{◌≡◌, ◌<◌, ◌+◌, ℕ, List, [], Ok, IfOk, IsOk, false, length, true};
 ghost use Rattle.zarrs_chunk.specs.Answer.{Answers, AnswersBy, memory, is_fault, checked_u64};
 ghost use Rattle.zarrs_chunk.specs.ChunkShape.{product};
+ghost use Rattle.zarrs_data_type.specs.Element.{Chunk};
 ghost use Rattle.zarrs_array_bytes.specs.Held.{raw_of};
 ghost use Rattle.zarrs_array_bytes.specs.Offsets.{is_offsets, last_of};
 ghost use Rattle.zarrs_array_bytes.specs.Validity.{Holds};
+ghost use Rattle.zarrs_metadata.specs.MetadataV3.{configuration_seen};
+ghost use Rattle.zarrs_metadata.specs.PluginCreateError.{plugin_memory};
 ghost use Rattle.zarrs_codec_chain.specs.Chain.{codec_held_value, taken_chunk};
 ghost use Rattle.zarrs_codec_chain.specs.ChainView.{plain_chain, plain_vlen, is_wide, is_at_end};
 ghost use Rattle.zarrs_codec_chain.specs.Decode.{codec_chunk};
+ghost use Rattle.zarrs_codec_chain.specs.DefaultVlen.{bytes_chain, default_vlen};
 ghost use Rattle.zarrs_codec_chain.specs.Laws.{HasMappings};
-ghost use Rattle.zarrs_codec_chain.specs.PlainChain.{vlen_codec_of};
+ghost use Rattle.zarrs_codec_chain.specs.PlainChain.{vlen_codec_of, with_location};
 ghost use Rattle.zarrs_codec_chain.specs.Representation.{codec_representation, vlen_representation as vlen_representation_of};
+ghost use Rattle.zarrs_codec_chain.specs.Stands.{CodecStands};
 ghost use Rattle.zarrs_codec_chain.specs.VlenSteps.{index_part, content_part, index_offsets, content_bytes};
+ghost use Rattle.zarrs_codec_chain.specs.Written.{CodecWritten};
+ghost use Rattle.zarrs_codec_chain.specs.WrittenMetadata.{codec_configuration};
 
+use crate::array_to_bytes_codec::ArrayToBytesCodec;
 use crate::codec_chain::{CodecChain, chain_is_sound};
 use crate::decode::part_decode;
 use crate::encode::{check_elements, part_encode};
+use crate::metadata::configurations::vlen_members;
+use crate::metadata::write_chain::chain_written;
 use crate::vlen_kept::check_kept;
 use crate::vlen_offsets::{index_elements, offset_fill, offset_numbers, offset_type};
 use crate::vlen_parts::{behind, data_part, join, split, variable_parts};
 use std::alloc::Global;
 use std::borrow::CowSlice;
 use zarrs_array_bytes::{ArrayBytes, ArrayBytesOffsets, ArrayBytesRaw};
+use zarrs_bytes::BytesCodec;
 use zarrs_chunk::{ChunkShape, CodecError, CodecName};
 use zarrs_codec::{BytesRepresentation, BytesToBytesCodecTraits};
 use zarrs_data_type::{DataType, FillValue};
-use zarrs_metadata::{VlenIndexDataType, VlenIndexLocation};
+use zarrs_metadata::{Configuration, PluginCreateError, VlenIndexDataType, VlenIndexLocation};
 
 /// Elements of any length: where each begins, through one chain, and their bytes, through another
 /// (codec.zarrs.dev codec `zarrs.vlen`).
@@ -60,6 +71,48 @@ impl<B> VlenCodec<B> {
             index_location,
         }
     }
+
+    /// The same codec, with the index at this place.
+    #[tactic(auto, using(crate::specs::ChainView::plain_vlen_at, crate::specs::ChainView::plain_vlen_made))]
+    pub fn with_index_location(self, index_location: VlenIndexLocation) -> VlenCodec<B>
+        ensures made { plain_vlen result ≡ with_location (is_at_end index_location) (plain_vlen self) }
+    {
+        let VlenCodec {
+            index_codecs,
+            data_codecs,
+            index_data_type,
+            index_location: _,
+        } = self;
+        VlenCodec::new(index_codecs, data_codecs, index_data_type, index_location)
+    }
+}
+
+/// The codec `bytes` alone, in a box. Refusals: `OutOfMemory`.
+#[tactic(auto, unfolding(crate::specs::ChainView::plain_codec))]
+fn boxed_bytes<B: Drop>(alloc: Global, codec: BytesCodec) -> Result<Box<CodecChain<B>>, CodecError>
+    ensures made { Answers memory (λ chain. plain_chain chain.value) result (Ok (bytes_chain codec)) }
+{
+    let codec = ArrayToBytesCodec::Bytes(codec);
+    let chain = CodecChain::new(Vec::new(alloc), codec, Vec::new(alloc));
+    Ok(Box::new(alloc, chain)?)
+}
+
+impl<B: Drop> VlenCodec<B> {
+    /// The codec where nothing else is asked for: offsets of 64 bits, the lowest byte first, and the
+    /// index at the start; the elements' bytes as they are. Both chains are `bytes` alone, the data
+    /// chain without a byte order. Refusals: `OutOfMemory`.
+    pub fn new_default(alloc: Global) -> Result<VlenCodec<B>, CodecError>
+        ensures made { Answers memory plain_vlen result (Ok default_vlen) }
+    {
+        let index_codecs = boxed_bytes(alloc, BytesCodec::little())?;
+        let data_codecs = boxed_bytes(alloc, BytesCodec::new(None))?;
+        Ok(VlenCodec::new(
+            index_codecs,
+            data_codecs,
+            VlenIndexDataType::UInt64,
+            VlenIndexLocation::Start,
+        ))
+    }
 }
 
 /// The array codecs of the chains inside hold to what their types do.
@@ -70,6 +123,26 @@ pub(crate) fn vlen_is_sound<B>(codec: &VlenCodec<B>)
 {
     chain_is_sound(&codec.index_codecs);
     chain_is_sound(&codec.data_codecs);
+}
+
+/// The configuration that is written of the codec. Refusals: `OutOfMemory`.
+#[cycle(written)]
+#[tactic(auto, using(crate::specs::ChainView::plain_vlen_at, crate::proofs::WrittenAt::offset_type_again, crate::proofs::WrittenAt::index_place_again))]
+pub(crate) fn vlen_written<B: BytesToBytesCodecTraits>(
+    alloc: Global,
+    codec: &VlenCodec<B>,
+) -> Result<Configuration, PluginCreateError>
+    ensures answer { Answers plugin_memory configuration_seen result (Ok (codec_configuration B.described (plain_vlen codec.now))) }
+{
+    let index_codecs = chain_written(alloc, &codec.index_codecs)?;
+    let data_codecs = chain_written(alloc, &codec.data_codecs)?;
+    vlen_members(
+        alloc,
+        index_codecs,
+        data_codecs,
+        codec.index_data_type,
+        codec.index_location,
+    )
 }
 
 /// How many bytes the value has: any number. Refusals: `UnsupportedDataType` where the elements
@@ -265,7 +338,7 @@ fn last_offset(offsets: &ArrayBytesOffsets) -> u64
 }
 
 /// How many bytes the value has. Refusals: those of `vlen_representation`.
-#[tactic(auto, using(crate::proofs::CodecSteps::vlen_measured))]
+#[tactic(auto, using(crate::proofs::CodecSteps::vlen_measured, crate::proofs::CodecSteps::vlen_measured_exactly))]
 fn vlen_measure<B: BytesToBytesCodecTraits>(
     codec: &VlenCodec<B>,
     shape: &ChunkShape,
@@ -273,15 +346,33 @@ fn vlen_measure<B: BytesToBytesCodecTraits>(
     fill_value: &FillValue,
 ) -> Result<BytesRepresentation, CodecError>
     ensures answer { Answers memory (λ representation. representation) result (codec_representation B.functions (plain_vlen codec.now) shape.now data_type.now fill_value.now) }
+    ensures in_place { result ≡ codec_representation B.functions (plain_vlen codec.now) shape.now data_type.now fill_value.now }
     ensures no_fault { is_fault result ≡ false }
 {
     vlen_representation(shape, data_type)
 }
 
+/// The chunk that a value stands for, where the codec takes such chunks. Refusals: those of
+/// `VlenCodec::decode`.
+fn vlen_taken_decode<'a, B: BytesToBytesCodecTraits>(
+    alloc: Global,
+    codec: &VlenCodec<B>,
+    value: ArrayBytesRaw<'a>,
+    shape: &ChunkShape,
+    data_type: &DataType,
+    fill_value: &FillValue,
+) -> Result<ArrayBytes<'a>, CodecError>
+    ensures exact { AnswersBy memory (Holds data_type.now) result (taken_chunk B.functions (plain_vlen codec.now) shape.now data_type.now fill_value.now (raw_of value.entry).items) }
+    ensures no_fault { is_fault result ≡ false }
+{
+    vlen_measure(codec, shape, data_type, fill_value)?;
+    vlen_decode(alloc, codec, value, shape, data_type, fill_value)
+}
+
 impl<B: BytesToBytesCodecTraits> VlenCodec<B> {
-    /// How many bytes the value of such a chunk has: any number. The chains inside aren't asked.
-    /// Refusals, the first that holds: `UnsupportedDataType` where the elements aren't of any length;
-    /// `Overflow` where 64 bits don't count them.
+    /// How many bytes the value of such a chunk has: any number. The chains inside aren't asked, and no
+    /// memory is taken. Refusals, the first that holds: `UnsupportedDataType` where the elements
+    /// aren't of any length; `Overflow` where 64 bits don't count them.
     pub fn encoded_representation(
         &self,
         shape: &ChunkShape,
@@ -289,6 +380,7 @@ impl<B: BytesToBytesCodecTraits> VlenCodec<B> {
         fill_value: &FillValue,
     ) -> Result<BytesRepresentation, CodecError>
         ensures answer { Answers memory (λ representation. representation) result (codec_representation B.functions (plain_vlen self.now) shape.now data_type.now fill_value.now) }
+        ensures in_place { result ≡ codec_representation B.functions (plain_vlen self.now) shape.now data_type.now fill_value.now }
         ensures no_fault { is_fault result ≡ false }
     {
         vlen_measure(self, shape, data_type, fill_value)
@@ -307,9 +399,13 @@ impl<B: BytesToBytesCodecTraits> VlenCodec<B> {
         data_type: &DataType,
         fill_value: &FillValue,
     ) -> Result<ArrayBytesRaw<'a>, CodecError>
+        ensures found { IfOk result (λ value. (chunk : Chunk) × Holds data_type.now elements.entry chunk × CodecWritten B.functions (plain_vlen self.now) shape.now data_type.now fill_value.now (raw_of value).items chunk) }
+        ensures only { IsOk (codec_representation B.functions (plain_vlen self.now) shape.now data_type.now fill_value.now) → (chunk : Chunk) (value : List ℕ) → Holds data_type.now elements.entry chunk → length chunk ≡ product shape.now → CodecWritten B.functions (plain_vlen self.now) shape.now data_type.now fill_value.now value chunk → Answers memory (λ bytes. (raw_of bytes).items) result (Ok value) }
         ensures exact { Answers memory (λ value. (raw_of value).items) result (codec_held_value B.functions (plain_vlen self.now) shape.now data_type.now fill_value.now elements.entry) }
         ensures no_fault { is_fault result ≡ false }
     {
+        vlen_is_sound(self);
+        shape.as_slice();
         vlen_encode(alloc, self, elements, shape, data_type, fill_value)
     }
 
@@ -326,10 +422,13 @@ impl<B: BytesToBytesCodecTraits> VlenCodec<B> {
         data_type: &DataType,
         fill_value: &FillValue,
     ) -> Result<ArrayBytes<'a>, CodecError>
+        ensures found { IfOk result (λ elements. (chunk : Chunk) × Holds data_type.now elements chunk × CodecStands B.functions (plain_vlen self.now) shape.now data_type.now fill_value.now (raw_of value.entry).items chunk) }
+        ensures only { IsOk (codec_representation B.functions (plain_vlen self.now) shape.now data_type.now fill_value.now) → (chunk : Chunk) → CodecStands B.functions (plain_vlen self.now) shape.now data_type.now fill_value.now (raw_of value.entry).items chunk → AnswersBy memory (Holds data_type.now) result (Ok chunk) }
         ensures exact { AnswersBy memory (Holds data_type.now) result (taken_chunk B.functions (plain_vlen self.now) shape.now data_type.now fill_value.now (raw_of value.entry).items) }
         ensures no_fault { is_fault result ≡ false }
     {
-        vlen_measure(self, shape, data_type, fill_value)?;
-        vlen_decode(alloc, self, value, shape, data_type, fill_value)
+        vlen_is_sound(self);
+        shape.as_slice();
+        vlen_taken_decode(alloc, self, value, shape, data_type, fill_value)
     }
 }

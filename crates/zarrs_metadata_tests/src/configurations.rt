@@ -14,7 +14,7 @@ use zarrs_metadata::{
 /// A configuration, and how it is written again; or the first cause why it is refused.
 type Row = (&'static str, Result<&'static str, PluginCreateError>);
 
-const TRANSPOSE: [Row; 13] = [
+const TRANSPOSE: &'static [Row] = &[
     (r#"{"order":[1,0]}"#, Ok(r#"{"order":[1,0]}"#)),
     (
         r#"{"other":"x","order":[2,0,1]}"#,
@@ -33,7 +33,7 @@ const TRANSPOSE: [Row; 13] = [
     (r#"{"order":[1,1]}"#, Err(NotAPermutation)),
 ];
 
-const RESHAPE: [Row; 13] = [
+const RESHAPE: &'static [Row] = &[
     (r#"{"shape":[]}"#, Ok(r#"{"shape":[]}"#)),
     (
         r#"{"shape":[[0,1],-1,[],10]}"#,
@@ -52,13 +52,13 @@ const RESHAPE: [Row; 13] = [
     (r#"{"shape":[-1,2,-1]}"#, Err(MultipleAuto)),
 ];
 
-const SQUEEZE: [Row; 3] = [
+const SQUEEZE: &'static [Row] = &[
     ("{}", Ok("{}")),
     (r#"{"other":[1,{"x":null}]}"#, Ok("{}")),
     (r#"{"other":[1,{"x":1.5}]}"#, Err(InvalidConfiguration)),
 ];
 
-const BYTES: [Row; 9] = [
+const BYTES: &'static [Row] = &[
     ("{}", Ok("{}")),
     (r#"{"endian":null}"#, Ok("{}")),
     (r#"{"endian":"little"}"#, Ok(r#"{"endian":"little"}"#)),
@@ -70,7 +70,7 @@ const BYTES: [Row; 9] = [
     (r#"{"endian":"big","a":0.0}"#, Err(InvalidConfiguration)),
 ];
 
-const PACKBITS: [Row; 10] = [
+const PACKBITS: &'static [Row] = &[
     (
         "{}",
         Ok(r#"{"first_bit":null,"last_bit":null,"padding_encoding":"none"}"#),
@@ -101,7 +101,7 @@ const PACKBITS: [Row; 10] = [
     (r#"{"first_bit":4,"last_bit":3}"#, Err(BitOrder)),
 ];
 
-const VLEN: [Row; 11] = [
+const VLEN: &'static [Row] = &[
     (
         r#"{"index_codecs":[{"name":"bytes","configuration":{"endian":"little"}}],"data_codecs":["bytes"],"index_data_type":"uint64","index_location":"end"}"#,
         Ok(
@@ -152,7 +152,7 @@ const VLEN: [Row; 11] = [
     ),
 ];
 
-const OPTIONAL: [Row; 6] = [
+const OPTIONAL: &'static [Row] = &[
     (
         r#"{"mask_codecs":["packbits"],"data_codecs":["bytes"]}"#,
         Ok(r#"{"data_codecs":["bytes"],"mask_codecs":["packbits"]}"#),

@@ -6,7 +6,7 @@ use zarrs_metadata::PluginCreateError::InvalidConfiguration;
 use zarrs_metadata::{MetadataV3, PluginCreateError};
 
 /// Metadata, and how it is written again; or why it is refused.
-const ROWS: [(&'static str, Result<&'static str, PluginCreateError>); 21] = [
+const ROWS: &'static [(&'static str, Result<&'static str, PluginCreateError>)] = &[
     (r#""bytes""#, Ok(r#""bytes""#)),
     (r#"{"name":"bytes"}"#, Ok(r#""bytes""#)),
     (

@@ -21,3 +21,4 @@ pub mod Taken
 pub mod Tests
 pub mod WholeChunk
 pub mod WholeReads
+pub mod Counted

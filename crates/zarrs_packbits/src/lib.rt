@@ -5,6 +5,7 @@
 //! part, over a storage handle.
 #![tactic(auto)]
 
+mod array_to_bytes;
 mod bit_places;
 mod bit_writer;
 pub mod laws;

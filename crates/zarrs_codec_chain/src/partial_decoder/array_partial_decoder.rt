@@ -1,4 +1,4 @@
-ghost use Rattle.std.specs.Prelude.{◌≡◌, ◌<◌, ◌&&◌, ℕ, List, Ok, Err, IfOk, IfErr, Some, None, map, option_map, is_some, true, false};
+ghost use Rattle.std.specs.Prelude.{◌≡◌, ◌<◌, ◌&&◌, ℕ, List, Ok, Err, IfOk, IfErr, IsOkAnd, Some, None, map, option_map, is_some, true, false};
 ghost use Rattle.std.proofs.Props.{props};
 ghost use Rattle.zarrs_chunk.specs.Answer.{Answers, AnswersBy, fault, memory, memory_or_fault, is_fault, seen};
 ghost use Rattle.zarrs_chunk.specs.Indexer.{selection_of};
@@ -7,12 +7,13 @@ ghost use Rattle.zarrs_data_type.specs.Element.{Chunk, fill_element};
 ghost use Rattle.zarrs_array_bytes.specs.Elements.{select};
 ghost use Rattle.zarrs_array_bytes.specs.Validity.{Holds};
 ghost use Rattle.zarrs_codec.specs.StorageState.{after_reading};
+ghost use Rattle.zarrs_codec_chain.specs.CachePlace.{cache_place, codecs_read};
 ghost use Rattle.zarrs_codec_chain.specs.Chain.{chain_reads};
 ghost use Rattle.zarrs_codec_chain.specs.ChainView.{plain_chain};
-ghost use Rattle.zarrs_codec_chain.specs.ChunkRead.{IsReadPlan, planned_places, stored_read, WhereSure};
-ghost use Rattle.zarrs_codec_chain.specs.ChunkSource.{source_made};
+ghost use Rattle.zarrs_codec_chain.specs.ChunkRead.{IsReadPlan, planned_places, reads_places, stored_read, WhereSure};
+ghost use Rattle.zarrs_codec_chain.specs.ChunkSource.{IsSizeOf, source_made};
 ghost use Rattle.zarrs_codec_chain.specs.ElementCode.{Chunk-set};
-ghost use Rattle.zarrs_codec_chain.specs.ChunkReader.{reader_form, reader_source};
+ghost use Rattle.zarrs_codec_chain.specs.ChunkReader.{IsFilledFrom, reader_form, reader_is_cached, reader_source};
 ghost use Rattle.zarrs_codec_chain.specs.Stands.{ChainStands};
 
 use crate::codec_chain::CodecChain;
@@ -35,18 +36,20 @@ use zarrs_data_type::{DataType, FillValue};
 /// decoder is made; after that the handle is left alone.
 #[derive(Drop)]
 pub struct ArrayPartialDecoder<'a, H: BytesPartialDecoderTraits, B: BytesToBytesCodecTraits> {
-    handle: H,
-    reader: ChunkReader<'a, B>,
-    ghost kept: { source_made B.functions B.reads_in_part (reader_form reader) (H.state handle).value ≡ Ok (reader_source reader (H.state handle).value) } by { Prim.hlevel (props, Chunk-set) },
+    pub(crate) handle: H,
+    pub(crate) reader: ChunkReader<'a, B>,
+    ghost kept: { IsFilledFrom B.functions reader (H.state handle).value } by { Prim.hlevel (props, Chunk-set) },
+    ghost wanted: { reader_is_cached reader ≡ true → source_made B.functions B.reads_in_part (reader_form reader) (H.state handle).value ≡ Ok (reader_source reader (H.state handle).value) } by { Prim.hlevel (props, Chunk-set) },
 }
 
 impl<B: BytesToBytesCodecTraits> CodecChain<B> {
-    ghost use Rattle.zarrs_codec_chain.specs.PartialDecoder.{decoder_source, form_of, handle_of, made};
+    ghost use Rattle.zarrs_codec_chain.specs.PartialDecoder.{decoder_source, form_of, handle_of, is_cached, made};
 
     /// A decoder of a chunk in part, over a handle. Refusals, the first that holds, `OutOfMemory` aside:
     /// those of `encoded_representation`; with a cache, `Storage`, and then those of what decodes the
     /// value up to the cache: `BytesCodec` of the last bytes codec, then of the one before; those of the
-    /// codec to bytes. A refusal hands the handle back, as it stands.
+    /// codec to bytes. A refusal hands the handle back, as it stands. Without a cache the handle isn't
+    /// asked.
     pub fn partial_decoder<'a, H: BytesPartialDecoderTraits>(
         &'a self,
         alloc: Global,
@@ -57,10 +60,13 @@ impl<B: BytesToBytesCodecTraits> CodecChain<B> {
     ) -> Result<ArrayPartialDecoder<'a, H, B>, Refused<H>>
         ensures answer { Answers memory_or_fault (λ decoder. decoder_source decoder (H.state handle).value) (made result) (source_made B.functions B.reads_in_part (record { chain = plain_chain self.now; sizes = shape.now; type = data_type.now; fill = fill_value.now }) (H.state handle).value) }
         ensures form { IfOk result (λ decoder. form_of decoder ≡ record { chain = plain_chain self.now; sizes = shape.now; type = data_type.now; fill = fill_value.now }) }
+        ensures cached { IfOk result (λ decoder. is_cached decoder ≡ is_some (cache_place (codecs_read B.reads_in_part (plain_chain self.now)))) }
         ensures over { IfOk result (λ decoder. H.state (handle_of decoder) ≡ H.state handle) }
         ensures over_same { IfOk result (λ decoder. H.lent (handle_of decoder) ≡ H.lent handle) }
         ensures handed_back { IfErr result (λ refused. H.state refused.handle ≡ after_reading (made result) (H.state handle)) }
         ensures handed_same { IfErr result (λ refused. H.lent refused.handle ≡ H.lent handle) }
+        ensures untouched { cache_place (codecs_read B.reads_in_part (plain_chain self.now)) ≡ None → is_fault (made result) ≡ false }
+        ensures sure { reads_places (plain_chain self.now).outer (plain_chain self.now).codec ≡ true → is_fault (made result) ≡ false }
     {
         let mut handle = handle;
         match ChunkReader::new(alloc, self, &mut handle, shape, data_type, fill_value) {
@@ -102,9 +108,9 @@ impl<'a, H: BytesPartialDecoderTraits, B: BytesToBytesCodecTraits> ArrayPartialD
         ensures left { H.state (handle_of self.new) ≡ after_reading result (H.state (handle_of self.old)) }
         ensures same_reference { H.lent (handle_of self.new) ≡ H.lent (handle_of self.old) }
         ensures form_kept { form_of self.new ≡ form_of self.old }
+        ensures cache_kept { is_cached self.new ≡ is_cached self.old }
     {
-        self.reader.is_sound();
-        self.reader.read(alloc, &mut self.handle, indexer)
+        self.reader.read_chunk(alloc, &mut self.handle, indexer)
     }
 
     /// Whether a value is stored; of a decoder that has a cache, whether one was when it was made.
@@ -117,12 +123,15 @@ impl<'a, H: BytesPartialDecoderTraits, B: BytesToBytesCodecTraits> ArrayPartialD
         ensures left { H.state (handle_of self.new) ≡ after_reading result (H.state (handle_of self.old)) }
         ensures same_reference { H.lent (handle_of self.new) ≡ H.lent (handle_of self.old) }
         ensures form_kept { form_of self.new ≡ form_of self.old }
+        ensures cache_kept { is_cached self.new ≡ is_cached self.old }
     {
         self.reader.exists(&mut self.handle)
     }
 
     /// How many bytes are kept in memory: the cache's alone, or without a cache the handle's.
     pub fn size_held(&self) -> usize
+        ensures handle { is_cached self.now ≡ false → result ≡ H.held (handle_of self.now) }
+        ensures cache { is_cached self.now ≡ true → IsOkAnd (source_made B.functions B.reads_in_part (form_of self.now) (H.state (handle_of self.now)).value) (λ source. IsSizeOf (form_of self.now).type source result) }
         ensures value { result ≡ decoder_held self.now (H.held (handle_of self.now)) }
     {
         self.reader.size_held(&self.handle)

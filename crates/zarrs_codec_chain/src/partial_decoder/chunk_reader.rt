@@ -1,30 +1,32 @@
 //! Reading a chunk in part through a chain, over a handle that the caller keeps.
-ghost use Rattle.std.specs.Prelude.{◌≡◌, ◌<◌, ◌≤◌, ◌+◌, ◌^◌, ℕ, All, Ok, Err, IfOk, IfErr, Some, length, option_map, is_ok, is_some, true, false};
-ghost use Rattle.zarrs_chunk.specs.Answer.{Answers, AnswersBy, fault, memory, memory_or_fault, is_fault};
+ghost use Rattle.std.specs.Prelude.{◌≡◌, ◌<◌, ◌≤◌, ◌+◌, ◌^◌, ℕ, List, All, Ok, Err, IfOk, IfErr, Some, None, length, map, option_map, is_ok, is_some, true, false};
+ghost use Rattle.zarrs_chunk.specs.Answer.{Answers, AnswersBy, fault, memory, memory_or_fault, is_fault, seen};
 ghost use Rattle.zarrs_chunk.specs.ChunkShape.{product};
 ghost use Rattle.zarrs_chunk.specs.Indexer.{selection_of};
 ghost use Rattle.zarrs_chunk.specs.Runs.{joined_runs};
-ghost use Rattle.zarrs_chunk.specs.Selection.{bounds_of};
+ghost use Rattle.zarrs_chunk.specs.Selection.{bounds_of, places_of};
+ghost use Rattle.zarrs_data_type.specs.Element.{Chunk, fill_element};
 ghost use Rattle.zarrs_data_type.specs.FillValue.{fill_fits};
-ghost use Rattle.zarrs_array_bytes.specs.Elements.{elements};
+ghost use Rattle.zarrs_array_bytes.specs.Elements.{elements, select};
 ghost use Rattle.zarrs_array_bytes.specs.Held.{raw_of};
 ghost use Rattle.zarrs_array_bytes.specs.Validity.{Holds};
 ghost use Rattle.zarrs_codec.specs.StorageState.{after_reading, are_sure};
 ghost use Rattle.zarrs_codec_chain.specs.Chain.{chain_reads, codec_reads as codec_reads_of, taken_form as taken_form_of};
 ghost use Rattle.zarrs_codec_chain.specs.ChainView.{plain_chain};
-ghost use Rattle.zarrs_codec_chain.specs.ChunkRead.{codec_place_bytes, encoded_places, IsReadPlan, planned_places, reads_places, WhereSure};
-ghost use Rattle.zarrs_codec_chain.specs.ChunkSource.{bytes_above, cache_fits, chunk_below, held_by, is_kept, is_there, source_made, source_places, source_read};
+ghost use Rattle.zarrs_codec_chain.specs.ChunkRead.{codec_place_bytes, encoded_places, IsReadPlan, planned_places, reads_places, stored_read, WhereSure};
+ghost use Rattle.zarrs_codec_chain.specs.ChunkSource.{bytes_above, cache_fits, cache_stage as cache_stage_of, chunk_below, has_cache, held_by, is_kept, is_there, opened_chunk, source_made, source_places, source_read};
 ghost use Rattle.zarrs_codec_chain.specs.Laws.{IsChainOfMappings};
 ghost use Rattle.zarrs_codec_chain.specs.Representation.{codec_representation};
+ghost use Rattle.zarrs_codec_chain.specs.Stands.{ChainStands};
 
 use crate::array_to_bytes_codec::codec_reads;
 use crate::bytes_stages::decode_bytes;
 use crate::codec_chain::{CodecChain, chain_is_sound};
-use crate::partial_decoder::cache::Cache;
+use crate::partial_decoder::cache::{Cache, CacheStage};
 use crate::partial_decoder::codec_read::{planned_runs, read_runs, read_runs_of_bytes};
 use crate::partial_decoder::encoded_runs::encoded_runs;
 use crate::partial_decoder::fill_runs::fill_runs;
-use crate::partial_decoder::make_cache::{cache_stage, make_cache};
+use crate::partial_decoder::make_cache::{cache_stage, chunk_below as chunk_of_value, make_cache};
 use crate::representation::taken_form;
 use std::alloc::Global;
 use std::borrow::CowSlice;
@@ -39,22 +41,51 @@ use zarrs_data_type::{DataType, FillValue};
 /// of the stored value.
 #[derive(Drop)]
 pub(crate) struct ChunkReader<'a, B: BytesToBytesCodecTraits> {
-    chain: &'a CodecChain<B>,
+    pub(crate) chain: &'a CodecChain<B>,
     cache: Cache,
-    shape: ChunkShape,
-    encoded: ChunkShape,
-    data_type: DataType,
-    fill_value: FillValue,
+    pub(crate) shape: ChunkShape,
+    pub(crate) encoded: ChunkShape,
+    pub(crate) data_type: DataType,
+    pub(crate) fill_value: FillValue,
     representation: BytesRepresentation,
     ghost taken: { taken_form_of B.functions (plain_chain chain.now) shape data_type fill_value ≡ Ok (encoded, representation) },
     ghost measured: { is_ok (codec_representation B.functions (plain_chain chain.now).codec encoded data_type fill_value) ≡ true },
     ghost filling: { fill_fits data_type fill_value ≡ true },
     ghost counted: { product encoded < 2 ^ 64 },
+    ghost counted_whole: { product shape < 2 ^ 64 },
     ghost fits: { cache_fits (codec_reads_of (plain_chain chain.now).codec) data_type (product encoded) (length (plain_chain chain.now).outer) cache ≡ true },
 }
 
 impl<'a, B: BytesToBytesCodecTraits> ChunkReader<'a, B> {
-    ghost use Rattle.zarrs_codec_chain.specs.ChunkReader.{reader_form, reader_source};
+    ghost use Rattle.zarrs_codec_chain.specs.ChunkReader.{IsFilledFrom, reader_form, reader_is_cached, reader_source};
+
+    /// A reader of such a chunk without a cache. Refusals: those of the chain's representation.
+    pub(crate) fn uncached(
+        alloc: Global,
+        chain: &'a CodecChain<B>,
+        shape: &ChunkShape,
+        data_type: &DataType,
+        fill_value: &FillValue,
+    ) -> Result<ChunkReader<'a, B>, CodecError>
+        ensures answer { Answers memory (λ reader. (reader.encoded, reader.representation)) result (taken_form_of B.functions (plain_chain chain.now) shape.now data_type.now fill_value.now) }
+        ensures form { IfOk result (λ reader. reader_form reader ≡ record { chain = plain_chain chain.now; sizes = shape.now; type = data_type.now; fill = fill_value.now }) }
+        ensures uncached { IfOk result (λ reader. reader_is_cached reader ≡ false) }
+        ensures no_fault { is_fault result ≡ false }
+    {
+        let shape = shape.clone()?;
+        let data_type = data_type.clone()?;
+        let fill_value = fill_value.clone()?;
+        let taken = taken_form(alloc, chain, &shape, &data_type, &fill_value)?;
+        Ok(ChunkReader {
+            chain,
+            cache: Cache::Handle,
+            shape,
+            encoded: taken.shape,
+            data_type,
+            fill_value,
+            representation: taken.representation,
+        })
+    }
 
     /// A reader of such a chunk, whose cache is filled from the handle. Refusals, the first that holds,
     /// `OutOfMemory` aside: those of the chain's representation; with a cache, `Storage` and those of
@@ -69,6 +100,9 @@ impl<'a, B: BytesToBytesCodecTraits> ChunkReader<'a, B> {
     ) -> Result<ChunkReader<'a, B>, CodecError>
         ensures answer { Answers memory_or_fault (λ reader. reader_source reader (H.state handle.old).value) result (source_made B.functions B.reads_in_part (record { chain = plain_chain chain.now; sizes = shape.now; type = data_type.now; fill = fill_value.now }) (H.state handle.old).value) }
         ensures form { IfOk result (λ reader. reader_form reader ≡ record { chain = plain_chain chain.now; sizes = shape.now; type = data_type.now; fill = fill_value.now }) }
+        ensures cached { IfOk result (λ reader. is_kept reader.cache ≡ has_cache (cache_stage_of B.reads_in_part (plain_chain chain.now))) }
+        ensures untouched { cache_stage_of B.reads_in_part (plain_chain chain.now) ≡ CacheStage.Nowhere → is_fault result ≡ false }
+        ensures filled { IfOk result (λ reader. IsFilledFrom B.functions reader (H.state handle.old).value) }
         ensures left { H.state handle.new ≡ after_reading result (H.state handle.old) }
         ensures same_reference { H.lent handle.new ≡ H.lent handle.old }
     {
@@ -121,7 +155,11 @@ impl<'a, B: BytesToBytesCodecTraits> ChunkReader<'a, B> {
     }
 
     /// Where the places that an indexer means go in the chunk that the codec to bytes gets, as runs.
-    fn runs(&self, alloc: Global, indexer: &Indexer) -> Result<Vec<(u64, u64)>, CodecError>
+    pub(crate) fn runs(
+        &self,
+        alloc: Global,
+        indexer: &Indexer,
+    ) -> Result<Vec<(u64, u64)>, CodecError>
         ensures answer { Answers memory (λ runs. joined_runs runs.items) result (encoded_places self.now.data_type (plain_chain self.now.chain.now).arrays self.now.shape (selection_of indexer.now)) }
         ensures filled { IfOk result (λ runs. All (λ run. 0 < run.1) runs.items) }
         ensures inside { IfOk result (λ runs. All (λ run. run.0 + run.1 ≤ product self.now.encoded) runs.items) }
@@ -209,6 +247,50 @@ impl<'a, B: BytesToBytesCodecTraits> ChunkReader<'a, B> {
         self.read_above(alloc, value, self.chain.bytes_to_bytes.len(), runs)
     }
 
+    /// The same, where the codec to bytes reads no part: by the whole chunk.
+    fn read_whole<H: BytesPartialDecoderTraits>(
+        &self,
+        alloc: Global,
+        handle: &mut H,
+        runs: &[(u64, u64)],
+    ) -> Result<ArrayBytes<'static>, CodecError>
+        requires whole { (codec_reads_of (plain_chain self.now.chain.now).codec).partial_decode ≡ false }
+        requires inside { All (λ run. run.0 + run.1 ≤ product self.now.encoded) runs.now }
+        requires count { length (joined_runs runs.now) < 2 ^ 64 }
+        ensures answer { AnswersBy memory_or_fault (Holds self.now.data_type) result (source_places B.functions (plain_chain self.now.chain.now) self.now.encoded self.now.data_type self.now.fill_value self.now.representation (bytes_above (length (plain_chain self.now.chain.now).outer) (H.state handle.old).value) (joined_runs runs.now)) }
+        ensures left { H.state handle.new ≡ after_reading result (H.state handle.old) }
+        ensures same_reference { H.lent handle.new ≡ H.lent handle.old }
+    {
+        match handle.decode(alloc)? {
+            None => fill_runs(alloc, &self.data_type, &self.fill_value, runs),
+            Some(value) => self.runs_of_value(alloc, value, runs),
+        }
+    }
+
+    /// The elements at the places of these runs of the chunk that the codec to bytes reads of a value.
+    fn runs_of_value(
+        &self,
+        alloc: Global,
+        value: Vec<u8>,
+        runs: &[(u64, u64)],
+    ) -> Result<ArrayBytes<'static>, CodecError>
+        requires inside { All (λ run. run.0 + run.1 ≤ product self.now.encoded) runs.now }
+        ensures answer { AnswersBy memory (Holds self.now.data_type) result (seen (λ chunk. select chunk (joined_runs runs.now)) (opened_chunk B.functions (plain_chain self.now.chain.now) self.now.encoded self.now.data_type self.now.fill_value self.now.representation value.items)) }
+        ensures no_fault { is_fault result ≡ false }
+    {
+        let held = chunk_of_value(
+            alloc,
+            self.chain,
+            &self.encoded,
+            &self.data_type,
+            &self.fill_value,
+            &self.representation,
+            value,
+        )?;
+        let count = self.encoded.num_elements()?;
+        held.extract_runs(alloc, runs, count, &self.data_type)
+    }
+
     /// The elements at the places of these runs, of a chunk that is kept, or of none.
     fn read_kept(
         &self,
@@ -248,7 +330,13 @@ impl<'a, B: BytesToBytesCodecTraits> ChunkReader<'a, B> {
         ensures calm { is_kept self.now.cache ≡ true → is_fault result ≡ false }
     {
         match &self.cache {
-            Cache::Handle => self.read_stored(alloc, handle, runs),
+            Cache::Handle => {
+                if codec_reads(&self.chain.array_to_bytes).partial_decode {
+                    self.read_stored(alloc, handle, runs)
+                } else {
+                    self.read_whole(alloc, handle, runs)
+                }
+            }
             Cache::Bytes(below, value) => self.read_above(alloc, lent_bytes(value), *below, runs),
             Cache::Chunk(chunk) => self.read_kept(alloc, chunk, runs),
         }
@@ -272,6 +360,29 @@ impl<'a, B: BytesToBytesCodecTraits> ChunkReader<'a, B> {
     {
         let runs = self.runs(alloc, indexer)?;
         self.read_runs(alloc, handle, &runs)
+    }
+
+    /// The elements that the indexer means, in its order, of the chunk whose value the handle keeps,
+    /// where the cache, if there is one, was filled from that value. Refusals: those of
+    /// `ArrayPartialDecoder::partial_decode`.
+    pub(crate) fn read_chunk<H: BytesPartialDecoderTraits>(
+        &self,
+        alloc: Global,
+        handle: &mut H,
+        indexer: &Indexer,
+    ) -> Result<ArrayBytes<'static>, CodecError>
+        requires filled { IsFilledFrom B.functions self.now (H.state handle.old).value }
+        ensures selected { let form = reader_form self.now in (value : List ℕ) (chunk : Chunk) → (H.state handle.old).value ≡ Some value → ChainStands B.functions form.chain form.sizes form.type form.fill value chunk → AnswersBy memory_or_fault (Holds form.type) result (seen (select chunk) (places_of (selection_of indexer.now) form.sizes)) }
+        ensures unstored { let form = reader_form self.now in (H.state handle.old).value ≡ None → AnswersBy memory_or_fault (Holds form.type) result (seen (map (λ _. fill_element form.type form.fill)) (places_of (selection_of indexer.now) form.sizes)) }
+        ensures answer { AnswersBy memory_or_fault (Holds (reader_form self.now).type) result (stored_read B.functions (reader_form self.now) (H.state handle.old).value (selection_of indexer.now)) }
+        ensures indexer_first { IfErr (bounds_of (selection_of indexer.now) (reader_form self.now).sizes) (λ cause. AnswersBy memory (Holds (reader_form self.now).type) result (Err cause)) }
+        ensures sure { WhereSure B.functions (reader_form self.now) (selection_of indexer.now) (H.state handle.old).sure (is_fault result ≡ false) }
+        ensures calm { reader_is_cached self.now ≡ true → is_fault result ≡ false }
+        ensures left { H.state handle.new ≡ after_reading result (H.state handle.old) }
+        ensures same_reference { H.lent handle.new ≡ H.lent handle.old }
+    {
+        self.is_sound();
+        self.read(alloc, handle, indexer)
     }
 
     /// Whether something is stored, or was when the cache was filled. Refusals: `Storage`.

@@ -9,7 +9,7 @@ ghost use Rattle.zarrs_codec_chain.specs.BytesStages.{outer_bytes, outer_represe
 ghost use Rattle.zarrs_codec_chain.specs.Chain.{codec_reads as codec_reads_of};
 ghost use Rattle.zarrs_codec_chain.specs.Representation.{codec_representation};
 ghost use Rattle.zarrs_codec_chain.specs.ChainView.{plain_chain};
-ghost use Rattle.zarrs_codec_chain.specs.ChunkSource.{bytes_left, cache_fits, cache_stage as cache_stage_of, opened_chunk, source_at, source_of, stage_by, stage_fits};
+ghost use Rattle.zarrs_codec_chain.specs.ChunkSource.{bytes_left, cache_fits, cache_stage as cache_stage_of, has_cache, is_kept, kept_stage, opened_chunk, source_at, source_of, stage_by, stage_fits};
 
 use crate::array_to_bytes_codec::{codec_decode, codec_reads};
 use crate::bytes_stages::{decode_bytes, outer_representation};
@@ -105,7 +105,7 @@ fn bytes_above<B: BytesToBytesCodecTraits>(
 
 /// The chunk that the codec to bytes reads. Refusals: `BytesCodec` of the last bytes codec, then of the
 /// one before; those of the codec to bytes.
-fn chunk_below<B: BytesToBytesCodecTraits>(
+pub(crate) fn chunk_below<B: BytesToBytesCodecTraits>(
     alloc: Global,
     chain: &CodecChain<B>,
     encoded: &ChunkShape,
@@ -151,8 +151,10 @@ pub(crate) fn make_cache<H: BytesPartialDecoderTraits, B: BytesToBytesCodecTrait
     requires stage { stage_fits (codec_reads_of (plain_chain chain.now).codec) (length (plain_chain chain.now).outer) stage ≡ true }
     ensures answer { Answers memory_or_fault (source_of data_type.now (product encoded.now) (length (plain_chain chain.now).outer) (H.state handle.old).value) result (source_at B.functions (plain_chain chain.now) encoded.now data_type.now fill_value.now representation stage (H.state handle.old).value) }
     ensures fits { IfOk result (λ cache. cache_fits (codec_reads_of (plain_chain chain.now).codec) data_type.now (product encoded.now) (length (plain_chain chain.now).outer) cache ≡ true) }
+    ensures stage { IfOk result (λ cache. kept_stage cache ≡ stage) }
     ensures left { H.state handle.new ≡ after_reading result (H.state handle.old) }
     ensures same_reference { H.lent handle.new ≡ H.lent handle.old }
+    ensures kept { IfOk result (λ cache. is_kept cache ≡ has_cache stage) }
     ensures untouched { stage ≡ CacheStage.Nowhere → is_fault result ≡ false }
 {
     match stage {

@@ -1,5 +1,4 @@
-use Rattle.std.proofs.Common.{◌≡◌, ◌+◌, ◌<◌, ◌≤◌, ◌^◌, length, drop, get_or, sym, ◌∙◌, arith}
-use Rattle.zarrs_chunk.specs.Runs.{joined_runs}
+use Rattle.std.proofs.Common.{sym, ◌∙◌, arith}
 use Rattle.zarrs_codec.proofs.PieceLemmas.{ends-from, length-pieces_from, too_many}
 use Rattle.zarrs_codec.proofs.byte_pieces.check_pieces.Goals as goal
 

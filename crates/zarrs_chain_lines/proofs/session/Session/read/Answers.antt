@@ -5,8 +5,14 @@ use Rattle.zarrs_chunk.specs.Indexer.{selection_of}
 use Rattle.zarrs_chain_lines.specs.Commands.{LineAnswer, State, part_of}
 use Rattle.zarrs_chain_lines.specs.Refusal.{wants_memory}
 use Rattle.zarrs_chain_lines.specs.Session.{state_of}
-use Rattle.zarrs_chain_lines.proofs.ReadLemmas.{read_answer-selection, shown_elements}
+use Rattle.zarrs_chain_lines.proofs.ReadLemmas.{held_some, read_answer-selection, shown_elements}
 use Rattle.zarrs_chain_lines.proofs.session.Session.read.Goals as goal
+
+pub ok_elements-requires : goal.ok_elements-requires
+ok_elements-requires c =
+    let before = state_of c.args.self.now in
+    let kept : state_of c.selected.new.self ≡ before = c.in_ok-elements.ensures.kept in
+    record { held = held_some before.header.data_type c.selected.new.self.data_type c.in_ok-elements.elements (part_of before.header before.value (selection_of c.in_ok-indexer.indexer)) (ap (λ (s : State). s.header.data_type) kept) c.in_ok-elements.ensures.answer }
 
 pub returns-clause-answer : goal.returns-clause-answer
 returns-clause-answer c =

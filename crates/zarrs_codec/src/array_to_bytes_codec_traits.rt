@@ -1,0 +1,116 @@
+ghost use Rattle.std.specs.Prelude.{◌≡◌, ℕ, List, Result, Ok, None, IfOk, OnErr, option_map, false};
+ghost use Rattle.zarrs_chunk.specs.Answer.{Answers, AnswersBy, memory, is_fault, seen};
+ghost use Rattle.zarrs_chunk.specs.ChunkShape.{product};
+ghost use Rattle.zarrs_chunk.specs.declared.codec_error.CodecError.{CodecError};
+ghost use Rattle.zarrs_data_type.specs.Element.{Chunk};
+ghost use Rattle.zarrs_data_type.specs.ElementType.{ElementType};
+ghost use Rattle.zarrs_array_bytes.specs.ArrayBytesDecodeIntoTarget.{target_of, target_names};
+ghost use Rattle.zarrs_array_bytes.specs.DecodeTarget.{target_fit, TargetHolds};
+ghost use Rattle.zarrs_array_bytes.specs.Held.{Held, raw_of};
+ghost use Rattle.zarrs_array_bytes.specs.Validity.{Holds, validity};
+ghost use Rattle.zarrs_codec.specs.DecodeInto.{decoded_into};
+ghost use Rattle.zarrs_codec.specs.declared.bytes_representation.BytesRepresentation.{BytesRepresentation};
+
+use crate::bytes_representation::BytesRepresentation;
+use std::alloc::Global;
+use zarrs_array_bytes::{ArrayBytes, ArrayBytesDecodeIntoTarget, ArrayBytesRaw};
+use zarrs_chunk::{ChunkShape, CodecError};
+use zarrs_data_type::{DataType, FillValue};
+
+/// A codec of chunks to bytes: the codec of a chain that makes a chunk's value, or a whole chain.
+///
+/// What it computes is a function of the chunk's shape, type and fill value, and of what is given.
+pub trait ArrayToBytesCodecTraits {
+    // How many bytes a value has, or the first cause why the codec doesn't take such chunks.
+    ghost represented: { Self → List ℕ → ElementType → List ℕ → Result BytesRepresentation CodecError };
+
+    // The value of the chunk that a container holds, or the first refusal.
+    ghost encoded: { Self → List ℕ → ElementType → List ℕ → Held → Result (List ℕ) CodecError };
+
+    // The chunk that a value stands for, or the first refusal.
+    ghost decoded: { Self → List ℕ → ElementType → List ℕ → List ℕ → Result Chunk CodecError };
+
+    // That the codec takes such chunks and the bytes codecs, where it has some, decode a value, or the first refusal.
+    ghost opened: { Self → List ℕ → ElementType → List ℕ → List ℕ → Result (Unit {0}) CodecError };
+
+    /// How many bytes the value of such a chunk has. Refusals: those of chunks that the codec doesn't
+    /// take; `OutOfMemory`.
+    fn encoded_representation(
+        &self,
+        alloc: Global,
+        shape: &ChunkShape,
+        data_type: &DataType,
+        fill_value: &FillValue,
+    ) -> Result<BytesRepresentation, CodecError>
+        ensures answer { Answers memory (λ representation. representation) result (represented self.now shape.now data_type.now fill_value.now) }
+        ensures no_fault { is_fault result ≡ false };
+
+    /// The value of the chunk that `elements` hold. Refusals, the first that holds, `OutOfMemory`
+    /// aside: those of `encoded_representation`; those of `ArrayBytes::validate`; the codec's own.
+    fn encode<'a>(
+        &self,
+        alloc: Global,
+        elements: ArrayBytes<'a>,
+        shape: &ChunkShape,
+        data_type: &DataType,
+        fill_value: &FillValue,
+    ) -> Result<ArrayBytesRaw<'a>, CodecError>
+        ensures answer { Answers memory (λ value. (raw_of value).items) result (encoded self.now shape.now data_type.now fill_value.now elements.entry) }
+        ensures no_fault { is_fault result ≡ false };
+
+    /// The chunk that a value stands for. Refusals, the first that holds, `OutOfMemory` aside: those
+    /// of `encoded_representation`; the codec's own.
+    fn decode<'a>(
+        &self,
+        alloc: Global,
+        value: ArrayBytesRaw<'a>,
+        shape: &ChunkShape,
+        data_type: &DataType,
+        fill_value: &FillValue,
+    ) -> Result<ArrayBytes<'a>, CodecError>
+        ensures answer { AnswersBy memory (Holds data_type.now) result (decoded self.now shape.now data_type.now fill_value.now (raw_of value.entry).items) }
+        ensures valid { IfOk result (λ elements. validity data_type.now (product shape.now) elements ≡ Ok tt) }
+        ensures no_fault { is_fault result ≡ false };
+
+    /// Writes the chunk that a value stands for at the target's places, in row-major order; all other
+    /// bytes of the target stay. It takes no memory for the elements beyond that of `decode`. Refusals,
+    /// the first that holds, `OutOfMemory` aside, which all leave the target: those of
+    /// `encoded_representation`; those of `ArrayBytesDecodeIntoTarget::check`, `UnsupportedTarget` and
+    /// `TargetMismatch`; those of `decode`.
+    #[tactic(auto, using(crate::proofs::DecodeInto::filled_after, crate::proofs::DecodeInto::written_after))]
+    fn decode_into<'a>(
+        &self,
+        alloc: Global,
+        value: ArrayBytesRaw<'a>,
+        shape: &ChunkShape,
+        data_type: &DataType,
+        fill_value: &FillValue,
+        target: &mut ArrayBytesDecodeIntoTarget<'_>,
+    ) -> Result<(), CodecError>
+        ensures answer { AnswersBy memory (λ _ chunk. TargetHolds data_type.now (target_of target.old) (target_of target.new) chunk) result
+            (decoded_into (represented self.now shape.now data_type.now fill_value.now) (target_fit data_type.now (product shape.now) (target_of target.old)) (decoded self.now shape.now data_type.now fill_value.now (raw_of value.entry).items)) }
+        ensures kept { OnErr result (target_of target.new ≡ target_of target.old) }
+        ensures same_reference { target_names target.new ≡ target_names target.old }
+        ensures no_fault { is_fault result ≡ false }
+    {
+        self.encoded_representation(alloc, shape, data_type, fill_value)?;
+        target.check(shape, data_type)?;
+        let elements = self.decode(alloc, value, shape, data_type, fill_value)?;
+        target.write(&elements);
+        Ok(())
+    }
+
+    /// A value of fewer bytes for the same chunk, where the codec can make one: `None`, since no codec
+    /// here can. Refusals, the first that holds, `OutOfMemory` aside: those of
+    /// `encoded_representation`; `BytesCodec` of the last bytes codec, then of the one before.
+    fn compact<'a>(
+        &self,
+        alloc: Global,
+        value: ArrayBytesRaw<'a>,
+        shape: &ChunkShape,
+        data_type: &DataType,
+        fill_value: &FillValue,
+    ) -> Result<Option<ArrayBytesRaw<'a>>, CodecError>
+        ensures answer { Answers memory (option_map raw_of) result (seen (λ _. None) (opened self.now shape.now data_type.now fill_value.now (raw_of value.entry).items)) }
+        ensures no_fault { is_fault result ≡ false };
+}

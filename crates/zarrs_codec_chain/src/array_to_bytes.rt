@@ -1,0 +1,257 @@
+//! Chains and their codecs to bytes as every codec of chunks to bytes.
+use crate::array_to_bytes_codec::{
+    ArrayToBytesCodec, codec_decode, codec_encode, codec_representation,
+};
+use crate::bytes_stages::decode_bytes;
+use crate::codec_chain::CodecChain;
+use crate::optional_codec::OptionalCodec;
+use crate::representation::taken_form;
+use crate::vlen_codec::VlenCodec;
+use std::alloc::Global;
+use zarrs_array_bytes::{ArrayBytes, ArrayBytesRaw};
+use zarrs_chunk::{ChunkShape, CodecError};
+use zarrs_codec::{ArrayToBytesCodecTraits, BytesRepresentation, BytesToBytesCodecTraits};
+use zarrs_data_type::{DataType, FillValue};
+
+impl<B: BytesToBytesCodecTraits> ArrayToBytesCodecTraits for CodecChain<B> {
+    ghost use Rattle.zarrs_codec_chain.specs.Chain.{held_value};
+    ghost use Rattle.zarrs_codec_chain.specs.ChainView.{plain_chain};
+    ghost use Rattle.zarrs_codec_chain.specs.Compact.{chain_opened};
+    ghost use Rattle.zarrs_codec_chain.specs.Decode.{chain_chunk};
+    ghost use Rattle.zarrs_codec_chain.specs.Representation.{chain_representation};
+
+    ghost represented = { λ chain sizes type fill. chain_representation B.functions (plain_chain chain) sizes type fill };
+
+    ghost encoded = { λ chain sizes type fill held. held_value B.functions (plain_chain chain) sizes type fill held };
+
+    ghost decoded = { λ chain sizes type fill value. chain_chunk B.functions (plain_chain chain) sizes type fill value };
+
+    ghost opened = { λ chain sizes type fill value. chain_opened B.functions (plain_chain chain) sizes type fill value };
+
+    fn encoded_representation(
+        &self,
+        alloc: Global,
+        shape: &ChunkShape,
+        data_type: &DataType,
+        fill_value: &FillValue,
+    ) -> Result<BytesRepresentation, CodecError> {
+        CodecChain::encoded_representation(self, alloc, shape, data_type, fill_value)
+    }
+
+    fn encode<'a>(
+        &self,
+        alloc: Global,
+        elements: ArrayBytes<'a>,
+        shape: &ChunkShape,
+        data_type: &DataType,
+        fill_value: &FillValue,
+    ) -> Result<ArrayBytesRaw<'a>, CodecError> {
+        CodecChain::encode(self, alloc, elements, shape, data_type, fill_value)
+    }
+
+    #[tactic(auto, using(crate::proofs::Counted::chain_valid))]
+    fn decode<'a>(
+        &self,
+        alloc: Global,
+        value: ArrayBytesRaw<'a>,
+        shape: &ChunkShape,
+        data_type: &DataType,
+        fill_value: &FillValue,
+    ) -> Result<ArrayBytes<'a>, CodecError> {
+        CodecChain::decode(self, alloc, value, shape, data_type, fill_value)
+    }
+
+    fn compact<'a>(
+        &self,
+        alloc: Global,
+        value: ArrayBytesRaw<'a>,
+        shape: &ChunkShape,
+        data_type: &DataType,
+        fill_value: &FillValue,
+    ) -> Result<Option<ArrayBytesRaw<'a>>, CodecError> {
+        let taken = taken_form(alloc, self, shape, data_type, fill_value)?;
+        decode_bytes(alloc, &self.bytes_to_bytes, &taken.representation, value)?;
+        Ok(None)
+    }
+}
+
+impl<B: BytesToBytesCodecTraits> ArrayToBytesCodecTraits for ArrayToBytesCodec<B> {
+    ghost use Rattle.zarrs_codec_chain.specs.Chain.{codec_held_value, taken_chunk};
+    ghost use Rattle.zarrs_codec_chain.specs.ChainView.{plain_codec};
+    ghost use Rattle.zarrs_codec_chain.specs.Compact.{codec_opened};
+    ghost use Rattle.zarrs_codec_chain.specs.Representation.{codec_representation};
+
+    ghost represented = { λ codec sizes type fill. codec_representation B.functions (plain_codec codec) sizes type fill };
+
+    ghost encoded = { λ codec sizes type fill held. codec_held_value B.functions (plain_codec codec) sizes type fill held };
+
+    ghost decoded = { λ codec sizes type fill value. taken_chunk B.functions (plain_codec codec) sizes type fill value };
+
+    ghost opened = { λ codec sizes type fill _. codec_opened B.functions (plain_codec codec) sizes type fill };
+
+    fn encoded_representation(
+        &self,
+        alloc: Global,
+        shape: &ChunkShape,
+        data_type: &DataType,
+        fill_value: &FillValue,
+    ) -> Result<BytesRepresentation, CodecError> {
+        codec_representation(alloc, self, shape, data_type, fill_value)
+    }
+
+    fn encode<'a>(
+        &self,
+        alloc: Global,
+        elements: ArrayBytes<'a>,
+        shape: &ChunkShape,
+        data_type: &DataType,
+        fill_value: &FillValue,
+    ) -> Result<ArrayBytesRaw<'a>, CodecError> {
+        codec_encode(alloc, self, elements, shape, data_type, fill_value)
+    }
+
+    #[tactic(auto, using(crate::proofs::Counted::content_valid))]
+    fn decode<'a>(
+        &self,
+        alloc: Global,
+        value: ArrayBytesRaw<'a>,
+        shape: &ChunkShape,
+        data_type: &DataType,
+        fill_value: &FillValue,
+    ) -> Result<ArrayBytes<'a>, CodecError> {
+        codec_representation(alloc, self, shape, data_type, fill_value)?;
+        codec_decode(alloc, self, value, shape, data_type, fill_value)
+    }
+
+    fn compact<'a>(
+        &self,
+        alloc: Global,
+        _value: ArrayBytesRaw<'a>,
+        shape: &ChunkShape,
+        data_type: &DataType,
+        fill_value: &FillValue,
+    ) -> Result<Option<ArrayBytesRaw<'a>>, CodecError> {
+        codec_representation(alloc, self, shape, data_type, fill_value)?;
+        Ok(None)
+    }
+}
+
+impl<B: BytesToBytesCodecTraits> ArrayToBytesCodecTraits for VlenCodec<B> {
+    ghost use Rattle.zarrs_codec_chain.specs.Chain.{codec_held_value, taken_chunk};
+    ghost use Rattle.zarrs_codec_chain.specs.ChainView.{plain_vlen};
+    ghost use Rattle.zarrs_codec_chain.specs.Compact.{codec_opened};
+    ghost use Rattle.zarrs_codec_chain.specs.Representation.{codec_representation};
+
+    ghost represented = { λ codec sizes type fill. codec_representation B.functions (plain_vlen codec) sizes type fill };
+
+    ghost encoded = { λ codec sizes type fill held. codec_held_value B.functions (plain_vlen codec) sizes type fill held };
+
+    ghost decoded = { λ codec sizes type fill value. taken_chunk B.functions (plain_vlen codec) sizes type fill value };
+
+    ghost opened = { λ codec sizes type fill _. codec_opened B.functions (plain_vlen codec) sizes type fill };
+
+    fn encoded_representation(
+        &self,
+        _alloc: Global,
+        shape: &ChunkShape,
+        data_type: &DataType,
+        fill_value: &FillValue,
+    ) -> Result<BytesRepresentation, CodecError> {
+        VlenCodec::encoded_representation(self, shape, data_type, fill_value)
+    }
+
+    fn encode<'a>(
+        &self,
+        alloc: Global,
+        elements: ArrayBytes<'a>,
+        shape: &ChunkShape,
+        data_type: &DataType,
+        fill_value: &FillValue,
+    ) -> Result<ArrayBytesRaw<'a>, CodecError> {
+        VlenCodec::encode(self, alloc, elements, shape, data_type, fill_value)
+    }
+
+    #[tactic(auto, using(crate::proofs::Counted::codec_valid))]
+    fn decode<'a>(
+        &self,
+        alloc: Global,
+        value: ArrayBytesRaw<'a>,
+        shape: &ChunkShape,
+        data_type: &DataType,
+        fill_value: &FillValue,
+    ) -> Result<ArrayBytes<'a>, CodecError> {
+        VlenCodec::decode(self, alloc, value, shape, data_type, fill_value)
+    }
+
+    fn compact<'a>(
+        &self,
+        _alloc: Global,
+        _value: ArrayBytesRaw<'a>,
+        shape: &ChunkShape,
+        data_type: &DataType,
+        fill_value: &FillValue,
+    ) -> Result<Option<ArrayBytesRaw<'a>>, CodecError> {
+        VlenCodec::encoded_representation(self, shape, data_type, fill_value)?;
+        Ok(None)
+    }
+}
+
+impl<B: BytesToBytesCodecTraits> ArrayToBytesCodecTraits for OptionalCodec<B> {
+    ghost use Rattle.zarrs_codec_chain.specs.Chain.{codec_held_value, taken_chunk};
+    ghost use Rattle.zarrs_codec_chain.specs.ChainView.{plain_optional};
+    ghost use Rattle.zarrs_codec_chain.specs.Compact.{codec_opened};
+    ghost use Rattle.zarrs_codec_chain.specs.Representation.{codec_representation};
+
+    ghost represented = { λ codec sizes type fill. codec_representation B.functions (plain_optional codec) sizes type fill };
+
+    ghost encoded = { λ codec sizes type fill held. codec_held_value B.functions (plain_optional codec) sizes type fill held };
+
+    ghost decoded = { λ codec sizes type fill value. taken_chunk B.functions (plain_optional codec) sizes type fill value };
+
+    ghost opened = { λ codec sizes type fill _. codec_opened B.functions (plain_optional codec) sizes type fill };
+
+    fn encoded_representation(
+        &self,
+        alloc: Global,
+        shape: &ChunkShape,
+        data_type: &DataType,
+        fill_value: &FillValue,
+    ) -> Result<BytesRepresentation, CodecError> {
+        OptionalCodec::encoded_representation(self, alloc, shape, data_type, fill_value)
+    }
+
+    fn encode<'a>(
+        &self,
+        alloc: Global,
+        elements: ArrayBytes<'a>,
+        shape: &ChunkShape,
+        data_type: &DataType,
+        fill_value: &FillValue,
+    ) -> Result<ArrayBytesRaw<'a>, CodecError> {
+        OptionalCodec::encode(self, alloc, elements, shape, data_type, fill_value)
+    }
+
+    #[tactic(auto, using(crate::proofs::Counted::codec_valid))]
+    fn decode<'a>(
+        &self,
+        alloc: Global,
+        value: ArrayBytesRaw<'a>,
+        shape: &ChunkShape,
+        data_type: &DataType,
+        fill_value: &FillValue,
+    ) -> Result<ArrayBytes<'a>, CodecError> {
+        OptionalCodec::decode(self, alloc, value, shape, data_type, fill_value)
+    }
+
+    fn compact<'a>(
+        &self,
+        alloc: Global,
+        _value: ArrayBytesRaw<'a>,
+        shape: &ChunkShape,
+        data_type: &DataType,
+        fill_value: &FillValue,
+    ) -> Result<Option<ArrayBytesRaw<'a>>, CodecError> {
+        OptionalCodec::encoded_representation(self, alloc, shape, data_type, fill_value)?;
+        Ok(None)
+    }
+}

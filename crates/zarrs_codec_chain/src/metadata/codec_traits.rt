@@ -1,0 +1,146 @@
+//! What codecs to bytes say of themselves, as every codec does, and the metadata of a chain.
+ghost use Rattle.std.specs.Prelude.{Ok, map};
+ghost use Rattle.zarrs_chunk.specs.Answer.{Answers};
+ghost use Rattle.zarrs_metadata.specs.MetadataV3.{metadata_seen};
+ghost use Rattle.zarrs_metadata.specs.PluginCreateError.{plugin_memory};
+ghost use Rattle.zarrs_codec_chain.specs.ChainView.{plain_chain};
+ghost use Rattle.zarrs_codec_chain.specs.WrittenMetadata.{chain_metadatas};
+
+use crate::array_to_bytes_codec::{ArrayToBytesCodec, codec_reads, codec_writes};
+use crate::codec_chain::CodecChain;
+use crate::metadata::write_chain::{chain_written, codec_name, codec_written};
+use crate::optional_codec::{OptionalCodec, optional_written};
+use crate::vlen_codec::{VlenCodec, vlen_written};
+use std::alloc::Global;
+use zarrs_codec::{
+    ArrayCodecTraits, BytesToBytesCodecTraits, CodecTraits, PartialDecoderCapability,
+    PartialEncoderCapability,
+};
+use zarrs_metadata::{Configuration, MetadataV3, PluginCreateError};
+
+impl<B: BytesToBytesCodecTraits> CodecChain<B> {
+    /// The metadata of the chain's codecs, in the order in which they encode: of each its name and
+    /// its configuration, which has to be understood; of a bytes codec its own. `from_metadata` makes
+    /// an equal chain of them, with a maker that makes the bytes codecs again. Refusals:
+    /// `OutOfMemory`.
+    pub fn create_metadatas(&self, alloc: Global) -> Result<Vec<MetadataV3>, PluginCreateError>
+        ensures answer { Answers plugin_memory (λ list. map metadata_seen list.items) result (Ok (chain_metadatas B.described (plain_chain self.now))) }
+    {
+        chain_written(alloc, self)
+    }
+}
+
+impl<B: BytesToBytesCodecTraits> CodecTraits for VlenCodec<B> {
+    ghost use Rattle.std.specs.Prelude.{Some, false};
+    ghost use Rattle.zarrs_codec_chain.specs.ChainView.{plain_vlen};
+    ghost use Rattle.zarrs_codec_chain.specs.CodecNames.{vlen_name};
+    ghost use Rattle.zarrs_codec_chain.specs.WrittenMetadata.{codec_configuration};
+
+    ghost reads_in_part = { λ _. record { partial_read = false; partial_decode = false } };
+
+    ghost writes_in_part = { λ _. record { partial_encode = false } };
+
+    ghost named = { λ _. Some vlen_name };
+
+    ghost written = { λ codec. Some (codec_configuration B.described (plain_vlen codec)) };
+
+    /// The codec's name in metadata, `zarrs.vlen`.
+    fn name_v3(&self) -> Option<&'static str> {
+        Some("zarrs.vlen")
+    }
+
+    /// The codec's configuration, by its four keys. Refusals: `OutOfMemory`.
+    fn configuration(&self, alloc: Global) -> Result<Option<Configuration>, PluginCreateError> {
+        Ok(Some(vlen_written(alloc, self)?))
+    }
+
+    fn partial_decoder_capability(&self) -> PartialDecoderCapability {
+        PartialDecoderCapability {
+            partial_read: false,
+            partial_decode: false,
+        }
+    }
+
+    fn partial_encoder_capability(&self) -> PartialEncoderCapability {
+        PartialEncoderCapability {
+            partial_encode: false,
+        }
+    }
+}
+
+impl<B: BytesToBytesCodecTraits> ArrayCodecTraits for VlenCodec<B> {}
+
+impl<B: BytesToBytesCodecTraits> CodecTraits for OptionalCodec<B> {
+    ghost use Rattle.std.specs.Prelude.{Some, false};
+    ghost use Rattle.zarrs_codec_chain.specs.ChainView.{plain_optional};
+    ghost use Rattle.zarrs_codec_chain.specs.CodecNames.{optional_name};
+    ghost use Rattle.zarrs_codec_chain.specs.WrittenMetadata.{codec_configuration};
+
+    ghost reads_in_part = { λ _. record { partial_read = false; partial_decode = false } };
+
+    ghost writes_in_part = { λ _. record { partial_encode = false } };
+
+    ghost named = { λ _. Some optional_name };
+
+    ghost written = { λ codec. Some (codec_configuration B.described (plain_optional codec)) };
+
+    /// The codec's name in metadata, `zarrs.optional`.
+    fn name_v3(&self) -> Option<&'static str> {
+        Some("zarrs.optional")
+    }
+
+    /// The codec's configuration, by its two keys. Refusals: `OutOfMemory`.
+    fn configuration(&self, alloc: Global) -> Result<Option<Configuration>, PluginCreateError> {
+        Ok(Some(optional_written(alloc, self)?))
+    }
+
+    fn partial_decoder_capability(&self) -> PartialDecoderCapability {
+        PartialDecoderCapability {
+            partial_read: false,
+            partial_decode: false,
+        }
+    }
+
+    fn partial_encoder_capability(&self) -> PartialEncoderCapability {
+        PartialEncoderCapability {
+            partial_encode: false,
+        }
+    }
+}
+
+impl<B: BytesToBytesCodecTraits> ArrayCodecTraits for OptionalCodec<B> {}
+
+impl<B: BytesToBytesCodecTraits> CodecTraits for ArrayToBytesCodec<B> {
+    ghost use Rattle.std.specs.Prelude.{Some};
+    ghost use Rattle.zarrs_codec_chain.specs.Chain.{codec_reads, codec_writes};
+    ghost use Rattle.zarrs_codec_chain.specs.ChainView.{plain_codec};
+    ghost use Rattle.zarrs_codec_chain.specs.WrittenMetadata.{codec_name, codec_configuration};
+
+    ghost reads_in_part = { λ codec. codec_reads (plain_codec codec) };
+
+    ghost writes_in_part = { λ codec. codec_writes (plain_codec codec) };
+
+    ghost named = { λ codec. Some (codec_name (plain_codec codec)) };
+
+    ghost written = { λ codec. Some (codec_configuration B.described (plain_codec codec)) };
+
+    /// The codec's name in metadata.
+    fn name_v3(&self) -> Option<&'static str> {
+        Some(codec_name(self))
+    }
+
+    /// The codec's configuration. Refusals: `OutOfMemory`.
+    fn configuration(&self, alloc: Global) -> Result<Option<Configuration>, PluginCreateError> {
+        Ok(Some(codec_written(alloc, self)?))
+    }
+
+    fn partial_decoder_capability(&self) -> PartialDecoderCapability {
+        codec_reads(self)
+    }
+
+    fn partial_encoder_capability(&self) -> PartialEncoderCapability {
+        codec_writes(self)
+    }
+}
+
+impl<B: BytesToBytesCodecTraits> ArrayCodecTraits for ArrayToBytesCodec<B> {}
