@@ -9,8 +9,8 @@ use Rattle.zarrs_codec.specs.SampleBytesCodec.{sample_codecs}
 use Rattle.zarrs_codec.specs.declared.capabilities.PartialDecoderCapability.{PartialDecoderCapability}
 use Rattle.zarrs_codec.specs.declared.sample_bytes_codec.SampleBytesCodec.{SampleBytesCodec}
 use Rattle.zarrs_codec_chain.specs.Chain.{held_value}
-use Rattle.zarrs_codec_chain.specs.ChunkRead.{ChunkForm, stored_read}
-use Rattle.zarrs_codec_chain.specs.ChunkSource.{source_made}
+use Rattle.zarrs_chain_partial.specs.ChunkRead.{ChunkForm, stored_read}
+use Rattle.zarrs_chain_partial.specs.ChunkSource.{source_made}
 use Rattle.zarrs_codec_chain.specs.Decode.{chain_chunk}
 use Rattle.zarrs_chain_lines.specs.declared.refusal.Refusal.{Refusal}
 use Rattle.zarrs_chain_lines.specs.declared.refusal.Refusal.TheVariants.{Syntax}

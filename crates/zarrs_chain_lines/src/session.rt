@@ -22,6 +22,7 @@ use serde_json::Value;
 use std::alloc::Global;
 use std::borrow::CowSlice;
 use zarrs_array_bytes::ArrayBytes;
+use zarrs_chain_partial::CodecChainPartialTraits;
 use zarrs_chunk::{ChunkShape, CodecError, Indexer};
 use zarrs_codec::{MemoryHandle, SampleBytesCodec};
 use zarrs_codec_chain::CodecChain;

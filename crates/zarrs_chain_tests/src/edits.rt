@@ -9,9 +9,9 @@ use std::ops::Range;
 use std::process::Abort;
 use std::test::Fail;
 use zarrs_array_bytes::ArrayBytes;
+use zarrs_chain_partial::{ArrayPartialEncoder, CodecChainPartialTraits, Edit, run_edits};
 use zarrs_chunk::{ArraySubset, CodecError, Indexer};
 use zarrs_codec::{MemoryHandle, SampleBytesCodec};
-use zarrs_codec_chain::{ArrayPartialEncoder, Edit, run_edits};
 use zarrs_data_type::{Endianness, FillValue};
 use zarrs_metadata::{PackBitsPaddingEncoding, VlenIndexDataType, VlenIndexLocation};
 

@@ -11,9 +11,9 @@ use std::alloc::Global;
 use std::ops::Range;
 use std::process::Abort;
 use std::test::Fail;
+use zarrs_chain_partial::{ArrayPartialDecoder, CodecChainPartialTraits};
 use zarrs_chunk::{CodecError, Indexer};
 use zarrs_codec::{MemoryHandle, SampleBytesCodec};
-use zarrs_codec_chain::ArrayPartialDecoder;
 
 type Decoder<'a> = ArrayPartialDecoder<'a, MemoryHandle, SampleBytesCodec>;
 

@@ -6,9 +6,9 @@ use std::alloc::{AllocError, Global};
 use std::ops::Range;
 use std::process::Abort;
 use std::test::Fail;
+use zarrs_chain_partial::{ArrayPartialDecoder, CodecChainPartialTraits};
 use zarrs_chunk::{ArraySubset, CodecError, Indexer};
 use zarrs_codec::{ByteRange, MemoryHandle, SampleBytesCodec};
-use zarrs_codec_chain::ArrayPartialDecoder;
 use zarrs_data_type::{Endianness, FillValue};
 use zarrs_metadata::PackBitsPaddingEncoding;
 

@@ -11,9 +11,10 @@ use std::borrow::CowSlice;
 use std::ops::Range;
 use std::process::Abort;
 use std::test::Fail;
+use zarrs_chain_partial::{VlenCodecPartialTraits, VlenPartialDecoder};
 use zarrs_chunk::{CodecError, CodecName, Indexer};
 use zarrs_codec::{BytesRepresentation, MemoryHandle, SampleBytesCodec};
-use zarrs_codec_chain::{ArrayToBytesCodec, OptionalCodec, VlenCodec, VlenPartialDecoder};
+use zarrs_codec_chain::{ArrayToBytesCodec, OptionalCodec, VlenCodec};
 
 type Strings = VlenCodec<SampleBytesCodec>;
 

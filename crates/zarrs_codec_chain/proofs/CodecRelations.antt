@@ -24,6 +24,7 @@ use Rattle.zarrs_codec_chain.specs.Stands.{CodecStands}
 use Rattle.zarrs_codec_chain.specs.Written.{CodecWritten}
 use Rattle.zarrs_codec_chain.specs.declared.optional_codec.OptionalCodec.{OptionalCodec}
 use Rattle.zarrs_codec_chain.specs.declared.vlen_codec.VlenCodec.{VlenCodec}
+use Rattle.zarrs_codec_chain.proofs.Answered.{from_ok}
 use Rattle.zarrs_codec_chain.proofs.ArraySteps.{bind_ok, length-elements, holds_elements}
 use Rattle.zarrs_codec_chain.proofs.ChainSteps.{held_chunk}
 use Rattle.zarrs_codec_chain.proofs.NestedDecode.{chunk_only}
@@ -31,7 +32,6 @@ use Rattle.zarrs_codec_chain.proofs.NestedEncode.{value_only}
 use Rattle.zarrs_codec_chain.proofs.NestedFound.{value_found, vlen_small, optional_small}
 use Rattle.zarrs_codec_chain.proofs.NestedNormal.{kept_is}
 use Rattle.zarrs_codec_chain.proofs.NestedRead.{chunk_read}
-use Rattle.zarrs_codec_chain.proofs.PartialCalls.{from_ok}
 
 -- the codec has chains inside
 abbrev pub HasChains : {B : Type 0} → PlainCodec B → Type 0

@@ -1,3 +1,4 @@
+pub mod Answered
 pub mod ArraySteps
 pub mod CodecSteps
 pub mod NestedParts
@@ -28,16 +29,6 @@ pub mod OptionalAt
 pub mod OptionalRoom
 pub mod ChainRelations
 pub mod CodecRelations
-pub mod VlenReads
-pub mod PartialReads
-pub mod CachePlaces
-pub mod PartialCalls
-pub mod WholeReads
-pub mod ChunkWrites
-pub mod PlaceWrites
-pub mod EditLaws
-pub mod EditRuns
-pub mod SureReads
 pub mod MetadataDepth
 pub mod MadeAlike
 pub mod MakeSteps

@@ -19,17 +19,6 @@ pub mod MadeAgain
 pub mod VlenSteps
 pub mod OptionalParts
 pub mod Laws
-pub mod CachePlace
-pub mod ChunkRead
-pub mod ChunkSource
-pub mod SliceHandle
-pub mod ChunkReader
-pub mod PartialDecoder
-pub mod VlenPartialDecoder
-pub mod ChunkWrite
-pub mod PartialEncoder
-pub mod Edits
-pub mod ElementCode
 pub use Rattle.zarrs_chunk.specs.Answer
 pub use Rattle.zarrs_data_type.specs.Element
 pub use Rattle.zarrs_array_bytes.specs.Elements

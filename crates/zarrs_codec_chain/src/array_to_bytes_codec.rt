@@ -111,7 +111,7 @@ pub(crate) fn codec_encode<'a, B: BytesToBytesCodecTraits>(
 /// The chunk that a value stands for. Refusals: the codec's own.
 #[cycle(decode)]
 #[tactic(auto, unfolding(crate::specs::ChainView::plain_codec), using(crate::proofs::CodecSteps::bytes_chunk_at, crate::proofs::CodecSteps::packbits_chunk_at))]
-pub(crate) fn codec_decode<'a, B: BytesToBytesCodecTraits>(
+pub fn codec_decode<'a, B: BytesToBytesCodecTraits>(
     alloc: Global,
     codec: &ArrayToBytesCodec<B>,
     value: ArrayBytesRaw<'a>,

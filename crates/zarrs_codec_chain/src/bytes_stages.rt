@@ -10,7 +10,7 @@ use zarrs_chunk::CodecError;
 use zarrs_codec::{BytesRepresentation, BytesToBytesCodecTraits};
 
 /// How many bytes the last codec makes.
-pub(crate) fn outer_representation<B: BytesToBytesCodecTraits>(
+pub fn outer_representation<B: BytesToBytesCodecTraits>(
     codecs: &[B],
     representation: BytesRepresentation,
 ) -> BytesRepresentation
@@ -41,7 +41,7 @@ pub(crate) fn encode_bytes<'a, B: BytesToBytesCodecTraits>(
 
 /// The bytes that stand below the codecs. Refusals: `BytesCodec` of the last codec, then of the one
 /// before, and so on.
-pub(crate) fn decode_bytes<'a, B: BytesToBytesCodecTraits>(
+pub fn decode_bytes<'a, B: BytesToBytesCodecTraits>(
     alloc: Global,
     codecs: &[B],
     representation: &BytesRepresentation,

@@ -92,7 +92,7 @@ fn arrays_are_sound(codecs: &[ArrayToArrayCodec])
 
 /// What the array codecs of the chain, and of those inside it, are made of holds.
 #[cycle(sound)]
-pub(crate) fn chain_is_sound<B>(chain: &CodecChain<B>)
+pub fn chain_is_sound<B>(chain: &CodecChain<B>)
     ensures { IsChainOfMappings (plain_chain chain.now) }
 {
     arrays_are_sound(&chain.array_to_array);

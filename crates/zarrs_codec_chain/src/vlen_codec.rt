@@ -118,7 +118,7 @@ impl<B: Drop> VlenCodec<B> {
 /// The array codecs of the chains inside hold to what their types do.
 #[cycle(sound)]
 #[tactic(auto, using(crate::specs::ChainView::plain_vlen_at))]
-pub(crate) fn vlen_is_sound<B>(codec: &VlenCodec<B>)
+pub fn vlen_is_sound<B>(codec: &VlenCodec<B>)
     ensures { HasMappings (plain_vlen codec.now) }
 {
     chain_is_sound(&codec.index_codecs);
@@ -291,7 +291,7 @@ fn content_decode<'a, B: BytesToBytesCodecTraits>(
 /// The chunk that a value stands for. Refusals: those of `VlenCodec::decode`.
 #[cycle(decode)]
 #[tactic(auto, using(crate::proofs::VlenDecode::vlen_read_at, crate::proofs::VlenDecode::index_inside))]
-pub(crate) fn vlen_decode<'a, B: BytesToBytesCodecTraits>(
+pub fn vlen_decode<'a, B: BytesToBytesCodecTraits>(
     alloc: Global,
     codec: &VlenCodec<B>,
     value: ArrayBytesRaw<'a>,

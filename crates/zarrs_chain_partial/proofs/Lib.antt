@@ -1,0 +1,10 @@
+pub mod VlenReads
+pub mod PartialReads
+pub mod CachePlaces
+pub mod PartialCalls
+pub mod WholeReads
+pub mod ChunkWrites
+pub mod PlaceWrites
+pub mod EditLaws
+pub mod EditRuns
+pub mod SureReads

@@ -1,0 +1,17 @@
+use Rattle.std.proofs.Common.{refl}
+use Rattle.zarrs_codec_chain.specs.ChainView.{plain_chain}
+use Rattle.zarrs_chain_partial.proofs.PartialCalls.{kept_of}
+use Rattle.zarrs_chain_partial.proofs.partial_decoder.chunk_reader.ChunkReader.uncached.Goals as goal
+
+pub invariant_of-result : goal.invariant_of-result
+invariant_of-result g c =
+    let taken = c.in_ok-taken.taken in
+    let k = kept_of g.B.BytesToBytesCodecTraits.functions (plain_chain c.args.chain.now) c.in_ok-shape.shape c.in_ok-data_type.data_type c.in_ok-fill_value.fill_value taken.shape taken.representation c.in_ok-taken.ensures.map c.in_ok-taken.ensures.counted c.in_ok-taken.ensures.answer in
+    record {
+      taken = c.in_ok-taken.ensures.answer;
+      measured = k.measured;
+      filling = k.filled;
+      counted = k.counted;
+      counted_whole = k.counted_whole;
+      fits = refl;
+    }

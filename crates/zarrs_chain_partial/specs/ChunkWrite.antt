@@ -1,0 +1,92 @@
+-- What a write in part leaves through a chain.
+use Rattle.std.specs.Prelude.{◌≡◌, ℕ, Bool, Option, Some, None, List, [], ◌∷◌, length, map, Result, Ok}
+use Rattle.zarrs_chunk.specs.Answer.{◌>>=◌}
+use Rattle.zarrs_chunk.specs.ChunkShape.{product}
+use Rattle.zarrs_chunk.specs.Selection.{Selection}
+use Rattle.zarrs_chunk.specs.declared.codec_error.CodecError.{CodecError}
+use Rattle.zarrs_data_type.specs.Element.{Chunk}
+use Rattle.zarrs_data_type.specs.declared.endianness.Endianness.{Endianness}
+use Rattle.zarrs_data_type.specs.ElementType.{ElementType}
+use Rattle.zarrs_array_bytes.specs.Chunks.{fill_chunk}
+use Rattle.zarrs_array_bytes.specs.Elements.{elements}
+use Rattle.zarrs_array_bytes.specs.Held.{Held}
+use Rattle.zarrs_codec.specs.ArrayWriter.{ArrayWriter}
+use Rattle.zarrs_codec.specs.BytesToBytesCodec.{BytesCodecs}
+use Rattle.zarrs_codec.specs.ChunkEdits.{data_checked, data_places, with_elements}
+use Rattle.zarrs_array_to_array.specs.ArrayToArrayCodec.{ArrayMapping}
+use Rattle.zarrs_bytes.specs.BytesCodec.{spelling}
+use Rattle.zarrs_bytes.specs.PartialRead.{place_size}
+use Rattle.zarrs_bytes.specs.PartialWrite.{filled_chunk, with_place_bytes}
+use Rattle.zarrs_codec_chain.specs.ArrayStages.{arrays_map}
+use Rattle.zarrs_chain_partial.specs.ChunkRead.{ChunkForm}
+use Rattle.zarrs_codec_chain.specs.Decode.{chain_chunk}
+use Rattle.zarrs_codec_chain.specs.Encode.{chain_value}
+use Rattle.zarrs_chain_partial.specs.PartialDecoder.{chunk_reader}
+use Rattle.zarrs_codec_chain.specs.PlainChain.{PlainCodec, bytes_codec, packbits_codec, vlen_codec, optional_codec}
+use Rattle.zarrs_codec_chain.specs.Stands.{ChainStands}
+use Rattle.zarrs_codec_chain.specs.Written.{ChainWritten}
+
+-- the byte order of `bytes` without bytes codecs: there a write over a stored value replaces the bytes of its places alone
+abbrev pub order_in_place : {B : Type 0} → List B → PlainCodec B → Option (Option Endianness)
+order_in_place [] (bytes_codec order) = Some order
+order_in_place [] (packbits_codec settings) = None
+order_in_place [] (vlen_codec ia ix ib da dx db wide at_end) = None
+order_in_place [] (optional_codec ma mx mb da dx db) = None
+order_in_place (first ∷ rest) codec = None
+
+-- the value of a chunk with new elements at these places, or the first refusal
+abbrev pub edited_value : {B : Type 0} → BytesCodecs B → ChunkForm B → Chunk → List ℕ → Held → Result (List ℕ) CodecError
+edited_value f form chunk places new =
+    chain_value f form.chain form.sizes form.type form.fill (with_elements form.type chunk places new)
+
+-- The value that new elements at these places leave, or the first refusal. Where nothing is stored, it is that of the chunk of fill elements with the new ones. Of a stored value it is, over `bytes` without bytes codecs, the value with the bytes of the places, as they go through the array codecs, replaced; else that of the chunk that it stands for, with the new elements.
+abbrev pub value_left : {B : Type 0} → BytesCodecs B → ChunkForm B → Option (Option Endianness) → Option (List ℕ) → List ℕ → Held → Result (List ℕ) CodecError
+value_left f form order None places new = edited_value f form (filled_chunk form.sizes form.type form.fill) places new
+value_left f form None (Some value) places new = do
+  chunk ← chain_chunk f form.chain form.sizes form.type form.fill value
+  edited_value f form chunk places new
+value_left f form (Some order) (Some value) places new = do
+  m ← arrays_map form.type form.chain.arrays form.sizes
+  Ok (with_place_bytes (place_size form.type) value (map m.to places) (spelling order form.type (elements form.type (length places) new)))
+
+-- The value that new elements at a selection leave of what is stored, or the first refusal: the selection's; that of the new elements; of what decodes the stored value; of what encodes the chunk with the new elements.
+abbrev pub selection_left : {B : Type 0} → BytesCodecs B → ChunkForm B → Option (Option Endianness) → Option (List ℕ) → Selection → Held → Result (List ℕ) CodecError
+selection_left f form order stored selection new = do
+  places ← data_places form.sizes form.type selection new
+  value_left f form order stored places new
+
+-- the same, in place where the chain writes in place
+abbrev pub stored_written : {B : Type 0} → BytesCodecs B → ChunkForm B → Option (List ℕ) → Selection → Held → Result (List ℕ) CodecError
+stored_written f form stored selection new = selection_left f form (order_in_place form.chain.outer form.chain.codec) stored selection new
+
+-- the chunk that an edit starts from, or the first refusal: the one that the stored value stands for; where there is none, one of fill elements
+abbrev pub started_chunk : {B : Type 0} → BytesCodecs B → ChunkForm B → Option (List ℕ) → Result Chunk CodecError
+started_chunk f form None = fill_chunk form.type (product form.sizes) form.fill
+started_chunk f form (Some value) = chain_chunk f form.chain form.sizes form.type form.fill value
+
+-- where new elements at a selection go through array codecs, or the first refusal: the selection's; that of the new elements
+abbrev pub written_places : ElementType → List ArrayMapping → List ℕ → Selection → Held → Result (List ℕ) CodecError
+written_places type arrays sizes selection new = do
+  places ← data_places sizes type selection new
+  m ← arrays_map type arrays sizes
+  Ok (map m.to places)
+
+-- the writer of a chunk of this form: it leaves of a selection and new elements what `stored_written` says
+abbrev pub chunk_writer : {B : Type 0} → BytesCodecs B → ChunkForm B → Bool → ArrayWriter
+chunk_writer f form in_part = record {
+  reads = λ stored. chunk_reader f form stored in_part;
+  checks = data_checked form.sizes form.type;
+  written = stored_written f form;
+}
+
+-- ---- in the words of chunks
+
+-- an edit of what is stored starts from this chunk: the one that the value stands for; where there is none, one of fill elements
+abbrev pub EditStarts : {B : Type 0} → BytesCodecs B → ChunkForm B → Option (List ℕ) → Chunk → Type 0
+EditStarts f form None chunk = chunk ≡ filled_chunk form.sizes form.type form.fill
+EditStarts f form (Some value) chunk = ChainStands f form.chain form.sizes form.type form.fill value chunk
+
+-- what is stored is the value that is written for this chunk
+abbrev pub StoresChunk : {B : Type 0} → BytesCodecs B → ChunkForm B → Option (List ℕ) → Chunk → Type 0
+StoresChunk f form None chunk = ⊥
+StoresChunk f form (Some value) chunk = ChainWritten f form.chain form.sizes form.type form.fill value chunk

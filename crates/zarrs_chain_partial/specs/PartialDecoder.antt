@@ -1,0 +1,45 @@
+-- What a partial decoder of a chain is made of.
+use Rattle.std.specs.Prelude.{◌&&◌, ℕ, Bool, Option, is_some, List, Result, Ok, Err}
+use Rattle.zarrs_chunk.specs.declared.codec_error.CodecError.{CodecError}
+use Rattle.zarrs_codec.specs.ArrayReader.{ArrayReader}
+use Rattle.zarrs_codec.specs.BytesToBytesCodec.{BytesCodecs}
+use Rattle.zarrs_codec.specs.declared.refused.Refused.{Refused}
+use Rattle.zarrs_chain_partial.specs.ChunkReader.{reader_form, reader_source}
+use Rattle.zarrs_chain_partial.specs.ChunkRead.{ChunkForm, stored_read}
+use Rattle.zarrs_chain_partial.specs.ChunkSource.{Source, held_by, is_kept}
+use Rattle.zarrs_chain_partial.specs.declared.partial_decoder.array_partial_decoder.ArrayPartialDecoder.{ArrayPartialDecoder}
+
+-- the handle that a decoder reads
+abbrev pub handle_of : {H B : Type 0} {h : _} {b : _} → ArrayPartialDecoder H B h b → H
+handle_of decoder = decoder.handle
+
+-- the chunk that it reads
+abbrev pub form_of : {H B : Type 0} {h : _} {b : _} → ArrayPartialDecoder H B h b → ChunkForm B
+form_of decoder = reader_form decoder.reader
+
+-- what its answers rest on, where the handle has this value
+abbrev pub decoder_source : {H B : Type 0} {h : _} {b : _} → ArrayPartialDecoder H B h b → Option (List ℕ) → Source
+decoder_source decoder stored = reader_source decoder.reader stored
+
+-- it has a cache, so that its calls leave the handle alone
+abbrev pub is_cached : {H B : Type 0} {h : _} {b : _} → ArrayPartialDecoder H B h b → Bool
+is_cached decoder = is_kept decoder.reader.cache
+
+-- how many bytes are kept in memory, where the handle keeps so many: the cache's alone, or else the handle's
+abbrev pub decoder_held : {H B : Type 0} {h : _} {b : _} → ArrayPartialDecoder H B h b → ℕ → ℕ
+decoder_held decoder held = held_by held decoder.reader.cache
+
+-- the decoder that was made, or why not
+abbrev pub made : {T H : Type 0} → Result T (Refused H) → Result T CodecError
+made (Ok decoder) = Ok decoder
+made (Err refused) = Err refused.error
+
+-- the reader of a chunk of this form, where this value or none is stored: it answers of a selection what `stored_read` says
+abbrev pub chunk_reader : {B : Type 0} → BytesCodecs B → ChunkForm B → Option (List ℕ) → Bool → ArrayReader
+chunk_reader f form stored in_part = record {
+  sizes = form.sizes;
+  type = form.type;
+  is_stored = is_some stored;
+  answer = stored_read f form stored;
+  in_part = in_part;
+}

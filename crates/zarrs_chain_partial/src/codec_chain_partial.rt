@@ -1,0 +1,101 @@
+//! The coders of a chunk in part that a chain makes.
+ghost use Rattle.std.specs.Prelude.{◌≡◌, Ok, IfOk, IfErr, None, is_some, true, false};
+ghost use Rattle.zarrs_chunk.specs.Answer.{Answers, memory, memory_or_fault, is_fault, seen};
+ghost use Rattle.zarrs_codec.specs.Refused.{outcome};
+ghost use Rattle.zarrs_codec.specs.StorageState.{after_reading};
+ghost use Rattle.zarrs_codec_chain.specs.ChainView.{plain_chain};
+ghost use Rattle.zarrs_codec_chain.specs.Representation.{chain_representation as chain_representation_of};
+ghost use Rattle.zarrs_chain_partial.specs.CachePlace.{cache_place, codecs_read};
+ghost use Rattle.zarrs_chain_partial.specs.ChunkRead.{reads_places};
+ghost use Rattle.zarrs_chain_partial.specs.ChunkSource.{source_made};
+ghost use Rattle.zarrs_chain_partial.specs.PartialDecoder.{decoder_source, form_of, handle_of, is_cached, made};
+ghost use Rattle.zarrs_chain_partial.specs.PartialEncoder.{encoder_form, encoder_handle};
+
+use crate::partial_decoder::array_partial_decoder::ArrayPartialDecoder;
+use crate::partial_decoder::chunk_reader::ChunkReader;
+use crate::partial_encoder::array_partial_encoder::ArrayPartialEncoder;
+use std::alloc::Global;
+use zarrs_chunk::ChunkShape;
+use zarrs_codec::{
+    BytesPartialDecoderTraits, BytesPartialEncoderTraits, BytesToBytesCodecTraits, Refused,
+};
+use zarrs_codec_chain::CodecChain;
+use zarrs_data_type::{DataType, FillValue};
+
+/// What a [`CodecChain`] makes to read and to write a chunk in part. What is promised of it stands at the
+/// methods of the impl for [`CodecChain`].
+pub trait CodecChainPartialTraits<B: BytesToBytesCodecTraits> {
+    /// A decoder of a chunk in part, over a handle.
+    fn partial_decoder<'a, H: BytesPartialDecoderTraits>(
+        &'a self,
+        alloc: Global,
+        handle: H,
+        shape: &ChunkShape,
+        data_type: &DataType,
+        fill_value: &FillValue,
+    ) -> Result<ArrayPartialDecoder<'a, H, B>, Refused<H>>;
+
+    /// An encoder of a chunk in part, over a handle.
+    fn partial_encoder<'a, H: BytesPartialEncoderTraits>(
+        &'a self,
+        alloc: Global,
+        handle: H,
+        shape: &ChunkShape,
+        data_type: &DataType,
+        fill_value: &FillValue,
+    ) -> Result<ArrayPartialEncoder<'a, H, B>, Refused<H>>;
+}
+
+impl<B: BytesToBytesCodecTraits> CodecChainPartialTraits<B> for CodecChain<B> {
+    /// A decoder of a chunk in part, over a handle. Refusals, the first that holds, `OutOfMemory` aside:
+    /// those of `encoded_representation`; with a cache, `Storage`, and then those of what decodes the
+    /// value up to the cache: `BytesCodec` of the last bytes codec, then of the one before; those of the
+    /// codec to bytes. A refusal hands the handle back, as it stands. Without a cache the handle isn't
+    /// asked.
+    fn partial_decoder<'a, H: BytesPartialDecoderTraits>(
+        &'a self,
+        alloc: Global,
+        handle: H,
+        shape: &ChunkShape,
+        data_type: &DataType,
+        fill_value: &FillValue,
+    ) -> Result<ArrayPartialDecoder<'a, H, B>, Refused<H>>
+        ensures answer { Answers memory_or_fault (λ decoder. decoder_source decoder (H.state handle).value) (made result) (source_made B.functions B.reads_in_part (record { chain = plain_chain self.now; sizes = shape.now; type = data_type.now; fill = fill_value.now }) (H.state handle).value) }
+        ensures form { IfOk result (λ decoder. form_of decoder ≡ record { chain = plain_chain self.now; sizes = shape.now; type = data_type.now; fill = fill_value.now }) }
+        ensures cached { IfOk result (λ decoder. is_cached decoder ≡ is_some (cache_place (codecs_read B.reads_in_part (plain_chain self.now)))) }
+        ensures over { IfOk result (λ decoder. H.state (handle_of decoder) ≡ H.state handle) }
+        ensures over_same { IfOk result (λ decoder. H.lent (handle_of decoder) ≡ H.lent handle) }
+        ensures handed_back { IfErr result (λ refused. H.state refused.handle ≡ after_reading (made result) (H.state handle)) }
+        ensures handed_same { IfErr result (λ refused. H.lent refused.handle ≡ H.lent handle) }
+        ensures untouched { cache_place (codecs_read B.reads_in_part (plain_chain self.now)) ≡ None → is_fault (made result) ≡ false }
+        ensures sure { reads_places (plain_chain self.now).outer (plain_chain self.now).codec ≡ true → is_fault (made result) ≡ false }
+    {
+        let mut handle = handle;
+        match ChunkReader::new(alloc, self, &mut handle, shape, data_type, fill_value) {
+            Ok(reader) => Ok(ArrayPartialDecoder { handle, reader }),
+            Err(error) => Err(Refused { error, handle }),
+        }
+    }
+
+    /// An encoder of a chunk in part, over a handle, which isn't asked yet. Refusals: those of
+    /// `encoded_representation`; `OutOfMemory`. A refusal hands the handle back as it was.
+    fn partial_encoder<'a, H: BytesPartialEncoderTraits>(
+        &'a self,
+        alloc: Global,
+        handle: H,
+        shape: &ChunkShape,
+        data_type: &DataType,
+        fill_value: &FillValue,
+    ) -> Result<ArrayPartialEncoder<'a, H, B>, Refused<H>>
+        ensures answer { Answers memory (λ made. made) (outcome result) (seen (λ _. tt) (chain_representation_of B.functions (plain_chain self.now) shape.now data_type.now fill_value.now)) }
+        ensures form { IfOk result (λ encoder. encoder_form encoder ≡ record { chain = plain_chain self.now; sizes = shape.now; type = data_type.now; fill = fill_value.now }) }
+        ensures over { IfOk result (λ encoder. encoder_handle encoder ≡ handle) }
+        ensures handed_back { IfErr result (λ refused. refused.handle ≡ handle) }
+        ensures no_fault { is_fault (outcome result) ≡ false }
+    {
+        match ChunkReader::uncached(alloc, self, shape, data_type, fill_value) {
+            Ok(reader) => Ok(ArrayPartialEncoder { handle, reader }),
+            Err(error) => Err(Refused { error, handle }),
+        }
+    }
+}

@@ -1,0 +1,172 @@
+ghost use Rattle.std.specs.Prelude.{◌≡◌, ◌<◌, ◌&&◌, ℕ, List, Ok, Err, IfOk, IfErr, IsOkAnd, Some, None, map, option_map, is_some, true, false};
+ghost use Rattle.std.proofs.Props.{props};
+ghost use Rattle.zarrs_chunk.specs.Answer.{Answers, AnswersBy, fault, memory, memory_or_fault, is_fault, seen};
+ghost use Rattle.zarrs_chunk.specs.Indexer.{selection_of};
+ghost use Rattle.zarrs_chunk.specs.Selection.{bounds_of, places_of};
+ghost use Rattle.zarrs_data_type.specs.Element.{Chunk, fill_element};
+ghost use Rattle.zarrs_array_bytes.specs.Elements.{select};
+ghost use Rattle.zarrs_array_bytes.specs.Validity.{Holds};
+ghost use Rattle.zarrs_codec.specs.StorageState.{after_reading};
+ghost use Rattle.zarrs_chain_partial.specs.CachePlace.{cache_place, codecs_read};
+ghost use Rattle.zarrs_codec_chain.specs.Chain.{chain_reads};
+ghost use Rattle.zarrs_codec_chain.specs.ChainView.{plain_chain};
+ghost use Rattle.zarrs_chain_partial.specs.ChunkRead.{IsReadPlan, planned_places, reads_places, stored_read, WhereSure};
+ghost use Rattle.zarrs_chain_partial.specs.ChunkSource.{IsSizeOf, source_made};
+ghost use Rattle.zarrs_chain_partial.specs.ElementCode.{Chunk-set};
+ghost use Rattle.zarrs_chain_partial.specs.ChunkReader.{IsFilledFrom, reader_form, reader_is_cached, reader_source};
+ghost use Rattle.zarrs_codec_chain.specs.Stands.{ChainStands};
+
+use crate::partial_decoder::chunk_reader::ChunkReader;
+use std::alloc::Global;
+use zarrs_array_bytes::ArrayBytes;
+use zarrs_chunk::{ChunkShape, CodecError, Indexer};
+use zarrs_codec::{
+    ArrayPartialDecoderTraits, ByteRange, BytesPartialDecoderTraits, BytesToBytesCodecTraits,
+    Refused,
+};
+use zarrs_codec_chain::CodecChain;
+use zarrs_data_type::{DataType, FillValue};
+
+/// Reads a chunk of a [`CodecChain`] in part, over a storage handle that it owns. The chain is
+/// borrowed.
+///
+/// Without bytes codecs, over `bytes` and `packbits`, a read looks at the bytes of the places that are
+/// asked for and at no others: it checks neither the value's length nor what else stands there. Where a
+/// codec can't read or decode a part, what it makes is kept in a cache, which is filled once, when the
+/// decoder is made; after that the handle is left alone.
+#[derive(Drop)]
+pub struct ArrayPartialDecoder<'a, H: BytesPartialDecoderTraits, B: BytesToBytesCodecTraits> {
+    pub(crate) handle: H,
+    pub(crate) reader: ChunkReader<'a, B>,
+    ghost kept: { IsFilledFrom B.functions reader (H.state handle).value } by { Prim.hlevel (props, Chunk-set) },
+    ghost wanted: { reader_is_cached reader ≡ true → source_made B.functions B.reads_in_part (reader_form reader) (H.state handle).value ≡ Ok (reader_source reader (H.state handle).value) } by { Prim.hlevel (props, Chunk-set) },
+}
+
+impl<'a, H: BytesPartialDecoderTraits, B: BytesToBytesCodecTraits> ArrayPartialDecoder<'a, H, B> {
+    ghost use Rattle.zarrs_chain_partial.specs.PartialDecoder.{decoder_held, form_of, handle_of, is_cached};
+
+    /// The type of the elements.
+    pub fn data_type(&self) -> &DataType
+        ensures value { result.now ≡ (form_of self.now).type }
+    {
+        self.reader.data_type()
+    }
+
+    /// The elements that the indexer means, in its order: those of the chunk that the stored value
+    /// stands for, and the fill value at each place where nothing is stored. Without bytes codecs, over
+    /// `bytes` and `packbits`, the answer rests on the places' bytes alone, whatever else is stored.
+    ///
+    /// Refusals, the first that holds, `OutOfMemory` aside: those of `Indexer::check`; `Storage`, but
+    /// never of a decoder that has a cache, nor where the answer rests on the places' bytes alone and
+    /// all of these are sure; `BytesCodec` of the last bytes codec, then of the one before;
+    /// `InvalidByteRange` where a place's bytes lie past the end.
+    pub fn partial_decode(
+        &mut self,
+        alloc: Global,
+        indexer: &Indexer,
+    ) -> Result<ArrayBytes<'static>, CodecError>
+        ensures selected { let form = form_of self.old in (value : List ℕ) (chunk : Chunk) → (H.state (handle_of self.old)).value ≡ Some value → ChainStands B.functions form.chain form.sizes form.type form.fill value chunk → AnswersBy memory_or_fault (Holds form.type) result (seen (select chunk) (places_of (selection_of indexer.now) form.sizes)) }
+        ensures unstored { let form = form_of self.old in (H.state (handle_of self.old)).value ≡ None → AnswersBy memory_or_fault (Holds form.type) result (seen (map (λ _. fill_element form.type form.fill)) (places_of (selection_of indexer.now) form.sizes)) }
+        ensures answer { AnswersBy memory_or_fault (Holds (form_of self.old).type) result (stored_read B.functions (form_of self.old) (H.state (handle_of self.old)).value (selection_of indexer.now)) }
+        ensures indexer_first { IfErr (bounds_of (selection_of indexer.now) (form_of self.old).sizes) (λ cause. AnswersBy memory (Holds (form_of self.old).type) result (Err cause)) }
+        ensures sure { WhereSure B.functions (form_of self.old) (selection_of indexer.now) (H.state (handle_of self.old)).sure (is_fault result ≡ false) }
+        ensures calm { is_cached self.old ≡ true → is_fault result ≡ false }
+        ensures left { H.state (handle_of self.new) ≡ after_reading result (H.state (handle_of self.old)) }
+        ensures same_reference { H.lent (handle_of self.new) ≡ H.lent (handle_of self.old) }
+        ensures form_kept { form_of self.new ≡ form_of self.old }
+        ensures cache_kept { is_cached self.new ≡ is_cached self.old }
+    {
+        self.reader.read_chunk(alloc, &mut self.handle, indexer)
+    }
+
+    /// Whether a value is stored; of a decoder that has a cache, whether one was when it was made.
+    /// Refusals: `Storage`, but never of a decoder that has a cache, nor where the handle has sure
+    /// bytes.
+    pub fn exists(&mut self) -> Result<bool, CodecError>
+        ensures answer { Answers fault (λ there. there) result (Ok (is_some (H.state (handle_of self.old)).value)) }
+        ensures sure { is_some (H.state (handle_of self.old)).sure ≡ true → is_fault result ≡ false }
+        ensures calm { is_cached self.old ≡ true → is_fault result ≡ false }
+        ensures left { H.state (handle_of self.new) ≡ after_reading result (H.state (handle_of self.old)) }
+        ensures same_reference { H.lent (handle_of self.new) ≡ H.lent (handle_of self.old) }
+        ensures form_kept { form_of self.new ≡ form_of self.old }
+        ensures cache_kept { is_cached self.new ≡ is_cached self.old }
+    {
+        self.reader.exists(&mut self.handle)
+    }
+
+    /// How many bytes are kept in memory: the cache's alone, or without a cache the handle's.
+    pub fn size_held(&self) -> usize
+        ensures handle { is_cached self.now ≡ false → result ≡ H.held (handle_of self.now) }
+        ensures cache { is_cached self.now ≡ true → IsOkAnd (source_made B.functions B.reads_in_part (form_of self.now) (H.state (handle_of self.now)).value) (λ source. IsSizeOf (form_of self.now).type source result) }
+        ensures value { result ≡ decoder_held self.now (H.held (handle_of self.now)) }
+    {
+        self.reader.size_held(&self.handle)
+    }
+
+    /// The ranges of bytes that a read asks for, where it asks for the bytes of its places alone: they
+    /// are these bytes and no others. `None` where bytes codecs, or chains inside the codec to bytes,
+    /// stand in the way. Refusals, the first that holds: those of `Indexer::check`; `OutOfMemory`.
+    pub fn planned_ranges(
+        &self,
+        alloc: Global,
+        indexer: &Indexer,
+    ) -> Result<Option<Vec<ByteRange>>, CodecError>
+        ensures plan { AnswersBy memory (λ ranges places. IsReadPlan B.functions (form_of self.now) (option_map (λ v. v.items) ranges) places) result (planned_places (form_of self.now) (selection_of indexer.now)) }
+        ensures no_fault { is_fault result ≡ false }
+    {
+        self.reader.planned_ranges(alloc, indexer)
+    }
+
+    /// Whether a part is read without the rest: where all codecs of the chain decode a part, and the
+    /// handle reads ranges by themselves.
+    pub fn supports_partial_decode(&self) -> bool
+        ensures value { result ≡ (chain_reads B.reads_in_part (form_of self.now).chain).partial_decode && H.reads_ranges }
+    {
+        self.reader.decodes_parts() && self.handle.supports_partial_decode()
+    }
+
+    /// The handle, as it stands.
+    pub fn into_handle(self) -> H
+        ensures value { result ≡ handle_of self.entry }
+    {
+        let ArrayPartialDecoder { handle, reader: _ } = self;
+        handle
+    }
+}
+
+impl<'a, H: BytesPartialDecoderTraits, B: BytesToBytesCodecTraits> ArrayPartialDecoderTraits
+    for ArrayPartialDecoder<'a, H, B> {
+    ghost use Rattle.zarrs_chain_partial.specs.PartialDecoder.{chunk_reader, decoder_held, form_of, handle_of};
+
+    ghost reader = { λ decoder. chunk_reader B.functions (form_of decoder) (H.state (handle_of decoder)).value ((chain_reads B.reads_in_part (form_of decoder).chain).partial_decode && H.reads_ranges) };
+
+    ghost state = { λ decoder. H.state (handle_of decoder) };
+
+    ghost lent = { λ decoder. H.lent (handle_of decoder) };
+
+    ghost held = { λ decoder. decoder_held decoder (H.held (handle_of decoder)) };
+
+    fn data_type(&self) -> &DataType {
+        ArrayPartialDecoder::data_type(self)
+    }
+
+    fn exists(&mut self) -> Result<bool, CodecError> {
+        ArrayPartialDecoder::exists(self)
+    }
+
+    fn size_held(&self) -> usize {
+        ArrayPartialDecoder::size_held(self)
+    }
+
+    fn partial_decode(
+        &mut self,
+        alloc: Global,
+        indexer: &Indexer,
+    ) -> Result<ArrayBytes<'static>, CodecError> {
+        ArrayPartialDecoder::partial_decode(self, alloc, indexer)
+    }
+
+    fn supports_partial_decode(&self) -> bool {
+        ArrayPartialDecoder::supports_partial_decode(self)
+    }
+}

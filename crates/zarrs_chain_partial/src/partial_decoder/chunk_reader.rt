@@ -1,0 +1,469 @@
+//! Reading a chunk in part through a chain, over a handle that the caller keeps.
+ghost use Rattle.std.specs.Prelude.{◌≡◌, ◌<◌, ◌≤◌, ◌+◌, ◌^◌, ℕ, List, All, Ok, Err, IfOk, IfErr, Some, None, length, map, option_map, is_ok, is_some, true, false};
+ghost use Rattle.zarrs_chunk.specs.Answer.{Answers, AnswersBy, fault, memory, memory_or_fault, is_fault, seen};
+ghost use Rattle.zarrs_chunk.specs.ChunkShape.{product};
+ghost use Rattle.zarrs_chunk.specs.Indexer.{selection_of};
+ghost use Rattle.zarrs_chunk.specs.Runs.{joined_runs};
+ghost use Rattle.zarrs_chunk.specs.Selection.{bounds_of, places_of};
+ghost use Rattle.zarrs_data_type.specs.Element.{Chunk, fill_element};
+ghost use Rattle.zarrs_data_type.specs.FillValue.{fill_fits};
+ghost use Rattle.zarrs_array_bytes.specs.Elements.{elements, select};
+ghost use Rattle.zarrs_array_bytes.specs.Held.{raw_of};
+ghost use Rattle.zarrs_array_bytes.specs.Validity.{Holds};
+ghost use Rattle.zarrs_codec.specs.StorageState.{after_reading, are_sure};
+ghost use Rattle.zarrs_codec_chain.specs.Chain.{chain_reads, codec_reads as codec_reads_of, taken_form as taken_form_of};
+ghost use Rattle.zarrs_codec_chain.specs.ChainView.{plain_chain};
+ghost use Rattle.zarrs_chain_partial.specs.ChunkRead.{codec_place_bytes, encoded_places, IsReadPlan, planned_places, reads_places, stored_read, WhereSure};
+ghost use Rattle.zarrs_chain_partial.specs.ChunkSource.{bytes_above, cache_fits, cache_stage as cache_stage_of, chunk_below, has_cache, held_by, is_kept, is_there, opened_chunk, source_made, source_places, source_read};
+ghost use Rattle.zarrs_codec_chain.specs.Laws.{IsChainOfMappings};
+ghost use Rattle.zarrs_codec_chain.specs.Representation.{codec_representation};
+ghost use Rattle.zarrs_codec_chain.specs.Stands.{ChainStands};
+
+use crate::partial_decoder::cache::{Cache, CacheStage};
+use crate::partial_decoder::codec_read::{planned_runs, read_runs, read_runs_of_bytes};
+use crate::partial_decoder::encoded_runs::encoded_runs;
+use crate::partial_decoder::fill_runs::fill_runs;
+use crate::partial_decoder::make_cache::{
+    cache_stage, chunk_below as chunk_of_value, codec_reads, make_cache,
+};
+use std::alloc::Global;
+use std::borrow::CowSlice;
+use zarrs_array_bytes::{ArrayBytes, ArrayBytesRaw};
+use zarrs_chunk::{ChunkShape, CodecError, Indexer};
+use zarrs_codec::{
+    ByteRange, BytesPartialDecoderTraits, BytesRepresentation, BytesToBytesCodecTraits, CodecTraits,
+};
+use zarrs_codec_chain::CodecChain;
+use zarrs_codec_chain::stages::{chain_is_sound, decode_bytes, taken_form};
+use zarrs_data_type::{DataType, FillValue};
+
+/// What reads a chunk in part, but for the handle: the chain, the chunk's form, and what a cache keeps
+/// of the stored value.
+#[derive(Drop)]
+pub(crate) struct ChunkReader<'a, B: BytesToBytesCodecTraits> {
+    pub(crate) chain: &'a CodecChain<B>,
+    cache: Cache,
+    pub(crate) shape: ChunkShape,
+    pub(crate) encoded: ChunkShape,
+    pub(crate) data_type: DataType,
+    pub(crate) fill_value: FillValue,
+    representation: BytesRepresentation,
+    ghost taken: { taken_form_of B.functions (plain_chain chain.now) shape data_type fill_value ≡ Ok (encoded, representation) },
+    ghost measured: { is_ok (codec_representation B.functions (plain_chain chain.now).codec encoded data_type fill_value) ≡ true },
+    ghost filling: { fill_fits data_type fill_value ≡ true },
+    ghost counted: { product encoded < 2 ^ 64 },
+    ghost counted_whole: { product shape < 2 ^ 64 },
+    ghost fits: { cache_fits (codec_reads_of (plain_chain chain.now).codec) data_type (product encoded) (length (plain_chain chain.now).outer) cache ≡ true },
+}
+
+impl<'a, B: BytesToBytesCodecTraits> ChunkReader<'a, B> {
+    ghost use Rattle.zarrs_chain_partial.specs.ChunkReader.{IsFilledFrom, reader_form, reader_is_cached, reader_source};
+
+    /// A reader of such a chunk without a cache. Refusals: those of the chain's representation.
+    pub(crate) fn uncached(
+        alloc: Global,
+        chain: &'a CodecChain<B>,
+        shape: &ChunkShape,
+        data_type: &DataType,
+        fill_value: &FillValue,
+    ) -> Result<ChunkReader<'a, B>, CodecError>
+        ensures answer { Answers memory (λ reader. (reader.encoded, reader.representation)) result (taken_form_of B.functions (plain_chain chain.now) shape.now data_type.now fill_value.now) }
+        ensures form { IfOk result (λ reader. reader_form reader ≡ record { chain = plain_chain chain.now; sizes = shape.now; type = data_type.now; fill = fill_value.now }) }
+        ensures uncached { IfOk result (λ reader. reader_is_cached reader ≡ false) }
+        ensures no_fault { is_fault result ≡ false }
+    {
+        let shape = shape.clone()?;
+        let data_type = data_type.clone()?;
+        let fill_value = fill_value.clone()?;
+        let (encoded, representation) = taken_form(alloc, chain, &shape, &data_type, &fill_value)?;
+        Ok(ChunkReader {
+            chain,
+            cache: Cache::Handle,
+            shape,
+            encoded,
+            data_type,
+            fill_value,
+            representation,
+        })
+    }
+
+    /// A reader of such a chunk, whose cache is filled from the handle. Refusals, the first that holds,
+    /// `OutOfMemory` aside: those of the chain's representation; with a cache, `Storage` and those of
+    /// what decodes the value up to the cache.
+    pub(crate) fn new<H: BytesPartialDecoderTraits>(
+        alloc: Global,
+        chain: &'a CodecChain<B>,
+        handle: &mut H,
+        shape: &ChunkShape,
+        data_type: &DataType,
+        fill_value: &FillValue,
+    ) -> Result<ChunkReader<'a, B>, CodecError>
+        ensures answer { Answers memory_or_fault (λ reader. reader_source reader (H.state handle.old).value) result (source_made B.functions B.reads_in_part (record { chain = plain_chain chain.now; sizes = shape.now; type = data_type.now; fill = fill_value.now }) (H.state handle.old).value) }
+        ensures form { IfOk result (λ reader. reader_form reader ≡ record { chain = plain_chain chain.now; sizes = shape.now; type = data_type.now; fill = fill_value.now }) }
+        ensures cached { IfOk result (λ reader. is_kept reader.cache ≡ has_cache (cache_stage_of B.reads_in_part (plain_chain chain.now))) }
+        ensures untouched { cache_stage_of B.reads_in_part (plain_chain chain.now) ≡ CacheStage.Nowhere → is_fault result ≡ false }
+        ensures filled { IfOk result (λ reader. IsFilledFrom B.functions reader (H.state handle.old).value) }
+        ensures left { H.state handle.new ≡ after_reading result (H.state handle.old) }
+        ensures same_reference { H.lent handle.new ≡ H.lent handle.old }
+    {
+        let shape = shape.clone()?;
+        let data_type = data_type.clone()?;
+        let fill_value = fill_value.clone()?;
+        let (encoded, representation) = taken_form(alloc, chain, &shape, &data_type, &fill_value)?;
+        let cache = make_cache(
+            alloc,
+            chain,
+            handle,
+            cache_stage(chain),
+            &encoded,
+            &data_type,
+            &fill_value,
+            representation,
+        )?;
+        Ok(ChunkReader {
+            chain,
+            cache,
+            shape,
+            encoded,
+            data_type,
+            fill_value,
+            representation,
+        })
+    }
+
+    /// The type of the elements.
+    pub(crate) fn data_type(&self) -> &DataType
+        ensures value { result.now ≡ (reader_form self.now).type }
+    {
+        &self.data_type
+    }
+
+    /// Whether all codecs of the chain decode a part.
+    pub(crate) fn decodes_parts(&self) -> bool
+        ensures value { result ≡ (chain_reads B.reads_in_part (reader_form self.now).chain).partial_decode }
+    {
+        self.chain.partial_decoder_capability().partial_decode
+    }
+
+    /// What the chain and the shape are made of holds.
+    pub(crate) fn is_sound(&self)
+        ensures mappings { IsChainOfMappings (reader_form self.now).chain }
+        ensures positive { All (λ size. 0 < size) (reader_form self.now).sizes }
+    {
+        chain_is_sound(self.chain);
+        self.shape.as_slice();
+    }
+
+    /// Where the places that an indexer means go in the chunk that the codec to bytes gets, as runs.
+    pub(crate) fn runs(
+        &self,
+        alloc: Global,
+        indexer: &Indexer,
+    ) -> Result<Vec<(u64, u64)>, CodecError>
+        ensures answer { Answers memory (λ runs. joined_runs runs.items) result (encoded_places self.now.data_type (plain_chain self.now.chain.now).arrays self.now.shape (selection_of indexer.now)) }
+        ensures filled { IfOk result (λ runs. All (λ run. 0 < run.1) runs.items) }
+        ensures inside { IfOk result (λ runs. All (λ run. run.0 + run.1 ≤ product self.now.encoded) runs.items) }
+        ensures count { IfOk result (λ runs. length (joined_runs runs.items) < 2 ^ 64) }
+        ensures no_fault { is_fault result ≡ false }
+    {
+        self.is_sound();
+        encoded_runs(
+            alloc,
+            self.chain.array_to_array_codecs(),
+            &self.shape,
+            indexer,
+        )
+    }
+
+    /// The elements at the places of these runs, by the bytes above so many of the first bytes codecs,
+    /// or by none. Refusals, the first that holds, `OutOfMemory` aside: `BytesCodec` of the last of
+    /// these codecs, then of the one before; those of the codec to bytes.
+    fn read_above(
+        &self,
+        alloc: Global,
+        value: Option<ArrayBytesRaw<'_>>,
+        below: usize,
+        runs: &[(u64, u64)],
+    ) -> Result<ArrayBytes<'static>, CodecError>
+        requires in_part { (codec_reads_of (plain_chain self.now.chain.now).codec).partial_decode ≡ true }
+        requires known { below ≤ length (plain_chain self.now.chain.now).outer }
+        requires filled { All (λ run. 0 < run.1) runs.now }
+        requires inside { All (λ run. run.0 + run.1 ≤ product self.now.encoded) runs.now }
+        ensures answer { AnswersBy memory (Holds self.now.data_type) result (source_places B.functions (plain_chain self.now.chain.now) self.now.encoded self.now.data_type self.now.fill_value self.now.representation (bytes_above below (option_map (λ bytes. (raw_of bytes).items) value.entry)) (joined_runs runs.now)) }
+        ensures no_fault { is_fault result ≡ false }
+    {
+        match value {
+            None => read_runs_of_bytes::<B>(
+                alloc,
+                self.chain.array_to_bytes_codec(),
+                None,
+                &self.encoded,
+                &self.data_type,
+                &self.fill_value,
+                runs,
+            ),
+            Some(value) => {
+                let codecs = &self.chain.bytes_to_bytes_codecs()[..below];
+                let bytes = decode_bytes(alloc, codecs, &self.representation, value)?;
+                read_runs_of_bytes::<B>(
+                    alloc,
+                    self.chain.array_to_bytes_codec(),
+                    Some(bytes.as_slice()),
+                    &self.encoded,
+                    &self.data_type,
+                    &self.fill_value,
+                    runs,
+                )
+            }
+        }
+    }
+
+    /// The same, by what the handle keeps. Without bytes codecs the handle is asked for the places'
+    /// bytes alone, and else for the whole value.
+    fn read_stored<H: BytesPartialDecoderTraits>(
+        &self,
+        alloc: Global,
+        handle: &mut H,
+        runs: &[(u64, u64)],
+    ) -> Result<ArrayBytes<'static>, CodecError>
+        requires in_part { (codec_reads_of (plain_chain self.now.chain.now).codec).partial_decode ≡ true }
+        requires filled { All (λ run. 0 < run.1) runs.now }
+        requires inside { All (λ run. run.0 + run.1 ≤ product self.now.encoded) runs.now }
+        ensures answer { AnswersBy memory_or_fault (Holds self.now.data_type) result (source_places B.functions (plain_chain self.now.chain.now) self.now.encoded self.now.data_type self.now.fill_value self.now.representation (bytes_above (length (plain_chain self.now.chain.now).outer) (H.state handle.old).value) (joined_runs runs.now)) }
+        ensures sure { reads_places (plain_chain self.now.chain.now).outer (plain_chain self.now.chain.now).codec ≡ true → IfOk (codec_place_bytes (plain_chain self.now.chain.now).codec self.now.encoded self.now.data_type self.now.fill_value (joined_runs runs.now)) (λ numbers. are_sure (H.state handle.old).sure numbers ≡ true → is_fault result ≡ false) }
+        ensures left { H.state handle.new ≡ after_reading result (H.state handle.old) }
+        ensures same_reference { H.lent handle.new ≡ H.lent handle.old }
+    {
+        if self.chain.bytes_to_bytes_codecs().is_empty() {
+            return read_runs::<H, B>(
+                alloc,
+                self.chain.array_to_bytes_codec(),
+                handle,
+                &self.encoded,
+                &self.data_type,
+                &self.fill_value,
+                runs,
+            );
+        }
+        let value = match handle.decode(alloc)? {
+            None => None,
+            Some(value) => Some(CowSlice::Owned(value)),
+        };
+        let below = self.chain.bytes_to_bytes_codecs().len();
+        self.read_above(alloc, value, below, runs)
+    }
+
+    /// The same, where the codec to bytes reads no part: by the whole chunk.
+    fn read_whole<H: BytesPartialDecoderTraits>(
+        &self,
+        alloc: Global,
+        handle: &mut H,
+        runs: &[(u64, u64)],
+    ) -> Result<ArrayBytes<'static>, CodecError>
+        requires whole { (codec_reads_of (plain_chain self.now.chain.now).codec).partial_decode ≡ false }
+        requires inside { All (λ run. run.0 + run.1 ≤ product self.now.encoded) runs.now }
+        requires count { length (joined_runs runs.now) < 2 ^ 64 }
+        ensures answer { AnswersBy memory_or_fault (Holds self.now.data_type) result (source_places B.functions (plain_chain self.now.chain.now) self.now.encoded self.now.data_type self.now.fill_value self.now.representation (bytes_above (length (plain_chain self.now.chain.now).outer) (H.state handle.old).value) (joined_runs runs.now)) }
+        ensures left { H.state handle.new ≡ after_reading result (H.state handle.old) }
+        ensures same_reference { H.lent handle.new ≡ H.lent handle.old }
+    {
+        match handle.decode(alloc)? {
+            None => fill_runs(alloc, &self.data_type, &self.fill_value, runs),
+            Some(value) => self.runs_of_value(alloc, value, runs),
+        }
+    }
+
+    /// The elements at the places of these runs of the chunk that the codec to bytes reads of a value.
+    fn runs_of_value(
+        &self,
+        alloc: Global,
+        value: Vec<u8>,
+        runs: &[(u64, u64)],
+    ) -> Result<ArrayBytes<'static>, CodecError>
+        requires inside { All (λ run. run.0 + run.1 ≤ product self.now.encoded) runs.now }
+        ensures answer { AnswersBy memory (Holds self.now.data_type) result (seen (λ chunk. select chunk (joined_runs runs.now)) (opened_chunk B.functions (plain_chain self.now.chain.now) self.now.encoded self.now.data_type self.now.fill_value self.now.representation value.items)) }
+        ensures no_fault { is_fault result ≡ false }
+    {
+        let held = chunk_of_value(
+            alloc,
+            self.chain,
+            &self.encoded,
+            &self.data_type,
+            &self.fill_value,
+            &self.representation,
+            value,
+        )?;
+        let count = self.encoded.num_elements()?;
+        held.extract_runs(alloc, runs, count, &self.data_type)
+    }
+
+    /// The elements at the places of these runs, of a chunk that is kept, or of none.
+    fn read_kept(
+        &self,
+        alloc: Global,
+        chunk: &Option<ArrayBytes<'static>>,
+        runs: &[(u64, u64)],
+    ) -> Result<ArrayBytes<'static>, CodecError>
+        requires fits { cache_fits (codec_reads_of (plain_chain self.now.chain.now).codec) self.now.data_type (product self.now.encoded) (length (plain_chain self.now.chain.now).outer) (Cache.Chunk chunk.now) ≡ true }
+        requires inside { All (λ run. run.0 + run.1 ≤ product self.now.encoded) runs.now }
+        requires count { length (joined_runs runs.now) < 2 ^ 64 }
+        ensures answer { AnswersBy memory (Holds self.now.data_type) result (source_places B.functions (plain_chain self.now.chain.now) self.now.encoded self.now.data_type self.now.fill_value self.now.representation (chunk_below (option_map (elements self.now.data_type (product self.now.encoded)) chunk.now)) (joined_runs runs.now)) }
+        ensures no_fault { is_fault result ≡ false }
+    {
+        match chunk {
+            None => fill_runs(alloc, &self.data_type, &self.fill_value, runs),
+            Some(held) => {
+                let count = self.encoded.num_elements()?;
+                held.extract_runs(alloc, runs, count, &self.data_type)
+            }
+        }
+    }
+
+    /// The elements at the places of these runs of the chunk that the codec to bytes gets.
+    fn read_runs<H: BytesPartialDecoderTraits>(
+        &self,
+        alloc: Global,
+        handle: &mut H,
+        runs: &[(u64, u64)],
+    ) -> Result<ArrayBytes<'static>, CodecError>
+        requires filled { All (λ run. 0 < run.1) runs.now }
+        requires inside { All (λ run. run.0 + run.1 ≤ product self.now.encoded) runs.now }
+        requires count { length (joined_runs runs.now) < 2 ^ 64 }
+        ensures answer { AnswersBy memory_or_fault (Holds self.now.data_type) result (source_places B.functions (plain_chain self.now.chain.now) self.now.encoded self.now.data_type self.now.fill_value self.now.representation (reader_source self.now (H.state handle.old).value) (joined_runs runs.now)) }
+        ensures sure { reads_places (plain_chain self.now.chain.now).outer (plain_chain self.now.chain.now).codec ≡ true → IfOk (codec_place_bytes (plain_chain self.now.chain.now).codec self.now.encoded self.now.data_type self.now.fill_value (joined_runs runs.now)) (λ numbers. are_sure (H.state handle.old).sure numbers ≡ true → is_fault result ≡ false) }
+        ensures left { H.state handle.new ≡ after_reading result (H.state handle.old) }
+        ensures same_reference { H.lent handle.new ≡ H.lent handle.old }
+        ensures calm { is_kept self.now.cache ≡ true → is_fault result ≡ false }
+    {
+        match &self.cache {
+            Cache::Handle => {
+                if codec_reads(self.chain).partial_decode {
+                    self.read_stored(alloc, handle, runs)
+                } else {
+                    self.read_whole(alloc, handle, runs)
+                }
+            }
+            Cache::Bytes(below, value) => self.read_above(alloc, lent_bytes(value), *below, runs),
+            Cache::Chunk(chunk) => self.read_kept(alloc, chunk, runs),
+        }
+    }
+
+    /// The elements that the indexer means, in its order. Refusals, the first that holds, `OutOfMemory`
+    /// aside: those of `Indexer::check`; `Storage`; those of the bytes codecs that a cache leaves, and
+    /// of the codec to bytes.
+    pub(crate) fn read<H: BytesPartialDecoderTraits>(
+        &self,
+        alloc: Global,
+        handle: &mut H,
+        indexer: &Indexer,
+    ) -> Result<ArrayBytes<'static>, CodecError>
+        ensures answer { AnswersBy memory_or_fault (Holds self.now.data_type) result (source_read B.functions (reader_form self.now) self.now.encoded self.now.representation (reader_source self.now (H.state handle.old).value) (selection_of indexer.now)) }
+        ensures indexer_first { IfErr (bounds_of (selection_of indexer.now) self.now.shape) (λ cause. AnswersBy memory (Holds self.now.data_type) result (Err cause)) }
+        ensures sure { WhereSure B.functions (reader_form self.now) (selection_of indexer.now) (H.state handle.old).sure (is_fault result ≡ false) }
+        ensures left { H.state handle.new ≡ after_reading result (H.state handle.old) }
+        ensures same_reference { H.lent handle.new ≡ H.lent handle.old }
+        ensures calm { is_kept self.now.cache ≡ true → is_fault result ≡ false }
+    {
+        let runs = self.runs(alloc, indexer)?;
+        self.read_runs(alloc, handle, &runs)
+    }
+
+    /// The elements that the indexer means, in its order, of the chunk whose value the handle keeps,
+    /// where the cache, if there is one, was filled from that value. Refusals: those of
+    /// `ArrayPartialDecoder::partial_decode`.
+    pub(crate) fn read_chunk<H: BytesPartialDecoderTraits>(
+        &self,
+        alloc: Global,
+        handle: &mut H,
+        indexer: &Indexer,
+    ) -> Result<ArrayBytes<'static>, CodecError>
+        requires filled { IsFilledFrom B.functions self.now (H.state handle.old).value }
+        ensures selected { let form = reader_form self.now in (value : List ℕ) (chunk : Chunk) → (H.state handle.old).value ≡ Some value → ChainStands B.functions form.chain form.sizes form.type form.fill value chunk → AnswersBy memory_or_fault (Holds form.type) result (seen (select chunk) (places_of (selection_of indexer.now) form.sizes)) }
+        ensures unstored { let form = reader_form self.now in (H.state handle.old).value ≡ None → AnswersBy memory_or_fault (Holds form.type) result (seen (map (λ _. fill_element form.type form.fill)) (places_of (selection_of indexer.now) form.sizes)) }
+        ensures answer { AnswersBy memory_or_fault (Holds (reader_form self.now).type) result (stored_read B.functions (reader_form self.now) (H.state handle.old).value (selection_of indexer.now)) }
+        ensures indexer_first { IfErr (bounds_of (selection_of indexer.now) (reader_form self.now).sizes) (λ cause. AnswersBy memory (Holds (reader_form self.now).type) result (Err cause)) }
+        ensures sure { WhereSure B.functions (reader_form self.now) (selection_of indexer.now) (H.state handle.old).sure (is_fault result ≡ false) }
+        ensures calm { reader_is_cached self.now ≡ true → is_fault result ≡ false }
+        ensures left { H.state handle.new ≡ after_reading result (H.state handle.old) }
+        ensures same_reference { H.lent handle.new ≡ H.lent handle.old }
+    {
+        self.is_sound();
+        self.read(alloc, handle, indexer)
+    }
+
+    /// Whether something is stored, or was when the cache was filled. Refusals: `Storage`.
+    pub(crate) fn exists<H: BytesPartialDecoderTraits>(
+        &self,
+        handle: &mut H,
+    ) -> Result<bool, CodecError>
+        ensures answer { Answers fault (λ there. there) result (Ok (is_there (reader_source self.now (H.state handle.old).value))) }
+        ensures sure { is_some (H.state handle.old).sure ≡ true → is_fault result ≡ false }
+        ensures left { H.state handle.new ≡ after_reading result (H.state handle.old) }
+        ensures same_reference { H.lent handle.new ≡ H.lent handle.old }
+        ensures calm { is_kept self.now.cache ≡ true → is_fault result ≡ false }
+    {
+        match &self.cache {
+            Cache::Handle => handle.exists(),
+            Cache::Bytes(_, value) => Ok(value.is_some()),
+            Cache::Chunk(chunk) => Ok(chunk.is_some()),
+        }
+    }
+
+    /// How many bytes are kept in memory: the cache's alone, or else the handle's.
+    pub(crate) fn size_held<H: BytesPartialDecoderTraits>(&self, handle: &H) -> usize
+        ensures value { result ≡ held_by (H.held handle.now) self.now.cache }
+    {
+        match &self.cache {
+            Cache::Handle => handle.size_held(),
+            Cache::Bytes(_, None) => 0,
+            Cache::Bytes(_, Some(value)) => value.len(),
+            Cache::Chunk(None) => 0,
+            Cache::Chunk(Some(chunk)) => chunk.size(),
+        }
+    }
+
+    /// The ranges of bytes that a read asks for, where it asks for the bytes of its places alone.
+    /// Refusals: those of `Indexer::check`; `OutOfMemory`.
+    pub(crate) fn planned_ranges(
+        &self,
+        alloc: Global,
+        indexer: &Indexer,
+    ) -> Result<Option<Vec<ByteRange>>, CodecError>
+        ensures plan { AnswersBy memory (λ ranges places. IsReadPlan B.functions (reader_form self.now) (option_map (λ v. v.items) ranges) places) result (planned_places (reader_form self.now) (selection_of indexer.now)) }
+        ensures no_fault { is_fault result ≡ false }
+    {
+        let runs = self.runs(alloc, indexer)?;
+        if !asks_for_places(self.chain) {
+            return Ok(None);
+        }
+        let ranges = planned_runs::<B>(
+            alloc,
+            self.chain.array_to_bytes_codec(),
+            &self.encoded,
+            &self.data_type,
+            &self.fill_value,
+            &runs,
+        )?;
+        Ok(Some(ranges))
+    }
+}
+
+/// Whether a read asks for the bytes of its places alone.
+fn asks_for_places<B: BytesToBytesCodecTraits>(chain: &CodecChain<B>) -> bool
+    ensures value { result ≡ reads_places (plain_chain chain.now).outer (plain_chain chain.now).codec }
+{
+    match chain.bytes_to_bytes_codecs() {
+        [] => codec_reads(chain).partial_decode,
+        _ => false,
+    }
+}
+
+/// The bytes that are kept, lent.
+fn lent_bytes(value: &Option<Vec<u8>>) -> Option<ArrayBytesRaw<'_>>
+    ensures value { option_map (λ bytes. (raw_of bytes).items) result ≡ option_map (λ items. items.items) value.now }
+{
+    match value {
+        None => None,
+        Some(value) => Some(CowSlice::Borrowed(value.as_slice())),
+    }
+}

@@ -1,0 +1,100 @@
+//! Reading runs of places through a codec to bytes, of a handle or of bytes in memory.
+ghost use Rattle.std.specs.Prelude.{◌≡◌, ◌<◌, ◌≤◌, ◌+◌, IfOk, All, is_ok, option_map, true, false};
+ghost use Rattle.zarrs_chunk.specs.Answer.{AnswersBy, memory, memory_or_fault, is_fault, no_refusal};
+ghost use Rattle.zarrs_chunk.specs.ChunkShape.{product};
+ghost use Rattle.zarrs_chunk.specs.Runs.{joined_runs};
+ghost use Rattle.zarrs_array_bytes.specs.Validity.{Holds};
+ghost use Rattle.zarrs_codec.specs.StorageState.{after_reading, are_sure};
+ghost use Rattle.zarrs_codec_chain.specs.Chain.{codec_reads as codec_reads_of};
+ghost use Rattle.zarrs_codec_chain.specs.ChainView.{plain_codec};
+ghost use Rattle.zarrs_chain_partial.specs.ChunkRead.{codec_place_bytes, codec_read, IsCodecPlan};
+ghost use Rattle.zarrs_codec_chain.specs.Representation.{codec_representation};
+
+use crate::partial_decoder::slice_handle::SliceHandle;
+use std::alloc::Global;
+use zarrs_array_bytes::ArrayBytes;
+use zarrs_chunk::{ChunkShape, CodecError};
+use zarrs_codec::{ByteRange, BytesPartialDecoderTraits, BytesToBytesCodecTraits};
+use zarrs_codec_chain::ArrayToBytesCodec;
+use zarrs_data_type::{DataType, FillValue};
+
+/// The elements at the places of these runs of a chunk that the codec takes, over a handle that keeps
+/// its bytes: the fill value at each place where nothing is stored. Refusals: the codec's own;
+/// `OutOfMemory` and `Storage`, which may come before.
+#[tactic(auto, unfolding(zarrs_codec_chain::specs::ChainView::plain_codec), using(zarrs_codec_chain::specs::ChainView::plain_vlen_at, zarrs_codec_chain::specs::ChainView::plain_optional_at))]
+pub(crate) fn read_runs<H: BytesPartialDecoderTraits, B: BytesToBytesCodecTraits>(
+    alloc: Global,
+    codec: &ArrayToBytesCodec<B>,
+    handle: &mut H,
+    shape: &ChunkShape,
+    data_type: &DataType,
+    fill_value: &FillValue,
+    runs: &[(u64, u64)],
+) -> Result<ArrayBytes<'static>, CodecError>
+    requires taken { is_ok (codec_representation B.functions (plain_codec codec.now) shape.now data_type.now fill_value.now) ≡ true }
+    requires in_part { (codec_reads_of (plain_codec codec.now)).partial_decode ≡ true }
+    requires filled { All (λ run. 0 < run.1) runs.now }
+    requires below { All (λ run. run.0 + run.1 ≤ product shape.now) runs.now }
+    ensures answer { AnswersBy memory_or_fault (Holds data_type.now) result (codec_read B.functions (plain_codec codec.now) shape.now data_type.now fill_value.now (H.state handle.old).value (joined_runs runs.now)) }
+    ensures sure { IfOk (codec_place_bytes (plain_codec codec.now) shape.now data_type.now fill_value.now (joined_runs runs.now)) (λ numbers. are_sure (H.state handle.old).sure numbers ≡ true → is_fault result ≡ false) }
+    ensures left { H.state handle.new ≡ after_reading result (H.state handle.old) }
+    ensures same_reference { H.lent handle.new ≡ H.lent handle.old }
+{
+    match codec {
+        ArrayToBytesCodec::Bytes(codec) => {
+            codec.read_runs(alloc, handle, data_type, fill_value, runs)
+        }
+        ArrayToBytesCodec::PackBits(codec) => {
+            codec.read_runs(alloc, handle, shape, data_type, fill_value, runs)
+        }
+        ArrayToBytesCodec::Vlen(_) | ArrayToBytesCodec::Optional(_) => unreachable!(),
+    }
+}
+
+/// The same, of bytes in memory, or of none.
+pub(crate) fn read_runs_of_bytes<B: BytesToBytesCodecTraits>(
+    alloc: Global,
+    codec: &ArrayToBytesCodec<B>,
+    bytes: Option<&[u8]>,
+    shape: &ChunkShape,
+    data_type: &DataType,
+    fill_value: &FillValue,
+    runs: &[(u64, u64)],
+) -> Result<ArrayBytes<'static>, CodecError>
+    requires taken { is_ok (codec_representation B.functions (plain_codec codec.now) shape.now data_type.now fill_value.now) ≡ true }
+    requires in_part { (codec_reads_of (plain_codec codec.now)).partial_decode ≡ true }
+    requires filled { All (λ run. 0 < run.1) runs.now }
+    requires below { All (λ run. run.0 + run.1 ≤ product shape.now) runs.now }
+    ensures answer { AnswersBy memory (Holds data_type.now) result (codec_read B.functions (plain_codec codec.now) shape.now data_type.now fill_value.now (option_map (λ items. items.now) bytes.entry) (joined_runs runs.now)) }
+    ensures no_fault { is_fault result ≡ false }
+{
+    let mut lent = SliceHandle::new(bytes);
+    read_runs::<SliceHandle<'_>, B>(alloc, codec, &mut lent, shape, data_type, fill_value, runs)
+}
+
+/// The ranges of bytes that a read of these runs asks for. Refusals: `OutOfMemory`.
+#[tactic(auto, unfolding(zarrs_codec_chain::specs::ChainView::plain_codec), using(zarrs_codec_chain::specs::ChainView::plain_vlen_at, zarrs_codec_chain::specs::ChainView::plain_optional_at))]
+pub(crate) fn planned_runs<B: BytesToBytesCodecTraits>(
+    alloc: Global,
+    codec: &ArrayToBytesCodec<B>,
+    shape: &ChunkShape,
+    data_type: &DataType,
+    fill_value: &FillValue,
+    runs: &[(u64, u64)],
+) -> Result<Vec<ByteRange>, CodecError>
+    requires taken { is_ok (codec_representation B.functions (plain_codec codec.now) shape.now data_type.now fill_value.now) ≡ true }
+    requires in_part { (codec_reads_of (plain_codec codec.now)).partial_decode ≡ true }
+    requires filled { All (λ run. 0 < run.1) runs.now }
+    requires below { All (λ run. run.0 + run.1 ≤ product shape.now) runs.now }
+    ensures plan { AnswersBy memory (λ ranges _. IsCodecPlan (plain_codec codec.now) shape.now data_type.now fill_value.now (joined_runs runs.now) ranges.items) result no_refusal }
+    ensures filled { IfOk result (λ ranges. All (λ range. range.start < range.end) ranges.items) }
+    ensures no_fault { is_fault result ≡ false }
+{
+    match codec {
+        ArrayToBytesCodec::Bytes(codec) => codec.planned_runs(alloc, data_type, fill_value, runs),
+        ArrayToBytesCodec::PackBits(codec) => {
+            codec.planned_runs(alloc, shape, data_type, fill_value, runs)
+        }
+        ArrayToBytesCodec::Vlen(_) | ArrayToBytesCodec::Optional(_) => unreachable!(),
+    }
+}

@@ -1,0 +1,301 @@
+ghost use Rattle.std.specs.Prelude.{◌≡◌, ◌<◌, ◌≤◌, ◌+◌, ◌^◌, ◌&&◌, ℕ, List, Ok, Err, IfOk, IfErr, All, Some, None, is_ok, is_some, length, map, option_map, true, false};
+ghost use Rattle.zarrs_chunk.specs.Answer.{Answers, AnswersBy, fault, memory, memory_or_fault, is_fault, seen};
+ghost use Rattle.zarrs_chunk.specs.ChunkShape.{product};
+ghost use Rattle.zarrs_chunk.specs.Indexer.{selection_of};
+ghost use Rattle.zarrs_chunk.specs.Runs.{joined_runs};
+ghost use Rattle.zarrs_chunk.specs.Selection.{bounds_of, places_of};
+ghost use Rattle.zarrs_data_type.specs.Element.{Chunk, fill_element};
+ghost use Rattle.zarrs_data_type.specs.FillValue.{fill_fits};
+ghost use Rattle.zarrs_array_bytes.specs.Elements.{elements, select};
+ghost use Rattle.zarrs_array_bytes.specs.Validity.{Holds, validity};
+ghost use Rattle.zarrs_codec.specs.Refused.{outcome};
+ghost use Rattle.zarrs_codec.specs.StorageState.{after_reading};
+ghost use Rattle.zarrs_codec_chain.specs.Chain.{codec_reads};
+ghost use Rattle.zarrs_codec_chain.specs.ChainView.{plain_vlen};
+ghost use Rattle.zarrs_chain_partial.specs.ChunkRead.{codec_read};
+ghost use Rattle.zarrs_codec_chain.specs.Decode.{codec_chunk};
+ghost use Rattle.zarrs_codec_chain.specs.Representation.{codec_representation};
+ghost use Rattle.zarrs_codec_chain.specs.Stands.{CodecStands};
+
+use crate::partial_decoder::fill_runs::fill_runs;
+use std::alloc::Global;
+use std::borrow::CowSlice;
+use zarrs_array_bytes::ArrayBytes;
+use zarrs_chunk::{ChunkShape, CodecError, Indexer};
+use zarrs_codec::{
+    ArrayPartialDecoderTraits, BytesPartialDecoderTraits, BytesToBytesCodecTraits, Refused,
+};
+use zarrs_codec_chain::VlenCodec;
+use zarrs_codec_chain::stages::{vlen_decode, vlen_is_sound};
+use zarrs_data_type::{DataType, FillValue};
+
+/// Reads a chunk of a [`VlenCodec`] in part, over a storage handle that it owns. The codec is
+/// borrowed.
+///
+/// Each read asks the handle for the whole value, decodes it, and takes out the elements that are
+/// meant. Nothing is kept in between.
+#[derive(Drop)]
+pub struct VlenPartialDecoder<'a, H: BytesPartialDecoderTraits, B: BytesToBytesCodecTraits> {
+    handle: H,
+    codec: &'a VlenCodec<B>,
+    shape: ChunkShape,
+    data_type: DataType,
+    fill_value: FillValue,
+    ghost taken: { is_ok (codec_representation B.functions (plain_vlen codec.now) shape data_type fill_value) ≡ true },
+    ghost filling: { fill_fits data_type fill_value ≡ true },
+    ghost counted: { product shape < 2 ^ 64 },
+}
+
+/// The chunk that a value stands for, in a container of its own. Refusals: those of
+/// `VlenCodec::decode`.
+fn decoded<B: BytesToBytesCodecTraits>(
+    alloc: Global,
+    codec: &VlenCodec<B>,
+    value: Vec<u8>,
+    shape: &ChunkShape,
+    data_type: &DataType,
+    fill_value: &FillValue,
+) -> Result<ArrayBytes<'static>, CodecError>
+    requires taken { is_ok (codec_representation B.functions (plain_vlen codec.now) shape.now data_type.now fill_value.now) ≡ true }
+    ensures answer { Answers memory (elements data_type.now (product shape.now)) result (codec_chunk B.functions (plain_vlen codec.now) shape.now data_type.now fill_value.now value.items) }
+    ensures valid { IfOk result (λ held. validity data_type.now (product shape.now) held ≡ Ok tt) }
+    ensures no_fault { is_fault result ≡ false }
+{
+    vlen_decode(
+        alloc,
+        codec,
+        CowSlice::Owned(value),
+        shape,
+        data_type,
+        fill_value,
+    )
+}
+
+/// The elements at the places of these runs of a chunk that the codec takes, by its whole value: the
+/// fill value at each place where there is none. Refusals: those of `VlenCodec::decode`.
+#[tactic(auto, using(crate::proofs::VlenReads::vlen_reads))]
+fn read_runs<B: BytesToBytesCodecTraits>(
+    alloc: Global,
+    codec: &VlenCodec<B>,
+    value: Option<Vec<u8>>,
+    shape: &ChunkShape,
+    data_type: &DataType,
+    fill_value: &FillValue,
+    runs: &[(u64, u64)],
+) -> Result<ArrayBytes<'static>, CodecError>
+    requires taken { is_ok (codec_representation B.functions (plain_vlen codec.now) shape.now data_type.now fill_value.now) ≡ true }
+    requires filling { fill_fits data_type.now fill_value.now ≡ true }
+    requires counted { product shape.now < 2 ^ 64 }
+    requires inside { All (λ run. run.0 + run.1 ≤ product shape.now) runs.now }
+    requires count { length (joined_runs runs.now) < 2 ^ 64 }
+    ensures answer { AnswersBy memory (Holds data_type.now) result (codec_read B.functions (plain_vlen codec.now) shape.now data_type.now fill_value.now (option_map (λ items. items.items) value) (joined_runs runs.now)) }
+    ensures no_fault { is_fault result ≡ false }
+{
+    match value {
+        None => fill_runs(alloc, data_type, fill_value, runs),
+        Some(value) => {
+            let chunk = decoded(alloc, codec, value, shape, data_type, fill_value)?;
+            let count = shape.num_elements()?;
+            chunk.extract_runs(alloc, runs, count, data_type)
+        }
+    }
+}
+
+/// What a partial decoder keeps of a chunk that the codec takes. Refusals: those of
+/// `encoded_representation`.
+fn parts_of_decoder<B: BytesToBytesCodecTraits>(
+    codec: &VlenCodec<B>,
+    shape: &ChunkShape,
+    data_type: &DataType,
+    fill_value: &FillValue,
+) -> Result<(ChunkShape, DataType, FillValue), CodecError>
+    ensures answer { Answers memory (λ parts. parts) result (seen (λ _. (shape.now, data_type.now, fill_value.now)) (codec_representation B.functions (plain_vlen codec.now) shape.now data_type.now fill_value.now)) }
+    ensures taken { IfOk result (λ parts. is_ok (codec_representation B.functions (plain_vlen codec.now) parts.0 parts.1 parts.2) ≡ true) }
+    ensures filling { IfOk result (λ parts. fill_fits parts.1 parts.2 ≡ true) }
+    ensures counted { IfOk result (λ parts. product parts.0 < 2 ^ 64) }
+    ensures no_fault { is_fault result ≡ false }
+{
+    codec.encoded_representation(shape, data_type, fill_value)?;
+    let shape = shape.clone()?;
+    let data_type = data_type.clone()?;
+    let fill_value = fill_value.clone()?;
+    Ok((shape, data_type, fill_value))
+}
+
+/// What a [`VlenCodec`] makes to read a chunk in part. What is promised of it stands at the method of
+/// the impl for [`VlenCodec`].
+pub trait VlenCodecPartialTraits<B: BytesToBytesCodecTraits> {
+    /// A decoder of a chunk in part, over a handle.
+    fn partial_decoder<'a, H: BytesPartialDecoderTraits>(
+        &'a self,
+        alloc: Global,
+        handle: H,
+        shape: &ChunkShape,
+        data_type: &DataType,
+        fill_value: &FillValue,
+    ) -> Result<VlenPartialDecoder<'a, H, B>, Refused<H>>;
+}
+
+impl<B: BytesToBytesCodecTraits> VlenCodecPartialTraits<B> for VlenCodec<B> {
+    ghost use Rattle.zarrs_chain_partial.specs.VlenPartialDecoder.{vlen_form_of, vlen_handle_of};
+
+    /// A decoder of a chunk in part, over a handle. Refusals, the first that holds: those of
+    /// `encoded_representation`; `OutOfMemory`. A refusal hands the handle back as it was.
+    fn partial_decoder<'a, H: BytesPartialDecoderTraits>(
+        &'a self,
+        alloc: Global,
+        handle: H,
+        shape: &ChunkShape,
+        data_type: &DataType,
+        fill_value: &FillValue,
+    ) -> Result<VlenPartialDecoder<'a, H, B>, Refused<H>>
+        ensures answer { Answers memory (λ made. made) (outcome result) (seen (λ _. tt) (codec_representation B.functions (plain_vlen self.now) shape.now data_type.now fill_value.now)) }
+        ensures form { IfOk result (λ decoder. vlen_form_of decoder ≡ record { codec = plain_vlen self.now; sizes = shape.now; type = data_type.now; fill = fill_value.now }) }
+        ensures over { IfOk result (λ decoder. vlen_handle_of decoder ≡ handle) }
+        ensures handed_back { IfErr result (λ refused. refused.handle ≡ handle) }
+        ensures no_fault { is_fault (outcome result) ≡ false }
+    {
+        match parts_of_decoder(self, shape, data_type, fill_value) {
+            Ok((shape, data_type, fill_value)) => Ok(VlenPartialDecoder {
+                handle,
+                codec: self,
+                shape,
+                data_type,
+                fill_value,
+            }),
+            Err(error) => Err(Refused { error, handle }),
+        }
+    }
+}
+
+impl<'a, H: BytesPartialDecoderTraits, B: BytesToBytesCodecTraits> VlenPartialDecoder<'a, H, B> {
+    ghost use Rattle.zarrs_chain_partial.specs.VlenPartialDecoder.{codec_stored_read, vlen_form_of, vlen_handle_of};
+
+    /// The type of the elements.
+    pub fn data_type(&self) -> &DataType
+        ensures value { result.now ≡ (vlen_form_of self.now).type }
+    {
+        &self.data_type
+    }
+
+    /// The elements that the indexer means, by the whole value that the handle keeps.
+    fn read(&mut self, alloc: Global, indexer: &Indexer) -> Result<ArrayBytes<'static>, CodecError>
+        ensures answer { AnswersBy memory_or_fault (Holds (vlen_form_of self.old).type) result (codec_stored_read B.functions (vlen_form_of self.old) (H.state (vlen_handle_of self.old)).value (selection_of indexer.now)) }
+        ensures indexer_first { IfErr (bounds_of (selection_of indexer.now) (vlen_form_of self.old).sizes) (λ cause. AnswersBy memory (Holds (vlen_form_of self.old).type) result (Err cause)) }
+        ensures left { H.state (vlen_handle_of self.new) ≡ after_reading result (H.state (vlen_handle_of self.old)) }
+        ensures same_reference { H.lent (vlen_handle_of self.new) ≡ H.lent (vlen_handle_of self.old) }
+        ensures form_kept { vlen_form_of self.new ≡ vlen_form_of self.old }
+    {
+        let runs = indexer.runs(alloc, &self.shape)?;
+        let value = self.handle.decode(alloc)?;
+        read_runs(
+            alloc,
+            self.codec,
+            value,
+            &self.shape,
+            &self.data_type,
+            &self.fill_value,
+            &runs,
+        )
+    }
+
+    /// The elements that the indexer means, in its order: those of the chunk that the stored value
+    /// stands for, and the fill value at each place where nothing is stored.
+    ///
+    /// Refusals, the first that holds, `OutOfMemory` aside: those of `Indexer::check`; `Storage`; those
+    /// of `VlenCodec::decode`.
+    pub fn partial_decode(
+        &mut self,
+        alloc: Global,
+        indexer: &Indexer,
+    ) -> Result<ArrayBytes<'static>, CodecError>
+        ensures selected { let form = vlen_form_of self.old in (value : List ℕ) (chunk : Chunk) → (H.state (vlen_handle_of self.old)).value ≡ Some value → CodecStands B.functions form.codec form.sizes form.type form.fill value chunk → AnswersBy memory_or_fault (Holds form.type) result (seen (select chunk) (places_of (selection_of indexer.now) form.sizes)) }
+        ensures unstored { let form = vlen_form_of self.old in (H.state (vlen_handle_of self.old)).value ≡ None → AnswersBy memory_or_fault (Holds form.type) result (seen (map (λ _. fill_element form.type form.fill)) (places_of (selection_of indexer.now) form.sizes)) }
+        ensures answer { AnswersBy memory_or_fault (Holds (vlen_form_of self.old).type) result (codec_stored_read B.functions (vlen_form_of self.old) (H.state (vlen_handle_of self.old)).value (selection_of indexer.now)) }
+        ensures indexer_first { IfErr (bounds_of (selection_of indexer.now) (vlen_form_of self.old).sizes) (λ cause. AnswersBy memory (Holds (vlen_form_of self.old).type) result (Err cause)) }
+        ensures left { H.state (vlen_handle_of self.new) ≡ after_reading result (H.state (vlen_handle_of self.old)) }
+        ensures same_reference { H.lent (vlen_handle_of self.new) ≡ H.lent (vlen_handle_of self.old) }
+        ensures form_kept { vlen_form_of self.new ≡ vlen_form_of self.old }
+    {
+        vlen_is_sound(self.codec);
+        self.shape.as_slice();
+        self.read(alloc, indexer)
+    }
+
+    /// Whether a value is stored. Refusals: `Storage`, but never where the handle has sure bytes.
+    pub fn exists(&mut self) -> Result<bool, CodecError>
+        ensures answer { Answers fault (λ there. there) result (Ok (is_some (H.state (vlen_handle_of self.old)).value)) }
+        ensures sure { is_some (H.state (vlen_handle_of self.old)).sure ≡ true → is_fault result ≡ false }
+        ensures left { H.state (vlen_handle_of self.new) ≡ after_reading result (H.state (vlen_handle_of self.old)) }
+        ensures same_reference { H.lent (vlen_handle_of self.new) ≡ H.lent (vlen_handle_of self.old) }
+        ensures form_kept { vlen_form_of self.new ≡ vlen_form_of self.old }
+    {
+        self.handle.exists()
+    }
+
+    /// How many bytes the handle keeps in memory.
+    pub fn size_held(&self) -> usize
+        ensures value { result ≡ H.held (vlen_handle_of self.now) }
+    {
+        self.handle.size_held()
+    }
+
+    /// Whether a part is read without the rest: never, as each read asks for the whole value.
+    #[tactic(auto, using(zarrs_codec_chain::specs::ChainView::plain_vlen_at))]
+    pub fn supports_partial_decode(&self) -> bool
+        ensures value { result ≡ (codec_reads (vlen_form_of self.now).codec).partial_decode && H.reads_ranges }
+    {
+        false
+    }
+
+    /// The handle, as it stands.
+    pub fn into_handle(self) -> H
+        ensures value { result ≡ vlen_handle_of self.entry }
+    {
+        let VlenPartialDecoder {
+            handle,
+            codec: _,
+            shape: _,
+            data_type: _,
+            fill_value: _,
+        } = self;
+        handle
+    }
+}
+
+impl<'a, H: BytesPartialDecoderTraits, B: BytesToBytesCodecTraits> ArrayPartialDecoderTraits
+    for VlenPartialDecoder<'a, H, B> {
+    ghost use Rattle.zarrs_chain_partial.specs.VlenPartialDecoder.{codec_reader, vlen_form_of, vlen_handle_of};
+
+    ghost reader = { λ decoder. codec_reader B.functions (vlen_form_of decoder) (H.state (vlen_handle_of decoder)).value ((codec_reads (vlen_form_of decoder).codec).partial_decode && H.reads_ranges) };
+
+    ghost state = { λ decoder. H.state (vlen_handle_of decoder) };
+
+    ghost lent = { λ decoder. H.lent (vlen_handle_of decoder) };
+
+    ghost held = { λ decoder. H.held (vlen_handle_of decoder) };
+
+    fn data_type(&self) -> &DataType {
+        VlenPartialDecoder::data_type(self)
+    }
+
+    fn exists(&mut self) -> Result<bool, CodecError> {
+        VlenPartialDecoder::exists(self)
+    }
+
+    fn size_held(&self) -> usize {
+        VlenPartialDecoder::size_held(self)
+    }
+
+    fn partial_decode(
+        &mut self,
+        alloc: Global,
+        indexer: &Indexer,
+    ) -> Result<ArrayBytes<'static>, CodecError> {
+        VlenPartialDecoder::partial_decode(self, alloc, indexer)
+    }
+
+    fn supports_partial_decode(&self) -> bool {
+        VlenPartialDecoder::supports_partial_decode(self)
+    }
+}

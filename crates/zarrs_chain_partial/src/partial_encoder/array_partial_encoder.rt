@@ -1,0 +1,277 @@
+ghost use Rattle.std.specs.Prelude.{◌≡◌, ◌<◌, ◌&&◌, ℕ, List, All, Ok, Err, IfOk, IfErr, IsOkAnd, OnOk, OnErr, Some, None, map, option_map, is_some, true, false};
+ghost use Rattle.zarrs_chunk.specs.Answer.{Answers, AnswersBy, fault, memory, memory_or_fault, is_fault, seen};
+ghost use Rattle.zarrs_chunk.specs.Indexer.{selection_of};
+ghost use Rattle.zarrs_chunk.specs.Selection.{bounds_of, places_of};
+ghost use Rattle.zarrs_data_type.specs.Element.{Chunk, fill_element};
+ghost use Rattle.zarrs_array_bytes.specs.Elements.{select};
+ghost use Rattle.zarrs_array_bytes.specs.Validity.{Holds};
+ghost use Rattle.zarrs_codec.specs.ArrayWriter.{IsRefusedWrite};
+ghost use Rattle.zarrs_codec.specs.ChunkEdits.{data_checked, edited_chunk};
+ghost use Rattle.zarrs_codec.specs.Refused.{outcome};
+ghost use Rattle.zarrs_codec.specs.StorageState.{after_reading, after_writing, apart_from_value};
+ghost use Rattle.zarrs_codec_chain.specs.Chain.{chain_reads, chain_writes};
+ghost use Rattle.zarrs_codec_chain.specs.ChainView.{plain_chain};
+ghost use Rattle.zarrs_chain_partial.specs.ChunkRead.{IsReadPlan, planned_places, stored_read, WhereSure};
+ghost use Rattle.zarrs_chain_partial.specs.ChunkReader.{reader_is_cached};
+ghost use Rattle.zarrs_chain_partial.specs.ChunkWrite.{EditStarts, stored_written, StoresChunk};
+ghost use Rattle.zarrs_codec_chain.specs.Laws.{IsChainOfMappings};
+ghost use Rattle.zarrs_codec_chain.specs.Representation.{chain_representation as chain_representation_of};
+ghost use Rattle.zarrs_codec_chain.specs.Stands.{ChainStands};
+ghost use Rattle.zarrs_codec_chain.specs.Written.{ChainWritten};
+
+use crate::partial_decoder::array_partial_decoder::ArrayPartialDecoder;
+use crate::partial_decoder::chunk_reader::ChunkReader;
+use std::alloc::Global;
+use zarrs_array_bytes::ArrayBytes;
+use zarrs_chunk::{ChunkShape, CodecError, Indexer};
+use zarrs_codec::{
+    ArrayPartialDecoderTraits, ArrayPartialEncoderTraits, ByteRange, BytesPartialEncoderTraits,
+    BytesToBytesCodecTraits, Refused,
+};
+use zarrs_codec_chain::CodecChain;
+use zarrs_data_type::{DataType, FillValue};
+
+/// Writes a chunk of a [`CodecChain`] in part, over a storage handle that it owns, and reads it in
+/// part. The chain is borrowed.
+///
+/// It has no cache: each call asks the handle, so what is read is what was written last. Over `bytes`
+/// without bytes codecs a write over a stored value replaces the bytes of its places alone; through
+/// every other chain the whole value is decoded, encoded and replaced. A chunk of fill values is
+/// stored like any other.
+#[derive(Drop)]
+pub struct ArrayPartialEncoder<'a, H: BytesPartialEncoderTraits, B: BytesToBytesCodecTraits> {
+    pub(crate) handle: H,
+    pub(crate) reader: ChunkReader<'a, B>,
+    ghost uncached: { reader_is_cached reader ≡ false },
+}
+
+impl<'a, H: BytesPartialEncoderTraits, B: BytesToBytesCodecTraits> ArrayPartialEncoder<'a, H, B> {
+    ghost use Rattle.zarrs_chain_partial.specs.PartialDecoder.{form_of, handle_of, is_cached};
+    ghost use Rattle.zarrs_chain_partial.specs.PartialEncoder.{encoder_form, encoder_handle};
+
+    /// What the chain and the shape are made of holds.
+    pub(crate) fn is_sound(&self)
+        ensures mappings { IsChainOfMappings (encoder_form self.now).chain }
+        ensures positive { All (λ size. 0 < size) (encoder_form self.now).sizes }
+    {
+        self.reader.is_sound();
+    }
+
+    /// The type of the elements.
+    pub fn data_type(&self) -> &DataType
+        ensures value { result.now ≡ (encoder_form self.now).type }
+    {
+        self.reader.data_type()
+    }
+
+    /// The elements that the indexer means, in its order: those of the chunk that the stored value
+    /// stands for, and the fill value at each place where nothing is stored. Without bytes codecs, over
+    /// `bytes` and `packbits`, the answer rests on the places' bytes alone, whatever else is stored.
+    ///
+    /// Refusals, the first that holds, `OutOfMemory` aside: those of `Indexer::check`; `Storage`, but
+    /// never where the answer rests on the places' bytes alone and all of these are sure; `BytesCodec`
+    /// of the last bytes codec, then of the one before; `InvalidByteRange` where a place's bytes lie
+    /// past the end, or what whole decode refuses.
+    pub fn partial_decode(
+        &mut self,
+        alloc: Global,
+        indexer: &Indexer,
+    ) -> Result<ArrayBytes<'static>, CodecError>
+        ensures selected { let form = encoder_form self.old in (value : List ℕ) (chunk : Chunk) → (H.state (encoder_handle self.old)).value ≡ Some value → ChainStands B.functions form.chain form.sizes form.type form.fill value chunk → AnswersBy memory_or_fault (Holds form.type) result (seen (select chunk) (places_of (selection_of indexer.now) form.sizes)) }
+        ensures unstored { let form = encoder_form self.old in (H.state (encoder_handle self.old)).value ≡ None → AnswersBy memory_or_fault (Holds form.type) result (seen (map (λ _. fill_element form.type form.fill)) (places_of (selection_of indexer.now) form.sizes)) }
+        ensures answer { AnswersBy memory_or_fault (Holds (encoder_form self.old).type) result (stored_read B.functions (encoder_form self.old) (H.state (encoder_handle self.old)).value (selection_of indexer.now)) }
+        ensures indexer_first { IfErr (bounds_of (selection_of indexer.now) (encoder_form self.old).sizes) (λ cause. AnswersBy memory (Holds (encoder_form self.old).type) result (Err cause)) }
+        ensures sure { WhereSure B.functions (encoder_form self.old) (selection_of indexer.now) (H.state (encoder_handle self.old)).sure (is_fault result ≡ false) }
+        ensures left { H.state (encoder_handle self.new) ≡ after_reading result (H.state (encoder_handle self.old)) }
+        ensures same_reference { H.lent (encoder_handle self.new) ≡ H.lent (encoder_handle self.old) }
+        ensures form_kept { encoder_form self.new ≡ encoder_form self.old }
+    {
+        self.reader.read_chunk(alloc, &mut self.handle, indexer)
+    }
+
+    /// Whether a value is stored. Refusals: `Storage`, but never where the handle has sure bytes.
+    pub fn exists(&mut self) -> Result<bool, CodecError>
+        ensures answer { Answers fault (λ there. there) result (Ok (is_some (H.state (encoder_handle self.old)).value)) }
+        ensures sure { is_some (H.state (encoder_handle self.old)).sure ≡ true → is_fault result ≡ false }
+        ensures left { H.state (encoder_handle self.new) ≡ after_reading result (H.state (encoder_handle self.old)) }
+        ensures same_reference { H.lent (encoder_handle self.new) ≡ H.lent (encoder_handle self.old) }
+        ensures form_kept { encoder_form self.new ≡ encoder_form self.old }
+    {
+        self.handle.exists()
+    }
+
+    /// How many bytes the handle keeps in memory.
+    pub fn size_held(&self) -> usize
+        ensures value { result ≡ H.held (encoder_handle self.now) }
+    {
+        self.handle.size_held()
+    }
+
+    /// The ranges of bytes that a read asks for, where it asks for the bytes of its places alone: they
+    /// are these bytes and no others. `None` where bytes codecs, or chains inside the codec to bytes,
+    /// stand in the way. Refusals, the first that holds: those of `Indexer::check`; `OutOfMemory`.
+    pub fn planned_ranges(
+        &self,
+        alloc: Global,
+        indexer: &Indexer,
+    ) -> Result<Option<Vec<ByteRange>>, CodecError>
+        ensures plan { AnswersBy memory (λ ranges places. IsReadPlan B.functions (encoder_form self.now) (option_map (λ v. v.items) ranges) places) result (planned_places (encoder_form self.now) (selection_of indexer.now)) }
+        ensures no_fault { is_fault result ≡ false }
+    {
+        self.reader.planned_ranges(alloc, indexer)
+    }
+
+    /// Whether a part is read without the rest: where all codecs of the chain decode a part, and the
+    /// handle reads ranges by themselves.
+    pub fn supports_partial_decode(&self) -> bool
+        ensures value { result ≡ (chain_reads B.reads_in_part (encoder_form self.now).chain).partial_decode && H.reads_ranges }
+    {
+        self.reader.decodes_parts() && self.handle.supports_partial_decode()
+    }
+
+    /// Writes these elements at the places that the indexer means, in its order: where a place comes
+    /// twice, the last one stands. The value afterwards is the one that is written for the chunk with
+    /// these elements, which begins as the chunk that the stored value stands for, or as fill values
+    /// where nothing is stored; that one is written whole, for an indexer without places too. Over
+    /// `bytes` without bytes codecs every stored value is accepted: the places' bytes alone are
+    /// replaced, and it grows with zeros up to the furthest place.
+    ///
+    /// Refusals, the first that holds, `OutOfMemory` aside: those of `Indexer::check`; level by level
+    /// `ArrayBytesKind` or `DataMismatch` of the new elements; then, once the handle is asked,
+    /// `Storage` of the reading; those of `CodecChain::decode`; those of `CodecChain::encode` of the
+    /// chunk with these elements; `Storage` of the writing.
+    ///
+    /// One that is accepted makes exactly one writing call of the handle. One that is refused makes
+    /// none, or the one that refused it, and leaves the value as it was, but where that call is refused
+    /// and the handle isn't atomic.
+    pub fn partial_encode(
+        &mut self,
+        alloc: Global,
+        indexer: &Indexer,
+        elements: &ArrayBytes<'_>,
+    ) -> Result<(), CodecError>
+        ensures found { OnOk result ((chunk : Chunk) → EditStarts B.functions (encoder_form self.old) (H.state (encoder_handle self.old)).value chunk → IsOkAnd (edited_chunk (encoder_form self.old).sizes (encoder_form self.old).type chunk (selection_of indexer.now) elements.now) (StoresChunk B.functions (encoder_form self.old) (H.state (encoder_handle self.new)).value)) }
+        ensures only { let form = encoder_form self.old in (chunk : Chunk) (value : List ℕ) → EditStarts B.functions form (H.state (encoder_handle self.old)).value chunk → IsOkAnd (edited_chunk form.sizes form.type chunk (selection_of indexer.now) elements.now) (ChainWritten B.functions form.chain form.sizes form.type form.fill value) → Answers memory_or_fault (λ _. (H.state (encoder_handle self.new)).value) result (Ok (Some value)) }
+        ensures answer { Answers memory_or_fault (λ _. (H.state (encoder_handle self.new)).value) result (seen Some (stored_written B.functions (encoder_form self.old) (H.state (encoder_handle self.old)).value (selection_of indexer.now) elements.now)) }
+        ensures indexer_first { IfErr (bounds_of (selection_of indexer.now) (encoder_form self.old).sizes) (λ cause. Answers memory (λ done. done) result (Err cause)) }
+        ensures checked_first { IfErr (data_checked (encoder_form self.old).sizes (encoder_form self.old).type (selection_of indexer.now) elements.now) (λ cause. Answers memory (λ done. done) result (Err cause)) }
+        ensures untouched { IfErr (data_checked (encoder_form self.old).sizes (encoder_form self.old).type (selection_of indexer.now) elements.now) (λ _. H.state (encoder_handle self.new) ≡ H.state (encoder_handle self.old)) }
+        ensures one_write { OnOk result (apart_from_value (H.state (encoder_handle self.new)) ≡ after_writing result (H.state (encoder_handle self.old))) }
+        ensures refused { OnErr result (IsRefusedWrite result (H.state (encoder_handle self.old)) (H.state (encoder_handle self.new))) }
+        ensures kept_if_atomic { OnErr result (H.atomic ≡ true → (H.state (encoder_handle self.new)).value ≡ (H.state (encoder_handle self.old)).value) }
+        ensures same_reference { H.lent (encoder_handle self.new) ≡ H.lent (encoder_handle self.old) }
+        ensures form_kept { encoder_form self.new ≡ encoder_form self.old }
+    {
+        self.reader.is_sound();
+        self.reader
+            .write(alloc, &mut self.handle, indexer, elements)
+    }
+
+    /// Leaves no value; there may have been none. Refusals: `Storage`. It makes exactly one writing
+    /// call of the handle. A refusal leaves the value as it was where the handle is atomic.
+    pub fn erase(&mut self) -> Result<(), CodecError>
+        ensures answer { Answers fault (λ _. (H.state (encoder_handle self.new)).value) result (Ok None) }
+        ensures left { apart_from_value (H.state (encoder_handle self.new)) ≡ after_writing result (H.state (encoder_handle self.old)) }
+        ensures kept_if_atomic { OnErr result (H.atomic ≡ true → (H.state (encoder_handle self.new)).value ≡ (H.state (encoder_handle self.old)).value) }
+        ensures same_reference { H.lent (encoder_handle self.new) ≡ H.lent (encoder_handle self.old) }
+        ensures form_kept { encoder_form self.new ≡ encoder_form self.old }
+    {
+        self.handle.erase()
+    }
+
+    /// Whether a part is written without the rest: where all codecs of the chain write a part, and the
+    /// handle writes pieces by themselves.
+    pub fn supports_partial_encode(&self) -> bool
+        ensures value { result ≡ (chain_writes B.writes_in_part (encoder_form self.now).chain).partial_encode && H.writes_ranges }
+    {
+        self.reader.encodes_parts() && self.handle.supports_partial_encode()
+    }
+
+    /// The decoder over the same handle. It has no cache either.
+    pub fn into_decoder(self) -> ArrayPartialDecoder<'a, H, B>
+        ensures handle { handle_of result ≡ encoder_handle self.entry }
+        ensures form { form_of result ≡ encoder_form self.entry }
+        ensures uncached { is_cached result ≡ false }
+    {
+        let ArrayPartialEncoder { handle, reader } = self;
+        ArrayPartialDecoder { handle, reader }
+    }
+
+    /// The handle, as it stands.
+    pub fn into_handle(self) -> H
+        ensures value { result ≡ encoder_handle self.entry }
+    {
+        let ArrayPartialEncoder { handle, reader: _ } = self;
+        handle
+    }
+}
+
+impl<'a, H: BytesPartialEncoderTraits, B: BytesToBytesCodecTraits> ArrayPartialDecoderTraits
+    for ArrayPartialEncoder<'a, H, B> {
+    ghost use Rattle.zarrs_chain_partial.specs.ChunkWrite.{chunk_writer};
+    ghost use Rattle.zarrs_chain_partial.specs.PartialDecoder.{chunk_reader};
+    ghost use Rattle.zarrs_chain_partial.specs.PartialEncoder.{encoder_form, encoder_handle};
+
+    ghost reader = { λ encoder. chunk_reader B.functions (encoder_form encoder) (H.state (encoder_handle encoder)).value ((chain_reads B.reads_in_part (encoder_form encoder).chain).partial_decode && H.reads_ranges) };
+
+    ghost writer = { λ encoder. chunk_writer B.functions (encoder_form encoder) ((chain_reads B.reads_in_part (encoder_form encoder).chain).partial_decode && H.reads_ranges) };
+
+    ghost state = { λ encoder. H.state (encoder_handle encoder) };
+
+    ghost lent = { λ encoder. H.lent (encoder_handle encoder) };
+
+    ghost held = { λ encoder. H.held (encoder_handle encoder) };
+
+    fn data_type(&self) -> &DataType {
+        ArrayPartialEncoder::data_type(self)
+    }
+
+    fn exists(&mut self) -> Result<bool, CodecError> {
+        ArrayPartialEncoder::exists(self)
+    }
+
+    fn size_held(&self) -> usize {
+        ArrayPartialEncoder::size_held(self)
+    }
+
+    fn partial_decode(
+        &mut self,
+        alloc: Global,
+        indexer: &Indexer,
+    ) -> Result<ArrayBytes<'static>, CodecError> {
+        ArrayPartialEncoder::partial_decode(self, alloc, indexer)
+    }
+
+    fn supports_partial_decode(&self) -> bool {
+        ArrayPartialEncoder::supports_partial_decode(self)
+    }
+}
+
+impl<'a, H: BytesPartialEncoderTraits, B: BytesToBytesCodecTraits> ArrayPartialEncoderTraits
+    for ArrayPartialEncoder<'a, H, B> {
+    ghost use Rattle.std.proofs.Common.{refl};
+    ghost use Rattle.zarrs_chain_partial.specs.PartialEncoder.{encoder_form};
+
+    ghost atomic = { H.atomic };
+
+    ghost writes_part = { λ encoder. (chain_writes B.writes_in_part (encoder_form encoder).chain).partial_encode && H.writes_ranges };
+
+    ghost tells = { λ _. refl };
+
+    fn partial_encode(
+        &mut self,
+        alloc: Global,
+        indexer: &Indexer,
+        elements: &ArrayBytes<'_>,
+    ) -> Result<(), CodecError> {
+        ArrayPartialEncoder::partial_encode(self, alloc, indexer, elements)
+    }
+
+    fn erase(&mut self) -> Result<(), CodecError> {
+        ArrayPartialEncoder::erase(self)
+    }
+
+    fn supports_partial_encode(&self) -> bool {
+        ArrayPartialEncoder::supports_partial_encode(self)
+    }
+}

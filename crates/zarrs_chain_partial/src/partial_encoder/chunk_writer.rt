@@ -1,0 +1,52 @@
+//! Writing a chunk in part through a chain, over a handle that the caller keeps.
+ghost use Rattle.std.specs.Prelude.{◌≡◌, IfErr, OnErr, OnOk, Err, Some, true};
+ghost use Rattle.zarrs_chunk.specs.Answer.{Answers, memory, memory_or_fault, seen};
+ghost use Rattle.zarrs_chunk.specs.Indexer.{selection_of};
+ghost use Rattle.zarrs_chunk.specs.Selection.{bounds_of};
+ghost use Rattle.zarrs_codec.specs.ArrayWriter.{IsRefusedWrite};
+ghost use Rattle.zarrs_codec.specs.ChunkEdits.{data_checked};
+ghost use Rattle.zarrs_codec.specs.StorageState.{after_writing, apart_from_value};
+ghost use Rattle.zarrs_codec_chain.specs.Chain.{chain_writes};
+ghost use Rattle.zarrs_chain_partial.specs.ChunkWrite.{stored_written};
+
+use crate::partial_decoder::chunk_reader::ChunkReader;
+use crate::partial_encoder::place_writer::codec_in_place;
+use std::alloc::Global;
+use zarrs_array_bytes::ArrayBytes;
+use zarrs_chunk::{CodecError, Indexer};
+use zarrs_codec::{BytesPartialEncoderTraits, BytesToBytesCodecTraits, CodecTraits};
+
+impl<'a, B: BytesToBytesCodecTraits> ChunkReader<'a, B> {
+    ghost use Rattle.zarrs_chain_partial.specs.ChunkReader.{reader_form};
+
+    /// Writes new elements at the places that the indexer means. Refusals: those of
+    /// `ArrayPartialEncoder::partial_encode`.
+    pub(crate) fn write<H: BytesPartialEncoderTraits>(
+        &self,
+        alloc: Global,
+        handle: &mut H,
+        indexer: &Indexer,
+        elements: &ArrayBytes<'_>,
+    ) -> Result<(), CodecError>
+        ensures answer { Answers memory_or_fault (λ _. (H.state handle.new).value) result (seen Some (stored_written B.functions (reader_form self.now) (H.state handle.old).value (selection_of indexer.now) elements.now)) }
+        ensures indexer_first { IfErr (bounds_of (selection_of indexer.now) (reader_form self.now).sizes) (λ cause. Answers memory (λ done. done) result (Err cause)) }
+        ensures checked_first { IfErr (data_checked (reader_form self.now).sizes (reader_form self.now).type (selection_of indexer.now) elements.now) (λ cause. Answers memory (λ done. done) result (Err cause)) }
+        ensures untouched { IfErr (data_checked (reader_form self.now).sizes (reader_form self.now).type (selection_of indexer.now) elements.now) (λ _. H.state handle.new ≡ H.state handle.old) }
+        ensures one_write { OnOk result (apart_from_value (H.state handle.new) ≡ after_writing result (H.state handle.old)) }
+        ensures refused { OnErr result (IsRefusedWrite result (H.state handle.old) (H.state handle.new)) }
+        ensures kept_if_atomic { OnErr result (H.atomic ≡ true → (H.state handle.new).value ≡ (H.state handle.old).value) }
+        ensures same_reference { H.lent handle.new ≡ H.lent handle.old }
+    {
+        match codec_in_place(self.chain) {
+            Some(codec) => self.write_in_place(alloc, codec, handle, indexer, elements),
+            None => self.write_whole(alloc, handle, indexer, elements),
+        }
+    }
+
+    /// Whether all codecs of the chain write a part.
+    pub(crate) fn encodes_parts(&self) -> bool
+        ensures value { result ≡ (chain_writes B.writes_in_part (reader_form self.now).chain).partial_encode }
+    {
+        self.chain.partial_encoder_capability().partial_encode
+    }
+}

@@ -1,0 +1,104 @@
+//! Writing a chunk in part in place: over `bytes` without bytes codecs.
+ghost use Rattle.std.specs.Prelude.{◌≡◌, ◌<◌, ◌≤◌, ◌+◌, [], IfErr, IfOk, All, OnErr, OnOk, Ok, Err, Some, option_map, length, true, false};
+ghost use Rattle.zarrs_chunk.specs.Answer.{Answers, is_fault, memory, memory_or_fault, seen};
+ghost use Rattle.zarrs_chunk.specs.ChunkShape.{product};
+ghost use Rattle.zarrs_chunk.specs.Indexer.{selection_of};
+ghost use Rattle.zarrs_chunk.specs.Runs.{joined_runs};
+ghost use Rattle.zarrs_chunk.specs.Selection.{bounds_of};
+ghost use Rattle.zarrs_array_bytes.specs.Validity.{data_fit};
+ghost use Rattle.zarrs_codec.specs.ArrayWriter.{IsRefusedWrite};
+ghost use Rattle.zarrs_codec.specs.ChunkEdits.{data_checked};
+ghost use Rattle.zarrs_codec.specs.StorageState.{after_writing, apart_from_value};
+ghost use Rattle.zarrs_codec_chain.specs.ChainView.{plain_chain, plain_codec};
+ghost use Rattle.zarrs_chain_partial.specs.ChunkWrite.{order_in_place, selection_left, written_places};
+
+use crate::partial_decoder::chunk_reader::ChunkReader;
+use crate::partial_encoder::whole_writer::check_data;
+use std::alloc::Global;
+use zarrs_array_bytes::ArrayBytes;
+use zarrs_bytes::BytesCodec;
+use zarrs_chunk::{CodecError, Indexer};
+use zarrs_codec::{BytesPartialEncoderTraits, BytesToBytesCodecTraits};
+use zarrs_codec_chain::{ArrayToBytesCodec, CodecChain};
+
+/// The codec `bytes`, where this is one.
+#[tactic(auto, unfolding(zarrs_codec_chain::specs::ChainView::plain_codec), using(zarrs_codec_chain::specs::ChainView::plain_vlen_at, zarrs_codec_chain::specs::ChainView::plain_optional_at))]
+fn as_bytes<B>(codec: &ArrayToBytesCodec<B>) -> Option<&BytesCodec>
+    ensures value { option_map (λ codec. codec.now) result ≡ order_in_place {B = B} [] (plain_codec codec.now) }
+{
+    match codec {
+        ArrayToBytesCodec::Bytes(codec) => Some(codec),
+        ArrayToBytesCodec::PackBits(_)
+        | ArrayToBytesCodec::Vlen(_)
+        | ArrayToBytesCodec::Optional(_) => None,
+    }
+}
+
+/// The codec `bytes`, where the chain has no bytes codecs around it.
+pub(crate) fn codec_in_place<B>(chain: &CodecChain<B>) -> Option<&BytesCodec>
+    ensures value { option_map (λ codec. codec.now) result ≡ order_in_place (plain_chain chain.now).outer (plain_chain chain.now).codec }
+{
+    match chain.bytes_to_bytes_codecs() {
+        [] => as_bytes(chain.array_to_bytes_codec()),
+        _ => None,
+    }
+}
+
+impl<'a, B: BytesToBytesCodecTraits> ChunkReader<'a, B> {
+    ghost use Rattle.zarrs_chain_partial.specs.ChunkReader.{reader_form};
+
+    /// Where new elements go in the chunk that the codec to bytes gets, as runs, where there is one for
+    /// each place that the indexer means. Refusals, the first that holds, `OutOfMemory` aside: those of
+    /// `Indexer::check`; those of `ArrayBytes::validate_data`.
+    fn placed_runs(
+        &self,
+        alloc: Global,
+        indexer: &Indexer,
+        elements: &ArrayBytes<'_>,
+    ) -> Result<Vec<(u64, u64)>, CodecError>
+        ensures answer { Answers memory (λ runs. joined_runs runs.items) result (written_places (reader_form self.now).type (reader_form self.now).chain.arrays (reader_form self.now).sizes (selection_of indexer.now) elements.now) }
+        ensures checked { Answers memory (λ _. tt) result (data_checked (reader_form self.now).sizes (reader_form self.now).type (selection_of indexer.now) elements.now) }
+        ensures filled { IfOk result (λ runs. All (λ run. 0 < run.1) runs.items) }
+        ensures inside { IfOk result (λ runs. All (λ run. run.0 + run.1 ≤ product self.now.encoded) runs.items) }
+        ensures fit { IfOk result (λ runs. data_fit (reader_form self.now).type (length (joined_runs runs.items)) elements.now ≡ Ok tt) }
+        ensures no_fault { is_fault result ≡ false }
+    {
+        let runs = self.runs(alloc, indexer)?;
+        check_data(elements, runs.as_slice(), &self.data_type)?;
+        Ok(runs)
+    }
+
+    /// Writes new elements at the places that the indexer means, where the chain is array codecs and
+    /// this codec `bytes` alone: of a stored value the places' bytes alone are replaced. Refusals:
+    /// those of `Indexer::check`; those of `ArrayBytes::validate_data`; `OutOfMemory` and `Storage`.
+    pub(crate) fn write_in_place<H: BytesPartialEncoderTraits>(
+        &self,
+        alloc: Global,
+        codec: &BytesCodec,
+        handle: &mut H,
+        indexer: &Indexer,
+        elements: &ArrayBytes<'_>,
+    ) -> Result<(), CodecError>
+        requires in_place { order_in_place (reader_form self.now).chain.outer (reader_form self.now).chain.codec ≡ Some codec.now }
+        ensures answer { Answers memory_or_fault (λ _. (H.state handle.new).value) result (seen Some (selection_left B.functions (reader_form self.now) (Some codec.now) (H.state handle.old).value (selection_of indexer.now) elements.now)) }
+        ensures indexer_first { IfErr (bounds_of (selection_of indexer.now) (reader_form self.now).sizes) (λ cause. Answers memory (λ done. done) result (Err cause)) }
+        ensures checked_first { IfErr (data_checked (reader_form self.now).sizes (reader_form self.now).type (selection_of indexer.now) elements.now) (λ cause. Answers memory (λ done. done) result (Err cause)) }
+        ensures untouched { IfErr (data_checked (reader_form self.now).sizes (reader_form self.now).type (selection_of indexer.now) elements.now) (λ _. H.state handle.new ≡ H.state handle.old) }
+        ensures one_write { OnOk result (apart_from_value (H.state handle.new) ≡ after_writing result (H.state handle.old)) }
+        ensures refused { OnErr result (IsRefusedWrite result (H.state handle.old) (H.state handle.new)) }
+        ensures kept_if_atomic { OnErr result (H.atomic ≡ true → (H.state handle.new).value ≡ (H.state handle.old).value) }
+        ensures same_reference { H.lent handle.new ≡ H.lent handle.old }
+    {
+        self.is_sound();
+        let runs = self.placed_runs(alloc, indexer, elements)?;
+        codec.write_runs(
+            alloc,
+            handle,
+            &self.encoded,
+            &self.data_type,
+            &self.fill_value,
+            runs,
+            elements,
+        )
+    }
+}
