@@ -8,10 +8,10 @@ use Rattle.zarrs_data_type.specs.Element.{Chunk}
 use Rattle.zarrs_codec.specs.SampleBytesCodec.{sample_codecs}
 use Rattle.zarrs_codec.specs.declared.capabilities.PartialDecoderCapability.{PartialDecoderCapability}
 use Rattle.zarrs_codec.specs.declared.sample_bytes_codec.SampleBytesCodec.{SampleBytesCodec}
-use Rattle.zarrs_codec_chain.specs.Chain.{held_value}
+use Rattle.zarrs_chain_parts.specs.Chain.{held_value}
 use Rattle.zarrs_chain_partial.specs.ChunkRead.{ChunkForm, stored_read}
 use Rattle.zarrs_chain_partial.specs.ChunkSource.{source_made}
-use Rattle.zarrs_codec_chain.specs.Decode.{chain_chunk}
+use Rattle.zarrs_chain_parts.specs.Decode.{chain_chunk}
 use Rattle.zarrs_chain_lines.specs.declared.refusal.Refusal.{Refusal}
 use Rattle.zarrs_chain_lines.specs.declared.refusal.Refusal.TheVariants.{Syntax}
 use Rattle.zarrs_chain_lines.specs.Refusal.{codec_answer}

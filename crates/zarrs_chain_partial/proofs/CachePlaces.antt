@@ -9,15 +9,15 @@ use Rattle.zarrs_array_bytes.specs.Validity.{validity}
 use Rattle.zarrs_codec.specs.declared.capabilities.PartialDecoderCapability.{PartialDecoderCapability}
 use Rattle.zarrs_array_to_array.specs.ArrayToArrayCodec.{ArrayMapping}
 use Rattle.zarrs_chain_partial.specs.CachePlace.{array_reads, codecs_read, last_without, greater, cache_place}
-use Rattle.zarrs_codec_chain.specs.Chain.{codec_reads}
+use Rattle.zarrs_chain_parts.specs.Chain.{codec_reads}
 use Rattle.zarrs_chain_partial.specs.ChunkRead.{reads_places}
 use Rattle.zarrs_chain_partial.specs.ChunkSource.{IsSizeOf, bytes_left, bytes_stage, cache_fits, cache_stage, has_cache, held_by, is_kept, source_of, stage_at, stage_by, stage_fits}
-use Rattle.zarrs_codec_chain.specs.PlainChain.{PlainCodec, bytes_codec, packbits_codec, vlen_codec, optional_codec, PlainChain}
+use Rattle.zarrs_chain_parts.specs.PlainChain.{PlainCodec, bytes_codec, packbits_codec, vlen_codec, optional_codec, PlainChain}
 use Rattle.zarrs_chain_partial.specs.declared.partial_decoder.cache.Cache.{Cache}
 use Rattle.zarrs_chain_partial.specs.declared.partial_decoder.cache.Cache.TheVariants as kept
 use Rattle.zarrs_chain_partial.specs.declared.partial_decoder.cache.CacheStage.{CacheStage}
 use Rattle.zarrs_chain_partial.specs.declared.partial_decoder.cache.CacheStage.TheVariants as stage
-use Rattle.zarrs_codec_chain.proofs.ArraySteps.{holds_elements}
+use Rattle.zarrs_chain_parts.proofs.ArraySteps.{holds_elements}
 
 abbrev some : ℕ → Option ℕ
 some n = Some n

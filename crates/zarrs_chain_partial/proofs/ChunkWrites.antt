@@ -26,18 +26,18 @@ use Rattle.zarrs_codec.specs.ChunkEdits.{data_places, with_elements}
 use Rattle.zarrs_codec.specs.declared.bytes_representation.BytesRepresentation.{BytesRepresentation}
 use Rattle.zarrs_bytes.specs.BytesCodec.{IsChunk, bytes_length}
 use Rattle.zarrs_bytes.specs.PartialWrite.{filled_chunk}
-use Rattle.zarrs_codec_chain.specs.Chain.{held_value, taken_form}
+use Rattle.zarrs_chain_parts.specs.Chain.{held_value, taken_form}
 use Rattle.zarrs_chain_partial.specs.ChunkRead.{ChunkForm}
 use Rattle.zarrs_chain_partial.specs.ChunkWrite.{edited_value, started_chunk, value_left}
-use Rattle.zarrs_codec_chain.specs.Decode.{chain_chunk}
-use Rattle.zarrs_codec_chain.specs.Encode.{chain_value}
-use Rattle.zarrs_codec_chain.specs.Laws.{IsChainOfMappings}
-use Rattle.zarrs_codec_chain.specs.Representation.{chain_representation}
-use Rattle.zarrs_codec_chain.specs.Stands.{ChainStands}
-use Rattle.zarrs_codec_chain.proofs.ArraySteps.{ok, bind_ok, ok_is, length-elements}
-use Rattle.zarrs_codec_chain.proofs.ChainRelations.{held_value_is}
-use Rattle.zarrs_codec_chain.proofs.ChainSteps.{form_representation}
-use Rattle.zarrs_codec_chain.proofs.NestedRead.{chain_read_found}
+use Rattle.zarrs_chain_parts.specs.Decode.{chain_chunk}
+use Rattle.zarrs_chain_parts.specs.Encode.{chain_value}
+use Rattle.zarrs_chain_parts.specs.Laws.{IsChainOfMappings}
+use Rattle.zarrs_chain_parts.specs.Representation.{chain_representation}
+use Rattle.zarrs_chain_parts.specs.Stands.{ChainStands}
+use Rattle.zarrs_chain_parts.proofs.ArraySteps.{ok, bind_ok, ok_is, length-elements}
+use Rattle.zarrs_chain_parts.proofs.ChainRelations.{held_value_is}
+use Rattle.zarrs_chain_parts.proofs.ChainSteps.{form_representation}
+use Rattle.zarrs_chain_parts.proofs.NestedRead.{chain_read_found}
 use Rattle.zarrs_chain_partial.proofs.PartialCalls.{held_of}
 
 -- ---- new elements in a container

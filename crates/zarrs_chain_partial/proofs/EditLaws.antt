@@ -24,18 +24,18 @@ use Rattle.zarrs_packbits.specs.Laws.{HasBytes}
 use Rattle.zarrs_chain_partial.specs.ChunkRead.{ChunkForm}
 use Rattle.zarrs_chain_partial.specs.ChunkWrite.{order_in_place, stored_written, value_left}
 use Rattle.zarrs_chain_partial.specs.Edits.{chunk_or_fill, edited_state, states_edited, edited_store, stores_edited, EditHasBytes, HeldHasBytes, IsStoredFor, StateHasBytes}
-use Rattle.zarrs_codec_chain.specs.Laws.{IsChainOfMappings}
-use Rattle.zarrs_codec_chain.specs.NormalForm.{normal_form}
-use Rattle.zarrs_codec_chain.specs.PlainChain.{PlainChain}
-use Rattle.zarrs_codec_chain.specs.Written.{ChainWritten}
+use Rattle.zarrs_chain_parts.specs.Laws.{IsChainOfMappings}
+use Rattle.zarrs_chain_parts.specs.NormalForm.{normal_form}
+use Rattle.zarrs_chain_parts.specs.PlainChain.{PlainChain}
+use Rattle.zarrs_chain_parts.specs.Written.{ChainWritten}
 use Rattle.zarrs_chain_partial.specs.declared.partial_encoder.edits.Edit.{Edit}
 use Rattle.zarrs_chain_partial.specs.declared.partial_encoder.edits.Edit.TheVariants.{Encode, Erase}
-use Rattle.zarrs_codec_chain.proofs.ArraySteps.{bind_ok, ok_is}
-use Rattle.zarrs_codec_chain.proofs.ChainSteps.{seen_ok}
+use Rattle.zarrs_chain_parts.proofs.ArraySteps.{bind_ok, ok_is}
+use Rattle.zarrs_chain_parts.proofs.ChainSteps.{seen_ok}
 use Rattle.zarrs_chain_partial.proofs.ChunkWrites.{All-update, edited_is}
-use Rattle.zarrs_codec_chain.proofs.NestedForNormal.{written_for_normal}
-use Rattle.zarrs_codec_chain.proofs.NestedNormal.{normal_elements, normal_twice, normal_updated}
-use Rattle.zarrs_codec_chain.proofs.NestedWrittenStands.{chain_stands}
+use Rattle.zarrs_chain_parts.proofs.NestedForNormal.{written_for_normal}
+use Rattle.zarrs_chain_parts.proofs.NestedNormal.{normal_elements, normal_twice, normal_updated}
+use Rattle.zarrs_chain_parts.proofs.NestedWrittenStands.{chain_stands}
 use Rattle.zarrs_chain_partial.proofs.PartialReads.{IsReadable}
 use Rattle.zarrs_chain_partial.proofs.PlaceWrites.{data_inside, left_by}
 

@@ -34,21 +34,21 @@ use Rattle.zarrs_bytes.proofs.Taken.{taken_fill}
 use Rattle.zarrs_packbits.specs.PackBitsSettings.{PackBitsSettings, packed_layout, packbits_length}
 use Rattle.zarrs_packbits.specs.PaddingByte.{value_len}
 use Rattle.zarrs_packbits.specs.ReadPlan.{IsPlan}
-use Rattle.zarrs_codec_chain.specs.ArrayStages.{arrays_map, IsMapWhere}
-use Rattle.zarrs_codec_chain.specs.BytesStages.{outer_bytes}
-use Rattle.zarrs_codec_chain.specs.Chain.{taken_form}
+use Rattle.zarrs_chain_parts.specs.ArrayStages.{arrays_map, IsMapWhere}
+use Rattle.zarrs_chain_parts.specs.BytesStages.{outer_bytes}
+use Rattle.zarrs_chain_parts.specs.Chain.{taken_form}
 use Rattle.zarrs_codec_chain.specs.ChainView.{plain_codec}
 use Rattle.zarrs_chain_partial.specs.ChunkRead.{encoded_places, IsCodecPlan}
 use Rattle.zarrs_chain_partial.specs.ChunkSource.{Source}
-use Rattle.zarrs_codec_chain.specs.Decode.{codec_chunk}
-use Rattle.zarrs_codec_chain.specs.PlainChain.{PlainCodec, bytes_codec, packbits_codec, vlen_codec, optional_codec, PlainChain}
-use Rattle.zarrs_codec_chain.specs.Representation.{codec_representation, is_variable}
+use Rattle.zarrs_chain_parts.specs.Decode.{codec_chunk}
+use Rattle.zarrs_chain_parts.specs.PlainChain.{PlainCodec, bytes_codec, packbits_codec, vlen_codec, optional_codec, PlainChain}
+use Rattle.zarrs_chain_parts.specs.Representation.{codec_representation, is_variable}
 use Rattle.zarrs_chain_partial.specs.SliceHandle.{still_state}
 use Rattle.zarrs_codec_chain.specs.declared.array_to_bytes_codec.ArrayToBytesCodec.{ArrayToBytesCodec}
 use Rattle.zarrs_codec_chain.specs.declared.array_to_bytes_codec.ArrayToBytesCodec.TheVariants.{Bytes, PackBits}
-use Rattle.zarrs_codec_chain.proofs.Answered.{from_ok}
-use Rattle.zarrs_codec_chain.proofs.ArraySteps.{ok, at_ok, bind_ok, ok_is}
-use Rattle.zarrs_codec_chain.proofs.ChainSteps.{chunk_count, is_taken}
+use Rattle.zarrs_chain_parts.proofs.Answered.{from_ok}
+use Rattle.zarrs_chain_parts.proofs.ArraySteps.{ok, at_ok, bind_ok, ok_is}
+use Rattle.zarrs_chain_parts.proofs.ChainSteps.{chunk_count, is_taken}
 use Rattle.zarrs_chain_partial.proofs.PartialReads.{is_ok_of, places_through}
 
 -- ---- fill values

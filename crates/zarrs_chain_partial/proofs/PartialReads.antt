@@ -26,19 +26,19 @@ use Rattle.zarrs_packbits.specs.PaddingByte.{value_len}
 use Rattle.zarrs_packbits.specs.PartialRead.{read_packed_places, read_places_of}
 use Rattle.zarrs_packbits.proofs.CodecLaws as packbits_laws
 use Rattle.zarrs_packbits.proofs.Exact as packbits
-use Rattle.zarrs_codec_chain.specs.ArrayStages.{arrays_map}
-use Rattle.zarrs_codec_chain.specs.BytesStages.{outer_bytes, outer_representation}
-use Rattle.zarrs_codec_chain.specs.Chain.{taken_form}
+use Rattle.zarrs_chain_parts.specs.ArrayStages.{arrays_map}
+use Rattle.zarrs_chain_parts.specs.BytesStages.{outer_bytes, outer_representation}
+use Rattle.zarrs_chain_parts.specs.Chain.{taken_form}
 use Rattle.zarrs_chain_partial.specs.ChunkRead.{ChunkForm, codec_read, encoded_places, outer_stored, stored_read}
 use Rattle.zarrs_chain_partial.specs.ChunkSource.{Source, bytes_above, chunk_below, is_there, opened_chunk, source_at, source_made_at, source_places, source_read}
-use Rattle.zarrs_codec_chain.specs.Decode.{codec_chunk, chain_chunk}
-use Rattle.zarrs_codec_chain.specs.PlainChain.{PlainCodec, bytes_codec, packbits_codec, vlen_codec, optional_codec, PlainChain}
-use Rattle.zarrs_codec_chain.specs.Representation.{codec_representation}
+use Rattle.zarrs_chain_parts.specs.Decode.{codec_chunk, chain_chunk}
+use Rattle.zarrs_chain_parts.specs.PlainChain.{PlainCodec, bytes_codec, packbits_codec, vlen_codec, optional_codec, PlainChain}
+use Rattle.zarrs_chain_parts.specs.Representation.{codec_representation}
 use Rattle.zarrs_chain_partial.specs.declared.partial_decoder.cache.CacheStage.{CacheStage}
 use Rattle.zarrs_chain_partial.specs.declared.partial_decoder.cache.CacheStage.TheVariants as stage
-use Rattle.zarrs_codec_chain.proofs.ArraySteps.{ok, at_ok, bind_ok, ok_is}
-use Rattle.zarrs_codec_chain.proofs.ChainSteps.{IsTaken, is_taken, seen_ok}
-use Rattle.zarrs_codec_chain.proofs.NestedStages.{arrays_are_map, chained_of}
+use Rattle.zarrs_chain_parts.proofs.ArraySteps.{ok, at_ok, bind_ok, ok_is}
+use Rattle.zarrs_chain_parts.proofs.ChainSteps.{IsTaken, is_taken, seen_ok}
+use Rattle.zarrs_chain_parts.proofs.NestedStages.{arrays_are_map, chained_of}
 
 -- ---- what is known of a chunk that a chain takes
 

@@ -28,22 +28,22 @@ use Rattle.zarrs_bytes.specs.PartialRead.{place_size}
 use Rattle.zarrs_bytes.specs.PartialWrite.{bytes_left, filled_chunk, StartsFrom, with_place_bytes}
 use Rattle.zarrs_bytes.proofs.Coding as bytes_coding
 use Rattle.zarrs_bytes.proofs.PartWrites.{write_updates}
-use Rattle.zarrs_codec_chain.specs.ArrayStages.{arrays_map}
-use Rattle.zarrs_codec_chain.specs.BytesStages.{outer_bytes, OuterWritten}
+use Rattle.zarrs_chain_parts.specs.ArrayStages.{arrays_map}
+use Rattle.zarrs_chain_parts.specs.BytesStages.{outer_bytes, OuterWritten}
 use Rattle.zarrs_chain_partial.specs.ChunkRead.{ChunkForm, encoded_places}
 use Rattle.zarrs_chain_partial.specs.ChunkWrite.{edited_value, EditStarts, order_in_place, selection_left, stored_written, StoresChunk, value_left, written_places}
-use Rattle.zarrs_codec_chain.specs.Laws.{IsChainOfMappings}
-use Rattle.zarrs_codec_chain.specs.PlainChain.{PlainCodec, bytes_codec, packbits_codec, vlen_codec, optional_codec, PlainChain}
-use Rattle.zarrs_codec_chain.specs.Representation.{codec_representation}
-use Rattle.zarrs_codec_chain.specs.Stands.{CodecStands, ChainStands}
-use Rattle.zarrs_codec_chain.specs.Written.{CodecWritten, ChainWritten}
-use Rattle.zarrs_codec_chain.proofs.ArraySteps.{ok, bind_ok, ok_is}
-use Rattle.zarrs_codec_chain.proofs.ChainSteps.{seen_ok}
+use Rattle.zarrs_chain_parts.specs.Laws.{IsChainOfMappings}
+use Rattle.zarrs_chain_parts.specs.PlainChain.{PlainCodec, bytes_codec, packbits_codec, vlen_codec, optional_codec, PlainChain}
+use Rattle.zarrs_chain_parts.specs.Representation.{codec_representation}
+use Rattle.zarrs_chain_parts.specs.Stands.{CodecStands, ChainStands}
+use Rattle.zarrs_chain_parts.specs.Written.{CodecWritten, ChainWritten}
+use Rattle.zarrs_chain_parts.proofs.ArraySteps.{ok, bind_ok, ok_is}
+use Rattle.zarrs_chain_parts.proofs.ChainSteps.{seen_ok}
 use Rattle.zarrs_chain_partial.proofs.ChunkWrites.{edited_is, filled_is}
-use Rattle.zarrs_codec_chain.proofs.NestedDecode.{chain_chunk_only}
-use Rattle.zarrs_codec_chain.proofs.NestedEncode.{chain_value_only}
-use Rattle.zarrs_codec_chain.proofs.NestedFound.{chain_value_found}
-use Rattle.zarrs_codec_chain.proofs.NestedWritten.{chain_once}
+use Rattle.zarrs_chain_parts.proofs.NestedDecode.{chain_chunk_only}
+use Rattle.zarrs_chain_parts.proofs.NestedEncode.{chain_value_only}
+use Rattle.zarrs_chain_parts.proofs.NestedFound.{chain_value_found}
+use Rattle.zarrs_chain_parts.proofs.NestedWritten.{chain_once}
 use Rattle.zarrs_chain_partial.proofs.PartialCalls.{bytes_is_ok}
 use Rattle.zarrs_chain_partial.proofs.PartialReads.{IsReadable, is_ok_of}
 

@@ -12,10 +12,10 @@ use Rattle.zarrs_codec.specs.BytesToBytesCodec.{BytesCodecs}
 use Rattle.zarrs_codec.specs.StorageState.{are_sure}
 use Rattle.zarrs_codec.specs.declared.bytes_representation.BytesRepresentation.{BytesRepresentation}
 use Rattle.zarrs_array_to_array.specs.ArrayToArrayCodec.{ArrayMapping}
-use Rattle.zarrs_codec_chain.specs.Chain.{codec_reads, taken_form}
+use Rattle.zarrs_chain_parts.specs.Chain.{codec_reads, taken_form}
 use Rattle.zarrs_chain_partial.specs.ChunkRead.{ChunkForm, codec_place_bytes, encoded_places, IsCodecPlan, IsReadPlan, planned_bytes, planned_places, reads_places, WhereSure}
-use Rattle.zarrs_codec_chain.specs.PlainChain.{PlainCodec, PlainChain}
-use Rattle.zarrs_codec_chain.proofs.ArraySteps.{ok, error_is}
+use Rattle.zarrs_chain_parts.specs.PlainChain.{PlainCodec, PlainChain}
+use Rattle.zarrs_chain_parts.proofs.ArraySteps.{ok, error_is}
 
 -- ---- sure bytes
 

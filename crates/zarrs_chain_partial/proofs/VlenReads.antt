@@ -19,16 +19,16 @@ use Rattle.zarrs_array_bytes.specs.Validity.{Holds, validity}
 use Rattle.zarrs_codec.specs.BytesToBytesCodec.{BytesCodecs}
 use Rattle.zarrs_codec_chain.specs.ChainView.{plain_vlen, plain_vlen_at}
 use Rattle.zarrs_chain_partial.specs.ChunkRead.{codec_read, whole_read}
-use Rattle.zarrs_codec_chain.specs.Decode.{codec_chunk}
-use Rattle.zarrs_codec_chain.specs.Laws.{HasMappings}
-use Rattle.zarrs_codec_chain.specs.Representation.{codec_representation, is_variable, vlen_representation}
-use Rattle.zarrs_codec_chain.specs.Stands.{CodecStands}
+use Rattle.zarrs_chain_parts.specs.Decode.{codec_chunk}
+use Rattle.zarrs_chain_parts.specs.Laws.{HasMappings}
+use Rattle.zarrs_chain_parts.specs.Representation.{codec_representation, is_variable, vlen_representation}
+use Rattle.zarrs_chain_parts.specs.Stands.{CodecStands}
 use Rattle.zarrs_chain_partial.specs.VlenPartialDecoder.{CodecForm, codec_stored_read}
 use Rattle.zarrs_codec_chain.specs.declared.vlen_codec.VlenCodec.{VlenCodec}
-use Rattle.zarrs_codec_chain.proofs.Answered.{from_ok}
-use Rattle.zarrs_codec_chain.proofs.ArraySteps.{ok, bind_ok, error_is, ok_is}
-use Rattle.zarrs_codec_chain.proofs.ChainSteps.{chunk_count}
-use Rattle.zarrs_codec_chain.proofs.NestedDecode.{chunk_only}
+use Rattle.zarrs_chain_parts.proofs.Answered.{from_ok}
+use Rattle.zarrs_chain_parts.proofs.ArraySteps.{ok, bind_ok, error_is, ok_is}
+use Rattle.zarrs_chain_parts.proofs.ChainSteps.{chunk_count}
+use Rattle.zarrs_chain_parts.proofs.NestedDecode.{chunk_only}
 use Rattle.zarrs_chain_partial.proofs.PartialCalls.{counted_is, held_of, variable_fits}
 
 -- ---- chunks that the codec takes

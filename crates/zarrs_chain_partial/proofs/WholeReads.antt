@@ -12,16 +12,16 @@ use Rattle.zarrs_array_bytes.specs.Held.{Held}
 use Rattle.zarrs_array_bytes.specs.Validity.{Holds, validity}
 use Rattle.zarrs_codec.specs.BytesToBytesCodec.{BytesCodecs}
 use Rattle.zarrs_codec.specs.declared.bytes_representation.BytesRepresentation.{BytesRepresentation}
-use Rattle.zarrs_codec_chain.specs.BytesStages.{outer_bytes}
-use Rattle.zarrs_codec_chain.specs.Chain.{codec_reads, taken_form}
+use Rattle.zarrs_chain_parts.specs.BytesStages.{outer_bytes}
+use Rattle.zarrs_chain_parts.specs.Chain.{codec_reads, taken_form}
 use Rattle.zarrs_chain_partial.specs.ChunkRead.{ChunkForm, codec_read, outer_stored, reads_places, whole_read}
 use Rattle.zarrs_chain_partial.specs.ChunkSource.{Source, bytes_above, is_kept, kept_stage, opened_chunk, source_at, source_made_at, source_of, source_places}
-use Rattle.zarrs_codec_chain.specs.Decode.{Decoder, codec_chunk}
-use Rattle.zarrs_codec_chain.specs.PlainChain.{PlainCodec, bytes_codec, packbits_codec, vlen_codec, optional_codec, PlainChain}
+use Rattle.zarrs_chain_parts.specs.Decode.{Decoder, codec_chunk}
+use Rattle.zarrs_chain_parts.specs.PlainChain.{PlainCodec, bytes_codec, packbits_codec, vlen_codec, optional_codec, PlainChain}
 use Rattle.zarrs_chain_partial.specs.declared.partial_decoder.cache.Cache.{Cache}
 use Rattle.zarrs_chain_partial.specs.declared.partial_decoder.cache.Cache.TheVariants as kept
 use Rattle.zarrs_chain_partial.specs.declared.partial_decoder.cache.CacheStage.{CacheStage}
-use Rattle.zarrs_codec_chain.proofs.ArraySteps.{ok}
+use Rattle.zarrs_chain_parts.proofs.ArraySteps.{ok}
 use Rattle.zarrs_chain_partial.proofs.PartialReads.{take_codecs}
 
 -- a count that 64 bits hold is the number itself

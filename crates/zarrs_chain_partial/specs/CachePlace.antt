@@ -2,8 +2,8 @@
 use Rattle.std.specs.Prelude.{ℕ, suc, max, Bool, true, if◌then◌else◌, Option, Some, None, option_map, List, [], ◌∷◌, ◌++◌, length, map}
 use Rattle.zarrs_codec.specs.declared.capabilities.PartialDecoderCapability.{PartialDecoderCapability}
 use Rattle.zarrs_array_to_array.specs.ArrayToArrayCodec.{ArrayMapping}
-use Rattle.zarrs_codec_chain.specs.Chain.{codec_reads}
-use Rattle.zarrs_codec_chain.specs.PlainChain.{PlainChain}
+use Rattle.zarrs_chain_parts.specs.Chain.{codec_reads}
+use Rattle.zarrs_chain_parts.specs.PlainChain.{PlainChain}
 
 -- what an array codec reads in part: all
 abbrev pub array_reads : ArrayMapping → PartialDecoderCapability

@@ -16,11 +16,11 @@ use Rattle.zarrs_bytes.specs.PartialRead.{place_bytes, place_size, read_places}
 use Rattle.zarrs_packbits.specs.PackBitsSettings.{packed_layout}
 use Rattle.zarrs_packbits.specs.PartialRead.{bytes_of_places, read_places_of}
 use Rattle.zarrs_packbits.specs.ReadPlan.{IsPlan}
-use Rattle.zarrs_codec_chain.specs.ArrayStages.{arrays_map}
-use Rattle.zarrs_codec_chain.specs.BytesStages.{outer_bytes}
-use Rattle.zarrs_codec_chain.specs.Chain.{codec_reads, taken_form}
-use Rattle.zarrs_codec_chain.specs.Decode.{Decoder, codec_chunk}
-use Rattle.zarrs_codec_chain.specs.PlainChain.{PlainCodec, bytes_codec, packbits_codec, vlen_codec, optional_codec, PlainChain}
+use Rattle.zarrs_chain_parts.specs.ArrayStages.{arrays_map}
+use Rattle.zarrs_chain_parts.specs.BytesStages.{outer_bytes}
+use Rattle.zarrs_chain_parts.specs.Chain.{codec_reads, taken_form}
+use Rattle.zarrs_chain_parts.specs.Decode.{Decoder, codec_chunk}
+use Rattle.zarrs_chain_parts.specs.PlainChain.{PlainCodec, bytes_codec, packbits_codec, vlen_codec, optional_codec, PlainChain}
 
 -- the chunk that is read: through which chain, its sizes, its type and its fill value
 pub record ChunkForm (B : Type 0) : Type 0 where

@@ -17,14 +17,14 @@ use Rattle.zarrs_array_to_array.specs.ArrayToArrayCodec.{ArrayMapping}
 use Rattle.zarrs_bytes.specs.BytesCodec.{spelling}
 use Rattle.zarrs_bytes.specs.PartialRead.{place_size}
 use Rattle.zarrs_bytes.specs.PartialWrite.{filled_chunk, with_place_bytes}
-use Rattle.zarrs_codec_chain.specs.ArrayStages.{arrays_map}
+use Rattle.zarrs_chain_parts.specs.ArrayStages.{arrays_map}
 use Rattle.zarrs_chain_partial.specs.ChunkRead.{ChunkForm}
-use Rattle.zarrs_codec_chain.specs.Decode.{chain_chunk}
-use Rattle.zarrs_codec_chain.specs.Encode.{chain_value}
+use Rattle.zarrs_chain_parts.specs.Decode.{chain_chunk}
+use Rattle.zarrs_chain_parts.specs.Encode.{chain_value}
 use Rattle.zarrs_chain_partial.specs.PartialDecoder.{chunk_reader}
-use Rattle.zarrs_codec_chain.specs.PlainChain.{PlainCodec, bytes_codec, packbits_codec, vlen_codec, optional_codec}
-use Rattle.zarrs_codec_chain.specs.Stands.{ChainStands}
-use Rattle.zarrs_codec_chain.specs.Written.{ChainWritten}
+use Rattle.zarrs_chain_parts.specs.PlainChain.{PlainCodec, bytes_codec, packbits_codec, vlen_codec, optional_codec}
+use Rattle.zarrs_chain_parts.specs.Stands.{ChainStands}
+use Rattle.zarrs_chain_parts.specs.Written.{ChainWritten}
 
 -- the byte order of `bytes` without bytes codecs: there a write over a stored value replaces the bytes of its places alone
 abbrev pub order_in_place : {B : Type 0} → List B → PlainCodec B → Option (Option Endianness)

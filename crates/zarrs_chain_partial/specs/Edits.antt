@@ -13,7 +13,7 @@ use Rattle.zarrs_bytes.specs.PartialWrite.{filled_chunk}
 use Rattle.zarrs_packbits.specs.Laws.{HasBytes}
 use Rattle.zarrs_chain_partial.specs.ChunkRead.{ChunkForm}
 use Rattle.zarrs_chain_partial.specs.ChunkWrite.{stored_written}
-use Rattle.zarrs_codec_chain.specs.Written.{ChainWritten}
+use Rattle.zarrs_chain_parts.specs.Written.{ChainWritten}
 use Rattle.zarrs_chain_partial.specs.declared.partial_encoder.edits.Edit.{Edit}
 use Rattle.zarrs_chain_partial.specs.declared.partial_encoder.edits.Edit.TheVariants.{Encode, Erase}
 

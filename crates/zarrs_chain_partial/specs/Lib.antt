@@ -19,8 +19,8 @@ pub use Rattle.zarrs_codec.specs.BytesToBytesCodec
 pub use Rattle.zarrs_codec.specs.ChunkEdits
 pub use Rattle.zarrs_codec.specs.Refused
 pub use Rattle.zarrs_codec.specs.StorageState
-pub use Rattle.zarrs_codec_chain.specs.Chain
+pub use Rattle.zarrs_chain_parts.specs.Chain
 pub use Rattle.zarrs_codec_chain.specs.ChainView
-pub use Rattle.zarrs_codec_chain.specs.Representation
-pub use Rattle.zarrs_codec_chain.specs.Stands
-pub use Rattle.zarrs_codec_chain.specs.Written
+pub use Rattle.zarrs_chain_parts.specs.Representation
+pub use Rattle.zarrs_chain_parts.specs.Stands
+pub use Rattle.zarrs_chain_parts.specs.Written

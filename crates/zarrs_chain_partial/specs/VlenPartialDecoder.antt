@@ -9,7 +9,7 @@ use Rattle.zarrs_codec.specs.ArrayReader.{ArrayReader}
 use Rattle.zarrs_codec.specs.BytesToBytesCodec.{BytesCodecs}
 use Rattle.zarrs_codec_chain.specs.ChainView.{plain_vlen}
 use Rattle.zarrs_chain_partial.specs.ChunkRead.{codec_read}
-use Rattle.zarrs_codec_chain.specs.PlainChain.{PlainCodec}
+use Rattle.zarrs_chain_parts.specs.PlainChain.{PlainCodec}
 use Rattle.zarrs_chain_partial.specs.declared.partial_decoder.vlen_partial_decoder.VlenPartialDecoder.{VlenPartialDecoder}
 
 -- the chunk that is read: through which codec to bytes, its sizes, its type and its fill value

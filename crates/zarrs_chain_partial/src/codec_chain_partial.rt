@@ -4,7 +4,7 @@ ghost use Rattle.zarrs_chunk.specs.Answer.{Answers, memory, memory_or_fault, is_
 ghost use Rattle.zarrs_codec.specs.Refused.{outcome};
 ghost use Rattle.zarrs_codec.specs.StorageState.{after_reading};
 ghost use Rattle.zarrs_codec_chain.specs.ChainView.{plain_chain};
-ghost use Rattle.zarrs_codec_chain.specs.Representation.{chain_representation as chain_representation_of};
+ghost use Rattle.zarrs_chain_parts.specs.Representation.{chain_representation as chain_representation_of};
 ghost use Rattle.zarrs_chain_partial.specs.CachePlace.{cache_place, codecs_read};
 ghost use Rattle.zarrs_chain_partial.specs.ChunkRead.{reads_places};
 ghost use Rattle.zarrs_chain_partial.specs.ChunkSource.{source_made};

@@ -12,26 +12,26 @@ use Rattle.zarrs_array_bytes.specs.Validity.{validity, Holds}
 use Rattle.zarrs_array_bytes.proofs.ElementLaw.{AreElements-held}
 use Rattle.zarrs_codec.specs.BytesToBytesCodec.{BytesCodecs}
 use Rattle.zarrs_bytes.specs.BytesCodec.{IsChunk}
-use Rattle.zarrs_codec_chain.specs.Chain.{codec_held_value, taken_chunk}
+use Rattle.zarrs_chain_parts.specs.Chain.{codec_held_value, taken_chunk}
 use Rattle.zarrs_codec_chain.specs.ChainView.{plain_vlen, plain_vlen_at, plain_optional, plain_optional_at}
-use Rattle.zarrs_codec_chain.specs.Decode.{codec_chunk}
-use Rattle.zarrs_codec_chain.specs.Encode.{around_value, codec_value}
-use Rattle.zarrs_codec_chain.specs.Laws.{HasMappings}
-use Rattle.zarrs_codec_chain.specs.NormalForm.{normal_element}
-use Rattle.zarrs_codec_chain.specs.PlainChain.{PlainCodec, bytes_codec, packbits_codec, vlen_codec, optional_codec}
-use Rattle.zarrs_codec_chain.specs.Representation.{codec_representation}
-use Rattle.zarrs_codec_chain.specs.Stands.{CodecStands}
-use Rattle.zarrs_codec_chain.specs.Written.{CodecWritten}
+use Rattle.zarrs_chain_parts.specs.Decode.{codec_chunk}
+use Rattle.zarrs_chain_parts.specs.Encode.{around_value, codec_value}
+use Rattle.zarrs_chain_parts.specs.Laws.{HasMappings}
+use Rattle.zarrs_chain_parts.specs.NormalForm.{normal_element}
+use Rattle.zarrs_chain_parts.specs.PlainChain.{PlainCodec, bytes_codec, packbits_codec, vlen_codec, optional_codec}
+use Rattle.zarrs_chain_parts.specs.Representation.{codec_representation}
+use Rattle.zarrs_chain_parts.specs.Stands.{CodecStands}
+use Rattle.zarrs_chain_parts.specs.Written.{CodecWritten}
 use Rattle.zarrs_codec_chain.specs.declared.optional_codec.OptionalCodec.{OptionalCodec}
 use Rattle.zarrs_codec_chain.specs.declared.vlen_codec.VlenCodec.{VlenCodec}
-use Rattle.zarrs_codec_chain.proofs.Answered.{from_ok}
-use Rattle.zarrs_codec_chain.proofs.ArraySteps.{bind_ok, length-elements, holds_elements}
-use Rattle.zarrs_codec_chain.proofs.ChainSteps.{held_chunk}
-use Rattle.zarrs_codec_chain.proofs.NestedDecode.{chunk_only}
-use Rattle.zarrs_codec_chain.proofs.NestedEncode.{value_only}
-use Rattle.zarrs_codec_chain.proofs.NestedFound.{value_found, vlen_small, optional_small}
-use Rattle.zarrs_codec_chain.proofs.NestedNormal.{kept_is}
-use Rattle.zarrs_codec_chain.proofs.NestedRead.{chunk_read}
+use Rattle.zarrs_chain_parts.proofs.Answered.{from_ok}
+use Rattle.zarrs_chain_parts.proofs.ArraySteps.{bind_ok, length-elements, holds_elements}
+use Rattle.zarrs_chain_parts.proofs.ChainSteps.{held_chunk}
+use Rattle.zarrs_chain_parts.proofs.NestedDecode.{chunk_only}
+use Rattle.zarrs_chain_parts.proofs.NestedEncode.{value_only}
+use Rattle.zarrs_chain_parts.proofs.NestedFound.{value_found, vlen_small, optional_small}
+use Rattle.zarrs_chain_parts.proofs.NestedNormal.{kept_is}
+use Rattle.zarrs_chain_parts.proofs.NestedRead.{chunk_read}
 
 -- the codec has chains inside
 abbrev pub HasChains : {B : Type 0} → PlainCodec B → Type 0

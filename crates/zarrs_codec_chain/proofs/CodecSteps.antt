@@ -19,12 +19,12 @@ use Rattle.zarrs_packbits.specs.PackBitsCodec.{packbits_value, packbits_chunk}
 use Rattle.zarrs_packbits.specs.PackBitsSettings.{PackBitsSettings, packed_layout, packbits_length, has_bits, layout_for}
 use Rattle.zarrs_packbits.specs.PackedLayout.{is_in_reach}
 use Rattle.zarrs_packbits.specs.PaddingByte.{value_len, value_with}
-use Rattle.zarrs_codec_chain.specs.PlainChain.{bytes_codec, packbits_codec}
-use Rattle.zarrs_codec_chain.specs.Chain.{codec_held_value}
+use Rattle.zarrs_chain_parts.specs.PlainChain.{bytes_codec, packbits_codec}
+use Rattle.zarrs_chain_parts.specs.Chain.{codec_held_value}
 use Rattle.zarrs_codec_chain.specs.ChainView.{plain_vlen, plain_vlen_at}
-use Rattle.zarrs_codec_chain.specs.Decode.{codec_chunk}
-use Rattle.zarrs_codec_chain.specs.Encode.{codec_value}
-use Rattle.zarrs_codec_chain.specs.Representation.{vlen_representation, codec_representation}
+use Rattle.zarrs_chain_parts.specs.Decode.{codec_chunk}
+use Rattle.zarrs_chain_parts.specs.Encode.{codec_value}
+use Rattle.zarrs_chain_parts.specs.Representation.{vlen_representation, codec_representation}
 use Rattle.zarrs_codec_chain.specs.declared.vlen_codec.VlenCodec.{VlenCodec}
 
 seen_then : {A : Type 0} (r : Result ℕ CodecError) (f : Result A CodecError) → seen FixedSize r >>= (λ _. f) ≡ r >>= (λ _. f)

@@ -9,12 +9,12 @@ use Rattle.zarrs_data_type.specs.ElementType.{ElementType}
 use Rattle.zarrs_array_bytes.specs.Held.{Held}
 use Rattle.zarrs_array_bytes.specs.Validity.{Holds, validity}
 use Rattle.zarrs_codec.specs.BytesToBytesCodec.{BytesCodecs}
-use Rattle.zarrs_codec_chain.specs.Chain.{taken_chunk}
-use Rattle.zarrs_codec_chain.specs.Decode.{codec_chunk, chain_chunk}
-use Rattle.zarrs_codec_chain.specs.PlainChain.{PlainCodec, PlainChain}
-use Rattle.zarrs_codec_chain.specs.Representation.{codec_representation}
-use Rattle.zarrs_codec_chain.proofs.ArraySteps.{bind_ok}
-use Rattle.zarrs_codec_chain.proofs.ChainSteps.{chunk_count}
+use Rattle.zarrs_chain_parts.specs.Chain.{taken_chunk}
+use Rattle.zarrs_chain_parts.specs.Decode.{codec_chunk, chain_chunk}
+use Rattle.zarrs_chain_parts.specs.PlainChain.{PlainCodec, PlainChain}
+use Rattle.zarrs_chain_parts.specs.Representation.{codec_representation}
+use Rattle.zarrs_chain_parts.proofs.ArraySteps.{bind_ok}
+use Rattle.zarrs_chain_parts.proofs.ChainSteps.{chunk_count}
 use Rattle.zarrs_codec_chain.proofs.VlenDecode.{chain_long}
 
 answered_valid : (type : ElementType) (count : ℕ) (r : Result Held CodecError) (expected : Result Chunk CodecError) → ((chunk : Chunk) → expected ≡ Ok chunk → length chunk ≡ count) → AnswersBy memory (Holds type) r expected

@@ -14,17 +14,17 @@ use Rattle.zarrs_array_bytes.specs.Present.{present_count, present_chunk}
 use Rattle.zarrs_array_bytes.specs.Validity.{validity, Holds}
 use Rattle.zarrs_codec.specs.BytesToBytesCodec.{BytesCodecs}
 use Rattle.zarrs_codec.specs.declared.bytes_representation.BytesRepresentation.{BytesRepresentation}
-use Rattle.zarrs_codec_chain.specs.PlainChain.{PlainCodec, PlainChain, optional_codec_of}
-use Rattle.zarrs_codec_chain.specs.BytesStages.{in_memory}
-use Rattle.zarrs_codec_chain.specs.Chain.{held_part, codec_held_value}
+use Rattle.zarrs_chain_parts.specs.PlainChain.{PlainCodec, PlainChain, optional_codec_of}
+use Rattle.zarrs_chain_parts.specs.BytesStages.{in_memory}
+use Rattle.zarrs_chain_parts.specs.Chain.{held_part, codec_held_value}
 use Rattle.zarrs_codec_chain.specs.ChainView.{plain_chain, plain_optional, plain_optional_at}
-use Rattle.zarrs_codec_chain.specs.Decode.{optional_parts, chain_chunk, codec_chunk}
-use Rattle.zarrs_codec_chain.specs.Encode.{byte_elements, optional_layout, optional_value, chain_value, codec_value}
-use Rattle.zarrs_codec_chain.specs.OptionalParts.{optional_inner, present_part}
-use Rattle.zarrs_codec_chain.specs.Representation.{flag_type, blank_fill, both_representations, chain_representation, codec_representation}
+use Rattle.zarrs_chain_parts.specs.Decode.{optional_parts, chain_chunk, codec_chunk}
+use Rattle.zarrs_chain_parts.specs.Encode.{byte_elements, optional_layout, optional_value, chain_value, codec_value}
+use Rattle.zarrs_chain_parts.specs.OptionalParts.{optional_inner, present_part}
+use Rattle.zarrs_chain_parts.specs.Representation.{flag_type, blank_fill, both_representations, chain_representation, codec_representation}
 use Rattle.zarrs_codec_chain.specs.declared.optional_codec.OptionalCodec.{OptionalCodec, out-OptionalCodec}
-use Rattle.zarrs_codec_chain.proofs.ArraySteps.{ok}
-use Rattle.zarrs_codec_chain.proofs.OptionalSteps.{representation_opened, representation_counted, inner_is, mask_not_written, part_not_written, both_written, part_written, value_by_mask, value_opened, chunk_opened, chunk_answers}
+use Rattle.zarrs_chain_parts.proofs.ArraySteps.{ok}
+use Rattle.zarrs_chain_parts.proofs.OptionalSteps.{representation_opened, representation_counted, inner_is, mask_not_written, part_not_written, both_written, part_written, value_by_mask, value_opened, chunk_opened, chunk_answers}
 
 -- ---- representation
 

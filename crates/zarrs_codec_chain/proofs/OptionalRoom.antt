@@ -20,19 +20,19 @@ use Rattle.zarrs_codec.specs.declared.bytes_representation.BytesRepresentation.T
 use Rattle.zarrs_packbits.specs.PackBitsSettings.{PackBitsSettings, packed_layout, packbits_length, has_bits, layout_for}
 use Rattle.zarrs_packbits.specs.PackedLayout.{is_in_reach}
 use Rattle.zarrs_packbits.specs.PaddingByte.{value_len}
-use Rattle.zarrs_codec_chain.specs.ArrayStages.{arrays_map}
-use Rattle.zarrs_codec_chain.specs.Laws.{HasMappings}
-use Rattle.zarrs_codec_chain.specs.PlainChain.{PlainCodec, bytes_codec, packbits_codec, vlen_codec, optional_codec, PlainChain}
-use Rattle.zarrs_codec_chain.specs.Decode.{chain_chunk}
-use Rattle.zarrs_codec_chain.specs.Encode.{byte_elements}
-use Rattle.zarrs_codec_chain.specs.OptionalParts.{optional_inner}
-use Rattle.zarrs_codec_chain.specs.Representation.{Measure, flag_type, blank_fill, around_representation, codec_representation}
-use Rattle.zarrs_codec_chain.proofs.ArraySteps.{ok, err, bind_ok, ok_is}
-use Rattle.zarrs_codec_chain.proofs.ChainSteps.{seen_ok}
-use Rattle.zarrs_codec_chain.proofs.NestedGrowth.{is_both}
-use Rattle.zarrs_codec_chain.proofs.NestedRows.{items_long}
+use Rattle.zarrs_chain_parts.specs.ArrayStages.{arrays_map}
+use Rattle.zarrs_chain_parts.specs.Laws.{HasMappings}
+use Rattle.zarrs_chain_parts.specs.PlainChain.{PlainCodec, bytes_codec, packbits_codec, vlen_codec, optional_codec, PlainChain}
+use Rattle.zarrs_chain_parts.specs.Decode.{chain_chunk}
+use Rattle.zarrs_chain_parts.specs.Encode.{byte_elements}
+use Rattle.zarrs_chain_parts.specs.OptionalParts.{optional_inner}
+use Rattle.zarrs_chain_parts.specs.Representation.{Measure, flag_type, blank_fill, around_representation, codec_representation}
+use Rattle.zarrs_chain_parts.proofs.ArraySteps.{ok, err, bind_ok, ok_is}
+use Rattle.zarrs_chain_parts.proofs.ChainSteps.{seen_ok}
+use Rattle.zarrs_chain_parts.proofs.NestedGrowth.{is_both}
+use Rattle.zarrs_chain_parts.proofs.NestedRows.{items_long}
 use Rattle.zarrs_codec_chain.proofs.VlenDecode.{chain_long}
-use Rattle.zarrs_codec_chain.proofs.NestedStages.{arrays_are_map}
+use Rattle.zarrs_chain_parts.proofs.NestedStages.{arrays_are_map}
 
 abbrev pub HasRoom : Measure → Type 0
 HasRoom measure =

@@ -26,18 +26,19 @@ use Rattle.zarrs_array_to_array.proofs.CoordinateMaps.{length-moved}
 use Rattle.zarrs_bytes.specs.ByteOrder.{bytes_of}
 use Rattle.zarrs_codec.specs.BytesToBytesCodec.{BytesCodecs}
 use Rattle.zarrs_codec.specs.CoordinateMap.{moved_chunk, inverse_map}
-use Rattle.zarrs_codec_chain.specs.PlainChain.{PlainCodec, PlainChain, vlen_codec_of}
-use Rattle.zarrs_codec_chain.specs.ArrayStages.{arrays_map}
-use Rattle.zarrs_codec_chain.specs.BytesStages.{outer_bytes}
-use Rattle.zarrs_codec_chain.specs.Decode.{Decoder, part_chunk, offsets_in_chunk, slices, vlen_parts, vlen_chunk, codec_chunk, chain_chunk}
-use Rattle.zarrs_codec_chain.specs.Encode.{offset_bytes, all_bytes}
-use Rattle.zarrs_codec_chain.specs.Representation.{byte_type, offset_type, is_variable, vlen_representation, codec_representation}
-use Rattle.zarrs_codec_chain.specs.ChainView.{plain_chain, plain_vlen, plain_vlen_at, is_wide, is_at_end}
-use Rattle.zarrs_codec_chain.specs.VlenSteps.{data_part, read_offsets, index_offsets, content_bytes}
+use Rattle.zarrs_chain_parts.specs.PlainChain.{PlainCodec, PlainChain, vlen_codec_of}
+use Rattle.zarrs_chain_parts.specs.ArrayStages.{arrays_map}
+use Rattle.zarrs_chain_parts.specs.BytesStages.{outer_bytes}
+use Rattle.zarrs_chain_parts.specs.Decode.{Decoder, part_chunk, offsets_in_chunk, slices, vlen_parts, vlen_chunk, codec_chunk, chain_chunk}
+use Rattle.zarrs_chain_parts.specs.Encode.{offset_bytes, all_bytes}
+use Rattle.zarrs_chain_parts.specs.Representation.{byte_type, offset_type, is_variable, vlen_representation, codec_representation}
+use Rattle.zarrs_codec_chain.specs.ChainView.{plain_chain, plain_vlen, plain_vlen_at}
+use Rattle.zarrs_chain_parts.specs.VlenSettings.{is_wide, is_at_end}
+use Rattle.zarrs_chain_parts.specs.VlenSteps.{data_part, read_offsets, index_offsets, content_bytes}
 use Rattle.zarrs_codec_chain.specs.declared.vlen_codec.VlenCodec.{VlenCodec, out-VlenCodec}
-use Rattle.zarrs_codec_chain.proofs.ArraySteps.{ok, err, bind_ok, ok_is, ok_no_err}
-use Rattle.zarrs_codec_chain.proofs.NestedParts.{vlen_cut}
-use Rattle.zarrs_codec_chain.proofs.VlenOffsets.{numbers_in, numbers_long}
+use Rattle.zarrs_chain_parts.proofs.ArraySteps.{ok, err, bind_ok, ok_is, ok_no_err}
+use Rattle.zarrs_chain_parts.proofs.NestedParts.{vlen_cut}
+use Rattle.zarrs_chain_parts.proofs.VlenOffsets.{numbers_in, numbers_long}
 
 -- ---- rows through a chain
 

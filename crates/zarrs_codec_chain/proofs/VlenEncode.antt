@@ -34,23 +34,23 @@ use Rattle.zarrs_bytes.proofs.Spelled.{Holds-pieces}
 use Rattle.zarrs_packbits.specs.PackBitsSettings.{PackBitsSettings, packed_layout, packbits_length, has_bits, layout_for}
 use Rattle.zarrs_packbits.specs.PackedLayout.{is_in_reach}
 use Rattle.zarrs_packbits.specs.PaddingByte.{value_len}
-use Rattle.zarrs_codec_chain.specs.PlainChain.{PlainCodec, bytes_codec, packbits_codec, vlen_codec, optional_codec, PlainChain, vlen_codec_of}
-use Rattle.zarrs_codec_chain.specs.ArrayStages.{arrays_map}
-use Rattle.zarrs_codec_chain.specs.BytesStages.{in_memory, outer_representation}
-use Rattle.zarrs_codec_chain.specs.Chain.{codec_held_value, held_value, held_part}
-use Rattle.zarrs_codec_chain.specs.Decode.{slices}
-use Rattle.zarrs_codec_chain.specs.Encode.{Encoder, part_value, chunk_offsets, offset_bytes, offset_fits, offset_elements, byte_elements, all_bytes, vlen_layout, is_same_bytes, vlen_value, codec_value, chain_value}
-use Rattle.zarrs_codec_chain.specs.Laws.{IsChainOfMappings}
-use Rattle.zarrs_codec_chain.specs.NormalForm.{normal_element}
-use Rattle.zarrs_codec_chain.specs.Representation.{byte_type, offset_type, is_variable, vlen_representation, around_representation, codec_representation, chain_representation}
+use Rattle.zarrs_chain_parts.specs.PlainChain.{PlainCodec, bytes_codec, packbits_codec, vlen_codec, optional_codec, PlainChain, vlen_codec_of}
+use Rattle.zarrs_chain_parts.specs.ArrayStages.{arrays_map}
+use Rattle.zarrs_chain_parts.specs.BytesStages.{in_memory, outer_representation}
+use Rattle.zarrs_chain_parts.specs.Chain.{codec_held_value, held_value, held_part}
+use Rattle.zarrs_chain_parts.specs.Decode.{slices}
+use Rattle.zarrs_chain_parts.specs.Encode.{Encoder, part_value, chunk_offsets, offset_bytes, offset_fits, offset_elements, byte_elements, all_bytes, vlen_layout, is_same_bytes, vlen_value, codec_value, chain_value}
+use Rattle.zarrs_chain_parts.specs.Laws.{IsChainOfMappings}
+use Rattle.zarrs_chain_parts.specs.NormalForm.{normal_element}
+use Rattle.zarrs_chain_parts.specs.Representation.{byte_type, offset_type, is_variable, vlen_representation, around_representation, codec_representation, chain_representation}
 use Rattle.zarrs_codec_chain.specs.ChainView.{plain_vlen, plain_vlen_at}
 use Rattle.zarrs_codec_chain.specs.declared.vlen_codec.VlenCodec.{VlenCodec}
-use Rattle.zarrs_codec_chain.specs.VlenSteps.{from_first, offsets_fit, index_elements, keeps_offsets, TakesOffsets, index_part, content_part}
-use Rattle.zarrs_codec_chain.proofs.ArraySteps.{ok, err, bind_ok, ok_is}
-use Rattle.zarrs_codec_chain.proofs.ChainSteps.{seen_ok, next_ok}
-use Rattle.zarrs_codec_chain.proofs.NestedNormal.{Keeping}
-use Rattle.zarrs_codec_chain.proofs.NestedRows.{items_long}
-use Rattle.zarrs_codec_chain.proofs.NestedStages.{arrays_are_map, row_positive}
+use Rattle.zarrs_chain_parts.specs.VlenSteps.{from_first, offsets_fit, index_elements, keeps_offsets, TakesOffsets, index_part, content_part}
+use Rattle.zarrs_chain_parts.proofs.ArraySteps.{ok, err, bind_ok, ok_is}
+use Rattle.zarrs_chain_parts.proofs.ChainSteps.{seen_ok, next_ok}
+use Rattle.zarrs_chain_parts.proofs.NestedNormal.{Keeping}
+use Rattle.zarrs_chain_parts.proofs.NestedRows.{items_long}
+use Rattle.zarrs_chain_parts.proofs.NestedStages.{arrays_are_map, row_positive}
 
 -- ---- elements of any length in a container
 

@@ -24,19 +24,19 @@ use Rattle.zarrs_packbits.specs.NormalForm as packbits
 use Rattle.zarrs_packbits.specs.PackBitsCodec.{PackBitsStands, PackBitsWritten}
 use Rattle.zarrs_packbits.specs.PackBitsSettings.{PackBitsSettings, packed_layout}
 use Rattle.zarrs_packbits.proofs.CodecLaws.{written_stands}
-use Rattle.zarrs_codec_chain.specs.Encode.{is_same_bytes, offset_bytes, offset_elements}
+use Rattle.zarrs_chain_parts.specs.Encode.{is_same_bytes, offset_bytes, offset_elements}
 use Rattle.zarrs_codec_chain.specs.ChainView.{plain_codec, plain_vlen_at, plain_optional_at}
-use Rattle.zarrs_codec_chain.specs.NormalForm.{normal_element}
-use Rattle.zarrs_codec_chain.specs.PlainChain.{PlainChain, bytes_codec, packbits_codec, vlen_codec_of, optional_codec_of}
-use Rattle.zarrs_codec_chain.specs.Representation.{offset_type}
-use Rattle.zarrs_codec_chain.specs.VlenSteps.{lent_bytes, from_first, written_offsets, keeps_offsets, TakesOffsets}
+use Rattle.zarrs_chain_parts.specs.NormalForm.{normal_element}
+use Rattle.zarrs_chain_parts.specs.PlainChain.{PlainChain, bytes_codec, packbits_codec, vlen_codec_of, optional_codec_of}
+use Rattle.zarrs_chain_parts.specs.Representation.{offset_type}
+use Rattle.zarrs_chain_parts.specs.VlenSteps.{lent_bytes, from_first, written_offsets, keeps_offsets, TakesOffsets}
 use Rattle.zarrs_codec_chain.specs.declared.array_to_bytes_codec.ArrayToBytesCodec.{ArrayToBytesCodec}
 use Rattle.zarrs_codec_chain.specs.declared.array_to_bytes_codec.ArrayToBytesCodec.TheVariants.{Bytes, PackBits, Vlen, Optional}
 use Rattle.zarrs_codec_chain.specs.declared.optional_codec.OptionalCodec.{OptionalCodec}
 use Rattle.zarrs_codec_chain.specs.declared.vlen_codec.VlenCodec.{VlenCodec}
-use Rattle.zarrs_codec_chain.specs.Chain.{row_sizes}
-use Rattle.zarrs_codec_chain.proofs.VlenOffsets.{index_holds, elements_long}
-use Rattle.zarrs_codec_chain.proofs.ArraySteps.{ok, err, ok_no_err}
+use Rattle.zarrs_chain_parts.specs.Chain.{row_sizes}
+use Rattle.zarrs_chain_parts.proofs.VlenOffsets.{index_holds, elements_long}
+use Rattle.zarrs_chain_parts.proofs.ArraySteps.{ok, err, ok_no_err}
 
 -- ---- the same bytes, element by element and joined
 

@@ -4,8 +4,8 @@ use Rattle.zarrs_metadata.specs.declared.codec.vlen.VlenIndexDataType.{VlenIndex
 use Rattle.zarrs_metadata.specs.declared.codec.vlen.VlenIndexDataType.TheVariants.{UInt32, UInt64}
 use Rattle.zarrs_metadata.specs.declared.codec.vlen.VlenIndexLocation.{VlenIndexLocation}
 use Rattle.zarrs_metadata.specs.declared.codec.vlen.VlenIndexLocation.TheVariants.{Start, End}
-use Rattle.zarrs_codec_chain.specs.ChainView.{is_wide, is_at_end}
-use Rattle.zarrs_codec_chain.specs.WrittenMetadata.{offset_type_of, index_place}
+use Rattle.zarrs_chain_parts.specs.VlenSettings.{is_wide, is_at_end}
+use Rattle.zarrs_chain_parts.specs.WrittenMetadata.{offset_type_of, index_place}
 
 pub offset_type_again : (type : VlenIndexDataType) → offset_type_of (is_wide type) ≡ type
 offset_type_again UInt32 = refl

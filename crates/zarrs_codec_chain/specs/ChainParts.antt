@@ -2,7 +2,7 @@
 use Rattle.std.specs.Prelude.{map, option_map}
 use Rattle.zarrs_array_to_array.specs.Mapping.{mapping_of}
 use Rattle.zarrs_codec_chain.specs.ChainView.{plain_codec}
-use Rattle.zarrs_codec_chain.specs.MadeChain.{CodecMade, array_made, to_bytes_made, outer_made, Gathered}
+use Rattle.zarrs_chain_parts.specs.MadeChain.{CodecMade, array_made, to_bytes_made, outer_made, Gathered}
 use Rattle.zarrs_codec_chain.specs.declared.metadata.chain_parts.ChainParts.{ChainParts}
 use Rattle.zarrs_codec_chain.specs.declared.metadata.chain_parts.MadeCodec.{MadeCodec}
 use Rattle.zarrs_codec_chain.specs.declared.metadata.chain_parts.MadeCodec.TheVariants.{Array, ToBytes, Outer}

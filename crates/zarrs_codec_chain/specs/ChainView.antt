@@ -3,27 +3,14 @@ use Rattle.std.specs.Prelude.{◌≡◌, Bool, true, false, map}
 use Rattle.std.proofs.Common.{ap}
 use Rattle.std.specs.declared.alloc.Global.{Global}
 use Rattle.std.specs.declared.boxed.Box.{Box}
-use Rattle.zarrs_metadata.specs.declared.codec.vlen.VlenIndexDataType.{VlenIndexDataType}
-use Rattle.zarrs_metadata.specs.declared.codec.vlen.VlenIndexDataType.TheVariants.{UInt32, UInt64}
-use Rattle.zarrs_metadata.specs.declared.codec.vlen.VlenIndexLocation.{VlenIndexLocation}
-use Rattle.zarrs_metadata.specs.declared.codec.vlen.VlenIndexLocation.TheVariants.{Start, End}
 use Rattle.zarrs_array_to_array.specs.Mapping.{mapping_of}
-use Rattle.zarrs_codec_chain.specs.PlainChain.{PlainCodec, bytes_codec, packbits_codec, vlen_codec, optional_codec, PlainChain, vlen_codec_of, optional_codec_of}
+use Rattle.zarrs_chain_parts.specs.VlenSettings.{is_wide, is_at_end}
+use Rattle.zarrs_chain_parts.specs.PlainChain.{PlainCodec, bytes_codec, packbits_codec, vlen_codec, optional_codec, PlainChain, vlen_codec_of, optional_codec_of}
 use Rattle.zarrs_codec_chain.specs.declared.array_to_bytes_codec.ArrayToBytesCodec.{ArrayToBytesCodec}
 use Rattle.zarrs_codec_chain.specs.declared.array_to_bytes_codec.ArrayToBytesCodec.TheVariants.{Bytes, PackBits, Vlen, Optional}
 use Rattle.zarrs_codec_chain.specs.declared.codec_chain.CodecChain.{CodecChain}
 use Rattle.zarrs_codec_chain.specs.declared.optional_codec.OptionalCodec.{OptionalCodec, OptionalCodec', out-OptionalCodec, is-OptionalCodec', roll-OptionalCodec, rolls-OptionalCodec'}
 use Rattle.zarrs_codec_chain.specs.declared.vlen_codec.VlenCodec.{VlenCodec, VlenCodec', out-VlenCodec, is-VlenCodec', roll-VlenCodec, rolls-VlenCodec'}
-
--- offsets have 64 bits
-abbrev pub is_wide : VlenIndexDataType → Bool
-is_wide UInt32 = false
-is_wide UInt64 = true
-
--- the index stands at the end
-abbrev pub is_at_end : VlenIndexLocation → Bool
-is_at_end Start = false
-is_at_end End = true
 
 unfoldable mutual
   pub plain_codec : {B : Type 0} → ArrayToBytesCodec B → PlainCodec B

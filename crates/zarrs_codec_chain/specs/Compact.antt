@@ -4,10 +4,10 @@ use Rattle.zarrs_chunk.specs.Answer.{◌>>=◌, seen}
 use Rattle.zarrs_chunk.specs.declared.codec_error.CodecError.{CodecError}
 use Rattle.zarrs_data_type.specs.ElementType.{ElementType}
 use Rattle.zarrs_codec.specs.BytesToBytesCodec.{BytesCodecs}
-use Rattle.zarrs_codec_chain.specs.PlainChain.{PlainCodec, PlainChain}
-use Rattle.zarrs_codec_chain.specs.BytesStages.{outer_bytes}
-use Rattle.zarrs_codec_chain.specs.Chain.{taken_form}
-use Rattle.zarrs_codec_chain.specs.Representation.{codec_representation}
+use Rattle.zarrs_chain_parts.specs.PlainChain.{PlainCodec, PlainChain}
+use Rattle.zarrs_chain_parts.specs.BytesStages.{outer_bytes}
+use Rattle.zarrs_chain_parts.specs.Chain.{taken_form}
+use Rattle.zarrs_chain_parts.specs.Representation.{codec_representation}
 
 -- that a codec to bytes takes such chunks, or the first cause why not
 abbrev pub codec_opened : {B : Type 0} → BytesCodecs B → PlainCodec B → List ℕ → ElementType → List ℕ → Result (Unit {0}) CodecError

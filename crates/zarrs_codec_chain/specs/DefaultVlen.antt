@@ -2,7 +2,7 @@
 use Rattle.std.specs.Prelude.{true, false, Option, Some, None, []}
 use Rattle.zarrs_data_type.specs.declared.endianness.Endianness.{Endianness}
 use Rattle.zarrs_data_type.specs.declared.endianness.Endianness.TheVariants.{Little}
-use Rattle.zarrs_codec_chain.specs.PlainChain.{PlainCodec, bytes_codec, PlainChain, vlen_codec_of}
+use Rattle.zarrs_chain_parts.specs.PlainChain.{PlainCodec, bytes_codec, PlainChain, vlen_codec_of}
 
 -- the codec `bytes` in this byte order, alone
 abbrev pub bytes_chain : {B : Type 0} → Option Endianness → PlainChain B

@@ -2,7 +2,7 @@
 use crate::array_to_bytes_codec::{
     ArrayToBytesCodec, codec_decode, codec_encode, codec_representation,
 };
-use crate::bytes_stages::decode_bytes;
+use zarrs_chain_parts::bytes_stages::decode_bytes;
 use crate::codec_chain::CodecChain;
 use crate::optional_codec::OptionalCodec;
 use crate::representation::taken_form;
@@ -14,11 +14,11 @@ use zarrs_codec::{ArrayToBytesCodecTraits, BytesRepresentation, BytesToBytesCode
 use zarrs_data_type::{DataType, FillValue};
 
 impl<B: BytesToBytesCodecTraits> ArrayToBytesCodecTraits for CodecChain<B> {
-    ghost use Rattle.zarrs_codec_chain.specs.Chain.{held_value};
+    ghost use Rattle.zarrs_chain_parts.specs.Chain.{held_value};
     ghost use Rattle.zarrs_codec_chain.specs.ChainView.{plain_chain};
     ghost use Rattle.zarrs_codec_chain.specs.Compact.{chain_opened};
-    ghost use Rattle.zarrs_codec_chain.specs.Decode.{chain_chunk};
-    ghost use Rattle.zarrs_codec_chain.specs.Representation.{chain_representation};
+    ghost use Rattle.zarrs_chain_parts.specs.Decode.{chain_chunk};
+    ghost use Rattle.zarrs_chain_parts.specs.Representation.{chain_representation};
 
     ghost represented = { λ chain sizes type fill. chain_representation B.functions (plain_chain chain) sizes type fill };
 
@@ -76,10 +76,10 @@ impl<B: BytesToBytesCodecTraits> ArrayToBytesCodecTraits for CodecChain<B> {
 }
 
 impl<B: BytesToBytesCodecTraits> ArrayToBytesCodecTraits for ArrayToBytesCodec<B> {
-    ghost use Rattle.zarrs_codec_chain.specs.Chain.{codec_held_value, taken_chunk};
+    ghost use Rattle.zarrs_chain_parts.specs.Chain.{codec_held_value, taken_chunk};
     ghost use Rattle.zarrs_codec_chain.specs.ChainView.{plain_codec};
     ghost use Rattle.zarrs_codec_chain.specs.Compact.{codec_opened};
-    ghost use Rattle.zarrs_codec_chain.specs.Representation.{codec_representation};
+    ghost use Rattle.zarrs_chain_parts.specs.Representation.{codec_representation};
 
     ghost represented = { λ codec sizes type fill. codec_representation B.functions (plain_codec codec) sizes type fill };
 
@@ -137,10 +137,10 @@ impl<B: BytesToBytesCodecTraits> ArrayToBytesCodecTraits for ArrayToBytesCodec<B
 }
 
 impl<B: BytesToBytesCodecTraits> ArrayToBytesCodecTraits for VlenCodec<B> {
-    ghost use Rattle.zarrs_codec_chain.specs.Chain.{codec_held_value, taken_chunk};
+    ghost use Rattle.zarrs_chain_parts.specs.Chain.{codec_held_value, taken_chunk};
     ghost use Rattle.zarrs_codec_chain.specs.ChainView.{plain_vlen};
     ghost use Rattle.zarrs_codec_chain.specs.Compact.{codec_opened};
-    ghost use Rattle.zarrs_codec_chain.specs.Representation.{codec_representation};
+    ghost use Rattle.zarrs_chain_parts.specs.Representation.{codec_representation};
 
     ghost represented = { λ codec sizes type fill. codec_representation B.functions (plain_vlen codec) sizes type fill };
 
@@ -197,10 +197,10 @@ impl<B: BytesToBytesCodecTraits> ArrayToBytesCodecTraits for VlenCodec<B> {
 }
 
 impl<B: BytesToBytesCodecTraits> ArrayToBytesCodecTraits for OptionalCodec<B> {
-    ghost use Rattle.zarrs_codec_chain.specs.Chain.{codec_held_value, taken_chunk};
+    ghost use Rattle.zarrs_chain_parts.specs.Chain.{codec_held_value, taken_chunk};
     ghost use Rattle.zarrs_codec_chain.specs.ChainView.{plain_optional};
     ghost use Rattle.zarrs_codec_chain.specs.Compact.{codec_opened};
-    ghost use Rattle.zarrs_codec_chain.specs.Representation.{codec_representation};
+    ghost use Rattle.zarrs_chain_parts.specs.Representation.{codec_representation};
 
     ghost represented = { λ codec sizes type fill. codec_representation B.functions (plain_optional codec) sizes type fill };
 

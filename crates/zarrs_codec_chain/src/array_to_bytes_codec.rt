@@ -2,11 +2,11 @@ ghost use Rattle.std.specs.Prelude.{◌≡◌, IsOk, false};
 ghost use Rattle.zarrs_chunk.specs.Answer.{Answers, AnswersBy, memory, is_fault};
 ghost use Rattle.zarrs_array_bytes.specs.Held.{raw_of};
 ghost use Rattle.zarrs_array_bytes.specs.Validity.{Holds};
-ghost use Rattle.zarrs_codec_chain.specs.Chain.{codec_held_value, codec_reads as codec_reads_of, codec_writes as codec_writes_of};
+ghost use Rattle.zarrs_chain_parts.specs.Chain.{codec_held_value, codec_reads as codec_reads_of, codec_writes as codec_writes_of};
 ghost use Rattle.zarrs_codec_chain.specs.ChainView.{plain_codec};
-ghost use Rattle.zarrs_codec_chain.specs.Decode.{codec_chunk};
-ghost use Rattle.zarrs_codec_chain.specs.Laws.{HasMappings};
-ghost use Rattle.zarrs_codec_chain.specs.Representation.{codec_representation as codec_representation_of};
+ghost use Rattle.zarrs_chain_parts.specs.Decode.{codec_chunk};
+ghost use Rattle.zarrs_chain_parts.specs.Laws.{HasMappings};
+ghost use Rattle.zarrs_chain_parts.specs.Representation.{codec_representation as codec_representation_of};
 
 use crate::optional_codec::{
     OptionalCodec, optional_decode, optional_encode, optional_is_sound, optional_representation,

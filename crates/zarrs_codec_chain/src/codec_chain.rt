@@ -6,13 +6,13 @@ ghost use Rattle.zarrs_array_bytes.specs.Held.{raw_of};
 ghost use Rattle.zarrs_array_bytes.specs.Validity.{Holds};
 ghost use Rattle.zarrs_array_to_array.specs.ArrayToArrayCodec.{IsMapping};
 ghost use Rattle.zarrs_array_to_array.specs.Mapping.{mapping_of};
-ghost use Rattle.zarrs_codec_chain.specs.Chain.{held_value, outer_reads as outer_reads_of};
+ghost use Rattle.zarrs_chain_parts.specs.Chain.{held_value, outer_reads as outer_reads_of};
 ghost use Rattle.zarrs_codec_chain.specs.ChainView.{plain_chain, plain_codec};
-ghost use Rattle.zarrs_codec_chain.specs.Decode.{chain_chunk};
-ghost use Rattle.zarrs_codec_chain.specs.Laws.{IsChainOfMappings};
-ghost use Rattle.zarrs_codec_chain.specs.Representation.{chain_representation as chain_representation_of};
-ghost use Rattle.zarrs_codec_chain.specs.Stands.{ChainStands};
-ghost use Rattle.zarrs_codec_chain.specs.Written.{ChainWritten};
+ghost use Rattle.zarrs_chain_parts.specs.Decode.{chain_chunk};
+ghost use Rattle.zarrs_chain_parts.specs.Laws.{IsChainOfMappings};
+ghost use Rattle.zarrs_chain_parts.specs.Representation.{chain_representation as chain_representation_of};
+ghost use Rattle.zarrs_chain_parts.specs.Stands.{ChainStands};
+ghost use Rattle.zarrs_chain_parts.specs.Written.{ChainWritten};
 
 use crate::array_to_bytes_codec::{ArrayToBytesCodec, codec_is_sound, codec_reads, codec_writes};
 use crate::decode::chain_decode;
@@ -196,7 +196,7 @@ fn outer_writes<B: BytesToBytesCodecTraits>(codecs: &[B]) -> bool
 }
 
 impl<B: BytesToBytesCodecTraits> CodecTraits for CodecChain<B> {
-    ghost use Rattle.zarrs_codec_chain.specs.Chain.{chain_reads, chain_writes};
+    ghost use Rattle.zarrs_chain_parts.specs.Chain.{chain_reads, chain_writes};
     ghost use Rattle.zarrs_codec_chain.specs.ChainView.{plain_chain};
 
     ghost reads_in_part = { λ chain. chain_reads B.reads_in_part (plain_chain chain) };

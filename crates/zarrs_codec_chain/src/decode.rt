@@ -4,12 +4,12 @@ ghost use Rattle.zarrs_chunk.specs.Answer.{AnswersBy, memory, is_fault};
 ghost use Rattle.zarrs_array_bytes.specs.Held.{raw_of};
 ghost use Rattle.zarrs_array_bytes.specs.Validity.{Holds};
 ghost use Rattle.zarrs_codec_chain.specs.ChainView.{plain_chain};
-ghost use Rattle.zarrs_codec_chain.specs.Decode.{chain_chunk, part_chunk};
+ghost use Rattle.zarrs_chain_parts.specs.Decode.{chain_chunk, part_chunk};
 ghost use Rattle.zarrs_data_type.specs.FillValue.{fill_fits};
 
-use crate::array_stages::decode_arrays;
+use zarrs_chain_parts::array_stages::decode_arrays;
 use crate::array_to_bytes_codec::codec_decode;
-use crate::bytes_stages::decode_bytes;
+use zarrs_chain_parts::bytes_stages::decode_bytes;
 use crate::codec_chain::CodecChain;
 use crate::encode::row_of;
 use crate::representation::taken_form;

@@ -4,12 +4,12 @@ ghost use Rattle.zarrs_chunk.specs.Answer.{Answers, memory, is_fault, checked_u6
 ghost use Rattle.zarrs_chunk.specs.ChunkShape.{product};
 ghost use Rattle.zarrs_array_bytes.specs.Held.{raw_of};
 ghost use Rattle.zarrs_array_bytes.specs.Validity.{validity};
-ghost use Rattle.zarrs_codec_chain.specs.Chain.{held_value, held_part, row_sizes};
+ghost use Rattle.zarrs_chain_parts.specs.Chain.{held_value, held_part, row_sizes};
 ghost use Rattle.zarrs_codec_chain.specs.ChainView.{plain_chain};
 
-use crate::array_stages::encode_arrays;
+use zarrs_chain_parts::array_stages::encode_arrays;
 use crate::array_to_bytes_codec::codec_encode;
-use crate::bytes_stages::encode_bytes;
+use zarrs_chain_parts::bytes_stages::encode_bytes;
 use crate::codec_chain::CodecChain;
 use crate::representation::taken_form;
 use std::alloc::Global;
@@ -90,7 +90,7 @@ pub(crate) fn part_encode<'a, B: BytesToBytesCodecTraits>(
 }
 
 /// The shape of a row of so many elements, if there are any.
-#[tactic(auto, using(crate::proofs::PartSteps::row_shape))]
+#[tactic(auto, using(zarrs_chain_parts::proofs::PartSteps::row_shape))]
 pub(crate) fn row_of(alloc: Global, count: u64) -> Result<Option<ChunkShape>, CodecError>
     ensures answer { Answers memory (λ row. row) result (Ok (row_sizes count)) }
     ensures no_fault { is_fault result ≡ false }

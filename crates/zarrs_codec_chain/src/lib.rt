@@ -5,23 +5,17 @@
 //! writes a chunk in part stands on this crate and goes through the chain by its [`stages`].
 #![tactic(auto)]
 
-mod array_stages;
 mod array_to_bytes;
 mod array_to_bytes_codec;
-mod bytes_stages;
 mod codec_chain;
 mod decode;
 mod encode;
-pub mod laws;
 mod metadata;
 mod optional_codec;
-mod optional_parts;
 mod representation;
 pub mod stages;
 mod vlen_codec;
 mod vlen_kept;
-mod vlen_offsets;
-mod vlen_parts;
 
 pub use array_to_bytes_codec::ArrayToBytesCodec;
 pub use codec_chain::CodecChain;

@@ -1,9 +1,7 @@
 //! Chains made from metadata, and the metadata that is written of them.
 
 pub(crate) mod chain_parts;
-pub(crate) mod codec_name;
 pub(crate) mod codec_traits;
-pub(crate) mod configurations;
 pub(crate) mod create;
 pub(crate) mod make_chain;
 pub(crate) mod write_chain;

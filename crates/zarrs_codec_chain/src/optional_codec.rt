@@ -8,24 +8,24 @@ ghost use Rattle.zarrs_array_bytes.specs.Held.{raw_of};
 ghost use Rattle.zarrs_array_bytes.specs.Validity.{Holds, sizes_fit, validity};
 ghost use Rattle.zarrs_metadata.specs.MetadataV3.{configuration_seen};
 ghost use Rattle.zarrs_metadata.specs.PluginCreateError.{plugin_memory};
-ghost use Rattle.zarrs_codec_chain.specs.Chain.{codec_held_value, held_part, taken_chunk};
+ghost use Rattle.zarrs_chain_parts.specs.Chain.{codec_held_value, held_part, taken_chunk};
 ghost use Rattle.zarrs_codec_chain.specs.ChainView.{plain_chain, plain_optional};
-ghost use Rattle.zarrs_codec_chain.specs.Decode.{codec_chunk, chain_chunk};
-ghost use Rattle.zarrs_codec_chain.specs.Encode.{byte_elements, chain_value, codec_value};
-ghost use Rattle.zarrs_codec_chain.specs.Laws.{HasMappings};
-ghost use Rattle.zarrs_codec_chain.specs.OptionalParts.{optional_inner, present_part};
-ghost use Rattle.zarrs_codec_chain.specs.PlainChain.{optional_codec_of};
-ghost use Rattle.zarrs_codec_chain.specs.Representation.{codec_representation, flag_type, blank_fill as blank_fill_of};
-ghost use Rattle.zarrs_codec_chain.specs.Stands.{CodecStands};
-ghost use Rattle.zarrs_codec_chain.specs.Written.{CodecWritten};
-ghost use Rattle.zarrs_codec_chain.specs.WrittenMetadata.{codec_configuration};
+ghost use Rattle.zarrs_chain_parts.specs.Decode.{codec_chunk, chain_chunk};
+ghost use Rattle.zarrs_chain_parts.specs.Encode.{byte_elements, chain_value, codec_value};
+ghost use Rattle.zarrs_chain_parts.specs.Laws.{HasMappings};
+ghost use Rattle.zarrs_chain_parts.specs.OptionalParts.{optional_inner, present_part};
+ghost use Rattle.zarrs_chain_parts.specs.PlainChain.{optional_codec_of};
+ghost use Rattle.zarrs_chain_parts.specs.Representation.{codec_representation, flag_type, blank_fill as blank_fill_of};
+ghost use Rattle.zarrs_chain_parts.specs.Stands.{CodecStands};
+ghost use Rattle.zarrs_chain_parts.specs.Written.{CodecWritten};
+ghost use Rattle.zarrs_chain_parts.specs.WrittenMetadata.{codec_configuration};
 
 use crate::codec_chain::{CodecChain, chain_is_sound};
 use crate::decode::{chain_decode, part_decode};
 use crate::encode::{chain_encode, check_elements, part_encode};
-use crate::metadata::configurations::optional_members;
+use zarrs_chain_parts::configurations::optional_members;
 use crate::metadata::write_chain::chain_written;
-use crate::optional_parts::{
+use zarrs_chain_parts::optional_parts::{
     blank_fill, both_representations, inner_type, join_parts, lent, masked_parts, split_value,
 };
 use crate::representation::chain_representation;
@@ -115,7 +115,7 @@ pub(crate) fn optional_representation<B: BytesToBytesCodecTraits>(
 
 /// What the chain writes of these mask bytes as a chunk of flags. Refusals: those of `chain_encode`.
 #[cycle(encode)]
-#[tactic(auto, using(crate::proofs::OptionalSteps::mask_answers))]
+#[tactic(auto, using(zarrs_chain_parts::proofs::OptionalSteps::mask_answers))]
 fn mask_encode<'a, B: BytesToBytesCodecTraits>(
     alloc: Global,
     chain: &CodecChain<B>,
@@ -158,7 +158,7 @@ fn present_encode<'a, B: BytesToBytesCodecTraits>(
 /// The value of a container of optional elements of this inner type, as many as the shape has.
 /// Refusals: those of the chains.
 #[cycle(encode)]
-#[tactic(auto, using(crate::proofs::OptionalSteps::mask_long, crate::proofs::OptionalSteps::never_unmasked, crate::proofs::OptionalSteps::present_taken, crate::proofs::OptionalAt::content_at, crate::proofs::OptionalAt::written_at))]
+#[tactic(auto, using(zarrs_chain_parts::proofs::OptionalSteps::mask_long, zarrs_chain_parts::proofs::OptionalSteps::never_unmasked, zarrs_chain_parts::proofs::OptionalSteps::present_taken, crate::proofs::OptionalAt::content_at, crate::proofs::OptionalAt::written_at))]
 fn content_encode<'a, B: BytesToBytesCodecTraits>(
     alloc: Global,
     codec: &OptionalCodec<B>,
@@ -200,7 +200,7 @@ pub(crate) fn optional_encode<'a, B: BytesToBytesCodecTraits>(
 
 /// The mask bytes of the chunk of flags that a part stands for. Refusals: those of `chain_decode`.
 #[cycle(decode)]
-#[tactic(auto, using(crate::proofs::OptionalFlags::flags_in_bytes, crate::proofs::OptionalFlags::flags_are_fixed))]
+#[tactic(auto, using(zarrs_chain_parts::proofs::OptionalFlags::flags_in_bytes, zarrs_chain_parts::proofs::OptionalFlags::flags_are_fixed))]
 fn mask_decode<'a, B: BytesToBytesCodecTraits>(
     alloc: Global,
     chain: &CodecChain<B>,
@@ -219,7 +219,7 @@ fn mask_decode<'a, B: BytesToBytesCodecTraits>(
 /// first that holds, `OutOfMemory` aside: `MaskValue` where a mask byte isn't 0 or 1; those of the
 /// chain.
 #[cycle(decode)]
-#[tactic(auto, using(crate::proofs::OptionalSteps::mask_refused, crate::proofs::OptionalSteps::present_opened, crate::proofs::OptionalSteps::part_expanded))]
+#[tactic(auto, using(zarrs_chain_parts::proofs::OptionalSteps::mask_refused, zarrs_chain_parts::proofs::OptionalSteps::present_opened, zarrs_chain_parts::proofs::OptionalSteps::part_expanded))]
 fn present_decode<'a, B: BytesToBytesCodecTraits>(
     alloc: Global,
     chain: &CodecChain<B>,

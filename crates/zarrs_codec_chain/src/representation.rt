@@ -2,14 +2,14 @@
 ghost use Rattle.std.specs.Prelude.{◌≡◌, IfOk, Ok, false};
 ghost use Rattle.zarrs_chunk.specs.Answer.{Answers, memory, is_fault, checked_u64};
 ghost use Rattle.zarrs_chunk.specs.ChunkShape.{product};
-ghost use Rattle.zarrs_codec_chain.specs.ArrayStages.{IsMapWhere};
-ghost use Rattle.zarrs_codec_chain.specs.Chain.{taken_form as taken_form_of};
+ghost use Rattle.zarrs_chain_parts.specs.ArrayStages.{IsMapWhere};
+ghost use Rattle.zarrs_chain_parts.specs.Chain.{taken_form as taken_form_of};
 ghost use Rattle.zarrs_codec_chain.specs.ChainView.{plain_chain};
-ghost use Rattle.zarrs_codec_chain.specs.Representation.{chain_representation as chain_representation_of};
+ghost use Rattle.zarrs_chain_parts.specs.Representation.{chain_representation as chain_representation_of};
 
-use crate::array_stages::shape_through;
+use zarrs_chain_parts::array_stages::shape_through;
 use crate::array_to_bytes_codec::codec_representation;
-use crate::bytes_stages::outer_representation;
+use zarrs_chain_parts::bytes_stages::outer_representation;
 use crate::codec_chain::CodecChain;
 use std::alloc::Global;
 use zarrs_chunk::{ChunkShape, CodecError};
@@ -25,7 +25,7 @@ pub(crate) struct TakenForm {
 
 /// What the chain's codec to bytes gets of such a chunk. Refusals: those of `encoded_representation`.
 #[cycle(representation)]
-#[tactic(auto, using(crate::proofs::ChainSteps::chain_counted))]
+#[tactic(auto, using(zarrs_chain_parts::proofs::ChainSteps::chain_counted))]
 pub(crate) fn taken_form<B: BytesToBytesCodecTraits>(
     alloc: Global,
     chain: &CodecChain<B>,
@@ -54,7 +54,7 @@ pub(crate) fn taken_form<B: BytesToBytesCodecTraits>(
 
 /// How many bytes the value of such a chunk has. Refusals: those of `encoded_representation`.
 #[cycle(representation)]
-#[tactic(auto, using(crate::proofs::ChainSteps::refused_representation, crate::proofs::ChainSteps::form_representation))]
+#[tactic(auto, using(zarrs_chain_parts::proofs::ChainSteps::refused_representation, zarrs_chain_parts::proofs::ChainSteps::form_representation))]
 pub(crate) fn chain_representation<B: BytesToBytesCodecTraits>(
     alloc: Global,
     chain: &CodecChain<B>,

@@ -4,12 +4,12 @@
 ghost use Rattle.std.specs.Prelude.{◌≡◌, IfOk, Ok, false};
 ghost use Rattle.zarrs_chunk.specs.Answer.{Answers, memory, is_fault, checked_u64};
 ghost use Rattle.zarrs_chunk.specs.ChunkShape.{product};
-ghost use Rattle.zarrs_codec_chain.specs.ArrayStages.{IsMapWhere};
-ghost use Rattle.zarrs_codec_chain.specs.Chain.{taken_form as taken_form_of};
+ghost use Rattle.zarrs_chain_parts.specs.ArrayStages.{IsMapWhere};
+ghost use Rattle.zarrs_chain_parts.specs.Chain.{taken_form as taken_form_of};
 ghost use Rattle.zarrs_codec_chain.specs.ChainView.{plain_chain};
 
 pub use crate::array_to_bytes_codec::codec_decode;
-pub use crate::bytes_stages::{decode_bytes, outer_representation};
+pub use zarrs_chain_parts::bytes_stages::{decode_bytes, outer_representation};
 use crate::codec_chain::CodecChain;
 pub use crate::codec_chain::chain_is_sound;
 use crate::representation::taken_form as taken_by;

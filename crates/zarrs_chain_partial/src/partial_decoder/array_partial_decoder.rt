@@ -8,13 +8,13 @@ ghost use Rattle.zarrs_array_bytes.specs.Elements.{select};
 ghost use Rattle.zarrs_array_bytes.specs.Validity.{Holds};
 ghost use Rattle.zarrs_codec.specs.StorageState.{after_reading};
 ghost use Rattle.zarrs_chain_partial.specs.CachePlace.{cache_place, codecs_read};
-ghost use Rattle.zarrs_codec_chain.specs.Chain.{chain_reads};
+ghost use Rattle.zarrs_chain_parts.specs.Chain.{chain_reads};
 ghost use Rattle.zarrs_codec_chain.specs.ChainView.{plain_chain};
 ghost use Rattle.zarrs_chain_partial.specs.ChunkRead.{IsReadPlan, planned_places, reads_places, stored_read, WhereSure};
 ghost use Rattle.zarrs_chain_partial.specs.ChunkSource.{IsSizeOf, source_made};
 ghost use Rattle.zarrs_chain_partial.specs.ElementCode.{Chunk-set};
 ghost use Rattle.zarrs_chain_partial.specs.ChunkReader.{IsFilledFrom, reader_form, reader_is_cached, reader_source};
-ghost use Rattle.zarrs_codec_chain.specs.Stands.{ChainStands};
+ghost use Rattle.zarrs_chain_parts.specs.Stands.{ChainStands};
 
 use crate::partial_decoder::chunk_reader::ChunkReader;
 use std::alloc::Global;

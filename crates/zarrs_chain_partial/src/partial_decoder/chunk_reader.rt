@@ -11,13 +11,13 @@ ghost use Rattle.zarrs_array_bytes.specs.Elements.{elements, select};
 ghost use Rattle.zarrs_array_bytes.specs.Held.{raw_of};
 ghost use Rattle.zarrs_array_bytes.specs.Validity.{Holds};
 ghost use Rattle.zarrs_codec.specs.StorageState.{after_reading, are_sure};
-ghost use Rattle.zarrs_codec_chain.specs.Chain.{chain_reads, codec_reads as codec_reads_of, taken_form as taken_form_of};
+ghost use Rattle.zarrs_chain_parts.specs.Chain.{chain_reads, codec_reads as codec_reads_of, taken_form as taken_form_of};
 ghost use Rattle.zarrs_codec_chain.specs.ChainView.{plain_chain};
 ghost use Rattle.zarrs_chain_partial.specs.ChunkRead.{codec_place_bytes, encoded_places, IsReadPlan, planned_places, reads_places, stored_read, WhereSure};
 ghost use Rattle.zarrs_chain_partial.specs.ChunkSource.{bytes_above, cache_fits, cache_stage as cache_stage_of, chunk_below, has_cache, held_by, is_kept, is_there, opened_chunk, source_made, source_places, source_read};
-ghost use Rattle.zarrs_codec_chain.specs.Laws.{IsChainOfMappings};
-ghost use Rattle.zarrs_codec_chain.specs.Representation.{codec_representation};
-ghost use Rattle.zarrs_codec_chain.specs.Stands.{ChainStands};
+ghost use Rattle.zarrs_chain_parts.specs.Laws.{IsChainOfMappings};
+ghost use Rattle.zarrs_chain_parts.specs.Representation.{codec_representation};
+ghost use Rattle.zarrs_chain_parts.specs.Stands.{ChainStands};
 
 use crate::partial_decoder::cache::{Cache, CacheStage};
 use crate::partial_decoder::codec_read::{planned_runs, read_runs, read_runs_of_bytes};

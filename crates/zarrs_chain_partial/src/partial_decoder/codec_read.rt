@@ -5,10 +5,10 @@ ghost use Rattle.zarrs_chunk.specs.ChunkShape.{product};
 ghost use Rattle.zarrs_chunk.specs.Runs.{joined_runs};
 ghost use Rattle.zarrs_array_bytes.specs.Validity.{Holds};
 ghost use Rattle.zarrs_codec.specs.StorageState.{after_reading, are_sure};
-ghost use Rattle.zarrs_codec_chain.specs.Chain.{codec_reads as codec_reads_of};
+ghost use Rattle.zarrs_chain_parts.specs.Chain.{codec_reads as codec_reads_of};
 ghost use Rattle.zarrs_codec_chain.specs.ChainView.{plain_codec};
 ghost use Rattle.zarrs_chain_partial.specs.ChunkRead.{codec_place_bytes, codec_read, IsCodecPlan};
-ghost use Rattle.zarrs_codec_chain.specs.Representation.{codec_representation};
+ghost use Rattle.zarrs_chain_parts.specs.Representation.{codec_representation};
 
 use crate::partial_decoder::slice_handle::SliceHandle;
 use std::alloc::Global;

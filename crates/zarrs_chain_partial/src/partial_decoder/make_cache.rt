@@ -5,9 +5,9 @@ ghost use Rattle.zarrs_chunk.specs.ChunkShape.{product};
 ghost use Rattle.zarrs_array_bytes.specs.Held.{raw_of};
 ghost use Rattle.zarrs_array_bytes.specs.Validity.{Holds};
 ghost use Rattle.zarrs_codec.specs.StorageState.{after_reading};
-ghost use Rattle.zarrs_codec_chain.specs.BytesStages.{outer_bytes, outer_representation as outer_representation_of};
-ghost use Rattle.zarrs_codec_chain.specs.Chain.{codec_reads as codec_reads_of};
-ghost use Rattle.zarrs_codec_chain.specs.Representation.{codec_representation};
+ghost use Rattle.zarrs_chain_parts.specs.BytesStages.{outer_bytes, outer_representation as outer_representation_of};
+ghost use Rattle.zarrs_chain_parts.specs.Chain.{codec_reads as codec_reads_of};
+ghost use Rattle.zarrs_chain_parts.specs.Representation.{codec_representation};
 ghost use Rattle.zarrs_codec_chain.specs.ChainView.{plain_chain};
 ghost use Rattle.zarrs_chain_partial.specs.ChunkSource.{bytes_left, cache_fits, cache_stage as cache_stage_of, has_cache, is_kept, kept_stage, opened_chunk, source_at, source_of, stage_by, stage_fits};
 

@@ -10,12 +10,12 @@ ghost use Rattle.zarrs_array_bytes.specs.Elements.{elements, select};
 ghost use Rattle.zarrs_array_bytes.specs.Validity.{Holds, validity};
 ghost use Rattle.zarrs_codec.specs.Refused.{outcome};
 ghost use Rattle.zarrs_codec.specs.StorageState.{after_reading};
-ghost use Rattle.zarrs_codec_chain.specs.Chain.{codec_reads};
+ghost use Rattle.zarrs_chain_parts.specs.Chain.{codec_reads};
 ghost use Rattle.zarrs_codec_chain.specs.ChainView.{plain_vlen};
 ghost use Rattle.zarrs_chain_partial.specs.ChunkRead.{codec_read};
-ghost use Rattle.zarrs_codec_chain.specs.Decode.{codec_chunk};
-ghost use Rattle.zarrs_codec_chain.specs.Representation.{codec_representation};
-ghost use Rattle.zarrs_codec_chain.specs.Stands.{CodecStands};
+ghost use Rattle.zarrs_chain_parts.specs.Decode.{codec_chunk};
+ghost use Rattle.zarrs_chain_parts.specs.Representation.{codec_representation};
+ghost use Rattle.zarrs_chain_parts.specs.Stands.{CodecStands};
 
 use crate::partial_decoder::fill_runs::fill_runs;
 use std::alloc::Global;

@@ -6,7 +6,7 @@ ghost use Rattle.zarrs_chunk.specs.Selection.{bounds_of};
 ghost use Rattle.zarrs_codec.specs.ArrayWriter.{IsRefusedWrite};
 ghost use Rattle.zarrs_codec.specs.ChunkEdits.{data_checked};
 ghost use Rattle.zarrs_codec.specs.StorageState.{after_writing, apart_from_value};
-ghost use Rattle.zarrs_codec_chain.specs.Chain.{chain_writes};
+ghost use Rattle.zarrs_chain_parts.specs.Chain.{chain_writes};
 ghost use Rattle.zarrs_chain_partial.specs.ChunkWrite.{stored_written};
 
 use crate::partial_decoder::chunk_reader::ChunkReader;

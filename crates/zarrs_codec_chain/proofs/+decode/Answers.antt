@@ -8,24 +8,25 @@ use Rattle.zarrs_array_to_array.specs.declared.array_to_array_codec.ArrayToArray
 use Rattle.zarrs_chunk.specs.Answer.{AnswersBy, memory, checked_u64}
 use Rattle.zarrs_chunk.specs.declared.codec_error.CodecError.{CodecError}
 use Rattle.zarrs_codec.specs.MappedChunk.{decoded_chunk}
-use Rattle.zarrs_codec_chain.proofs.ArraySteps.{ok}
-use Rattle.zarrs_codec_chain.proofs.ChainSteps.{chunk_back}
-use Rattle.zarrs_codec_chain.proofs.OptionalSteps.{mask_refused, part_refused, part_expanded}
-use Rattle.zarrs_codec_chain.proofs.PartSteps.{chunk_of_none}
+use Rattle.zarrs_chain_parts.proofs.ArraySteps.{ok}
+use Rattle.zarrs_chain_parts.proofs.ChainSteps.{chunk_back}
+use Rattle.zarrs_chain_parts.proofs.OptionalSteps.{mask_refused, part_refused, part_expanded}
+use Rattle.zarrs_chain_parts.proofs.PartSteps.{chunk_of_none}
 use Rattle.zarrs_codec_chain.proofs.VlenDecode.{content_answered, content_counted, offsets_answered, vlen_answered, index_refused_by, content_refused_by}
-use Rattle.zarrs_codec_chain.specs.ArrayStages.{arrays_map}
-use Rattle.zarrs_codec_chain.specs.BytesStages.{outer_bytes}
-use Rattle.zarrs_codec_chain.specs.Chain.{row_sizes}
-use Rattle.zarrs_codec_chain.specs.ChainView.{plain_chain, is_wide, is_at_end, plain_optional}
-use Rattle.zarrs_codec_chain.specs.Decode.{chain_chunk, part_chunk, vlen_parts}
-use Rattle.zarrs_codec_chain.specs.Representation.{blank_fill, flag_type}
+use Rattle.zarrs_chain_parts.specs.ArrayStages.{arrays_map}
+use Rattle.zarrs_chain_parts.specs.BytesStages.{outer_bytes}
+use Rattle.zarrs_chain_parts.specs.Chain.{row_sizes}
+use Rattle.zarrs_codec_chain.specs.ChainView.{plain_chain, plain_optional}
+use Rattle.zarrs_chain_parts.specs.VlenSettings.{is_wide, is_at_end}
+use Rattle.zarrs_chain_parts.specs.Decode.{chain_chunk, part_chunk, vlen_parts}
+use Rattle.zarrs_chain_parts.specs.Representation.{blank_fill, flag_type}
 use Rattle.zarrs_chunk.specs.ChunkShape.{product}
 use Rattle.zarrs_array_bytes.specs.Offsets.{last_of}
-use Rattle.zarrs_codec_chain.specs.VlenSteps.{data_part, index_offsets, content_bytes}
+use Rattle.zarrs_chain_parts.specs.VlenSteps.{data_part, index_offsets, content_bytes}
 use Rattle.zarrs_codec_chain.specs.declared.vlen_codec.VlenCodec.{out-VlenCodec}
 use Rattle.std.specs.List.{All}
-use Rattle.zarrs_codec_chain.specs.Encode.{byte_elements}
-use Rattle.zarrs_codec_chain.specs.OptionalParts.{optional_inner}
+use Rattle.zarrs_chain_parts.specs.Encode.{byte_elements}
+use Rattle.zarrs_chain_parts.specs.OptionalParts.{optional_inner}
 use Rattle.zarrs_codec_chain.specs.declared.optional_codec.OptionalCodec.{out-OptionalCodec}
 use Rattle.zarrs_codec_chain.proofs.OptionalRoom.{mask_long}
 use Rattle.zarrs_codec_chain.proofs.+decode.Goals as goal

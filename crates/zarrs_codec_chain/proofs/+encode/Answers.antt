@@ -8,21 +8,22 @@ use Rattle.zarrs_array_to_array.specs.declared.array_to_array_codec.ArrayToArray
 use Rattle.zarrs_chunk.specs.Answer.{Answers, memory, AnswersBy}
 use Rattle.zarrs_chunk.specs.declared.codec_error.CodecError.{CodecError}
 use Rattle.zarrs_codec.specs.MappedChunk.{encoded_chunk}
-use Rattle.zarrs_codec_chain.proofs.ChainSteps.{value_last, value_refused}
+use Rattle.zarrs_chain_parts.proofs.ChainSteps.{value_last, value_refused}
 use Rattle.zarrs_codec_chain.proofs.OptionalAt.{inner_refused_at, mask_refused_at, part_refused_at}
-use Rattle.zarrs_codec_chain.proofs.OptionalSteps.{mask_answers}
-use Rattle.zarrs_codec_chain.specs.ArrayStages.{arrays_map}
-use Rattle.zarrs_codec_chain.specs.BytesStages.{outer_value, in_memory}
-use Rattle.zarrs_codec_chain.specs.Chain.{held_value, held_part}
-use Rattle.zarrs_codec_chain.specs.ChainView.{plain_chain, is_wide, plain_vlen, plain_vlen_at, is_at_end}
-use Rattle.zarrs_codec_chain.specs.Encode.{byte_elements, chain_value, vlen_layout}
-use Rattle.zarrs_codec_chain.specs.Representation.{flag_type, blank_fill, byte_type, vlen_representation}
+use Rattle.zarrs_chain_parts.proofs.OptionalSteps.{mask_answers}
+use Rattle.zarrs_chain_parts.specs.ArrayStages.{arrays_map}
+use Rattle.zarrs_chain_parts.specs.BytesStages.{outer_value, in_memory}
+use Rattle.zarrs_chain_parts.specs.Chain.{held_value, held_part}
+use Rattle.zarrs_codec_chain.specs.ChainView.{plain_chain, plain_vlen, plain_vlen_at}
+use Rattle.zarrs_chain_parts.specs.VlenSettings.{is_wide, is_at_end}
+use Rattle.zarrs_chain_parts.specs.Encode.{byte_elements, chain_value, vlen_layout}
+use Rattle.zarrs_chain_parts.specs.Representation.{flag_type, blank_fill, byte_type, vlen_representation}
 use Rattle.zarrs_codec_chain.specs.declared.optional_codec.OptionalCodec.{out-OptionalCodec}
 use Rattle.zarrs_codec_chain.proofs.VlenEncode.{IsIndexRow, index_refused_at, index_not_kept_at, takes_at, content_at, IsVariableHeld, value_index_refused, value_content_refused, value_joined}
 use Rattle.zarrs_chunk.specs.ChunkShape.{product}
 use Rattle.zarrs_array_bytes.specs.Offsets.{is_offsets, last_of}
 use Rattle.zarrs_array_bytes.specs.Parts.{variable_part}
-use Rattle.zarrs_codec_chain.specs.VlenSteps.{index_part, content_part}
+use Rattle.zarrs_chain_parts.specs.VlenSteps.{index_part, content_part}
 use Rattle.zarrs_codec_chain.specs.declared.vlen_codec.VlenCodec.{out-VlenCodec}
 use Rattle.zarrs_codec_chain.proofs.+encode.Goals as goal
 

@@ -1,7 +1,7 @@
 use Rattle.std.proofs.Common.{map}
 use Rattle.zarrs_array_to_array.specs.Mapping.{mapping_of}
 use Rattle.zarrs_codec_chain.specs.ChainView.{plain_codec}
-use Rattle.zarrs_codec_chain.proofs.ChainSteps.{form_counted}
+use Rattle.zarrs_chain_parts.proofs.ChainSteps.{form_counted}
 use Rattle.zarrs_codec_chain.proofs.+representation.Goals as goal
 
 pub representation::taken_form-returns-clause-counted : goal.representation::taken_form-returns-clause-counted

@@ -4,7 +4,7 @@ ghost use Rattle.zarrs_chunk.specs.Answer.{Answers, seen};
 ghost use Rattle.zarrs_metadata.specs.PluginCreateError.{plugin_memory};
 ghost use Rattle.zarrs_codec_chain.specs.ChainParts.{made_seen, parts_seen};
 ghost use Rattle.zarrs_codec_chain.specs.ChainView.{plain_chain};
-ghost use Rattle.zarrs_codec_chain.specs.MadeChain.{nothing_gathered, with_codec, finished};
+ghost use Rattle.zarrs_chain_parts.specs.MadeChain.{nothing_gathered, with_codec, finished};
 
 use crate::array_to_bytes_codec::ArrayToBytesCodec;
 use crate::codec_chain::CodecChain;

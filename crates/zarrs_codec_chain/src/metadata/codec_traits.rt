@@ -4,7 +4,7 @@ ghost use Rattle.zarrs_chunk.specs.Answer.{Answers};
 ghost use Rattle.zarrs_metadata.specs.MetadataV3.{metadata_seen};
 ghost use Rattle.zarrs_metadata.specs.PluginCreateError.{plugin_memory};
 ghost use Rattle.zarrs_codec_chain.specs.ChainView.{plain_chain};
-ghost use Rattle.zarrs_codec_chain.specs.WrittenMetadata.{chain_metadatas};
+ghost use Rattle.zarrs_chain_parts.specs.WrittenMetadata.{chain_metadatas};
 
 use crate::array_to_bytes_codec::{ArrayToBytesCodec, codec_reads, codec_writes};
 use crate::codec_chain::CodecChain;
@@ -33,8 +33,8 @@ impl<B: BytesToBytesCodecTraits> CodecChain<B> {
 impl<B: BytesToBytesCodecTraits> CodecTraits for VlenCodec<B> {
     ghost use Rattle.std.specs.Prelude.{Some, false};
     ghost use Rattle.zarrs_codec_chain.specs.ChainView.{plain_vlen};
-    ghost use Rattle.zarrs_codec_chain.specs.CodecNames.{vlen_name};
-    ghost use Rattle.zarrs_codec_chain.specs.WrittenMetadata.{codec_configuration};
+    ghost use Rattle.zarrs_chain_parts.specs.CodecNames.{vlen_name};
+    ghost use Rattle.zarrs_chain_parts.specs.WrittenMetadata.{codec_configuration};
 
     ghost reads_in_part = { λ _. record { partial_read = false; partial_decode = false } };
 
@@ -73,8 +73,8 @@ impl<B: BytesToBytesCodecTraits> ArrayCodecTraits for VlenCodec<B> {}
 impl<B: BytesToBytesCodecTraits> CodecTraits for OptionalCodec<B> {
     ghost use Rattle.std.specs.Prelude.{Some, false};
     ghost use Rattle.zarrs_codec_chain.specs.ChainView.{plain_optional};
-    ghost use Rattle.zarrs_codec_chain.specs.CodecNames.{optional_name};
-    ghost use Rattle.zarrs_codec_chain.specs.WrittenMetadata.{codec_configuration};
+    ghost use Rattle.zarrs_chain_parts.specs.CodecNames.{optional_name};
+    ghost use Rattle.zarrs_chain_parts.specs.WrittenMetadata.{codec_configuration};
 
     ghost reads_in_part = { λ _. record { partial_read = false; partial_decode = false } };
 
@@ -112,9 +112,9 @@ impl<B: BytesToBytesCodecTraits> ArrayCodecTraits for OptionalCodec<B> {}
 
 impl<B: BytesToBytesCodecTraits> CodecTraits for ArrayToBytesCodec<B> {
     ghost use Rattle.std.specs.Prelude.{Some};
-    ghost use Rattle.zarrs_codec_chain.specs.Chain.{codec_reads, codec_writes};
+    ghost use Rattle.zarrs_chain_parts.specs.Chain.{codec_reads, codec_writes};
     ghost use Rattle.zarrs_codec_chain.specs.ChainView.{plain_codec};
-    ghost use Rattle.zarrs_codec_chain.specs.WrittenMetadata.{codec_name, codec_configuration};
+    ghost use Rattle.zarrs_chain_parts.specs.WrittenMetadata.{codec_name, codec_configuration};
 
     ghost reads_in_part = { λ codec. codec_reads (plain_codec codec) };
 

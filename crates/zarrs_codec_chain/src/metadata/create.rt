@@ -6,7 +6,7 @@ ghost use Rattle.zarrs_metadata.specs.OptionalConfiguration.{optional_seen};
 ghost use Rattle.zarrs_metadata.specs.PluginCreateError.{plugin_memory};
 ghost use Rattle.zarrs_metadata.specs.VlenConfiguration.{vlen_seen};
 ghost use Rattle.zarrs_codec_chain.specs.ChainView.{plain_chain, plain_vlen, plain_optional};
-ghost use Rattle.zarrs_codec_chain.specs.MadeChain.{chain_made, vlen_of_parts, vlen_made_by, optional_of_chains, optional_made_by};
+ghost use Rattle.zarrs_chain_parts.specs.MadeChain.{chain_made, vlen_of_parts, vlen_made_by, optional_of_chains, optional_made_by};
 
 use crate::codec_chain::CodecChain;
 use crate::metadata::make_chain::{

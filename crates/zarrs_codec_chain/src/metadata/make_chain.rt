@@ -8,15 +8,16 @@ ghost use Rattle.zarrs_metadata.specs.OptionalConfiguration.{optional_seen};
 ghost use Rattle.zarrs_metadata.specs.PluginCreateError.{plugin_memory};
 ghost use Rattle.zarrs_metadata.specs.VlenConfiguration.{vlen_seen};
 ghost use Rattle.zarrs_codec_chain.specs.ChainParts.{made_seen, parts_seen};
-ghost use Rattle.zarrs_codec_chain.specs.ChainView.{plain_chain, plain_vlen, plain_optional, is_wide, is_at_end};
-ghost use Rattle.zarrs_codec_chain.specs.MadeChain.{asked_maker, chain_made, codec_made, joined, vlen_of_parts, vlen_made_by, optional_of_chains, optional_made_by};
-ghost use Rattle.zarrs_codec_chain.specs.PlainChain.{vlen_codec_of, optional_codec_of};
+ghost use Rattle.zarrs_codec_chain.specs.ChainView.{plain_chain, plain_vlen, plain_optional};
+ghost use Rattle.zarrs_chain_parts.specs.VlenSettings.{is_wide, is_at_end};
+ghost use Rattle.zarrs_chain_parts.specs.MadeChain.{asked_maker, chain_made, codec_made, joined, vlen_of_parts, vlen_made_by, optional_of_chains, optional_made_by};
+ghost use Rattle.zarrs_chain_parts.specs.PlainChain.{vlen_codec_of, optional_codec_of};
 
 use crate::array_to_bytes_codec::ArrayToBytesCodec;
 use crate::codec_chain::CodecChain;
 use crate::metadata::chain_parts::{ChainParts, MadeCodec};
-use crate::metadata::codec_name::codec_named;
-use crate::metadata::configurations::{
+use zarrs_chain_parts::codec_name::codec_named;
+use zarrs_chain_parts::configurations::{
     data_codecs, index_codecs, index_data_type, index_location, mask_codecs,
     optional_configuration, present_codecs, vlen_configuration,
 };

@@ -7,7 +7,7 @@ ghost use Rattle.zarrs_metadata.specs.PluginCreateError.{plugin_memory};
 ghost use Rattle.zarrs_array_to_array.specs.Mapping.{mapping_of};
 ghost use Rattle.zarrs_packbits.specs.SettingsMetadata.{write_settings};
 ghost use Rattle.zarrs_codec_chain.specs.ChainView.{plain_chain, plain_codec};
-ghost use Rattle.zarrs_codec_chain.specs.WrittenMetadata.{mapping_metadata, codec_name as codec_name_of, codec_configuration as codec_configuration_of, chain_metadatas as chain_metadatas_of};
+ghost use Rattle.zarrs_chain_parts.specs.WrittenMetadata.{mapping_metadata, codec_name as codec_name_of, codec_configuration as codec_configuration_of, chain_metadatas as chain_metadatas_of};
 
 use crate::array_to_bytes_codec::ArrayToBytesCodec;
 use crate::codec_chain::CodecChain;

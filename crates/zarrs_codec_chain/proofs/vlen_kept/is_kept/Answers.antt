@@ -1,5 +1,5 @@
 use Rattle.std.proofs.Common.{length}
-use Rattle.zarrs_codec_chain.specs.ChainView.{is_wide}
+use Rattle.zarrs_chain_parts.specs.VlenSettings.{is_wide}
 use Rattle.zarrs_codec_chain.proofs.VlenKept.{packed_takes}
 use Rattle.zarrs_codec_chain.proofs.vlen_kept.is_kept.Goals as goal
 

@@ -3,7 +3,7 @@ use Rattle.std.proofs.lemmas.Result.{err_from_is_err_and}
 use Rattle.zarrs_array_bytes.specs.Held.{Held, flen, raw_of}
 use Rattle.zarrs_array_bytes.specs.Validity.{Holds}
 use Rattle.zarrs_packbits.specs.NormalForm.{normal_chunk}
-use Rattle.zarrs_codec_chain.specs.Encode.{is_same_bytes}
+use Rattle.zarrs_chain_parts.specs.Encode.{is_same_bytes}
 use Rattle.zarrs_codec_chain.proofs.VlenKept.{kept_of, kept_answer, no_error}
 use Rattle.zarrs_codec_chain.proofs.vlen_kept.keeps_items.Goals as goal
 

@@ -1,6 +1,6 @@
 use Rattle.std.proofs.Common.{◌^◌, arith, ap, Ok, ◌∙◌}
-use Rattle.zarrs_codec_chain.specs.ChainView.{is_wide}
-use Rattle.zarrs_codec_chain.proofs.ArraySteps.{ok}
+use Rattle.zarrs_chain_parts.specs.VlenSettings.{is_wide}
+use Rattle.zarrs_chain_parts.proofs.ArraySteps.{ok}
 use Rattle.zarrs_codec_chain.proofs.VlenKept.{packed_answer}
 use Rattle.zarrs_codec_chain.proofs.vlen_kept.packs_offsets.Goals as goal
 

@@ -1,6 +1,6 @@
 use Rattle.std.proofs.Common.{◌≡◌, length, map, true, ap, sym, subst, ◌∙◌}
 use Rattle.std.proofs.lemmas.List.{length-map}
-use Rattle.zarrs_codec_chain.specs.Chain.{codec_reads}
+use Rattle.zarrs_chain_parts.specs.Chain.{codec_reads}
 use Rattle.zarrs_codec_chain.specs.ChainView.{plain_chain}
 use Rattle.zarrs_chain_partial.specs.ChunkSource.{bytes_left, stage_by, stage_fits}
 use Rattle.zarrs_chain_partial.proofs.CachePlaces.{stage_is, stage_by_fits}

@@ -1,7 +1,7 @@
 use Rattle.std.proofs.Common.{◌≡◌, ◌<◌, ◌^◌, true, subst}
 use Rattle.zarrs_chunk.specs.ChunkShape.{product}
 use Rattle.zarrs_data_type.specs.FillValue.{fill_fits}
-use Rattle.zarrs_codec_chain.proofs.ArraySteps.{ok_is}
+use Rattle.zarrs_chain_parts.proofs.ArraySteps.{ok_is}
 use Rattle.zarrs_chain_partial.proofs.PartialReads.{is_ok_of}
 use Rattle.zarrs_chain_partial.proofs.VlenReads.{vlen_taken}
 use Rattle.zarrs_chain_partial.proofs.partial_decoder.vlen_partial_decoder.parts_of_decoder.Goals as goal

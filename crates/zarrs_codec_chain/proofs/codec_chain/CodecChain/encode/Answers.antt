@@ -2,7 +2,7 @@ use Rattle.std.proofs.Common.{◌<◌, subst}
 use Rattle.std.specs.List.{All}
 use Rattle.zarrs_array_bytes.specs.Held.{raw_of}
 use Rattle.zarrs_codec_chain.specs.ChainView.{plain_chain}
-use Rattle.zarrs_codec_chain.proofs.ChainRelations.{value_found, value_only}
+use Rattle.zarrs_chain_parts.proofs.ChainRelations.{value_found, value_only}
 use Rattle.zarrs_codec_chain.proofs.codec_chain.CodecChain.encode.Goals as goal
 
 pub returns-clause-found : goal.returns-clause-found

@@ -3,7 +3,7 @@ use Rattle.zarrs_metadata.specs.MetadataV3.{metadata_seen}
 use Rattle.zarrs_metadata.specs.OptionalConfiguration.{optional_seen}
 use Rattle.zarrs_metadata.specs.VlenConfiguration.{vlen_seen}
 use Rattle.zarrs_codec_chain.specs.ChainParts.{parts_seen}
-use Rattle.zarrs_codec_chain.specs.MadeChain.{depth_of, depth_all}
+use Rattle.zarrs_chain_parts.specs.MadeChain.{depth_of, depth_all}
 use Rattle.zarrs_codec_chain.proofs.MakeSteps.{GoesOn}
 use Rattle.zarrs_codec_chain.proofs.metadata.make_chain.+make.Given as goal
 

@@ -1,6 +1,6 @@
 use Rattle.std.proofs.Common.{length, sym, subst}
 use Rattle.zarrs_chunk.specs.ChunkShape.{product}
-use Rattle.zarrs_codec_chain.specs.Chain.{codec_reads}
+use Rattle.zarrs_chain_parts.specs.Chain.{codec_reads}
 use Rattle.zarrs_codec_chain.specs.ChainView.{plain_chain}
 use Rattle.zarrs_chain_partial.specs.ChunkReader.{reader_source}
 use Rattle.zarrs_chain_partial.specs.ChunkSource.{IsSizeOf}

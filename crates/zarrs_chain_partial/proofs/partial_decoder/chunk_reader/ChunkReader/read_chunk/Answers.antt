@@ -5,7 +5,7 @@ use Rattle.zarrs_array_bytes.specs.Validity.{Holds}
 use Rattle.zarrs_chain_partial.specs.ChunkRead.{stored_read}
 use Rattle.zarrs_chain_partial.specs.ChunkReader.{reader_form, reader_source}
 use Rattle.zarrs_chain_partial.specs.ChunkSource.{kept_stage}
-use Rattle.zarrs_codec_chain.proofs.NestedDecode.{chain_chunk_only}
+use Rattle.zarrs_chain_parts.proofs.NestedDecode.{chain_chunk_only}
 use Rattle.zarrs_chain_partial.proofs.PartialReads.{source_is_stored, stored_selects, unstored_read}
 use Rattle.zarrs_chain_partial.proofs.partial_decoder.chunk_reader.ChunkReader.read_chunk.Goals as goal
 

@@ -1,9 +1,0 @@
-use Rattle.zarrs_metadata.specs.MetadataV3.{metadata_seen}
-use Rattle.zarrs_codec_chain.proofs.MetadataDepth.{optional_mask_within, optional_data_within}
-use Rattle.zarrs_codec_chain.proofs.metadata.configurations.optional_configuration.Goals as goal
-
-pub returns-clause-mask : goal.returns-clause-mask
-returns-clause-mask c = optional_mask_within c.read_optional_configuration.result (metadata_seen c.args.metadata.now) c.read_optional_configuration.ensures.answer
-
-pub returns-clause-content : goal.returns-clause-content
-returns-clause-content c = optional_data_within c.read_optional_configuration.result (metadata_seen c.args.metadata.now) c.read_optional_configuration.ensures.answer
