@@ -143,10 +143,7 @@ pub fn offset_type(data_type: VlenIndexDataType) -> DataType
 
 /// The fill value of such elements: zero.
 #[tactic(auto, unfolding(crate::specs::Encode::offset_bytes))]
-pub fn offset_fill(
-    alloc: Global,
-    data_type: VlenIndexDataType,
-) -> Result<FillValue, CodecError>
+pub fn offset_fill(alloc: Global, data_type: VlenIndexDataType) -> Result<FillValue, CodecError>
     ensures answer { Answers memory (λ fill. fill) result (Ok (offset_bytes (is_wide data_type) 0)) }
     ensures no_fault { is_fault result ≡ false }
 {

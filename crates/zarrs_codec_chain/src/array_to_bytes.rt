@@ -2,13 +2,13 @@
 use crate::array_to_bytes_codec::{
     ArrayToBytesCodec, codec_decode, codec_encode, codec_representation,
 };
-use zarrs_chain_parts::bytes_stages::decode_bytes;
 use crate::codec_chain::CodecChain;
 use crate::optional_codec::OptionalCodec;
 use crate::representation::taken_form;
 use crate::vlen_codec::VlenCodec;
 use std::alloc::Global;
 use zarrs_array_bytes::{ArrayBytes, ArrayBytesRaw};
+use zarrs_chain_parts::bytes_stages::decode_bytes;
 use zarrs_chunk::{ChunkShape, CodecError};
 use zarrs_codec::{ArrayToBytesCodecTraits, BytesRepresentation, BytesToBytesCodecTraits};
 use zarrs_data_type::{DataType, FillValue};

@@ -7,14 +7,14 @@ ghost use Rattle.zarrs_codec_chain.specs.ChainView.{plain_chain};
 ghost use Rattle.zarrs_chain_parts.specs.Decode.{chain_chunk, part_chunk};
 ghost use Rattle.zarrs_data_type.specs.FillValue.{fill_fits};
 
-use zarrs_chain_parts::array_stages::decode_arrays;
 use crate::array_to_bytes_codec::codec_decode;
-use zarrs_chain_parts::bytes_stages::decode_bytes;
 use crate::codec_chain::CodecChain;
 use crate::encode::row_of;
 use crate::representation::taken_form;
 use std::alloc::Global;
 use zarrs_array_bytes::{ArrayBytes, ArrayBytesRaw};
+use zarrs_chain_parts::array_stages::decode_arrays;
+use zarrs_chain_parts::bytes_stages::decode_bytes;
 use zarrs_chunk::{ChunkShape, CodecError};
 use zarrs_codec::BytesToBytesCodecTraits;
 use zarrs_data_type::{DataType, FillValue};

@@ -7,14 +7,14 @@ ghost use Rattle.zarrs_array_bytes.specs.Validity.{validity};
 ghost use Rattle.zarrs_chain_parts.specs.Chain.{held_value, held_part, row_sizes};
 ghost use Rattle.zarrs_codec_chain.specs.ChainView.{plain_chain};
 
-use zarrs_chain_parts::array_stages::encode_arrays;
 use crate::array_to_bytes_codec::codec_encode;
-use zarrs_chain_parts::bytes_stages::encode_bytes;
 use crate::codec_chain::CodecChain;
 use crate::representation::taken_form;
 use std::alloc::Global;
 use std::borrow::CowSlice;
 use zarrs_array_bytes::{ArrayBytes, ArrayBytesRaw};
+use zarrs_chain_parts::array_stages::encode_arrays;
+use zarrs_chain_parts::bytes_stages::encode_bytes;
 use zarrs_chunk::{ChunkShape, CodecError};
 use zarrs_codec::BytesToBytesCodecTraits;
 use zarrs_data_type::{DataType, FillValue};

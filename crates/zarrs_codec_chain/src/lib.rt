@@ -21,3 +21,4 @@ pub use array_to_bytes_codec::ArrayToBytesCodec;
 pub use codec_chain::CodecChain;
 pub use optional_codec::OptionalCodec;
 pub use vlen_codec::VlenCodec;
+pub use zarrs_chain_parts::laws;

@@ -23,14 +23,14 @@ ghost use Rattle.zarrs_chain_parts.specs.WrittenMetadata.{codec_configuration};
 use crate::codec_chain::{CodecChain, chain_is_sound};
 use crate::decode::{chain_decode, part_decode};
 use crate::encode::{chain_encode, check_elements, part_encode};
-use zarrs_chain_parts::configurations::optional_members;
 use crate::metadata::write_chain::chain_written;
-use zarrs_chain_parts::optional_parts::{
-    blank_fill, both_representations, inner_type, join_parts, lent, masked_parts, split_value,
-};
 use crate::representation::chain_representation;
 use std::alloc::Global;
 use zarrs_array_bytes::{ArrayBytes, ArrayBytesRaw, count_present};
+use zarrs_chain_parts::configurations::optional_members;
+use zarrs_chain_parts::optional_parts::{
+    blank_fill, both_representations, inner_type, join_parts, lent, masked_parts, split_value,
+};
 use zarrs_chunk::{ChunkShape, CodecError};
 use zarrs_codec::{BytesRepresentation, BytesToBytesCodecTraits};
 use zarrs_data_type::{DataType, FillValue};

@@ -7,11 +7,11 @@ ghost use Rattle.zarrs_chain_parts.specs.Chain.{taken_form as taken_form_of};
 ghost use Rattle.zarrs_codec_chain.specs.ChainView.{plain_chain};
 ghost use Rattle.zarrs_chain_parts.specs.Representation.{chain_representation as chain_representation_of};
 
-use zarrs_chain_parts::array_stages::shape_through;
 use crate::array_to_bytes_codec::codec_representation;
-use zarrs_chain_parts::bytes_stages::outer_representation;
 use crate::codec_chain::CodecChain;
 use std::alloc::Global;
+use zarrs_chain_parts::array_stages::shape_through;
+use zarrs_chain_parts::bytes_stages::outer_representation;
 use zarrs_chunk::{ChunkShape, CodecError};
 use zarrs_codec::{BytesRepresentation, BytesToBytesCodecTraits};
 use zarrs_data_type::{DataType, FillValue};

@@ -9,12 +9,12 @@ ghost use Rattle.zarrs_chain_parts.specs.Chain.{taken_form as taken_form_of};
 ghost use Rattle.zarrs_codec_chain.specs.ChainView.{plain_chain};
 
 pub use crate::array_to_bytes_codec::codec_decode;
-pub use zarrs_chain_parts::bytes_stages::{decode_bytes, outer_representation};
 use crate::codec_chain::CodecChain;
 pub use crate::codec_chain::chain_is_sound;
 use crate::representation::taken_form as taken_by;
 pub use crate::vlen_codec::{vlen_decode, vlen_is_sound};
 use std::alloc::Global;
+pub use zarrs_chain_parts::bytes_stages::{decode_bytes, outer_representation};
 use zarrs_chunk::{ChunkShape, CodecError};
 use zarrs_codec::{BytesRepresentation, BytesToBytesCodecTraits};
 use zarrs_data_type::{DataType, FillValue};

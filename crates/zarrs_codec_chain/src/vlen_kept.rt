@@ -21,10 +21,10 @@ ghost use Rattle.zarrs_packbits.specs.PackBitsSettings.{packed_layout};
 
 use crate::array_to_bytes_codec::ArrayToBytesCodec;
 use crate::encode::row_of;
-use zarrs_chain_parts::vlen_offsets::{offset_fill, offset_items, offset_type};
 use std::alloc::Global;
 use std::borrow::CowSlice;
 use zarrs_array_bytes::ArrayBytes;
+use zarrs_chain_parts::vlen_offsets::{offset_fill, offset_items, offset_type};
 use zarrs_chunk::{ChunkShape, CodecError};
 use zarrs_data_type::{DataType, FillValue};
 use zarrs_metadata::VlenIndexDataType;

@@ -59,7 +59,7 @@ vlen_codec::content_decode-returns-clause-long g t c =
 
 pub vlen_codec::index_decode-returns-clause-answer : goal.vlen_codec::index_decode-returns-clause-answer
 vlen_codec::index_decode-returns-clause-answer g t c =
-    offsets_answered c.new.result g.B.BytesToBytesCodecTraits.functions (plain_chain c.args.chain.now) (is_wide c.args.data_type) c.args.count c.args.part.now c.in_ok-rows.rows c.offset_type.result c.in_ok-fill_value.fill_value c.in_ok-as_fixed.field-0.now c.in_ok-numbers.numbers.items c.requires.some c.offset_type.ensures c.in_ok-fill_value.ensures.answer c.in_ok-rows.ensures.exact c.in_ok-as_fixed.ensures.answer c.in_ok-numbers.ensures.exact c.new.ensures.answer
+    offsets_answered c.new.result g.B.BytesToBytesCodecTraits.functions (plain_chain c.args.chain.now) (is_wide c.args.data_type) c.args.count c.args.part.now c.in_ok-rows.rows c.offset_type.result c.in_ok-fill_value.fill_value c.in_ok-as_fixed.field-0.now c.in_ok-numbers.numbers.items c.requires.some c.offset_type.ensures.value c.in_ok-fill_value.ensures.answer c.in_ok-rows.ensures.exact c.in_ok-as_fixed.ensures.answer c.in_ok-numbers.ensures.exact c.new.ensures.answer
 
 pub optional_codec::present_decode-returns-in_err-count-clause-answer : goal.optional_codec::present_decode-returns-in_err-count-clause-answer
 optional_codec::present_decode-returns-in_err-count-clause-answer g t c =

@@ -85,18 +85,18 @@ optional_codec::content_encode-returns-in_err-data_part-clause-answer g t c =
 
 pub vlen_codec::index_encode-returns-in_err-part-clause-answer : goal.vlen_codec::index_encode-returns-in_err-part-clause-answer
 vlen_codec::index_encode-returns-in_err-part-clause-answer g t c =
-    let row : IsIndexRow (is_wide c.args.data_type) c.args.offsets.now c.in_ok-rows.rows c.offset_type.result c.in_ok-fill_value.fill_value = record { rising = c.requires.rising; rows = c.in_ok-rows.ensures.exact; type_is = c.offset_type.ensures; fill_is = c.in_ok-fill_value.ensures.answer } in
+    let row : IsIndexRow (is_wide c.args.data_type) c.args.offsets.now c.in_ok-rows.rows c.offset_type.result c.in_ok-fill_value.fill_value = record { rising = c.requires.rising; rows = c.in_ok-rows.ensures.exact; type_is = c.offset_type.ensures.value; fill_is = c.in_ok-fill_value.ensures.answer } in
     let p = err_from_is_err_and c.from_residual-in_err-part.result c.from_residual-in_err-part.ensures.1 in
     rw (p.1, p.2) (λ ne. index_refused_at g.B.BytesToBytesCodecTraits.functions (plain_chain c.args.chain.now) (is_wide c.args.data_type) c.args.offsets.now c.in_ok-rows.rows c.offset_type.result c.in_ok-fill_value.fill_value c.in_err-part.field-0.0 row (c.in_err-part.ensures.exact ne))
 
 pub vlen_codec::index_encode-check_kept-requires-clause-taken : goal.vlen_codec::index_encode-check_kept-requires-clause-taken
 vlen_codec::index_encode-check_kept-requires-clause-taken g t c =
-    let row : IsIndexRow (is_wide c.args.data_type) c.args.offsets.now c.in_ok-rows.rows c.offset_type.result c.in_ok-fill_value.fill_value = record { rising = c.requires.rising; rows = c.in_ok-rows.ensures.exact; type_is = c.offset_type.ensures; fill_is = c.in_ok-fill_value.ensures.answer } in
+    let row : IsIndexRow (is_wide c.args.data_type) c.args.offsets.now c.in_ok-rows.rows c.offset_type.result c.in_ok-fill_value.fill_value = record { rising = c.requires.rising; rows = c.in_ok-rows.ensures.exact; type_is = c.offset_type.ensures.value; fill_is = c.in_ok-fill_value.ensures.answer } in
     takes_at g.B.BytesToBytesCodecTraits.functions (plain_chain c.args.chain.now) (is_wide c.args.data_type) c.args.offsets.now c.in_ok-rows.rows c.offset_type.result c.in_ok-fill_value.fill_value (raw_of c.in_ok-part.part).items c.chain_is_sound.ensures row c.in_ok-part.ensures.exact
 
 pub vlen_codec::index_encode-returns-in_err-check_kept-clause-answer : goal.vlen_codec::index_encode-returns-in_err-check_kept-clause-answer
 vlen_codec::index_encode-returns-in_err-check_kept-clause-answer g t c =
-    let row : IsIndexRow (is_wide c.args.data_type) c.args.offsets.now c.in_ok-rows.rows c.offset_type.result c.in_ok-fill_value.fill_value = record { rising = c.requires.rising; rows = c.in_ok-rows.ensures.exact; type_is = c.offset_type.ensures; fill_is = c.in_ok-fill_value.ensures.answer } in
+    let row : IsIndexRow (is_wide c.args.data_type) c.args.offsets.now c.in_ok-rows.rows c.offset_type.result c.in_ok-fill_value.fill_value = record { rising = c.requires.rising; rows = c.in_ok-rows.ensures.exact; type_is = c.offset_type.ensures.value; fill_is = c.in_ok-fill_value.ensures.answer } in
     let p = err_from_is_err_and c.from_residual-in_err-check_kept.result c.from_residual-in_err-check_kept.ensures.1 in
     rw (p.1, p.2) (λ ne. index_not_kept_at g.B.BytesToBytesCodecTraits.functions (plain_chain c.args.chain.now) (is_wide c.args.data_type) c.args.offsets.now c.in_ok-rows.rows c.offset_type.result c.in_ok-fill_value.fill_value (raw_of c.in_ok-part.part).items c.in_err-check_kept.field-0.0 row c.in_ok-part.ensures.exact (c.in_err-check_kept.ensures.answer ne))
 

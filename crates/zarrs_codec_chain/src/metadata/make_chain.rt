@@ -16,16 +16,16 @@ ghost use Rattle.zarrs_chain_parts.specs.PlainChain.{vlen_codec_of, optional_cod
 use crate::array_to_bytes_codec::ArrayToBytesCodec;
 use crate::codec_chain::CodecChain;
 use crate::metadata::chain_parts::{ChainParts, MadeCodec};
-use zarrs_chain_parts::codec_name::codec_named;
-use zarrs_chain_parts::configurations::{
-    data_codecs, index_codecs, index_data_type, index_location, mask_codecs,
-    optional_configuration, present_codecs, vlen_configuration,
-};
 use crate::optional_codec::OptionalCodec;
 use crate::vlen_codec::VlenCodec;
 use std::alloc::Global;
 use zarrs_array_to_array::ArrayToArrayCodec;
 use zarrs_bytes::BytesCodec;
+use zarrs_chain_parts::codec_name::codec_named;
+use zarrs_chain_parts::configurations::{
+    data_codecs, index_codecs, index_data_type, index_location, mask_codecs,
+    optional_configuration, present_codecs, vlen_configuration,
+};
 use zarrs_chunk::CodecName;
 use zarrs_codec::BytesCodecMaker;
 use zarrs_metadata::{

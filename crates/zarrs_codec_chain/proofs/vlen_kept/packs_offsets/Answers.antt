@@ -7,4 +7,4 @@ use Rattle.zarrs_codec_chain.proofs.vlen_kept.packs_offsets.Goals as goal
 pub returns-in-Some-clause-answer : goal.returns-in-Some-clause-answer
 returns-in-Some-clause-answer c =
     let answer = rw c.deref.ensures.value at c.keeps_items-in-Some.ensures.answer in
-    packed_answer c.args.codec.now (is_wide c.args.data_type) c.args.offsets.now c.in_ok-items.items.items c.in-Some.row c.offset_type.result c.keeps_items-in-Some.result c.in_ok-items.ensures.exact (omega arith) c.offset_type.ensures (c.in_ok-row.ensures.answer ∙ ap ok c.in-Some.is) answer
+    packed_answer c.args.codec.now (is_wide c.args.data_type) c.args.offsets.now c.in_ok-items.items.items c.in-Some.row c.offset_type.result c.keeps_items-in-Some.result c.in_ok-items.ensures.exact (omega arith) c.offset_type.ensures.value (c.in_ok-row.ensures.answer ∙ ap ok c.in-Some.is) answer
