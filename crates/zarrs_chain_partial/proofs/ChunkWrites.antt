@@ -1,18 +1,16 @@
 -- What a write in part leaves through a chain.
-use Rattle.std.proofs.Common.{◌≡◌, ℕ, ◌<◌, ◌||◌, Bool, true, false, Option, Some, None, List, [], ◌∷◌, length, map, replicate, set, Result, Ok, Err, arith, refl, ap, sym, ◌∙◌, subst}
+use Rattle.std.proofs.Common.{◌≡◌, ℕ, ◌<◌, ◌||◌, Bool, true, false, Option, Some, None, List, [], ◌∷◌, length, replicate, set, Result, Ok, Err, arith, refl, ap, sym, ◌∙◌, subst}
 use Rattle.std.specs.List.{All}
-use Rattle.std.specs.Prelude.{IsOkAnd, is_ok}
+use Rattle.std.specs.Prelude.{IsOkAnd}
 use Rattle.std.proofs.lemmas.List.{length-replicate}
 use Rattle.std.proofs.lemmas.List.Elements.{All-replicate, All-set, All-tail}
-use Rattle.zarrs_chunk.specs.Answer.{◌>>=◌, demand, seen, Answers, memory, fault, memory_or_fault}
+use Rattle.zarrs_chunk.specs.Answer.{◌>>=◌, demand, Answers, memory, fault, memory_or_fault}
 use Rattle.zarrs_chunk.specs.ChunkShape.{product}
-use Rattle.zarrs_chunk.specs.Selection.{Selection, places_of}
 use Rattle.zarrs_chunk.specs.declared.codec_error.CodecError.{CodecError}
 use Rattle.zarrs_chunk.specs.declared.codec_error.CodecError.TheVariants.{InvalidFillValue}
-use Rattle.zarrs_data_type.specs.Element.{Element, Chunk, fill_element, IsElement, AreElements}
-use Rattle.zarrs_data_type.specs.ElementType.{ElementType, fixed, text, bytes, optional, element_size}
+use Rattle.zarrs_data_type.specs.Element.{Chunk, fill_element, IsElement}
+use Rattle.zarrs_data_type.specs.ElementType.{ElementType}
 use Rattle.zarrs_data_type.specs.FillValue.{fill_fits}
-use Rattle.zarrs_data_type.specs.declared.endianness.Endianness.{Endianness}
 use Rattle.zarrs_data_type.proofs.FillLemmas.{fill_element-IsElement}
 use Rattle.zarrs_array_bytes.specs.Chunks.{fill_chunk, update_at_places}
 use Rattle.zarrs_array_bytes.specs.Elements.{elements}
@@ -22,18 +20,14 @@ use Rattle.zarrs_array_bytes.specs.Validity.{Holds, data_fit, data_mismatch, siz
 use Rattle.zarrs_array_bytes.proofs.ElementLaw.{AreElements-elements}
 use Rattle.zarrs_array_bytes.proofs.WriteLemmas.{length-update}
 use Rattle.zarrs_codec.specs.BytesToBytesCodec.{BytesCodecs}
-use Rattle.zarrs_codec.specs.ChunkEdits.{data_places, with_elements}
+use Rattle.zarrs_codec.specs.ChunkEdits.{with_elements}
 use Rattle.zarrs_codec.specs.declared.bytes_representation.BytesRepresentation.{BytesRepresentation}
-use Rattle.zarrs_bytes.specs.BytesCodec.{IsChunk, bytes_length}
+use Rattle.zarrs_bytes.specs.BytesCodec.{IsChunk}
 use Rattle.zarrs_bytes.specs.PartialWrite.{filled_chunk}
 use Rattle.zarrs_chain_parts.specs.Chain.{held_value, taken_form}
 use Rattle.zarrs_chain_partial.specs.ChunkRead.{ChunkForm}
 use Rattle.zarrs_chain_partial.specs.ChunkWrite.{edited_value, started_chunk, value_left}
-use Rattle.zarrs_chain_parts.specs.Decode.{chain_chunk}
-use Rattle.zarrs_chain_parts.specs.Encode.{chain_value}
 use Rattle.zarrs_chain_parts.specs.Laws.{IsChainOfMappings}
-use Rattle.zarrs_chain_parts.specs.Representation.{chain_representation}
-use Rattle.zarrs_chain_parts.specs.Stands.{ChainStands}
 use Rattle.zarrs_chain_parts.proofs.ArraySteps.{ok, bind_ok, ok_is, length-elements}
 use Rattle.zarrs_chain_parts.proofs.ChainRelations.{held_value_is}
 use Rattle.zarrs_chain_parts.proofs.ChainSteps.{form_representation}

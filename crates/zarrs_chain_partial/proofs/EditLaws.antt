@@ -1,5 +1,5 @@
 -- Edits of stored values are edits of chunks.
-use Rattle.std.proofs.Common.{◌≡◌, ℕ, zero, suc, ◌+◌, ◌<◌, Bool, true, false, if◌then◌else◌, Option, Some, None, List, [], ◌∷◌, ◌++◌, length, map, take, get_or, Result, Ok, Err, add-one, arith, refl, ap, sym, ◌∙◌, subst}
+use Rattle.std.proofs.Common.{◌≡◌, ℕ, zero, suc, ◌+◌, ◌<◌, Bool, true, false, if◌then◌else◌, Option, Some, None, List, [], ◌∷◌, ◌++◌, length, take, get_or, Result, Ok, Err, refl, ap, sym, ◌∙◌, subst}
 use Rattle.std.specs.List.{All, range_with_len}
 use Rattle.std.specs.Prelude.{IsOkAnd, slice_index}
 use Rattle.std.proofs.lemmas.List.{take_more}
@@ -8,8 +8,8 @@ use Rattle.zarrs_chunk.specs.Answer.{◌>>=◌, seen}
 use Rattle.zarrs_chunk.specs.ChunkShape.{product}
 use Rattle.zarrs_chunk.specs.Indexer.{selection_of}
 use Rattle.zarrs_chunk.specs.declared.codec_error.CodecError.{CodecError}
-use Rattle.zarrs_data_type.specs.Element.{Element, plain, absent, present, Chunk, fill_element}
-use Rattle.zarrs_data_type.specs.ElementType.{ElementType, fixed, text, bytes, optional, element_size}
+use Rattle.zarrs_data_type.specs.Element.{Element, absent, present, Chunk, fill_element}
+use Rattle.zarrs_data_type.specs.ElementType.{ElementType, fixed, text, bytes, optional}
 use Rattle.zarrs_data_type.specs.FillValue.{fill_fits, front_of, is_null}
 use Rattle.zarrs_array_bytes.specs.Elements.{under_flag, element_at, elements}
 use Rattle.zarrs_array_bytes.specs.Held.{Held, flen, vlen, masked}
@@ -26,11 +26,10 @@ use Rattle.zarrs_chain_partial.specs.ChunkWrite.{order_in_place, stored_written,
 use Rattle.zarrs_chain_partial.specs.Edits.{chunk_or_fill, edited_state, states_edited, edited_store, stores_edited, EditHasBytes, HeldHasBytes, IsStoredFor, StateHasBytes}
 use Rattle.zarrs_chain_parts.specs.Laws.{IsChainOfMappings}
 use Rattle.zarrs_chain_parts.specs.NormalForm.{normal_form}
-use Rattle.zarrs_chain_parts.specs.PlainChain.{PlainChain}
 use Rattle.zarrs_chain_parts.specs.Written.{ChainWritten}
 use Rattle.zarrs_chain_partial.specs.declared.partial_encoder.edits.Edit.{Edit}
 use Rattle.zarrs_chain_partial.specs.declared.partial_encoder.edits.Edit.TheVariants.{Encode, Erase}
-use Rattle.zarrs_chain_parts.proofs.ArraySteps.{bind_ok, ok_is}
+use Rattle.zarrs_chain_parts.proofs.ArraySteps.{bind_ok}
 use Rattle.zarrs_chain_parts.proofs.ChainSteps.{seen_ok}
 use Rattle.zarrs_chain_partial.proofs.ChunkWrites.{All-update, edited_is}
 use Rattle.zarrs_chain_parts.proofs.NestedForNormal.{written_for_normal}

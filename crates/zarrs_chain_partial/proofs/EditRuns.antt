@@ -1,8 +1,8 @@
 -- What a run of edits leaves of a handle.
-use Rattle.std.proofs.Common.{◌≡◌, ◌⊎◌, inl, inr, ℕ, suc, ◌+◌, ◌%◌, ◌^◌, Bool, true, false, Option, List, Result, Ok, Err, add-one, arith, refl, ap, sym, ◌∙◌, subst}
+use Rattle.std.proofs.Common.{◌≡◌, inl, inr, ℕ, ◌+◌, ◌%◌, ◌^◌, true, Result, Ok, Err, add-one, arith, ap, sym, ◌∙◌, subst}
 use Rattle.zarrs_chunk.specs.declared.codec_error.CodecError.{CodecError}
 use Rattle.zarrs_codec.specs.ArrayWriter.{IsRefusedWrite}
-use Rattle.zarrs_codec.specs.StorageState.{StorageState, after_reading, after_writing, apart_from_value, count_if}
+use Rattle.zarrs_codec.specs.StorageState.{StorageState, after_writing, apart_from_value, count_if}
 use Rattle.zarrs_chain_partial.specs.Edits.{advanced, after_edits}
 
 abbrev done : Result (Unit {0}) CodecError

@@ -1,10 +1,9 @@
 -- The calls of reads in part.
-use Rattle.std.proofs.Common.{◌≡◌, ℕ, ◌-◌, ◌*◌, ◌<◌, ◌^◌, ◌&&◌, ◌||◌, nat_lt, Bool, true, false, if◌then◌else◌, Option, Some, None, List, [], ◌∷◌, length, map, replicate, Result, Ok, Err, IfOk, arith, refl, ap, sym, ◌∙◌, subst}
-use Rattle.std.specs.Prelude.{is_ok, is_some, IsOkAnd}
+use Rattle.std.proofs.Common.{◌≡◌, ℕ, ◌-◌, ◌*◌, ◌<◌, ◌^◌, nat_lt, Bool, true, false, if◌then◌else◌, Option, List, [], ◌∷◌, length, map, replicate, Result, Ok, Err, IfOk, arith, refl, ap, sym, ◌∙◌, subst}
+use Rattle.std.specs.Prelude.{is_ok, IsOkAnd}
 use Rattle.std.specs.List.{sum_by}
-use Rattle.std.proofs.lemmas.Bool.{false≢true}
 use Rattle.std.proofs.lemmas.Bool.Decides.{nat_tests}
-use Rattle.zarrs_chunk.specs.Answer.{◌>>=◌, checked_u64, demand, seen, Answers, AnswersBy, memory, memory_or_fault, fault, is_fault, no_refusal}
+use Rattle.zarrs_chunk.specs.Answer.{◌>>=◌, checked_u64, demand, seen, Answers, AnswersBy, memory, no_refusal}
 use Rattle.zarrs_chunk.specs.AnswerLaws.{demand_ok}
 use Rattle.zarrs_chunk.specs.ChunkShape.{product}
 use Rattle.zarrs_chunk.specs.Selection.{Selection}
@@ -23,7 +22,6 @@ use Rattle.zarrs_codec.specs.ByteRanges.{range_indices}
 use Rattle.zarrs_codec.specs.ByteSpan.{ByteSpan}
 use Rattle.zarrs_codec.specs.BytesToBytesCodec.{BytesCodecs}
 use Rattle.zarrs_codec.specs.CoordinateMap.{CoordinateMap, IsCoordinateMap}
-use Rattle.zarrs_codec.specs.StorageState.{StorageState, after_reading, count_if}
 use Rattle.zarrs_codec.specs.declared.bytes_representation.BytesRepresentation.{BytesRepresentation}
 use Rattle.zarrs_codec.specs.declared.bytes_representation.BytesRepresentation.TheVariants.{FixedSize}
 use Rattle.zarrs_array_to_array.specs.ArrayToArrayCodec.{ArrayMapping}
@@ -35,15 +33,12 @@ use Rattle.zarrs_packbits.specs.PackBitsSettings.{PackBitsSettings, packed_layou
 use Rattle.zarrs_packbits.specs.PaddingByte.{value_len}
 use Rattle.zarrs_packbits.specs.ReadPlan.{IsPlan}
 use Rattle.zarrs_chain_parts.specs.ArrayStages.{arrays_map, IsMapWhere}
-use Rattle.zarrs_chain_parts.specs.BytesStages.{outer_bytes}
 use Rattle.zarrs_chain_parts.specs.Chain.{taken_form}
 use Rattle.zarrs_codec_chain.specs.ChainView.{plain_codec}
 use Rattle.zarrs_chain_partial.specs.ChunkRead.{encoded_places, IsCodecPlan}
-use Rattle.zarrs_chain_partial.specs.ChunkSource.{Source}
 use Rattle.zarrs_chain_parts.specs.Decode.{codec_chunk}
 use Rattle.zarrs_chain_parts.specs.PlainChain.{PlainCodec, bytes_codec, packbits_codec, vlen_codec, optional_codec, PlainChain}
 use Rattle.zarrs_chain_parts.specs.Representation.{codec_representation, is_variable}
-use Rattle.zarrs_chain_partial.specs.SliceHandle.{still_state}
 use Rattle.zarrs_codec_chain.specs.declared.array_to_bytes_codec.ArrayToBytesCodec.{ArrayToBytesCodec}
 use Rattle.zarrs_codec_chain.specs.declared.array_to_bytes_codec.ArrayToBytesCodec.TheVariants.{Bytes, PackBits}
 use Rattle.zarrs_chain_parts.proofs.Answered.{from_ok}

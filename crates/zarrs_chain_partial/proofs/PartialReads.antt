@@ -1,11 +1,11 @@
 -- Reads in part through a chain.
-use Rattle.std.proofs.Common.{◌≡◌, ℕ, suc, ◌<◌, ◌≤◌, ◌^◌, nat_le, Bool, true, false, if◌then◌else◌, Option, Some, None, List, [], ◌∷◌, ◌++◌, length, map, take, drop, get_or, Result, Ok, Err, IfOk, arith, refl, ap, sym, ◌∙◌, subst}
+use Rattle.std.proofs.Common.{◌≡◌, ℕ, suc, ◌<◌, true, Option, Some, None, List, [], ◌∷◌, ◌++◌, length, map, take, drop, get_or, Result, Ok, Err, IfOk, arith, refl, ap, sym, ◌∙◌, subst}
 use Rattle.std.specs.Prelude.{is_ok, is_some}
 use Rattle.std.specs.List.{All, range_with_len}
 use Rattle.std.proofs.lemmas.List.{take_all, take-append-drop, get_or-map, length-map}
 use Rattle.std.proofs.lemmas.List.FromFn.{get_or-map-range_with_len}
 use Rattle.std.proofs.lemmas.Simd.{map-map}
-use Rattle.zarrs_chunk.specs.Answer.{◌>>=◌, demand, seen}
+use Rattle.zarrs_chunk.specs.Answer.{◌>>=◌, seen}
 use Rattle.zarrs_chunk.specs.ChunkShape.{product}
 use Rattle.zarrs_chunk.specs.Selection.{Selection, places_of}
 use Rattle.zarrs_chunk.specs.declared.codec_error.CodecError.{CodecError}
@@ -18,26 +18,25 @@ use Rattle.zarrs_codec.specs.CoordinateMap.{CoordinateMap, IsCoordinateMap, move
 use Rattle.zarrs_codec.specs.declared.bytes_representation.BytesRepresentation.{BytesRepresentation}
 use Rattle.zarrs_codec.specs.declared.bytes_representation.BytesRepresentation.TheVariants.{FixedSize}
 use Rattle.zarrs_array_to_array.specs.ArrayToArrayCodec.{ArrayMapping, IsMapping}
-use Rattle.zarrs_array_to_array.specs.Mapping.{chained_places, moved_by}
+use Rattle.zarrs_array_to_array.specs.Mapping.{chained_places}
 use Rattle.zarrs_bytes.proofs.CodecLaws.{read_selects}
 use Rattle.zarrs_bytes.proofs.Exact.{decoded_found}
 use Rattle.zarrs_packbits.specs.PackBitsSettings.{PackBitsSettings, packed_layout, packbits_length}
 use Rattle.zarrs_packbits.specs.PaddingByte.{value_len}
-use Rattle.zarrs_packbits.specs.PartialRead.{read_packed_places, read_places_of}
 use Rattle.zarrs_packbits.proofs.CodecLaws as packbits_laws
 use Rattle.zarrs_packbits.proofs.Exact as packbits
 use Rattle.zarrs_chain_parts.specs.ArrayStages.{arrays_map}
 use Rattle.zarrs_chain_parts.specs.BytesStages.{outer_bytes, outer_representation}
 use Rattle.zarrs_chain_parts.specs.Chain.{taken_form}
 use Rattle.zarrs_chain_partial.specs.ChunkRead.{ChunkForm, codec_read, encoded_places, outer_stored, stored_read}
-use Rattle.zarrs_chain_partial.specs.ChunkSource.{Source, bytes_above, chunk_below, is_there, opened_chunk, source_at, source_made_at, source_places, source_read}
+use Rattle.zarrs_chain_partial.specs.ChunkSource.{Source, is_there, opened_chunk, source_at, source_made_at, source_places, source_read}
 use Rattle.zarrs_chain_parts.specs.Decode.{codec_chunk, chain_chunk}
 use Rattle.zarrs_chain_parts.specs.PlainChain.{PlainCodec, bytes_codec, packbits_codec, vlen_codec, optional_codec, PlainChain}
 use Rattle.zarrs_chain_parts.specs.Representation.{codec_representation}
 use Rattle.zarrs_chain_partial.specs.declared.partial_decoder.cache.CacheStage.{CacheStage}
 use Rattle.zarrs_chain_partial.specs.declared.partial_decoder.cache.CacheStage.TheVariants as stage
-use Rattle.zarrs_chain_parts.proofs.ArraySteps.{ok, at_ok, bind_ok, ok_is}
-use Rattle.zarrs_chain_parts.proofs.ChainSteps.{IsTaken, is_taken, seen_ok}
+use Rattle.zarrs_chain_parts.proofs.ArraySteps.{ok, bind_ok, ok_is}
+use Rattle.zarrs_chain_parts.proofs.ChainSteps.{is_taken, seen_ok}
 use Rattle.zarrs_chain_parts.proofs.NestedStages.{arrays_are_map, chained_of}
 
 -- ---- what is known of a chunk that a chain takes

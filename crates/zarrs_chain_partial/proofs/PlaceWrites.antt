@@ -1,5 +1,5 @@
 -- What a write in place leaves through array codecs and `bytes`, and edits of chunks through any chain.
-use Rattle.std.proofs.Common.{◌≡◌, ℕ, zero, suc, ◌*◌, ◌<◌, ◌^◌, ◌||◌, nat_lt, Bool, true, false, Option, Some, None, List, [], ◌∷◌, length, map, replicate, get_or, Result, Ok, Err, arith, refl, ap, ap₂, sym, ◌∙◌, subst}
+use Rattle.std.proofs.Common.{◌≡◌, ℕ, ◌*◌, ◌<◌, ◌^◌, ◌||◌, nat_lt, Bool, true, false, Option, Some, None, List, [], ◌∷◌, length, map, replicate, get_or, Result, Ok, Err, arith, refl, ap, ap₂, sym, ◌∙◌, subst}
 use Rattle.std.specs.List.{All}
 use Rattle.std.specs.Prelude.{is_ok, IfOk, IsOkAnd, OnOk}
 use Rattle.std.proofs.lemmas.Bool.Decides.{nat_tests}
@@ -23,9 +23,8 @@ use Rattle.zarrs_codec.specs.CoordinateMap.{CoordinateMap, IsCoordinateMap, move
 use Rattle.zarrs_codec.specs.declared.bytes_representation.BytesRepresentation.{BytesRepresentation}
 use Rattle.zarrs_array_to_array.specs.ArrayToArrayCodec.{ArrayMapping}
 use Rattle.zarrs_array_to_array.proofs.CoordinateMaps.{length-moved, moved_each, moved_update}
-use Rattle.zarrs_bytes.specs.BytesCodec.{bytes_length, spelling, BytesStands, BytesWritten, IsChunk}
-use Rattle.zarrs_bytes.specs.PartialRead.{place_size}
-use Rattle.zarrs_bytes.specs.PartialWrite.{bytes_left, filled_chunk, StartsFrom, with_place_bytes}
+use Rattle.zarrs_bytes.specs.BytesCodec.{bytes_length, BytesStands, BytesWritten, IsChunk}
+use Rattle.zarrs_bytes.specs.PartialWrite.{bytes_left, filled_chunk, StartsFrom}
 use Rattle.zarrs_bytes.proofs.Coding as bytes_coding
 use Rattle.zarrs_bytes.proofs.PartWrites.{write_updates}
 use Rattle.zarrs_chain_parts.specs.ArrayStages.{arrays_map}
@@ -33,7 +32,7 @@ use Rattle.zarrs_chain_parts.specs.BytesStages.{outer_bytes, OuterWritten}
 use Rattle.zarrs_chain_partial.specs.ChunkRead.{ChunkForm, encoded_places}
 use Rattle.zarrs_chain_partial.specs.ChunkWrite.{edited_value, EditStarts, order_in_place, selection_left, stored_written, StoresChunk, value_left, written_places}
 use Rattle.zarrs_chain_parts.specs.Laws.{IsChainOfMappings}
-use Rattle.zarrs_chain_parts.specs.PlainChain.{PlainCodec, bytes_codec, packbits_codec, vlen_codec, optional_codec, PlainChain}
+use Rattle.zarrs_chain_parts.specs.PlainChain.{PlainCodec, bytes_codec, packbits_codec, vlen_codec, optional_codec}
 use Rattle.zarrs_chain_parts.specs.Representation.{codec_representation}
 use Rattle.zarrs_chain_parts.specs.Stands.{CodecStands, ChainStands}
 use Rattle.zarrs_chain_parts.specs.Written.{CodecWritten, ChainWritten}

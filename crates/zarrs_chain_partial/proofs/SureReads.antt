@@ -1,11 +1,9 @@
 -- Sure bytes, indexers and plans of reads in part.
-use Rattle.std.proofs.Common.{◌≡◌, ℕ, ◌&&◌, Bool, true, false, if◌then◌else◌, Option, Some, None, List, [], ◌∷◌, length, Result, Ok, Err, IfOk, refl, ap, sym, ◌∙◌, subst}
+use Rattle.std.proofs.Common.{◌≡◌, ℕ, ◌&&◌, Bool, true, false, if◌then◌else◌, Option, Some, None, List, [], ◌∷◌, Result, Ok, Err, IfOk, refl, ap}
 use Rattle.std.specs.Prelude.{IfErr, IfSome, IsOkAnd}
-use Rattle.zarrs_chunk.specs.Answer.{◌>>=◌, checked_u64, seen, AnswersBy, memory}
-use Rattle.zarrs_chunk.specs.ChunkShape.{product}
+use Rattle.zarrs_chunk.specs.Answer.{◌>>=◌, memory}
 use Rattle.zarrs_chunk.specs.Selection.{Selection, bounds_of}
 use Rattle.zarrs_chunk.specs.declared.codec_error.CodecError.{CodecError}
-use Rattle.zarrs_data_type.specs.Element.{Chunk}
 use Rattle.zarrs_data_type.specs.ElementType.{ElementType}
 use Rattle.zarrs_codec.specs.ByteSpan.{ByteSpan}
 use Rattle.zarrs_codec.specs.BytesToBytesCodec.{BytesCodecs}
@@ -14,7 +12,7 @@ use Rattle.zarrs_codec.specs.declared.bytes_representation.BytesRepresentation.{
 use Rattle.zarrs_array_to_array.specs.ArrayToArrayCodec.{ArrayMapping}
 use Rattle.zarrs_chain_parts.specs.Chain.{codec_reads, taken_form}
 use Rattle.zarrs_chain_partial.specs.ChunkRead.{ChunkForm, codec_place_bytes, encoded_places, IsCodecPlan, IsReadPlan, planned_bytes, planned_places, reads_places, WhereSure}
-use Rattle.zarrs_chain_parts.specs.PlainChain.{PlainCodec, PlainChain}
+use Rattle.zarrs_chain_parts.specs.PlainChain.{PlainCodec}
 use Rattle.zarrs_chain_parts.proofs.ArraySteps.{ok, error_is}
 
 -- ---- sure bytes

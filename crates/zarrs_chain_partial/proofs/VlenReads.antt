@@ -1,8 +1,8 @@
 -- Reads in part of a chunk of `vlen`.
-use Rattle.std.proofs.Common.{◌≡◌, ℕ, ◌<◌, ◌^◌, nat_lt, if◌then◌else◌, Bool, true, false, Option, Some, None, List, [], length, map, Result, Ok, Err, IfOk, refl, ap, sym, ◌∙◌, subst}
+use Rattle.std.proofs.Common.{◌≡◌, ℕ, ◌<◌, ◌^◌, nat_lt, if◌then◌else◌, Bool, true, false, Option, Some, None, List, [], map, Result, Ok, Err, IfOk, refl, ap, sym, ◌∙◌, subst}
 use Rattle.std.specs.Prelude.{is_ok, IfErr, IsOkAnd}
 use Rattle.std.specs.List.{All}
-use Rattle.zarrs_chunk.specs.Answer.{◌>>=◌, Answers, AnswersBy, checked_u64, demand, memory, memory_or_fault, seen}
+use Rattle.zarrs_chunk.specs.Answer.{◌>>=◌, Answers, AnswersBy, checked_u64, demand, memory, seen}
 use Rattle.zarrs_chunk.specs.AnswerLaws.{demand_ok}
 use Rattle.zarrs_chunk.specs.ChunkShape.{product}
 use Rattle.zarrs_chunk.specs.Selection.{Selection, bounds_of, places_of}
@@ -23,7 +23,7 @@ use Rattle.zarrs_chain_parts.specs.Decode.{codec_chunk}
 use Rattle.zarrs_chain_parts.specs.Laws.{HasMappings}
 use Rattle.zarrs_chain_parts.specs.Representation.{codec_representation, is_variable, vlen_representation}
 use Rattle.zarrs_chain_parts.specs.Stands.{CodecStands}
-use Rattle.zarrs_chain_partial.specs.VlenPartialDecoder.{CodecForm, codec_stored_read}
+use Rattle.zarrs_chain_partial.specs.VlenPartialDecoder.{codec_stored_read}
 use Rattle.zarrs_codec_chain.specs.declared.vlen_codec.VlenCodec.{VlenCodec}
 use Rattle.zarrs_chain_parts.proofs.Answered.{from_ok}
 use Rattle.zarrs_chain_parts.proofs.ArraySteps.{ok, bind_ok, error_is, ok_is}

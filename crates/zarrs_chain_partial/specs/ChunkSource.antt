@@ -13,10 +13,10 @@ use Rattle.zarrs_codec.specs.declared.bytes_representation.BytesRepresentation.{
 use Rattle.zarrs_codec.specs.declared.capabilities.PartialDecoderCapability.{PartialDecoderCapability}
 use Rattle.zarrs_chain_parts.specs.BytesStages.{outer_bytes, outer_representation}
 use Rattle.zarrs_chain_partial.specs.CachePlace.{cache_place, codecs_read}
-use Rattle.zarrs_chain_parts.specs.Chain.{codec_reads, taken_form}
+use Rattle.zarrs_chain_parts.specs.Chain.{taken_form}
 use Rattle.zarrs_chain_partial.specs.ChunkRead.{ChunkForm, codec_read, encoded_places, outer_stored}
 use Rattle.zarrs_chain_parts.specs.Decode.{codec_chunk}
-use Rattle.zarrs_chain_parts.specs.PlainChain.{PlainCodec, PlainChain}
+use Rattle.zarrs_chain_parts.specs.PlainChain.{PlainChain}
 use Rattle.zarrs_chain_partial.specs.declared.partial_decoder.cache.Cache.{Cache}
 use Rattle.zarrs_chain_partial.specs.declared.partial_decoder.cache.Cache.TheVariants as kept
 use Rattle.zarrs_chain_partial.specs.declared.partial_decoder.cache.CacheStage.{CacheStage}

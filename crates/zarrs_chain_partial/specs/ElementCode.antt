@@ -1,8 +1,8 @@
 -- An element as plain parts, so that equations of chunks are propositions.
 use Rattle.std.specs.Prelude.{◌≡◌, ℕ, zero, suc, Bool, true, false, List, [], cond}
 use Rattle.std.proofs.Common.{refl, ap}
-use Rattle.std.specs.Coded.{Coded, code_by, coded×, coded_ℕ, coded_bool, coded_list, coded_option}
-use Rattle.zarrs_data_type.specs.Element.{Element, plain, absent, present, Chunk}
+use Rattle.std.specs.Coded.{Coded, code_by, coded×, coded_ℕ, coded_bool, coded_list}
+use Rattle.zarrs_data_type.specs.Element.{Element, plain, absent, present}
 use Rattle.std.proofs.Props.{props}
 use mathlib.Core.HLevel.{collapsible→set}
 use mathlib.Core.List.{is_set as List-set}

@@ -1,5 +1,5 @@
 -- What a partial decoder of a chain is made of.
-use Rattle.std.specs.Prelude.{◌&&◌, ℕ, Bool, Option, is_some, List, Result, Ok, Err}
+use Rattle.std.specs.Prelude.{ℕ, Bool, Option, is_some, List, Result, Ok, Err}
 use Rattle.zarrs_chunk.specs.declared.codec_error.CodecError.{CodecError}
 use Rattle.zarrs_codec.specs.ArrayReader.{ArrayReader}
 use Rattle.zarrs_codec.specs.BytesToBytesCodec.{BytesCodecs}

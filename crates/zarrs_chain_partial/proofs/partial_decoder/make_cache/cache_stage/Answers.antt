@@ -1,4 +1,4 @@
-use Rattle.std.proofs.Common.{◌≡◌, length, map, true, ap, sym, subst, ◌∙◌}
+use Rattle.std.proofs.Common.{◌≡◌, map, true, ap, subst, ◌∙◌}
 use Rattle.std.proofs.lemmas.List.{length-map}
 use Rattle.zarrs_chain_parts.specs.Chain.{codec_reads}
 use Rattle.zarrs_codec_chain.specs.ChainView.{plain_chain}

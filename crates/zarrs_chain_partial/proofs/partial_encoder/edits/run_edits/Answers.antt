@@ -1,7 +1,6 @@
-use Rattle.std.proofs.Common.{◌≡◌, ℕ, ◌+◌, ◌<◌, Bool, false, length, get_or, take, Ok, Err, arith, ap, sym, ◌∙◌, subst}
+use Rattle.std.proofs.Common.{◌≡◌, ◌<◌, length, take, Ok, Err, arith, ap, sym, ◌∙◌, subst}
 use Rattle.std.proofs.lemmas.List.{take_all}
-use Rattle.zarrs_chunk.specs.Answer.{memory_or_fault}
-use Rattle.zarrs_chain_partial.specs.Edits.{edited_store, LeavesWritten, stores_edited}
+use Rattle.zarrs_chain_partial.specs.Edits.{edited_store, stores_edited}
 use Rattle.zarrs_chain_partial.specs.PartialEncoder.{encoder_form, encoder_handle}
 use Rattle.zarrs_chain_partial.proofs.EditLaws.{edits_more, edits_written}
 use Rattle.zarrs_chain_partial.proofs.EditRuns.{left_more, refused_left, unwritten_left}

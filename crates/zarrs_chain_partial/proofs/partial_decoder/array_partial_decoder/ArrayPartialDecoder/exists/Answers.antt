@@ -1,4 +1,4 @@
-use Rattle.std.proofs.Common.{◌≡◌, Ok, ap, subst}
+use Rattle.std.proofs.Common.{Ok, subst}
 use Rattle.std.specs.Prelude.{Bool}
 use Rattle.zarrs_chunk.specs.Answer.{Answers, fault}
 use Rattle.zarrs_chain_partial.specs.ChunkSource.{kept_stage}

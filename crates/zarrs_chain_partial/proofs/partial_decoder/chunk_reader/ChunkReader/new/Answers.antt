@@ -1,15 +1,14 @@
 use Rattle.zarrs_codec_chain.specs.ChainView.{plain_chain}
-use Rattle.zarrs_chain_partial.specs.ChunkReader.{reader_source}
 use Rattle.zarrs_chain_partial.proofs.PartialCalls.{kept_of}
 use Rattle.zarrs_chain_partial.proofs.WholeReads.{filled_from}
 use Rattle.zarrs_chain_partial.proofs.partial_decoder.chunk_reader.ChunkReader.new.Goals as goal
 
 pub invariant_of-result : goal.invariant_of-result
 invariant_of-result g c =
-    let taken = c.in_ok-taken.taken in
-    let k = kept_of g.B.BytesToBytesCodecTraits.functions (plain_chain c.args.chain.now) c.in_ok-shape.shape c.in_ok-data_type.data_type c.in_ok-fill_value.fill_value taken.shape taken.representation c.in_ok-taken.ensures.map c.in_ok-taken.ensures.counted c.in_ok-taken.ensures.answer in
+    let taken = c.in_ok-encoded in
+    let k = kept_of g.B.BytesToBytesCodecTraits.functions (plain_chain c.args.chain.now) c.in_ok-shape.shape c.in_ok-data_type.data_type c.in_ok-fill_value.fill_value taken.encoded taken.representation taken.ensures.map taken.ensures.counted taken.ensures.answer in
     record {
-      taken = c.in_ok-taken.ensures.answer;
+      taken = taken.ensures.answer;
       measured = k.measured;
       filling = k.filled;
       counted = k.counted;
@@ -19,5 +18,5 @@ invariant_of-result g c =
 
 pub returns-clause-filled : goal.returns-clause-filled
 returns-clause-filled g c =
-    let taken = c.in_ok-taken.taken in
-    filled_from g.B.BytesToBytesCodecTraits.functions (record { chain = plain_chain c.args.chain.now; sizes = c.in_ok-shape.shape; type = c.in_ok-data_type.data_type; fill = c.in_ok-fill_value.fill_value }) taken.shape taken.representation c.cache_stage.result _ (g.H.BytesPartialDecoderTraits.state c.args.handle.now).value _ c.in_ok-taken.ensures.answer c.in_ok-cache.ensures.stage c.in_ok-cache.ensures.answer
+    let taken = c.in_ok-encoded in
+    filled_from g.B.BytesToBytesCodecTraits.functions (record { chain = plain_chain c.args.chain.now; sizes = c.in_ok-shape.shape; type = c.in_ok-data_type.data_type; fill = c.in_ok-fill_value.fill_value }) taken.encoded taken.representation c.cache_stage.result _ (g.H.BytesPartialDecoderTraits.state c.args.handle.now).value _ taken.ensures.answer c.in_ok-cache.ensures.stage c.in_ok-cache.ensures.answer

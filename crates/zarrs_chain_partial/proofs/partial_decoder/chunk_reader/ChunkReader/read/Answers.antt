@@ -1,8 +1,7 @@
-use Rattle.std.proofs.Common.{◌≡◌, ap, sym, ◌∙◌}
+use Rattle.std.proofs.Common.{ap, sym, ◌∙◌}
 use Rattle.std.proofs.lemmas.Result.{err_from_is_err_and}
 use Rattle.zarrs_chunk.specs.Indexer.{selection_of}
 use Rattle.zarrs_chunk.specs.Runs.{joined_runs}
-use Rattle.zarrs_codec_chain.specs.ChainView.{plain_chain}
 use Rattle.zarrs_chain_partial.specs.ChunkReader.{reader_form}
 use Rattle.zarrs_chain_parts.proofs.ArraySteps.{ok}
 use Rattle.zarrs_chain_partial.proofs.SureReads.{in_bounds, out_of_bounds, sure_anyway, where_sure}

@@ -1,4 +1,4 @@
-use Rattle.std.proofs.Common.{◌≡◌, ap, ◌∙◌, subst}
+use Rattle.std.proofs.Common.{ap, ◌∙◌, subst}
 use Rattle.zarrs_chunk.specs.Answer.{AnswersBy, memory_or_fault}
 use Rattle.zarrs_chunk.specs.Indexer.{selection_of}
 use Rattle.zarrs_array_bytes.specs.Validity.{Holds}

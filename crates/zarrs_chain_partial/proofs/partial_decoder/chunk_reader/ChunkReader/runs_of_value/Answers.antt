@@ -1,8 +1,5 @@
-use Rattle.std.proofs.Common.{◌≡◌, subst}
-use Rattle.zarrs_chunk.specs.Answer.{AnswersBy, memory}
 use Rattle.zarrs_chunk.specs.ChunkShape.{product}
 use Rattle.zarrs_chunk.specs.Runs.{joined_runs}
-use Rattle.zarrs_array_bytes.specs.Validity.{Holds}
 use Rattle.zarrs_chain_parts.specs.BytesStages.{outer_bytes}
 use Rattle.zarrs_codec_chain.specs.ChainView.{plain_chain}
 use Rattle.zarrs_chain_partial.proofs.PartialCalls.{held_after}
