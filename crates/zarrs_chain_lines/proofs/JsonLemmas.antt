@@ -11,8 +11,7 @@ use Rattle.serde_json.specs.Written.{has_float}
 use Rattle.serde_json.specs.View.{members_view}
 use Rattle.serde_json.specs.declared.value.Value.{Value}
 use Rattle.zarrs_chain_lines.specs.declared.refusal.Refusal.TheVariants.{Syntax}
-use Rattle.zarrs_chain_lines.specs.DataType.{member_count}
-use Rattle.zarrs_chain_lines.specs.Json.{tree_of, without_floats, only_member}
+use Rattle.zarrs_chain_lines.specs.Json.{tree_of, without_floats, only_member, member_count}
 
 -- a text that reads, without floats
 pub tree_of-read : (text : List ℕ) (tree : Data) → IsUtf8 text → read text ≡ Some tree → has_float tree ≡ false → tree_of text ≡ Ok tree

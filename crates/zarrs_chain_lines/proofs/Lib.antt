@@ -5,3 +5,4 @@ pub mod TypeLemmas
 pub mod ContainerLemmas
 pub mod ShownLemmas
 pub mod ReadLemmas
+pub mod WriteLemmas

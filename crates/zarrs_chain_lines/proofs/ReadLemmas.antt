@@ -28,7 +28,7 @@ pub no_fault : (failed : Bool) → 0 ≡ count_if failed 0 → failed ≡ false
 no_fault true h = absurd (omega (arith, h))
 no_fault false h = refl
 
-excused_less : (a b : Bool) (P : Type 0) → b ≡ false → Excused (a || b) P → Excused a P
+pub excused_less : (a b : Bool) (P : Type 0) → b ≡ false → Excused (a || b) P → Excused a P
 excused_less true b P e h = λ m. absurd (cc)
 excused_less false true P e h = absurd (cc)
 excused_less false false P e h = h

@@ -11,7 +11,9 @@ use Rattle.zarrs_codec.specs.declared.sample_bytes_codec.SampleBytesCodec.{Sampl
 use Rattle.zarrs_chain_parts.specs.Chain.{held_value}
 use Rattle.zarrs_chain_partial.specs.ChunkRead.{ChunkForm, stored_read}
 use Rattle.zarrs_chain_partial.specs.ChunkSource.{source_made}
+use Rattle.zarrs_chain_partial.specs.ChunkWrite.{stored_written}
 use Rattle.zarrs_chain_parts.specs.Decode.{chain_chunk}
+use Rattle.zarrs_chain_parts.specs.Representation.{chain_representation}
 use Rattle.zarrs_chain_lines.specs.declared.refusal.Refusal.{Refusal}
 use Rattle.zarrs_chain_lines.specs.declared.refusal.Refusal.TheVariants.{Syntax}
 use Rattle.zarrs_chain_lines.specs.Refusal.{codec_answer}
@@ -19,6 +21,7 @@ use Rattle.zarrs_chain_lines.specs.Json.{tree_of, hex_of, hex_tree, ok_line}
 use Rattle.zarrs_chain_lines.specs.Elements.{elements_of, chunk_tree}
 use Rattle.zarrs_chain_lines.specs.Containers.{container_of}
 use Rattle.zarrs_chain_lines.specs.Indexer.{selection_in}
+use Rattle.zarrs_chain_lines.specs.Edit.{PlainEdit, edit_in}
 use Rattle.zarrs_chain_lines.specs.Header.{Header}
 
 -- what a session keeps: the header that opened it, and the stored value
@@ -97,6 +100,24 @@ read_answer state text = do
   chunk ← codec_answer (part_of state.header state.value selection)
   Ok (ok_line (chunk_tree chunk), state)
 
+-- the value that an edit leaves of what is stored, by an encoder that is made for it: what refuses the making comes first
+abbrev pub chunk_left : ChunkForm SampleBytesCodec → Option (List ℕ) → PlainEdit → Result (List ℕ) CodecError
+chunk_left form value edit = do
+  _ ← chain_representation sample_codecs form.chain form.sizes form.type form.fill
+  stored_written sample_codecs form value edit.selection edit.new
+
+-- the same of a header's chunk
+abbrev pub value_left : Header → Option (List ℕ) → PlainEdit → Result (List ℕ) CodecError
+value_left header value edit = chunk_left (form_of header) value edit
+
+-- write {"at":INDEXER,"data":ELEMENTS}: the value with the new elements is stored
+abbrev pub write_answer : State → List ℕ → LineAnswer
+write_answer state text = do
+  tree ← tree_of text
+  edit ← edit_in state.header.data_type tree
+  value ← codec_answer (value_left state.header state.value edit)
+  Ok (codes "ok", record { header = state.header; value = Some value })
+
 -- erase: nothing is stored from here on
 abbrev pub erase_answer : State → LineAnswer
 erase_answer state = Ok (codes "ok", record { header = state.header; value = None })
@@ -116,6 +137,7 @@ pub data Command : Type 0 where
   encode : List ℕ → Command
   load : List ℕ → Command
   read_part : List ℕ → Command
+  write_part : List ℕ → Command
   decode : Command
   erase : Command
   value : Command
@@ -132,6 +154,7 @@ command_named word (Some argument) =
     if bytes_eq word (codes "encode") then encode argument
     else if bytes_eq word (codes "load") then load argument
     else if bytes_eq word (codes "read") then read_part argument
+    else if bytes_eq word (codes "write") then write_part argument
     else unknown
 
 -- the command of a line with its first space at this place: a word before it and an argument behind it, or a word alone
@@ -148,6 +171,7 @@ abbrev pub command_answer : State → Command → LineAnswer
 command_answer state (encode text) = encode_answer state text
 command_answer state (load text) = load_answer state text
 command_answer state (read_part text) = read_answer state text
+command_answer state (write_part text) = write_answer state text
 command_answer state decode = decode_answer state
 command_answer state erase = erase_answer state
 command_answer state value = value_answer state

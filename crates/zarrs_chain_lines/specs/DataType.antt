@@ -1,5 +1,5 @@
 -- The types of a header: by name, {"optional":T}, or {"components":{"bits":w,"count":c,"signed":b}}.
-use Rattle.std.specs.Prelude.{ℕ, suc, ◌==◌, Bool, true, false, List, Option, Some, None, option_and_then, ok_or, Result, Err, codes, if◌then◌else◌}
+use Rattle.std.specs.Prelude.{ℕ, ◌==◌, Bool, true, false, List, Option, Some, None, option_and_then, ok_or, Result, Err, codes, if◌then◌else◌}
 use Rattle.std.specs.Str.{bytes_eq}
 use Rattle.serde_json.specs.Data.{Data, null, boolean, number, string, array, object, Members, no_members, member}
 use Rattle.serde_json.specs.Find.{as_bool, as_number, as_object, as_u64, get_member}
@@ -8,7 +8,7 @@ use Rattle.zarrs_data_type.specs.ElementType.{ElementType, fixed, text, bytes, o
 use Rattle.zarrs_chain_lines.specs.declared.refusal.Refusal.{Refusal}
 use Rattle.zarrs_chain_lines.specs.declared.refusal.Refusal.TheVariants.{Syntax}
 use Rattle.zarrs_chain_lines.specs.Refusal.{codec_answer}
-use Rattle.zarrs_chain_lines.specs.Json.{only_member}
+use Rattle.zarrs_chain_lines.specs.Json.{only_member, member_count}
 
 -- a type by its name: of one component, or of any length
 abbrev pub type_named : List ℕ → Option ElementType
@@ -29,11 +29,6 @@ type_named name =
     else if bytes_eq name (codes "string") then Some text
     else if bytes_eq name (codes "bytes") then Some bytes
     else None
-
--- how many keys an object has
-abbrev pub member_count : Members → ℕ
-member_count no_members = 0
-member_count (member key tree members) = suc (member_count members)
 
 -- a whole number at a key
 abbrev pub number_at : List ℕ → Members → Option ℕ

@@ -1,5 +1,5 @@
 -- JSON texts, what is read of them, and how an answer shows JSON.
-use Rattle.std.specs.Prelude.{ℕ, List, [], ◌∷◌, ◌++◌, Option, Some, None, option_and_then, ok_or, Result, Ok, codes, if◌then◌else◌}
+use Rattle.std.specs.Prelude.{ℕ, suc, List, [], ◌∷◌, ◌++◌, Option, Some, None, option_and_then, ok_or, Result, Ok, codes, if◌then◌else◌}
 use Rattle.std.specs.Result.{result_ok}
 use Rattle.std.specs.Str.{is_utf8}
 use Rattle.hex.specs.Hex.{decode_of, encode_lower}
@@ -46,6 +46,11 @@ abbrev pub only_member : List ℕ → Members → Option Data
 only_member key no_members = None
 only_member key (member name tree no_members) = get_member key (member name tree no_members)
 only_member key (member name tree (member other more rest)) = None
+
+-- how many keys an object has
+abbrev pub member_count : Members → ℕ
+member_count no_members = 0
+member_count (member key tree members) = suc (member_count members)
 
 -- the only tree of a list
 abbrev pub lone_item : Items → Option Data

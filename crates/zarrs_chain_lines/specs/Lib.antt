@@ -5,6 +5,7 @@ pub mod Containers
 pub mod Element
 pub mod Shown
 pub mod Indexer
+pub mod Edit
 pub mod DataType
 pub mod Codecs
 pub mod Header

@@ -9,6 +9,7 @@ pub enum Command<'a> {
     Encode(&'a [u8]),
     Load(&'a [u8]),
     Read(&'a [u8]),
+    Write(&'a [u8]),
     Decode,
     Erase,
     Value,
@@ -24,6 +25,8 @@ fn with_argument<'a>(word: &[u8], argument: &'a [u8]) -> Command<'a>
         Command::Load(argument)
     } else if word == b"read".as_slice() {
         Command::Read(argument)
+    } else if word == b"write".as_slice() {
+        Command::Write(argument)
     } else {
         Command::Unknown
     }

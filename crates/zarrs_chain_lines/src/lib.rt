@@ -1,4 +1,4 @@
-//! Answers commands on one chunk: encodes, decodes and reads it, by lines.
+//! Answers commands on one chunk: encodes, decodes, reads and writes it, by lines.
 //!
 //! The first line is the header, a JSON object with the chunk's `shape`, `data_type`, `fill_value`
 //! and `codecs`. Each line after it is a command, which one line answers.
@@ -8,6 +8,7 @@ mod codecs;
 mod command;
 mod containers;
 mod data_types;
+mod edits;
 mod element;
 mod elements;
 mod indexers;

@@ -1,18 +1,20 @@
 //! A session: what a header opened, and the stored value.
-ghost use Rattle.std.specs.Prelude.{◌≡◌, OnErr, option_map};
+ghost use Rattle.std.specs.Prelude.{◌≡◌, OnErr, Some, option_map};
 ghost use Rattle.serde_json.specs.View.{view, members_view};
 ghost use Rattle.zarrs_chunk.specs.Answer.{Answers, AnswersBy, memory, seen};
 ghost use Rattle.zarrs_chunk.specs.Indexer.{selection_of};
 ghost use Rattle.zarrs_array_bytes.specs.Validity.{Holds};
 ghost use Rattle.zarrs_codec.specs.MemoryHandle.{handle_value};
 ghost use Rattle.zarrs_codec_chain.specs.ChainView.{plain_chain};
-ghost use Rattle.zarrs_chain_lines.specs.Commands.{first_state, chunk_part, part_of, encode_answer, load_answer, chunk_answer, decode_answer, read_answer, erase_answer, value_answer, answer_to};
+ghost use Rattle.zarrs_chain_lines.specs.Commands.{first_state, chunk_part, part_of, chunk_left, value_left, encode_answer, load_answer, chunk_answer, decode_answer, read_answer, write_answer, erase_answer, value_answer, answer_to};
+ghost use Rattle.zarrs_chain_lines.specs.Edit.{edit_seen};
 ghost use Rattle.zarrs_chain_lines.specs.Header.{shape_at, data_type_at, fill_value_at, codecs_at, header_in, line_header};
 ghost use Rattle.zarrs_chain_lines.specs.Refusal.{wants_memory};
 
 use crate::codecs::chain;
 use crate::command::{Command, command_of};
 use crate::data_types::data_type;
+use crate::edits::{Edit, read_edit};
 use crate::elements::elements;
 use crate::indexers::indexer;
 use crate::json::{Members, hex_bytes, member, numbers, object, ok_hex, tree};
@@ -96,6 +98,30 @@ fn read_part(
             let elements = decoder.partial_decode(alloc, indexer);
             let _ = decoder.into_handle();
             elements
+        }
+    }
+}
+
+/// Writes new elements over what is stored, by an encoder that is made for this call.
+fn write_part(
+    handle: &mut MemoryHandle,
+    alloc: Global,
+    chain: &CodecChain<SampleBytesCodec>,
+    shape: &ChunkShape,
+    data_type: &DataType,
+    fill_value: &FillValue,
+    edit: &Edit,
+) -> Result<(), CodecError>
+    ensures answer { Answers memory (λ _. handle_value handle.new) result
+        (seen Some (chunk_left (record { chain = plain_chain chain.now; sizes = shape.now; type = data_type.now; fill = fill_value.now }) (handle_value handle.old) (edit_seen edit.now))) }
+    ensures kept { OnErr result (handle_value handle.new ≡ handle_value handle.old) }
+{
+    match chain.partial_encoder(alloc, handle, shape, data_type, fill_value) {
+        Err(refused) => Err(refused.error),
+        Ok(mut encoder) => {
+            let written = encoder.partial_encode(alloc, &edit.indexer, &edit.elements);
+            let _ = encoder.into_handle();
+            written
         }
     }
 }
@@ -210,6 +236,33 @@ impl Session {
         ok_elements(alloc, &self.data_type, &elements)
     }
 
+    fn store(&mut self, alloc: Global, edit: &Edit) -> Result<(), CodecError>
+        ensures answer { let state = state_of self.old in Answers memory (λ _. state_of self.new) result (seen (λ value. record { header = state.header; value = Some value }) (value_left state.header state.value (edit_seen edit.now))) }
+        ensures kept { OnErr result (state_of self.new ≡ state_of self.old) }
+    {
+        let handle = &mut self.handle;
+        write_part(
+            handle,
+            alloc,
+            &self.chain,
+            &self.shape,
+            &self.data_type,
+            &self.fill_value,
+            edit,
+        )
+    }
+
+    fn write(&mut self, alloc: Global, text: &[u8]) -> Result<Vec<u8>, Refusal>
+        ensures answer { Answers wants_memory (λ line. (line.items, state_of self.new)) result (write_answer (state_of self.old) text.now) }
+        ensures kept { OnErr result (state_of self.new ≡ state_of self.old) }
+    {
+        let tree = tree(alloc, text)?;
+        let edit = read_edit(alloc, &self.data_type, &tree)?;
+        let line = Vec::from_slice(alloc, b"ok")?;
+        self.store(alloc, &edit)?;
+        Ok(line)
+    }
+
     fn erase(&mut self, alloc: Global) -> Result<Vec<u8>, Refusal>
         ensures answer { Answers wants_memory (λ line. (line.items, state_of self.new)) result (erase_answer (state_of self.old)) }
         ensures kept { OnErr result (state_of self.new ≡ state_of self.old) }
@@ -239,6 +292,7 @@ impl Session {
             Command::Encode(text) => self.encode(alloc, text),
             Command::Load(text) => self.load(alloc, text),
             Command::Read(text) => self.read(alloc, text),
+            Command::Write(text) => self.write(alloc, text),
             Command::Decode => self.decode(alloc),
             Command::Erase => self.erase(alloc),
             Command::Value => self.value(alloc),

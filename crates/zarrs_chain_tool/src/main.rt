@@ -1,4 +1,4 @@
-//! Encodes, decodes and reads one chunk, by commands on the standard input.
+//! Encodes, decodes, reads and writes one chunk, by commands on the standard input.
 //!
 //! The first line is the header, a JSON object with the chunk's `shape`, `data_type`, `fill_value`
 //! and `codecs`. Each line after it is a command, which one line answers.
