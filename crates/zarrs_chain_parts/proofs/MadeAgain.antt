@@ -1,11 +1,11 @@
 -- What is written of a chain makes an equal one.
 use Rattle.std.proofs.Common.{◌≡◌, ◌∙◌, ℕ, List, [], ◌∷◌, ◌++◌, Ok, Err, Bool, true, false, Option, Some, None, map, refl, ap, sym, subst, append_assoc, append-nil}
-use Rattle.std.specs.Prelude.{Result, not, All}
+use Rattle.std.specs.Prelude.{Result, not, All, IfOk}
 use Rattle.std.proofs.lemmas.Bool.{false≢true}
 use Rattle.std.proofs.lemmas.List.Elements.{All-head, All-tail}
 use Rattle.serde_json.specs.Data.{Members}
 use Rattle.serde_json.specs.Written.{members_have_float}
-use Rattle.zarrs_chunk.specs.Answer.{◌>>=◌, seen}
+use Rattle.zarrs_chunk.specs.Answer.{◌>>=◌, seen, Answers}
 use Rattle.zarrs_data_type.specs.declared.endianness.Endianness.{Endianness}
 use Rattle.zarrs_data_type.specs.declared.endianness.Endianness.TheVariants.{Little, Big}
 use Rattle.zarrs_metadata.specs.BytesConfiguration.{write_bytes}
@@ -26,7 +26,8 @@ use Rattle.zarrs_packbits.specs.SettingsMetadata.{read_settings, write_settings}
 use Rattle.zarrs_packbits.proofs.MadeAgain.{made_again}
 use Rattle.zarrs_chain_parts.specs.VlenSettings.{is_wide, is_at_end}
 use Rattle.zarrs_chain_parts.specs.CodecNames.{codec_named, vlen_name, optional_name}
-use Rattle.zarrs_chain_parts.specs.MadeAgain.{IsMadeAgain, HasCodecs, IsChainOf, ChainsAreMadeAgain}
+use Rattle.zarrs_chain_parts.specs.Laws.{HasMappings, IsChainOfMappings}
+use Rattle.zarrs_chain_parts.specs.MadeAgain.{IsMadeAgain, HasCodecs, IsChainOf, HasRanges, HasOuter, HasBytesCodecs, ChainsAreMadeAgain}
 use Rattle.zarrs_chain_parts.specs.MadeChain.{CodecMade, array_made, to_bytes_made, outer_made, Gathered, vlen_of_parts, optional_of_chains, asked_maker, made_by_name, codec_made, with_codec, joined, gathered, finished, nothing_gathered, chain_made_by, chain_made, vlen_made_by, optional_made_by}
 use Rattle.zarrs_chain_parts.specs.PlainChain.{PlainCodec, bytes_codec, packbits_codec, vlen_codec, optional_codec, PlainChain, vlen_codec_of, optional_codec_of}
 use Rattle.zarrs_chain_parts.specs.WrittenMetadata.{offset_type_of, index_place, mapping_metadata, codec_name, listed, codec_configuration, to_bytes_metadata, chain_metadatas}
@@ -170,3 +171,28 @@ codec-again described makes (optional_codec ma mx mb da dx db) h =
 pub chains_made_again : {B : Type 0} → ChainsAreMadeAgain B
 chains_made_again described makes chain h =
     list-again described makes chain.arrays chain.codec chain.outer h.arrays (codec-again described makes chain.codec h.codec) h.outer
+
+-- ---- the list that is written of a chain
+
+codecs-held : {B : Type 0} (P : B → Type 0) (codec : PlainCodec B) → HasMappings codec → HasRanges codec → HasOuter P codec → HasCodecs P codec
+codecs-held P (bytes_codec order) m r o = tt
+codecs-held P (packbits_codec settings) m r o = r
+codecs-held P (vlen_codec ia ix ib da dx db wide at_end) m r o =
+    ((m.0, codecs-held P ix m.1 r.0 o.0.0, o.0.1), (m.2, codecs-held P dx m.3 r.1 o.1.0, o.1.1))
+codecs-held P (optional_codec ma mx mb da dx db) m r o =
+    ((m.0, codecs-held P mx m.1 r.0 o.0.0, o.0.1), (m.2, codecs-held P dx m.3 r.1 o.1.0, o.1.1))
+
+-- what is in the list, where there is one
+metadatas_in : {A : Type 0} (view : A → List Metadata) (result : Result A PluginCreateError) → List Metadata
+metadatas_in view (Ok list) = view list
+metadatas_in view (Err e) = []
+
+-- the list that a call answers as what is written of a chain makes the chain again
+pub list_makes_again : {A B : Type 0} (excuse : PluginCreateError → Bool) (view : A → List Metadata) (result : Result A PluginCreateError) (described : B → Metadata) (chain : PlainChain B)
+    → Answers excuse view result (Ok (chain_metadatas described chain)) → IsChainOfMappings chain → HasRanges chain.codec
+    → IfOk result (λ list. (makes : Metadata → Result (Option B) PluginCreateError) → HasBytesCodecs (IsMadeAgain described makes) chain → chain_made makes (view list) ≡ Ok chain)
+unfolding metadatas_in
+list_makes_again excuse view (Ok list) described chain answer m r = λ makes o.
+    ap (λ x. chain_made makes (metadatas_in (λ l. l) x)) (sym answer)
+    ∙ chains_made_again described makes chain (record { arrays = m.mappings; codec = codecs-held (IsMadeAgain described makes) chain.codec m.inside r o.inside; outer = o.outer })
+list_makes_again excuse view (Err e) described chain answer m r = tt

@@ -28,6 +28,25 @@ pub record IsChainOf {B : Type 0} (P : B → Type 0) (chain : PlainChain B) : Ty
   pub codec : HasCodecs P chain.codec
   pub outer : All P chain.outer
 
+-- the bits that the codec keeps, and those of all chains inside, are ranges
+abbrev pub HasRanges : {B : Type 0} → PlainCodec B → Type 0
+HasRanges (bytes_codec order) = Unit {0}
+HasRanges (packbits_codec settings) = is_reversed settings.first_bit settings.last_bit ≡ false
+HasRanges (vlen_codec ia ix ib da dx db wide at_end) = HasRanges ix × HasRanges dx
+HasRanges (optional_codec ma mx mb da dx db) = HasRanges mx × HasRanges dx
+
+-- P holds of each bytes codec of all chains inside
+abbrev pub HasOuter : {B : Type 0} → (B → Type 0) → PlainCodec B → Type 0
+HasOuter P (bytes_codec order) = Unit {0}
+HasOuter P (packbits_codec settings) = Unit {0}
+HasOuter P (vlen_codec ia ix ib da dx db wide at_end) = (HasOuter P ix × All P ib) × (HasOuter P dx × All P db)
+HasOuter P (optional_codec ma mx mb da dx db) = (HasOuter P mx × All P mb) × (HasOuter P dx × All P db)
+
+-- P holds of each bytes codec of the chain, and of those of all chains inside
+pub record HasBytesCodecs {B : Type 0} (P : B → Type 0) (chain : PlainChain B) : Type 0 where
+  pub inside : HasOuter P chain.codec
+  pub outer : All P chain.outer
+
 -- what is written of a chain makes that chain, where the maker makes its bytes codecs again
 abbrev pub ChainsAreMadeAgain : Type 0 → Type 0
 ChainsAreMadeAgain B =

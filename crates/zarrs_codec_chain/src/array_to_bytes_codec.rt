@@ -6,12 +6,16 @@ ghost use Rattle.zarrs_chain_parts.specs.Chain.{codec_held_value, codec_reads as
 ghost use Rattle.zarrs_codec_chain.specs.ChainView.{plain_codec};
 ghost use Rattle.zarrs_chain_parts.specs.Decode.{codec_chunk};
 ghost use Rattle.zarrs_chain_parts.specs.Laws.{HasMappings};
+ghost use Rattle.zarrs_chain_parts.specs.MadeAgain.{HasRanges};
 ghost use Rattle.zarrs_chain_parts.specs.Representation.{codec_representation as codec_representation_of};
 
 use crate::optional_codec::{
-    OptionalCodec, optional_decode, optional_encode, optional_is_sound, optional_representation,
+    OptionalCodec, optional_decode, optional_encode, optional_has_ranges, optional_is_sound,
+    optional_representation,
 };
-use crate::vlen_codec::{VlenCodec, vlen_decode, vlen_encode, vlen_is_sound, vlen_representation};
+use crate::vlen_codec::{
+    VlenCodec, vlen_decode, vlen_encode, vlen_has_ranges, vlen_is_sound, vlen_representation,
+};
 use std::alloc::Global;
 use zarrs_array_bytes::{ArrayBytes, ArrayBytesRaw};
 use zarrs_bytes::BytesCodec;
@@ -48,6 +52,20 @@ pub(crate) fn codec_is_sound<B>(codec: &ArrayToBytesCodec<B>)
         ArrayToBytesCodec::PackBits(_) => {}
         ArrayToBytesCodec::Vlen(codec) => vlen_is_sound(codec),
         ArrayToBytesCodec::Optional(codec) => optional_is_sound(codec),
+    }
+}
+
+/// The bits that the codec keeps, and those that the chains inside keep, are ranges.
+#[cycle(ranges)]
+#[tactic(auto, unfolding(crate::specs::ChainView::plain_codec))]
+pub(crate) fn codec_has_ranges<B>(codec: &ArrayToBytesCodec<B>)
+    ensures ranges { HasRanges (plain_codec codec.now) }
+{
+    match codec {
+        ArrayToBytesCodec::Bytes(_) => {}
+        ArrayToBytesCodec::PackBits(codec) => codec.is_sound(),
+        ArrayToBytesCodec::Vlen(codec) => vlen_has_ranges(codec),
+        ArrayToBytesCodec::Optional(codec) => optional_has_ranges(codec),
     }
 }
 

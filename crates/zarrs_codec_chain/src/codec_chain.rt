@@ -10,11 +10,14 @@ ghost use Rattle.zarrs_chain_parts.specs.Chain.{held_value, outer_reads as outer
 ghost use Rattle.zarrs_codec_chain.specs.ChainView.{plain_chain, plain_codec};
 ghost use Rattle.zarrs_chain_parts.specs.Decode.{chain_chunk};
 ghost use Rattle.zarrs_chain_parts.specs.Laws.{IsChainOfMappings};
+ghost use Rattle.zarrs_chain_parts.specs.MadeAgain.{HasRanges};
 ghost use Rattle.zarrs_chain_parts.specs.Representation.{chain_representation as chain_representation_of};
 ghost use Rattle.zarrs_chain_parts.specs.Stands.{ChainStands};
 ghost use Rattle.zarrs_chain_parts.specs.Written.{ChainWritten};
 
-use crate::array_to_bytes_codec::{ArrayToBytesCodec, codec_is_sound, codec_reads, codec_writes};
+use crate::array_to_bytes_codec::{
+    ArrayToBytesCodec, codec_has_ranges, codec_is_sound, codec_reads, codec_writes,
+};
 use crate::decode::chain_decode;
 use crate::encode::chain_encode;
 use crate::representation::chain_representation;
@@ -97,6 +100,14 @@ pub fn chain_is_sound<B>(chain: &CodecChain<B>)
 {
     arrays_are_sound(&chain.array_to_array);
     codec_is_sound(&chain.array_to_bytes);
+}
+
+/// The bits that `packbits` keeps, in the chain and in those inside it, are ranges.
+#[cycle(ranges)]
+pub(crate) fn chain_has_ranges<B>(chain: &CodecChain<B>)
+    ensures ranges { HasRanges (plain_chain chain.now).codec }
+{
+    codec_has_ranges(&chain.array_to_bytes);
 }
 
 impl<B: BytesToBytesCodecTraits> CodecChain<B> {

@@ -13,6 +13,7 @@ ghost use Rattle.zarrs_codec_chain.specs.ChainView.{plain_chain, plain_optional}
 ghost use Rattle.zarrs_chain_parts.specs.Decode.{codec_chunk, chain_chunk};
 ghost use Rattle.zarrs_chain_parts.specs.Encode.{byte_elements, chain_value, codec_value};
 ghost use Rattle.zarrs_chain_parts.specs.Laws.{HasMappings};
+ghost use Rattle.zarrs_chain_parts.specs.MadeAgain.{HasRanges};
 ghost use Rattle.zarrs_chain_parts.specs.OptionalParts.{optional_inner, present_part};
 ghost use Rattle.zarrs_chain_parts.specs.PlainChain.{optional_codec_of};
 ghost use Rattle.zarrs_chain_parts.specs.Representation.{codec_representation, flag_type, blank_fill as blank_fill_of};
@@ -20,7 +21,7 @@ ghost use Rattle.zarrs_chain_parts.specs.Stands.{CodecStands};
 ghost use Rattle.zarrs_chain_parts.specs.Written.{CodecWritten};
 ghost use Rattle.zarrs_chain_parts.specs.WrittenMetadata.{codec_configuration};
 
-use crate::codec_chain::{CodecChain, chain_is_sound};
+use crate::codec_chain::{CodecChain, chain_has_ranges, chain_is_sound};
 use crate::decode::{chain_decode, part_decode};
 use crate::encode::{chain_encode, check_elements, part_encode};
 use crate::metadata::write_chain::chain_written;
@@ -70,6 +71,16 @@ pub(crate) fn optional_is_sound<B>(codec: &OptionalCodec<B>)
 {
     chain_is_sound(&codec.mask_codecs);
     chain_is_sound(&codec.data_codecs);
+}
+
+/// The bits that the chains inside keep are ranges.
+#[cycle(ranges)]
+#[tactic(auto, using(crate::specs::ChainView::plain_optional_at))]
+pub(crate) fn optional_has_ranges<B>(codec: &OptionalCodec<B>)
+    ensures ranges { HasRanges (plain_optional codec.now) }
+{
+    chain_has_ranges(&codec.mask_codecs);
+    chain_has_ranges(&codec.data_codecs);
 }
 
 /// The configuration that is written of the codec. Refusals: `OutOfMemory`.

@@ -13,6 +13,7 @@ ghost use Rattle.zarrs_chain_parts.specs.VlenSettings.{is_wide, is_at_end};
 ghost use Rattle.zarrs_chain_parts.specs.Decode.{codec_chunk};
 ghost use Rattle.zarrs_codec_chain.specs.DefaultVlen.{bytes_chain, default_vlen};
 ghost use Rattle.zarrs_chain_parts.specs.Laws.{HasMappings};
+ghost use Rattle.zarrs_chain_parts.specs.MadeAgain.{HasRanges};
 ghost use Rattle.zarrs_chain_parts.specs.PlainChain.{vlen_codec_of, with_location};
 ghost use Rattle.zarrs_chain_parts.specs.Representation.{codec_representation, vlen_representation as vlen_representation_of};
 ghost use Rattle.zarrs_chain_parts.specs.Stands.{CodecStands};
@@ -21,7 +22,7 @@ ghost use Rattle.zarrs_chain_parts.specs.Written.{CodecWritten};
 ghost use Rattle.zarrs_chain_parts.specs.WrittenMetadata.{codec_configuration};
 
 use crate::array_to_bytes_codec::ArrayToBytesCodec;
-use crate::codec_chain::{CodecChain, chain_is_sound};
+use crate::codec_chain::{CodecChain, chain_has_ranges, chain_is_sound};
 use crate::decode::part_decode;
 use crate::encode::{check_elements, part_encode};
 use crate::metadata::write_chain::chain_written;
@@ -124,6 +125,16 @@ pub fn vlen_is_sound<B>(codec: &VlenCodec<B>)
 {
     chain_is_sound(&codec.index_codecs);
     chain_is_sound(&codec.data_codecs);
+}
+
+/// The bits that the chains inside keep are ranges.
+#[cycle(ranges)]
+#[tactic(auto, using(crate::specs::ChainView::plain_vlen_at))]
+pub(crate) fn vlen_has_ranges<B>(codec: &VlenCodec<B>)
+    ensures ranges { HasRanges (plain_vlen codec.now) }
+{
+    chain_has_ranges(&codec.index_codecs);
+    chain_has_ranges(&codec.data_codecs);
 }
 
 /// The configuration that is written of the codec. Refusals: `OutOfMemory`.

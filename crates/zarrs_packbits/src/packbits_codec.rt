@@ -12,7 +12,7 @@ ghost use Rattle.zarrs_codec.specs.declared.capabilities.PartialEncoderCapabilit
 ghost use Rattle.zarrs_packbits.specs.Bits.{bits_of};
 ghost use Rattle.zarrs_packbits.specs.BitStream.{components_from, stream_of_bytes};
 ghost use Rattle.zarrs_packbits.specs.PackBitsCodec.{packbits_value, packbits_chunk, PackBitsStands, PackBitsWritten};
-ghost use Rattle.zarrs_packbits.specs.PackBitsSettings.{packbits_settings, keeps_all_bytes, packed_layout, packbits_length, first_of, last_of, padding_for};
+ghost use Rattle.zarrs_packbits.specs.PackBitsSettings.{is_reversed, packbits_settings, keeps_all_bytes, packed_layout, packbits_length, first_of, last_of, padding_for};
 ghost use Rattle.zarrs_packbits.specs.PackedLayout.{IsPackedLayout, is_whole, parts_of, spare_of};
 ghost use Rattle.zarrs_packbits.specs.Packing.{packing};
 ghost use Rattle.zarrs_packbits.specs.SettingsMetadata.{settings_made, write_settings};
@@ -170,6 +170,14 @@ impl PackBitsCodec {
             first_bit,
             last_bit,
         })
+    }
+
+    /// Where both bits are given, the last isn't below the first, by the type. It does nothing when it
+    /// runs.
+    pub fn is_sound(&self)
+        ensures sound { is_reversed self.now.first_bit self.now.last_bit ≡ false }
+    {
+        let _ = &self.first_bit;
     }
 
     /// The first bit of a component that is kept.

@@ -1,13 +1,16 @@
 //! What codecs to bytes say of themselves, as every codec does, and the metadata of a chain.
-ghost use Rattle.std.specs.Prelude.{Ok, map};
+ghost use Rattle.std.specs.Prelude.{◌≡◌, Option, Result, Ok, IfOk, map};
 ghost use Rattle.zarrs_chunk.specs.Answer.{Answers};
+ghost use Rattle.zarrs_metadata.specs.Metadata.{Metadata};
 ghost use Rattle.zarrs_metadata.specs.MetadataV3.{metadata_seen};
 ghost use Rattle.zarrs_metadata.specs.PluginCreateError.{plugin_memory};
 ghost use Rattle.zarrs_codec_chain.specs.ChainView.{plain_chain};
+ghost use Rattle.zarrs_chain_parts.specs.MadeAgain.{IsMadeAgain, HasBytesCodecs};
+ghost use Rattle.zarrs_chain_parts.specs.MadeChain.{chain_made};
 ghost use Rattle.zarrs_chain_parts.specs.WrittenMetadata.{chain_metadatas};
 
 use crate::array_to_bytes_codec::{ArrayToBytesCodec, codec_reads, codec_writes};
-use crate::codec_chain::CodecChain;
+use crate::codec_chain::{CodecChain, chain_has_ranges, chain_is_sound};
 use crate::metadata::write_chain::{chain_written, codec_name, codec_written};
 use crate::optional_codec::{OptionalCodec, optional_written};
 use crate::vlen_codec::{VlenCodec, vlen_written};
@@ -25,7 +28,10 @@ impl<B: BytesToBytesCodecTraits> CodecChain<B> {
     /// `OutOfMemory`.
     pub fn create_metadatas(&self, alloc: Global) -> Result<Vec<MetadataV3>, PluginCreateError>
         ensures answer { Answers plugin_memory (λ list. map metadata_seen list.items) result (Ok (chain_metadatas B.described (plain_chain self.now))) }
+        ensures made_again { IfOk result (λ list. (makes : Metadata → Result (Option B) PluginCreateError) → HasBytesCodecs (IsMadeAgain B.described makes) (plain_chain self.now) → chain_made makes (map metadata_seen list.items) ≡ Ok (plain_chain self.now)) }
     {
+        chain_is_sound(self);
+        chain_has_ranges(self);
         chain_written(alloc, self)
     }
 }
