@@ -15,15 +15,13 @@ mod edits;
 #[cfg(test)]
 mod forms;
 #[cfg(test)]
-mod nested;
-#[cfg(test)]
-mod nested_forms;
-#[cfg(test)]
-mod nested_reads;
+mod made;
 #[cfg(test)]
 mod parts;
 #[cfg(test)]
 mod reads;
+#[cfg(test)]
+mod refusals;
 #[cfg(test)]
 mod rows;
 #[cfg(test)]

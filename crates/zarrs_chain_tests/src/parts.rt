@@ -1,16 +1,17 @@
 //! What a chain is made of, and what it does in part.
 
 use crate::checks::is;
-use crate::forms::{Moving, ToBytes, Told, chain, chunk_form};
+use crate::forms::{BYTE, Chain, Moving, ToBytes, Told, chain, chunk_form};
 use std::alloc::Global;
 use std::process::Abort;
 use std::test::Fail;
 use zarrs_array_to_array::ArrayToArrayCodec;
+use zarrs_chunk::CodecError;
 use zarrs_codec::{
     ArrayCodecTraits, CodecTraits, PartialDecoderCapability, PartialEncoderCapability,
     SampleBytesCodec,
 };
-use zarrs_codec_chain::{ArrayToBytesCodec, CodecChain};
+use zarrs_codec_chain::ArrayToBytesCodec;
 use zarrs_metadata::PackBitsPaddingEncoding;
 
 const PLAIN: ToBytes = ToBytes::Bytes(None);
@@ -19,10 +20,10 @@ const PACKED: ToBytes = ToBytes::Packed(PackBitsPaddingEncoding::None, None, Non
 
 const OUTER: &'static [SampleBytesCodec] = &[SampleBytesCodec::Length, SampleBytesCodec::Reverse];
 
-const SHOWN: Told = (&[Moving::By(&[1, 0]), Moving::Flat], PACKED, OUTER);
+const SHOWN: Told = Told::Flat((&[Moving::By(&[1, 0]), Moving::Flat], PACKED, OUTER));
 
 /// The chain transposes, does one thing more to chunks, packs them, and has these codecs of bytes.
-fn has_parts(rt: &impl Abort, chain: &CodecChain<SampleBytesCodec>) {
+fn has_parts(rt: &impl Abort, chain: &Chain) {
     let moves = chain.array_to_array_codecs();
     is(rt, "moves", &moves.len(), &2);
     let transposes = matches!(moves.first(), Some(ArrayToArrayCodec::Transpose(_)));
@@ -41,13 +42,13 @@ fn shows_its_parts(rt: HostRuntime) -> Result<(), Fail> {
 }
 
 /// A chain, whether it reads in part, and whether it writes in part.
-type Capable = (Told, bool, bool);
+type Capable = (&'static Told, bool, bool);
 
 const CAPABLE: &'static [Capable] = &[
-    ((&[Moving::Flat], PLAIN, &[]), true, true),
-    ((&[Moving::Flat], PACKED, &[]), true, false),
-    ((&[], PLAIN, OUTER), false, false),
-    (SHOWN, false, false),
+    (&Told::Flat((&[Moving::Flat], PLAIN, &[])), true, true),
+    (&Told::Flat((&[Moving::Flat], PACKED, &[])), true, false),
+    (&Told::Flat((&[], PLAIN, OUTER)), false, false),
+    (&SHOWN, false, false),
 ];
 
 fn is_capable(rt: &impl Abort, alloc: Global, row: &Capable) -> Result<(), Fail> {
@@ -73,11 +74,16 @@ fn does_in_part_what_its_codecs_do(rt: HostRuntime) -> Result<(), Fail> {
     Ok(())
 }
 
+fn is_whole(rt: &impl Abort, alloc: Global, chain: &Chain) -> Result<(), CodecError> {
+    let form = chunk_form(alloc, &(&[2, 3], BYTE, 0))?;
+    let came = chain.partial_decode_granularity(alloc, &form.shape)?;
+    is(rt, "granularity", &came, &form.shape);
+    Ok(())
+}
+
 #[test]
 fn is_decoded_whole(rt: HostRuntime) -> Result<(), Fail> {
     let chain = chain(rt.alloc(), &SHOWN)?;
-    let form = chunk_form(rt.alloc(), &(&[2, 3], 8, false))?;
-    let came = chain.partial_decode_granularity(rt.alloc(), &form.shape)?;
-    is(&rt, "granularity", &came, &form.shape);
+    is_whole(&rt, rt.alloc(), &chain)?;
     Ok(())
 }

@@ -1,32 +1,19 @@
 //! Reads in part through chains.
 
-use crate::checks::{are, is};
-use crate::forms::{ChunkForm, Form, Moving, ToBytes, Told, chain, chunk_form};
-use std::alloc::{AllocError, Global};
+use crate::checks::{is, is_cause};
+use crate::forms::{
+    BYTE, Chain, ChunkForm, FIRST_BYTE, Form, HALF_BYTES, Held, Kind, Moving, NO_FIRST_BIT,
+    OPTIONAL_STRINGS, OPTIONS, PACKED, PLAIN, SHORT_OFFSETS, STRINGS, THREE_LEVELS, TURNED,
+    TURNED_TWICE, TWO_LEVELS, ToBytes, Told, WITH_LENGTH, chain, chunk_form, held,
+};
+use crate::made::{Decoder, decoder, subset};
+use std::alloc::Global;
 use std::ops::Range;
 use std::process::Abort;
 use std::test::Fail;
-use zarrs_chain_partial::{ArrayPartialDecoder, CodecChainPartialTraits};
-use zarrs_chunk::{ArraySubset, CodecError, Indexer};
-use zarrs_codec::{ByteRange, MemoryHandle, SampleBytesCodec};
-use zarrs_data_type::{Endianness, FillValue};
+use zarrs_chunk::CodecError;
+use zarrs_codec::{ByteRange, SampleBytesCodec};
 use zarrs_metadata::PackBitsPaddingEncoding;
-
-type Decoder<'a> = ArrayPartialDecoder<'a, MemoryHandle, SampleBytesCodec>;
-
-const PLAIN: ToBytes = ToBytes::Bytes(None);
-
-const KEPT_BITS: ToBytes = ToBytes::Packed(PackBitsPaddingEncoding::None, None, None);
-
-const FIRST_BYTE: ToBytes = ToBytes::Packed(PackBitsPaddingEncoding::FirstByte, None, None);
-
-const NO_FIRST_BIT: ToBytes = ToBytes::Packed(PackBitsPaddingEncoding::None, Some(1), None);
-
-const TO_BIT_FIVE: ToBytes = ToBytes::Packed(PackBitsPaddingEncoding::None, None, Some(5));
-
-const WITH_LENGTH: &'static [SampleBytesCodec] = &[SampleBytesCodec::Length];
-
-const BOTH: &'static [SampleBytesCodec] = &[SampleBytesCodec::Length, SampleBytesCodec::Reverse];
 
 const COUNTED: &'static [u8] = &[0, 1, 2, 3, 4, 5, 6, 7, 8, 9, 10, 11, 12, 13, 14, 15];
 
@@ -35,149 +22,265 @@ const MOVED: &'static [u8] = &[
     0, 0, 0, 0, 0, 0, 0, 1, 0, 0, 0, 4, 0, 0, 0, 5, 0, 0, 0, 2, 0, 0, 0, 3, 0, 0, 0, 6, 0, 0, 0, 7,
 ];
 
+/// Strings "a" and "bc".
+pub(crate) const TWO_STRINGS: &'static [u8] = &[
+    24, 0, 0, 0, 0, 0, 0, 0, 0, 0, 0, 0, 0, 0, 0, 0, 1, 0, 0, 0, 0, 0, 0, 0, 3, 0, 0, 0, 0, 0, 0,
+    0, 97, 98, 99,
+];
+
+/// The strings s00, s10abc, s01a, s11abcd, s02ab and s12abcde, all turned round.
+const SIX_STRINGS: &'static [u8] = &[
+    101, 100, 99, 98, 97, 50, 49, 115, 98, 97, 50, 48, 115, 100, 99, 98, 97, 49, 49, 115, 97, 49,
+    48, 115, 99, 98, 97, 48, 49, 115, 48, 48, 115, 0, 0, 0, 0, 0, 0, 0, 33, 0, 0, 0, 0, 0, 0, 0,
+    25, 0, 0, 0, 0, 0, 0, 0, 20, 0, 0, 0, 0, 0, 0, 0, 13, 0, 0, 0, 0, 0, 0, 0, 9, 0, 0, 0, 0, 0, 0,
+    0, 3, 0, 0, 0, 0, 0, 0, 0, 0, 0, 0, 0, 0, 0, 0, 0, 56,
+];
+
+const TO_BIT_FIVE: Told = Told::Flat((
+    &[],
+    ToBytes::Packed(PackBitsPaddingEncoding::None, None, Some(5)),
+    &[],
+));
+
+/// Axes turned, the length of the value before it, and then all turned round.
+const TURNED_AND_BOTH: Told = Told::Flat((
+    &[Moving::By(&[1, 0])],
+    ToBytes::Bytes(None),
+    &[SampleBytesCodec::Length, SampleBytesCodec::Reverse],
+));
+
 /// A chain, a chunk, what is stored, the ranges that are asked for, the elements that they mean, and
 /// how many bytes are kept in memory.
 type Read = (
-    Told,
+    &'static Told,
     Form,
     Option<&'static [u8]>,
     &'static [Range<u64>],
-    &'static [u8],
+    Held,
     usize,
 );
 
-/// Reads of the places' bytes alone: of a value that is cut short too.
+/// Reads of the places' bytes alone, of a value that is cut short too: the handle keeps the value.
 const LOCAL: &'static [Read] = &[
     (
-        (&[], PLAIN, &[]),
-        (&[4, 4], 8, false),
+        &PLAIN,
+        (&[4, 4], BYTE, 0),
         Some(COUNTED),
         &[1..3, 0..1],
-        &[4, 8],
+        (&[4, 8], &[], &[]),
         16,
     ),
     (
-        (
-            &[Moving::By(&[0, 2, 1]), Moving::By(&[2, 0, 1])],
-            ToBytes::Bytes(Some(Endianness::Big)),
-            &[],
-        ),
-        (&[2, 2, 2], 32, false),
+        &TURNED_TWICE,
+        (&[2, 2, 2], Kind::Bits(32, false), 0),
         Some(MOVED),
         &[0..2, 1..2, 0..1],
-        &[2, 0, 0, 0, 6, 0, 0, 0],
+        (&[2, 0, 0, 0, 6, 0, 0, 0], &[], &[]),
         32,
     ),
     (
-        (&[], KEPT_BITS, &[]),
-        (&[8, 5], 1, false),
+        &PACKED,
+        (&[8, 5], Kind::Bits(1, false), 0),
         Some(&[73, 146, 36, 73, 146]),
         &[1..4, 1..4],
-        &[1, 0, 0, 0, 1, 0, 0, 0, 1],
+        (&[1, 0, 0, 0, 1, 0, 0, 0, 1], &[], &[]),
         5,
     ),
     (
-        (&[], FIRST_BYTE, &[]),
-        (&[4], 2, false),
+        &FIRST_BYTE,
+        (&[4], Kind::Bits(2, false), 0),
         Some(&[1, 228]),
         &[0..4],
-        &[0, 1, 2, 3],
+        (&[0, 1, 2, 3], &[], &[]),
         2,
     ),
     (
-        (&[], NO_FIRST_BIT, &[]),
-        (&[2], 4, true),
+        &NO_FIRST_BIT,
+        (&[2], Kind::Bits(4, true), 0),
         Some(&[59]),
         &[1..2],
-        &[254],
+        (&[254], &[], &[]),
         1,
     ),
     (
-        (&[], TO_BIT_FIVE, &[]),
-        (&[1], 16, true),
+        &TO_BIT_FIVE,
+        (&[1], Kind::Bits(16, true), 0),
         Some(&[61]),
         &[0..1],
-        &[253, 255],
+        (&[253, 255], &[], &[]),
         1,
     ),
     (
-        (&[], PLAIN, &[]),
-        (&[4], 8, false),
+        &PLAIN,
+        (&[4], BYTE, 0),
         Some(&[10, 11, 12]),
         &[0..2],
-        &[10, 11],
+        (&[10, 11], &[], &[]),
         3,
     ),
     (
-        (&[], PLAIN, &[]),
-        (&[4], 8, false),
+        &PLAIN,
+        (&[4], BYTE, 0),
         Some(&[10, 11, 12]),
         &[4..4],
-        &[],
+        (&[], &[], &[]),
         3,
     ),
     (
-        (&[], PLAIN, &[]),
-        (&[4], 8, false),
+        &PLAIN,
+        (&[4], BYTE, 0),
         None,
         &[1..3],
-        &[0, 0],
+        (&[0, 0], &[], &[]),
         0,
     ),
 ];
 
-/// Reads of what a cache keeps.
+/// Reads of what a cache keeps: the decoded bytes; of chains inside the chunk's bytes, 8 for each
+/// offset and one for each mask byte. Behind the bytes codecs stand, of strings: one of two; both, of
+/// which half of each byte is kept; a row of a turned chunk; "a" at offsets 1 and 2; empty ones,
+/// before a data part that is never looked at. Then 5 and absent; a present absent element and
+/// absent; "hi"; two of three levels; and fill values where nothing is stored.
 const CACHED: &'static [Read] = &[
     (
-        (&[], PLAIN, WITH_LENGTH),
-        (&[2], 8, false),
+        &WITH_LENGTH,
+        (&[2], BYTE, 0),
         Some(&[2, 0, 0, 0, 0, 0, 0, 0, 1, 2]),
         &[1..2],
-        &[2],
+        (&[2], &[], &[]),
         2,
     ),
     (
-        (&[Moving::By(&[1, 0])], PLAIN, BOTH),
-        (&[1, 2], 8, false),
+        &TURNED_AND_BOTH,
+        (&[1, 2], BYTE, 0),
         Some(&[2, 1, 0, 0, 0, 0, 0, 0, 0, 2]),
         &[0..1, 0..2],
-        &[1, 2],
+        (&[1, 2], &[], &[]),
         2,
     ),
     (
-        (&[], PLAIN, WITH_LENGTH),
-        (&[2], 8, false),
+        &WITH_LENGTH,
+        (&[2], BYTE, 0),
         None,
         &[0..2],
-        &[0, 0],
+        (&[0, 0], &[], &[]),
+        0,
+    ),
+    (
+        &STRINGS,
+        (&[2], Kind::Text, 0),
+        Some(TWO_STRINGS),
+        &[1..2],
+        (b"bc", &[0, 2], &[]),
+        27,
+    ),
+    (
+        &HALF_BYTES,
+        (&[2], Kind::Text, 0),
+        Some(&[
+            24, 0, 0, 0, 0, 0, 0, 0, 0, 0, 0, 0, 0, 0, 0, 0, 1, 0, 0, 0, 0, 0, 0, 0, 2, 0, 0, 0, 0,
+            0, 0, 0, 33,
+        ]),
+        &[0..2],
+        (&[1, 2], &[0, 1, 2], &[]),
+        26,
+    ),
+    (
+        &Told::TurnedStrings,
+        (&[2, 3], Kind::Text, 0),
+        Some(SIX_STRINGS),
+        &[0..1, 1..3],
+        (b"s01as02ab", &[0, 4, 9], &[]),
+        89,
+    ),
+    (
+        &SHORT_OFFSETS,
+        (&[1], Kind::Text, 0),
+        Some(&[8, 0, 0, 0, 0, 0, 0, 0, 1, 0, 0, 0, 2, 0, 0, 0, 120, 97]),
+        &[0..1],
+        (b"a", &[0, 1], &[]),
+        18,
+    ),
+    (
+        &STRINGS,
+        (&[2], Kind::Text, 0),
+        Some(&[
+            24, 0, 0, 0, 0, 0, 0, 0, 0, 0, 0, 0, 0, 0, 0, 0, 0, 0, 0, 0, 0, 0, 0, 0, 0, 0, 0, 0, 0,
+            0, 0, 0, 7,
+        ]),
+        &[0..2],
+        (b"", &[0, 0, 0], &[]),
+        24,
+    ),
+    (
+        &OPTIONS,
+        (&[3], BYTE, 1),
+        Some(&[
+            3, 0, 0, 0, 0, 0, 0, 0, 2, 0, 0, 0, 0, 0, 0, 0, 1, 0, 1, 5, 7,
+        ]),
+        &[0..2],
+        (&[5, 0], &[], &[&[1, 0]]),
+        6,
+    ),
+    (
+        &TWO_LEVELS,
+        (&[3], BYTE, 2),
+        Some(&[
+            3, 0, 0, 0, 0, 0, 0, 0, 19, 0, 0, 0, 0, 0, 0, 0, 1, 1, 0, 2, 0, 0, 0, 0, 0, 0, 0, 1, 0,
+            0, 0, 0, 0, 0, 0, 1, 0, 42,
+        ]),
+        &[1..3],
+        (&[0, 0], &[], &[&[0, 0], &[1, 0]]),
+        9,
+    ),
+    (
+        &OPTIONAL_STRINGS,
+        (&[2], Kind::Text, 1),
+        Some(&[
+            1, 0, 0, 0, 0, 0, 0, 0, 26, 0, 0, 0, 0, 0, 0, 0, 1, 16, 0, 0, 0, 0, 0, 0, 0, 0, 0, 0,
+            0, 0, 0, 0, 0, 2, 0, 0, 0, 0, 0, 0, 0, 104, 105,
+        ]),
+        &[0..1],
+        (b"hi", &[0, 2], &[&[1]]),
+        28,
+    ),
+    (
+        &THREE_LEVELS,
+        (&[3], Kind::Text, 2),
+        Some(&[
+            1, 0, 0, 0, 0, 0, 0, 0, 44, 0, 0, 0, 0, 0, 0, 0, 5, 2, 0, 0, 0, 0, 0, 0, 0, 26, 0, 0,
+            0, 0, 0, 0, 0, 1, 0, 2, 0, 0, 0, 0, 0, 0, 0, 104, 105, 0, 0, 0, 0, 2, 0, 0, 0, 8, 0, 0,
+            0, 0, 0, 0, 0,
+        ]),
+        &[0..2],
+        (b"hi", &[0, 2, 2], &[&[1, 0], &[1, 0]]),
+        40,
+    ),
+    (
+        &STRINGS,
+        (&[2], Kind::Text, 0),
+        None,
+        &[0..2],
+        (b"", &[0, 0, 0], &[]),
+        0,
+    ),
+    (
+        &Told::TurnedStrings,
+        (&[2, 3], Kind::Text, 0),
+        None,
+        &[0..1, 1..3],
+        (b"", &[0, 0, 0], &[]),
+        0,
+    ),
+    (
+        &OPTIONS,
+        (&[3], BYTE, 1),
+        None,
+        &[0..2],
+        (&[0, 0], &[], &[&[0, 0]]),
         0,
     ),
 ];
-
-pub(crate) fn subset(alloc: Global, ranges: &[Range<u64>]) -> Result<Indexer, CodecError> {
-    Ok(Indexer::Subset(ArraySubset::new_with_ranges(alloc, ranges)?))
-}
-
-pub(crate) fn stored(alloc: Global, value: &Option<&[u8]>) -> Result<MemoryHandle, AllocError> {
-    match value {
-        None => Ok(MemoryHandle::new()),
-        Some(value) => Ok(MemoryHandle::with_value(value.to_vec(alloc)?)),
-    }
-}
-
-/// The decoder reads these elements.
-fn reads(
-    rt: &impl Abort,
-    alloc: Global,
-    decoder: &mut Decoder<'_>,
-    indexer: &Indexer,
-    elements: &[u8],
-) -> Result<(), Fail> {
-    let came = decoder.partial_decode(alloc, indexer)?;
-    let raw = came.into_fixed()?;
-    are(rt, "elements", raw.as_slice(), elements);
-    Ok(())
-}
 
 /// The decoder says this of itself.
 fn tells(
@@ -185,34 +288,49 @@ fn tells(
     decoder: &mut Decoder<'_>,
     form: &ChunkForm,
     there: bool,
-    held: usize,
-) -> Result<(), Fail> {
+    kept: usize,
+) -> Result<(), CodecError> {
     is(rt, "exists", &decoder.exists()?, &there);
-    is(rt, "size held", &decoder.size_held(), &held);
+    is(rt, "size held", &decoder.size_held(), &kept);
     is(rt, "type", decoder.data_type(), &form.data_type);
     Ok(())
 }
 
-fn reads_row(rt: &impl Abort, alloc: Global, row: &Read, in_part: bool) -> Result<(), Fail> {
-    let (told, form, value, ranges, elements, held) = row;
-    let chain = chain(alloc, told)?;
-    let form = chunk_form(alloc, form)?;
+/// The decoder reads these elements.
+fn reads(
+    rt: &impl Abort,
+    alloc: Global,
+    decoder: &mut Decoder<'_>,
+    ranges: &[Range<u64>],
+    elements: &Held,
+) -> Result<(), CodecError> {
     let indexer = subset(alloc, ranges)?;
-    let handle = stored(alloc, value)?;
-    match chain.partial_decoder(
-        alloc,
-        handle,
-        &form.shape,
-        &form.data_type,
-        &form.fill_value,
-    ) {
-        Err(refused) => Err(refused.error)?,
-        Ok(mut decoder) => {
-            tells(rt, &mut decoder, &form, value.is_some(), *held)?;
-            is(rt, "in part", &decoder.supports_partial_decode(), &in_part);
-            reads(rt, alloc, &mut decoder, &indexer, elements)
-        }
-    }
+    let came = decoder.partial_decode(alloc, &indexer)?;
+    let wanted = held(alloc, elements)?;
+    is(rt, "elements", &came, &wanted);
+    Ok(())
+}
+
+fn reads_form(
+    rt: &impl Abort,
+    alloc: Global,
+    chain: &Chain,
+    form: &ChunkForm,
+    row: &Read,
+    in_part: bool,
+) -> Result<(), CodecError> {
+    let (_, _, value, ranges, elements, kept) = row;
+    let mut decoder = decoder(alloc, chain, form, value)?;
+    tells(rt, &mut decoder, form, value.is_some(), *kept)?;
+    is(rt, "in part", &decoder.supports_partial_decode(), &in_part);
+    reads(rt, alloc, &mut decoder, ranges, elements)
+}
+
+fn reads_row(rt: &impl Abort, alloc: Global, row: &Read, in_part: bool) -> Result<(), Fail> {
+    let chain = chain(alloc, row.0)?;
+    let form = chunk_form(alloc, &row.1)?;
+    reads_form(rt, alloc, &chain, &form, row, in_part)?;
+    Ok(())
 }
 
 #[test]
@@ -233,100 +351,98 @@ fn reads_what_a_cache_keeps(rt: HostRuntime) -> Result<(), Fail> {
 
 /// A chain, a chunk, what is stored, the ranges that are asked for, and the first cause why nothing is
 /// read, of the making or of the read.
-type Unread = (Told, Form, &'static [u8], &'static [Range<u64>], CodecError);
+type Unread = (
+    &'static Told,
+    Form,
+    Option<&'static [u8]>,
+    &'static [Range<u64>],
+    Option<CodecError>,
+);
 
 /// Why no decoder is made: the chain doesn't take the chunk; its cache can't be filled.
 const UNMADE: &'static [Unread] = &[
     (
-        (&[], PLAIN, &[]),
-        (&[10, 10], 32, true),
+        &PLAIN,
+        (&[10, 10], Kind::Bits(32, true), 0),
+        Some(&[]),
         &[],
-        &[0..1, 0..1],
-        CodecError::EndiannessMissing,
+        Some(CodecError::EndiannessMissing),
     ),
     (
-        (&[], PLAIN, WITH_LENGTH),
-        (&[2], 8, false),
-        &[3, 0, 0, 0, 0, 0, 0, 0, 1, 2],
-        &[0..1],
-        CodecError::BytesCodec(2),
+        &WITH_LENGTH,
+        (&[2], BYTE, 0),
+        Some(&[3, 0, 0, 0, 0, 0, 0, 0, 1, 2]),
+        &[],
+        Some(CodecError::BytesCodec(2)),
+    ),
+    (
+        &STRINGS,
+        (&[2], Kind::Text, 0),
+        Some(&[255; 8]),
+        &[],
+        Some(CodecError::IndexLength),
+    ),
+    (
+        &OPTIONS,
+        (&[3], BYTE, 1),
+        Some(&[
+            3, 0, 0, 0, 0, 0, 0, 0, 2, 0, 0, 0, 0, 0, 0, 0, 1, 0, 2, 5, 7,
+        ]),
+        &[],
+        Some(CodecError::MaskValue),
+    ),
+    (
+        &THREE_LEVELS,
+        (&[3], Kind::Text, 2),
+        Some(&[255; 16]),
+        &[],
+        Some(CodecError::HeaderOverflow),
     ),
 ];
 
 /// Why nothing is read: the indexer, and then a place's bytes past the end.
 const UNREAD: &'static [Unread] = &[
     (
-        (&[], PLAIN, &[]),
-        (&[4], 8, false),
-        &[10, 11, 12],
+        &PLAIN,
+        (&[4], BYTE, 0),
+        Some(&[10, 11, 12]),
         &[2..4],
-        CodecError::InvalidByteRange,
+        Some(CodecError::InvalidByteRange),
     ),
     (
-        (&[], PLAIN, WITH_LENGTH),
-        (&[4], 8, false),
-        &[3, 0, 0, 0, 0, 0, 0, 0, 10, 11, 12],
+        &WITH_LENGTH,
+        (&[4], BYTE, 0),
+        Some(&[3, 0, 0, 0, 0, 0, 0, 0, 10, 11, 12]),
         &[2..4],
-        CodecError::InvalidByteRange,
+        Some(CodecError::InvalidByteRange),
     ),
     (
-        (&[], PLAIN, &[]),
-        (&[4], 8, false),
-        &[],
+        &PLAIN,
+        (&[4], BYTE, 0),
+        Some(&[]),
         &[3..5],
-        CodecError::OutOfBounds,
+        Some(CodecError::OutOfBounds),
     ),
     (
-        (&[], PLAIN, &[]),
-        (&[4], 8, false),
-        &[],
+        &PLAIN,
+        (&[4], BYTE, 0),
+        Some(&[]),
         &[0..1, 0..1],
-        CodecError::IncompatibleDimensionality,
+        Some(CodecError::IncompatibleDimensionality),
     ),
 ];
-
-/// The refusal is this one. A want of memory is an error of the test.
-fn is_cause(rt: &impl Abort, came: Option<CodecError>, cause: &CodecError) -> Result<(), Fail> {
-    match came {
-        Some(CodecError::OutOfMemory) => Err(CodecError::OutOfMemory)?,
-        came => is(rt, "cause", &came, &Some(*cause)),
-    }
-    Ok(())
-}
 
 fn unmade_row(rt: &impl Abort, alloc: Global, row: &Unread) -> Result<(), Fail> {
     let (told, form, value, _, cause) = row;
     let chain = chain(alloc, told)?;
     let form = chunk_form(alloc, form)?;
-    let handle = MemoryHandle::with_value(value.to_vec(alloc)?);
-    match chain.partial_decoder(
-        alloc,
-        handle,
-        &form.shape,
-        &form.data_type,
-        &form.fill_value,
-    ) {
-        Err(refused) => is_cause(rt, Some(refused.error), cause),
-        Ok(_) => is_cause(rt, None, cause),
-    }
-}
-
-fn unread_row(rt: &impl Abort, alloc: Global, row: &Unread) -> Result<(), Fail> {
-    let (told, form, value, ranges, cause) = row;
-    let chain = chain(alloc, told)?;
-    let form = chunk_form(alloc, form)?;
-    let indexer = subset(alloc, ranges)?;
-    let handle = MemoryHandle::with_value(value.to_vec(alloc)?);
-    match chain.partial_decoder(
-        alloc,
-        handle,
-        &form.shape,
-        &form.data_type,
-        &form.fill_value,
-    ) {
-        Err(refused) => Err(refused.error)?,
-        Ok(mut decoder) => is_cause(rt, decoder.partial_decode(alloc, &indexer).err(), cause),
-    }
+    is_cause(
+        rt,
+        "making",
+        decoder(alloc, &chain, &form, value).err(),
+        cause,
+    )?;
+    Ok(())
 }
 
 #[test]
@@ -334,6 +450,40 @@ fn makes_no_decoder_of_what_it_refuses(rt: HostRuntime) -> Result<(), Fail> {
     for row in UNMADE.iter() {
         unmade_row(&rt, rt.alloc(), row)?;
     }
+    Ok(())
+}
+
+fn read_of(
+    alloc: Global,
+    decoder: &mut Decoder<'_>,
+    ranges: &[Range<u64>],
+) -> Result<(), CodecError> {
+    let indexer = subset(alloc, ranges)?;
+    decoder.partial_decode(alloc, &indexer)?;
+    Ok(())
+}
+
+fn unread_form(
+    rt: &impl Abort,
+    alloc: Global,
+    chain: &Chain,
+    form: &ChunkForm,
+    row: &Unread,
+) -> Result<(), CodecError> {
+    let (_, _, value, ranges, cause) = row;
+    let mut decoder = decoder(alloc, chain, form, value)?;
+    is_cause(
+        rt,
+        "read",
+        read_of(alloc, &mut decoder, ranges).err(),
+        cause,
+    )
+}
+
+fn unread_row(rt: &impl Abort, alloc: Global, row: &Unread) -> Result<(), Fail> {
+    let chain = chain(alloc, row.0)?;
+    let form = chunk_form(alloc, &row.1)?;
+    unread_form(rt, alloc, &chain, &form, row)?;
     Ok(())
 }
 
@@ -346,9 +496,9 @@ fn reads_nothing_past_the_end(rt: HostRuntime) -> Result<(), Fail> {
 }
 
 /// A chain, a chunk, the ranges that are asked for, and where the ranges of bytes start and end that
-/// are planned: none where bytes codecs stand in the way.
+/// are planned: none where bytes codecs or chains inside stand in the way.
 type Planned = (
-    Told,
+    &'static Told,
     Form,
     &'static [Range<u64>],
     Option<&'static [(u64, u64)]>,
@@ -356,34 +506,43 @@ type Planned = (
 
 const PLANNED: &'static [Planned] = &[
     (
-        (&[], PLAIN, &[]),
-        (&[4, 4], 8, false),
+        &PLAIN,
+        (&[4, 4], BYTE, 0),
         &[1..3, 0..1],
         Some(&[(4, 5), (8, 9)]),
     ),
     (
-        (&[Moving::By(&[1, 0])], PLAIN, &[]),
-        (&[4, 4], 8, false),
+        &TURNED,
+        (&[4, 4], BYTE, 0),
         &[0..1, 1..3],
         Some(&[(4, 5), (8, 9)]),
     ),
     (
-        (
-            &[Moving::By(&[0, 2, 1]), Moving::By(&[2, 0, 1])],
-            ToBytes::Bytes(Some(Endianness::Big)),
-            &[],
-        ),
-        (&[2, 2, 2], 32, false),
+        &TURNED_TWICE,
+        (&[2, 2, 2], Kind::Bits(32, false), 0),
         &[0..2, 1..2, 0..1],
         Some(&[(16, 20), (24, 28)]),
     ),
     (
-        (&[], KEPT_BITS, &[]),
-        (&[8, 5], 1, false),
+        &PACKED,
+        (&[8, 5], Kind::Bits(1, false), 0),
         &[1..4, 1..4],
         Some(&[(0, 2), (1, 2), (2, 3)]),
     ),
-    ((&[], PLAIN, WITH_LENGTH), (&[2], 8, false), &[0..1], None),
+    (&WITH_LENGTH, (&[2], BYTE, 0), &[0..1], None),
+    (&STRINGS, (&[2], Kind::Text, 0), &[1..2], None),
+    (
+        &Told::TurnedStrings,
+        (&[2, 3], Kind::Text, 0),
+        &[0..1, 1..3],
+        None,
+    ),
+    (&OPTIONS, (&[3], BYTE, 1), &[0..2], None),
+    (&THREE_LEVELS, (&[3], Kind::Text, 2), &[0..2], None),
+    (&HALF_BYTES, (&[2], Kind::Text, 0), &[0..2], None),
+    (&SHORT_OFFSETS, (&[1], Kind::Text, 0), &[0..1], None),
+    (&TWO_LEVELS, (&[3], BYTE, 2), &[1..3], None),
+    (&OPTIONAL_STRINGS, (&[2], Kind::Text, 1), &[0..1], None),
 ];
 
 /// The ranges start and end here.
@@ -400,26 +559,36 @@ fn are_ranges(rt: &impl Abort, came: &Option<Vec<ByteRange>>, wanted: &Option<&[
     }
 }
 
-fn plans_row(rt: &impl Abort, alloc: Global, row: &Planned) -> Result<(), Fail> {
-    let (told, form, ranges, wanted) = row;
-    let chain = chain(alloc, told)?;
-    let form = chunk_form(alloc, form)?;
+fn plans(
+    rt: &impl Abort,
+    alloc: Global,
+    decoder: &Decoder<'_>,
+    row: &Planned,
+) -> Result<(), CodecError> {
+    let (_, _, ranges, wanted) = row;
     let indexer = subset(alloc, ranges)?;
-    let handle = MemoryHandle::new();
-    match chain.partial_decoder(
-        alloc,
-        handle,
-        &form.shape,
-        &form.data_type,
-        &form.fill_value,
-    ) {
-        Err(refused) => Err(refused.error)?,
-        Ok(decoder) => {
-            let planned = decoder.planned_ranges(alloc, &indexer)?;
-            are_ranges(rt, &planned, wanted);
-            is(rt, "value", &decoder.into_handle().value(), &None);
-        }
-    }
+    let planned = decoder.planned_ranges(alloc, &indexer)?;
+    are_ranges(rt, &planned, wanted);
+    Ok(())
+}
+
+fn plans_form(
+    rt: &impl Abort,
+    alloc: Global,
+    chain: &Chain,
+    form: &ChunkForm,
+    row: &Planned,
+) -> Result<(), CodecError> {
+    let decoder = decoder(alloc, chain, form, &None)?;
+    plans(rt, alloc, &decoder, row)?;
+    is(rt, "value", &decoder.into_handle().value(), &None);
+    Ok(())
+}
+
+fn plans_row(rt: &impl Abort, alloc: Global, row: &Planned) -> Result<(), Fail> {
+    let chain = chain(alloc, row.0)?;
+    let form = chunk_form(alloc, &row.1)?;
+    plans_form(rt, alloc, &chain, &form, row)?;
     Ok(())
 }
 
@@ -429,24 +598,4 @@ fn plans_the_bytes_of_its_places(rt: HostRuntime) -> Result<(), Fail> {
         plans_row(&rt, rt.alloc(), row)?;
     }
     Ok(())
-}
-
-/// Reads a chunk of one number of 4 bits, of which nothing is stored: the fill value as it is given,
-/// with bits that would be filled up in decoding.
-#[test]
-fn reads_the_raw_fill_value(rt: HostRuntime) -> Result<(), Fail> {
-    let chain = chain(rt.alloc(), &(&[], KEPT_BITS, &[]))?;
-    let mut form = chunk_form(rt.alloc(), &(&[1], 4, true))?;
-    form.fill_value = FillValue::new([15].to_vec(rt.alloc())?);
-    let indexer = subset(rt.alloc(), &[0..1])?;
-    match chain.partial_decoder(
-        rt.alloc(),
-        MemoryHandle::new(),
-        &form.shape,
-        &form.data_type,
-        &form.fill_value,
-    ) {
-        Err(refused) => Err(refused.error)?,
-        Ok(mut decoder) => reads(&rt, rt.alloc(), &mut decoder, &indexer, &[15]),
-    }
 }

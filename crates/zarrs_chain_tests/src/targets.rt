@@ -1,8 +1,10 @@
 //! Chunks that chains decode into a target, and values that they are asked to make shorter.
 
-use crate::checks::{are, is, is_refused};
-use crate::forms::ChunkForm;
-use crate::nested_forms::{Form, Nested, nested_chain, nested_form};
+use crate::checks::{are, is, is_cause};
+use crate::forms::{
+    BYTE, Chain, ChunkForm, Form, Kind, OPTIONS, PLAIN, STRINGS, TURNED, Told, WITH_LENGTH, chain,
+    chunk_form,
+};
 use std::alloc::Global;
 use std::borrow::CowSlice;
 use std::ops::Range;
@@ -11,18 +13,6 @@ use std::test::Fail;
 use zarrs_array_bytes::{ArrayBytesDecodeIntoTarget, ArrayBytesFixedView};
 use zarrs_chunk::{ArraySubset, ChunkShape, CodecError, CodecName};
 use zarrs_codec::ArrayToBytesCodecTraits;
-use zarrs_metadata::{VlenIndexDataType, VlenIndexLocation};
-
-const PLAIN: Nested = Nested::Bytes(None);
-
-const STRINGS: Nested = Nested::Strings(
-    &PLAIN,
-    &PLAIN,
-    VlenIndexDataType::UInt64,
-    VlenIndexLocation::Start,
-);
-
-const OPTIONS: Nested = Nested::Options(&PLAIN, &PLAIN);
 
 /// The view of these ranges of an array of single bytes.
 fn view<'a>(
@@ -86,7 +76,7 @@ fn decode_into<C: ArrayToBytesCodecTraits>(
 /// A chain, a chunk, its value, the sizes of an array of 6 bytes, the ranges where the chunk goes, and
 /// the bytes afterwards. Before, each is 0.
 type Row = (
-    Nested,
+    &'static Told,
     Form,
     &'static [u8],
     &'static [u64],
@@ -97,24 +87,24 @@ type Row = (
 /// The last chain turns the axes: its value is 1, 3, 2, 4.
 const WRITTEN: &'static [Row] = &[
     (
-        PLAIN,
-        (&[2], false, 0),
+        &PLAIN,
+        (&[2], BYTE, 0),
         &[1, 2],
         &[2, 3],
         &[0..2, 1..2],
         &[0, 1, 0, 0, 2, 0],
     ),
     (
-        Nested::WithLength,
-        (&[2], false, 0),
+        &WITH_LENGTH,
+        (&[2], BYTE, 0),
         &[2, 0, 0, 0, 0, 0, 0, 0, 1, 2],
         &[6],
         &[1..3],
         &[0, 1, 2, 0, 0, 0],
     ),
     (
-        Nested::Turned,
-        (&[2, 2], false, 0),
+        &TURNED,
+        (&[2, 2], BYTE, 0),
         &[1, 3, 2, 4],
         &[2, 3],
         &[0..2, 1..3],
@@ -122,14 +112,25 @@ const WRITTEN: &'static [Row] = &[
     ),
 ];
 
-fn writes(rt: &impl Abort, alloc: Global, row: &Row) -> Result<(), Fail> {
-    let (told, form, value, sizes, ranges, after) = row;
-    let chain = nested_chain(alloc, told)?;
-    let form = nested_form(alloc, form)?;
+fn writes_form(
+    rt: &impl Abort,
+    alloc: Global,
+    chain: &Chain,
+    form: &ChunkForm,
+    row: &Row,
+) -> Result<(), CodecError> {
+    let (_, _, value, sizes, ranges, after) = row;
     let mut bytes = [0u8; 6];
     let mut target = unmasked(alloc, &mut bytes, sizes, ranges)?;
-    decode_into(alloc, &chain, &form, value, &mut target)?;
+    decode_into(alloc, chain, form, value, &mut target)?;
     are(rt, "written", target.values.as_slice(), after);
+    Ok(())
+}
+
+fn writes(rt: &impl Abort, alloc: Global, row: &Row) -> Result<(), Fail> {
+    let chain = chain(alloc, row.0)?;
+    let form = chunk_form(alloc, &row.1)?;
+    writes_form(rt, alloc, &chain, &form, row)?;
     Ok(())
 }
 
@@ -144,70 +145,81 @@ fn writes_chunks_at_the_places_of_a_subset(rt: HostRuntime) -> Result<(), Fail> 
 /// A chain, a chunk, its value, the ranges of an array of 2 times 3 where the chunk is to go, and why
 /// it doesn't: the first of the causes that hold.
 type RefusedRow = (
-    Nested,
+    &'static Told,
     Form,
     &'static [u8],
     &'static [Range<u64>],
-    CodecError,
+    Option<CodecError>,
 );
 
 const REFUSED: &'static [RefusedRow] = &[
     (
-        PLAIN,
-        (&[2], false, 0),
+        &PLAIN,
+        (&[2], BYTE, 0),
         &[1, 2],
         &[0..1, 1..2],
-        CodecError::TargetMismatch,
+        Some(CodecError::TargetMismatch),
     ),
     (
-        PLAIN,
-        (&[2], false, 0),
+        &PLAIN,
+        (&[2], BYTE, 0),
         &[1],
         &[0..1, 1..2],
-        CodecError::TargetMismatch,
+        Some(CodecError::TargetMismatch),
     ),
     (
-        PLAIN,
-        (&[2], false, 0),
+        &PLAIN,
+        (&[2], BYTE, 0),
         &[1],
         &[0..2, 1..2],
-        CodecError::InvalidBytesLength {
+        Some(CodecError::InvalidBytesLength {
             len: 1,
             expected: 2,
-        },
+        }),
     ),
     (
-        STRINGS,
-        (&[2], true, 0),
+        &STRINGS,
+        (&[2], Kind::Text, 0),
         &[],
         &[0..1, 1..2],
-        CodecError::UnsupportedTarget,
+        Some(CodecError::UnsupportedTarget),
     ),
     (
-        OPTIONS,
-        (&[2], false, 0),
+        &OPTIONS,
+        (&[2], BYTE, 0),
         &[],
         &[0..1, 1..2],
-        CodecError::UnsupportedDataType(CodecName::Optional),
+        Some(CodecError::UnsupportedDataType(CodecName::Optional)),
     ),
     (
-        OPTIONS,
-        (&[2], false, 1),
+        &OPTIONS,
+        (&[2], BYTE, 1),
         &[],
         &[0..2, 1..2],
-        CodecError::TargetMismatch,
+        Some(CodecError::TargetMismatch),
     ),
 ];
 
-fn refuses(rt: &impl Abort, alloc: Global, row: &RefusedRow) -> Result<(), Fail> {
-    let (told, form, value, ranges, cause) = row;
-    let chain = nested_chain(alloc, told)?;
-    let form = nested_form(alloc, form)?;
+fn refuses_form(
+    rt: &impl Abort,
+    alloc: Global,
+    chain: &Chain,
+    form: &ChunkForm,
+    row: &RefusedRow,
+) -> Result<(), CodecError> {
+    let (_, _, value, ranges, cause) = row;
     let mut bytes = [9u8; 6];
     let mut target = unmasked(alloc, &mut bytes, &[2, 3], ranges)?;
-    let answer = decode_into(alloc, &chain, &form, value, &mut target);
-    is_refused(rt, "refused", answer, *cause)?;
+    let answer = decode_into(alloc, chain, form, value, &mut target);
+    is_cause(rt, "refused", answer.err(), cause)?;
     are(rt, "left", target.values.as_slice(), &[9, 9, 9, 9, 9, 9]);
+    Ok(())
+}
+
+fn refuses(rt: &impl Abort, alloc: Global, row: &RefusedRow) -> Result<(), Fail> {
+    let chain = chain(alloc, row.0)?;
+    let form = chunk_form(alloc, &row.1)?;
+    refuses_form(rt, alloc, &chain, &form, row)?;
     Ok(())
 }
 
@@ -224,36 +236,56 @@ const MASKED: &'static [u8] = &[
     3, 0, 0, 0, 0, 0, 0, 0, 2, 0, 0, 0, 0, 0, 0, 0, 1, 0, 1, 5, 7,
 ];
 
-fn writes_both(alloc: Global, target: &mut ArrayBytesDecodeIntoTarget<'_>) -> Result<(), Fail> {
-    let chain = nested_chain(alloc, &OPTIONS)?;
-    let form = nested_form(alloc, &(&[3], false, 1))?;
-    decode_into(alloc, &chain, &form, MASKED, target)?;
-    Ok(())
-}
-
-#[test]
-fn writes_elements_and_masks(rt: HostRuntime) -> Result<(), Fail> {
+fn writes_both(
+    rt: &impl Abort,
+    alloc: Global,
+    chain: &Chain,
+    form: &ChunkForm,
+) -> Result<(), CodecError> {
     let mut bytes = [9u8; 4];
     let mut flags = [9u8; 3];
-    let mut target = masked(rt.alloc(), &mut bytes, &mut flags)?;
-    writes_both(rt.alloc(), &mut target)?;
-    are(&rt, "values", target.values.as_slice(), &[9, 5, 0, 7]);
+    let mut target = masked(alloc, &mut bytes, &mut flags)?;
+    decode_into(alloc, chain, form, MASKED, &mut target)?;
+    are(rt, "values", target.values.as_slice(), &[9, 5, 0, 7]);
     for mask in target.masks.iter() {
-        are(&rt, "mask", mask.as_slice(), &[1, 0, 1]);
+        are(rt, "mask", mask.as_slice(), &[1, 0, 1]);
     }
     Ok(())
 }
 
 #[test]
-fn refuses_a_mask_too_many(rt: HostRuntime) -> Result<(), Fail> {
-    let chain = nested_chain(rt.alloc(), &PLAIN)?;
-    let form = nested_form(rt.alloc(), &(&[2], false, 0))?;
+fn writes_elements_and_masks(rt: HostRuntime) -> Result<(), Fail> {
+    let chain = chain(rt.alloc(), &OPTIONS)?;
+    let form = chunk_form(rt.alloc(), &(&[3], BYTE, 1))?;
+    writes_both(&rt, rt.alloc(), &chain, &form)?;
+    Ok(())
+}
+
+fn refuses_mask(
+    rt: &impl Abort,
+    alloc: Global,
+    chain: &Chain,
+    form: &ChunkForm,
+) -> Result<(), CodecError> {
     let mut bytes = [9u8; 3];
     let mut flags = [9u8; 2];
-    let mut target = masked(rt.alloc(), &mut bytes, &mut flags)?;
-    let answer = decode_into(rt.alloc(), &chain, &form, &[1, 2], &mut target);
-    is_refused(&rt, "refused", answer, CodecError::TargetMismatch)?;
-    are(&rt, "left", target.values.as_slice(), &[9, 9, 9]);
+    let mut target = masked(alloc, &mut bytes, &mut flags)?;
+    let answer = decode_into(alloc, chain, form, &[1, 2], &mut target);
+    is_cause(
+        rt,
+        "refused",
+        answer.err(),
+        &Some(CodecError::TargetMismatch),
+    )?;
+    are(rt, "left", target.values.as_slice(), &[9, 9, 9]);
+    Ok(())
+}
+
+#[test]
+fn refuses_a_mask_too_many(rt: HostRuntime) -> Result<(), Fail> {
+    let chain = chain(rt.alloc(), &PLAIN)?;
+    let form = chunk_form(rt.alloc(), &(&[2], BYTE, 0))?;
+    refuses_mask(&rt, rt.alloc(), &chain, &form)?;
     Ok(())
 }
 
@@ -273,27 +305,46 @@ fn compact<C: ArrayToBytesCodecTraits>(
     Ok(shorter.is_none())
 }
 
-fn keeps(rt: &impl Abort, alloc: Global, told: &Nested, value: &[u8]) -> Result<(), Fail> {
-    let chain = nested_chain(alloc, told)?;
-    let form = nested_form(alloc, &(&[2], false, 0))?;
-    let is_none = compact(alloc, &chain, &form, value)?;
+/// What is made shorter of a value: nothing, or why it isn't.
+fn is_left(
+    rt: &impl Abort,
+    alloc: Global,
+    chain: &Chain,
+    form: &ChunkForm,
+    value: &[u8],
+) -> Result<(), CodecError> {
+    let is_none = compact(alloc, chain, form, value)?;
     is(rt, "none", &is_none, &true);
     Ok(())
 }
 
+/// A chain, a value, and why its bytes codecs don't decode it, if they don't.
+type Compacted = (&'static Told, &'static [u8], Option<CodecError>);
+
 /// Only the bytes codecs look at the value.
-#[test]
-fn makes_no_value_shorter(rt: HostRuntime) -> Result<(), Fail> {
-    let good: &[u8] = &[2, 0, 0, 0, 0, 0, 0, 0, 1, 2];
-    keeps(&rt, rt.alloc(), &Nested::WithLength, good)?;
-    keeps(&rt, rt.alloc(), &PLAIN, &[1, 2, 3])
+const COMPACTED: &'static [Compacted] = &[
+    (&WITH_LENGTH, &[2, 0, 0, 0, 0, 0, 0, 0, 1, 2], None),
+    (&PLAIN, &[1, 2, 3], None),
+    (
+        &WITH_LENGTH,
+        &[3, 0, 0, 0, 0, 0, 0, 0, 1, 2],
+        Some(CodecError::BytesCodec(2)),
+    ),
+];
+
+fn is_compacted(rt: &impl Abort, alloc: Global, row: &Compacted) -> Result<(), Fail> {
+    let (told, value, cause) = row;
+    let chain = chain(alloc, told)?;
+    let form = chunk_form(alloc, &(&[2], BYTE, 0))?;
+    let answer = is_left(rt, alloc, &chain, &form, value);
+    is_cause(rt, "compact", answer.err(), cause)?;
+    Ok(())
 }
 
 #[test]
-fn refuses_to_shorten_what_bytes_codecs_refuse(rt: HostRuntime) -> Result<(), Fail> {
-    let chain = nested_chain(rt.alloc(), &Nested::WithLength)?;
-    let form = nested_form(rt.alloc(), &(&[2], false, 0))?;
-    let damaged: &[u8] = &[3, 0, 0, 0, 0, 0, 0, 0, 1, 2];
-    let answer = compact(rt.alloc(), &chain, &form, damaged);
-    is_refused(&rt, "compact", answer, CodecError::BytesCodec(2))
+fn makes_no_value_shorter(rt: HostRuntime) -> Result<(), Fail> {
+    for row in COMPACTED.iter() {
+        is_compacted(&rt, rt.alloc(), row)?;
+    }
+    Ok(())
 }

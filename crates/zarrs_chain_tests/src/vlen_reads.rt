@@ -1,18 +1,19 @@
-//! The calls of `vlen` and `optional` alone, and reads of `vlen` in part.
+//! The calls of `optional` alone, and reads of `vlen` in part.
 
-use crate::checks::{are, is, is_refused};
-use crate::forms::ChunkForm;
-use crate::nested::{HALF_BYTES, OPTIONS, STRINGS};
-use crate::nested_forms::{Chain, Form, Held, Nested, held, nested_chain, nested_form};
-use crate::nested_reads::TWO_STRINGS;
-use crate::reads::{stored, subset};
+use crate::checks::{are, is, is_cause};
+use crate::forms::{
+    BYTE, Chain, ChunkForm, Form, HALF_BYTES, Held, Kind, OPTIONS, STRINGS, Told, chain,
+    chunk_form, held,
+};
+use crate::made::{stored, subset};
+use crate::reads::TWO_STRINGS;
 use std::alloc::Global;
 use std::borrow::CowSlice;
 use std::ops::Range;
 use std::process::Abort;
 use std::test::Fail;
 use zarrs_chain_partial::{VlenCodecPartialTraits, VlenPartialDecoder};
-use zarrs_chunk::{CodecError, CodecName, Indexer};
+use zarrs_chunk::{CodecError, CodecName};
 use zarrs_codec::{BytesRepresentation, MemoryHandle, SampleBytesCodec};
 use zarrs_codec_chain::{ArrayToBytesCodec, OptionalCodec, VlenCodec};
 
@@ -38,51 +39,7 @@ fn optional_of(chain: &Chain) -> Result<&Options, CodecError> {
     }
 }
 
-const FORM: Form = (&[2], true, 0);
-
-const ELEMENTS: Held = (b"abc", &[0, 1, 3], &[]);
-
-fn writes_strings(
-    rt: &impl Abort,
-    alloc: Global,
-    codec: &Strings,
-    form: &ChunkForm,
-) -> Result<(), Fail> {
-    let size = codec.encoded_representation(&form.shape, &form.data_type, &form.fill_value)?;
-    is(rt, "size", &size, &BytesRepresentation::UnboundedSize);
-    let elements = held(alloc, &ELEMENTS)?;
-    let came = codec.encode(
-        alloc,
-        elements,
-        &form.shape,
-        &form.data_type,
-        &form.fill_value,
-    )?;
-    are(rt, "value", came.as_slice(), TWO_STRINGS);
-    Ok(())
-}
-
-fn decodes_strings(
-    rt: &impl Abort,
-    alloc: Global,
-    codec: &Strings,
-    form: &ChunkForm,
-) -> Result<(), Fail> {
-    let value = CowSlice::Borrowed(TWO_STRINGS);
-    let came = codec.decode(alloc, value, &form.shape, &form.data_type, &form.fill_value)?;
-    let wanted = held(alloc, &ELEMENTS)?;
-    is(rt, "elements", &came, &wanted);
-    Ok(())
-}
-
-#[test]
-fn codes_strings_alone(rt: HostRuntime) -> Result<(), Fail> {
-    let chain = nested_chain(rt.alloc(), &STRINGS)?;
-    let form = nested_form(rt.alloc(), &FORM)?;
-    let codec = vlen_of(&chain)?;
-    writes_strings(&rt, rt.alloc(), codec, &form)?;
-    decodes_strings(&rt, rt.alloc(), codec, &form)
-}
+const FORM: Form = (&[2], Kind::Text, 0);
 
 /// 5, absent over 9, and 7; their value; what is decoded of it.
 const THREE: Held = (&[5, 9, 7], &[], &[&[1, 0, 1]]);
@@ -98,7 +55,7 @@ fn writes_options(
     alloc: Global,
     codec: &Options,
     form: &ChunkForm,
-) -> Result<(), Fail> {
+) -> Result<(), CodecError> {
     let size = codec.encoded_representation(alloc, &form.shape, &form.data_type, &form.fill_value)?;
     is(rt, "size", &size, &BytesRepresentation::BoundedSize(22));
     let elements = held(alloc, &THREE)?;
@@ -118,7 +75,7 @@ fn decodes_options(
     alloc: Global,
     codec: &Options,
     form: &ChunkForm,
-) -> Result<(), Fail> {
+) -> Result<(), CodecError> {
     let value = CowSlice::Borrowed(THREE_VALUE);
     let came = codec.decode(alloc, value, &form.shape, &form.data_type, &form.fill_value)?;
     let wanted = held(alloc, &THREE_AGAIN)?;
@@ -126,19 +83,42 @@ fn decodes_options(
     Ok(())
 }
 
+fn codes_options(rt: &impl Abort, alloc: Global, codec: &Options) -> Result<(), CodecError> {
+    let form = chunk_form(alloc, &(&[3], BYTE, 1))?;
+    writes_options(rt, alloc, codec, &form)?;
+    decodes_options(rt, alloc, codec, &form)
+}
+
 #[test]
 fn codes_optional_elements_alone(rt: HostRuntime) -> Result<(), Fail> {
-    let chain = nested_chain(rt.alloc(), &OPTIONS)?;
-    let form = nested_form(rt.alloc(), &(&[3], false, 1))?;
-    let codec = optional_of(&chain)?;
-    writes_options(&rt, rt.alloc(), codec, &form)?;
-    decodes_options(&rt, rt.alloc(), codec, &form)
+    let chain = chain(rt.alloc(), &OPTIONS)?;
+    codes_options(&rt, rt.alloc(), optional_of(&chain)?)?;
+    Ok(())
+}
+
+fn decoder<'a>(
+    alloc: Global,
+    codec: &'a Strings,
+    form: &ChunkForm,
+    value: &Option<&[u8]>,
+) -> Result<Decoder<'a>, CodecError> {
+    let handle = stored(alloc, value)?;
+    match codec.partial_decoder(
+        alloc,
+        handle,
+        &form.shape,
+        &form.data_type,
+        &form.fill_value,
+    ) {
+        Ok(decoder) => Ok(decoder),
+        Err(refused) => Err(refused.error),
+    }
 }
 
 /// What is stored, the ranges that are asked for, the elements that they mean, and how many bytes the
 /// handle keeps.
 type Read = (
-    &'static Nested,
+    &'static Told,
     Option<&'static [u8]>,
     &'static [Range<u64>],
     Held,
@@ -180,10 +160,11 @@ fn reads(
     rt: &impl Abort,
     alloc: Global,
     decoder: &mut Decoder<'_>,
-    indexer: &Indexer,
+    ranges: &[Range<u64>],
     elements: &Held,
-) -> Result<(), Fail> {
-    let came = decoder.partial_decode(alloc, indexer)?;
+) -> Result<(), CodecError> {
+    let indexer = subset(alloc, ranges)?;
+    let came = decoder.partial_decode(alloc, &indexer)?;
     let wanted = held(alloc, elements)?;
     is(rt, "elements", &came, &wanted);
     Ok(())
@@ -195,7 +176,7 @@ fn tells(
     form: &ChunkForm,
     there: bool,
     kept: usize,
-) -> Result<(), Fail> {
+) -> Result<(), CodecError> {
     is(rt, "exists", &decoder.exists()?, &there);
     is(rt, "size held", &decoder.size_held(), &kept);
     is(rt, "in part", &decoder.supports_partial_decode(), &false);
@@ -203,28 +184,26 @@ fn tells(
     Ok(())
 }
 
+fn reads_form(
+    rt: &impl Abort,
+    alloc: Global,
+    codec: &Strings,
+    form: &ChunkForm,
+    row: &Read,
+) -> Result<(), CodecError> {
+    let (_, value, ranges, elements, kept) = row;
+    let mut decoder = decoder(alloc, codec, form, value)?;
+    tells(rt, &mut decoder, form, value.is_some(), *kept)?;
+    reads(rt, alloc, &mut decoder, ranges, elements)?;
+    is(rt, "value", &decoder.into_handle().value(), value);
+    Ok(())
+}
+
 fn reads_row(rt: &impl Abort, alloc: Global, row: &Read) -> Result<(), Fail> {
-    let (told, value, ranges, elements, kept) = row;
-    let chain = nested_chain(alloc, told)?;
-    let form = nested_form(alloc, &FORM)?;
-    let indexer = subset(alloc, ranges)?;
-    let handle = stored(alloc, value)?;
-    let codec = vlen_of(&chain)?;
-    match codec.partial_decoder(
-        alloc,
-        handle,
-        &form.shape,
-        &form.data_type,
-        &form.fill_value,
-    ) {
-        Err(refused) => Err(refused.error)?,
-        Ok(mut decoder) => {
-            tells(rt, &mut decoder, &form, value.is_some(), *kept)?;
-            reads(rt, alloc, &mut decoder, &indexer, elements)?;
-            is(rt, "value", &decoder.into_handle().value(), value);
-            Ok(())
-        }
-    }
+    let chain = chain(alloc, row.0)?;
+    let form = chunk_form(alloc, &FORM)?;
+    reads_form(rt, alloc, vlen_of(&chain)?, &form, row)?;
+    Ok(())
 }
 
 #[test]
@@ -235,64 +214,68 @@ fn reads_strings_alone(rt: HostRuntime) -> Result<(), Fail> {
     Ok(())
 }
 
-/// A value that stands for nothing, the ranges that are asked for, and the first cause why nothing is
-/// read: the value's damage, and before it the indexer's.
-const UNREAD: &'static [(&'static [Range<u64>], CodecError)] = &[
-    (&[0..1], CodecError::IndexLength),
-    (&[0..3], CodecError::OutOfBounds),
-    (&[0..1, 0..1], CodecError::IncompatibleDimensionality),
+/// The ranges that are asked for of a value that stands for nothing, and the first cause why nothing
+/// is read: the value's damage, and before it the indexer's.
+type Unread = (&'static [Range<u64>], Option<CodecError>);
+
+const UNREAD: &'static [Unread] = &[
+    (&[0..1], Some(CodecError::IndexLength)),
+    (&[0..3], Some(CodecError::OutOfBounds)),
+    (&[0..1, 0..1], Some(CodecError::IncompatibleDimensionality)),
 ];
 
-fn unread_row(
+fn read_of(
+    alloc: Global,
+    decoder: &mut Decoder<'_>,
+    ranges: &[Range<u64>],
+) -> Result<(), CodecError> {
+    let indexer = subset(alloc, ranges)?;
+    decoder.partial_decode(alloc, &indexer)?;
+    Ok(())
+}
+
+fn unread(
     rt: &impl Abort,
     alloc: Global,
     codec: &Strings,
     form: &ChunkForm,
-    row: &(&'static [Range<u64>], CodecError),
-) -> Result<(), Fail> {
+    row: &Unread,
+) -> Result<(), CodecError> {
     let (ranges, cause) = row;
-    let indexer = subset(alloc, ranges)?;
-    let handle = stored(alloc, &Some(&[255; 8]))?;
-    match codec.partial_decoder(
-        alloc,
-        handle,
-        &form.shape,
-        &form.data_type,
-        &form.fill_value,
-    ) {
-        Err(refused) => Err(refused.error)?,
-        Ok(mut decoder) => is_refused(rt, "read", decoder.partial_decode(alloc, &indexer), *cause),
-    }
+    let mut decoder = decoder(alloc, codec, form, &Some(&[255; 8]))?;
+    is_cause(
+        rt,
+        "read",
+        read_of(alloc, &mut decoder, ranges).err(),
+        cause,
+    )
 }
 
-#[test]
-fn reads_nothing_of_damaged_values(rt: HostRuntime) -> Result<(), Fail> {
-    let chain = nested_chain(rt.alloc(), &STRINGS)?;
-    let form = nested_form(rt.alloc(), &FORM)?;
-    let codec = vlen_of(&chain)?;
+fn unread_rows(rt: &impl Abort, alloc: Global, codec: &Strings) -> Result<(), CodecError> {
+    let form = chunk_form(alloc, &FORM)?;
     for row in UNREAD.iter() {
-        unread_row(&rt, rt.alloc(), codec, &form, row)?;
+        unread(rt, alloc, codec, &form, row)?;
     }
     Ok(())
 }
 
 #[test]
-fn reads_no_other_type(rt: HostRuntime) -> Result<(), Fail> {
-    let chain = nested_chain(rt.alloc(), &STRINGS)?;
-    let form = nested_form(rt.alloc(), &(&[2], false, 0))?;
-    let codec = vlen_of(&chain)?;
+fn reads_nothing_of_damaged_values(rt: HostRuntime) -> Result<(), Fail> {
+    let chain = chain(rt.alloc(), &STRINGS)?;
+    unread_rows(&rt, rt.alloc(), vlen_of(&chain)?)?;
+    Ok(())
+}
+
+fn unmade(rt: &impl Abort, alloc: Global, codec: &Strings) -> Result<(), CodecError> {
+    let form = chunk_form(alloc, &(&[2], BYTE, 0))?;
     let cause = CodecError::UnsupportedDataType(CodecName::Vlen);
-    match codec.partial_decoder(
-        rt.alloc(),
-        MemoryHandle::new(),
-        &form.shape,
-        &form.data_type,
-        &form.fill_value,
-    ) {
-        Err(refused) => {
-            let came: Result<(), CodecError> = Err(refused.error);
-            is_refused(&rt, "making", came, cause)
-        }
-        Ok(_) => is_refused(&rt, "making", Ok(()), cause),
-    }
+    let came = decoder(alloc, codec, &form, &None).err();
+    is_cause(rt, "making", came, &Some(cause))
+}
+
+#[test]
+fn reads_no_other_type(rt: HostRuntime) -> Result<(), Fail> {
+    let chain = chain(rt.alloc(), &STRINGS)?;
+    unmade(&rt, rt.alloc(), vlen_of(&chain)?)?;
+    Ok(())
 }
