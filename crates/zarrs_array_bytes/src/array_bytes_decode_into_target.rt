@@ -13,7 +13,7 @@ use zarrs_data_type::DataType;
 
 /// Where a chunk is decoded into: a view for its elements, and one for each mask over them, the
 /// outermost first. A mask's view has one byte for each element.
-#[derive(Drop)]
+#[derive(Debug, Drop)]
 pub struct ArrayBytesDecodeIntoTarget<'a> {
     pub values: ArrayBytesFixedView<'a>,
     pub masks: Vec<ArrayBytesFixedView<'a>>,

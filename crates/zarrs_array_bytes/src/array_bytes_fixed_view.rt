@@ -8,7 +8,7 @@ use zarrs_chunk::{ArraySubset, ChunkShape, CodecError, Indexer};
 
 /// The elements of a subset of an array, to be written into the array's own bytes: elements of one
 /// size, which stand in row-major order.
-#[derive(Drop)]
+#[derive(Debug, Drop)]
 pub struct ArrayBytesFixedView<'a> {
     bytes: &'a mut [u8],
     element_size: usize,

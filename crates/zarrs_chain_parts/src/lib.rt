@@ -9,6 +9,7 @@ pub mod array_stages;
 pub mod bytes_stages;
 pub mod codec_name;
 pub mod configurations;
+mod length_fields;
 pub mod laws;
 pub mod optional_parts;
 pub mod vlen_offsets;

@@ -7,11 +7,12 @@ ghost use Rattle.zarrs_array_bytes.specs.Held.{masked, raw_of};
 ghost use Rattle.zarrs_array_bytes.specs.Parts.{optional_part};
 ghost use Rattle.zarrs_array_bytes.specs.Present.{present_count};
 ghost use Rattle.zarrs_chain_parts.specs.BytesStages.{in_memory};
-ghost use Rattle.zarrs_chain_parts.specs.Decode.{length_of, optional_parts};
+ghost use Rattle.zarrs_chain_parts.specs.Decode.{optional_parts};
 ghost use Rattle.zarrs_chain_parts.specs.Encode.{optional_layout};
 ghost use Rattle.zarrs_chain_parts.specs.OptionalParts.{optional_inner};
 ghost use Rattle.zarrs_chain_parts.specs.Representation.{blank_fill as blank_fill_of, both_representations as both_representations_of};
 
+use crate::length_fields::read_length;
 use std::alloc::Global;
 use std::borrow::CowSlice;
 use zarrs_array_bytes::{ArrayBytes, ArrayBytesRaw, count_present};
@@ -100,17 +101,6 @@ pub fn lent<'r>(raw: &'r ArrayBytesRaw<'_>) -> &'r [u8]
         CowSlice::Borrowed(bytes) => bytes,
         CowSlice::Owned(bytes) => bytes.as_slice(),
     }
-}
-
-/// The number that the first 8 bytes spell, the lowest first.
-#[tactic(auto, unfolding(crate::specs::Decode::length_of))]
-fn read_length(bytes: &[u8]) -> u64
-    requires long { 8 ≤ length bytes.now }
-    ensures value { result ≡ length_of (take 8 bytes.now) }
-{
-    u64::from_le_bytes([
-        bytes[0], bytes[1], bytes[2], bytes[3], bytes[4], bytes[5], bytes[6], bytes[7],
-    ])
 }
 
 /// The mask and the data, lent, that stand behind their lengths. Refusals, the first that holds:

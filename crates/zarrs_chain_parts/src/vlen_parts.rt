@@ -5,11 +5,12 @@ ghost use Rattle.zarrs_array_bytes.specs.Held.{raw_of};
 ghost use Rattle.zarrs_array_bytes.specs.Offsets.{last_of};
 ghost use Rattle.zarrs_array_bytes.specs.Parts.{variable_part};
 ghost use Rattle.zarrs_chain_parts.specs.BytesStages.{in_memory};
-ghost use Rattle.zarrs_chain_parts.specs.Decode.{length_of, vlen_parts};
+ghost use Rattle.zarrs_chain_parts.specs.Decode.{vlen_parts};
 ghost use Rattle.zarrs_chain_parts.specs.Encode.{length_bytes, vlen_layout};
 ghost use Rattle.zarrs_chain_parts.specs.VlenSettings.{is_at_end};
 ghost use Rattle.zarrs_chain_parts.specs.VlenSteps.{index_length, data_part as data_part_of};
 
+use crate::length_fields::read_length;
 use std::alloc::Global;
 use std::borrow::CowSlice;
 use zarrs_array_bytes::{ArrayBytes, ArrayBytesOffsets, ArrayBytesRaw};
@@ -19,20 +20,9 @@ use zarrs_metadata::VlenIndexLocation;
 /// How many bytes the length of an index takes.
 const LENGTH_SIZE: usize = 8;
 
-/// The number that eight bytes spell, the lowest first.
-#[tactic(auto, unfolding(crate::specs::Decode::length_of))]
-fn read_length(bytes: &[u8]) -> u64
-    requires { length bytes.now ≡ 8 }
-    ensures { result ≡ length_of bytes.now }
-{
-    u64::from_le_bytes([
-        bytes[0], bytes[1], bytes[2], bytes[3], bytes[4], bytes[5], bytes[6], bytes[7],
-    ])
-}
-
 /// How many bytes the index has, of the bytes that spell it and how many others there are.
 fn index_size(head: &[u8], others: usize) -> Result<usize, CodecError>
-    requires { length head.now ≡ 8 }
+    requires long { length head.now ≡ 8 }
     ensures answer { result ≡ index_length head.now others }
 {
     let size = read_length(head);

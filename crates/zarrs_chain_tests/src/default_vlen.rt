@@ -7,6 +7,7 @@ use std::alloc::Global;
 use std::borrow::CowSlice;
 use std::process::Abort;
 use std::test::Fail;
+use zarrs_array_bytes::ArrayBytes;
 use zarrs_chunk::{ChunkShape, CodecError};
 use zarrs_codec::{ArrayCodecTraits, BytesRepresentation, SampleBytesCodec};
 use zarrs_codec_chain::{ArrayToBytesCodec, VlenCodec};
@@ -36,17 +37,30 @@ fn encodes(
     Ok(())
 }
 
+/// The elements that the value stands for.
+fn decoded(
+    alloc: Global,
+    codec: &Strings,
+    form: &ChunkForm,
+) -> Result<ArrayBytes<'static>, CodecError> {
+    let value = CowSlice::Borrowed(TWO_STRINGS);
+    codec.decode(alloc, value, &form.shape, &form.data_type, &form.fill_value)
+}
+
+fn are_wanted(rt: &impl Abort, alloc: Global, came: &ArrayBytes<'_>) -> Result<(), CodecError> {
+    let wanted = held(alloc, &ELEMENTS)?;
+    is(rt, "elements", came, &wanted);
+    Ok(())
+}
+
 fn decodes(
     rt: &impl Abort,
     alloc: Global,
     codec: &Strings,
     form: &ChunkForm,
 ) -> Result<(), CodecError> {
-    let value = CowSlice::Borrowed(TWO_STRINGS);
-    let came = codec.decode(alloc, value, &form.shape, &form.data_type, &form.fill_value)?;
-    let wanted = held(alloc, &ELEMENTS)?;
-    is(rt, "elements", &came, &wanted);
-    Ok(())
+    let came = decoded(alloc, codec, form)?;
+    are_wanted(rt, alloc, &came)
 }
 
 fn codes(rt: &impl Abort, alloc: Global, codec: &Strings) -> Result<(), CodecError> {

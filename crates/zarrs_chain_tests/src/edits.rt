@@ -3,7 +3,7 @@
 use crate::checks::{are, is, is_cause};
 use crate::forms::{
     BYTE, Chain, ChunkForm, Form, Held, Kind, PACKED, PLAIN, STRINGS, TURNED_TWICE, Told,
-    WITH_LENGTH, chain, chunk_form, held,
+    WITH_LENGTH, chain, chunk_form, held, made_case,
 };
 use crate::made::{Encoder, encoder, subset};
 use crate::reads::TWO_STRINGS;
@@ -195,9 +195,8 @@ fn is_written(
 }
 
 fn writes_row(rt: &impl Abort, alloc: Global, row: &Written) -> Result<(), Fail> {
-    let chain = chain(alloc, row.0)?;
-    let form = chunk_form(alloc, &row.1)?;
-    is_written(rt, alloc, &chain, &form, row)?;
+    let case = made_case(alloc, row.0, &row.1)?;
+    is_written(rt, alloc, &case.chain, &case.form, row)?;
     Ok(())
 }
 
@@ -325,8 +324,7 @@ fn runs_over(
 
 #[test]
 fn runs_edits_up_to_the_first_refusal(rt: HostRuntime) -> Result<(), Fail> {
-    let chain = chain(rt.alloc(), &PLAIN)?;
-    let form = chunk_form(rt.alloc(), &(&[4], BYTE, 0))?;
-    runs_over(&rt, rt.alloc(), &chain, &form)?;
+    let case = made_case(rt.alloc(), &PLAIN, &(&[4], BYTE, 0))?;
+    runs_over(&rt, rt.alloc(), &case.chain, &case.form)?;
     Ok(())
 }

@@ -282,6 +282,21 @@ pub(crate) fn chunk_form(alloc: Global, told: &Form) -> Result<ChunkForm, CodecE
     })
 }
 
+/// A chain, and a chunk that it is told of.
+#[derive(Drop)]
+pub(crate) struct Case {
+    pub(crate) chain: Chain,
+    pub(crate) form: ChunkForm,
+}
+
+/// Such a chain and such a chunk, as one value: each that a function owns makes it dearer to prove.
+pub(crate) fn made_case(alloc: Global, told: &Told, form: &Form) -> Result<Case, Fail> {
+    Ok(Case {
+        chain: chain(alloc, told)?,
+        form: chunk_form(alloc, form)?,
+    })
+}
+
 /// Elements: their bytes; where each string begins and the last one ends, or nothing; the masks over
 /// them, the innermost first.
 pub(crate) type Held = (&'static [u8], &'static [usize], &'static [&'static [u8]]);

@@ -4,7 +4,7 @@ use crate::checks::{is, is_cause};
 use crate::forms::{
     BYTE, Chain, ChunkForm, FIRST_BYTE, Form, HALF_BYTES, Held, Kind, Moving, NO_FIRST_BIT,
     OPTIONAL_STRINGS, OPTIONS, PACKED, PLAIN, SHORT_OFFSETS, STRINGS, THREE_LEVELS, TURNED,
-    TURNED_TWICE, TWO_LEVELS, ToBytes, Told, WITH_LENGTH, chain, chunk_form, held,
+    TURNED_TWICE, TWO_LEVELS, ToBytes, Told, WITH_LENGTH, held, made_case,
 };
 use crate::made::{Decoder, decoder, subset};
 use std::alloc::Global;
@@ -327,9 +327,8 @@ fn reads_form(
 }
 
 fn reads_row(rt: &impl Abort, alloc: Global, row: &Read, in_part: bool) -> Result<(), Fail> {
-    let chain = chain(alloc, row.0)?;
-    let form = chunk_form(alloc, &row.1)?;
-    reads_form(rt, alloc, &chain, &form, row, in_part)?;
+    let case = made_case(alloc, row.0, &row.1)?;
+    reads_form(rt, alloc, &case.chain, &case.form, row, in_part)?;
     Ok(())
 }
 
@@ -434,12 +433,11 @@ const UNREAD: &'static [Unread] = &[
 
 fn unmade_row(rt: &impl Abort, alloc: Global, row: &Unread) -> Result<(), Fail> {
     let (told, form, value, _, cause) = row;
-    let chain = chain(alloc, told)?;
-    let form = chunk_form(alloc, form)?;
+    let case = made_case(alloc, told, form)?;
     is_cause(
         rt,
         "making",
-        decoder(alloc, &chain, &form, value).err(),
+        decoder(alloc, &case.chain, &case.form, value).err(),
         cause,
     )?;
     Ok(())
@@ -481,9 +479,8 @@ fn unread_form(
 }
 
 fn unread_row(rt: &impl Abort, alloc: Global, row: &Unread) -> Result<(), Fail> {
-    let chain = chain(alloc, row.0)?;
-    let form = chunk_form(alloc, &row.1)?;
-    unread_form(rt, alloc, &chain, &form, row)?;
+    let case = made_case(alloc, row.0, &row.1)?;
+    unread_form(rt, alloc, &case.chain, &case.form, row)?;
     Ok(())
 }
 
@@ -586,9 +583,8 @@ fn plans_form(
 }
 
 fn plans_row(rt: &impl Abort, alloc: Global, row: &Planned) -> Result<(), Fail> {
-    let chain = chain(alloc, row.0)?;
-    let form = chunk_form(alloc, &row.1)?;
-    plans_form(rt, alloc, &chain, &form, row)?;
+    let case = made_case(alloc, row.0, &row.1)?;
+    plans_form(rt, alloc, &case.chain, &case.form, row)?;
     Ok(())
 }
 

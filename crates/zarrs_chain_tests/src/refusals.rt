@@ -3,7 +3,7 @@
 use crate::checks::is_cause;
 use crate::forms::{
     BYTE, Chain, ChunkForm, Form, Held, Kind, Moving, OPTIONS, PLAIN, STRINGS, ToBytes, Told,
-    WITH_LENGTH, chain, chunk_form, held,
+    WITH_LENGTH, held, made_case,
 };
 use std::alloc::Global;
 use std::borrow::CowSlice;
@@ -97,11 +97,17 @@ fn decodes_not(
 
 fn refuses(rt: &impl Abort, alloc: Global, row: &Refused) -> Result<(), Fail> {
     let (told, form, cause) = row;
-    let chain = chain(alloc, told)?;
-    let form = chunk_form(alloc, form)?;
-    represents_not(rt, alloc, &chain, &form, cause)?;
-    encodes_not(rt, alloc, &chain, &form, &(&[1, 2], &[], &[]), cause)?;
-    decodes_not(rt, alloc, &chain, &form, &[1, 2], cause)?;
+    let case = made_case(alloc, told, form)?;
+    represents_not(rt, alloc, &case.chain, &case.form, cause)?;
+    encodes_not(
+        rt,
+        alloc,
+        &case.chain,
+        &case.form,
+        &(&[1, 2], &[], &[]),
+        cause,
+    )?;
+    decodes_not(rt, alloc, &case.chain, &case.form, &[1, 2], cause)?;
     Ok(())
 }
 
@@ -204,9 +210,8 @@ const DAMAGED: &'static [Damaged] = &[
 
 fn is_damaged(rt: &impl Abort, alloc: Global, row: &Damaged) -> Result<(), Fail> {
     let (told, form, value, cause) = row;
-    let chain = chain(alloc, told)?;
-    let form = chunk_form(alloc, form)?;
-    decodes_not(rt, alloc, &chain, &form, value, cause)?;
+    let case = made_case(alloc, told, form)?;
+    decodes_not(rt, alloc, &case.chain, &case.form, value, cause)?;
     Ok(())
 }
 

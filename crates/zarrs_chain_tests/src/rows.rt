@@ -3,8 +3,8 @@
 use crate::checks::{are, is, is_cause};
 use crate::forms::{
     BYTE, Chain, ChunkForm, FIRST_BYTE, Form, HALF_BYTES, Held, Kind, LITTLE, Moving, NO_FIRST_BIT,
-    OPTIONAL_STRINGS, OPTIONS, PACKED, PLAIN, SHORT_OFFSETS, STRINGS, THREE_LEVELS, TURNED,
-    TURNED_TWICE, TWO_LEVELS, ToBytes, Told, WITH_LENGTH, chain, chunk_form, held,
+    OPTIONAL_STRINGS, OPTIONS, PLAIN, SHORT_OFFSETS, STRINGS, THREE_LEVELS, TURNED, TURNED_TWICE,
+    TWO_LEVELS, ToBytes, Told, WITH_LENGTH, chain, chunk_form, held, made_case,
 };
 use std::alloc::Global;
 use std::borrow::CowSlice;
@@ -360,9 +360,8 @@ const READ: &'static [Read] = &[
 
 fn reads(rt: &impl Abort, alloc: Global, row: &Read) -> Result<(), Fail> {
     let (told, form, value, elements) = row;
-    let chain = chain(alloc, told)?;
-    let form = chunk_form(alloc, form)?;
-    decodes(rt, alloc, &chain, &form, value, elements)?;
+    let case = made_case(alloc, told, form)?;
+    decodes(rt, alloc, &case.chain, &case.form, value, elements)?;
     Ok(())
 }
 
@@ -394,9 +393,8 @@ fn writes_again(
 
 #[test]
 fn reads_offsets_from_above_zero(rt: HostRuntime) -> Result<(), Fail> {
-    let chain = chain(rt.alloc(), &SHORT_OFFSETS)?;
-    let form = chunk_form(rt.alloc(), &(&[1], Kind::Text, 0))?;
-    writes_again(&rt, rt.alloc(), &chain, &form)?;
+    let case = made_case(rt.alloc(), &SHORT_OFFSETS, &(&[1], Kind::Text, 0))?;
+    writes_again(&rt, rt.alloc(), &case.chain, &case.form)?;
     Ok(())
 }
 
@@ -423,9 +421,8 @@ const SIZES: &'static [Sized] = &[
 
 fn has_size(rt: &impl Abort, alloc: Global, row: &Sized) -> Result<(), Fail> {
     let (told, form, size) = row;
-    let chain = chain(alloc, told)?;
-    let form = chunk_form(alloc, form)?;
-    represents(rt, alloc, &chain, &form, size)?;
+    let case = made_case(alloc, told, form)?;
+    represents(rt, alloc, &case.chain, &case.form, size)?;
     Ok(())
 }
 

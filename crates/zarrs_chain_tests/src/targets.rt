@@ -2,8 +2,8 @@
 
 use crate::checks::{are, is, is_cause};
 use crate::forms::{
-    BYTE, Chain, ChunkForm, Form, Kind, OPTIONS, PLAIN, STRINGS, TURNED, Told, WITH_LENGTH, chain,
-    chunk_form,
+    BYTE, Chain, ChunkForm, Form, Kind, OPTIONS, PLAIN, STRINGS, TURNED, Told, WITH_LENGTH,
+    made_case,
 };
 use std::alloc::Global;
 use std::borrow::CowSlice;
@@ -128,9 +128,8 @@ fn writes_form(
 }
 
 fn writes(rt: &impl Abort, alloc: Global, row: &Row) -> Result<(), Fail> {
-    let chain = chain(alloc, row.0)?;
-    let form = chunk_form(alloc, &row.1)?;
-    writes_form(rt, alloc, &chain, &form, row)?;
+    let case = made_case(alloc, row.0, &row.1)?;
+    writes_form(rt, alloc, &case.chain, &case.form, row)?;
     Ok(())
 }
 
@@ -217,9 +216,8 @@ fn refuses_form(
 }
 
 fn refuses(rt: &impl Abort, alloc: Global, row: &RefusedRow) -> Result<(), Fail> {
-    let chain = chain(alloc, row.0)?;
-    let form = chunk_form(alloc, &row.1)?;
-    refuses_form(rt, alloc, &chain, &form, row)?;
+    let case = made_case(alloc, row.0, &row.1)?;
+    refuses_form(rt, alloc, &case.chain, &case.form, row)?;
     Ok(())
 }
 
@@ -255,9 +253,8 @@ fn writes_both(
 
 #[test]
 fn writes_elements_and_masks(rt: HostRuntime) -> Result<(), Fail> {
-    let chain = chain(rt.alloc(), &OPTIONS)?;
-    let form = chunk_form(rt.alloc(), &(&[3], BYTE, 1))?;
-    writes_both(&rt, rt.alloc(), &chain, &form)?;
+    let case = made_case(rt.alloc(), &OPTIONS, &(&[3], BYTE, 1))?;
+    writes_both(&rt, rt.alloc(), &case.chain, &case.form)?;
     Ok(())
 }
 
@@ -283,9 +280,8 @@ fn refuses_mask(
 
 #[test]
 fn refuses_a_mask_too_many(rt: HostRuntime) -> Result<(), Fail> {
-    let chain = chain(rt.alloc(), &PLAIN)?;
-    let form = chunk_form(rt.alloc(), &(&[2], BYTE, 0))?;
-    refuses_mask(&rt, rt.alloc(), &chain, &form)?;
+    let case = made_case(rt.alloc(), &PLAIN, &(&[2], BYTE, 0))?;
+    refuses_mask(&rt, rt.alloc(), &case.chain, &case.form)?;
     Ok(())
 }
 
@@ -334,9 +330,8 @@ const COMPACTED: &'static [Compacted] = &[
 
 fn is_compacted(rt: &impl Abort, alloc: Global, row: &Compacted) -> Result<(), Fail> {
     let (told, value, cause) = row;
-    let chain = chain(alloc, told)?;
-    let form = chunk_form(alloc, &(&[2], BYTE, 0))?;
-    let answer = is_left(rt, alloc, &chain, &form, value);
+    let case = made_case(alloc, told, &(&[2], BYTE, 0))?;
+    let answer = is_left(rt, alloc, &case.chain, &case.form, value);
     is_cause(rt, "compact", answer.err(), cause)?;
     Ok(())
 }

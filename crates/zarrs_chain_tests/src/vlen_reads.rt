@@ -3,7 +3,7 @@
 use crate::checks::{are, is, is_cause};
 use crate::forms::{
     BYTE, Chain, ChunkForm, Form, HALF_BYTES, Held, Kind, OPTIONS, STRINGS, Told, chain,
-    chunk_form, held,
+    chunk_form, held, made_case,
 };
 use crate::made::{stored, subset};
 use crate::reads::TWO_STRINGS;
@@ -200,9 +200,8 @@ fn reads_form(
 }
 
 fn reads_row(rt: &impl Abort, alloc: Global, row: &Read) -> Result<(), Fail> {
-    let chain = chain(alloc, row.0)?;
-    let form = chunk_form(alloc, &FORM)?;
-    reads_form(rt, alloc, vlen_of(&chain)?, &form, row)?;
+    let case = made_case(alloc, row.0, &FORM)?;
+    reads_form(rt, alloc, vlen_of(&case.chain)?, &case.form, row)?;
     Ok(())
 }
 

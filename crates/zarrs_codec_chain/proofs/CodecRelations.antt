@@ -1,10 +1,10 @@
 -- What a codec with chains inside answers is what stands and what is written.
-use Rattle.std.proofs.Common.{◌≡◌, ℕ, ◌<◌, ◌^◌, Bool, List, length, Result, Ok, Err, IfOk, All, ap, sym, subst}
+use Rattle.std.proofs.Common.{◌≡◌, ℕ, ◌<◌, ◌^◌, List, length, Result, Ok, Err, IfOk, All, sym, subst}
 use Rattle.std.specs.Prelude.{IsOk}
 use Rattle.zarrs_chunk.specs.Answer.{Answers, AnswersBy, memory}
 use Rattle.zarrs_chunk.specs.ChunkShape.{product}
 use Rattle.zarrs_chunk.specs.declared.codec_error.CodecError.{CodecError}
-use Rattle.zarrs_data_type.specs.ElementType.{ElementType, fixed, text, bytes, optional}
+use Rattle.zarrs_data_type.specs.ElementType.{ElementType}
 use Rattle.zarrs_data_type.specs.Element.{Chunk}
 use Rattle.zarrs_array_bytes.specs.Elements.{elements}
 use Rattle.zarrs_array_bytes.specs.Held.{Held}
@@ -14,7 +14,6 @@ use Rattle.zarrs_codec.specs.BytesToBytesCodec.{BytesCodecs}
 use Rattle.zarrs_bytes.specs.BytesCodec.{IsChunk}
 use Rattle.zarrs_chain_parts.specs.Chain.{codec_held_value, taken_chunk}
 use Rattle.zarrs_codec_chain.specs.ChainView.{plain_vlen, plain_vlen_at, plain_optional, plain_optional_at}
-use Rattle.zarrs_chain_parts.specs.Decode.{codec_chunk}
 use Rattle.zarrs_chain_parts.specs.Encode.{around_value, codec_value}
 use Rattle.zarrs_chain_parts.specs.Laws.{HasMappings}
 use Rattle.zarrs_chain_parts.specs.NormalForm.{normal_element}

@@ -11,7 +11,6 @@ use Rattle.zarrs_metadata.specs.declared.metadata_v3.MetadataV3.{MetadataV3}
 use Rattle.zarrs_metadata.specs.declared.plugin_create_error.PluginCreateError.{PluginCreateError}
 use Rattle.zarrs_codec_chain.specs.ChainView.{plain_chain}
 use Rattle.zarrs_chain_parts.specs.MadeChain.{CodecMade, Gathered, codec_made, joined, gathered, finished, nothing_gathered, chain_made, depth_of, depth_all}
-use Rattle.zarrs_chain_parts.specs.PlainChain.{PlainChain}
 use Rattle.zarrs_codec_chain.specs.declared.codec_chain.CodecChain.{CodecChain}
 use Rattle.zarrs_chain_parts.proofs.MadeAlike.{chain_made_at}
 

@@ -14,7 +14,7 @@ use Rattle.zarrs_array_bytes.specs.Present.{present_count, present_chunk}
 use Rattle.zarrs_array_bytes.specs.Validity.{validity, Holds}
 use Rattle.zarrs_codec.specs.BytesToBytesCodec.{BytesCodecs}
 use Rattle.zarrs_codec.specs.declared.bytes_representation.BytesRepresentation.{BytesRepresentation}
-use Rattle.zarrs_chain_parts.specs.PlainChain.{PlainCodec, PlainChain, optional_codec_of}
+use Rattle.zarrs_chain_parts.specs.PlainChain.{PlainCodec}
 use Rattle.zarrs_chain_parts.specs.BytesStages.{in_memory}
 use Rattle.zarrs_chain_parts.specs.Chain.{held_part, codec_held_value}
 use Rattle.zarrs_codec_chain.specs.ChainView.{plain_chain, plain_optional, plain_optional_at}

@@ -1,7 +1,7 @@
 -- What a codec `vlen` reads, step by step.
-use Rattle.std.proofs.Common.{◌≡◌, ℕ, zero, suc, ◌+◌, ◌*◌, ◌-◌, ◌<◌, ◌≤◌, ◌^◌, ◌==◌, nat_lt, Bool, true, false, if◌then◌else◌, List, [], ◌∷◌, ◌++◌, length, map, map-id, take, drop, slice_index, Result, Ok, Err, IsOk, IfOk, arith, refl, ap, sym, subst, ◌∙◌, eq-eqb}
+use Rattle.std.proofs.Common.{◌≡◌, ℕ, zero, suc, ◌+◌, ◌*◌, ◌-◌, ◌<◌, ◌≤◌, ◌^◌, ◌==◌, nat_lt, Bool, true, false, if◌then◌else◌, List, [], ◌∷◌, ◌++◌, length, map, map-id, take, drop, Result, Ok, Err, IsOk, IfOk, arith, refl, ap, sym, subst, ◌∙◌, eq-eqb}
 use Rattle.std.specs.Prelude.{IsOkAnd}
-use Rattle.std.specs.List.{concat, flat_map, range_with_len}
+use Rattle.std.specs.List.{concat}
 use Rattle.std.proofs.lemmas.Bool.Decides.{nat_tests}
 use Rattle.std.proofs.lemmas.List.{append_assoc, drop_at, length-append, take_at}
 use Rattle.std.proofs.lemmas.List.Folds.{flat_map-map}
@@ -10,7 +10,7 @@ use Rattle.zarrs_chunk.specs.Answer.{◌>>=◌, Answers, AnswersBy, memory, dema
 use Rattle.zarrs_chunk.specs.ChunkShape.{product}
 use Rattle.zarrs_chunk.specs.declared.codec_error.CodecError.{CodecError}
 use Rattle.zarrs_chunk.specs.declared.codec_error.CodecError.TheVariants.{InvalidBytesLength, InvalidOffsets, ArrayBytesKind, Overflow}
-use Rattle.zarrs_data_type.specs.Element.{Element, plain, Chunk}
+use Rattle.zarrs_data_type.specs.Element.{plain, Chunk}
 use Rattle.zarrs_data_type.specs.ElementType.{ElementType, fixed, text, bytes, optional}
 use Rattle.zarrs_data_type.specs.FillValue.{fill_fits}
 use Rattle.zarrs_array_bytes.specs.Elements.{cut, elements}
@@ -18,7 +18,7 @@ use Rattle.zarrs_array_bytes.specs.Held.{Held, Raw, flen, vlen, masked}
 use Rattle.zarrs_array_bytes.specs.Offsets.{rises, is_offsets, last_of, offsets_of}
 use Rattle.zarrs_array_bytes.specs.Parts.{fixed_part, with_offsets}
 use Rattle.zarrs_array_bytes.specs.Pieces.{pieces}
-use Rattle.zarrs_array_bytes.specs.Validity.{validity, Holds}
+use Rattle.zarrs_array_bytes.specs.Validity.{Holds}
 use Rattle.zarrs_array_bytes.proofs.OffsetLemmas.{flat_map-concat}
 use Rattle.zarrs_array_bytes.proofs.Pieces.{concat-pieces, elements-pieces}
 use Rattle.zarrs_array_bytes.proofs.ValidLemmas.{both_ok, fixed_fits}
@@ -29,7 +29,7 @@ use Rattle.zarrs_codec.specs.CoordinateMap.{moved_chunk, inverse_map}
 use Rattle.zarrs_chain_parts.specs.PlainChain.{PlainCodec, PlainChain, vlen_codec_of}
 use Rattle.zarrs_chain_parts.specs.ArrayStages.{arrays_map}
 use Rattle.zarrs_chain_parts.specs.BytesStages.{outer_bytes}
-use Rattle.zarrs_chain_parts.specs.Decode.{Decoder, part_chunk, offsets_in_chunk, slices, vlen_parts, vlen_chunk, codec_chunk, chain_chunk}
+use Rattle.zarrs_chain_parts.specs.Decode.{Decoder, part_chunk, offsets_in_chunk, slices, vlen_parts, codec_chunk, chain_chunk}
 use Rattle.zarrs_chain_parts.specs.Encode.{offset_bytes, all_bytes}
 use Rattle.zarrs_chain_parts.specs.Representation.{byte_type, offset_type, is_variable, vlen_representation, codec_representation}
 use Rattle.zarrs_codec_chain.specs.ChainView.{plain_chain, plain_vlen, plain_vlen_at}

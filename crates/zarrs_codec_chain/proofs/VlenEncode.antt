@@ -1,17 +1,17 @@
 -- What a codec `vlen` writes, step by step.
-use Rattle.std.proofs.Common.{◌≡◌, ℕ, zero, suc, ◌+◌, ◌-◌, ◌<◌, ◌≤◌, ◌^◌, nat_lt, ◌&&◌, Bool, true, false, if◌then◌else◌, List, [], ◌∷◌, ◌++◌, length, map, take, drop, slice_index, Option, None, Some, Result, Ok, Err, IsOk, arith, refl, ap, sym, subst, ◌∙◌, add-zero}
+use Rattle.std.proofs.Common.{◌≡◌, ℕ, suc, ◌+◌, ◌-◌, ◌<◌, ◌≤◌, ◌^◌, nat_lt, ◌&&◌, Bool, true, false, if◌then◌else◌, List, [], ◌∷◌, length, map, take, drop, slice_index, None, Result, Ok, Err, IsOk, arith, refl, ap, sym, subst, ◌∙◌, add-zero}
 use Rattle.std.specs.Prelude.{IsOkAnd}
-use Rattle.std.specs.List.{All, concat, flat_map, range_with_len}
+use Rattle.std.specs.List.{All, concat, range_with_len}
 use Rattle.std.proofs.lemmas.Bool.Decides.{nat_tests}
 use Rattle.std.proofs.lemmas.List.{length-drop, length-map, take_all}
 use Rattle.std.proofs.lemmas.List.Folds.{flat_map-map}
 use Rattle.std.proofs.lemmas.Simd.{map-map}
-use Rattle.zarrs_chunk.specs.Answer.{◌>>=◌, Answers, AnswersBy, memory, demand, checked_u64, seen}
+use Rattle.zarrs_chunk.specs.Answer.{◌>>=◌, Answers, memory, demand, checked_u64, seen}
 use Rattle.zarrs_chunk.specs.ChunkShape.{product}
 use Rattle.zarrs_chunk.specs.declared.codec_error.CodecError.{CodecError}
 use Rattle.zarrs_chunk.specs.declared.codec_error.CodecError.TheVariants.{InvalidBytesLength, OffsetTooLarge, OffsetNotKept, InvalidFillValue, BitRange, Overflow, UnsupportedDataType}
 use Rattle.zarrs_chunk.specs.declared.codec_error.CodecName.TheVariants as names
-use Rattle.zarrs_data_type.specs.Element.{Element, plain, Chunk}
+use Rattle.zarrs_data_type.specs.Element.{plain, Chunk}
 use Rattle.zarrs_data_type.specs.ElementType.{ElementType, fixed, text, bytes, optional, element_size}
 use Rattle.zarrs_data_type.specs.FillValue.{fill_fits}
 use Rattle.zarrs_array_to_array.specs.ArrayToArrayCodec.{ArrayMapping, IsMapping}
@@ -26,7 +26,7 @@ use Rattle.zarrs_array_bytes.proofs.Pieces.{AllSized}
 use Rattle.zarrs_array_bytes.proofs.RunLemmas.{cuts_of_run, ends_of_run}
 use Rattle.zarrs_array_bytes.proofs.ValidLemmas.{both_ok, variable_fits}
 use Rattle.zarrs_codec.specs.BytesToBytesCodec.{BytesCodecs}
-use Rattle.zarrs_codec.specs.CoordinateMap.{CoordinateMap, IsCoordinateMap}
+use Rattle.zarrs_codec.specs.CoordinateMap.{IsCoordinateMap}
 use Rattle.zarrs_codec.specs.declared.bytes_representation.BytesRepresentation.{BytesRepresentation}
 use Rattle.zarrs_codec.specs.declared.bytes_representation.BytesRepresentation.TheVariants.{FixedSize}
 use Rattle.zarrs_bytes.specs.ByteOrder.{bytes_of, bytes_in_order}
@@ -36,7 +36,7 @@ use Rattle.zarrs_packbits.specs.PackedLayout.{is_in_reach}
 use Rattle.zarrs_packbits.specs.PaddingByte.{value_len}
 use Rattle.zarrs_chain_parts.specs.PlainChain.{PlainCodec, bytes_codec, packbits_codec, vlen_codec, optional_codec, PlainChain, vlen_codec_of}
 use Rattle.zarrs_chain_parts.specs.ArrayStages.{arrays_map}
-use Rattle.zarrs_chain_parts.specs.BytesStages.{in_memory, outer_representation}
+use Rattle.zarrs_chain_parts.specs.BytesStages.{in_memory}
 use Rattle.zarrs_chain_parts.specs.Chain.{codec_held_value, held_value, held_part}
 use Rattle.zarrs_chain_parts.specs.Decode.{slices}
 use Rattle.zarrs_chain_parts.specs.Encode.{Encoder, part_value, chunk_offsets, offset_bytes, offset_fits, offset_elements, byte_elements, all_bytes, vlen_layout, is_same_bytes, vlen_value, codec_value, chain_value}
@@ -46,7 +46,7 @@ use Rattle.zarrs_chain_parts.specs.Representation.{byte_type, offset_type, is_va
 use Rattle.zarrs_codec_chain.specs.ChainView.{plain_vlen, plain_vlen_at}
 use Rattle.zarrs_codec_chain.specs.declared.vlen_codec.VlenCodec.{VlenCodec}
 use Rattle.zarrs_chain_parts.specs.VlenSteps.{from_first, offsets_fit, index_elements, keeps_offsets, TakesOffsets, index_part, content_part}
-use Rattle.zarrs_chain_parts.proofs.ArraySteps.{ok, err, bind_ok, ok_is}
+use Rattle.zarrs_chain_parts.proofs.ArraySteps.{ok, bind_ok, ok_is}
 use Rattle.zarrs_chain_parts.proofs.ChainSteps.{seen_ok, next_ok}
 use Rattle.zarrs_chain_parts.proofs.NestedNormal.{Keeping}
 use Rattle.zarrs_chain_parts.proofs.NestedRows.{items_long}

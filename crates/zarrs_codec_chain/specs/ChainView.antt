@@ -1,5 +1,5 @@
 -- Chains of codecs as the plain chains that contracts speak of.
-use Rattle.std.specs.Prelude.{◌≡◌, Bool, true, false, map}
+use Rattle.std.specs.Prelude.{◌≡◌, map}
 use Rattle.std.proofs.Common.{ap}
 use Rattle.std.specs.declared.alloc.Global.{Global}
 use Rattle.std.specs.declared.boxed.Box.{Box}

@@ -29,7 +29,7 @@ use zarrs_packbits::PackBitsCodec;
 
 /// A codec of chunks to bytes.
 #[cycle(chain)]
-#[derive(Drop)]
+#[derive(Debug, Drop)]
 pub enum ArrayToBytesCodec<B> {
     /// The bytes of the elements (codec `bytes`).
     Bytes(BytesCodec),
@@ -45,7 +45,7 @@ pub enum ArrayToBytesCodec<B> {
 #[cycle(sound)]
 #[tactic(auto, unfolding(crate::specs::ChainView::plain_codec))]
 pub(crate) fn codec_is_sound<B>(codec: &ArrayToBytesCodec<B>)
-    ensures { HasMappings (plain_codec codec.now) }
+    ensures mappings { HasMappings (plain_codec codec.now) }
 {
     match codec {
         ArrayToBytesCodec::Bytes(_) => {}

@@ -35,7 +35,7 @@ use zarrs_metadata::{Configuration, PluginCreateError};
 /// A chain of codecs: codecs of chunks to chunks, one of chunks to bytes, and the caller's codecs of
 /// bytes to bytes, each list in the order in which they encode.
 #[cycle(chain)]
-#[derive(Drop)]
+#[derive(Debug, Drop)]
 pub struct CodecChain<B> {
     pub(crate) array_to_array: Vec<ArrayToArrayCodec>,
     pub(crate) array_to_bytes: ArrayToBytesCodec<B>,
@@ -82,7 +82,7 @@ impl<B> CodecChain<B> {
 
 /// What the array codecs are made of holds.
 fn arrays_are_sound(codecs: &[ArrayToArrayCodec])
-    ensures { All IsMapping (map mapping_of codecs.now) }
+    ensures mappings { All IsMapping (map mapping_of codecs.now) }
 {
     match codecs {
         [] => {}
@@ -96,7 +96,7 @@ fn arrays_are_sound(codecs: &[ArrayToArrayCodec])
 /// What the array codecs of the chain, and of those inside it, are made of holds.
 #[cycle(sound)]
 pub fn chain_is_sound<B>(chain: &CodecChain<B>)
-    ensures { IsChainOfMappings (plain_chain chain.now) }
+    ensures mappings { IsChainOfMappings (plain_chain chain.now) }
 {
     arrays_are_sound(&chain.array_to_array);
     codec_is_sound(&chain.array_to_bytes);

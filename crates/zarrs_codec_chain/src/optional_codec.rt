@@ -44,7 +44,7 @@ use zarrs_metadata::{Configuration, PluginCreateError};
 /// lowest first; the mask part; the data part. The mask is a chunk of flags of the full shape, 1 for
 /// present; the data are a row of the present elements, in order.
 #[cycle(chain)]
-#[derive(Drop)]
+#[derive(Debug, Drop)]
 pub struct OptionalCodec<B> {
     mask_codecs: Box<CodecChain<B>>,
     data_codecs: Box<CodecChain<B>>,
@@ -67,7 +67,7 @@ impl<B> OptionalCodec<B> {
 #[cycle(sound)]
 #[tactic(auto, using(crate::specs::ChainView::plain_optional_at))]
 pub(crate) fn optional_is_sound<B>(codec: &OptionalCodec<B>)
-    ensures { HasMappings (plain_optional codec.now) }
+    ensures mappings { HasMappings (plain_optional codec.now) }
 {
     chain_is_sound(&codec.mask_codecs);
     chain_is_sound(&codec.data_codecs);

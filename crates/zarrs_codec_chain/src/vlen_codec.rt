@@ -46,7 +46,7 @@ use zarrs_metadata::{Configuration, PluginCreateError, VlenIndexDataType, VlenIn
 /// part; the data part. The index is a row of one offset more than there are elements; the data are
 /// a row of the elements' bytes, in order.
 #[cycle(chain)]
-#[derive(Drop)]
+#[derive(Debug, Drop)]
 pub struct VlenCodec<B> {
     index_codecs: Box<CodecChain<B>>,
     data_codecs: Box<CodecChain<B>>,
@@ -121,7 +121,7 @@ impl<B: Drop> VlenCodec<B> {
 #[cycle(sound)]
 #[tactic(auto, using(crate::specs::ChainView::plain_vlen_at))]
 pub fn vlen_is_sound<B>(codec: &VlenCodec<B>)
-    ensures { HasMappings (plain_vlen codec.now) }
+    ensures mappings { HasMappings (plain_vlen codec.now) }
 {
     chain_is_sound(&codec.index_codecs);
     chain_is_sound(&codec.data_codecs);
@@ -343,7 +343,7 @@ fn offset_count(shape: &ChunkShape) -> Result<u64, CodecError>
 
 /// The last offset.
 fn last_offset(offsets: &ArrayBytesOffsets) -> u64
-    ensures { result ≡ last_of offsets.now }
+    ensures value { result ≡ last_of offsets.now }
 {
     let offsets = offsets.as_slice();
     offsets[offsets.len() - 1] as u64

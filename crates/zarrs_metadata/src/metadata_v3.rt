@@ -17,7 +17,7 @@ pub type Configuration = Map<String, Value>;
 
 /// The metadata of a codec (Zarr v3, an entry of `codecs`): its name, its configuration where it
 /// has one, and whether a reader that can't make the codec has to refuse.
-#[derive(Drop)]
+#[derive(Debug, Drop)]
 pub struct MetadataV3 {
     name: String,
     configuration: Option<Configuration>,

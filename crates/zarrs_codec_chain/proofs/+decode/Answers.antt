@@ -16,7 +16,7 @@ use Rattle.zarrs_codec_chain.proofs.VlenDecode.{content_answered, content_counte
 use Rattle.zarrs_chain_parts.specs.ArrayStages.{arrays_map}
 use Rattle.zarrs_chain_parts.specs.BytesStages.{outer_bytes}
 use Rattle.zarrs_chain_parts.specs.Chain.{row_sizes}
-use Rattle.zarrs_codec_chain.specs.ChainView.{plain_chain, plain_optional}
+use Rattle.zarrs_codec_chain.specs.ChainView.{plain_chain}
 use Rattle.zarrs_chain_parts.specs.VlenSettings.{is_wide, is_at_end}
 use Rattle.zarrs_chain_parts.specs.Decode.{chain_chunk, part_chunk, vlen_parts}
 use Rattle.zarrs_chain_parts.specs.Representation.{blank_fill, flag_type}
@@ -24,9 +24,7 @@ use Rattle.zarrs_chunk.specs.ChunkShape.{product}
 use Rattle.zarrs_array_bytes.specs.Offsets.{last_of}
 use Rattle.zarrs_chain_parts.specs.VlenSteps.{data_part, index_offsets, content_bytes}
 use Rattle.zarrs_codec_chain.specs.declared.vlen_codec.VlenCodec.{out-VlenCodec}
-use Rattle.std.specs.List.{All}
 use Rattle.zarrs_chain_parts.specs.Encode.{byte_elements}
-use Rattle.zarrs_chain_parts.specs.OptionalParts.{optional_inner}
 use Rattle.zarrs_codec_chain.specs.declared.optional_codec.OptionalCodec.{out-OptionalCodec}
 use Rattle.zarrs_codec_chain.proofs.OptionalRoom.{mask_long}
 use Rattle.zarrs_codec_chain.proofs.+decode.Goals as goal

@@ -92,7 +92,7 @@ vlen_codec::index_encode-returns-in_err-part-clause-answer g t c =
 pub vlen_codec::index_encode-check_kept-requires-clause-taken : goal.vlen_codec::index_encode-check_kept-requires-clause-taken
 vlen_codec::index_encode-check_kept-requires-clause-taken g t c =
     let row : IsIndexRow (is_wide c.args.data_type) c.args.offsets.now c.in_ok-rows.rows c.offset_type.result c.in_ok-fill_value.fill_value = record { rising = c.requires.rising; rows = c.in_ok-rows.ensures.exact; type_is = c.offset_type.ensures.value; fill_is = c.in_ok-fill_value.ensures.answer } in
-    takes_at g.B.BytesToBytesCodecTraits.functions (plain_chain c.args.chain.now) (is_wide c.args.data_type) c.args.offsets.now c.in_ok-rows.rows c.offset_type.result c.in_ok-fill_value.fill_value (raw_of c.in_ok-part.part).items c.chain_is_sound.ensures row c.in_ok-part.ensures.exact
+    takes_at g.B.BytesToBytesCodecTraits.functions (plain_chain c.args.chain.now) (is_wide c.args.data_type) c.args.offsets.now c.in_ok-rows.rows c.offset_type.result c.in_ok-fill_value.fill_value (raw_of c.in_ok-part.part).items c.chain_is_sound.ensures.mappings row c.in_ok-part.ensures.exact
 
 pub vlen_codec::index_encode-returns-in_err-check_kept-clause-answer : goal.vlen_codec::index_encode-returns-in_err-check_kept-clause-answer
 vlen_codec::index_encode-returns-in_err-check_kept-clause-answer g t c =

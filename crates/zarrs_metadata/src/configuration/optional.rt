@@ -12,14 +12,14 @@ use serde_json::Map;
 use std::alloc::Global;
 
 /// The configuration of codec `optional` (codec.zarrs.dev), by its version.
-#[derive(Drop)]
+#[derive(Debug, Drop)]
 pub enum OptionalCodecConfiguration {
     /// Version 1.
     V1(OptionalCodecConfigurationV1),
 }
 
 /// The configuration of codec `optional`, version 1.
-#[derive(Drop)]
+#[derive(Debug, Drop)]
 pub struct OptionalCodecConfigurationV1 {
     /// The metadata of the chain that encodes the mask.
     pub mask_codecs: Vec<MetadataV3>,

@@ -15,14 +15,14 @@ use serde_json::{Map, Number, Value};
 use std::alloc::{AllocError, Global};
 
 /// The configuration of codec `reshape` (zarr-extensions), by its version.
-#[derive(Drop)]
+#[derive(Debug, Drop)]
 pub enum ReshapeCodecConfiguration {
     /// Version 1.
     V1(ReshapeCodecConfigurationV1),
 }
 
 /// The configuration of codec `reshape`, version 1.
-#[derive(Drop)]
+#[derive(Debug, Drop)]
 pub struct ReshapeCodecConfigurationV1 {
     /// The sizes of the encoded chunk.
     pub shape: ReshapeShape,

@@ -13,14 +13,14 @@ use serde_json::{Map, Value};
 use std::alloc::{AllocError, Global};
 
 /// The configuration of codec `transpose` (Zarr v3), by its version.
-#[derive(Drop)]
+#[derive(Debug, Drop)]
 pub enum TransposeCodecConfiguration {
     /// Version 1.
     V1(TransposeCodecConfigurationV1),
 }
 
 /// The configuration of codec `transpose`, version 1.
-#[derive(Drop)]
+#[derive(Debug, Drop)]
 pub struct TransposeCodecConfigurationV1 {
     /// The order of the axes.
     pub order: TransposeOrder,

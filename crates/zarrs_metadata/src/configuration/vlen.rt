@@ -14,7 +14,7 @@ use serde_json::{Map, Value};
 use std::alloc::Global;
 
 /// The configuration of codec `vlen` (codec.zarrs.dev), by its version.
-#[derive(Drop)]
+#[derive(Debug, Drop)]
 pub enum VlenCodecConfiguration {
     /// Version 0, which doesn't say where the offsets stand.
     V0(VlenCodecConfigurationV0),
@@ -23,7 +23,7 @@ pub enum VlenCodecConfiguration {
 }
 
 /// The configuration of codec `vlen`, version 0: the offsets stand before the elements' bytes.
-#[derive(Drop)]
+#[derive(Debug, Drop)]
 pub struct VlenCodecConfigurationV0 {
     /// The metadata of the chain that encodes the offsets.
     pub index_codecs: Vec<MetadataV3>,
@@ -34,7 +34,7 @@ pub struct VlenCodecConfigurationV0 {
 }
 
 /// The configuration of codec `vlen`, version 0.1.
-#[derive(Drop)]
+#[derive(Debug, Drop)]
 pub struct VlenCodecConfigurationV0_1 {
     /// The metadata of the chain that encodes the offsets.
     pub index_codecs: Vec<MetadataV3>,

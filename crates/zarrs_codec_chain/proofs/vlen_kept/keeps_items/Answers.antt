@@ -1,6 +1,6 @@
-use Rattle.std.proofs.Common.{List, ℕ, Ok, Err, sym, subst}
+use Rattle.std.proofs.Common.{Ok, Err, sym, subst}
 use Rattle.std.proofs.lemmas.Result.{err_from_is_err_and}
-use Rattle.zarrs_array_bytes.specs.Held.{Held, flen, raw_of}
+use Rattle.zarrs_array_bytes.specs.Held.{Held, raw_of}
 use Rattle.zarrs_array_bytes.specs.Validity.{Holds}
 use Rattle.zarrs_packbits.specs.NormalForm.{normal_chunk}
 use Rattle.zarrs_chain_parts.specs.Encode.{is_same_bytes}

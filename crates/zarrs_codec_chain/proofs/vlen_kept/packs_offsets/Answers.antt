@@ -1,4 +1,4 @@
-use Rattle.std.proofs.Common.{◌^◌, arith, ap, Ok, ◌∙◌}
+use Rattle.std.proofs.Common.{arith, ap, ◌∙◌}
 use Rattle.zarrs_chain_parts.specs.VlenSettings.{is_wide}
 use Rattle.zarrs_chain_parts.proofs.ArraySteps.{ok}
 use Rattle.zarrs_codec_chain.proofs.VlenKept.{packed_answer}

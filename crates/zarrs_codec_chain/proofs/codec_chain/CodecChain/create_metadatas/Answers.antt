@@ -7,4 +7,4 @@ use Rattle.zarrs_codec_chain.proofs.codec_chain.CodecChain.create_metadatas.Goal
 
 pub returns-clause-made_again : goal.returns-clause-made_again
 returns-clause-made_again g c =
-    list_makes_again plugin_memory (λ list. map metadata_seen list.items) c.chain_written.result g.B.BytesToBytesCodecTraits.described (plain_chain c.args.self.now) c.chain_written.ensures.answer c.chain_is_sound.ensures c.chain_has_ranges.ensures.ranges
+    list_makes_again plugin_memory (λ list. map metadata_seen list.items) c.chain_written.result g.B.BytesToBytesCodecTraits.described (plain_chain c.args.self.now) c.chain_written.ensures.answer c.chain_is_sound.ensures.mappings c.chain_has_ranges.ensures.ranges

@@ -1,4 +1,4 @@
-use Rattle.std.proofs.Common.{◌≡◌, ℕ, ◌+◌, ◌*◌, max, map}
+use Rattle.std.proofs.Common.{◌+◌, ◌*◌, max, map}
 use Rattle.zarrs_metadata.specs.MetadataV3.{metadata_seen}
 use Rattle.zarrs_metadata.specs.OptionalConfiguration.{optional_seen}
 use Rattle.zarrs_metadata.specs.VlenConfiguration.{vlen_seen}

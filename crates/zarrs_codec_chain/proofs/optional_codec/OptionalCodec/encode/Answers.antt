@@ -7,7 +7,7 @@ use Rattle.zarrs_codec_chain.proofs.optional_codec.OptionalCodec.encode.Goals as
 
 pub returns-clause-found : goal.returns-clause-found
 returns-clause-found g c =
-    codec_found (λ value. (raw_of value).items) c.optional_encode.result g.B.BytesToBytesCodecTraits.functions (plain_optional c.args.self.now) c.args.shape.now c.args.data_type.now c.args.fill_value.now c.args.elements (optional_has_chains c.args.self.now) c.optional_is_sound.ensures
+    codec_found (λ value. (raw_of value).items) c.optional_encode.result g.B.BytesToBytesCodecTraits.functions (plain_optional c.args.self.now) c.args.shape.now c.args.data_type.now c.args.fill_value.now c.args.elements (optional_has_chains c.args.self.now) c.optional_is_sound.ensures.mappings
     (subst (All (λ size. 0 < size)) c.as_slice.ensures.sizes c.as_slice.ensures.positive) c.optional_encode.ensures.answer
 
 pub returns-clause-only : goal.returns-clause-only

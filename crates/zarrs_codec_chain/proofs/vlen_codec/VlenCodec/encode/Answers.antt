@@ -7,7 +7,7 @@ use Rattle.zarrs_codec_chain.proofs.vlen_codec.VlenCodec.encode.Goals as goal
 
 pub returns-clause-found : goal.returns-clause-found
 returns-clause-found g c =
-    codec_found (λ value. (raw_of value).items) c.vlen_encode.result g.B.BytesToBytesCodecTraits.functions (plain_vlen c.args.self.now) c.args.shape.now c.args.data_type.now c.args.fill_value.now c.args.elements (vlen_has_chains c.args.self.now) c.vlen_is_sound.ensures
+    codec_found (λ value. (raw_of value).items) c.vlen_encode.result g.B.BytesToBytesCodecTraits.functions (plain_vlen c.args.self.now) c.args.shape.now c.args.data_type.now c.args.fill_value.now c.args.elements (vlen_has_chains c.args.self.now) c.vlen_is_sound.ensures.mappings
     (subst (All (λ size. 0 < size)) c.as_slice.ensures.sizes c.as_slice.ensures.positive) c.vlen_encode.ensures.answer
 
 pub returns-clause-only : goal.returns-clause-only

@@ -14,7 +14,7 @@ returns-clause-selected g c value chunk here stands =
     let selection = selection_of c.args.indexer.now in
     let positive = subst (All (λ size. 0 < size)) c.as_slice.ensures.sizes c.as_slice.ensures.positive in
     subst (λ expected. AnswersBy memory_or_fault (Holds d.data_type) c.read.result expected)
-    (ap (λ stored. codec_stored_read f (vlen_form_of d) stored selection) here ∙ vlen_selects f d.codec.now d.shape d.data_type d.fill_value value chunk selection c.vlen_is_sound.ensures positive stands)
+    (ap (λ stored. codec_stored_read f (vlen_form_of d) stored selection) here ∙ vlen_selects f d.codec.now d.shape d.data_type d.fill_value value chunk selection c.vlen_is_sound.ensures.mappings positive stands)
     c.read.ensures.answer
 
 pub returns-clause-unstored : goal.returns-clause-unstored
