@@ -6,3 +6,5 @@ pub mod ContainerLemmas
 pub mod ShownLemmas
 pub mod ReadLemmas
 pub mod WriteLemmas
+pub mod ReadElements
+pub mod HeldElements

@@ -14,3 +14,4 @@ pub mod Lines
 pub mod Run
 pub mod Seen
 pub mod Session
+pub mod Laws

@@ -13,6 +13,7 @@ mod element;
 mod elements;
 mod indexers;
 mod json;
+pub mod laws;
 mod lines;
 mod refusal;
 pub mod run;
