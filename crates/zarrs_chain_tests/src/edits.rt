@@ -288,7 +288,7 @@ fn edit(
     }
 }
 
-fn edits(alloc: Global) -> Result<Vec<Edit<'static>>, CodecError> {
+pub(crate) fn edits(alloc: Global) -> Result<Vec<Edit<'static>>, CodecError> {
     let mut all = Vec::new(alloc);
     for told in EDITS.iter() {
         all.push(edit(alloc, told)?)?;

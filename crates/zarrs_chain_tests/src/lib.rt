@@ -13,6 +13,8 @@ mod default_vlen;
 #[cfg(test)]
 mod edits;
 #[cfg(test)]
+mod failing_edits;
+#[cfg(test)]
 mod forms;
 #[cfg(test)]
 mod made;
