@@ -11,7 +11,7 @@ use zarrs_metadata::PluginCreateError::{
 type Row = (&'static str, Result<&'static str, PluginCreateError>);
 
 /// Lists of codecs without chains inside, and how their chain is written; or why there is none.
-const FLAT: [Row; 14] = [
+const FLAT: [Row; 15] = [
     (
         r#"["bytes",{"name":"transpose","configuration":{"order":[1,0]}}]"#,
         Ok(
@@ -33,6 +33,12 @@ const FLAT: [Row; 14] = [
     (
         r#"["bytes",{"name":"transpose","must_understand":false}]"#,
         Ok(r#"[{"configuration":{},"name":"bytes"}]"#),
+    ),
+    (
+        r#"["bytes",{"name":"transpose","configuration":{"order":[1,0]},"must_understand":false}]"#,
+        Ok(
+            r#"[{"configuration":{"order":[1,0]},"name":"transpose"},{"configuration":{},"name":"bytes"}]"#,
+        ),
     ),
     (
         r#"["bytes",{"name":"endian","must_understand":false}]"#,
@@ -57,7 +63,7 @@ const FLAT: [Row; 14] = [
 ];
 
 /// Lists of codecs with chains inside.
-const NESTED: [Row; 7] = [
+const NESTED: [Row; 8] = [
     (
         r#"[{"name":"https://codec.zarrs.dev/array_to_bytes/vlen","configuration":{"index_codecs":[{"name":"endian","configuration":{"endian":"little"}}],"data_codecs":["bytes"],"index_data_type":"uint64"}}]"#,
         Ok(
@@ -68,6 +74,12 @@ const NESTED: [Row; 7] = [
         r#"["sample.reverse",{"name":"optional","configuration":{"mask_codecs":["packbits"],"data_codecs":[{"name":"zarrs.optional","configuration":{"mask_codecs":["bytes"],"data_codecs":["sample.length","bytes"]}}]}}]"#,
         Ok(
             r#"[{"configuration":{"data_codecs":[{"configuration":{"data_codecs":[{"configuration":{},"name":"bytes"},"sample.length"],"mask_codecs":[{"configuration":{},"name":"bytes"}]},"name":"zarrs.optional"}],"mask_codecs":[{"configuration":{"first_bit":null,"last_bit":null,"padding_encoding":"none"},"name":"packbits"}]},"name":"zarrs.optional"},"sample.reverse"]"#,
+        ),
+    ),
+    (
+        r#"[{"name":"optional","must_understand":false,"configuration":{"mask_codecs":["bytes"],"data_codecs":["bytes"]}}]"#,
+        Ok(
+            r#"[{"configuration":{"data_codecs":[{"configuration":{},"name":"bytes"}],"mask_codecs":[{"configuration":{},"name":"bytes"}]},"name":"zarrs.optional"}]"#,
         ),
     ),
     (

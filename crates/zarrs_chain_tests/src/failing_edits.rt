@@ -5,7 +5,7 @@ ghost use Rattle.zarrs_codec.specs.StorageState.{count_if, last_failure};
 
 use crate::checks::{are, is, is_cause};
 use crate::edits::edits;
-use crate::forms::{BYTE, Chain, ChunkForm, PLAIN, Told, WITH_LENGTH, chain, chunk_form};
+use crate::forms::{BYTE, Chain, ChunkForm, PLAIN, Told, WITH_LENGTH, made_case};
 use std::alloc::Global;
 use std::process::Abort;
 use std::test::Fail;
@@ -272,9 +272,8 @@ fn fails_at_each(
 }
 
 fn fails_row(rt: &impl Abort, alloc: Global, row: &Row) -> Result<(), Fail> {
-    let chain = chain(alloc, row.0)?;
-    let form = chunk_form(alloc, &(&[4], BYTE, 0))?;
-    fails_at_each(rt, alloc, &chain, &form, row.1)?;
+    let case = made_case(alloc, row.0, &(&[4], BYTE, 0))?;
+    fails_at_each(rt, alloc, &case.chain, &case.form, row.1)?;
     Ok(())
 }
 
