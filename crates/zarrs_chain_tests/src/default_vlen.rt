@@ -47,7 +47,11 @@ fn decoded(
     codec.decode(alloc, value, &form.shape, &form.data_type, &form.fill_value)
 }
 
-fn are_wanted(rt: &impl Abort, alloc: Global, came: &ArrayBytes<'_>) -> Result<(), CodecError> {
+fn are_wanted(
+    rt: &impl Abort,
+    alloc: Global,
+    came: &ArrayBytes<'static>,
+) -> Result<(), CodecError> {
     let wanted = held(alloc, &ELEMENTS)?;
     is(rt, "elements", came, &wanted);
     Ok(())
