@@ -13,13 +13,13 @@ use Rattle.zarrs_codec.specs.StorageState.{count_if}
 use Rattle.zarrs_codec.specs.declared.sample_bytes_codec.SampleBytesCodec.{SampleBytesCodec}
 use Rattle.zarrs_chain_partial.specs.ChunkRead.{ChunkForm, stored_read}
 use Rattle.zarrs_chain_partial.specs.ChunkSource.{Source, source_made}
-use Rattle.zarrs_chain_lines.specs.declared.refusal.Refusal.{Refusal}
+use Rattle.zarrs_chain_json.specs.declared.refusal.Refusal.{Refusal}
 use Rattle.zarrs_chain_lines.specs.Commands.{State, sample_reads, chunk_part, part_of, read_answer}
-use Rattle.zarrs_chain_lines.specs.Elements.{chunk_tree}
-use Rattle.zarrs_chain_lines.specs.Json.{ok_line, tree_of}
-use Rattle.zarrs_chain_lines.specs.Shown.{HoldsSome}
-use Rattle.zarrs_chain_lines.specs.Indexer.{selection_in}
-use Rattle.zarrs_chain_lines.specs.Refusal.{codec_answer, wants_memory}
+use Rattle.zarrs_chain_json.specs.Elements.{chunk_tree}
+use Rattle.zarrs_chain_json.specs.Json.{ok_line, tree_of}
+use Rattle.zarrs_chain_json.specs.Shown.{HoldsSome}
+use Rattle.zarrs_chain_json.specs.Indexer.{selection_in}
+use Rattle.zarrs_chain_json.specs.Refusal.{codec_answer, wants_memory}
 
 -- ---- a read by a decoder that is made for it
 

@@ -4,9 +4,9 @@ use Rattle.std.specs.Io.KnownBytes.{Appends, Keeps}
 use Rattle.zarrs_chunk.specs.Answer.{Excused, seen}
 use Rattle.zarrs_chunk.specs.declared.codec_error.CodecError.TheVariants.{OutOfMemory}
 use Rattle.zarrs_metadata.specs.declared.plugin_create_error.PluginCreateError.TheVariants.{OutOfMemory as NoMemory}
-use Rattle.zarrs_chain_lines.specs.declared.refusal.Refusal.{Refusal}
-use Rattle.zarrs_chain_lines.specs.declared.refusal.Refusal.TheVariants.{Making, Codec}
-use Rattle.zarrs_chain_lines.specs.Refusal.{wants_memory, error_line}
+use Rattle.zarrs_chain_json.specs.declared.refusal.Refusal.{Refusal}
+use Rattle.zarrs_chain_json.specs.declared.refusal.Refusal.TheVariants.{Making, Codec}
+use Rattle.zarrs_chain_json.specs.Refusal.{wants_memory, error_line}
 use Rattle.zarrs_chain_lines.specs.Lines.{filled_lines}
 use Rattle.zarrs_chain_lines.specs.Header.{Header, line_header}
 use Rattle.zarrs_chain_lines.specs.Commands.{State, first_state, answer_to}

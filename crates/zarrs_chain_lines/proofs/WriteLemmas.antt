@@ -11,7 +11,7 @@ use Rattle.zarrs_chain_partial.specs.ChunkRead.{ChunkForm}
 use Rattle.zarrs_chain_partial.specs.ChunkWrite.{stored_written}
 use Rattle.zarrs_chain_parts.specs.Representation.{chain_representation}
 use Rattle.zarrs_chain_lines.specs.Commands.{chunk_left}
-use Rattle.zarrs_chain_lines.specs.Edit.{PlainEdit}
+use Rattle.zarrs_chain_json.specs.Edit.{PlainEdit}
 use Rattle.zarrs_chain_lines.proofs.ReadLemmas.{no_fault, excused_less}
 
 -- a chunk that sample codecs code

@@ -14,14 +14,14 @@ use Rattle.zarrs_chain_partial.specs.ChunkSource.{source_made}
 use Rattle.zarrs_chain_partial.specs.ChunkWrite.{stored_written}
 use Rattle.zarrs_chain_parts.specs.Decode.{chain_chunk}
 use Rattle.zarrs_chain_parts.specs.Representation.{chain_representation}
-use Rattle.zarrs_chain_lines.specs.declared.refusal.Refusal.{Refusal}
-use Rattle.zarrs_chain_lines.specs.declared.refusal.Refusal.TheVariants.{Syntax}
-use Rattle.zarrs_chain_lines.specs.Refusal.{codec_answer}
-use Rattle.zarrs_chain_lines.specs.Json.{tree_of, hex_of, hex_tree, ok_line}
-use Rattle.zarrs_chain_lines.specs.Elements.{elements_of, chunk_tree}
-use Rattle.zarrs_chain_lines.specs.Containers.{container_of}
-use Rattle.zarrs_chain_lines.specs.Indexer.{selection_in}
-use Rattle.zarrs_chain_lines.specs.Edit.{PlainEdit, edit_in}
+use Rattle.zarrs_chain_json.specs.declared.refusal.Refusal.{Refusal}
+use Rattle.zarrs_chain_json.specs.declared.refusal.Refusal.TheVariants.{Syntax}
+use Rattle.zarrs_chain_json.specs.Refusal.{codec_answer}
+use Rattle.zarrs_chain_json.specs.Json.{tree_of, hex_of, hex_tree, ok_line}
+use Rattle.zarrs_chain_json.specs.Elements.{elements_of, chunk_tree}
+use Rattle.zarrs_chain_json.specs.Containers.{container_of}
+use Rattle.zarrs_chain_json.specs.Indexer.{selection_in}
+use Rattle.zarrs_chain_json.specs.Edit.{PlainEdit, edit_in}
 use Rattle.zarrs_chain_lines.specs.Header.{Header}
 
 -- what a session keeps: the header that opened it, and the stored value

@@ -9,11 +9,11 @@ use Rattle.zarrs_codec.specs.SampleBytesCodec.{sample_codecs}
 use Rattle.zarrs_codec.specs.declared.sample_bytes_codec.SampleBytesCodec.{SampleBytesCodec}
 use Rattle.zarrs_chain_parts.specs.PlainChain.{PlainChain}
 use Rattle.zarrs_chain_parts.specs.Representation.{chain_representation}
-use Rattle.zarrs_chain_lines.specs.declared.refusal.Refusal.{Refusal}
-use Rattle.zarrs_chain_lines.specs.declared.refusal.Refusal.TheVariants.{Syntax}
-use Rattle.zarrs_chain_lines.specs.Refusal.{codec_answer, making_answer}
-use Rattle.zarrs_chain_lines.specs.Json.{tree_of, number_list, hex_of}
-use Rattle.zarrs_chain_lines.specs.DataType.{type_in}
+use Rattle.zarrs_chain_json.specs.declared.refusal.Refusal.{Refusal}
+use Rattle.zarrs_chain_json.specs.declared.refusal.Refusal.TheVariants.{Syntax}
+use Rattle.zarrs_chain_json.specs.Refusal.{codec_answer, making_answer}
+use Rattle.zarrs_chain_json.specs.Json.{tree_of, number_list, hex_of}
+use Rattle.zarrs_chain_json.specs.DataType.{type_in}
 use Rattle.zarrs_chain_lines.specs.Codecs.{chain_in}
 
 -- a chunk's shape, type and fill value, and the chain that it is encoded by

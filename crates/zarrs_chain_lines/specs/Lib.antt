@@ -1,12 +1,3 @@
-pub mod Refusal
-pub mod Json
-pub mod Elements
-pub mod Containers
-pub mod Element
-pub mod Shown
-pub mod Indexer
-pub mod Edit
-pub mod DataType
 pub mod Codecs
 pub mod Header
 pub mod Commands
@@ -14,4 +5,10 @@ pub mod Lines
 pub mod Run
 pub mod Seen
 pub mod Session
-pub mod Laws
+pub use Rattle.zarrs_chain_json.specs.Refusal
+pub use Rattle.zarrs_chain_json.specs.Json
+pub use Rattle.zarrs_chain_json.specs.Elements
+pub use Rattle.zarrs_chain_json.specs.Containers
+pub use Rattle.zarrs_chain_json.specs.Indexer
+pub use Rattle.zarrs_chain_json.specs.Edit
+pub use Rattle.zarrs_chain_json.specs.DataType

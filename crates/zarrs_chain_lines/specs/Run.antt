@@ -1,8 +1,8 @@
 -- The answers to a header and to all lines after it.
 use Rattle.std.specs.Prelude.{◌≡◌, ℕ, List, [], ◌∷◌, ◌++◌, ◌⊎◌, Option, Some, IfSome, Result, Ok, Err, codes}
 use Rattle.std.specs.Io.KnownBytes.{Appends}
-use Rattle.zarrs_chain_lines.specs.declared.refusal.Refusal.{Refusal}
-use Rattle.zarrs_chain_lines.specs.Refusal.{error_line}
+use Rattle.zarrs_chain_json.specs.declared.refusal.Refusal.{Refusal}
+use Rattle.zarrs_chain_json.specs.Refusal.{error_line}
 use Rattle.zarrs_chain_lines.specs.Lines.{filled_lines}
 use Rattle.zarrs_chain_lines.specs.Header.{Header, line_header}
 use Rattle.zarrs_chain_lines.specs.Commands.{State, LineAnswer, first_state, answer_to}

@@ -6,16 +6,6 @@
 
 mod codecs;
 mod command;
-mod containers;
-mod data_types;
-mod edits;
-mod element;
-mod elements;
-mod indexers;
-mod json;
-pub mod laws;
 mod lines;
-mod refusal;
 pub mod run;
 mod session;
-mod shown;

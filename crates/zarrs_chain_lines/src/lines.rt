@@ -3,12 +3,12 @@ ghost use Rattle.std.specs.Prelude.{◌≡◌, ℕ, List, [], ◌∷◌, Some, I
 ghost use Rattle.std.specs.Io.BufRead.{strip_last};
 ghost use Rattle.std.specs.Io.KnownBytes.{Appends};
 ghost use Rattle.zarrs_chain_lines.specs.Lines.{lines_of, filled_lines};
-ghost use Rattle.zarrs_chain_lines.specs.Refusal.{error_line};
+ghost use Rattle.zarrs_chain_json.specs.Refusal.{error_line};
 ghost use Rattle.zarrs_chain_lines.specs.Run.{output_line};
 
-use crate::refusal::Refusal;
 use std::io;
 use std::io::{BufRead, ErrorKind, Write};
+use zarrs_chain_json::Refusal;
 
 fn drop_line_end(line: &mut Vec<u8>)
     ensures { line.new.items ≡ strip_last 10 line.old.items }

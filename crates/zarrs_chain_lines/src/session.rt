@@ -7,23 +7,21 @@ ghost use Rattle.zarrs_array_bytes.specs.Validity.{Holds};
 ghost use Rattle.zarrs_codec.specs.MemoryHandle.{handle_value};
 ghost use Rattle.zarrs_codec_chain.specs.ChainView.{plain_chain};
 ghost use Rattle.zarrs_chain_lines.specs.Commands.{first_state, chunk_part, part_of, chunk_left, value_left, encode_answer, load_answer, chunk_answer, decode_answer, read_answer, write_answer, erase_answer, value_answer, answer_to};
-ghost use Rattle.zarrs_chain_lines.specs.Edit.{edit_seen};
+ghost use Rattle.zarrs_chain_json.specs.Edit.{edit_seen};
 ghost use Rattle.zarrs_chain_lines.specs.Header.{shape_at, data_type_at, fill_value_at, codecs_at, header_in, line_header};
-ghost use Rattle.zarrs_chain_lines.specs.Refusal.{wants_memory};
+ghost use Rattle.zarrs_chain_json.specs.Refusal.{wants_memory};
 
 use crate::codecs::chain;
 use crate::command::{Command, command_of};
-use crate::data_types::data_type;
-use crate::edits::{Edit, read_edit};
-use crate::elements::elements;
-use crate::indexers::indexer;
-use crate::json::{Members, hex_bytes, member, numbers, object, ok_hex, tree};
-use crate::refusal::Refusal;
-use crate::shown::ok_elements;
 use serde_json::Value;
 use std::alloc::Global;
 use std::borrow::CowSlice;
 use zarrs_array_bytes::ArrayBytes;
+use zarrs_chain_json::elements::elements;
+use zarrs_chain_json::{
+    Edit, Members, Refusal, data_type, hex_bytes, indexer, member, numbers, object, ok_elements,
+    ok_hex, read_edit, tree,
+};
 use zarrs_chain_partial::CodecChainPartialTraits;
 use zarrs_chunk::{ChunkShape, CodecError, Indexer};
 use zarrs_codec::{MemoryHandle, SampleBytesCodec};

@@ -1,5 +1,5 @@
 use Rattle.std.proofs.Common.{refl}
-use Rattle.zarrs_chain_lines.specs.Refusal.{error_line}
+use Rattle.zarrs_chain_json.specs.Refusal.{error_line}
 use Rattle.zarrs_chain_lines.proofs.RunLemmas.{so_far-start, so_far-replied, so_far-end, gives, ends, reply-given, reply-refused}
 use Rattle.zarrs_chain_lines.proofs.run.serve.Goals as goal
 use Rattle.zarrs_chain_lines.proofs.run.serve.Goals.{in-Ok+in_ok-write_line-in-Ok, in-Err+in_ok-write_refusal-in-Err}

@@ -3,7 +3,7 @@ use Rattle.serde_json.specs.View.{view}
 use Rattle.zarrs_chunk.specs.Answer.{Answers}
 use Rattle.zarrs_chunk.specs.Indexer.{selection_of}
 use Rattle.zarrs_chain_lines.specs.Commands.{LineAnswer, State, part_of}
-use Rattle.zarrs_chain_lines.specs.Refusal.{wants_memory}
+use Rattle.zarrs_chain_json.specs.Refusal.{wants_memory}
 use Rattle.zarrs_chain_lines.specs.Session.{state_of}
 use Rattle.zarrs_chain_lines.proofs.ReadLemmas.{held_some, read_answer-selection, shown_elements}
 use Rattle.zarrs_chain_lines.proofs.session.Session.read.Goals as goal

@@ -1,0 +1,6 @@
+pub mod JsonLemmas
+pub mod TypeLemmas
+pub mod ContainerLemmas
+pub mod ShownLemmas
+pub mod ReadElements
+pub mod HeldElements

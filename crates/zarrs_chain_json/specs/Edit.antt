@@ -1,0 +1,50 @@
+-- Edits as JSON: {"at":INDEXER,"data":ELEMENTS}.
+use Rattle.std.specs.Prelude.{◌==◌, ok_or, Result, Ok, codes}
+use Rattle.serde_json.specs.Data.{Data, Members}
+use Rattle.serde_json.specs.Find.{as_object, get_member}
+use Rattle.zarrs_chunk.specs.Answer.{◌>>=◌, demand, seen}
+use Rattle.zarrs_chunk.specs.Indexer.{selection_of}
+use Rattle.zarrs_chunk.specs.Selection.{Selection}
+use Rattle.zarrs_data_type.specs.ElementType.{ElementType}
+use Rattle.zarrs_array_bytes.specs.Held.{Held}
+use Rattle.zarrs_chain_json.specs.declared.edits.Edit.{Edit}
+use Rattle.zarrs_chain_json.specs.declared.refusal.Refusal.{Refusal}
+use Rattle.zarrs_chain_json.specs.declared.refusal.Refusal.TheVariants.{Syntax}
+use Rattle.zarrs_chain_json.specs.Json.{member_count}
+use Rattle.zarrs_chain_json.specs.Elements.{elements_of}
+use Rattle.zarrs_chain_json.specs.Containers.{container_of}
+use Rattle.zarrs_chain_json.specs.Indexer.{selection_in}
+
+-- new elements in a container, and the places where they go
+pub record PlainEdit : Type 0 where
+  pub selection : Selection
+  pub new : Held
+
+-- what an edit that was read is seen as
+abbrev pub edit_seen : Edit → PlainEdit
+edit_seen edit = record { selection = selection_of edit.indexer; new = edit.elements }
+
+-- the container of the elements that a list shows
+abbrev pub container_in : ElementType → Data → Result Held Refusal
+container_in type tree = seen (container_of type) (elements_of type tree)
+
+-- of the trees of its two parts; the first one is read before the second
+abbrev pub edit_at : ElementType → Data → Data → Result PlainEdit Refusal
+edit_at type at elements = do
+  selection ← selection_in at
+  new ← container_in type elements
+  Ok (record { selection = selection; new = new })
+
+-- of an object's members: these two keys and no other
+abbrev pub edit_among : ElementType → Members → Result PlainEdit Refusal
+edit_among type members = do
+  _ ← demand (member_count members == 2) Syntax
+  at ← ok_or (get_member (codes "at") members) Syntax
+  elements ← ok_or (get_member (codes "data") members) Syntax
+  edit_at type at elements
+
+-- the edit that a tree says
+abbrev pub edit_in : ElementType → Data → Result PlainEdit Refusal
+edit_in type tree = do
+  members ← ok_or (as_object tree) Syntax
+  edit_among type members

@@ -1,0 +1,10 @@
+pub mod Refusal
+pub mod Json
+pub mod Elements
+pub mod Containers
+pub mod Element
+pub mod Shown
+pub mod Indexer
+pub mod Edit
+pub mod DataType
+pub mod Laws

@@ -1,0 +1,35 @@
+-- Why a line is refused, and how an answer says so.
+use Rattle.std.specs.Prelude.{ℕ, ◌++◌, Bool, false, List, Result, Ok, Err, codes}
+use Rattle.zarrs_chunk.specs.Answer.{memory}
+use Rattle.zarrs_chunk.specs.CodecError.{name_of}
+use Rattle.zarrs_chunk.specs.declared.codec_error.CodecError.{CodecError}
+use Rattle.zarrs_metadata.specs.PluginCreateError.{plugin_memory, plugin_name_of}
+use Rattle.zarrs_metadata.specs.declared.plugin_create_error.PluginCreateError.{PluginCreateError}
+use Rattle.zarrs_chain_json.specs.declared.refusal.Refusal.{Refusal}
+use Rattle.zarrs_chain_json.specs.declared.refusal.Refusal.TheVariants.{Syntax, Making, Codec}
+
+-- a growth was refused
+abbrev pub wants_memory : Refusal → Bool
+wants_memory Syntax = false
+wants_memory (Making error) = plugin_memory error
+wants_memory (Codec error) = memory error
+
+-- the answer of what is made of metadata as a part of a line's answer
+abbrev pub making_answer : {A : Type 0} → Result A PluginCreateError → Result A Refusal
+making_answer (Ok value) = Ok value
+making_answer (Err error) = Err (Making error)
+
+-- a codec's answer as a part of a line's answer
+abbrev pub codec_answer : {A : Type 0} → Result A CodecError → Result A Refusal
+codec_answer (Ok value) = Ok value
+codec_answer (Err error) = Err (Codec error)
+
+-- the name that an answer has for a refusal
+abbrev pub refusal_name : Refusal → List ℕ
+refusal_name Syntax = codes "Syntax"
+refusal_name (Making error) = plugin_name_of error
+refusal_name (Codec error) = name_of error
+
+-- the answer to a line that is refused
+abbrev pub error_line : Refusal → List ℕ
+error_line refusal = codes "error " ++ refusal_name refusal

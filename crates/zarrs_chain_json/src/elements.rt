@@ -1,0 +1,61 @@
+//! Elements read from JSON.
+ghost use Rattle.std.specs.Prelude.{◌≡◌, Some, IfOk, map};
+ghost use Rattle.serde_json.specs.View.{view, items_view};
+ghost use Rattle.zarrs_chunk.specs.Answer.{Answers, seen};
+ghost use Rattle.zarrs_chain_json.specs.Refusal.{wants_memory};
+ghost use Rattle.zarrs_chain_json.specs.Elements.{elements_in, elements_of};
+ghost use Rattle.zarrs_chain_json.specs.Containers.{container_of};
+ghost use Rattle.zarrs_chain_json.specs.Element.{element_seen, slots_seen};
+
+use crate::containers::container;
+use crate::element::{Element, read_element};
+use crate::refusal::Refusal;
+use serde_json::Value;
+use std::alloc::{AllocError, Global};
+use zarrs_array_bytes::ArrayBytes;
+use zarrs_data_type::DataType;
+
+fn elements_among(
+    alloc: Global,
+    data_type: &DataType,
+    items: &Vec<Value>,
+) -> Result<Vec<Element>, Refusal>
+    ensures { Answers wants_memory (λ elements. map element_seen elements.items) result (elements_in data_type.now (items_view items.now.items)) }
+{
+    let mut elements = Vec::new(alloc);
+    for item in items {
+        let one = read_element(alloc, data_type, item)?;
+        elements.push(one)?;
+    }
+    Ok(elements)
+}
+
+/// The places of elements, each with its element.
+fn slots(alloc: Global, elements: &[Element]) -> Result<Vec<Option<&Element>>, AllocError>
+    ensures { IfOk result (λ slots. slots_seen slots.items ≡ map element_seen elements.now) }
+{
+    let mut slots = Vec::with_capacity(alloc, elements.len())?;
+    for element in elements {
+        slots.push(Some(element))?;
+    }
+    Ok(slots)
+}
+
+/// The elements of a list, in a container. Refusals: `Syntax` where the tree is no list; those of the
+/// first element that is refused; `OutOfMemory`.
+pub fn elements(
+    alloc: Global,
+    data_type: &DataType,
+    tree: &Value,
+) -> Result<ArrayBytes<'static>, Refusal>
+    ensures answer { Answers wants_memory (λ elements. elements) result (seen (container_of data_type.now) (elements_of data_type.now (view tree.now))) }
+{
+    match tree {
+        Value::Array(items) => {
+            let elements = elements_among(alloc, data_type, items)?;
+            let slots = slots(alloc, &elements)?;
+            container(alloc, data_type, slots)
+        }
+        _ => Err(Refusal::Syntax),
+    }
+}

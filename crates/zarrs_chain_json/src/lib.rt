@@ -1,0 +1,21 @@
+//! What the lines of the tool say in JSON: data types, elements, indexers and edits, read and shown,
+//! and why one of them is refused.
+#![tactic(auto)]
+
+mod containers;
+mod data_types;
+mod edits;
+mod element;
+pub mod elements;
+mod indexers;
+mod json;
+pub mod laws;
+mod refusal;
+mod shown;
+
+pub use data_types::data_type;
+pub use edits::{Edit, read_edit};
+pub use indexers::indexer;
+pub use json::{Members, hex_bytes, member, numbers, object, ok_hex, tree};
+pub use refusal::Refusal;
+pub use shown::ok_elements;
