@@ -6,7 +6,7 @@ ghost use Rattle.zarrs_chunk.specs.Answer.{Answers, seen};
 ghost use Rattle.zarrs_chain_json.specs.Edit.{edit_at, edit_among as edit_among_members, edit_in, edit_seen};
 ghost use Rattle.zarrs_chain_json.specs.Refusal.{wants_memory};
 
-use crate::elements::elements;
+use crate::element_lists::elements;
 use crate::indexers::indexer;
 use crate::json::{Members, member, object};
 use crate::refusal::Refusal;

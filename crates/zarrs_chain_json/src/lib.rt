@@ -6,7 +6,7 @@ mod containers;
 mod data_types;
 mod edits;
 mod element;
-pub mod elements;
+mod element_lists;
 mod indexers;
 mod json;
 pub mod laws;
@@ -15,6 +15,7 @@ mod shown;
 
 pub use data_types::data_type;
 pub use edits::{Edit, read_edit};
+pub use element_lists::elements;
 pub use indexers::indexer;
 pub use json::{Members, hex_bytes, member, numbers, object, ok_hex, tree};
 pub use refusal::Refusal;

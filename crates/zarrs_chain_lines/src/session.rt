@@ -17,10 +17,9 @@ use serde_json::Value;
 use std::alloc::Global;
 use std::borrow::CowSlice;
 use zarrs_array_bytes::ArrayBytes;
-use zarrs_chain_json::elements::elements;
 use zarrs_chain_json::{
-    Edit, Members, Refusal, data_type, hex_bytes, indexer, member, numbers, object, ok_elements,
-    ok_hex, read_edit, tree,
+    Edit, Members, Refusal, data_type, elements, hex_bytes, indexer, member, numbers, object,
+    ok_elements, ok_hex, read_edit, tree,
 };
 use zarrs_chain_partial::CodecChainPartialTraits;
 use zarrs_chunk::{ChunkShape, CodecError, Indexer};

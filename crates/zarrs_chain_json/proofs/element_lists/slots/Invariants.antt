@@ -1,6 +1,6 @@
 use Rattle.std.proofs.Common.{◌≡◌, ◌++◌, drop, map}
 use Rattle.zarrs_chain_json.specs.Element.{element_seen, slots_seen}
-use Rattle.zarrs_chain_json.proofs.elements.slots.Given as goal
+use Rattle.zarrs_chain_json.proofs.element_lists.slots.Given as goal
 
 -- the places so far and those to come are all
 abbrev pub invariant-loop-element : goal.invariant-loop-element

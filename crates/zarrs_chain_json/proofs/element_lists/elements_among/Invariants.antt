@@ -3,7 +3,7 @@ use Rattle.serde_json.specs.View.{items_view}
 use Rattle.zarrs_chunk.specs.Answer.{seen}
 use Rattle.zarrs_chain_json.specs.Element.{element_seen}
 use Rattle.zarrs_chain_json.specs.Elements.{elements_in}
-use Rattle.zarrs_chain_json.proofs.elements.elements_among.Given as goal
+use Rattle.zarrs_chain_json.proofs.element_lists.elements_among.Given as goal
 
 -- the elements so far and those to come are all
 abbrev pub invariant-loop-item : goal.invariant-loop-item
