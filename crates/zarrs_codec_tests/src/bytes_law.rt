@@ -4,7 +4,7 @@ ghost use Rattle.std.specs.Prelude.{IfOk};
 ghost use Rattle.zarrs_data_type.specs.Element.{Chunk};
 ghost use Rattle.zarrs_array_bytes.specs.Validity.{Holds};
 
-use crate::checks::are;
+use crate::checks::is;
 use crate::forms::{Told, Type, chunk_form};
 use std::alloc::Global;
 use std::borrow::CowSlice;
@@ -47,7 +47,7 @@ fn comes_back(rt: &impl Abort, alloc: Global, codec: BytesCodec) -> Result<(), F
         &form.data_type,
         &form.fill_value,
     )?;
-    are(rt, "back", back.into_fixed()?.as_slice(), memory);
+    is(rt, "back", &back.as_fixed()?, &memory);
     Ok(())
 }
 

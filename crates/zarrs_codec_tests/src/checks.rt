@@ -6,29 +6,12 @@ use std::fmt::Debug;
 use std::ops::Range;
 use std::process::Abort;
 use std::test::Fail;
-use zarrs_array_bytes::ArrayBytes;
 use zarrs_chunk::{ArraySubset, CodecError, Indexer};
 use zarrs_codec::MemoryHandle;
 
 /// What came is what is wanted.
 pub(crate) fn is<T: PartialEq + Debug>(rt: &impl Abort, about: &str, came: &T, wanted: &T) {
     assert_eq!(rt; *came, *wanted, "{about}");
-}
-
-/// The items that came are those that are wanted.
-pub(crate) fn are<T: PartialEq + Debug>(rt: &impl Abort, about: &str, came: &[T], wanted: &[T]) {
-    assert_eq!(rt; came, wanted, "{about}");
-}
-
-/// The container that came has these bytes, in elements of one size.
-pub(crate) fn has_bytes(
-    rt: &impl Abort,
-    about: &str,
-    came: &ArrayBytes<'_>,
-    wanted: &[u8],
-) -> Result<(), CodecError> {
-    are(rt, about, came.as_fixed()?, wanted);
-    Ok(())
 }
 
 /// The answer is this refusal. A want of memory is an error of the test.
@@ -44,14 +27,6 @@ pub(crate) fn is_refused<T: Drop>(
     }
     is(rt, about, &came, &Some(cause));
     Ok(())
-}
-
-/// The bytes that came, or none.
-pub(crate) fn is_value(rt: &impl Abort, about: &str, came: Option<&[u8]>, wanted: Option<&[u8]>) {
-    is(rt, about, &came.is_some(), &wanted.is_some());
-    if let (Some(came), Some(wanted)) = (came, wanted) {
-        are(rt, about, came, wanted);
-    }
 }
 
 /// Which elements are meant, as plain data.
