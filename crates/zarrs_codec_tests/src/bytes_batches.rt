@@ -57,14 +57,22 @@ fn reads_stored(
     )
 }
 
+fn reads_each_stored(
+    rt: &impl Abort,
+    alloc: Global,
+    decoder: &mut BytesCodecPartial<MemoryHandle>,
+) -> Result<(), CodecError> {
+    for count in COUNTS.iter() {
+        reads_stored(rt, alloc, decoder, *count)?;
+    }
+    Ok(())
+}
+
 #[test]
 fn reads_lists_of_each_length(rt: HostRuntime) -> Result<(), Fail> {
     let handle = MemoryHandle::with_value(numbered(rt.alloc(), 1, 1400)?);
     let mut decoder = decoder(rt.alloc(), BytesCodec::big(), &WORDS, handle)?;
-    for count in COUNTS.iter() {
-        reads_stored(&rt, rt.alloc(), &mut decoder, *count)?;
-    }
-    Ok(())
+    Ok(reads_each_stored(&rt, rt.alloc(), &mut decoder)?)
 }
 
 fn reads_unstored(
@@ -83,13 +91,21 @@ fn reads_unstored(
     )
 }
 
+fn reads_each_unstored(
+    rt: &impl Abort,
+    alloc: Global,
+    decoder: &mut BytesCodecPartial<MemoryHandle>,
+) -> Result<(), CodecError> {
+    for count in COUNTS.iter() {
+        reads_unstored(rt, alloc, decoder, *count)?;
+    }
+    Ok(())
+}
+
 #[test]
 fn reads_lists_of_each_length_of_nothing(rt: HostRuntime) -> Result<(), Fail> {
     let mut decoder = decoder(rt.alloc(), BytesCodec::big(), &WORDS, MemoryHandle::new())?;
-    for count in COUNTS.iter() {
-        reads_unstored(&rt, rt.alloc(), &mut decoder, *count)?;
-    }
-    Ok(())
+    Ok(reads_each_unstored(&rt, rt.alloc(), &mut decoder)?)
 }
 
 /// The first place so many times.

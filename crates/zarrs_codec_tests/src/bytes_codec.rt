@@ -65,6 +65,12 @@ const LENGTHS: &'static [(Option<Endianness>, Told<'static>, u64)] = &[
     (None, (&[5], Type::Bits(3, 4), &[0, 0, 0, 0]), 20),
     (BIG, (&[10, 10], Type::Bits(32, 1), &[0, 0, 0, 0]), 400),
     (BIG, (&[7], Type::Bits(17, 2), &[0, 0, 0, 0, 0, 0]), 42),
+    (LITTLE, (&[2, 3], Type::Bits(12, 3), &[0; 6]), 36),
+    (BIG, (&[33], Type::Bits(24, 1), &[0; 3]), 99),
+    (LITTLE, (&[17], Type::Bits(40, 1), &[0; 5]), 85),
+    (BIG, (&[16], Type::Bits(64, 1), &[0; 8]), 128),
+    (LITTLE, (&[3], Type::Bits(65, 1), &[0; 9]), 27),
+    (BIG, (&[2, 3], Type::Bits(128, 3), &[0; 48]), 288),
     (
         None,
         (&[18446744073709551615], Type::Bits(8, 1), &[0]),

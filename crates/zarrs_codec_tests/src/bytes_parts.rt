@@ -1,4 +1,4 @@
-use crate::checks::{Asked, indexer, is, is_refused, stored};
+use crate::checks::{Asked, has_bytes, indexer, is, is_refused, is_value, stored};
 use crate::forms::{Told, Type, decoder, repeated};
 use Asked::{Ranges, Tuples};
 use std::alloc::{AllocError, Global};
@@ -52,8 +52,7 @@ pub(crate) fn reads_part<H: BytesPartialDecoderTraits>(
     elements: &[u8],
 ) -> Result<(), CodecError> {
     let part = decoder.partial_decode(alloc, asked)?;
-    is(rt, "read", &part.as_fixed()?, &elements);
-    Ok(())
+    has_bytes(rt, "read", &part, elements)
 }
 
 const SQUARE: Told<'static> = (&[4, 4], Type::Bits(8, 1), &[99]);
@@ -236,9 +235,9 @@ fn borrows_or_owns_its_handle(rt: HostRuntime) -> Result<(), Fail> {
     let value: &[u8] = &[1, 2, 3, 4, 5, 6];
     let mut handle = stored(rt.alloc(), Some(value))?;
     read_once(&rt, rt.alloc(), &mut handle)?;
-    is(&rt, "lent", &handle.value(), &Some(value));
+    is_value(&rt, "lent", handle.value(), Some(value));
     let handle = read_once(&rt, rt.alloc(), handle)?;
-    is(&rt, "owned", &handle.value(), &Some(value));
+    is_value(&rt, "owned", handle.value(), Some(value));
     Ok(())
 }
 

@@ -1,5 +1,5 @@
 use crate::bytes_codec::{codes_not, encodes_not};
-use crate::checks::{is, is_refused, stored};
+use crate::checks::{is_refused, is_value, stored};
 use crate::forms::{ChunkForm, Told, Type, chunk_form};
 use std::alloc::Global;
 use std::borrow::CowSlice;
@@ -8,7 +8,7 @@ use std::test::Fail;
 use zarrs_array_bytes::{ArrayBytes, ArrayBytesOffsets};
 use zarrs_bytes::BytesCodec;
 use zarrs_chunk::{CodecError, CodecName};
-use zarrs_codec::{BytesPartialDecoderTraits, MemoryHandle};
+use zarrs_codec::BytesPartialDecoderTraits;
 use zarrs_data_type::Endianness;
 
 const LITTLE: Option<Endianness> = Some(Endianness::Little);
@@ -18,6 +18,8 @@ const BIG: Option<Endianness> = Some(Endianness::Big);
 const UNSUPPORTED: CodecError = CodecError::UnsupportedDataType(CodecName::Bytes);
 
 const NO_ORDER: CodecError = CodecError::EndiannessMissing;
+
+const KIND: CodecError = CodecError::ArrayBytesKind;
 
 const FILL: CodecError = CodecError::InvalidFillValue;
 
@@ -85,7 +87,7 @@ fn no_decoder<H: BytesPartialDecoderTraits + Drop>(
     Ok(refused.handle)
 }
 
-/// The making of a decoder hands the handle back with its value.
+/// The making of a decoder hands the handle back with its value, a lent one and an owned one.
 fn hands_back(
     rt: &impl Abort,
     alloc: Global,
@@ -94,9 +96,11 @@ fn hands_back(
     cause: CodecError,
 ) -> Result<(), Fail> {
     let value: &[u8] = &[9, 8];
-    let handle = stored(alloc, Some(value))?;
+    let mut handle = stored(alloc, Some(value))?;
+    let lent = no_decoder(rt, alloc, codec, form, &mut handle, cause)?;
+    is_value(rt, "handed back", lent.value(), Some(value));
     let handle = no_decoder(rt, alloc, codec, form, handle, cause)?;
-    is(rt, "handed back", &handle.value(), &Some(value));
+    is_value(rt, "handed back", handle.value(), Some(value));
     Ok(())
 }
 
@@ -121,47 +125,12 @@ fn is_refused_by_the_first_cause(rt: HostRuntime) -> Result<(), Fail> {
     Ok(())
 }
 
-/// What a refused making hands back, where the handle is lent.
-fn hands_back_lent(
-    rt: &impl Abort,
-    alloc: Global,
-    handle: &mut MemoryHandle,
-    value: &[u8],
-) -> Result<(), Fail> {
-    let form = chunk_form(alloc, &(&[2], Type::Bits(16, 1), &[0, 0]))?;
-    let codec = BytesCodec::new(None);
-    let handle = no_decoder(rt, alloc, codec, &form, handle, NO_ORDER)?;
-    is(rt, "handed back", &handle.value(), &Some(value));
-    Ok(())
-}
-
-#[test]
-fn hands_back_what_was_lent(rt: HostRuntime) -> Result<(), Fail> {
-    let value: &[u8] = &[1, 2, 3, 4];
-    let mut handle = stored(rt.alloc(), Some(value))?;
-    hands_back_lent(&rt, rt.alloc(), &mut handle, value)?;
-    is(&rt, "there again", &handle.value(), &Some(value));
-    Ok(())
-}
-
 /// Byte orders and chunks of two elements, whose elements come as other kinds, and why they are
 /// refused. In the last one the order is missing besides, and comes first.
 const OTHER_KINDS: &'static [(Option<Endianness>, Told<'static>, CodecError)] = &[
-    (
-        LITTLE,
-        (&[2], Type::Bits(8, 1), &[0]),
-        CodecError::ArrayBytesKind,
-    ),
-    (
-        BIG,
-        (&[2], Type::Bits(16, 1), &[0, 0]),
-        CodecError::ArrayBytesKind,
-    ),
-    (
-        None,
-        (&[2], Type::Bits(8, 1), &[0]),
-        CodecError::ArrayBytesKind,
-    ),
+    (LITTLE, (&[2], Type::Bits(8, 1), &[0]), KIND),
+    (BIG, (&[2], Type::Bits(16, 1), &[0, 0]), KIND),
+    (None, (&[2], Type::Bits(8, 1), &[0]), KIND),
     (None, (&[2], Type::Bits(16, 1), &[0, 0]), NO_ORDER),
 ];
 
@@ -178,6 +147,16 @@ fn masked(alloc: Global) -> Result<ArrayBytes<'static>, CodecError> {
     inner.with_optional_mask(alloc, CowSlice::Borrowed(&[1, 1]))
 }
 
+fn refuses_texts(
+    rt: &impl Abort,
+    alloc: Global,
+    codec: BytesCodec,
+    form: &ChunkForm,
+    cause: CodecError,
+) -> Result<(), Fail> {
+    encodes_not(rt, alloc, codec, form, texts(alloc)?, cause)
+}
+
 fn refuses_kinds(
     rt: &impl Abort,
     alloc: Global,
@@ -186,7 +165,7 @@ fn refuses_kinds(
     cause: CodecError,
 ) -> Result<(), Fail> {
     let form = chunk_form(alloc, told)?;
-    encodes_not(rt, alloc, codec, &form, texts(alloc)?, cause)?;
+    refuses_texts(rt, alloc, codec, &form, cause)?;
     encodes_not(rt, alloc, codec, &form, masked(alloc)?, cause)
 }
 

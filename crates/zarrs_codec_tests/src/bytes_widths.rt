@@ -1,7 +1,7 @@
 //! Components of each width in both orders, whole chunks of them, against bytes that are turned round
 //! one by one.
 
-use crate::checks::is;
+use crate::checks::{has_bytes, is_value};
 use crate::forms::{ChunkForm, Told, Type, chunk_form, numbered};
 use std::alloc::Global;
 use std::borrow::CowSlice;
@@ -27,7 +27,7 @@ fn encodes(
         &form.data_type,
         &form.fill_value,
     )?;
-    is(rt, "encoded", &encoded.as_slice(), &value);
+    is_value(rt, "encoded", Some(encoded.as_slice()), Some(value));
     Ok(())
 }
 
@@ -40,8 +40,7 @@ fn decodes(
     memory: &[u8],
 ) -> Result<(), CodecError> {
     let decoded = codec.decode(alloc, value, &form.shape, &form.data_type, &form.fill_value)?;
-    is(rt, "decoded", &decoded.as_fixed()?, &memory);
-    Ok(())
+    has_bytes(rt, "decoded", &decoded, memory)
 }
 
 /// A chunk of these elements, as they stand in memory, has this value, and the value stands for it:

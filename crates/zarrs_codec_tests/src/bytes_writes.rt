@@ -1,6 +1,6 @@
 use crate::bytes_refusals::texts;
-use crate::checks::{Asked, indexer, is, is_refused, stored};
-use crate::forms::{ChunkForm, Told, Type, chunk_form};
+use crate::checks::{Asked, indexer, is, is_refused, is_value};
+use crate::forms::{Told, Type, chunk_form};
 use Asked::{Ranges, Tuples};
 use std::alloc::Global;
 use std::borrow::CowSlice;
@@ -13,25 +13,15 @@ use zarrs_codec::{ArrayPartialDecoderTraits, ArrayPartialEncoderTraits, MemoryHa
 
 const WORDS: Told<'static> = (&[3], Type::Bits(16, 1), &[9, 8]);
 
-/// A coder of words that writes too, over this value or over none.
+/// A coder of words that writes too, of which nothing is stored.
 fn encoder(
     alloc: Global,
     codec: BytesCodec,
-    value: Option<&[u8]>,
 ) -> Result<BytesCodecPartial<MemoryHandle>, CodecError> {
-    let handle = stored(alloc, value)?;
-    encoder_of(alloc, codec, &chunk_form(alloc, &WORDS)?, handle)
-}
-
-fn encoder_of(
-    alloc: Global,
-    codec: BytesCodec,
-    form: &ChunkForm,
-    handle: MemoryHandle,
-) -> Result<BytesCodecPartial<MemoryHandle>, CodecError> {
+    let form = chunk_form(alloc, &WORDS)?;
     let made = codec.partial_encoder(
         alloc,
-        handle,
+        MemoryHandle::new(),
         &form.shape,
         &form.data_type,
         &form.fill_value,
@@ -63,43 +53,8 @@ fn is_left(
     calls: u64,
 ) {
     let handle = encoder.into_handle();
-    is(rt, "left", &handle.value(), &value);
+    is_value(rt, "left", handle.value(), value);
     is(rt, "writing calls", &handle.write_calls(), &calls);
-}
-
-/// What is stored, what is written, and the value afterwards.
-const WRITES: &'static [(Option<&'static [u8]>, Write, &'static [u8])] = &[
-    (
-        None,
-        (Tuples(&[&[2], &[0]]), &[1, 2, 3, 4]),
-        &[4, 3, 8, 9, 2, 1],
-    ),
-    (
-        Some(&[0, 1, 2, 3, 4, 5]),
-        (Ranges(&[1..2]), &[6, 7]),
-        &[0, 1, 7, 6, 4, 5],
-    ),
-];
-
-fn writes(
-    rt: &impl Abort,
-    alloc: Global,
-    value: Option<&[u8]>,
-    written: &Write,
-    after: &[u8],
-) -> Result<(), CodecError> {
-    let mut encoder = encoder(alloc, BytesCodec::big(), value)?;
-    write(alloc, &mut encoder, written)?;
-    is_left(rt, encoder, Some(after), 1);
-    Ok(())
-}
-
-#[test]
-fn a_write_is_one_call(rt: HostRuntime) -> Result<(), Fail> {
-    for (value, written, after) in WRITES.iter() {
-        writes(&rt, rt.alloc(), *value, written, after)?;
-    }
-    Ok(())
 }
 
 /// What isn't written, and why.
@@ -147,23 +102,6 @@ fn refuses_all(
     refuses_texts(rt, alloc, encoder)
 }
 
-#[test]
-fn a_refused_write_leaves_the_value(rt: HostRuntime) -> Result<(), Fail> {
-    let value: Option<&[u8]> = Some(&[7]);
-    let mut encoder = encoder(rt.alloc(), BytesCodec::big(), value)?;
-    refuses_all(&rt, rt.alloc(), &mut encoder)?;
-    is_left(&rt, encoder, value, 0);
-    Ok(())
-}
-
-#[test]
-fn a_refused_write_leaves_no_value(rt: HostRuntime) -> Result<(), Fail> {
-    let mut encoder = encoder(rt.alloc(), BytesCodec::big(), None)?;
-    refuses_all(&rt, rt.alloc(), &mut encoder)?;
-    is_left(&rt, encoder, None, 0);
-    Ok(())
-}
-
 /// A write, an erasure and a write through the trait, and what is told between them.
 fn edits<E: ArrayPartialEncoderTraits>(
     rt: &impl Abort,
@@ -177,16 +115,19 @@ fn edits<E: ArrayPartialEncoderTraits>(
     write(alloc, encoder, &(Ranges(&[1..2]), &[3, 4]))
 }
 
+// Refused writes make no writing call, where nothing is stored and where a value is.
 #[test]
-fn erasing_leaves_no_value(rt: HostRuntime) -> Result<(), Fail> {
-    let mut encoder = encoder(rt.alloc(), BytesCodec::big(), None)?;
+fn each_edit_is_one_writing_call(rt: HostRuntime) -> Result<(), Fail> {
+    let mut encoder = encoder(rt.alloc(), BytesCodec::big())?;
+    refuses_all(&rt, rt.alloc(), &mut encoder)?;
     edits(&rt, rt.alloc(), &mut encoder)?;
+    refuses_all(&rt, rt.alloc(), &mut encoder)?;
     is_left(&rt, encoder, Some(&[8, 9, 4, 3, 8, 9]), 3);
     Ok(())
 }
 
 #[test]
 fn no_encoder_without_a_byte_order(rt: HostRuntime) -> Result<(), Fail> {
-    let answer = encoder(rt.alloc(), BytesCodec::new(None), Some(&[1]));
+    let answer = encoder(rt.alloc(), BytesCodec::new(None));
     is_refused(&rt, "making", answer, CodecError::EndiannessMissing)
 }

@@ -6,12 +6,29 @@ use std::fmt::Debug;
 use std::ops::Range;
 use std::process::Abort;
 use std::test::Fail;
+use zarrs_array_bytes::ArrayBytes;
 use zarrs_chunk::{ArraySubset, CodecError, Indexer};
 use zarrs_codec::MemoryHandle;
 
 /// What came is what is wanted.
 pub(crate) fn is<T: PartialEq + Debug>(rt: &impl Abort, about: &str, came: &T, wanted: &T) {
     assert_eq!(rt; *came, *wanted, "{about}");
+}
+
+/// The bytes that came, or none.
+pub(crate) fn is_value(rt: &impl Abort, about: &str, came: Option<&[u8]>, wanted: Option<&[u8]>) {
+    is(rt, about, &came, &wanted);
+}
+
+/// The container that came has these bytes, in elements of one size.
+pub(crate) fn has_bytes(
+    rt: &impl Abort,
+    about: &str,
+    came: &ArrayBytes<'_>,
+    wanted: &[u8],
+) -> Result<(), CodecError> {
+    is_value(rt, about, Some(came.as_fixed()?), Some(wanted));
+    Ok(())
 }
 
 /// The answer is this refusal. A want of memory is an error of the test.

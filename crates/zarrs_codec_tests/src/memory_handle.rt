@@ -1,5 +1,5 @@
-use crate::checks::{is, is_refused, stored};
-use std::alloc::{AllocError, Global};
+use crate::checks::{is, is_refused, is_value, stored};
+use std::alloc::Global;
 use std::process::Abort;
 use std::test::Fail;
 use zarrs_chunk::CodecError;
@@ -31,8 +31,12 @@ fn is_read<H: BytesPartialDecoderTraits>(
 
 /// The bytes that came, or none.
 fn are_bytes(rt: &impl Abort, about: &str, came: &Option<Vec<u8>>, wanted: Option<&[u8]>) {
-    let came = came.as_ref().map(|bytes| bytes.as_slice());
-    is(rt, about, &came, &wanted);
+    is_value(
+        rt,
+        about,
+        came.as_ref().map(|bytes| bytes.as_slice()),
+        wanted,
+    );
 }
 
 fn keeps(rt: &impl Abort, alloc: Global, value: Option<&[u8]>) -> Result<(), CodecError> {
@@ -40,7 +44,7 @@ fn keeps(rt: &impl Abort, alloc: Global, value: Option<&[u8]>) -> Result<(), Cod
     is_read(rt, alloc, &mut handle, value)?;
     // The same through the reference.
     is_read(rt, alloc, &mut &mut handle, value)?;
-    is(rt, "kept", &handle.value(), &value);
+    is_value(rt, "kept", handle.value(), value);
     are_bytes(rt, "taken", &handle.into_value(), value);
     Ok(())
 }
@@ -76,12 +80,11 @@ const PAST: &'static [&'static [(u64, u64)]] = &[
     &[(21, 21)],
 ];
 
-fn byte_ranges(alloc: Global, ends: &[(u64, u64)]) -> Result<Vec<ByteRange>, AllocError> {
+fn byte_ranges(alloc: Global, ends: &[(u64, u64)]) -> Result<Vec<ByteRange>, CodecError> {
     let mut ranges = Vec::new(alloc);
     for (start, end) in ends {
-        if let Some(range) = ByteRange::new(*start..*end) {
-            ranges.push(range)?;
-        }
+        let range = ByteRange::new(*start..*end).ok_or(CodecError::InvalidByteRange)?;
+        ranges.push(range)?;
     }
     Ok(ranges)
 }

@@ -1,4 +1,4 @@
-use crate::checks::{is, is_refused, stored};
+use crate::checks::{is, is_refused, is_value, stored};
 use std::alloc::Global;
 use std::process::Abort;
 use std::test::Fail;
@@ -70,7 +70,7 @@ fn write<H: BytesPartialEncoderTraits>(
 
 /// What is stored, and how many writing calls there were.
 fn is_left(rt: &impl Abort, handle: &MemoryHandle, value: Option<&[u8]>, calls: u64) {
-    is(rt, "left", &handle.value(), &value);
+    is_value(rt, "left", handle.value(), value);
     is(rt, "calls", &handle.write_calls(), &calls);
 }
 
@@ -193,7 +193,7 @@ fn is_replaced(
     } else {
         replaces(alloc, handle, value)?;
     }
-    is(rt, "value", &handle.value(), &value);
+    is_value(rt, "value", handle.value(), value);
     Ok(())
 }
 
@@ -231,7 +231,7 @@ fn keeps_where_refused(
     before: Option<&[u8]>,
 ) -> Result<(), CodecError> {
     if answer == Err(CodecError::OutOfMemory) {
-        is(rt, "kept", &handle.value(), &before);
+        is_value(rt, "kept", handle.value(), before);
     }
     answer
 }
