@@ -8,7 +8,7 @@ use std::test::Fail;
 use zarrs_array_bytes::{ArrayBytes, ArrayBytesOffsets};
 use zarrs_bytes::BytesCodec;
 use zarrs_chunk::{CodecError, CodecName};
-use zarrs_codec::BytesPartialDecoderTraits;
+use zarrs_codec::{BytesPartialDecoderTraits, MemoryHandle};
 use zarrs_data_type::Endianness;
 
 const LITTLE: Option<Endianness> = Some(Endianness::Little);
@@ -87,7 +87,7 @@ fn no_decoder<H: BytesPartialDecoderTraits + Drop>(
     Ok(refused.handle)
 }
 
-/// The making of a decoder hands the handle back with its value, a lent one and an owned one.
+/// The making of a decoder hands the handle back with its value.
 fn hands_back(
     rt: &impl Abort,
     alloc: Global,
@@ -96,9 +96,7 @@ fn hands_back(
     cause: CodecError,
 ) -> Result<(), Fail> {
     let value: &[u8] = &[9, 8];
-    let mut handle = stored(alloc, Some(value))?;
-    let lent = no_decoder(rt, alloc, codec, form, &mut handle, cause)?;
-    is_value(rt, "handed back", lent.value(), Some(value));
+    let handle = stored(alloc, Some(value))?;
     let handle = no_decoder(rt, alloc, codec, form, handle, cause)?;
     is_value(rt, "handed back", handle.value(), Some(value));
     Ok(())
@@ -122,6 +120,29 @@ fn is_refused_by_the_first_cause(rt: HostRuntime) -> Result<(), Fail> {
     for (order, told, cause) in REFUSED.iter() {
         refuses(&rt, rt.alloc(), BytesCodec::new(*order), told, *cause)?;
     }
+    Ok(())
+}
+
+/// What a refused making hands back, where the handle is lent.
+fn hands_back_lent(
+    rt: &impl Abort,
+    alloc: Global,
+    handle: &mut MemoryHandle,
+    value: &[u8],
+) -> Result<(), Fail> {
+    let form = chunk_form(alloc, &(&[2], Type::Bits(16, 1), &[0, 0]))?;
+    let codec = BytesCodec::new(None);
+    let handle = no_decoder(rt, alloc, codec, &form, handle, NO_ORDER)?;
+    is_value(rt, "handed back", handle.value(), Some(value));
+    Ok(())
+}
+
+#[test]
+fn hands_back_what_was_lent(rt: HostRuntime) -> Result<(), Fail> {
+    let value: &[u8] = &[1, 2, 3, 4];
+    let mut handle = stored(rt.alloc(), Some(value))?;
+    hands_back_lent(&rt, rt.alloc(), &mut handle, value)?;
+    is_value(&rt, "there again", handle.value(), Some(value));
     Ok(())
 }
 

@@ -102,7 +102,7 @@ fn refuses_all(
     refuses_texts(rt, alloc, encoder)
 }
 
-/// A write, an erasure and a write through the trait, and what is told between them.
+/// A write, an erasure and two writes through the trait, the last of them over a stored value.
 fn edits<E: ArrayPartialEncoderTraits>(
     rt: &impl Abort,
     alloc: Global,
@@ -112,7 +112,8 @@ fn edits<E: ArrayPartialEncoderTraits>(
     is(rt, "erased", &encoder.erase(), &Ok(()));
     is(rt, "there", &encoder.exists(), &Ok(false));
     is(rt, "in part", &encoder.supports_partial_encode(), &true);
-    write(alloc, encoder, &(Ranges(&[1..2]), &[3, 4]))
+    write(alloc, encoder, &(Ranges(&[1..2]), &[3, 4]))?;
+    write(alloc, encoder, &(Tuples(&[&[0]]), &[5, 6]))
 }
 
 // Refused writes make no writing call, where nothing is stored and where a value is.
@@ -122,7 +123,7 @@ fn each_edit_is_one_writing_call(rt: HostRuntime) -> Result<(), Fail> {
     refuses_all(&rt, rt.alloc(), &mut encoder)?;
     edits(&rt, rt.alloc(), &mut encoder)?;
     refuses_all(&rt, rt.alloc(), &mut encoder)?;
-    is_left(&rt, encoder, Some(&[8, 9, 4, 3, 8, 9]), 3);
+    is_left(&rt, encoder, Some(&[6, 5, 4, 3, 8, 9]), 4);
     Ok(())
 }
 
