@@ -4,11 +4,23 @@
 use std::fmt::Debug;
 use std::process::Abort;
 use std::test::Fail;
+use zarrs_array_bytes::ArrayBytes;
 use zarrs_chunk::CodecError;
 
 /// What came is what is wanted.
 pub(crate) fn is<T: PartialEq + Debug>(rt: &impl Abort, about: &str, came: &T, wanted: &T) {
     assert_eq!(rt; *came, *wanted, "{about}");
+}
+
+/// The container that came has these bytes, in elements of one size.
+pub(crate) fn has_bytes(
+    rt: &impl Abort,
+    about: &str,
+    came: &ArrayBytes<'_>,
+    wanted: &[u8],
+) -> Result<(), CodecError> {
+    is(rt, about, &came.as_fixed()?, &wanted);
+    Ok(())
 }
 
 /// The answer is this refusal. A want of memory is an error of the test.

@@ -1,4 +1,4 @@
-use crate::checks::is;
+use crate::checks::{has_bytes, is};
 use crate::forms::{ChunkForm, FIRST, Kept, LAST, NONE, Told, Type, chunk_form, codec};
 use Type::Bits;
 use std::alloc::Global;
@@ -75,8 +75,7 @@ fn decodes(
     memory: &[u8],
 ) -> Result<(), CodecError> {
     let decoded = codec.decode(alloc, value, &form.shape, &form.data_type, &form.fill_value)?;
-    is(rt, "decoded", &decoded.as_fixed()?, &memory);
-    Ok(())
+    has_bytes(rt, "decoded", &decoded, memory)
 }
 
 /// A chunk of these elements has this value, and this is decoded of it: of owned bytes and of lent

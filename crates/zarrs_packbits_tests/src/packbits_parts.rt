@@ -1,4 +1,4 @@
-use crate::checks::{is, is_refused};
+use crate::checks::{has_bytes, is, is_refused};
 use crate::forms::{FIRST, Kept, LAST, NONE, Told, Type, codec, decoder, subset};
 use Type::Bits;
 use std::alloc::{AllocError, Global};
@@ -117,8 +117,7 @@ fn reads_by_trait<D: ArrayPartialDecoderTraits>(
     decoder: &mut D,
 ) -> Result<(), CodecError> {
     let part = decoder.partial_decode(alloc, &subset(alloc, &[1..2])?)?;
-    is(rt, "read", &part.as_fixed()?, &[254].as_slice());
-    Ok(())
+    has_bytes(rt, "read", &part, &[254])
 }
 
 fn refuses_by_trait<D: ArrayPartialDecoderTraits>(
