@@ -9,41 +9,37 @@ const LAST: u64 = 18446744073709551615;
 /// Starts and ends of ranges, no two of them equal.
 const RANGES: &'static [(u64, u64)] = &[(0, 0), (3, 7), (3, 8), (2, 7), (0, LAST), (LAST, LAST)];
 
-fn has_ends(rt: &impl Abort, alloc: Global, start: u64, end: u64) -> Result<(), Fail> {
-    let range = ByteRange::new(start..end).ok_or("no range")?;
+fn has_ends(rt: &impl Abort, range: ByteRange, start: u64, end: u64) -> Result<(), Fail> {
     is(rt, "start", &range.start(), &start);
     is(rt, "end", &range.end(), &end);
     is(rt, "copy", &range.clone()?, &range);
-    is_shown(rt, alloc, &range)
-}
-
-fn is_shown(rt: &impl Abort, alloc: Global, range: &ByteRange) -> Result<(), Fail> {
-    let text = format!(in alloc; "{range:?}")?;
-    is(rt, "shown", &text.contains("start"), &true);
     Ok(())
-}
-
-#[test]
-fn has_a_start_and_an_end(rt: HostRuntime) -> Result<(), Fail> {
-    for (start, end) in RANGES.iter() {
-        has_ends(&rt, rt.alloc(), *start, *end)?;
-    }
-    Ok(())
-}
-
-#[test]
-fn differs_by_its_ends(rt: HostRuntime) {
-    for (place, (start, end)) in RANGES.iter().enumerate() {
-        is_at(&rt, *start, *end, place);
-    }
 }
 
 /// The range is the one at this place alone.
-fn is_at(rt: &impl Abort, start: u64, end: u64, place: usize) {
-    for (other_place, (other_start, other_end)) in RANGES.iter().enumerate() {
-        let same = ByteRange::new(start..end) == ByteRange::new(*other_start..*other_end);
+fn is_at(rt: &impl Abort, range: Option<ByteRange>, place: usize) {
+    for (other_place, (start, end)) in RANGES.iter().enumerate() {
+        let same = range == ByteRange::new(*start..*end);
         is(rt, "same", &same, &(place == other_place));
     }
+}
+
+#[test]
+fn has_a_start_and_an_end_and_differs_by_them(rt: HostRuntime) -> Result<(), Fail> {
+    for (place, (start, end)) in RANGES.iter().enumerate() {
+        let range = ByteRange::new(*start..*end);
+        is_at(&rt, range, place);
+        has_ends(&rt, range.ok_or("no range")?, *start, *end)?;
+    }
+    Ok(())
+}
+
+#[test]
+fn is_shown_with_its_start(rt: HostRuntime) -> Result<(), Fail> {
+    let range = ByteRange::new(3..7);
+    let text = format!(in rt.alloc(); "{range:?}")?;
+    is(&rt, "shown", &text.contains("start"), &true);
+    Ok(())
 }
 
 #[test]
@@ -84,24 +80,18 @@ fn has_size(
     Ok(())
 }
 
-#[test]
-fn representations_have_a_greatest_size(rt: HostRuntime) -> Result<(), Fail> {
-    for (representation, size, text) in REPRESENTATIONS.iter() {
-        has_size(&rt, rt.alloc(), *representation, *size, text)?;
-    }
-    Ok(())
-}
-
-#[test]
-fn representations_differ_by_kind_and_size(rt: HostRuntime) {
-    for (place, (one, _, text)) in REPRESENTATIONS.iter().enumerate() {
-        is_representation_at(&rt, one, text, place);
-    }
-}
-
 /// The representation is the one at this place alone.
 fn is_representation_at(rt: &impl Abort, one: &BytesRepresentation, text: &str, place: usize) {
     for (other_place, (other, _, _)) in REPRESENTATIONS.iter().enumerate() {
         is(rt, text, &(one == other), &(place == other_place));
     }
+}
+
+#[test]
+fn representations_have_a_greatest_size_and_differ(rt: HostRuntime) -> Result<(), Fail> {
+    for (place, (representation, size, text)) in REPRESENTATIONS.iter().enumerate() {
+        is_representation_at(&rt, representation, text, place);
+        has_size(&rt, rt.alloc(), *representation, *size, text)?;
+    }
+    Ok(())
 }

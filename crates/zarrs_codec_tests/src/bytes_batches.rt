@@ -1,124 +1,140 @@
 //! Reads of many short runs, whose ranges are made and asked for a batch at a time.
 
-use crate::bytes_parts::reads_indexed;
-use crate::checks::{is_refused, stored};
-use crate::forms::{Told, Type, decoder, elements_at, numbered, repeated, reversed};
+use crate::bytes_parts::reads_part;
+use crate::checks::is_refused;
+use crate::forms::{Told, Type, decoder, numbered, repeated};
 use std::alloc::{AllocError, Global};
 use std::process::Abort;
 use std::test::Fail;
 use zarrs_bytes::{BytesCodec, BytesCodecPartial};
 use zarrs_chunk::{CodecError, Indexer};
-use zarrs_codec::{BytesPartialDecoderTraits, MemoryHandle};
+use zarrs_codec::MemoryHandle;
 
 const WORDS: Told<'static> = (&[700], Type::Bits(16, 1), &[1, 2]);
 
 /// Counts on both sides of the edges of batches.
-const COUNTS: [usize; 8] = [0, 1, 1023, 1024, 1025, 2047, 2048, 2049];
+const COUNTS: &'static [u64] = &[0, 1, 1023, 1024, 1025, 2047, 2048, 2049];
 
-/// So many places, out of order, and each again after 700 others.
-fn places(alloc: Global, count: usize) -> Result<Vec<usize>, AllocError> {
-    let mut places = Vec::new(alloc);
-    for number in 0..count {
-        places.push(number % 700 * 37 % 700)?;
-    }
-    Ok(places)
+/// A place out of order, and the same after 700 others.
+fn place(number: u64) -> u64 {
+    (number % 700).wrapping_mul(37) % 700
 }
 
-/// A list of these places, one axis each.
-pub(crate) fn listed(alloc: Global, places: &[usize]) -> Result<Indexer, CodecError> {
+/// A list of so many places.
+fn places(alloc: Global, count: u64) -> Result<Indexer, CodecError> {
     let mut indices = Vec::new(alloc);
-    for place in places {
-        indices.push(vec![in alloc; *place as u64]?)?;
+    for number in 0..count {
+        indices.push(vec![in alloc; place(number)]?)?;
     }
     Ok(Indexer::Indices(indices))
 }
 
-/// The words at these places, read over a handle, are those that are wanted.
-fn reads<H: BytesPartialDecoderTraits + Drop>(
+/// The words there by a slow rule: the value has the bytes 0, 1, 2 and so on, and each word is turned
+/// round.
+fn words(alloc: Global, count: u64) -> Result<Vec<u8>, AllocError> {
+    let mut words = Vec::new(alloc);
+    for number in 0..count {
+        let first = place(number).wrapping_mul(2);
+        words.push((first.wrapping_add(1) % 251) as u8)?;
+        words.push((first % 251) as u8)?;
+    }
+    Ok(words)
+}
+
+fn reads_stored(
     rt: &impl Abort,
     alloc: Global,
-    handle: H,
-    places: &[usize],
-    wanted: &[u8],
+    decoder: &mut BytesCodecPartial<MemoryHandle>,
+    count: u64,
 ) -> Result<(), CodecError> {
-    let mut decoder = decoder(alloc, BytesCodec::big(), &WORDS, handle)?;
-    reads_indexed(rt, alloc, &mut decoder, &listed(alloc, places)?, wanted)
+    let wanted = words(alloc, count)?;
+    reads_part(
+        rt,
+        alloc,
+        decoder,
+        &places(alloc, count)?,
+        wanted.as_slice(),
+    )
 }
 
-/// The words by a slow rule: one after another, each of them turned round.
-fn words_at(alloc: Global, value: &[u8], places: &[usize]) -> Result<Vec<u8>, AllocError> {
-    let words = elements_at(alloc, value, 2, places)?;
-    reversed(alloc, words.as_slice(), 2)
-}
-
-fn reads_stored(rt: &impl Abort, alloc: Global, places: &[usize]) -> Result<(), CodecError> {
-    let value = numbered(alloc, 1400)?;
-    let wanted = words_at(alloc, value.as_slice(), places)?;
-    reads_value(rt, alloc, value.as_slice(), places, wanted.as_slice())
-}
-
-fn reads_value(
+fn reads_each_stored(
     rt: &impl Abort,
     alloc: Global,
-    value: &[u8],
-    places: &[usize],
-    wanted: &[u8],
+    decoder: &mut BytesCodecPartial<MemoryHandle>,
 ) -> Result<(), CodecError> {
-    reads(rt, alloc, stored(alloc, Some(value))?, places, wanted)
-}
-
-fn reads_unstored(rt: &impl Abort, alloc: Global, places: &[usize]) -> Result<(), CodecError> {
-    let wanted = repeated(alloc, &[1, 2], places.len())?;
-    reads(rt, alloc, stored(alloc, None)?, places, wanted.as_slice())
-}
-
-#[test]
-fn reads_lists_of_each_length(rt: HostRuntime) -> Result<(), Fail> {
     for count in COUNTS.iter() {
-        reads_count(&rt, rt.alloc(), *count)?;
+        reads_stored(rt, alloc, decoder, *count)?;
     }
     Ok(())
 }
 
-fn reads_count(rt: &impl Abort, alloc: Global, count: usize) -> Result<(), CodecError> {
-    let places = places(alloc, count)?;
-    reads_stored(rt, alloc, places.as_slice())?;
-    reads_unstored(rt, alloc, places.as_slice())
+#[test]
+fn reads_lists_of_each_length(rt: HostRuntime) -> Result<(), Fail> {
+    let handle = MemoryHandle::with_value(numbered(rt.alloc(), 1, 1400)?);
+    let mut decoder = decoder(rt.alloc(), BytesCodec::big(), &WORDS, handle)?;
+    Ok(reads_each_stored(&rt, rt.alloc(), &mut decoder)?)
 }
 
-/// A value that lacks the last byte of the last word.
-fn lacks_a_byte(rt: &impl Abort, alloc: Global, places: &[usize]) -> Result<(), Fail> {
-    let value = numbered(alloc, 1399)?;
-    let handle = stored(alloc, Some(value.as_slice()))?;
-    let decoder = decoder(alloc, BytesCodec::big(), &WORDS, handle)?;
-    lacks_for(rt, alloc, decoder, &listed(alloc, places)?)
-}
-
-fn lacks_for(
+fn reads_unstored(
     rt: &impl Abort,
     alloc: Global,
-    mut decoder: BytesCodecPartial<MemoryHandle>,
-    asked: &Indexer,
+    decoder: &mut BytesCodecPartial<MemoryHandle>,
+    count: u64,
+) -> Result<(), CodecError> {
+    let wanted = repeated(alloc, &[1, 2], count)?;
+    reads_part(
+        rt,
+        alloc,
+        decoder,
+        &places(alloc, count)?,
+        wanted.as_slice(),
+    )
+}
+
+fn reads_each_unstored(
+    rt: &impl Abort,
+    alloc: Global,
+    decoder: &mut BytesCodecPartial<MemoryHandle>,
+) -> Result<(), CodecError> {
+    for count in COUNTS.iter() {
+        reads_unstored(rt, alloc, decoder, *count)?;
+    }
+    Ok(())
+}
+
+#[test]
+fn reads_lists_of_each_length_of_nothing(rt: HostRuntime) -> Result<(), Fail> {
+    let mut decoder = decoder(rt.alloc(), BytesCodec::big(), &WORDS, MemoryHandle::new())?;
+    Ok(reads_each_unstored(&rt, rt.alloc(), &mut decoder)?)
+}
+
+/// The first place so many times.
+pub(crate) fn firsts(alloc: Global, count: u64) -> Result<Vec<Vec<u64>>, AllocError> {
+    let mut indices = Vec::new(alloc);
+    for _copy in 0..count {
+        indices.push(vec![in alloc; 0u64]?)?;
+    }
+    Ok(indices)
+}
+
+/// The first word so many times, and then the last one, of which a byte is missing.
+fn lacks_behind(
+    rt: &impl Abort,
+    alloc: Global,
+    decoder: &mut BytesCodecPartial<MemoryHandle>,
+    count: u64,
 ) -> Result<(), Fail> {
-    let answer = decoder.partial_decode(alloc, asked);
+    let mut indices = firsts(alloc, count)?;
+    indices.push(vec![in alloc; 699u64]?)?;
+    let answer = decoder.partial_decode(alloc, &Indexer::Indices(indices));
     is_refused(rt, "read", answer, CodecError::InvalidByteRange)
 }
 
 // The last word is asked for as the last place of the first batch, and of the second.
 #[test]
 fn refuses_a_byte_that_is_missing(rt: HostRuntime) -> Result<(), Fail> {
-    lacks_behind(&rt, rt.alloc(), 1023)?;
-    lacks_behind(&rt, rt.alloc(), 1024)
-}
-
-/// The first word so many times, and then the last one.
-fn last_behind(alloc: Global, count: usize) -> Result<Vec<usize>, AllocError> {
-    let mut places = vec![in alloc; 0usize; count]?;
-    places.push(699)?;
-    Ok(places)
-}
-
-fn lacks_behind(rt: &impl Abort, alloc: Global, count: usize) -> Result<(), Fail> {
-    let places = last_behind(alloc, count)?;
-    lacks_a_byte(rt, alloc, places.as_slice())
+    let handle = MemoryHandle::with_value(numbered(rt.alloc(), 1, 1399)?);
+    let mut decoder = decoder(rt.alloc(), BytesCodec::big(), &WORDS, handle)?;
+    lacks_behind(&rt, rt.alloc(), &mut decoder, 1023)?;
+    lacks_behind(&rt, rt.alloc(), &mut decoder, 1024)
 }

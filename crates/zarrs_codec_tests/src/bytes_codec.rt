@@ -1,4 +1,4 @@
-use crate::checks::{are, has_bytes, is, is_refused};
+use crate::checks::{is, is_refused};
 use crate::forms::{ChunkForm, Told, Type, chunk_form};
 use std::alloc::Global;
 use std::borrow::CowSlice;
@@ -33,21 +33,6 @@ fn is_shown(
     Ok(())
 }
 
-#[test]
-fn is_shown_with_its_order(rt: HostRuntime) -> Result<(), Fail> {
-    for (order, text) in ORDERS.iter() {
-        is_shown(&rt, rt.alloc(), BytesCodec::new(*order), text)?;
-    }
-    Ok(())
-}
-
-#[test]
-fn differs_by_its_order(rt: HostRuntime) {
-    for (place, (one, text)) in ORDERS.iter().enumerate() {
-        is_at(&rt, BytesCodec::new(*one), text, place);
-    }
-}
-
 /// The codec is the one of the order at this place alone.
 fn is_at(rt: &impl Abort, codec: BytesCodec, text: &str, place: usize) {
     for (other_place, (other, _)) in ORDERS.iter().enumerate() {
@@ -57,20 +42,20 @@ fn is_at(rt: &impl Abort, codec: BytesCodec, text: &str, place: usize) {
 }
 
 #[test]
+fn is_shown_with_its_order_and_differs_by_it(rt: HostRuntime) -> Result<(), Fail> {
+    for (place, (order, text)) in ORDERS.iter().enumerate() {
+        is_at(&rt, BytesCodec::new(*order), text, place);
+        is_shown(&rt, rt.alloc(), BytesCodec::new(*order), text)?;
+    }
+    Ok(())
+}
+
+#[test]
 fn has_names_for_its_orders(rt: HostRuntime) {
-    is(
-        &rt,
-        "little",
-        &BytesCodec::little(),
-        &BytesCodec::new(LITTLE),
-    );
-    is(&rt, "big", &BytesCodec::big(), &BytesCodec::new(BIG));
-    is(
-        &rt,
-        "default",
-        &BytesCodec::default(),
-        &BytesCodec::new(LITTLE),
-    );
+    let (little, big) = (BytesCodec::new(LITTLE), BytesCodec::new(BIG));
+    is(&rt, "little", &BytesCodec::little(), &little);
+    is(&rt, "big", &BytesCodec::big(), &big);
+    is(&rt, "default", &BytesCodec::default(), &little);
 }
 
 /// Byte orders, chunks, and how many bytes they have.
@@ -80,6 +65,12 @@ const LENGTHS: &'static [(Option<Endianness>, Told<'static>, u64)] = &[
     (None, (&[5], Type::Bits(3, 4), &[0, 0, 0, 0]), 20),
     (BIG, (&[10, 10], Type::Bits(32, 1), &[0, 0, 0, 0]), 400),
     (BIG, (&[7], Type::Bits(17, 2), &[0, 0, 0, 0, 0, 0]), 42),
+    (LITTLE, (&[2, 3], Type::Bits(12, 3), &[0; 6]), 36),
+    (BIG, (&[33], Type::Bits(24, 1), &[0; 3]), 99),
+    (LITTLE, (&[17], Type::Bits(40, 1), &[0; 5]), 85),
+    (BIG, (&[16], Type::Bits(64, 1), &[0; 8]), 128),
+    (LITTLE, (&[3], Type::Bits(65, 1), &[0; 9]), 27),
+    (BIG, (&[2, 3], Type::Bits(128, 3), &[0; 48]), 288),
     (
         None,
         (&[18446744073709551615], Type::Bits(8, 1), &[0]),
@@ -93,179 +84,26 @@ const LENGTHS: &'static [(Option<Endianness>, Told<'static>, u64)] = &[
 ];
 
 /// The codec's value of such a chunk has so many bytes.
-pub(crate) fn represents(rt: &impl Abort, codec: BytesCodec, form: &ChunkForm, bytes: u64) {
-    let answer = codec.encoded_representation(&form.shape, &form.data_type, &form.fill_value);
-    is(
-        rt,
-        "represented",
-        &answer,
-        &Ok(BytesRepresentation::FixedSize(bytes)),
-    );
-}
-
-#[test]
-fn represents_elements_times_size(rt: HostRuntime) -> Result<(), Fail> {
-    for (order, told, bytes) in LENGTHS.iter() {
-        represents_told(&rt, rt.alloc(), BytesCodec::new(*order), told, *bytes)?;
-    }
-    Ok(())
-}
-
-fn represents_told(
+fn represents(
     rt: &impl Abort,
     alloc: Global,
     codec: BytesCodec,
     told: &Told<'_>,
     bytes: u64,
 ) -> Result<(), CodecError> {
-    represents(rt, codec, &chunk_form(alloc, told)?, bytes);
+    let form = chunk_form(alloc, told)?;
+    let answer = codec.encoded_representation(&form.shape, &form.data_type, &form.fill_value);
+    let wanted = Ok(BytesRepresentation::FixedSize(bytes));
+    is(rt, "represented", &answer, &wanted);
     Ok(())
 }
-
-/// Elements of one size with bytes of their own.
-fn owned(alloc: Global, bytes: &[u8]) -> Result<ArrayBytesRaw<'static>, CodecError> {
-    Ok(CowSlice::Owned(bytes.to_vec(alloc)?))
-}
-
-fn encodes(
-    rt: &impl Abort,
-    alloc: Global,
-    codec: BytesCodec,
-    form: &ChunkForm,
-    raw: ArrayBytesRaw<'_>,
-    value: &[u8],
-) -> Result<(), CodecError> {
-    let elements = ArrayBytes::new_flen(raw);
-    let encoded = codec.encode(
-        alloc,
-        elements,
-        &form.shape,
-        &form.data_type,
-        &form.fill_value,
-    )?;
-    are(rt, "encoded", encoded.as_slice(), value);
-    Ok(())
-}
-
-fn decodes(
-    rt: &impl Abort,
-    alloc: Global,
-    codec: BytesCodec,
-    form: &ChunkForm,
-    value: ArrayBytesRaw<'_>,
-    memory: &[u8],
-) -> Result<(), CodecError> {
-    let decoded = codec.decode(alloc, value, &form.shape, &form.data_type, &form.fill_value)?;
-    has_bytes(rt, "decoded", &decoded, memory)
-}
-
-/// A chunk of these elements, as they stand in memory, has this value, and the value stands for it:
-/// of owned bytes and of lent ones.
-fn codes(
-    rt: &impl Abort,
-    alloc: Global,
-    codec: BytesCodec,
-    form: &ChunkForm,
-    memory: &[u8],
-    value: &[u8],
-) -> Result<(), CodecError> {
-    represents(rt, codec, form, memory.len() as u64);
-    encodes(rt, alloc, codec, form, owned(alloc, memory)?, value)?;
-    encodes(rt, alloc, codec, form, CowSlice::Borrowed(memory), value)?;
-    decodes(rt, alloc, codec, form, owned(alloc, value)?, memory)?;
-    decodes(rt, alloc, codec, form, CowSlice::Borrowed(value), memory)
-}
-
-/// The same of a chunk that is told of.
-pub(crate) fn codes_told(
-    rt: &impl Abort,
-    alloc: Global,
-    codec: BytesCodec,
-    told: &Told<'_>,
-    memory: &[u8],
-    value: &[u8],
-) -> Result<(), CodecError> {
-    codes(rt, alloc, codec, &chunk_form(alloc, told)?, memory, value)
-}
-
-const WORDS: Told<'static> = (&[2], Type::Bits(16, 1), &[0, 0]);
-
-/// Byte orders, chunks, their elements in memory, and their values. Of words, the elements are 1 and
-/// 258, each lowest byte first.
-const CODED: &'static [(
-    Option<Endianness>,
-    Told<'static>,
-    &'static [u8],
-    &'static [u8],
-)] = &[
-    (BIG, WORDS, &[1, 0, 2, 1], &[0, 1, 1, 2]),
-    (LITTLE, WORDS, &[1, 0, 2, 1], &[1, 0, 2, 1]),
-    (
-        BIG,
-        (&[], Type::Bits(24, 2), &[0, 0, 0, 0, 0, 0]),
-        &[1, 2, 3, 4, 5, 6],
-        &[3, 2, 1, 6, 5, 4],
-    ),
-    (
-        None,
-        (&[4], Type::Bits(8, 1), &[0]),
-        &[10, 11, 12, 13],
-        &[10, 11, 12, 13],
-    ),
-];
 
 #[test]
-fn writes_big_components_highest_byte_first(rt: HostRuntime) -> Result<(), Fail> {
-    for (order, told, memory, value) in CODED.iter() {
-        codes_told(
-            &rt,
-            rt.alloc(),
-            BytesCodec::new(*order),
-            told,
-            memory,
-            value,
-        )?;
+fn represents_elements_times_size(rt: HostRuntime) -> Result<(), Fail> {
+    for (order, told, bytes) in LENGTHS.iter() {
+        represents(&rt, rt.alloc(), BytesCodec::new(*order), told, *bytes)?;
     }
     Ok(())
-}
-
-/// Bytes of a wrong length, and the length that is due.
-const WRONG_LENGTHS: &'static [(Option<Endianness>, Told<'static>, &'static [u8], u64)] = &[
-    (None, (&[2], Type::Bits(8, 1), &[0]), &[], 2),
-    (None, (&[2], Type::Bits(8, 1), &[0]), &[1], 2),
-    (None, (&[2], Type::Bits(8, 1), &[0]), &[1, 2, 3], 2),
-    (None, (&[4], Type::Bits(8, 1), &[0]), &[10, 11, 12], 4),
-    (BIG, WORDS, &[], 4),
-    (BIG, WORDS, &[1], 4),
-    (BIG, WORDS, &[1, 2, 3], 4),
-    (BIG, WORDS, &[1, 2, 3, 4, 5], 4),
-];
-
-/// Bytes of a wrong length are refused, those of elements and those of a value.
-fn has_wrong_length(
-    rt: &impl Abort,
-    alloc: Global,
-    codec: BytesCodec,
-    told: &Told<'_>,
-    bytes: &[u8],
-    expected: u64,
-) -> Result<(), Fail> {
-    let len = bytes.len() as u64;
-    let cause = CodecError::InvalidBytesLength { len, expected };
-    codes_not(rt, alloc, codec, &chunk_form(alloc, told)?, bytes, cause)
-}
-
-fn codes_not(
-    rt: &impl Abort,
-    alloc: Global,
-    codec: BytesCodec,
-    form: &ChunkForm,
-    bytes: &[u8],
-    cause: CodecError,
-) -> Result<(), Fail> {
-    encodes_not(rt, alloc, codec, form, bytes, cause)?;
-    decodes_not(rt, alloc, codec, form, CowSlice::Borrowed(bytes), cause)?;
-    decodes_not(rt, alloc, codec, form, owned(alloc, bytes)?, cause)
 }
 
 /// The encoding of lent bytes is refused.
@@ -274,10 +112,9 @@ pub(crate) fn encodes_not(
     alloc: Global,
     codec: BytesCodec,
     form: &ChunkForm,
-    bytes: &[u8],
+    elements: ArrayBytes<'_>,
     cause: CodecError,
 ) -> Result<(), Fail> {
-    let elements = ArrayBytes::new_flen(CowSlice::Borrowed(bytes));
     let answer = codec.encode(
         alloc,
         elements,
@@ -289,7 +126,7 @@ pub(crate) fn encodes_not(
 }
 
 /// The decoding is refused.
-pub(crate) fn decodes_not(
+fn decodes_not(
     rt: &impl Abort,
     alloc: Global,
     codec: BytesCodec,
@@ -299,6 +136,54 @@ pub(crate) fn decodes_not(
 ) -> Result<(), Fail> {
     let answer = codec.decode(alloc, value, &form.shape, &form.data_type, &form.fill_value);
     is_refused(rt, "decoded", answer, cause)
+}
+
+/// These bytes are refused as those of elements, and as those of a value, lent and owned.
+pub(crate) fn codes_not(
+    rt: &impl Abort,
+    alloc: Global,
+    codec: BytesCodec,
+    form: &ChunkForm,
+    bytes: &[u8],
+    cause: CodecError,
+) -> Result<(), Fail> {
+    let (lent, owned) = (
+        CowSlice::Borrowed(bytes),
+        CowSlice::Owned(bytes.to_vec(alloc)?),
+    );
+    decodes_not(rt, alloc, codec, form, lent, cause)?;
+    decodes_not(rt, alloc, codec, form, owned, cause)?;
+    let elements = ArrayBytes::new_flen(CowSlice::Borrowed(bytes));
+    encodes_not(rt, alloc, codec, form, elements, cause)
+}
+
+const WORDS: Told<'static> = (&[2], Type::Bits(16, 1), &[0, 0]);
+
+const PAIR: Told<'static> = (&[2], Type::Bits(8, 1), &[0]);
+
+/// Bytes of a wrong length, and the length that is due.
+const WRONG_LENGTHS: &'static [(Option<Endianness>, Told<'static>, &'static [u8], u64)] = &[
+    (None, PAIR, &[], 2),
+    (None, PAIR, &[1], 2),
+    (None, PAIR, &[1, 2, 3], 2),
+    (None, (&[4], Type::Bits(8, 1), &[0]), &[10, 11, 12], 4),
+    (BIG, WORDS, &[], 4),
+    (BIG, WORDS, &[1], 4),
+    (BIG, WORDS, &[1, 2, 3], 4),
+    (BIG, WORDS, &[1, 2, 3, 4, 5], 4),
+];
+
+fn has_wrong_length(
+    rt: &impl Abort,
+    alloc: Global,
+    codec: BytesCodec,
+    told: &Told<'_>,
+    bytes: &[u8],
+    expected: u64,
+) -> Result<(), Fail> {
+    let len = bytes.len() as u64;
+    let cause = CodecError::InvalidBytesLength { len, expected };
+    codes_not(rt, alloc, codec, &chunk_form(alloc, told)?, bytes, cause)
 }
 
 #[test]

@@ -1,5 +1,5 @@
-use crate::bytes_codec::{decodes_not, encodes_not};
-use crate::checks::{is, is_refused, is_value, stored};
+use crate::bytes_codec::{codes_not, encodes_not};
+use crate::checks::{is_refused, is_value, stored};
 use crate::forms::{ChunkForm, Told, Type, chunk_form};
 use std::alloc::Global;
 use std::borrow::CowSlice;
@@ -8,7 +8,7 @@ use std::test::Fail;
 use zarrs_array_bytes::{ArrayBytes, ArrayBytesOffsets};
 use zarrs_bytes::BytesCodec;
 use zarrs_chunk::{CodecError, CodecName};
-use zarrs_codec::{BytesPartialDecoderTraits, MemoryHandle, Refused};
+use zarrs_codec::{BytesPartialDecoderTraits, MemoryHandle};
 use zarrs_data_type::Endianness;
 
 const LITTLE: Option<Endianness> = Some(Endianness::Little);
@@ -16,6 +16,14 @@ const LITTLE: Option<Endianness> = Some(Endianness::Little);
 const BIG: Option<Endianness> = Some(Endianness::Big);
 
 const UNSUPPORTED: CodecError = CodecError::UnsupportedDataType(CodecName::Bytes);
+
+const NO_ORDER: CodecError = CodecError::EndiannessMissing;
+
+const KIND: CodecError = CodecError::ArrayBytesKind;
+
+const FILL: CodecError = CodecError::InvalidFillValue;
+
+const OVERFLOW: CodecError = CodecError::Overflow;
 
 const WIDE: &'static [u64] = &[4294967296, 4294967296];
 
@@ -37,101 +45,36 @@ const REFUSED: &'static [(Option<Endianness>, Told<'static>, CodecError)] = &[
     (
         None,
         (&[10, 10], Type::Bits(32, 1), &[0, 0, 0, 0]),
-        CodecError::EndiannessMissing,
+        NO_ORDER,
     ),
-    (
-        None,
-        (&[2], Type::Bits(16, 1), &[0, 0]),
-        CodecError::EndiannessMissing,
-    ),
-    (
-        None,
-        (&[2], Type::Bits(9, 1), &[0, 0]),
-        CodecError::EndiannessMissing,
-    ),
+    (None, (&[2], Type::Bits(16, 1), &[0, 0]), NO_ORDER),
+    (None, (&[2], Type::Bits(9, 1), &[0, 0]), NO_ORDER),
     // Elements, or bytes, that 64 bits don't count.
-    (LITTLE, (WIDE, Type::Bits(8, 1), &[0]), CodecError::Overflow),
-    (
-        LITTLE,
-        (HALF, Type::Bits(16, 1), &[0, 0]),
-        CodecError::Overflow,
-    ),
-    (
-        LITTLE,
-        (HALF, Type::Bits(2, 2), &[0, 0]),
-        CodecError::Overflow,
-    ),
+    (LITTLE, (WIDE, Type::Bits(8, 1), &[0]), OVERFLOW),
+    (LITTLE, (HALF, Type::Bits(16, 1), &[0, 0]), OVERFLOW),
+    (LITTLE, (HALF, Type::Bits(2, 2), &[0, 0]), OVERFLOW),
     // Fill values of another length than an element.
-    (
-        LITTLE,
-        (&[2], Type::Bits(16, 1), &[0]),
-        CodecError::InvalidFillValue,
-    ),
-    (
-        LITTLE,
-        (&[2], Type::Bits(16, 1), &[0, 0, 0]),
-        CodecError::InvalidFillValue,
-    ),
-    (
-        LITTLE,
-        (&[2], Type::Bits(8, 1), &[]),
-        CodecError::InvalidFillValue,
-    ),
-    (
-        None,
-        (&[2], Type::Bits(1, 1), &[0, 0]),
-        CodecError::InvalidFillValue,
-    ),
+    (LITTLE, (&[2], Type::Bits(16, 1), &[0]), FILL),
+    (LITTLE, (&[2], Type::Bits(16, 1), &[0, 0, 0]), FILL),
+    (LITTLE, (&[2], Type::Bits(8, 1), &[]), FILL),
+    (None, (&[2], Type::Bits(1, 1), &[0, 0]), FILL),
     // More causes than one: the fill value, then the counts, then the order.
-    (
-        None,
-        (WIDE, Type::Bits(16, 1), &[0]),
-        CodecError::InvalidFillValue,
-    ),
-    (
-        LITTLE,
-        (WIDE, Type::Bits(8, 1), &[0, 0]),
-        CodecError::InvalidFillValue,
-    ),
-    (
-        None,
-        (&[2], Type::Bits(16, 1), &[0]),
-        CodecError::InvalidFillValue,
-    ),
-    (
-        None,
-        (WIDE, Type::Bits(16, 1), &[0, 0]),
-        CodecError::Overflow,
-    ),
-    (
-        None,
-        (HALF, Type::Bits(16, 1), &[0, 0]),
-        CodecError::Overflow,
-    ),
+    (None, (WIDE, Type::Bits(16, 1), &[0]), FILL),
+    (LITTLE, (WIDE, Type::Bits(8, 1), &[0, 0]), FILL),
+    (None, (&[2], Type::Bits(16, 1), &[0]), FILL),
+    (None, (WIDE, Type::Bits(16, 1), &[0, 0]), OVERFLOW),
+    (None, (HALF, Type::Bits(16, 1), &[0, 0]), OVERFLOW),
 ];
 
-/// Every call on whole chunks refuses the chunk.
-fn codes_not(
+/// No decoder is made for this cause, and the handle comes back.
+fn no_decoder<H: BytesPartialDecoderTraits + Drop>(
     rt: &impl Abort,
     alloc: Global,
     codec: BytesCodec,
     form: &ChunkForm,
-    cause: CodecError,
-) -> Result<(), Fail> {
-    let answer = codec.encoded_representation(&form.shape, &form.data_type, &form.fill_value);
-    is(rt, "represented", &answer, &Err(cause));
-    let lent: &[u8] = &[1];
-    encodes_not(rt, alloc, codec, form, lent, cause)?;
-    decodes_not(rt, alloc, codec, form, CowSlice::Borrowed(lent), cause)
-}
-
-/// Why no decoder was made, and the handle that comes back.
-fn no_decoder<H: BytesPartialDecoderTraits + Drop>(
-    alloc: Global,
-    codec: BytesCodec,
-    form: &ChunkForm,
     handle: H,
-) -> Result<Refused<H>, Fail> {
+    cause: CodecError,
+) -> Result<H, Fail> {
     let made = codec.partial_decoder(
         alloc,
         handle,
@@ -139,7 +82,9 @@ fn no_decoder<H: BytesPartialDecoderTraits + Drop>(
         &form.data_type,
         &form.fill_value,
     );
-    Ok(made.err().ok_or("a decoder was made")?)
+    let refused = made.err().ok_or("a decoder was made")?;
+    is_refused::<()>(rt, "decoder", Err(refused.error), cause)?;
+    Ok(refused.handle)
 }
 
 /// The making of a decoder hands the handle back with its value.
@@ -151,11 +96,13 @@ fn hands_back(
     cause: CodecError,
 ) -> Result<(), Fail> {
     let value: &[u8] = &[9, 8];
-    let refused = no_decoder(alloc, codec, form, stored(alloc, Some(value))?)?;
-    is_value(rt, "handed back", refused.handle.value(), Some(value));
-    is_refused::<()>(rt, "decoder", Err(refused.error), cause)
+    let handle = stored(alloc, Some(value))?;
+    let handle = no_decoder(rt, alloc, codec, form, handle, cause)?;
+    is_value(rt, "handed back", handle.value(), Some(value));
+    Ok(())
 }
 
+/// Every call on chunks refuses the chunk, whatever else is wrong with what it is given.
 fn refuses(
     rt: &impl Abort,
     alloc: Global,
@@ -164,7 +111,7 @@ fn refuses(
     cause: CodecError,
 ) -> Result<(), Fail> {
     let form = chunk_form(alloc, told)?;
-    codes_not(rt, alloc, codec, &form, cause)?;
+    codes_not(rt, alloc, codec, &form, &[1], cause)?;
     hands_back(rt, alloc, codec, &form, cause)
 }
 
@@ -176,65 +123,59 @@ fn is_refused_by_the_first_cause(rt: HostRuntime) -> Result<(), Fail> {
     Ok(())
 }
 
+/// What a refused making hands back, where the handle is lent.
+fn hands_back_lent(
+    rt: &impl Abort,
+    alloc: Global,
+    handle: &mut MemoryHandle,
+    value: &[u8],
+) -> Result<(), Fail> {
+    let form = chunk_form(alloc, &(&[2], Type::Bits(16, 1), &[0, 0]))?;
+    let codec = BytesCodec::new(None);
+    let handle = no_decoder(rt, alloc, codec, &form, handle, NO_ORDER)?;
+    is_value(rt, "handed back", handle.value(), Some(value));
+    Ok(())
+}
+
+#[test]
+fn hands_back_what_was_lent(rt: HostRuntime) -> Result<(), Fail> {
+    let value: &[u8] = &[1, 2, 3, 4];
+    let mut handle = stored(rt.alloc(), Some(value))?;
+    hands_back_lent(&rt, rt.alloc(), &mut handle, value)?;
+    is_value(&rt, "there again", handle.value(), Some(value));
+    Ok(())
+}
+
 /// Byte orders and chunks of two elements, whose elements come as other kinds, and why they are
 /// refused. In the last one the order is missing besides, and comes first.
 const OTHER_KINDS: &'static [(Option<Endianness>, Told<'static>, CodecError)] = &[
-    (
-        LITTLE,
-        (&[2], Type::Bits(8, 1), &[0]),
-        CodecError::ArrayBytesKind,
-    ),
-    (
-        BIG,
-        (&[2], Type::Bits(16, 1), &[0, 0]),
-        CodecError::ArrayBytesKind,
-    ),
-    (
-        None,
-        (&[2], Type::Bits(8, 1), &[0]),
-        CodecError::ArrayBytesKind,
-    ),
-    (
-        None,
-        (&[2], Type::Bits(16, 1), &[0, 0]),
-        CodecError::EndiannessMissing,
-    ),
+    (LITTLE, (&[2], Type::Bits(8, 1), &[0]), KIND),
+    (BIG, (&[2], Type::Bits(16, 1), &[0, 0]), KIND),
+    (None, (&[2], Type::Bits(8, 1), &[0]), KIND),
+    (None, (&[2], Type::Bits(16, 1), &[0, 0]), NO_ORDER),
 ];
 
-fn variable(alloc: Global) -> Result<ArrayBytes<'static>, CodecError> {
-    let offsets = ArrayBytesOffsets::new([0, 1, 2].as_slice().to_vec(alloc)?)?;
-    ArrayBytes::new_vlen(CowSlice::Owned(b"ab".as_slice().to_vec(alloc)?), offsets)
+/// Two texts.
+pub(crate) fn texts(alloc: Global) -> Result<ArrayBytes<'static>, CodecError> {
+    let ends: &[usize] = &[0, 1, 2];
+    let offsets = ArrayBytesOffsets::new(ends.to_vec(alloc)?)?;
+    ArrayBytes::new_vlen(CowSlice::Borrowed(b"ab"), offsets)
 }
 
+/// Two bytes that may be absent.
 fn masked(alloc: Global) -> Result<ArrayBytes<'static>, CodecError> {
-    let inner = ArrayBytes::new_flen(CowSlice::Owned([1, 2].as_slice().to_vec(alloc)?));
-    inner.with_optional_mask(alloc, CowSlice::Owned([1, 1].as_slice().to_vec(alloc)?))
+    let inner = ArrayBytes::new_flen(CowSlice::Borrowed(&[1, 2]));
+    inner.with_optional_mask(alloc, CowSlice::Borrowed(&[1, 1]))
 }
 
-fn refuses_elements(
+fn refuses_texts(
     rt: &impl Abort,
     alloc: Global,
     codec: BytesCodec,
     form: &ChunkForm,
-    elements: ArrayBytes<'_>,
     cause: CodecError,
 ) -> Result<(), Fail> {
-    let answer = codec.encode(
-        alloc,
-        elements,
-        &form.shape,
-        &form.data_type,
-        &form.fill_value,
-    );
-    is_refused(rt, "kind", answer, cause)
-}
-
-#[test]
-fn takes_elements_of_the_kind(rt: HostRuntime) -> Result<(), Fail> {
-    for (order, told, cause) in OTHER_KINDS.iter() {
-        refuses_kinds(&rt, rt.alloc(), BytesCodec::new(*order), told, *cause)?;
-    }
-    Ok(())
+    encodes_not(rt, alloc, codec, form, texts(alloc)?, cause)
 }
 
 fn refuses_kinds(
@@ -245,33 +186,14 @@ fn refuses_kinds(
     cause: CodecError,
 ) -> Result<(), Fail> {
     let form = chunk_form(alloc, told)?;
-    refuses_elements(rt, alloc, codec, &form, variable(alloc)?, cause)?;
-    refuses_elements(rt, alloc, codec, &form, masked(alloc)?, cause)
-}
-
-/// What a refused making hands back, where the handle is lent.
-fn hands_back_lent(
-    rt: &impl Abort,
-    alloc: Global,
-    handle: &mut MemoryHandle,
-    value: &[u8],
-) -> Result<(), Fail> {
-    let form = chunk_form(alloc, &(&[2], Type::Bits(16, 1), &[0, 0]))?;
-    let refused = no_decoder(alloc, BytesCodec::new(None), &form, handle)?;
-    is_value(rt, "handed back", refused.handle.value(), Some(value));
-    is_refused::<()>(
-        rt,
-        "decoder",
-        Err(refused.error),
-        CodecError::EndiannessMissing,
-    )
+    refuses_texts(rt, alloc, codec, &form, cause)?;
+    encodes_not(rt, alloc, codec, &form, masked(alloc)?, cause)
 }
 
 #[test]
-fn hands_back_what_was_lent(rt: HostRuntime) -> Result<(), Fail> {
-    let value: &[u8] = &[1, 2, 3, 4];
-    let mut handle = stored(rt.alloc(), Some(value))?;
-    hands_back_lent(&rt, rt.alloc(), &mut handle, value)?;
-    is_value(&rt, "there again", handle.value(), Some(value));
+fn takes_elements_of_the_kind(rt: HostRuntime) -> Result<(), Fail> {
+    for (order, told, cause) in OTHER_KINDS.iter() {
+        refuses_kinds(&rt, rt.alloc(), BytesCodec::new(*order), told, *cause)?;
+    }
     Ok(())
 }

@@ -15,9 +15,9 @@ pub(crate) fn is<T: PartialEq + Debug>(rt: &impl Abort, about: &str, came: &T, w
     assert_eq!(rt; *came, *wanted, "{about}");
 }
 
-/// The items that came are those that are wanted.
-pub(crate) fn are<T: PartialEq + Debug>(rt: &impl Abort, about: &str, came: &[T], wanted: &[T]) {
-    assert_eq!(rt; came, wanted, "{about}");
+/// The bytes that came, or none.
+pub(crate) fn is_value(rt: &impl Abort, about: &str, came: Option<&[u8]>, wanted: Option<&[u8]>) {
+    is(rt, about, &came, &wanted);
 }
 
 /// The container that came has these bytes, in elements of one size.
@@ -27,7 +27,7 @@ pub(crate) fn has_bytes(
     came: &ArrayBytes<'_>,
     wanted: &[u8],
 ) -> Result<(), CodecError> {
-    are(rt, about, came.as_fixed()?, wanted);
+    is_value(rt, about, Some(came.as_fixed()?), Some(wanted));
     Ok(())
 }
 
@@ -44,14 +44,6 @@ pub(crate) fn is_refused<T: Drop>(
     }
     is(rt, about, &came, &Some(cause));
     Ok(())
-}
-
-/// The bytes that came, or none.
-pub(crate) fn is_value(rt: &impl Abort, about: &str, came: Option<&[u8]>, wanted: Option<&[u8]>) {
-    is(rt, about, &came.is_some(), &wanted.is_some());
-    if let (Some(came), Some(wanted)) = (came, wanted) {
-        are(rt, about, came, wanted);
-    }
 }
 
 /// Which elements are meant, as plain data.

@@ -3,8 +3,8 @@ ghost use Rattle.std.specs.Prelude.{◌≡◌, Ok};
 ghost use Rattle.zarrs_chunk.specs.Answer.{Answers, fault, is_fault};
 ghost use Rattle.zarrs_codec.specs.StorageState.{count_if, last_failure};
 
-use crate::bytes_batches::listed;
-use crate::bytes_parts::{reads_indexed, reads_part, refuses_part};
+use crate::bytes_batches::firsts;
+use crate::bytes_parts::reads_part;
 use crate::checks::{Asked, indexer, is, is_refused, stored};
 use crate::forms::{Told, Type, decoder, repeated};
 use std::alloc::Global;
@@ -92,23 +92,32 @@ const OUTSIDE: Asked<'static> = Asked::Ranges(&[0..4]);
 
 const FAILED: CodecError = CodecError::Storage(StorageError { code: 7 });
 
+type Decoder = BytesCodecPartial<FailingHandle>;
+
 /// A decoder over this value, the second call of whose handle fails.
-fn failing(
-    alloc: Global,
-    told: &Told<'_>,
-    value: Option<&[u8]>,
-) -> Result<BytesCodecPartial<FailingHandle>, Fail> {
+fn failing(alloc: Global, told: &Told<'_>, value: Option<&[u8]>) -> Result<Decoder, CodecError> {
     let handle = FailingHandle {
         memory: stored(alloc, value)?,
         calls_before: 1,
         faults: 0,
         failure: None,
     };
-    Ok(decoder(alloc, BytesCodec::big(), told, handle)?)
+    decoder(alloc, BytesCodec::big(), told, handle)
+}
+
+/// A read that is refused.
+fn refuses(
+    rt: &impl Abort,
+    alloc: Global,
+    decoder: &mut Decoder,
+    asked: &Indexer,
+    cause: CodecError,
+) -> Result<(), Fail> {
+    is_refused(rt, "read", decoder.partial_decode(alloc, asked), cause)
 }
 
 /// The handle has failed once.
-fn has_failed(rt: &impl Abort, decoder: BytesCodecPartial<FailingHandle>) {
+fn has_failed(rt: &impl Abort, decoder: Decoder) {
     is(rt, "faults", &decoder.into_handle().faults, &1);
 }
 
@@ -116,49 +125,52 @@ fn has_failed(rt: &impl Abort, decoder: BytesCodecPartial<FailingHandle>) {
 fn fails_once(
     rt: &impl Abort,
     alloc: Global,
-    decoder: &mut BytesCodecPartial<FailingHandle>,
+    decoder: &mut Decoder,
     is_there: bool,
     elements: &[u8],
 ) -> Result<(), Fail> {
+    let first = indexer(alloc, &FIRST)?;
     is(rt, "there", &decoder.exists(), &Ok(is_there));
-    refuses_part(rt, alloc, decoder, &FIRST, FAILED)?;
-    Ok(reads_part(rt, alloc, decoder, &FIRST, elements)?)
+    refuses(rt, alloc, decoder, &first, FAILED)?;
+    Ok(reads_part(rt, alloc, decoder, &first, elements)?)
+}
+
+/// Values, and the first word as it is read.
+const READ: &'static [(Option<&'static [u8]>, &'static [u8])] = &[
+    (Some(&[1, 2]), &[2, 1]),
+    (None, &[9, 9]),
+];
+
+fn fails_over(
+    rt: &impl Abort,
+    alloc: Global,
+    value: Option<&[u8]>,
+    elements: &[u8],
+) -> Result<(), Fail> {
+    let mut decoder = failing(alloc, &WORDS, value)?;
+    fails_once(rt, alloc, &mut decoder, value.is_some(), elements)?;
+    has_failed(rt, decoder);
+    Ok(())
 }
 
 #[test]
 fn a_failing_read_is_refused(rt: HostRuntime) -> Result<(), Fail> {
-    let mut stored = failing(rt.alloc(), &WORDS, Some(&[1, 2]))?;
-    fails_once(&rt, rt.alloc(), &mut stored, true, &[2, 1])?;
-    has_failed(&rt, stored);
+    for (value, elements) in READ.iter() {
+        fails_over(&rt, rt.alloc(), *value, elements)?;
+    }
     Ok(())
-}
-
-#[test]
-fn a_failing_read_of_nothing_is_refused(rt: HostRuntime) -> Result<(), Fail> {
-    let mut unstored = failing(rt.alloc(), &WORDS, None)?;
-    fails_once(&rt, rt.alloc(), &mut unstored, false, &[9, 9])?;
-    has_failed(&rt, unstored);
-    Ok(())
-}
-
-fn plans_nothing(
-    rt: &impl Abort,
-    alloc: Global,
-    decoder: &BytesCodecPartial<FailingHandle>,
-) -> Result<(), Fail> {
-    let outside = indexer(alloc, &OUTSIDE)?;
-    let planned = decoder.planned_ranges(alloc, &outside);
-    is_refused(rt, "planned", planned, CodecError::OutOfBounds)
 }
 
 /// No call of the handle is made for an indexer that lies outside, or for the plan.
 fn is_not_asked_in_vain(
     rt: &impl Abort,
     alloc: Global,
-    decoder: &mut BytesCodecPartial<FailingHandle>,
+    decoder: &mut Decoder,
+    outside: &Indexer,
 ) -> Result<(), Fail> {
-    refuses_part(rt, alloc, decoder, &OUTSIDE, CodecError::OutOfBounds)?;
-    plans_nothing(rt, alloc, decoder)?;
+    refuses(rt, alloc, decoder, outside, CodecError::OutOfBounds)?;
+    let planned = decoder.planned_ranges(alloc, outside);
+    is_refused(rt, "planned", planned, CodecError::OutOfBounds)?;
     is(rt, "there", &decoder.exists(), &Ok(false));
     is(rt, "failed", &decoder.exists(), &Err(FAILED));
     Ok(())
@@ -167,41 +179,29 @@ fn is_not_asked_in_vain(
 #[test]
 fn an_indexer_is_refused_before_the_handle_is_asked(rt: HostRuntime) -> Result<(), Fail> {
     let mut decoder = failing(rt.alloc(), &WORDS, None)?;
-    is_not_asked_in_vain(&rt, rt.alloc(), &mut decoder)?;
+    let outside = indexer(rt.alloc(), &OUTSIDE)?;
+    is_not_asked_in_vain(&rt, rt.alloc(), &mut decoder, &outside)?;
     has_failed(&rt, decoder);
     Ok(())
-}
-
-/// The first word, as often as this.
-fn firsts(alloc: Global, count: usize) -> Result<Indexer, CodecError> {
-    listed(alloc, vec![in alloc; 0usize; count]?.as_slice())
-}
-
-fn reads_firsts(
-    rt: &impl Abort,
-    alloc: Global,
-    decoder: &mut BytesCodecPartial<FailingHandle>,
-    asked: &Indexer,
-) -> Result<(), CodecError> {
-    let wanted = repeated(alloc, &[2, 1], 1025)?;
-    reads_indexed(rt, alloc, decoder, asked, wanted.as_slice())
 }
 
 /// The second batch is refused, and so is the read; the next read isn't.
 fn fails_in_its_second_batch(
     rt: &impl Abort,
     alloc: Global,
-    decoder: &mut BytesCodecPartial<FailingHandle>,
+    decoder: &mut Decoder,
+    wanted: &[u8],
 ) -> Result<(), Fail> {
-    let asked = firsts(alloc, 1025)?;
-    is_refused(rt, "refused", decoder.partial_decode(alloc, &asked), FAILED)?;
-    Ok(reads_firsts(rt, alloc, decoder, &asked)?)
+    let asked = Indexer::Indices(firsts(alloc, 1025)?);
+    refuses(rt, alloc, decoder, &asked, FAILED)?;
+    Ok(reads_part(rt, alloc, decoder, &asked, wanted)?)
 }
 
 #[test]
 fn a_failing_batch_refuses_the_read(rt: HostRuntime) -> Result<(), Fail> {
     let mut decoder = failing(rt.alloc(), &WORDS, Some(&[1, 2]))?;
-    fails_in_its_second_batch(&rt, rt.alloc(), &mut decoder)?;
+    let wanted = repeated(rt.alloc(), &[2, 1], 1025)?;
+    fails_in_its_second_batch(&rt, rt.alloc(), &mut decoder, wanted.as_slice())?;
     has_failed(&rt, decoder);
     Ok(())
 }
@@ -213,30 +213,34 @@ const BY_ONE_CALL: Asked<'static> = Asked::Ranges(&[0..1025, 0..16]);
 
 const BY_TWO_CALLS: Asked<'static> = Asked::Ranges(&[0..1025, 0..15]);
 
-fn reads_rows(
-    rt: &impl Abort,
-    alloc: Global,
-    decoder: &mut BytesCodecPartial<FailingHandle>,
-) -> Result<(), CodecError> {
-    let wanted = repeated(alloc, &[5], 16400)?;
-    reads_part(rt, alloc, decoder, &BY_ONE_CALL, wanted.as_slice())
-}
-
 /// A decoder over rows of fives, the second call of whose handle fails.
-fn failing_rows(alloc: Global) -> Result<BytesCodecPartial<FailingHandle>, Fail> {
+fn failing_rows(alloc: Global) -> Result<Decoder, CodecError> {
     let value = repeated(alloc, &[5], 17425)?;
     failing(alloc, &ROWS, Some(value.as_slice()))
+}
+
+/// The first read is one call, and the second one fails.
+fn fails_at_the_second_read(
+    rt: &impl Abort,
+    alloc: Global,
+    decoder: &mut Decoder,
+    asked: &Indexer,
+) -> Result<(), Fail> {
+    let wanted = repeated(alloc, &[5], 16400)?;
+    reads_part(rt, alloc, decoder, asked, wanted.as_slice())?;
+    refuses(rt, alloc, decoder, asked, FAILED)
 }
 
 #[test]
 fn long_ranges_are_read_by_one_call(rt: HostRuntime) -> Result<(), Fail> {
     let mut decoder = failing_rows(rt.alloc())?;
-    reads_rows(&rt, rt.alloc(), &mut decoder)?;
-    refuses_part(&rt, rt.alloc(), &mut decoder, &BY_ONE_CALL, FAILED)
+    let asked = indexer(rt.alloc(), &BY_ONE_CALL)?;
+    fails_at_the_second_read(&rt, rt.alloc(), &mut decoder, &asked)
 }
 
 #[test]
 fn short_ranges_are_read_in_batches(rt: HostRuntime) -> Result<(), Fail> {
     let mut decoder = failing_rows(rt.alloc())?;
-    refuses_part(&rt, rt.alloc(), &mut decoder, &BY_TWO_CALLS, FAILED)
+    let asked = indexer(rt.alloc(), &BY_TWO_CALLS)?;
+    refuses(&rt, rt.alloc(), &mut decoder, &asked, FAILED)
 }

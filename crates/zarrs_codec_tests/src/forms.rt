@@ -3,7 +3,7 @@
 use std::alloc::{AllocError, Global};
 use zarrs_bytes::{BytesCodec, BytesCodecPartial};
 use zarrs_chunk::{ChunkShape, CodecError};
-use zarrs_codec::{BytesPartialDecoderTraits, BytesPartialEncoderTraits, Refused};
+use zarrs_codec::{BytesPartialDecoderTraits, Refused};
 use zarrs_data_type::{DataType, FillValue};
 
 /// A type: so many components of so many bits, or one that the codec doesn't take.
@@ -69,111 +69,43 @@ fn decoder_of<H: BytesPartialDecoderTraits + Drop>(
     form: &ChunkForm,
     handle: H,
 ) -> Result<BytesCodecPartial<H>, CodecError> {
-    made(codec.partial_decoder(
+    let made = codec.partial_decoder(
         alloc,
         handle,
         &form.shape,
         &form.data_type,
         &form.fill_value,
-    ))
-}
-
-/// A coder of such a chunk in part that writes too, over a handle.
-pub(crate) fn encoder<H: BytesPartialEncoderTraits + Drop>(
-    alloc: Global,
-    codec: BytesCodec,
-    told: &Told<'_>,
-    handle: H,
-) -> Result<BytesCodecPartial<H>, CodecError> {
-    encoder_of(alloc, codec, &chunk_form(alloc, told)?, handle)
-}
-
-fn encoder_of<H: BytesPartialEncoderTraits + Drop>(
-    alloc: Global,
-    codec: BytesCodec,
-    form: &ChunkForm,
-    handle: H,
-) -> Result<BytesCodecPartial<H>, CodecError> {
-    made(codec.partial_encoder(
-        alloc,
-        handle,
-        &form.shape,
-        &form.data_type,
-        &form.fill_value,
-    ))
-}
-
-/// The coder, or why it wasn't made.
-fn made<D, H: Drop>(answer: Result<D, Refused<H>>) -> Result<D, CodecError> {
-    match answer {
+    );
+    match made {
         Ok(decoder) => Ok(decoder),
         Err(Refused { error, handle: _ }) => Err(error),
     }
 }
 
-/// The bytes 1, 2, 3 and so on: no two components of a chunk are alike.
-pub(crate) fn numbered(alloc: Global, count: usize) -> Result<Vec<u8>, AllocError> {
+/// The bytes 0, 1, 2 and so on, each `size` of them the other way round: no two components of a chunk
+/// are alike.
+pub(crate) fn numbered(alloc: Global, size: u64, count: u64) -> Result<Vec<u8>, AllocError> {
     let mut bytes = Vec::new(alloc);
-    for number in 1..=count {
-        bytes.push((number % 251) as u8)?;
+    for place in 0..count {
+        bytes.push((turned_place(size, place) % 251) as u8)?;
     }
     Ok(bytes)
 }
 
-fn append(bytes: &mut Vec<u8>, part: &[u8]) -> Result<(), AllocError> {
-    for byte in part {
-        bytes.push(*byte)?;
-    }
-    Ok(())
+/// Where the byte comes from that stands here once each `size` bytes are turned round.
+fn turned_place(size: u64, place: u64) -> u64 {
+    let behind = place % size.max(1);
+    let last = size.wrapping_sub(1);
+    place
+        .wrapping_sub(behind)
+        .wrapping_add(last.wrapping_sub(behind))
 }
 
-fn append_reversed(bytes: &mut Vec<u8>, part: &[u8]) -> Result<(), AllocError> {
-    for byte in part.iter().rev() {
-        bytes.push(*byte)?;
-    }
-    Ok(())
-}
-
-/// Big is little with each component reversed, one byte after another.
-pub(crate) fn reversed(alloc: Global, bytes: &[u8], size: usize) -> Result<Vec<u8>, AllocError> {
-    let mut turned = Vec::new(alloc);
-    for component in bytes.chunks(size.max(1)) {
-        append_reversed(&mut turned, component)?;
-    }
-    Ok(turned)
-}
-
-/// The bytes so many times, by one byte after another.
-pub(crate) fn repeated(alloc: Global, part: &[u8], count: usize) -> Result<Vec<u8>, AllocError> {
+/// The bytes so many times, one after another.
+pub(crate) fn repeated(alloc: Global, part: &[u8], count: u64) -> Result<Vec<u8>, AllocError> {
     let mut bytes = Vec::new(alloc);
     for _copy in 0..count {
-        append(&mut bytes, part)?;
+        bytes.extend_from_slice(part)?;
     }
     Ok(bytes)
-}
-
-fn append_element(
-    part: &mut Vec<u8>,
-    bytes: &[u8],
-    size: usize,
-    place: usize,
-) -> Result<(), AllocError> {
-    for element in bytes.chunks(size.max(1)).skip(place).take(1) {
-        append(part, element)?;
-    }
-    Ok(())
-}
-
-/// The elements of `size` bytes at these places, one byte after another.
-pub(crate) fn elements_at(
-    alloc: Global,
-    bytes: &[u8],
-    size: usize,
-    places: &[usize],
-) -> Result<Vec<u8>, AllocError> {
-    let mut part = Vec::new(alloc);
-    for place in places {
-        append_element(&mut part, bytes, size, *place)?;
-    }
-    Ok(part)
 }

@@ -1,7 +1,8 @@
 //! Tests of codecs and storage handles, over their public calls: `zarrs_codec` and `zarrs_bytes`.
 //! Without tests the crate is empty.
 //!
-//! Answers are written by hand, or made by a plain slow rule that stands beside them. A want of
+//! What the line tool shows of the codec stands in `zarrs_transcripts`. Here is the rest. Answers are
+//! written by hand, or made by a plain slow rule that stands beside them. A want of
 //! memory ends a test with that error and is never compared, so a run in which an allocation fails
 //! shows each answer that changes otherwise.
 //!
@@ -21,8 +22,6 @@ mod bytes_law;
 mod bytes_parts;
 #[cfg(test)]
 mod bytes_refusals;
-#[cfg(test)]
-mod bytes_runs;
 #[cfg(test)]
 mod bytes_widths;
 #[cfg(test)]

@@ -3,20 +3,15 @@ use std::alloc::Global;
 use std::process::Abort;
 use std::test::Fail;
 use zarrs_chunk::CodecError;
-use zarrs_codec::{ByteRange, BytesPartialDecoderTraits};
+use zarrs_codec::{ByteRange, BytesPartialDecoderTraits, MemoryHandle};
 
 const VALUES: &'static [Option<&'static [u8]>] = &[None, Some(&[]), Some(&[10, 11, 12])];
 
 /// What a handle over this value, or over none, tells of it without reading.
-fn tells<H: BytesPartialDecoderTraits>(
-    rt: &impl Abort,
-    handle: &mut H,
-    value: Option<&[u8]>,
-) -> Result<(), Fail> {
+fn tells<H: BytesPartialDecoderTraits>(rt: &impl Abort, handle: &mut H, value: Option<&[u8]>) {
     is(rt, "there", &handle.exists(), &Ok(value.is_some()));
     is(rt, "held", &handle.size_held(), &value.unwrap_or(&[]).len());
     is(rt, "in part", &handle.supports_partial_decode(), &true);
-    Ok(())
 }
 
 /// The whole value, and the bytes of no range.
@@ -25,35 +20,32 @@ fn is_read<H: BytesPartialDecoderTraits>(
     alloc: Global,
     handle: &mut H,
     value: Option<&[u8]>,
-) -> Result<(), Fail> {
+) -> Result<(), CodecError> {
+    tells(rt, handle, value);
     let whole = handle.decode(alloc)?;
-    is_value(
-        rt,
-        "whole",
-        whole.as_ref().map(|bytes| bytes.as_slice()),
-        value,
-    );
+    are_bytes(rt, "whole", &whole, value);
     let none = handle.partial_decode_many(alloc, &[])?;
-    is(rt, "no ranges", &none.is_some(), &value.is_some());
-    is(rt, "no bytes", &none.map_or(0, |bytes| bytes.len()), &0);
+    are_bytes(rt, "no ranges", &none, value.map(|_| b"".as_slice()));
     Ok(())
 }
 
-fn keeps(rt: &impl Abort, alloc: Global, value: Option<&[u8]>) -> Result<(), Fail> {
-    let mut handle = stored(alloc, value)?;
-    tells(rt, &mut handle, value)?;
-    is_read(rt, alloc, &mut handle, value)?;
-    // The same through the reference.
-    tells(rt, &mut &mut handle, value)?;
-    is_read(rt, alloc, &mut &mut handle, value)?;
-    is_value(rt, "kept", handle.value(), value);
-    let kept = handle.into_value();
+/// The bytes that came, or none.
+fn are_bytes(rt: &impl Abort, about: &str, came: &Option<Vec<u8>>, wanted: Option<&[u8]>) {
     is_value(
         rt,
-        "taken",
-        kept.as_ref().map(|bytes| bytes.as_slice()),
-        value,
+        about,
+        came.as_ref().map(|bytes| bytes.as_slice()),
+        wanted,
     );
+}
+
+fn keeps(rt: &impl Abort, alloc: Global, value: Option<&[u8]>) -> Result<(), CodecError> {
+    let mut handle = stored(alloc, value)?;
+    is_read(rt, alloc, &mut handle, value)?;
+    // The same through the reference.
+    is_read(rt, alloc, &mut &mut handle, value)?;
+    is_value(rt, "kept", handle.value(), value);
+    are_bytes(rt, "taken", &handle.into_value(), value);
     Ok(())
 }
 
@@ -88,56 +80,56 @@ const PAST: &'static [&'static [(u64, u64)]] = &[
     &[(21, 21)],
 ];
 
-fn byte_ranges(alloc: Global, ends: &[(u64, u64)]) -> Result<Vec<ByteRange>, Fail> {
+fn byte_ranges(alloc: Global, ends: &[(u64, u64)]) -> Result<Vec<ByteRange>, CodecError> {
     let mut ranges = Vec::new(alloc);
     for (start, end) in ends {
-        ranges.push(ByteRange::new(*start..*end).ok_or("no range")?)?;
+        let range = ByteRange::new(*start..*end).ok_or(CodecError::InvalidByteRange)?;
+        ranges.push(range)?;
     }
     Ok(ranges)
 }
 
-fn joins(rt: &impl Abort, alloc: Global, ends: &[(u64, u64)], wanted: &[u8]) -> Result<(), Fail> {
+fn joins(
+    rt: &impl Abort,
+    alloc: Global,
+    handle: &mut MemoryHandle,
+    ends: &[(u64, u64)],
+    wanted: &[u8],
+) -> Result<(), CodecError> {
     let ranges = byte_ranges(alloc, ends)?;
-    let mut handle = stored(alloc, Some(VALUE.as_slice()))?;
     let found = handle.partial_decode_many(alloc, ranges.as_slice())?;
-    is_value(
-        rt,
-        "joined",
-        found.as_ref().map(|bytes| bytes.as_slice()),
-        Some(wanted),
-    );
-    Ok(())
-}
-
-fn ends_past(rt: &impl Abort, alloc: Global, ends: &[(u64, u64)]) -> Result<(), Fail> {
-    let ranges = byte_ranges(alloc, ends)?;
-    let mut handle = stored(alloc, Some(VALUE.as_slice()))?;
-    let answer = handle.partial_decode_many(alloc, ranges.as_slice());
-    is_refused(rt, "past the end", answer, CodecError::InvalidByteRange)
-}
-
-/// Where nothing is stored, ranges are not looked at.
-fn finds_none(rt: &impl Abort, alloc: Global, ends: &[(u64, u64)]) -> Result<(), Fail> {
-    let ranges = byte_ranges(alloc, ends)?;
-    let mut handle = stored(alloc, None)?;
-    let found = handle.partial_decode_many(alloc, ranges.as_slice())?;
-    is(rt, "none", &found.is_none(), &true);
+    are_bytes(rt, "joined", &found, Some(wanted));
     Ok(())
 }
 
 #[test]
 fn joins_ranges(rt: HostRuntime) -> Result<(), Fail> {
+    let mut handle = stored(rt.alloc(), Some(VALUE.as_slice()))?;
     for (ends, wanted) in JOINED.iter() {
-        joins(&rt, rt.alloc(), ends, wanted)?;
+        joins(&rt, rt.alloc(), &mut handle, ends, wanted)?;
     }
     Ok(())
 }
 
+/// Where nothing is stored, ranges are not looked at.
+fn ends_past(
+    rt: &impl Abort,
+    alloc: Global,
+    handle: &mut MemoryHandle,
+    ranges: &[ByteRange],
+) -> Result<(), Fail> {
+    let none = MemoryHandle::new().partial_decode_many(alloc, ranges)?;
+    is(rt, "none", &none.is_none(), &true);
+    let answer = handle.partial_decode_many(alloc, ranges);
+    is_refused(rt, "past the end", answer, CodecError::InvalidByteRange)
+}
+
 #[test]
 fn refuses_ranges_past_the_end(rt: HostRuntime) -> Result<(), Fail> {
+    let mut handle = stored(rt.alloc(), Some(VALUE.as_slice()))?;
     for ends in PAST.iter() {
-        ends_past(&rt, rt.alloc(), ends)?;
-        finds_none(&rt, rt.alloc(), ends)?;
+        let ranges = byte_ranges(rt.alloc(), ends)?;
+        ends_past(&rt, rt.alloc(), &mut handle, ranges.as_slice())?;
     }
     Ok(())
 }

@@ -58,60 +58,53 @@ const WRITTEN: &'static [Written] = &[
     ),
 ];
 
-fn bytes_of(handle: &MemoryHandle) -> Option<&[u8]> {
-    handle.value()
-}
-
-/// A write leaves the value with the pieces in place, and counts.
-fn writes(
-    rt: &impl Abort,
-    alloc: Global,
-    handle: &mut MemoryHandle,
-    pieces: &[(u64, u64)],
-    bytes: &[u8],
-    after: &[u8],
-) -> Result<(), Fail> {
-    handle.partial_encode_many(alloc, pieces, bytes)?;
-    is_value(rt, "written", bytes_of(handle), Some(after));
-    is(rt, "calls", &handle.write_calls(), &1);
-    Ok(())
-}
-
-/// The same through a reference.
-fn writes_lent<H: BytesPartialEncoderTraits>(
+/// A write of pieces, through the handle or through a reference.
+fn write<H: BytesPartialEncoderTraits>(
     alloc: Global,
     handle: &mut H,
     pieces: &[(u64, u64)],
     bytes: &[u8],
-) -> Result<(), Fail> {
-    Ok(handle.partial_encode_many(alloc, pieces, bytes)?)
+) -> Result<(), CodecError> {
+    handle.partial_encode_many(alloc, pieces, bytes)
 }
 
-fn writes_row(rt: &impl Abort, alloc: Global, row: &Written) -> Result<(), Fail> {
-    let (value, pieces, bytes, after) = *row;
-    let mut handle = stored(alloc, value)?;
-    writes(rt, alloc, &mut handle, pieces, bytes, after)
+/// What is stored, and how many writing calls there were.
+fn is_left(rt: &impl Abort, handle: &MemoryHandle, value: Option<&[u8]>, calls: u64) {
+    is_value(rt, "left", handle.value(), value);
+    is(rt, "calls", &handle.write_calls(), &calls);
 }
 
-fn writes_row_lent(rt: &impl Abort, alloc: Global, row: &Written) -> Result<(), Fail> {
+/// A write leaves the value with the pieces in place, and counts.
+fn writes(rt: &impl Abort, alloc: Global, row: &Written) -> Result<(), CodecError> {
     let (value, pieces, bytes, after) = *row;
     let mut handle = stored(alloc, value)?;
-    writes_lent(alloc, &mut &mut handle, pieces, bytes)?;
-    is_value(rt, "lent", bytes_of(&handle), Some(after));
+    write(alloc, &mut handle, pieces, bytes)?;
+    is_left(rt, &handle, Some(after), 1);
+    Ok(())
+}
+
+/// The same through a reference.
+fn writes_lent(rt: &impl Abort, alloc: Global, row: &Written) -> Result<(), CodecError> {
+    let (value, pieces, bytes, after) = *row;
+    let mut handle = stored(alloc, value)?;
+    write(alloc, &mut &mut handle, pieces, bytes)?;
+    is_left(rt, &handle, Some(after), 1);
     Ok(())
 }
 
 #[test]
 fn writes_pieces(rt: HostRuntime) -> Result<(), Fail> {
     for row in WRITTEN.iter() {
-        writes_row(&rt, rt.alloc(), row)?;
-        writes_row_lent(&rt, rt.alloc(), row)?;
+        writes(&rt, rt.alloc(), row)?;
+        writes_lent(&rt, rt.alloc(), row)?;
     }
     Ok(())
 }
 
 /// Pieces and bytes that are refused, and why.
-const REFUSED: &'static [(&'static [(u64, u64)], &'static [u8], CodecError)] = &[
+type Refused = (&'static [(u64, u64)], &'static [u8], CodecError);
+
+const REFUSED: &'static [Refused] = &[
     (&[(LAST, 1)], &[1], CodecError::Overflow),
     (&[(0, 1), (1, LAST)], &[1], CodecError::Overflow),
     // Each ends where 64 bits hold it, and together they are too many.
@@ -148,59 +141,71 @@ fn refuses(
     rt: &impl Abort,
     alloc: Global,
     value: Option<&[u8]>,
-    pieces: &[(u64, u64)],
-    bytes: &[u8],
-    cause: CodecError,
+    refused: &Refused,
 ) -> Result<(), Fail> {
+    let (pieces, bytes, cause) = *refused;
     let mut handle = stored(alloc, value)?;
     let answer = handle.partial_encode_many(alloc, pieces, bytes);
     is_refused(rt, "refused", answer, cause)?;
-    is_value(rt, "left", bytes_of(&handle), value);
-    is(rt, "calls", &handle.write_calls(), &1);
+    is_left(rt, &handle, value, 1);
     Ok(())
 }
 
 #[test]
 fn refuses_pieces_that_do_not_fit(rt: HostRuntime) -> Result<(), Fail> {
-    for (pieces, bytes, cause) in REFUSED.iter() {
-        refuses(&rt, rt.alloc(), None, pieces, bytes, *cause)?;
-        refuses(&rt, rt.alloc(), Some(&[7, 8]), pieces, bytes, *cause)?;
+    for refused in REFUSED.iter() {
+        refuses(&rt, rt.alloc(), None, refused)?;
+        refuses(&rt, rt.alloc(), Some(&[7, 8]), refused)?;
     }
     Ok(())
 }
 
+/// A value is replaced by another one, and erased.
 fn replaces<H: BytesPartialEncoderTraits>(
     alloc: Global,
     handle: &mut H,
-    bytes: &[u8],
-) -> Result<(), Fail> {
-    Ok(handle.replace(alloc, bytes)?)
+    value: Option<&[u8]>,
+) -> Result<(), CodecError> {
+    match value {
+        Some(bytes) => handle.replace(alloc, bytes),
+        None => handle.erase(),
+    }
 }
 
-fn erases<H: BytesPartialEncoderTraits>(handle: &mut H) -> Result<(), Fail> {
-    Ok(handle.erase()?)
-}
+/// Values that follow one another, and whether the handle is lent to the call.
+const REPLACED: &'static [(Option<&'static [u8]>, bool)] = &[
+    (Some(&[1, 2, 3]), false),
+    (Some(&[4]), true),
+    (Some(&[]), false),
+    (None, false),
+    (None, true),
+];
 
-/// A value is replaced by a longer and a shorter one, and erased twice; each of these calls counts.
-fn keeps_no_tail(rt: &impl Abort, alloc: Global, handle: &mut MemoryHandle) -> Result<(), Fail> {
-    handle.replace(alloc, &[1, 2, 3])?;
-    is_value(rt, "longer", bytes_of(handle), Some(&[1, 2, 3]));
-    replaces(alloc, &mut &mut *handle, &[4])?;
-    is_value(rt, "shorter", bytes_of(handle), Some(&[4]));
-    handle.replace(alloc, &[])?;
-    is_value(rt, "empty", bytes_of(handle), Some(&[]));
-    handle.erase()?;
-    is_value(rt, "erased", bytes_of(handle), None);
-    erases(&mut &mut *handle)?;
-    is_value(rt, "still none", bytes_of(handle), None);
-    is(rt, "calls", &handle.write_calls(), &5);
+fn is_replaced(
+    rt: &impl Abort,
+    alloc: Global,
+    handle: &mut MemoryHandle,
+    value: Option<&[u8]>,
+    is_lent: bool,
+) -> Result<(), CodecError> {
+    if is_lent {
+        replaces(alloc, &mut &mut *handle, value)?;
+    } else {
+        replaces(alloc, handle, value)?;
+    }
+    is_value(rt, "value", handle.value(), value);
     Ok(())
 }
 
+// A shorter value leaves no tail of a longer one, and each of these calls counts.
 #[test]
 fn replaces_and_erases_the_value(rt: HostRuntime) -> Result<(), Fail> {
     let mut handle = stored(rt.alloc(), Some(&[9, 9]))?;
-    keeps_no_tail(&rt, rt.alloc(), &mut handle)
+    for (value, is_lent) in REPLACED.iter() {
+        is_replaced(&rt, rt.alloc(), &mut handle, *value, *is_lent)?;
+    }
+    is(&rt, "calls", &handle.write_calls(), &5);
+    Ok(())
 }
 
 /// What a handle tells of its writing.
@@ -224,30 +229,30 @@ fn keeps_where_refused(
     handle: &MemoryHandle,
     answer: Result<(), CodecError>,
     before: Option<&[u8]>,
-) -> Result<(), Fail> {
+) -> Result<(), CodecError> {
     if answer == Err(CodecError::OutOfMemory) {
         is_value(rt, "kept", handle.value(), before);
     }
-    Ok(answer?)
+    answer
 }
 
 #[test]
 fn a_write_without_memory_leaves_the_value(rt: HostRuntime) -> Result<(), Fail> {
     let mut handle = stored(rt.alloc(), Some(&[1, 2]))?;
     let answer = handle.partial_encode_many(rt.alloc(), &[(0, 1), (70, 1)], &[8, 9]);
-    keeps_where_refused(&rt, &handle, answer, Some(&[1, 2]))
+    Ok(keeps_where_refused(&rt, &handle, answer, Some(&[1, 2]))?)
 }
 
 #[test]
 fn a_replacement_without_memory_leaves_the_value(rt: HostRuntime) -> Result<(), Fail> {
     let mut handle = stored(rt.alloc(), Some(&[1, 2]))?;
     let answer = handle.replace(rt.alloc(), &[3, 4, 5]);
-    keeps_where_refused(&rt, &handle, answer, Some(&[1, 2]))
+    Ok(keeps_where_refused(&rt, &handle, answer, Some(&[1, 2]))?)
 }
 
 #[test]
 fn a_first_write_without_memory_leaves_none(rt: HostRuntime) -> Result<(), Fail> {
-    let mut handle = stored(rt.alloc(), None)?;
+    let mut handle = MemoryHandle::new();
     let answer = handle.partial_encode_many(rt.alloc(), &[(3, 1)], &[9]);
-    keeps_where_refused(&rt, &handle, answer, None)
+    Ok(keeps_where_refused(&rt, &handle, answer, None)?)
 }

@@ -2,7 +2,7 @@ use crate::checks::is;
 use zarrs_packbits::div_rem_8bit;
 
 /// Bits, the bits of a component, and the byte and the place in it where each bit stands.
-const PLACES: [(u64, u64, (u64, u8)); 5] = [
+const PLACES: &'static [(u64, u64, (u64, u8))] = &[
     (3, 3, (1, 0)),
     (11, 12, (1, 3)),
     (13, 12, (2, 1)),

@@ -1,8 +1,9 @@
 //! Tests of the codec `packbits`, over the public calls of `zarrs_packbits`, and of the metadata of
 //! both codecs to bytes. Without tests the crate is empty.
 //!
-//! Answers are written by hand. A want of memory ends a test with that error and is never compared,
-//! so a run in which an allocation fails shows each answer that changes otherwise.
+//! What the line tool shows of the codec stands in `zarrs_transcripts`. Here is the rest. Answers are
+//! written by hand. A want of memory ends a test with that error and is never compared, so a run in
+//! which an allocation fails shows each answer that changes otherwise.
 //!
 //! The check proves a test before it runs. So examples stand in tables of constants, which cost it
 //! nothing, and a test goes over its table by a function that takes one row.
@@ -22,5 +23,3 @@ mod packbits_codec;
 mod packbits_parts;
 #[cfg(test)]
 mod packbits_refusals;
-#[cfg(test)]
-mod packbits_round_trips;

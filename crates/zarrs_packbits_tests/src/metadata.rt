@@ -19,7 +19,7 @@ use zarrs_packbits::PackBitsCodec;
 /// Metadata, and what is written of its codec; or the first cause why there is none.
 type Row = (&'static str, Result<&'static str, PluginCreateError>);
 
-const BYTES: [Row; 10] = [
+const BYTES: &'static [Row] = &[
     (r#""bytes""#, Ok(r#"{"configuration":{},"name":"bytes"}"#)),
     (
         r#"{"name":"bytes","configuration":{}}"#,
@@ -53,7 +53,7 @@ const BYTES: [Row; 10] = [
     ),
 ];
 
-const PACKBITS: [Row; 7] = [
+const PACKBITS: &'static [Row] = &[
     (
         r#""packbits""#,
         Ok(

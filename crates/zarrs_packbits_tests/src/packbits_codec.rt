@@ -1,10 +1,12 @@
-use crate::checks::{are, is};
-use crate::forms::{ChunkForm, FIRST, Kept, LAST, NONE, Told, chunk_form, codec};
+use crate::checks::{has_bytes, is};
+use crate::forms::{ChunkForm, FIRST, Kept, LAST, NONE, Told, Type, chunk_form, codec};
+use Type::Bits;
 use std::alloc::Global;
 use std::borrow::CowSlice;
 use std::process::Abort;
 use std::test::Fail;
 use zarrs_array_bytes::{ArrayBytes, ArrayBytesRaw};
+use zarrs_chunk::CodecError;
 use zarrs_codec::{
     ArrayCodecTraits, BytesRepresentation, CodecTraits, PartialDecoderCapability,
     PartialEncoderCapability,
@@ -12,30 +14,15 @@ use zarrs_codec::{
 use zarrs_metadata::PackBitsPaddingEncoding;
 use zarrs_packbits::PackBitsCodec;
 
-const FLAGS: Told<'static> = (&[2], (1, 1, false), &[0]);
+const ALL: Kept = (NONE, None, None);
 
-const EIGHT_BY_FIVE: Told<'static> = (&[8, 5], (1, 1, false), &[0]);
+const FLAGS: Told<'static> = (&[2], Bits(1, 1, false), &[0]);
 
-const SIGNED_12: Told<'static> = (&[1], (12, 1, true), &[0, 0]);
+const SIGNED_12: Told<'static> = (&[1], Bits(12, 1, true), &[0, 0]);
 
-const UNSIGNED_12: Told<'static> = (&[1], (12, 1, false), &[0, 0]);
+const WORDS: Told<'static> = (&[2], Bits(16, 1, false), &[0, 0]);
 
-const WORDS: Told<'static> = (&[2], (16, 1, false), &[0, 0]);
-
-const LONG: Told<'static> = (&[1], (65, 1, true), &[0, 0, 0, 0, 0, 0, 0, 0, 0]);
-
-/// Every third flag is set.
-const THIRDS: &'static [u8] = &[
-    1, 0, 0, 1, 0, 0, 1, 0, 0, 1, 0, 0, 1, 0, 0, 1, 0, 0, 1, 0, 0, 1, 0, 0, 1, 0, 0, 1, 0, 0, 1, 0,
-    0, 1, 0, 0, 1, 0, 0, 1,
-];
-
-/// More flags than a word has bits, every third of them set.
-const SEVENTY: &'static [u8] = &[
-    1, 0, 0, 1, 0, 0, 1, 0, 0, 1, 0, 0, 1, 0, 0, 1, 0, 0, 1, 0, 0, 1, 0, 0, 1, 0, 0, 1, 0, 0, 1, 0,
-    0, 1, 0, 0, 1, 0, 0, 1, 0, 0, 1, 0, 0, 1, 0, 0, 1, 0, 0, 1, 0, 0, 1, 0, 0, 1, 0, 0, 1, 0, 0, 1,
-    0, 0, 1, 0, 0, 1,
-];
+const LONG: Told<'static> = (&[1], Bits(65, 1, true), &[0, 0, 0, 0, 0, 0, 0, 0, 0]);
 
 /// A codec, a chunk, its elements, its value, and what is decoded of it.
 type Coded = (
@@ -46,78 +33,10 @@ type Coded = (
     &'static [u8],
 );
 
-/// Flags at each padding, and components of some bits.
-const PACKED: [Coded; 8] = [
-    ((NONE, None, None), FLAGS, &[1, 1], &[3], &[1, 1]),
+/// Bits behind a padding byte, bits that fill a byte and a half, and whole bytes.
+const CODED: &'static [Coded] = &[
     ((FIRST, None, None), FLAGS, &[1, 1], &[6, 3], &[1, 1]),
-    ((LAST, None, None), FLAGS, &[1, 1], &[3, 6], &[1, 1]),
-    (
-        (NONE, None, None),
-        EIGHT_BY_FIVE,
-        THIRDS,
-        &[73, 146, 36, 73, 146],
-        THIRDS,
-    ),
-    (
-        (FIRST, None, None),
-        (&[7, 10], (1, 1, false), &[0]),
-        SEVENTY,
-        &[2, 73, 146, 36, 73, 146, 36, 73, 146, 36],
-        SEVENTY,
-    ),
-    (
-        (NONE, None, None),
-        (&[1], (3, 2, false), &[0, 0]),
-        &[5, 2],
-        &[21],
-        &[5, 2],
-    ),
-    (
-        (NONE, None, None),
-        SIGNED_12,
-        &[255, 15],
-        &[255, 15],
-        &[255, 255],
-    ),
-    (
-        (NONE, None, None),
-        UNSIGNED_12,
-        &[255, 15],
-        &[255, 15],
-        &[255, 15],
-    ),
-];
-
-/// Bits that are left out, whole bytes, and components of more than a word.
-const CUT: [Coded; 9] = [
-    (
-        (FIRST, None, None),
-        (&[4], (2, 1, false), &[0]),
-        &[0, 1, 2, 3],
-        &[0, 228],
-        &[0, 1, 2, 3],
-    ),
-    (
-        (NONE, Some(3), Some(3)),
-        (&[3], (8, 1, true), &[0]),
-        &[8, 247, 255],
-        &[5],
-        &[248, 0, 248],
-    ),
-    (
-        (NONE, Some(1), None),
-        (&[2], (4, 1, true), &[0]),
-        &[7, 255],
-        &[59],
-        &[6, 254],
-    ),
-    (
-        (NONE, None, Some(5)),
-        (&[1], (16, 1, true), &[0, 0]),
-        &[253, 255],
-        &[61],
-        &[253, 255],
-    ),
+    (ALL, SIGNED_12, &[255, 15], &[255, 15], &[255, 255]),
     (
         (FIRST, None, None),
         WORDS,
@@ -125,40 +44,7 @@ const CUT: [Coded; 9] = [
         &[1, 0, 2, 1],
         &[1, 0, 2, 1],
     ),
-    (
-        (LAST, Some(0), Some(15)),
-        WORDS,
-        &[1, 0, 2, 1],
-        &[1, 0, 2, 1],
-        &[1, 0, 2, 1],
-    ),
-    (
-        (NONE, None, None),
-        LONG,
-        &[0, 0, 0, 0, 0, 0, 0, 0, 1],
-        &[0, 0, 0, 0, 0, 0, 0, 0, 1],
-        &[0, 0, 0, 0, 0, 0, 0, 0, 255],
-    ),
-    (
-        (NONE, Some(60), Some(64)),
-        LONG,
-        &[0, 0, 0, 0, 0, 0, 0, 0, 1],
-        &[16],
-        &[0, 0, 0, 0, 0, 0, 0, 0, 255],
-    ),
-    (
-        (LAST, None, None),
-        (&[], (4, 3, true), &[0, 0, 0]),
-        &[1, 248, 7],
-        &[129, 7, 4],
-        &[1, 248, 7],
-    ),
 ];
-
-/// Elements of one size with bytes of their own.
-fn owned(alloc: Global, bytes: &[u8]) -> Result<ArrayBytesRaw<'static>, Fail> {
-    Ok(CowSlice::Owned(bytes.to_vec(alloc)?))
-}
 
 fn encodes(
     rt: &impl Abort,
@@ -167,7 +53,7 @@ fn encodes(
     form: &ChunkForm,
     raw: ArrayBytesRaw<'_>,
     value: &[u8],
-) -> Result<(), Fail> {
+) -> Result<(), CodecError> {
     let elements = ArrayBytes::new_flen(raw);
     let encoded = codec.encode(
         alloc,
@@ -176,7 +62,7 @@ fn encodes(
         &form.data_type,
         &form.fill_value,
     )?;
-    are(rt, "encoded", encoded.as_slice(), value);
+    is(rt, "encoded", &encoded.as_slice(), &value);
     Ok(())
 }
 
@@ -187,113 +73,124 @@ fn decodes(
     form: &ChunkForm,
     value: ArrayBytesRaw<'_>,
     memory: &[u8],
-) -> Result<(), Fail> {
+) -> Result<(), CodecError> {
     let decoded = codec.decode(alloc, value, &form.shape, &form.data_type, &form.fill_value)?;
-    are(rt, "decoded", decoded.into_fixed()?.as_slice(), memory);
-    Ok(())
-}
-
-fn represents(rt: &impl Abort, codec: PackBitsCodec, form: &ChunkForm, bytes: u64) {
-    let answer = codec.encoded_representation(&form.shape, &form.data_type, &form.fill_value);
-    is(
-        rt,
-        "represented",
-        &answer,
-        &Ok(BytesRepresentation::FixedSize(bytes)),
-    );
+    has_bytes(rt, "decoded", &decoded, memory)
 }
 
 /// A chunk of these elements has this value, and this is decoded of it: of owned bytes and of lent
 /// ones.
-pub(crate) fn codes(
+fn codes(
     rt: &impl Abort,
     alloc: Global,
     codec: PackBitsCodec,
     form: &ChunkForm,
-    memory: &[u8],
-    value: &[u8],
-    normal: &[u8],
-) -> Result<(), Fail> {
-    represents(rt, codec, form, value.len() as u64);
-    encodes(rt, alloc, codec, form, owned(alloc, memory)?, value)?;
+    row: &Coded,
+) -> Result<(), CodecError> {
+    let (_, _, memory, value, normal) = *row;
+    let elements = CowSlice::Owned(memory.to_vec(alloc)?);
+    encodes(rt, alloc, codec, form, elements, value)?;
     encodes(rt, alloc, codec, form, CowSlice::Borrowed(memory), value)?;
-    decodes(rt, alloc, codec, form, owned(alloc, value)?, normal)?;
+    let owned = CowSlice::Owned(value.to_vec(alloc)?);
+    decodes(rt, alloc, codec, form, owned, normal)?;
     decodes(rt, alloc, codec, form, CowSlice::Borrowed(value), normal)
 }
 
-fn codes_row(rt: &impl Abort, alloc: Global, row: &Coded) -> Result<(), Fail> {
-    let (kept, told, memory, value, normal) = row;
+fn codes_row(rt: &impl Abort, alloc: Global, row: &Coded) -> Result<(), CodecError> {
+    let form = chunk_form(alloc, &row.1)?;
+    codes(rt, alloc, codec(&row.0)?, &form, row)
+}
+
+#[test]
+fn takes_owned_bytes_and_lent_ones(rt: HostRuntime) -> Result<(), Fail> {
+    for row in CODED.iter() {
+        codes_row(&rt, rt.alloc(), row)?;
+    }
+    Ok(())
+}
+
+/// Codecs, chunks, and how many bytes their values have.
+const LENGTHS: &'static [(Kept, Told<'static>, u64)] = &[
+    (ALL, FLAGS, 1),
+    ((FIRST, None, None), FLAGS, 2),
+    ((LAST, None, None), FLAGS, 2),
+    (ALL, (&[8, 5], Bits(1, 1, false), &[0]), 5),
+    ((FIRST, None, None), (&[7, 10], Bits(1, 1, false), &[0]), 10),
+    (ALL, (&[1], Bits(3, 2, false), &[0, 0]), 1),
+    (ALL, SIGNED_12, 2),
+    (ALL, (&[1], Bits(12, 1, false), &[0, 0]), 2),
+    ((FIRST, None, None), (&[4], Bits(2, 1, false), &[0]), 2),
+    ((NONE, Some(3), Some(3)), (&[3], Bits(8, 1, true), &[0]), 1),
+    ((NONE, Some(1), None), (&[2], Bits(4, 1, true), &[0]), 1),
+    ((NONE, None, Some(5)), (&[1], Bits(16, 1, true), &[0, 0]), 1),
+    ((FIRST, None, None), WORDS, 4),
+    ((LAST, Some(0), Some(15)), WORDS, 4),
+    (ALL, LONG, 9),
+    ((NONE, Some(60), Some(64)), LONG, 1),
+    ((LAST, None, None), (&[], Bits(4, 3, true), &[0, 0, 0]), 3),
+];
+
+fn represents(
+    rt: &impl Abort,
+    alloc: Global,
+    codec: PackBitsCodec,
+    told: &Told<'_>,
+    bytes: u64,
+) -> Result<(), CodecError> {
     let form = chunk_form(alloc, told)?;
-    codes(rt, alloc, codec(kept)?, &form, memory, value, normal)
-}
-
-#[test]
-fn packs_bits_lowest_first(rt: HostRuntime) -> Result<(), Fail> {
-    for row in PACKED.iter() {
-        codes_row(&rt, rt.alloc(), row)?;
-    }
+    let answer = codec.encoded_representation(&form.shape, &form.data_type, &form.fill_value);
+    let wanted = Ok(BytesRepresentation::FixedSize(bytes));
+    is(rt, "represented", &answer, &wanted);
     Ok(())
 }
 
 #[test]
-fn packs_the_kept_bits_alone(rt: HostRuntime) -> Result<(), Fail> {
-    for row in CUT.iter() {
-        codes_row(&rt, rt.alloc(), row)?;
+fn represents_the_kept_bits_and_the_padding_byte(rt: HostRuntime) -> Result<(), Fail> {
+    for (kept, told, bytes) in LENGTHS.iter() {
+        represents(&rt, rt.alloc(), codec(kept)?, told, *bytes)?;
     }
     Ok(())
-}
-
-#[test]
-fn ignores_spare_bits(rt: HostRuntime) -> Result<(), Fail> {
-    let form = chunk_form(rt.alloc(), &FLAGS)?;
-    let codec = PackBitsCodec::default();
-    decodes(
-        &rt,
-        rt.alloc(),
-        codec,
-        &form,
-        CowSlice::Borrowed(&[255]),
-        &[1, 1],
-    )
 }
 
 /// Settings, no two of them equal.
-const SETTINGS: [Kept; 5] = [
-    (NONE, None, None),
+const SETTINGS: &'static [Kept] = &[
+    ALL,
     (FIRST, None, None),
     (LAST, None, None),
     (NONE, Some(1), None),
     (NONE, Some(1), Some(2)),
 ];
 
-fn is_shown(rt: &impl Abort, alloc: Global, codec: PackBitsCodec) -> Result<(), Fail> {
+fn is_shown(rt: &impl Abort, alloc: Global, codec: PackBitsCodec) -> Result<(), CodecError> {
     is(rt, "copy", &codec.clone()?, &codec);
     let text = format!(in alloc; "{codec:?}")?;
-    is(
-        rt,
-        "shown",
-        &text.as_str().starts_with("PackBitsCodec"),
-        &true,
-    );
+    let starts = text.as_str().starts_with("PackBitsCodec");
+    is(rt, "shown", &starts, &true);
+    Ok(())
+}
+
+/// The codec is the one of the settings at this place alone.
+fn is_at(rt: &impl Abort, one: PackBitsCodec, place: usize) -> Result<(), CodecError> {
+    for (other_place, other) in SETTINGS.iter().enumerate() {
+        let same = one == codec(other)?;
+        is(rt, "same", &same, &(place == other_place));
+    }
     Ok(())
 }
 
 #[test]
 fn differs_by_its_settings(rt: HostRuntime) -> Result<(), Fail> {
-    for (place, one) in SETTINGS.iter().enumerate() {
-        is_shown(&rt, rt.alloc(), codec(one)?)?;
-        for (other_place, other) in SETTINGS.iter().enumerate() {
-            let same = codec(one)? == codec(other)?;
-            is(&rt, "same", &same, &(place == other_place));
-        }
+    for (place, kept) in SETTINGS.iter().enumerate() {
+        let one = codec(kept)?;
+        is_shown(&rt, rt.alloc(), one)?;
+        is_at(&rt, one, place)?;
     }
     Ok(())
 }
 
 #[test]
 fn keeps_all_bits_by_default(rt: HostRuntime) -> Result<(), Fail> {
-    let plain = codec(&(NONE, None, None))?;
-    is(&rt, "codec", &PackBitsCodec::default(), &plain);
+    is(&rt, "codec", &PackBitsCodec::default(), &codec(&ALL)?);
     is(&rt, "padding", &PackBitsPaddingEncoding::default(), &NONE);
     Ok(())
 }
@@ -316,9 +213,9 @@ fn reads_in_part_and_writes_whole(rt: HostRuntime) {
 
 #[test]
 fn decodes_whole_chunks_best(rt: HostRuntime) -> Result<(), Fail> {
-    let form = chunk_form(rt.alloc(), &EIGHT_BY_FIVE)?;
-    let codec = PackBitsCodec::default();
-    let shape = codec.partial_decode_granularity(rt.alloc(), &form.shape)?;
-    are(&rt, "shape", shape.as_slice(), &[8, 5]);
+    let sizes: &[u64] = &[8, 5];
+    let form = chunk_form(rt.alloc(), &(sizes, Bits(1, 1, false), &[0]))?;
+    let shape = PackBitsCodec::default().partial_decode_granularity(rt.alloc(), &form.shape)?;
+    is(&rt, "shape", &shape.as_slice(), &sizes);
     Ok(())
 }
