@@ -13,14 +13,15 @@ pub(crate) fn is<T: PartialEq + Debug>(rt: &impl Abort, about: &str, came: &T, w
     assert_eq!(rt; *came, *wanted, "{about}");
 }
 
-/// What came is another than this.
-pub(crate) fn is_not<T: PartialEq + Debug>(rt: &impl Abort, about: &str, came: &T, other: &T) {
-    assert_ne!(rt; *came, *other, "{about}");
-}
-
 /// The items that came are those that are wanted.
 pub(crate) fn are<T: PartialEq + Debug>(rt: &impl Abort, about: &str, came: &[T], wanted: &[T]) {
     assert_eq!(rt; came, wanted, "{about}");
+}
+
+/// Two values are equal, or they are not, both ways.
+pub(crate) fn compares<T: PartialEq>(rt: &impl Abort, one: &T, other: &T, equal: bool) {
+    is(rt, "equal", &(*one == *other), &equal);
+    is(rt, "another", &(*other != *one), &!equal);
 }
 
 /// The answer is this refusal. A want of memory is an error of the test.
@@ -45,12 +46,12 @@ pub(crate) fn shape(alloc: Global, sizes: &[u64]) -> Result<ChunkShape, CodecErr
 
 /// Which elements are meant, as plain data.
 #[derive(Clone, Copy)]
-pub(crate) enum Asked<'a> {
-    Ranges(&'a [Range<u64>]),
-    Tuples(&'a [&'a [u64]]),
+pub(crate) enum Asked {
+    Ranges(&'static [Range<u64>]),
+    Tuples(&'static [&'static [u64]]),
 }
 
-pub(crate) fn indexer(alloc: Global, asked: &Asked<'_>) -> Result<Indexer, CodecError> {
+pub(crate) fn indexer(alloc: Global, asked: &Asked) -> Result<Indexer, CodecError> {
     match asked {
         Asked::Ranges(ranges) => subset(alloc, ranges),
         Asked::Tuples(tuples) => list(alloc, tuples),

@@ -1,85 +1,56 @@
-use crate::checks::{are, is, is_not, shape};
+use crate::checks::{are, compares, is, shape};
 use std::alloc::Global;
 use std::process::Abort;
 use std::test::Fail;
 use zarrs_chunk::{ChunkShape, CodecError};
 
-/// Sizes, and how many elements they have.
+/// Sizes, no two of them alike, and how many elements they have.
 const COUNTED: &'static [(&'static [u64], Result<u64, CodecError>)] = &[
     (&[], Ok(1)),
+    (&[4], Ok(4)),
     (&[7], Ok(7)),
     (&[4, 4], Ok(16)),
+    (&[4, 5], Ok(20)),
+    (&[5, 4], Ok(20)),
+    (&[4, 5, 1], Ok(20)),
     (&[2, 3, 4], Ok(24)),
     (&[4294967296, 4294967295], Ok(18446744069414584320)),
     (&[4294967296, 4294967296], Err(CodecError::Overflow)),
 ];
 
-fn counts(
-    rt: &impl Abort,
-    alloc: Global,
-    sizes: &[u64],
-    count: Result<u64, CodecError>,
-) -> Result<(), CodecError> {
-    has_count(rt, &shape(alloc, sizes)?, sizes, count)
-}
-
+/// The shape has these sizes and this count, and its copy is equal.
 fn has_count(
     rt: &impl Abort,
     chunk: &ChunkShape,
     sizes: &[u64],
-    count: Result<u64, CodecError>,
+    count: &Result<u64, CodecError>,
 ) -> Result<(), CodecError> {
     are(rt, "sizes", chunk.as_slice(), sizes);
-    is(rt, "count", &chunk.num_elements(), &count);
-    is(rt, "copy", &chunk.clone()?, chunk);
+    is(rt, "count", &chunk.num_elements(), count);
+    compares(rt, &chunk.clone()?, chunk, true);
     Ok(())
 }
 
 #[test]
 fn counts_the_elements(rt: HostRuntime) -> Result<(), Fail> {
     for (sizes, count) in COUNTED.iter() {
-        counts(&rt, rt.alloc(), sizes, *count)?;
+        has_count(&rt, &shape(rt.alloc(), sizes)?, sizes, count)?;
     }
     Ok(())
 }
 
-const ZEROS: &'static [&'static [u64]] = &[&[0], &[0, 4], &[4, 0], &[1, 0, 1]];
-
-fn stands_not(rt: &impl Abort, alloc: Global, sizes: &[u64]) -> Result<(), Fail> {
-    let chunk = ChunkShape::new(sizes.to_vec(alloc)?);
-    is(rt, "stands", &chunk.is_some(), &false);
-    Ok(())
-}
-
-#[test]
-fn has_no_size_of_zero(rt: HostRuntime) -> Result<(), Fail> {
-    for sizes in ZEROS.iter() {
-        stands_not(&rt, rt.alloc(), sizes)?;
-    }
-    Ok(())
-}
-
-const UNLIKE: [&'static [u64]; 5] = [&[4, 5], &[5, 4], &[4], &[4, 5, 1], &[]];
-
-fn differs(
-    rt: &impl Abort,
-    alloc: Global,
-    chunk: &ChunkShape,
-    others: &[u64],
-) -> Result<(), CodecError> {
-    is_not(rt, "another", chunk, &shape(alloc, others)?);
-    Ok(())
-}
-
-fn differs_from_others(rt: &impl Abort, alloc: Global, sizes: &[u64]) -> Result<(), CodecError> {
-    let chunk = shape(alloc, sizes)?;
-    for others in UNLIKE[1..].iter() {
-        differs(rt, alloc, &chunk, others)?;
+/// The shape is the one at this place alone.
+fn is_at(rt: &impl Abort, alloc: Global, one: &ChunkShape, place: usize) -> Result<(), CodecError> {
+    for (other_place, (other, _)) in COUNTED.iter().enumerate() {
+        compares(rt, one, &shape(alloc, other)?, place == other_place);
     }
     Ok(())
 }
 
 #[test]
 fn differs_by_its_sizes(rt: HostRuntime) -> Result<(), Fail> {
-    Ok(differs_from_others(&rt, rt.alloc(), UNLIKE[0])?)
+    for (place, (one, _)) in COUNTED.iter().enumerate() {
+        is_at(&rt, rt.alloc(), &shape(rt.alloc(), one)?, place)?;
+    }
+    Ok(())
 }

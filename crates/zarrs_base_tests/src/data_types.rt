@@ -1,73 +1,46 @@
-use crate::checks::{is, is_not, is_refused};
+use crate::checks::{compares, is, is_refused};
 use std::alloc::Global;
 use std::process::Abort;
 use std::test::Fail;
 use zarrs_chunk::CodecError;
 use zarrs_data_type::{Components, DataType, Endianness, HasComponents};
 
-/// A fixed type of so many bytes, with so many components of these bits.
-fn has_components(
-    rt: &impl Abort,
-    data_type: DataType,
-    size: usize,
-    bits: u64,
-    count: u64,
-    sign: bool,
-) {
-    is_fixed(rt, &data_type, size, bits, count, sign);
+/// A type's size, its components, and whether its elements have any length or may be absent.
+type Row = (Option<usize>, Option<Components>, bool, bool);
+
+fn is_type(rt: &impl Abort, about: &str, came: &DataType, wanted: &Row) {
+    is(rt, about, &came.fixed_size(), &wanted.0);
+    is(rt, about, &came.components(), &wanted.1);
+    is(rt, about, &came.is_variable(), &wanted.2);
+    is(rt, about, &came.is_optional(), &wanted.3);
+    is(rt, about, &came.as_optional().is_some(), &wanted.3);
 }
 
-fn is_fixed(rt: &impl Abort, data_type: &DataType, size: usize, bits: u64, count: u64, sign: bool) {
-    let components = Components {
-        component_size_bits: bits,
-        num_components: count,
-        sign_extension: sign,
-    };
-    is(rt, "components", &data_type.components(), &Some(components));
-    has_size(rt, data_type, size);
-}
+const VARIABLE: Row = (None, None, true, false);
 
-fn has_size(rt: &impl Abort, data_type: &DataType, size: usize) {
-    is(rt, "size", &data_type.fixed_size(), &Some(size));
-    is(rt, "optional", &data_type.is_optional(), &false);
-    is(rt, "variable", &data_type.is_variable(), &false);
-}
+const OPTIONAL: Row = (None, None, false, true);
+
+const PAIR: Row = (
+    Some(4),
+    Some(Components {
+        component_size_bits: 12,
+        num_components: 2,
+        sign_extension: true,
+    }),
+    false,
+    false,
+);
 
 #[test]
-fn names_below_a_byte(rt: HostRuntime) {
-    has_components(&rt, DataType::bool(), 1, 1, 1, false);
-    has_components(&rt, DataType::int2(), 1, 2, 1, true);
-    has_components(&rt, DataType::int4(), 1, 4, 1, true);
-    has_components(&rt, DataType::uint2(), 1, 2, 1, false);
-    has_components(&rt, DataType::uint4(), 1, 4, 1, false);
-}
-
-#[test]
-fn names_of_signed_numbers(rt: HostRuntime) {
-    has_components(&rt, DataType::int8(), 1, 8, 1, true);
-    has_components(&rt, DataType::int16(), 2, 16, 1, true);
-    has_components(&rt, DataType::int32(), 4, 32, 1, true);
-    has_components(&rt, DataType::int64(), 8, 64, 1, true);
-}
-
-#[test]
-fn names_of_unsigned_numbers(rt: HostRuntime) {
-    has_components(&rt, DataType::uint8(), 1, 8, 1, false);
-    has_components(&rt, DataType::uint16(), 2, 16, 1, false);
-    has_components(&rt, DataType::uint32(), 4, 32, 1, false);
-    has_components(&rt, DataType::uint64(), 8, 64, 1, false);
-}
-
-#[test]
-fn is_made_of_components(rt: HostRuntime) -> Result<(), Fail> {
-    has_components(&rt, DataType::components(12, 2, true)?, 4, 12, 2, true);
-    has_components(&rt, DataType::components(65, 3, false)?, 27, 65, 3, false);
+fn has_a_size_or_none(rt: HostRuntime) -> Result<(), Fail> {
     is_type(
         &rt,
-        "bool",
-        &DataType::components(1, 1, false)?,
-        &DataType::bool(),
+        "components",
+        &DataType::components(12, 2, true)?,
+        &PAIR,
     );
+    is_type(&rt, "text", &DataType::string(), &VARIABLE);
+    is_type(&rt, "bytes", &DataType::bytes(), &VARIABLE);
     Ok(())
 }
 
@@ -78,37 +51,30 @@ const REFUSED: &'static [(u64, u64, CodecError)] = &[
     (18446744073709551615, 8, CodecError::Overflow),
 ];
 
-fn refuses(rt: &impl Abort, bits: u64, count: u64, cause: CodecError) -> Result<(), Fail> {
-    is_refused(rt, "type", DataType::components(bits, count, false), cause)
-}
-
 #[test]
 fn is_refused_without_bits_or_past_64_bits(rt: HostRuntime) -> Result<(), Fail> {
     for (bits, count, cause) in REFUSED.iter() {
-        refuses(&rt, *bits, *count, *cause)?;
+        is_refused(
+            &rt,
+            "type",
+            DataType::components(*bits, *count, false),
+            *cause,
+        )?;
     }
     Ok(())
 }
 
-/// A type that has no size.
-fn has_none(rt: &impl Abort, data_type: &DataType, variable: bool) {
-    is(rt, "size", &data_type.fixed_size(), &None);
-    is(rt, "components", &data_type.components(), &None);
-    is_variable(rt, data_type, variable);
-}
-
-/// A type of elements of any length, or else an optional one.
-fn is_variable(rt: &impl Abort, data_type: &DataType, variable: bool) {
-    is(rt, "variable", &data_type.is_variable(), &variable);
-    is(rt, "optional", &data_type.is_optional(), &!variable);
-    is(rt, "inner", &data_type.as_optional().is_some(), &!variable);
-}
-
 #[test]
-fn has_no_size_where_the_length_is_any(rt: HostRuntime) {
-    has_none(&rt, &DataType::string(), true);
-    has_none(&rt, &DataType::bytes(), true);
-    is_not(&rt, "text", &DataType::string(), &DataType::bytes());
+fn differs_by_kind_and_components(rt: HostRuntime) -> Result<(), Fail> {
+    compares(
+        &rt,
+        &DataType::bool(),
+        &DataType::components(1, 1, false)?,
+        true,
+    );
+    compares(&rt, &DataType::int8(), &DataType::uint8(), false);
+    compares(&rt, &DataType::string(), &DataType::bytes(), false);
+    Ok(())
 }
 
 fn optional_text(alloc: Global) -> Result<DataType, CodecError> {
@@ -116,36 +82,23 @@ fn optional_text(alloc: Global) -> Result<DataType, CodecError> {
 }
 
 /// A type round that of optional texts.
-fn is_round_optional_text(
-    rt: &impl Abort,
-    data_type: &DataType,
-    text: &DataType,
-) -> Result<(), Fail> {
-    has_none(rt, data_type, false);
-    is_copied(rt, data_type)?;
-    is_not(rt, "levels", data_type, text);
-    let inner = data_type.as_optional().ok_or("no inner type")?;
-    is_type(rt, "inner", inner, text);
+fn is_round(rt: &impl Abort, data_type: &DataType, text: &DataType) -> Result<(), CodecError> {
+    is_type(rt, "levels", data_type, &OPTIONAL);
+    compares(rt, data_type, text, false);
+    compares(rt, &data_type.clone()?, data_type, true);
+    compares(
+        rt,
+        data_type.as_optional().ok_or(CodecError::ArrayBytesKind)?,
+        text,
+        true,
+    );
     Ok(())
-}
-
-fn is_copied(rt: &impl Abort, data_type: &DataType) -> Result<(), CodecError> {
-    is_type(rt, "copy", &data_type.clone()?, data_type);
-    Ok(())
-}
-
-fn is_type(rt: &impl Abort, about: &str, came: &DataType, wanted: &DataType) {
-    is(rt, about, came, wanted);
-}
-
-fn twice_optional_text(alloc: Global) -> Result<DataType, CodecError> {
-    DataType::optional(alloc, optional_text(alloc)?)
 }
 
 #[test]
 fn nests(rt: HostRuntime) -> Result<(), Fail> {
-    let text = optional_text(rt.alloc())?;
-    is_round_optional_text(&rt, &twice_optional_text(rt.alloc())?, &text)
+    let twice = DataType::optional(rt.alloc(), optional_text(rt.alloc())?)?;
+    Ok(is_round(&rt, &twice, &optional_text(rt.alloc())?)?)
 }
 
 /// How many bits a component has, of any type that may have some.

@@ -12,8 +12,6 @@
 #[cfg(test)]
 mod array_bytes;
 #[cfg(test)]
-mod borrowed_parts;
-#[cfg(test)]
 mod checks;
 #[cfg(test)]
 mod chunk_shapes;

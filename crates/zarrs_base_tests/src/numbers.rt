@@ -2,128 +2,118 @@ use crate::checks::{are, is, shape};
 use std::alloc::Global;
 use std::process::Abort;
 use std::test::Fail;
-use zarrs_chunk::{ravel_indices, unravel_index};
+use zarrs_chunk::{ChunkShape, CodecError, ravel_indices, unravel_index};
 
 /// Sizes, a tuple, and its number.
-const NUMBERED: &'static [(&'static [u64], &'static [u64], Option<u64>)] = &[
-    (&[4, 4], &[1, 0], Some(4)),
-    (&[4, 4], &[3, 3], Some(15)),
-    (&[2, 3, 4], &[1, 0, 2], Some(14)),
-    (&[], &[], Some(0)),
-    (&[4, 4], &[4, 0], None),
-    (&[4, 4], &[0, 4], None),
-    (&[4, 4], &[0], None),
-    (&[4, 4], &[0, 0, 0], None),
-    (&[], &[0], None),
-    // The last number that 64 bits hold, and the next one.
+const NUMBERED: &'static [(&'static [u64], &'static [u64], u64)] = &[
+    (&[], &[], 0),
+    (&[4, 4], &[1, 0], 4),
+    (&[4, 4], &[3, 3], 15),
+    (
+        &[4294967296, 4294967296],
+        &[4294967295, 4294967295],
+        18446744073709551615,
+    ),
     (
         &[4294967296, 8589934592],
         &[2147483647, 8589934591],
-        Some(18446744073709551615),
-    ),
-    (&[4294967296, 8589934592], &[2147483648, 0], None),
-    (
-        &[4294967296, 1, 8589934592],
-        &[4294967295, 0, 8589934591],
-        None,
+        18446744073709551615,
     ),
 ];
 
-fn numbers(
+/// The tuple has the number, and the number the tuple.
+fn is_numbered(
     rt: &impl Abort,
     alloc: Global,
-    sizes: &[u64],
+    chunk: &ChunkShape,
     tuple: &[u64],
-    number: Option<u64>,
-) -> Result<(), Fail> {
-    let chunk = shape(alloc, sizes)?;
-    is(rt, "number", &ravel_indices(tuple, &chunk), &number);
+    number: u64,
+) -> Result<(), CodecError> {
+    is(rt, "number", &ravel_indices(tuple, chunk), &Some(number));
+    let found = unravel_index(alloc, number, chunk)?.ok_or(CodecError::OutOfBounds)?;
+    are(rt, "tuple", found.as_slice(), tuple);
     Ok(())
 }
 
 #[test]
 fn numbers_a_tuple(rt: HostRuntime) -> Result<(), Fail> {
     for (sizes, tuple, number) in NUMBERED.iter() {
-        numbers(&rt, rt.alloc(), sizes, tuple, *number)?;
+        is_numbered(&rt, rt.alloc(), &shape(rt.alloc(), sizes)?, tuple, *number)?;
     }
     Ok(())
 }
 
-/// Sizes, a number, and its tuple.
-const NAMED: &'static [(&'static [u64], u64, &'static [u64])] = &[
-    (&[], 0, &[]),
-    (&[4, 4], 4, &[1, 0]),
-    (&[4, 4], 15, &[3, 3]),
-    (&[2, 3, 4], 14, &[1, 0, 2]),
-    (
-        &[4294967296, 4294967296],
-        18446744073709551615,
-        &[4294967295, 4294967295],
-    ),
+fn numbers_each(rt: &impl Abort, alloc: Global, chunk: &ChunkShape) -> Result<(), CodecError> {
+    for number in 0..24 {
+        let tuple = [number / 12, number / 4 % 3, number % 4];
+        is_numbered(rt, alloc, chunk, &tuple, number)?;
+    }
+    Ok(())
+}
+
+#[test]
+fn numbers_row_after_row(rt: HostRuntime) -> Result<(), Fail> {
+    Ok(numbers_each(&rt, rt.alloc(), &shape(rt.alloc(), &[2, 3, 4])?)?)
+}
+
+/// Sizes, and a tuple without a number: it lies outside, or its number has more than 64 bits.
+const NUMBERLESS: &'static [(&'static [u64], &'static [u64])] = &[
+    (&[], &[0]),
+    (&[4, 4], &[4, 0]),
+    (&[4, 4], &[0, 4]),
+    (&[4, 4], &[0]),
+    (&[4, 4], &[0, 0, 0]),
+    (&[4294967296, 8589934592], &[2147483648, 0]),
+    (&[4294967296, 1, 8589934592], &[4294967295, 0, 8589934591]),
 ];
 
-fn names(
-    rt: &impl Abort,
-    alloc: Global,
-    sizes: &[u64],
-    number: u64,
-    tuple: &[u64],
-) -> Result<(), Fail> {
-    let chunk = shape(alloc, sizes)?;
-    let found = unravel_index(alloc, number, &chunk)?.ok_or("no tuple")?;
-    are(rt, "tuple", found.as_slice(), tuple);
+#[test]
+fn numbers_no_tuple_outside(rt: HostRuntime) -> Result<(), Fail> {
+    for (sizes, tuple) in NUMBERLESS.iter() {
+        is(
+            &rt,
+            "number",
+            &ravel_indices(tuple, &shape(rt.alloc(), sizes)?),
+            &None,
+        );
+    }
     Ok(())
 }
 
 /// Sizes, and a number that no tuple has.
 const NAMELESS: &'static [(&'static [u64], u64)] = &[(&[], 1), (&[4, 4], 16), (&[2, 3, 4], 24)];
 
-fn names_none(rt: &impl Abort, alloc: Global, sizes: &[u64], number: u64) -> Result<(), Fail> {
-    let chunk = shape(alloc, sizes)?;
-    let found = unravel_index(alloc, number, &chunk)?;
-    is(rt, "none", &found.is_none(), &true);
-    Ok(())
-}
-
-#[test]
-fn names_the_tuple_of_a_number(rt: HostRuntime) -> Result<(), Fail> {
-    for (sizes, number, tuple) in NAMED.iter() {
-        names(&rt, rt.alloc(), sizes, *number, tuple)?;
-    }
+fn names_none(
+    rt: &impl Abort,
+    alloc: Global,
+    chunk: &ChunkShape,
+    number: u64,
+) -> Result<(), CodecError> {
+    is(
+        rt,
+        "none",
+        &unravel_index(alloc, number, chunk)?.is_none(),
+        &true,
+    );
     Ok(())
 }
 
 #[test]
 fn names_none_past_the_last(rt: HostRuntime) -> Result<(), Fail> {
     for (sizes, number) in NAMELESS.iter() {
-        names_none(&rt, rt.alloc(), sizes, *number)?;
+        names_none(&rt, rt.alloc(), &shape(rt.alloc(), sizes)?, *number)?;
     }
     Ok(())
 }
 
-fn goes_back(rt: &impl Abort, alloc: Global, number: u64) -> Result<(), Fail> {
-    let tuple = [number / 12, number / 4 % 3, number % 4];
-    numbers(rt, alloc, &[2, 3, 4], &tuple, Some(number))?;
-    names(rt, alloc, &[2, 3, 4], number, &tuple)
-}
-
-#[test]
-fn goes_there_and_back(rt: HostRuntime) -> Result<(), Fail> {
-    for number in 0..24 {
-        goes_back(&rt, rt.alloc(), number)?;
-    }
-    Ok(())
-}
-
-fn has_one_tuple(rt: &impl Abort, alloc: Global, sizes: &[u64], zeros: &[u64]) -> Result<(), Fail> {
-    numbers(rt, alloc, sizes, zeros, Some(0))?;
-    names(rt, alloc, sizes, 0, zeros)?;
-    names_none(rt, alloc, sizes, 1)
+fn has_one_tuple(rt: &impl Abort, alloc: Global, chunk: &ChunkShape) -> Result<(), Fail> {
+    let zeros = vec![in alloc; 0; 1_000_000]?;
+    is_numbered(rt, alloc, chunk, zeros.as_slice(), 0)?;
+    Ok(names_none(rt, alloc, chunk, 1)?)
 }
 
 #[test]
 fn takes_a_million_axes(rt: HostRuntime) -> Result<(), Fail> {
-    let sizes = vec![in rt.alloc(); 1; 1_000_000]?;
-    let zeros = vec![in rt.alloc(); 0; 1_000_000]?;
-    has_one_tuple(&rt, rt.alloc(), sizes.as_slice(), zeros.as_slice())
+    let ones = vec![in rt.alloc(); 1; 1_000_000]?;
+    has_one_tuple(&rt, rt.alloc(), &shape(rt.alloc(), ones.as_slice())?)
 }

@@ -1,4 +1,4 @@
-use crate::checks::{are, is, is_not, is_refused};
+use crate::checks::{are, compares, is, is_refused};
 use std::alloc::Global;
 use std::ops::Range;
 use std::process::Abort;
@@ -11,38 +11,19 @@ fn has_parts(
     subset: &ArraySubset,
     start: &[u64],
     lengths: &[u64],
-    count: Result<u64, CodecError>,
-) -> Result<(), Fail> {
+    count: &Result<u64, CodecError>,
+) -> Result<(), CodecError> {
     are(rt, "start", subset.start(), start);
     are(rt, "shape", subset.shape(), lengths);
-    is(rt, "elements", &subset.num_elements(), &count);
-    is(rt, "copy", &subset.clone()?, subset);
+    is(rt, "elements", &subset.num_elements(), count);
+    compares(rt, &subset.clone()?, subset, true);
     Ok(())
 }
 
 #[test]
 fn is_made_of_ranges(rt: HostRuntime) -> Result<(), Fail> {
     let made = ArraySubset::new_with_ranges(rt.alloc(), &[1..3, 0..1, 5..5])?;
-    has_parts(&rt, &made, &[1, 0, 5], &[2, 1, 0], Ok(0))
-}
-
-const REVERSED: &'static [&'static [Range<u64>]] = &[
-    &[3..1],
-    &[3..1, 0..1],
-    &[0..1, 18446744073709551615..0],
-];
-
-fn is_reversed(rt: &impl Abort, alloc: Global, ranges: &[Range<u64>]) -> Result<(), Fail> {
-    let answer = ArraySubset::new_with_ranges(alloc, ranges);
-    is_refused(rt, "ranges", answer, CodecError::ReversedRange)
-}
-
-#[test]
-fn is_made_of_no_range_that_falls(rt: HostRuntime) -> Result<(), Fail> {
-    for ranges in REVERSED.iter() {
-        is_reversed(&rt, rt.alloc(), ranges)?;
-    }
-    Ok(())
+    Ok(has_parts(&rt, &made, &[1, 0, 5], &[2, 1, 0], &Ok(0))?)
 }
 
 fn between(alloc: Global, start: &[u64], lengths: &[u64]) -> Result<ArraySubset, CodecError> {
@@ -50,30 +31,18 @@ fn between(alloc: Global, start: &[u64], lengths: &[u64]) -> Result<ArraySubset,
 }
 
 /// Starts, lengths, and how many elements.
-const STARTING: &'static [(&'static [u64], &'static [u64], u64)] = &[
-    (&[], &[], 1),
-    (&[1, 0], &[2, 1], 2),
-    (&[18446744073709551615], &[0], 0),
-    (&[18446744073709551614], &[1], 1),
+const STARTING: &'static [(&'static [u64], &'static [u64], Result<u64, CodecError>)] = &[
+    (&[], &[], Ok(1)),
+    (&[1, 0], &[2, 1], Ok(2)),
+    (&[18446744073709551615], &[0], Ok(0)),
+    (&[18446744073709551614], &[1], Ok(1)),
 ];
 
-fn starts(
-    rt: &impl Abort,
-    alloc: Global,
-    start: &[u64],
-    lengths: &[u64],
-    count: u64,
-) -> Result<(), Fail> {
-    let made = between(alloc, start, lengths)?;
-    has_parts(rt, &made, start, lengths, Ok(count))
-}
-
-/// Starts and lengths that are refused, and why.
+/// Starts and lengths that are refused, and why: the axes come before an end past 64 bits.
 const STARTING_NOWHERE: &'static [(&'static [u64], &'static [u64], CodecError)] = &[
     (&[18446744073709551615], &[1], CodecError::Overflow),
     (&[0, 1], &[1, 18446744073709551615], CodecError::Overflow),
     (&[1], &[2, 1], CodecError::IncompatibleDimensionality),
-    // Two causes at once: the axes come before an end past 64 bits.
     (
         &[18446744073709551615, 0],
         &[1],
@@ -84,26 +53,26 @@ const STARTING_NOWHERE: &'static [(&'static [u64], &'static [u64], CodecError)] 
 #[test]
 fn is_made_of_start_and_shape(rt: HostRuntime) -> Result<(), Fail> {
     for (start, lengths, count) in STARTING.iter() {
-        starts(&rt, rt.alloc(), start, lengths, *count)?;
+        has_parts(
+            &rt,
+            &between(rt.alloc(), start, lengths)?,
+            start,
+            lengths,
+            count,
+        )?;
     }
     Ok(())
-}
-
-fn starts_nowhere(
-    rt: &impl Abort,
-    alloc: Global,
-    start: &[u64],
-    lengths: &[u64],
-    cause: CodecError,
-) -> Result<(), Fail> {
-    let answer = between(alloc, start, lengths);
-    is_refused(rt, "start and shape", answer, cause)
 }
 
 #[test]
 fn is_refused_by_axes_and_then_by_ends(rt: HostRuntime) -> Result<(), Fail> {
     for (start, lengths, cause) in STARTING_NOWHERE.iter() {
-        starts_nowhere(&rt, rt.alloc(), start, lengths, *cause)?;
+        is_refused(
+            &rt,
+            "start and shape",
+            between(rt.alloc(), start, lengths),
+            *cause,
+        )?;
     }
     Ok(())
 }
@@ -126,23 +95,23 @@ fn is_whole(
     alloc: Global,
     lengths: &[u64],
     zeros: &[u64],
-    count: Result<u64, CodecError>,
-) -> Result<(), Fail> {
+    count: &Result<u64, CodecError>,
+) -> Result<(), CodecError> {
     let whole = ArraySubset::new_with_shape(alloc, lengths.to_vec(alloc)?)?;
     has_parts(rt, &whole, zeros, lengths, count)?;
-    is(rt, "len", &Indexer::Subset(whole).len(), &count);
+    is(rt, "len", &Indexer::Subset(whole).len(), count);
     Ok(())
 }
 
 #[test]
 fn is_made_of_a_shape(rt: HostRuntime) -> Result<(), Fail> {
     for (lengths, zeros, count) in WHOLES.iter() {
-        is_whole(&rt, rt.alloc(), lengths, zeros, *count)?;
+        is_whole(&rt, rt.alloc(), lengths, zeros, count)?;
     }
     Ok(())
 }
 
-const UNLIKE: [&'static [Range<u64>]; 5] = [
+const UNLIKE: &'static [&'static [Range<u64>]] = &[
     &[1..3, 0..1],
     &[0..2, 0..1],
     &[1..3, 0..2],
@@ -150,34 +119,33 @@ const UNLIKE: [&'static [Range<u64>]; 5] = [
     &[0..1, 1..3],
 ];
 
-fn differs(
+/// The subset is the one at this place alone.
+fn is_at(
     rt: &impl Abort,
     alloc: Global,
-    subset: &ArraySubset,
-    others: &[Range<u64>],
+    one: &ArraySubset,
+    place: usize,
 ) -> Result<(), CodecError> {
-    is_not(
-        rt,
-        "another",
-        subset,
-        &ArraySubset::new_with_ranges(alloc, others)?,
-    );
-    Ok(())
-}
-
-fn differs_from_others(
-    rt: &impl Abort,
-    alloc: Global,
-    ranges: &[Range<u64>],
-) -> Result<(), CodecError> {
-    let subset = ArraySubset::new_with_ranges(alloc, ranges)?;
-    for others in UNLIKE[1..].iter() {
-        differs(rt, alloc, &subset, others)?;
+    for (other_place, other) in UNLIKE.iter().enumerate() {
+        compares(
+            rt,
+            one,
+            &ArraySubset::new_with_ranges(alloc, other)?,
+            place == other_place,
+        );
     }
     Ok(())
 }
 
 #[test]
 fn differs_by_its_ranges(rt: HostRuntime) -> Result<(), Fail> {
-    Ok(differs_from_others(&rt, rt.alloc(), UNLIKE[0])?)
+    for (place, one) in UNLIKE.iter().enumerate() {
+        is_at(
+            &rt,
+            rt.alloc(),
+            &ArraySubset::new_with_ranges(rt.alloc(), one)?,
+            place,
+        )?;
+    }
+    Ok(())
 }

@@ -1,26 +1,15 @@
-use crate::checks::{is, is_not};
-use std::test::Fail;
+use crate::checks::{compares, is};
 use zarrs_metadata::{VlenIndexDataType, VlenIndexLocation};
 
 #[test]
-fn differ_by_their_names(rt: HostRuntime) -> Result<(), Fail> {
-    is(
+fn differ_by_their_names(rt: HostRuntime) {
+    let default = VlenIndexLocation::default();
+    is(&rt, "default", &default, &VlenIndexLocation::Start);
+    compares(&rt, &default, &VlenIndexLocation::End, false);
+    compares(
         &rt,
-        "default",
-        &VlenIndexLocation::default(),
-        &VlenIndexLocation::Start,
-    );
-    is_not(
-        &rt,
-        "location",
-        &VlenIndexLocation::Start,
-        &VlenIndexLocation::End,
-    );
-    is_not(
-        &rt,
-        "type",
         &VlenIndexDataType::UInt32,
         &VlenIndexDataType::UInt64,
+        false,
     );
-    Ok(())
 }
