@@ -4,7 +4,7 @@ use crate::forms::{Codec, codec_of, reshape, transpose};
 use std::alloc::Global;
 use std::process::Abort;
 use std::test::Fail;
-use zarrs_array_to_array::{ArrayToArrayCodec, SqueezeCodec, encoded_places};
+use zarrs_array_to_array::{ArrayToArrayCodec, SqueezeCodec};
 use zarrs_chunk::{ChunkShape, CodecError, Indexer};
 use zarrs_codec::ArrayToArrayCodecTraits;
 
@@ -285,93 +285,6 @@ fn refuses_told(rt: &impl Abort, alloc: Global, row: &RefusedRow) -> Result<(), 
 fn indexers_are_refused(rt: HostRuntime) -> Result<(), Fail> {
     for row in REFUSED.iter() {
         refuses_told(&rt, rt.alloc(), row)?;
-    }
-    Ok(())
-}
-
-fn codecs(alloc: Global, told: &[Codec]) -> Result<Vec<ArrayToArrayCodec>, Fail> {
-    let mut made = Vec::new(alloc);
-    for one in told {
-        made.push(codec_of(alloc, one)?)?;
-    }
-    Ok(made)
-}
-
-const CUBE: &'static [u64] = &[2, 2, 2];
-
-const TWICE: &'static [Codec] = &[Codec::Transpose(&[0, 2, 1]), Codec::Transpose(&[2, 0, 1])];
-
-/// Codecs, one after another, sizes of chunks, what is asked of them, and where it goes.
-type ThroughRow = (
-    &'static [Codec],
-    &'static [u64],
-    Asked<'static>,
-    &'static [u64],
-);
-
-const THROUGH: &'static [ThroughRow] = &[
-    (&[], &[2, 3], Asked::Ranges(&[1..2, 0..3]), &[3, 4, 5]),
-    (
-        &[Codec::Transpose(&[1, 0])],
-        &[2, 3],
-        Asked::Ranges(&[0..2, 0..3]),
-        &[0, 2, 4, 1, 3, 5],
-    ),
-    (
-        TWICE,
-        CUBE,
-        Asked::Ranges(&[0..2, 0..2, 0..2]),
-        &[0, 1, 4, 5, 2, 3, 6, 7],
-    ),
-    (TWICE, CUBE, Asked::Ranges(&[0..2, 1..2, 0..1]), &[4, 6]),
-    (
-        &[
-            Codec::Reshape(&[Of(&[1]), Of(&[0])]),
-            Codec::Transpose(&[1, 0]),
-            Codec::Squeeze,
-        ],
-        &[3, 2],
-        Asked::Tuples(&[&[0, 0], &[0, 1], &[2, 1]]),
-        &[0, 2, 5],
-    ),
-];
-
-fn go(
-    rt: &impl Abort,
-    alloc: Global,
-    codecs: &[ArrayToArrayCodec],
-    sizes: &[u64],
-    asked: &Asked<'_>,
-    places: &[u64],
-) -> Result<(), CodecError> {
-    let shape = shape(alloc, sizes)?;
-    let indexer = indexer(alloc, asked)?;
-    go_to(rt, alloc, codecs, &shape, &indexer, places)
-}
-
-fn go_to(
-    rt: &impl Abort,
-    alloc: Global,
-    codecs: &[ArrayToArrayCodec],
-    shape: &ChunkShape,
-    indexer: &Indexer,
-    places: &[u64],
-) -> Result<(), CodecError> {
-    let came = encoded_places(alloc, codecs, shape, indexer)?;
-    are(rt, "places", came.as_slice(), places);
-    Ok(())
-}
-
-fn go_told(rt: &impl Abort, alloc: Global, row: &ThroughRow) -> Result<(), Fail> {
-    let (told, sizes, asked, places) = row;
-    let codecs = codecs(alloc, told)?;
-    Ok(go(rt, alloc, codecs.as_slice(), sizes, asked, places)?)
-}
-
-#[test]
-fn places_go_through_codecs(rt: HostRuntime) -> Result<(), Fail> {
-    for row in THROUGH.iter() {
-        go_told(&rt, rt.alloc(), row)?;
     }
     Ok(())
 }

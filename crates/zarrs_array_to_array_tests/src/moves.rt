@@ -1,65 +1,15 @@
 use crate::checks::{are, has_bytes, is};
-use crate::forms::Size::{Of, Rest};
-use crate::forms::{
-    ChunkForm, Codec, Told, Type, chunk_form, codec_of, fixed, numbers, reshape, texts, transpose,
-};
+use crate::forms::Size::Rest;
+use crate::forms::{ChunkForm, Codec, Told, Type, chunk_form, codec_of, fixed, reshape, transpose};
 use std::alloc::Global;
 use std::borrow::CowSlice;
 use std::process::Abort;
 use std::test::Fail;
 use zarrs_array_bytes::ArrayBytes;
-use zarrs_array_to_array::{ArrayToArrayCodec, SqueezeCodec, TransposeCodec};
+use zarrs_array_to_array::{ArrayToArrayCodec, SqueezeCodec};
 use zarrs_chunk::CodecError;
 use zarrs_codec::ArrayToArrayCodecTraits;
 use zarrs_data_type::{DataType, FillValue};
-
-/// Codecs, chunks of elements of so many bytes, and their numbers, chunk and encoded chunk.
-type Row = (Codec, Told<'static>, usize, &'static [u8], &'static [u8]);
-
-const MOVED: &'static [Row] = &[
-    (
-        Codec::Transpose(&[1, 0]),
-        (&[2, 3], Type::Byte, &[0]),
-        1,
-        &[0, 1, 2, 3, 4, 5],
-        &[0, 3, 1, 4, 2, 5],
-    ),
-    (
-        Codec::Transpose(&[0, 2, 1]),
-        (&[2, 2, 2], Type::Long, &[0, 0, 0, 0]),
-        4,
-        &[0, 1, 2, 3, 4, 5, 6, 7],
-        &[0, 2, 1, 3, 4, 6, 5, 7],
-    ),
-    (
-        Codec::Transpose(&[2, 0, 1]),
-        (&[2, 2, 2], Type::Long, &[0, 0, 0, 0]),
-        4,
-        &[0, 2, 1, 3, 4, 6, 5, 7],
-        &[0, 1, 4, 5, 2, 3, 6, 7],
-    ),
-    (
-        Codec::Transpose(&[]),
-        (&[], Type::Word, &[0, 0]),
-        2,
-        &[7],
-        &[7],
-    ),
-    (
-        Codec::Reshape(&[Rest, Of(&[0])]),
-        (&[2, 3], Type::Word, &[0, 0]),
-        2,
-        &[0, 1, 2, 3, 4, 5],
-        &[0, 1, 2, 3, 4, 5],
-    ),
-    (
-        Codec::Squeeze,
-        (&[1, 2, 1, 2], Type::Byte, &[0]),
-        1,
-        &[3, 2, 1, 0],
-        &[3, 2, 1, 0],
-    ),
-];
 
 fn encodes<C: ArrayToArrayCodecTraits>(
     rt: &impl Abort,
@@ -119,203 +69,43 @@ pub(crate) fn moves_chunk<C: ArrayToArrayCodecTraits>(
     moves(rt, alloc, codec, &form, decoded, encoded)
 }
 
-fn moves_numbers<C: ArrayToArrayCodecTraits>(
-    rt: &impl Abort,
-    alloc: Global,
-    codec: &C,
-    told: &Told<'_>,
-    size: usize,
-    decoded: &[u8],
-    encoded: &[u8],
-) -> Result<(), CodecError> {
-    let decoded = numbers(alloc, size, decoded)?;
-    let encoded = numbers(alloc, size, encoded)?;
-    moves_chunk(
-        rt,
-        alloc,
-        codec,
-        told,
-        decoded.as_slice(),
-        encoded.as_slice(),
-    )
-}
+/// The words 0 to 5 in a chunk of `[2, 1, 3]`.
+const WORDS: &'static [u8] = &[0, 0, 1, 0, 2, 0, 3, 0, 4, 0, 5, 0];
 
-fn moves_row(rt: &impl Abort, alloc: Global, row: &Row) -> Result<(), Fail> {
-    let (told, chunk, size, decoded, encoded) = row;
-    let codec = codec_of(alloc, told)?;
-    Ok(moves_numbers(rt, alloc, &codec, chunk, *size, decoded, encoded)?)
-}
+/// The same with the axes turned round.
+const TURNED: &'static [u8] = &[0, 0, 3, 0, 1, 0, 4, 0, 2, 0, 5, 0];
 
-#[test]
-fn elements_are_moved(rt: HostRuntime) -> Result<(), Fail> {
-    for row in MOVED.iter() {
-        moves_row(&rt, rt.alloc(), row)?;
-    }
-    Ok(())
-}
-
-/// The same of each codec by itself.
 fn moves_words<C: ArrayToArrayCodecTraits>(
     rt: &impl Abort,
     alloc: Global,
     codec: &C,
     encoded: &[u8],
 ) -> Result<(), CodecError> {
-    let told: Told<'_> = (&[2, 1, 3], Type::Word, &[0, 0]);
-    moves_numbers(rt, alloc, codec, &told, 2, &[0, 1, 2, 3, 4, 5], encoded)
+    moves_chunk(
+        rt,
+        alloc,
+        codec,
+        &(&[2, 1, 3], Type::Word, &[0, 0]),
+        WORDS,
+        encoded,
+    )
 }
 
 #[test]
 fn an_order_moves_elements(rt: HostRuntime) -> Result<(), Fail> {
     let codec = transpose(rt.alloc(), &[2, 1, 0])?;
-    Ok(moves_words(&rt, rt.alloc(), &codec, &[0, 3, 1, 4, 2, 5])?)
+    Ok(moves_words(&rt, rt.alloc(), &codec, TURNED)?)
 }
 
 #[test]
 fn sizes_move_no_elements(rt: HostRuntime) -> Result<(), Fail> {
     let codec = reshape(rt.alloc(), &[Rest])?;
-    Ok(moves_words(&rt, rt.alloc(), &codec, &[0, 1, 2, 3, 4, 5])?)
+    Ok(moves_words(&rt, rt.alloc(), &codec, WORDS)?)
 }
 
 #[test]
 fn a_squeezing_codec_moves_no_elements(rt: HostRuntime) -> Result<(), Fail> {
-    let numbers: &[u8] = &[0, 1, 2, 3, 4, 5];
-    Ok(moves_words(&rt, rt.alloc(), &SqueezeCodec::new(), numbers)?)
-}
-
-const BYTES: &'static [u8] = &[
-    0, 1, 2, 3, 4, 5, 6, 7, 8, 9, 10, 11, 12, 13, 14, 15, 16, 17, 18, 19, 20, 21, 22, 23,
-];
-
-/// The chunk, encoded and decoded again.
-fn comes_back(
-    rt: &impl Abort,
-    alloc: Global,
-    codec: &ArrayToArrayCodec,
-    form: &ChunkForm,
-    bytes: &[u8],
-) -> Result<(), CodecError> {
-    let encoded = codec.encode(
-        alloc,
-        lent(bytes),
-        &form.shape,
-        &form.data_type,
-        &form.fill_value,
-    )?;
-    decodes(rt, alloc, codec, form, encoded, bytes)
-}
-
-fn comes_back_told(
-    rt: &impl Abort,
-    alloc: Global,
-    codec: &ArrayToArrayCodec,
-    told: &Told<'_>,
-    bytes: &[u8],
-) -> Result<(), CodecError> {
-    let form = chunk_form(alloc, told)?;
-    comes_back(rt, alloc, codec, &form, bytes)
-}
-
-fn restores(
-    rt: &impl Abort,
-    alloc: Global,
-    codec: &Codec,
-    told: &Told<'_>,
-    bytes: &[u8],
-) -> Result<(), Fail> {
-    let codec = codec_of(alloc, codec)?;
-    Ok(comes_back_told(rt, alloc, &codec, told, bytes)?)
-}
-
-#[test]
-fn what_is_encoded_is_decoded(rt: HostRuntime) -> Result<(), Fail> {
-    let alloc = rt.alloc();
-    let told: Told<'_> = (&[2, 2, 3], Type::Byte, &[0]);
-    restores(
-        &rt,
-        alloc,
-        &Codec::Transpose(&[0, 2, 1]),
-        &told,
-        &BYTES[..12],
-    )?;
-    let told: Told<'_> = (&[2, 2, 3], Type::Word, &[0, 0]);
-    restores(&rt, alloc, &Codec::Transpose(&[2, 1, 0]), &told, BYTES)
-}
-
-const WRITTEN: &'static [u8] = b"s00s01as02abs10abcs11abcds12abcde";
-
-const WRITTEN_OFFSETS: &'static [usize] = &[0, 3, 7, 12, 18, 25, 33];
-
-const TURNED: &'static [u8] = b"s00s10abcs01as11abcds02abs12abcde";
-
-const TURNED_OFFSETS: &'static [usize] = &[0, 3, 9, 13, 20, 25, 33];
-
-fn are_texts(
-    rt: &impl Abort,
-    came: &ArrayBytes<'_>,
-    bytes: &[u8],
-    offsets: &[usize],
-) -> Result<(), CodecError> {
-    let (came_bytes, came_offsets) = came.as_variable()?;
-    are(rt, "texts", came_bytes, bytes);
-    are(rt, "offsets", came_offsets.as_slice(), offsets);
-    Ok(())
-}
-
-const TEXT_CHUNK: Told<'static> = (&[2, 3], Type::Text, &[]);
-
-fn turned_texts(
-    alloc: Global,
-    codec: &TransposeCodec,
-    form: &ChunkForm,
-) -> Result<ArrayBytes<'static>, CodecError> {
-    let chunk = texts(alloc, WRITTEN, WRITTEN_OFFSETS)?;
-    codec.encode(alloc, chunk, &form.shape, &form.data_type, &form.fill_value)
-}
-
-fn turns_texts(rt: &impl Abort, alloc: Global, codec: &TransposeCodec) -> Result<(), CodecError> {
-    let form = chunk_form(alloc, &TEXT_CHUNK)?;
-    are_texts(
-        rt,
-        &turned_texts(alloc, codec, &form)?,
-        TURNED,
-        TURNED_OFFSETS,
-    )
-}
-
-#[test]
-fn texts_are_transposed(rt: HostRuntime) -> Result<(), Fail> {
-    let codec = transpose(rt.alloc(), &[1, 0])?;
-    Ok(turns_texts(&rt, rt.alloc(), &codec)?)
-}
-
-fn texts_turned_back(
-    alloc: Global,
-    codec: &TransposeCodec,
-    form: &ChunkForm,
-) -> Result<ArrayBytes<'static>, CodecError> {
-    let chunk = texts(alloc, TURNED, TURNED_OFFSETS)?;
-    codec.decode(alloc, chunk, &form.shape, &form.data_type, &form.fill_value)
-}
-
-fn turns_texts_back(
-    rt: &impl Abort,
-    alloc: Global,
-    codec: &TransposeCodec,
-) -> Result<(), CodecError> {
-    let form = chunk_form(alloc, &TEXT_CHUNK)?;
-    are_texts(
-        rt,
-        &texts_turned_back(alloc, codec, &form)?,
-        WRITTEN,
-        WRITTEN_OFFSETS,
-    )
-}
-
-#[test]
-fn transposed_texts_are_decoded(rt: HostRuntime) -> Result<(), Fail> {
-    let codec = transpose(rt.alloc(), &[1, 0])?;
-    Ok(turns_texts_back(&rt, rt.alloc(), &codec)?)
+    Ok(moves_words(&rt, rt.alloc(), &SqueezeCodec::new(), WORDS)?)
 }
 
 /// What is told of an encoded chunk: another shape, the same type and the same fill value.

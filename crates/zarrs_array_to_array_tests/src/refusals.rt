@@ -6,7 +6,6 @@ use std::test::Fail;
 use zarrs_array_to_array::ArrayToArrayCodec;
 use zarrs_chunk::{CodecError, CodecName};
 use zarrs_codec::ArrayToArrayCodecTraits;
-use zarrs_data_type::DataType;
 
 const TURNED: Codec = Codec::Transpose(&[1, 0]);
 
@@ -86,76 +85,4 @@ fn texts_are_no_bytes(rt: HostRuntime) -> Result<(), Fail> {
     let codec = codec_of(rt.alloc(), &TURNED)?;
     let form = chunk_form(rt.alloc(), &(&[1, 2], Type::Byte, &[0]))?;
     refuses_kind(&rt, rt.alloc(), &codec, &form)
-}
-
-/// Chunks that the order of two axes doesn't take, and why: the type comes before the axes.
-const UNREPRESENTED: &'static [(Told<'static>, CodecError)] = &[
-    ((&[2, 3], Type::OptionalByte, &[0]), UNSUPPORTED),
-    ((&[6], Type::OptionalByte, &[0]), UNSUPPORTED),
-    ((&[6], Type::Byte, &[0]), AXES),
-];
-
-fn represents_not(
-    rt: &impl Abort,
-    alloc: Global,
-    codec: &ArrayToArrayCodec,
-    told: &Told<'_>,
-    cause: CodecError,
-) -> Result<(), Fail> {
-    let form = chunk_form(alloc, told)?;
-    let answer = codec.encoded_representation(
-        alloc,
-        &form.shape,
-        &form.data_type,
-        &form.fill_value,
-    );
-    is_refused(rt, "represented", answer, cause)
-}
-
-fn represents_no_row(
-    rt: &impl Abort,
-    alloc: Global,
-    told: &Told<'_>,
-    cause: CodecError,
-) -> Result<(), Fail> {
-    let codec = codec_of(alloc, &TURNED)?;
-    represents_not(rt, alloc, &codec, told, cause)
-}
-
-#[test]
-fn a_type_is_refused_before_axes(rt: HostRuntime) -> Result<(), Fail> {
-    for (told, cause) in UNREPRESENTED.iter() {
-        represents_no_row(&rt, rt.alloc(), told, *cause)?;
-    }
-    Ok(())
-}
-
-/// What the codec makes of an optional type.
-fn optional_type_of(alloc: Global, codec: &ArrayToArrayCodec) -> Result<DataType, CodecError> {
-    let form = chunk_form(alloc, &(&[2, 3], Type::OptionalByte, &[0]))?;
-    codec.encoded_data_type(alloc, &form.data_type)
-}
-
-fn optional_type_told(alloc: Global, told: &Codec) -> Result<DataType, Fail> {
-    let codec = codec_of(alloc, told)?;
-    Ok(optional_type_of(alloc, &codec)?)
-}
-
-/// The other codecs take optional types.
-#[test]
-fn an_optional_type_is_refused_by_transpose_alone(rt: HostRuntime) -> Result<(), Fail> {
-    let codec = codec_of(rt.alloc(), &TURNED)?;
-    is_refused(
-        &rt,
-        "type",
-        optional_type_of(rt.alloc(), &codec),
-        UNSUPPORTED,
-    )
-}
-
-#[test]
-fn an_optional_type_is_taken_by_others(rt: HostRuntime) -> Result<(), Fail> {
-    optional_type_told(rt.alloc(), &Codec::Squeeze)?;
-    optional_type_told(rt.alloc(), &Codec::Reshape(&[]))?;
-    Ok(())
 }

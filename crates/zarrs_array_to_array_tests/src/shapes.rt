@@ -1,5 +1,5 @@
 use crate::checks::{are, is, is_refused, shape};
-use crate::forms::Size::{Is, Of, Rest};
+use crate::forms::Size::{Of, Rest};
 use crate::forms::{Codec, codec_of, reshape, transpose};
 use std::alloc::Global;
 use std::process::Abort;
@@ -7,52 +7,6 @@ use std::test::Fail;
 use zarrs_array_to_array::{ArrayToArrayCodec, ReshapeCodec, SqueezeCodec, TransposeCodec};
 use zarrs_chunk::{ChunkShape, CodecError};
 use zarrs_codec::{ArrayToArrayCodecTraits, PartialDecoderCapability, PartialEncoderCapability};
-
-const VIDEO: &'static [u64] = &[5, 4, 4, 3];
-
-/// Codecs, the sizes of chunks, and those of the encoded chunks.
-const ENCODED: &'static [(Codec, &'static [u64], &'static [u64])] = &[
-    (
-        Codec::Reshape(&[Of(&[0, 1]), Of(&[2]), Is(3)]),
-        VIDEO,
-        &[20, 4, 3],
-    ),
-    (Codec::Reshape(&[Of(&[0, 1, 2]), Is(3)]), VIDEO, &[80, 3]),
-    (
-        Codec::Reshape(&[Of(&[0]), Rest, Of(&[2, 3])]),
-        VIDEO,
-        &[5, 4, 12],
-    ),
-    (
-        Codec::Reshape(&[Rest, Is(2), Is(2), Of(&[3])]),
-        VIDEO,
-        &[20, 2, 2, 3],
-    ),
-    (
-        Codec::Reshape(&[Of(&[0, 1]), Of(&[2]), Rest]),
-        VIDEO,
-        &[20, 4, 3],
-    ),
-    (
-        Codec::Reshape(&[Of(&[0]), Rest, Of(&[3])]),
-        VIDEO,
-        &[5, 16, 3],
-    ),
-    (Codec::Reshape(&[Of(&[]), Of(&[0])]), &[4], &[1, 4]),
-    (Codec::Reshape(&[]), &[1, 1], &[]),
-    (
-        Codec::Reshape(&[Of(&[2]), Of(&[0, 1])]),
-        &[2, 3, 4],
-        &[4, 6],
-    ),
-    (Codec::Transpose(&[2, 0, 1]), &[2, 3, 4], &[4, 2, 3]),
-    (Codec::Transpose(&[1, 0]), &[2, 3], &[3, 2]),
-    (Codec::Transpose(&[]), &[], &[]),
-    (Codec::Squeeze, &[1, 2, 1, 2, 3], &[2, 2, 3]),
-    (Codec::Squeeze, &[1, 1], &[1]),
-    (Codec::Squeeze, &[1, 4, 1, 4, 1], &[4, 4]),
-    (Codec::Squeeze, &[1, 3], &[3]),
-];
 
 fn has_encoded_shape<C: ArrayToArrayCodecTraits>(
     rt: &impl Abort,
@@ -63,37 +17,6 @@ fn has_encoded_shape<C: ArrayToArrayCodecTraits>(
 ) -> Result<(), CodecError> {
     let encoded = codec.encoded_shape(alloc, decoded)?;
     are(rt, "encoded shape", encoded.as_slice(), wanted);
-    Ok(())
-}
-
-/// The shape of the chunk tells that of the encoded one.
-fn tells_shape(
-    rt: &impl Abort,
-    alloc: Global,
-    codec: &ArrayToArrayCodec,
-    sizes: &[u64],
-    wanted: &[u64],
-) -> Result<(), CodecError> {
-    let decoded = shape(alloc, sizes)?;
-    has_encoded_shape(rt, alloc, codec, &decoded, wanted)
-}
-
-fn tells_shape_told(
-    rt: &impl Abort,
-    alloc: Global,
-    told: &Codec,
-    sizes: &[u64],
-    wanted: &[u64],
-) -> Result<(), Fail> {
-    let codec = codec_of(alloc, told)?;
-    Ok(tells_shape(rt, alloc, &codec, sizes, wanted)?)
-}
-
-#[test]
-fn shapes_are_encoded(rt: HostRuntime) -> Result<(), Fail> {
-    for (told, sizes, wanted) in ENCODED.iter() {
-        tells_shape_told(&rt, rt.alloc(), told, sizes, wanted)?;
-    }
     Ok(())
 }
 
@@ -140,88 +63,6 @@ fn has_decoded_shape_told(
 fn a_transposed_shape_is_decoded(rt: HostRuntime) -> Result<(), Fail> {
     for (told, sizes, wanted) in DECODED.iter() {
         has_decoded_shape_told(&rt, rt.alloc(), told, sizes, *wanted)?;
-    }
-    Ok(())
-}
-
-/// Codecs, sizes of chunks that they don't take, and why.
-const REFUSED: &'static [(Codec, &'static [u64], CodecError)] = &[
-    (
-        Codec::Reshape(&[Rest, Is(2), Is(2), Of(&[4])]),
-        VIDEO,
-        CodecError::ReshapeDimension,
-    ),
-    (
-        Codec::Reshape(&[Is(2), Is(2), Is(2)]),
-        VIDEO,
-        CodecError::ReshapeElements,
-    ),
-    (Codec::Reshape(&[]), &[2], CodecError::ReshapeElements),
-    // Seven elements, and a rest beside pairs.
-    (
-        Codec::Reshape(&[Rest, Is(2)]),
-        &[7],
-        CodecError::ReshapeElements,
-    ),
-    // An axis that is none comes before elements that differ.
-    (
-        Codec::Reshape(&[Is(3), Of(&[1])]),
-        &[2],
-        CodecError::ReshapeDimension,
-    ),
-    (
-        Codec::Reshape(&[Of(&[0, 1])]),
-        &[4294967296, 4294967296],
-        CodecError::Overflow,
-    ),
-    (
-        Codec::Reshape(&[Is(4294967296), Is(4294967296)]),
-        &[2],
-        CodecError::Overflow,
-    ),
-    (
-        Codec::Transpose(&[1, 0]),
-        &[2, 3, 4],
-        CodecError::IncompatibleDimensionality,
-    ),
-    (
-        Codec::Transpose(&[0]),
-        &[],
-        CodecError::IncompatibleDimensionality,
-    ),
-    (
-        Codec::Transpose(&[]),
-        &[1],
-        CodecError::IncompatibleDimensionality,
-    ),
-];
-
-fn refuses_shape(
-    rt: &impl Abort,
-    alloc: Global,
-    codec: &ArrayToArrayCodec,
-    sizes: &[u64],
-    cause: CodecError,
-) -> Result<(), Fail> {
-    let decoded = shape(alloc, sizes)?;
-    is_refused(rt, "shape", codec.encoded_shape(alloc, &decoded), cause)
-}
-
-fn refuses_shape_told(
-    rt: &impl Abort,
-    alloc: Global,
-    told: &Codec,
-    sizes: &[u64],
-    cause: CodecError,
-) -> Result<(), Fail> {
-    let codec = codec_of(alloc, told)?;
-    refuses_shape(rt, alloc, &codec, sizes, cause)
-}
-
-#[test]
-fn shapes_are_refused(rt: HostRuntime) -> Result<(), Fail> {
-    for (told, sizes, cause) in REFUSED.iter() {
-        refuses_shape_told(&rt, rt.alloc(), told, sizes, *cause)?;
     }
     Ok(())
 }

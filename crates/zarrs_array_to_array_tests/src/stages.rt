@@ -1,9 +1,10 @@
+//! Reads through stages, over the reader of an encoded chunk. A stage asks its input for the encoded
+//! indexer, and which one that is stands in the tables of encoded indexers.
+
 use crate::array_input::{ArrayInput, encoded_input};
 use crate::checks::{Asked, has_bytes, indexer, is, is_refused};
 use crate::forms::Size::{Of, Rest};
-use crate::forms::{
-    ChunkForm, Codec, Size, Told, Type, chunk_form, codec_of, numbers, reshape, transpose,
-};
+use crate::forms::{ChunkForm, Codec, Told, Type, chunk_form, codec_of, reshape, transpose};
 use std::alloc::Global;
 use std::borrow::CowSlice;
 use std::process::Abort;
@@ -16,47 +17,32 @@ use zarrs_array_to_array::{
 use zarrs_chunk::{CodecError, CodecName};
 use zarrs_codec::{ArrayPartialDecoderTraits, ArrayToArrayCodecTraits, Refused};
 
-const COUNTED: &'static [u8] = &[
-    0, 1, 2, 3, 4, 5, 6, 7, 8, 9, 10, 11, 12, 13, 14, 15, 16, 17, 18, 19, 20, 21, 22, 23,
-];
+/// A chunk and its bytes.
+type Chunk = (Told<'static>, &'static [u8]);
 
-/// A chunk of elements of so many bytes, their numbers counted from 0.
-type Counted = (Told<'static>, usize, usize);
+const BYTES: Chunk = ((&[2, 3], Type::Byte, &[0]), &[0, 1, 2, 3, 4, 5]);
 
-const BYTES: Counted = ((&[2, 3], Type::Byte, &[0]), 1, 6);
+const WORDS: Chunk = (
+    (&[2, 3], Type::Word, &[0, 0]),
+    &[0, 0, 1, 0, 2, 0, 3, 0, 4, 0, 5, 0],
+);
 
-const SQUARE: Counted = ((&[4, 4], Type::Long, &[0, 0, 0, 0]), 4, 16);
+const LONGS: Chunk = (
+    (&[1, 3], Type::Long, &[0, 0, 0, 0]),
+    &[0, 0, 0, 0, 1, 0, 0, 0, 2, 0, 0, 0],
+);
 
-const WORDS: Counted = ((&[2, 3, 4], Type::Word, &[0, 0]), 2, 24);
-
-const LINES: Counted = ((&[1, 4, 1, 4, 1], Type::Long, &[0, 0, 0, 0]), 4, 16);
-
-const LINE: Counted = ((&[1, 3], Type::Byte, &[0]), 1, 3);
-
-const POINT: Counted = ((&[1, 1], Type::Byte, &[0]), 1, 1);
-
-/// The first so many of some numbers, or all of them where they are fewer.
-fn first(numbers: &[u8], count: usize) -> &[u8] {
-    if count > numbers.len() {
-        return numbers;
-    }
-    &numbers[..count]
-}
+const LINE: Chunk = ((&[1, 3], Type::Byte, &[0]), &[0, 1, 2]);
 
 /// The reader of what the codec makes of such a chunk.
-fn counted_input<C: ArrayToArrayCodecTraits>(
+fn input<C: ArrayToArrayCodecTraits>(
     alloc: Global,
     codec: &C,
     form: &ChunkForm,
-    chunk: &Counted,
+    bytes: &'static [u8],
 ) -> Result<ArrayInput, CodecError> {
-    let bytes = numbers(alloc, chunk.1, first(COUNTED, chunk.2))?;
-    encoded_input(
-        alloc,
-        codec,
-        form,
-        ArrayBytes::new_flen(CowSlice::Owned(bytes)),
-    )
+    let chunk = ArrayBytes::new_flen(CowSlice::Borrowed(bytes));
+    encoded_input(alloc, codec, form, chunk)
 }
 
 /// The stage, or why it wasn't made.
@@ -67,67 +53,64 @@ fn made<D>(answer: Result<D, Refused<ArrayInput>>) -> Result<D, CodecError> {
     }
 }
 
-fn transposed_chunk(
-    alloc: Global,
-    order: &[usize],
-    chunk: &Counted,
-) -> Result<TransposeCodecPartial<ArrayInput>, Fail> {
-    let codec = transpose(alloc, order)?;
-    Ok(transpose_stage(alloc, &codec, &chunk_form(alloc, &chunk.0)?, chunk)?)
-}
-
-fn transpose_stage(
+fn transposing(
     alloc: Global,
     codec: &TransposeCodec,
     form: &ChunkForm,
-    chunk: &Counted,
+    bytes: &'static [u8],
 ) -> Result<TransposeCodecPartial<ArrayInput>, CodecError> {
-    let input = counted_input(alloc, codec, form, chunk)?;
+    let input = input(alloc, codec, form, bytes)?;
     made(codec.partial_decoder(alloc, input, &form.shape, &form.data_type, &form.fill_value))
 }
 
-fn reshaped_chunk(
-    alloc: Global,
-    sizes: &[Size],
-    chunk: &Counted,
-) -> Result<ReshapeCodecPartial<ArrayInput>, Fail> {
-    let codec = reshape(alloc, sizes)?;
-    Ok(reshape_stage(alloc, &codec, &chunk_form(alloc, &chunk.0)?, chunk)?)
-}
-
-fn reshape_stage(
+fn reshaping(
     alloc: Global,
     codec: &ReshapeCodec,
     form: &ChunkForm,
-    chunk: &Counted,
+    bytes: &'static [u8],
 ) -> Result<ReshapeCodecPartial<ArrayInput>, CodecError> {
-    let input = counted_input(alloc, codec, form, chunk)?;
+    let input = input(alloc, codec, form, bytes)?;
     made(codec.partial_decoder(alloc, input, &form.shape, &form.data_type, &form.fill_value))
 }
 
-fn squeezed_chunk(
+fn squeezing(
     alloc: Global,
-    chunk: &Counted,
-) -> Result<SqueezeCodecPartial<ArrayInput>, CodecError> {
-    squeeze_stage(
-        alloc,
-        &SqueezeCodec::new(),
-        &chunk_form(alloc, &chunk.0)?,
-        chunk,
-    )
-}
-
-fn squeeze_stage(
-    alloc: Global,
-    codec: &SqueezeCodec,
     form: &ChunkForm,
-    chunk: &Counted,
+    bytes: &'static [u8],
 ) -> Result<SqueezeCodecPartial<ArrayInput>, CodecError> {
-    let input = counted_input(alloc, codec, form, chunk)?;
+    let codec = SqueezeCodec::new();
+    let input = input(alloc, &codec, form, bytes)?;
     made(codec.partial_decoder(alloc, input, &form.shape, &form.data_type, &form.fill_value))
 }
 
-/// What is asked of a chunk has these numbers, of so many bytes each.
+fn any(
+    alloc: Global,
+    codec: &ArrayToArrayCodec,
+    form: &ChunkForm,
+    bytes: &'static [u8],
+) -> Result<ArrayToArrayCodecPartial<ArrayToArrayCodec, ArrayInput>, CodecError> {
+    let input = input(alloc, codec, form, bytes)?;
+    made(codec.partial_decoder(alloc, input, &form.shape, &form.data_type, &form.fill_value))
+}
+
+fn transposed_bytes(alloc: Global) -> Result<TransposeCodecPartial<ArrayInput>, Fail> {
+    let codec = transpose(alloc, &[1, 0])?;
+    let (told, bytes) = BYTES;
+    Ok(transposing(alloc, &codec, &chunk_form(alloc, &told)?, bytes)?)
+}
+
+fn reshaped_words(alloc: Global) -> Result<ReshapeCodecPartial<ArrayInput>, Fail> {
+    let codec = reshape(alloc, &[Of(&[1]), Of(&[0])])?;
+    let (told, bytes) = WORDS;
+    Ok(reshaping(alloc, &codec, &chunk_form(alloc, &told)?, bytes)?)
+}
+
+fn squeezed(alloc: Global, chunk: &Chunk) -> Result<SqueezeCodecPartial<ArrayInput>, CodecError> {
+    let (told, bytes) = chunk;
+    squeezing(alloc, &chunk_form(alloc, told)?, bytes)
+}
+
+/// What is asked of a chunk has these bytes.
 fn reads<D: ArrayPartialDecoderTraits>(
     rt: &impl Abort,
     alloc: Global,
@@ -138,18 +121,6 @@ fn reads<D: ArrayPartialDecoderTraits>(
     let indexer = indexer(alloc, asked)?;
     let elements = decoder.partial_decode(alloc, &indexer)?;
     has_bytes(rt, "read", &elements, wanted)
-}
-
-fn reads_numbers<D: ArrayPartialDecoderTraits>(
-    rt: &impl Abort,
-    alloc: Global,
-    decoder: &mut D,
-    asked: &Asked<'_>,
-    size: usize,
-    told: &[u8],
-) -> Result<(), CodecError> {
-    let wanted = numbers(alloc, size, told)?;
-    reads(rt, alloc, decoder, asked, wanted.as_slice())
 }
 
 fn refuses<D: ArrayPartialDecoderTraits>(
@@ -163,123 +134,7 @@ fn refuses<D: ArrayPartialDecoderTraits>(
     is_refused(rt, "read", decoder.partial_decode(alloc, &indexer), cause)
 }
 
-/// Chunks, what is asked of them, and its numbers.
-const TRANSPOSED: &'static [(Counted, Asked<'static>, &'static [u8])] = &[
-    (
-        SQUARE,
-        Asked::Ranges(&[0..4, 0..4]),
-        &[0, 1, 2, 3, 4, 5, 6, 7, 8, 9, 10, 11, 12, 13, 14, 15],
-    ),
-    (SQUARE, Asked::Ranges(&[2..4, 0..2]), &[8, 9, 12, 13]),
-    (SQUARE, Asked::Ranges(&[1..3, 1..4]), &[5, 6, 7, 9, 10, 11]),
-    (BYTES, Asked::Tuples(&[&[1, 0], &[0, 2]]), &[3, 2]),
-];
-
-fn reads_transposed(
-    rt: &impl Abort,
-    alloc: Global,
-    chunk: &Counted,
-    asked: &Asked<'_>,
-    wanted: &[u8],
-) -> Result<(), Fail> {
-    let mut stage = transposed_chunk(alloc, &[1, 0], chunk)?;
-    Ok(reads_numbers(rt, alloc, &mut stage, asked, chunk.1, wanted)?)
-}
-
-#[test]
-fn parts_of_transposed_chunks_are_read(rt: HostRuntime) -> Result<(), Fail> {
-    for (chunk, asked, wanted) in TRANSPOSED.iter() {
-        reads_transposed(&rt, rt.alloc(), chunk, asked, wanted)?;
-    }
-    Ok(())
-}
-
-#[test]
-fn parts_of_reshaped_chunks_are_read(rt: HostRuntime) -> Result<(), Fail> {
-    let asked = Asked::Ranges(&[1..2, 1..3, 1..4]);
-    let mut stage = reshaped_chunk(rt.alloc(), &[Of(&[2]), Of(&[0, 1])], &WORDS)?;
-    let wanted: &[u8] = &[17, 18, 19, 21, 22, 23];
-    Ok(reads_numbers(&rt, rt.alloc(), &mut stage, &asked, 2, wanted)?)
-}
-
-/// Chunks, what is asked of them, and its numbers.
-const SQUEEZED: &'static [(Counted, Asked<'static>, &'static [u8])] = &[
-    (
-        LINES,
-        Asked::Ranges(&[0..1, 1..3, 0..1, 1..4, 0..1]),
-        &[5, 6, 7, 9, 10, 11],
-    ),
-    (
-        LINES,
-        Asked::Ranges(&[0..1, 2..4, 0..1, 0..2, 0..1]),
-        &[8, 9, 12, 13],
-    ),
-    (LINE, Asked::Tuples(&[&[0, 2], &[0, 0]]), &[2, 0]),
-    (POINT, Asked::Ranges(&[0..1, 1..1]), &[]),
-];
-
-fn reads_squeezed(
-    rt: &impl Abort,
-    alloc: Global,
-    chunk: &Counted,
-    asked: &Asked<'_>,
-    wanted: &[u8],
-) -> Result<(), CodecError> {
-    let mut stage = squeezed_chunk(alloc, chunk)?;
-    reads_numbers(rt, alloc, &mut stage, asked, chunk.1, wanted)
-}
-
-#[test]
-fn parts_of_squeezed_chunks_are_read(rt: HostRuntime) -> Result<(), Fail> {
-    for (chunk, asked, wanted) in SQUEEZED.iter() {
-        reads_squeezed(&rt, rt.alloc(), chunk, asked, wanted)?;
-    }
-    Ok(())
-}
-
-/// Chunks, what can't be asked of them, and why: it is checked against the shape of the chunk, not of
-/// the encoded one.
-const OUTSIDE: &'static [(Counted, Asked<'static>, CodecError)] = &[
-    (LINE, Asked::Tuples(&[&[1, 0]]), CodecError::OutOfBounds),
-    (POINT, Asked::Ranges(&[0..1, 1..2]), CodecError::OutOfBounds),
-    (
-        LINE,
-        Asked::Ranges(&[0..3]),
-        CodecError::IncompatibleDimensionality,
-    ),
-    (
-        LINE,
-        Asked::Tuples(&[&[2]]),
-        CodecError::IncompatibleDimensionality,
-    ),
-];
-
-fn refuses_squeezed(
-    rt: &impl Abort,
-    alloc: Global,
-    chunk: &Counted,
-    asked: &Asked<'_>,
-    cause: CodecError,
-) -> Result<(), Fail> {
-    refuses(rt, alloc, &mut squeezed_chunk(alloc, chunk)?, asked, cause)
-}
-
-#[test]
-fn parts_outside_squeezed_chunks_are_refused(rt: HostRuntime) -> Result<(), Fail> {
-    for (chunk, asked, cause) in OUTSIDE.iter() {
-        refuses_squeezed(&rt, rt.alloc(), chunk, asked, *cause)?;
-    }
-    Ok(())
-}
-
-#[test]
-fn parts_outside_transposed_chunks_are_refused(rt: HostRuntime) -> Result<(), Fail> {
-    let asked = Asked::Ranges(&[0..3, 0..2]);
-    let mut stage = transposed_chunk(rt.alloc(), &[1, 0], &BYTES)?;
-    refuses(&rt, rt.alloc(), &mut stage, &asked, CodecError::OutOfBounds)
-}
-
-/// What a stage tells without reading.
+/// What a stage tells without reading, of elements of so many bytes.
 fn tells<D: ArrayPartialDecoderTraits>(
     rt: &impl Abort,
     decoder: &mut D,
@@ -293,43 +148,71 @@ fn tells<D: ArrayPartialDecoderTraits>(
 }
 
 #[test]
-fn a_transposed_stage_tells_what_its_input_does(rt: HostRuntime) -> Result<(), Fail> {
-    let mut stage = transposed_chunk(rt.alloc(), &[1, 0], &SQUARE)?;
-    tells(&rt, &mut stage, 4)
+fn a_transposing_stage_reads_the_chunk(rt: HostRuntime) -> Result<(), Fail> {
+    let mut stage = transposed_bytes(rt.alloc())?;
+    let asked = Asked::Tuples(&[&[1, 0], &[0, 2]]);
+    reads(&rt, rt.alloc(), &mut stage, &asked, &[3, 2])?;
+    tells(&rt, &mut stage, 1)
 }
 
 #[test]
-fn a_reshaped_stage_tells_what_its_input_does(rt: HostRuntime) -> Result<(), Fail> {
-    let mut stage = reshaped_chunk(rt.alloc(), &[Rest], &WORDS)?;
+fn a_reshaping_stage_reads_the_chunk(rt: HostRuntime) -> Result<(), Fail> {
+    let mut stage = reshaped_words(rt.alloc())?;
+    let asked = Asked::Ranges(&[0..2, 1..3]);
+    reads(
+        &rt,
+        rt.alloc(),
+        &mut stage,
+        &asked,
+        &[1, 0, 2, 0, 4, 0, 5, 0],
+    )?;
     tells(&rt, &mut stage, 2)
 }
 
 #[test]
-fn a_squeezed_stage_tells_what_its_input_does(rt: HostRuntime) -> Result<(), Fail> {
-    let mut stage = squeezed_chunk(rt.alloc(), &LINE)?;
-    tells(&rt, &mut stage, 1)
+fn a_squeezing_stage_reads_the_chunk(rt: HostRuntime) -> Result<(), Fail> {
+    let mut stage = squeezed(rt.alloc(), &LONGS)?;
+    let asked = Asked::Ranges(&[0..1, 1..3]);
+    reads(
+        &rt,
+        rt.alloc(),
+        &mut stage,
+        &asked,
+        &[1, 0, 0, 0, 2, 0, 0, 0],
+    )?;
+    tells(&rt, &mut stage, 4)
+}
+
+/// What is asked is checked against the shape of the chunk, not of the encoded one.
+#[test]
+fn a_stage_refuses_what_is_outside_the_chunk(rt: HostRuntime) -> Result<(), Fail> {
+    let mut stage = transposed_bytes(rt.alloc())?;
+    let asked = Asked::Ranges(&[0..3, 0..2]);
+    refuses(&rt, rt.alloc(), &mut stage, &asked, CodecError::OutOfBounds)
+}
+
+#[test]
+fn a_stage_refuses_what_has_the_encoded_axes(rt: HostRuntime) -> Result<(), Fail> {
+    let mut stage = squeezed(rt.alloc(), &LINE)?;
+    let cause = CodecError::IncompatibleDimensionality;
+    refuses(&rt, rt.alloc(), &mut stage, &Asked::Ranges(&[0..3]), cause)
 }
 
 /// The input of a transposed chunk reads the encoded one.
 #[test]
 fn a_stage_hands_its_input_out(rt: HostRuntime) -> Result<(), Fail> {
-    let mut input = transposed_chunk(rt.alloc(), &[1, 0], &BYTES)?.into_input();
+    let mut input = transposed_bytes(rt.alloc())?.into_input();
     let row = Asked::Ranges(&[1..2, 0..2]);
     Ok(reads(&rt, rt.alloc(), &mut input, &row, &[1, 4])?)
 }
 
-/// What a refused making answers, over the reader of a line.
-fn no_stage(alloc: Global, form: &ChunkForm) -> Result<Refused<ArrayInput>, Fail> {
-    let codec = transpose(alloc, &[1, 0])?;
-    no_stage_of(alloc, &codec, form)
-}
-
-fn no_stage_of(
+/// The answer where the order of two axes is to make a stage for such a chunk, over the reader of a line.
+fn no_stage(
     alloc: Global,
     codec: &TransposeCodec,
     form: &ChunkForm,
 ) -> Result<Refused<ArrayInput>, Fail> {
-    let input = squeezed_chunk(alloc, &LINE)?.into_input();
+    let input = squeezed(alloc, &LINE)?.into_input();
     let answer = codec.partial_decoder(
         alloc,
         input,
@@ -340,8 +223,12 @@ fn no_stage_of(
     Ok(answer.err().ok_or("a stage was made")?)
 }
 
-/// Chunks of which the order of two axes makes no stage, and why.
+/// Chunks of which the order of two axes makes no stage, and why: the type comes before the axes.
 const UNMADE: &'static [(Told<'static>, CodecError)] = &[
+    (
+        (&[2, 3], Type::OptionalByte, &[0]),
+        CodecError::UnsupportedDataType(CodecName::Transpose),
+    ),
     (
         (&[6], Type::OptionalByte, &[0]),
         CodecError::UnsupportedDataType(CodecName::Transpose),
@@ -352,6 +239,11 @@ const UNMADE: &'static [(Told<'static>, CodecError)] = &[
     ),
 ];
 
+fn no_stage_told(alloc: Global, told: &Told<'_>) -> Result<Refused<ArrayInput>, Fail> {
+    let codec = transpose(alloc, &[1, 0])?;
+    no_stage(alloc, &codec, &chunk_form(alloc, told)?)
+}
+
 /// The cause is this one, and the input that is handed back reads the line.
 fn hands_back(
     rt: &impl Abort,
@@ -360,19 +252,8 @@ fn hands_back(
     cause: CodecError,
 ) -> Result<(), Fail> {
     is_refused::<()>(rt, "stage", Err(refused.error), cause)?;
-    let wanted: &[u8] = &[1, 2];
-    Ok(reads(
-        rt,
-        alloc,
-        &mut refused.handle,
-        &Asked::Ranges(&[1..3]),
-        wanted,
-    )?)
-}
-
-fn no_stage_told(alloc: Global, told: &Told<'_>) -> Result<Refused<ArrayInput>, Fail> {
-    let form = chunk_form(alloc, told)?;
-    no_stage(alloc, &form)
+    let asked = Asked::Ranges(&[1..3]);
+    Ok(reads(rt, alloc, &mut refused.handle, &asked, &[1, 2])?)
 }
 
 fn hands_back_row(
@@ -393,40 +274,27 @@ fn a_refused_stage_hands_its_input_back(rt: HostRuntime) -> Result<(), Fail> {
     Ok(())
 }
 
-fn any_stage(
-    alloc: Global,
-    codec: &ArrayToArrayCodec,
-    form: &ChunkForm,
-) -> Result<ArrayToArrayCodecPartial<ArrayToArrayCodec, ArrayInput>, CodecError> {
-    let input = counted_input(alloc, codec, form, &BYTES)?;
-    made(codec.partial_decoder(alloc, input, &form.shape, &form.data_type, &form.fill_value))
-}
-
 fn reads_through(
     rt: &impl Abort,
     alloc: Global,
     codec: &ArrayToArrayCodec,
 ) -> Result<(), CodecError> {
-    let mut stage = any_stage(alloc, codec, &chunk_form(alloc, &BYTES.0)?)?;
-    reads(
-        rt,
-        alloc,
-        &mut stage,
-        &Asked::Tuples(&[&[1, 0], &[0, 2]]),
-        &[3, 2],
-    )
+    let (told, bytes) = BYTES;
+    let mut stage = any(alloc, codec, &chunk_form(alloc, &told)?, bytes)?;
+    let asked = Asked::Tuples(&[&[1, 0], &[0, 2]]);
+    reads(rt, alloc, &mut stage, &asked, &[3, 2])
 }
+
+const CODECS: &'static [Codec] = &[
+    Codec::Transpose(&[1, 0]),
+    Codec::Reshape(&[Rest]),
+    Codec::Squeeze,
+];
 
 /// The same through the enum of the codecs.
 #[test]
 fn parts_are_read_through_any_codec(rt: HostRuntime) -> Result<(), Fail> {
-    for told in [
-        Codec::Transpose(&[1, 0]),
-        Codec::Reshape(&[Rest]),
-        Codec::Squeeze,
-    ]
-    .iter()
-    {
+    for told in CODECS.iter() {
         reads_through(&rt, rt.alloc(), &codec_of(rt.alloc(), told)?)?;
     }
     Ok(())

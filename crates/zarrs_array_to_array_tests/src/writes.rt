@@ -2,7 +2,7 @@
 
 use crate::checks::{Asked, are, indexer, is, is_refused};
 use crate::forms::Size::Of;
-use crate::forms::{ChunkForm, Codec, Told, Type, chunk_form, codec_of, numbers};
+use crate::forms::{ChunkForm, Codec, Told, Type, chunk_form, codec_of};
 use std::alloc::Global;
 use std::borrow::CowSlice;
 use std::process::Abort;
@@ -221,20 +221,19 @@ fn a_stage_erases_what_its_input_does(rt: HostRuntime) -> Result<(), Fail> {
     Ok(())
 }
 
-/// Words of four bytes each, the highest first.
-fn words(alloc: Global, told: &[u8]) -> Result<Vec<u8>, CodecError> {
-    let mut bytes = Vec::new(alloc);
-    for word in told {
-        bytes.extend_from_slice(&[0, 0, 0, *word])?;
-    }
-    Ok(bytes)
-}
-
-/// A stage over a stage.
+/// A stage over a stage, over a cube of words of four bytes.
 fn nested(alloc: Global, value: &[u8]) -> Result<Stage<Stage<Input>>, Fail> {
     let outer = codec_of(alloc, &Codec::Transpose(&[0, 2, 1]))?;
+    nested_told(alloc, &outer, value)
+}
+
+fn nested_told(
+    alloc: Global,
+    outer: &ArrayToArrayCodec,
+    value: &[u8],
+) -> Result<Stage<Stage<Input>>, Fail> {
     let inner = codec_of(alloc, &Codec::Transpose(&[2, 0, 1]))?;
-    Ok(nested_of(alloc, &outer, &inner, &chunk_form(alloc, &CUBE)?, value)?)
+    Ok(nested_of(alloc, outer, &inner, &chunk_form(alloc, &CUBE)?, value)?)
 }
 
 fn nested_of(
@@ -253,19 +252,22 @@ fn nested_of(
     made(outer.partial_encoder(alloc, below, &form.shape, &form.data_type, &form.fill_value))
 }
 
+/// Words 0, 1, 4, 5, 2, 3, 6 and 7, the highest byte first.
+const BEFORE: &'static [u8] = &[
+    0, 0, 0, 0, 0, 0, 0, 1, 0, 0, 0, 4, 0, 0, 0, 5, 0, 0, 0, 2, 0, 0, 0, 3, 0, 0, 0, 6, 0, 0, 0, 7,
+];
+
+/// The same with 20 for 2 and 60 for 6.
+const AFTER: &'static [u8] = &[
+    0, 0, 0, 0, 0, 0, 0, 1, 0, 0, 0, 4, 0, 0, 0, 5, 0, 0, 0, 20, 0, 0, 0, 3, 0, 0, 0, 60, 0, 0, 0,
+    7,
+];
+
 #[test]
 fn parts_are_written_through_two_codecs(rt: HostRuntime) -> Result<(), Fail> {
-    let before = words(rt.alloc(), &[0, 1, 4, 5, 2, 3, 6, 7])?;
-    let mut stage = nested(rt.alloc(), before.as_slice())?;
-    let bytes = numbers(rt.alloc(), 4, &[20, 60])?;
+    let mut stage = nested(rt.alloc(), BEFORE)?;
     let asked = Asked::Ranges(&[0..2, 1..2, 0..1]);
-    write(rt.alloc(), &mut stage, &asked, bytes.as_slice())?;
-    let after = words(rt.alloc(), &[0, 1, 4, 5, 20, 3, 60, 7])?;
-    is_left(
-        &rt,
-        stage.into_input().into_input(),
-        Some(after.as_slice()),
-        1,
-    );
+    write(rt.alloc(), &mut stage, &asked, &[20, 0, 0, 0, 60, 0, 0, 0])?;
+    is_left(&rt, stage.into_input().into_input(), Some(AFTER), 1);
     Ok(())
 }
