@@ -10,8 +10,6 @@
 #![tactic(auto)]
 
 #[cfg(test)]
-mod array_input;
-#[cfg(test)]
 mod blocks;
 #[cfg(test)]
 mod checks;
@@ -19,6 +17,8 @@ mod checks;
 mod forms;
 #[cfg(test)]
 mod indexers;
+#[cfg(test)]
+mod inputs;
 #[cfg(test)]
 mod metadata;
 #[cfg(test)]

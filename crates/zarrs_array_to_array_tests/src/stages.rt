@@ -1,113 +1,63 @@
-//! Reads through stages, over the reader of an encoded chunk. A stage asks its input for the encoded
-//! indexer, and which one that is stands in the tables of encoded indexers.
+//! Reads through stages. A stage asks its input for the encoded indexer, and which one that is stands
+//! in the tables of encoded indexers; so one example of each stage is enough here.
 
-use crate::array_input::{ArrayInput, encoded_input};
 use crate::checks::{Asked, has_bytes, indexer, is, is_refused};
 use crate::forms::Size::{Of, Rest};
 use crate::forms::{ChunkForm, Codec, Told, Type, chunk_form, codec_of, reshape, transpose};
+use crate::inputs::{Input, input, made};
 use std::alloc::Global;
-use std::borrow::CowSlice;
 use std::process::Abort;
 use std::test::Fail;
-use zarrs_array_bytes::ArrayBytes;
 use zarrs_array_to_array::{
     ArrayToArrayCodec, ArrayToArrayCodecPartial, ReshapeCodec, ReshapeCodecPartial, SqueezeCodec,
     SqueezeCodecPartial, TransposeCodec, TransposeCodecPartial,
 };
 use zarrs_chunk::{CodecError, CodecName};
-use zarrs_codec::{ArrayPartialDecoderTraits, ArrayToArrayCodecTraits, Refused};
+use zarrs_codec::{ArrayPartialDecoderTraits, Refused};
 
-/// A chunk and its bytes.
-type Chunk = (Told<'static>, &'static [u8]);
+/// A chunk, its encoded chunk, and the value of that one.
+type Chunk = (Told<'static>, Told<'static>, &'static [u8]);
 
-const BYTES: Chunk = ((&[2, 3], Type::Byte, &[0]), &[0, 1, 2, 3, 4, 5]);
+/// Two rows of three bytes, transposed.
+const BYTES: Chunk = (
+    (&[2, 3], Type::Byte, &[0]),
+    (&[3, 2], Type::Byte, &[0]),
+    &[0, 3, 1, 4, 2, 5],
+);
 
+/// Two rows of three words, reshaped.
 const WORDS: Chunk = (
     (&[2, 3], Type::Word, &[0, 0]),
-    &[0, 0, 1, 0, 2, 0, 3, 0, 4, 0, 5, 0],
+    (&[3, 2], Type::Word, &[0, 0]),
+    &[0, 0, 0, 1, 0, 2, 0, 3, 0, 4, 0, 5],
 );
 
+/// A row of three numbers of four bytes, squeezed.
 const LONGS: Chunk = (
     (&[1, 3], Type::Long, &[0, 0, 0, 0]),
-    &[0, 0, 0, 0, 1, 0, 0, 0, 2, 0, 0, 0],
+    (&[3], Type::Long, &[0, 0, 0, 0]),
+    &[0, 0, 0, 0, 0, 0, 0, 1, 0, 0, 0, 2],
 );
 
-const LINE: Chunk = ((&[1, 3], Type::Byte, &[0]), &[0, 1, 2]);
+/// The same read through a codec that leaves the axes.
+const PLAIN: Chunk = (
+    (&[2, 3], Type::Byte, &[0]),
+    (&[2, 3], Type::Byte, &[0]),
+    &[0, 1, 2, 3, 4, 5],
+);
 
-/// The reader of what the codec makes of such a chunk.
-fn input<C: ArrayToArrayCodecTraits>(
-    alloc: Global,
-    codec: &C,
-    form: &ChunkForm,
-    bytes: &'static [u8],
-) -> Result<ArrayInput, CodecError> {
-    let chunk = ArrayBytes::new_flen(CowSlice::Borrowed(bytes));
-    encoded_input(alloc, codec, form, chunk)
-}
+const LINE: Told<'static> = (&[3], Type::Byte, &[0]);
 
-/// The stage, or why it wasn't made.
-fn made<D>(answer: Result<D, Refused<ArrayInput>>) -> Result<D, CodecError> {
-    match answer {
-        Ok(stage) => Ok(stage),
-        Err(Refused { error, handle: _ }) => Err(error),
-    }
-}
-
-fn transposing(
-    alloc: Global,
-    codec: &TransposeCodec,
-    form: &ChunkForm,
-    bytes: &'static [u8],
-) -> Result<TransposeCodecPartial<ArrayInput>, CodecError> {
-    let input = input(alloc, codec, form, bytes)?;
-    made(codec.partial_decoder(alloc, input, &form.shape, &form.data_type, &form.fill_value))
-}
-
-fn reshaping(
-    alloc: Global,
-    codec: &ReshapeCodec,
-    form: &ChunkForm,
-    bytes: &'static [u8],
-) -> Result<ReshapeCodecPartial<ArrayInput>, CodecError> {
-    let input = input(alloc, codec, form, bytes)?;
-    made(codec.partial_decoder(alloc, input, &form.shape, &form.data_type, &form.fill_value))
-}
-
-fn squeezing(
-    alloc: Global,
-    form: &ChunkForm,
-    bytes: &'static [u8],
-) -> Result<SqueezeCodecPartial<ArrayInput>, CodecError> {
-    let codec = SqueezeCodec::new();
-    let input = input(alloc, &codec, form, bytes)?;
-    made(codec.partial_decoder(alloc, input, &form.shape, &form.data_type, &form.fill_value))
-}
-
-fn any(
-    alloc: Global,
-    codec: &ArrayToArrayCodec,
-    form: &ChunkForm,
-    bytes: &'static [u8],
-) -> Result<ArrayToArrayCodecPartial<ArrayToArrayCodec, ArrayInput>, CodecError> {
-    let input = input(alloc, codec, form, bytes)?;
-    made(codec.partial_decoder(alloc, input, &form.shape, &form.data_type, &form.fill_value))
-}
-
-fn transposed_bytes(alloc: Global) -> Result<TransposeCodecPartial<ArrayInput>, Fail> {
-    let codec = transpose(alloc, &[1, 0])?;
-    let (told, bytes) = BYTES;
-    Ok(transposing(alloc, &codec, &chunk_form(alloc, &told)?, bytes)?)
-}
-
-fn reshaped_words(alloc: Global) -> Result<ReshapeCodecPartial<ArrayInput>, Fail> {
-    let codec = reshape(alloc, &[Of(&[1]), Of(&[0])])?;
-    let (told, bytes) = WORDS;
-    Ok(reshaping(alloc, &codec, &chunk_form(alloc, &told)?, bytes)?)
-}
-
-fn squeezed(alloc: Global, chunk: &Chunk) -> Result<SqueezeCodecPartial<ArrayInput>, CodecError> {
-    let (told, bytes) = chunk;
-    squeezing(alloc, &chunk_form(alloc, told)?, bytes)
+/// What is asked of a stage's chunk and what comes, in elements of so many bytes; what is refused, since
+/// it is checked against the shape of the chunk and not of the encoded one; and how much the input has.
+#[derive(Clone, Copy)]
+struct Example {
+    asked: Asked<'static>,
+    wanted: &'static [u8],
+    size: usize,
+    outside: Asked<'static>,
+    cause: CodecError,
+    held: usize,
 }
 
 /// What is asked of a chunk has these bytes.
@@ -134,93 +84,117 @@ fn refuses<D: ArrayPartialDecoderTraits>(
     is_refused(rt, "read", decoder.partial_decode(alloc, &indexer), cause)
 }
 
-/// What a stage tells without reading, of elements of so many bytes.
-fn tells<D: ArrayPartialDecoderTraits>(
+/// What a stage reads and refuses, and what it tells without reading.
+fn is_stage<D: ArrayPartialDecoderTraits>(
     rt: &impl Abort,
-    decoder: &mut D,
-    size: usize,
+    alloc: Global,
+    stage: &mut D,
+    example: &Example,
 ) -> Result<(), Fail> {
-    is(rt, "there", &decoder.exists()?, &true);
-    is(rt, "size", &decoder.data_type().fixed_size(), &Some(size));
-    is(rt, "held", &decoder.size_held(), &0);
-    is(rt, "in part", &decoder.supports_partial_decode(), &true);
-    Ok(())
+    is(rt, "there", &stage.exists()?, &true);
+    is(
+        rt,
+        "size",
+        &stage.data_type().fixed_size(),
+        &Some(example.size),
+    );
+    is(rt, "held", &stage.size_held(), &example.held);
+    is(rt, "in part", &stage.supports_partial_decode(), &true);
+    reads(rt, alloc, stage, &example.asked, example.wanted)?;
+    refuses(rt, alloc, stage, &example.outside, example.cause)
+}
+
+fn transposing(
+    alloc: Global,
+    codec: &TransposeCodec,
+    form: &ChunkForm,
+) -> Result<TransposeCodecPartial<Input>, CodecError> {
+    let input = input(alloc, &BYTES.1, Some(BYTES.2))?;
+    made(codec.partial_decoder(alloc, input, &form.shape, &form.data_type, &form.fill_value))
+}
+
+fn transposed(alloc: Global) -> Result<TransposeCodecPartial<Input>, Fail> {
+    let codec = transpose(alloc, &[1, 0])?;
+    Ok(transposing(alloc, &codec, &chunk_form(alloc, &BYTES.0)?)?)
 }
 
 #[test]
 fn a_transposing_stage_reads_the_chunk(rt: HostRuntime) -> Result<(), Fail> {
-    let mut stage = transposed_bytes(rt.alloc())?;
-    let asked = Asked::Tuples(&[&[1, 0], &[0, 2]]);
-    reads(&rt, rt.alloc(), &mut stage, &asked, &[3, 2])?;
-    tells(&rt, &mut stage, 1)
+    let mut stage = transposed(rt.alloc())?;
+    let example = Example {
+        asked: Asked::Tuples(&[&[1, 0], &[0, 2]]),
+        wanted: &[3, 2],
+        size: 1,
+        outside: Asked::Ranges(&[0..3, 0..2]),
+        cause: CodecError::OutOfBounds,
+        held: 6,
+    };
+    is_stage(&rt, rt.alloc(), &mut stage, &example)
+}
+
+fn reshaping(
+    alloc: Global,
+    codec: &ReshapeCodec,
+    form: &ChunkForm,
+) -> Result<ReshapeCodecPartial<Input>, CodecError> {
+    let input = input(alloc, &WORDS.1, Some(WORDS.2))?;
+    made(codec.partial_decoder(alloc, input, &form.shape, &form.data_type, &form.fill_value))
+}
+
+fn reshaped(alloc: Global) -> Result<ReshapeCodecPartial<Input>, Fail> {
+    let codec = reshape(alloc, &[Of(&[1]), Of(&[0])])?;
+    Ok(reshaping(alloc, &codec, &chunk_form(alloc, &WORDS.0)?)?)
 }
 
 #[test]
 fn a_reshaping_stage_reads_the_chunk(rt: HostRuntime) -> Result<(), Fail> {
-    let mut stage = reshaped_words(rt.alloc())?;
-    let asked = Asked::Ranges(&[0..2, 1..3]);
-    reads(
-        &rt,
-        rt.alloc(),
-        &mut stage,
-        &asked,
-        &[1, 0, 2, 0, 4, 0, 5, 0],
-    )?;
-    tells(&rt, &mut stage, 2)
+    let mut stage = reshaped(rt.alloc())?;
+    let example = Example {
+        asked: Asked::Ranges(&[0..2, 1..3]),
+        wanted: &[1, 0, 2, 0, 4, 0, 5, 0],
+        size: 2,
+        outside: Asked::Tuples(&[&[2, 0]]),
+        cause: CodecError::OutOfBounds,
+        held: 12,
+    };
+    is_stage(&rt, rt.alloc(), &mut stage, &example)
 }
 
-#[test]
-fn a_squeezing_stage_reads_the_chunk(rt: HostRuntime) -> Result<(), Fail> {
-    let mut stage = squeezed(rt.alloc(), &LONGS)?;
-    let asked = Asked::Ranges(&[0..1, 1..3]);
-    reads(
-        &rt,
-        rt.alloc(),
-        &mut stage,
-        &asked,
-        &[1, 0, 0, 0, 2, 0, 0, 0],
-    )?;
-    tells(&rt, &mut stage, 4)
-}
-
-/// What is asked is checked against the shape of the chunk, not of the encoded one.
-#[test]
-fn a_stage_refuses_what_is_outside_the_chunk(rt: HostRuntime) -> Result<(), Fail> {
-    let mut stage = transposed_bytes(rt.alloc())?;
-    let asked = Asked::Ranges(&[0..3, 0..2]);
-    refuses(&rt, rt.alloc(), &mut stage, &asked, CodecError::OutOfBounds)
-}
-
-#[test]
-fn a_stage_refuses_what_has_the_encoded_axes(rt: HostRuntime) -> Result<(), Fail> {
-    let mut stage = squeezed(rt.alloc(), &LINE)?;
-    let cause = CodecError::IncompatibleDimensionality;
-    refuses(&rt, rt.alloc(), &mut stage, &Asked::Ranges(&[0..3]), cause)
-}
-
-/// The input of a transposed chunk reads the encoded one.
-#[test]
-fn a_stage_hands_its_input_out(rt: HostRuntime) -> Result<(), Fail> {
-    let mut input = transposed_bytes(rt.alloc())?.into_input();
-    let row = Asked::Ranges(&[1..2, 0..2]);
-    Ok(reads(&rt, rt.alloc(), &mut input, &row, &[1, 4])?)
-}
-
-/// The answer where the order of two axes is to make a stage for such a chunk, over the reader of a line.
-fn no_stage(
-    alloc: Global,
-    codec: &TransposeCodec,
-    form: &ChunkForm,
-) -> Result<Refused<ArrayInput>, Fail> {
-    let input = squeezed(alloc, &LINE)?.into_input();
-    let answer = codec.partial_decoder(
+fn squeezing(alloc: Global, form: &ChunkForm) -> Result<SqueezeCodecPartial<Input>, CodecError> {
+    let input = input(alloc, &LONGS.1, Some(LONGS.2))?;
+    made(SqueezeCodec::new().partial_decoder(
         alloc,
         input,
         &form.shape,
         &form.data_type,
         &form.fill_value,
-    );
-    Ok(answer.err().ok_or("a stage was made")?)
+    ))
+}
+
+fn squeezed(alloc: Global) -> Result<SqueezeCodecPartial<Input>, CodecError> {
+    squeezing(alloc, &chunk_form(alloc, &LONGS.0)?)
+}
+
+#[test]
+fn a_squeezing_stage_reads_the_chunk(rt: HostRuntime) -> Result<(), Fail> {
+    let mut stage = squeezed(rt.alloc())?;
+    let example = Example {
+        asked: Asked::Ranges(&[0..1, 1..3]),
+        wanted: &[1, 0, 0, 0, 2, 0, 0, 0],
+        size: 4,
+        outside: Asked::Ranges(&[0..3]),
+        cause: CodecError::IncompatibleDimensionality,
+        held: 12,
+    };
+    is_stage(&rt, rt.alloc(), &mut stage, &example)
+}
+
+/// The input of a transposed chunk reads the encoded one.
+#[test]
+fn a_stage_hands_its_input_out(rt: HostRuntime) -> Result<(), Fail> {
+    let mut input = transposed(rt.alloc())?.into_input();
+    let row = Asked::Ranges(&[1..2, 0..2]);
+    Ok(reads(&rt, rt.alloc(), &mut input, &row, &[1, 4])?)
 }
 
 /// Chunks of which the order of two axes makes no stage, and why: the type comes before the axes.
@@ -239,7 +213,23 @@ const UNMADE: &'static [(Told<'static>, CodecError)] = &[
     ),
 ];
 
-fn no_stage_told(alloc: Global, told: &Told<'_>) -> Result<Refused<ArrayInput>, Fail> {
+fn no_stage(
+    alloc: Global,
+    codec: &TransposeCodec,
+    form: &ChunkForm,
+) -> Result<Refused<Input>, Fail> {
+    let input = input(alloc, &LINE, Some(&[0, 1, 2]))?;
+    let answer = codec.partial_decoder(
+        alloc,
+        input,
+        &form.shape,
+        &form.data_type,
+        &form.fill_value,
+    );
+    Ok(answer.err().ok_or("a stage was made")?)
+}
+
+fn no_stage_told(alloc: Global, told: &Told<'_>) -> Result<Refused<Input>, Fail> {
     let codec = transpose(alloc, &[1, 0])?;
     no_stage(alloc, &codec, &chunk_form(alloc, told)?)
 }
@@ -248,7 +238,7 @@ fn no_stage_told(alloc: Global, told: &Told<'_>) -> Result<Refused<ArrayInput>, 
 fn hands_back(
     rt: &impl Abort,
     alloc: Global,
-    refused: &mut Refused<ArrayInput>,
+    refused: &mut Refused<Input>,
     cause: CodecError,
 ) -> Result<(), Fail> {
     is_refused::<()>(rt, "stage", Err(refused.error), cause)?;
@@ -274,28 +264,39 @@ fn a_refused_stage_hands_its_input_back(rt: HostRuntime) -> Result<(), Fail> {
     Ok(())
 }
 
+/// Codecs, and chunks of two rows of three bytes.
+const ANY: &'static [(Codec, Chunk)] = &[
+    (Codec::Transpose(&[1, 0]), BYTES),
+    (Codec::Reshape(&[Of(&[0]), Rest]), PLAIN),
+    (Codec::Squeeze, PLAIN),
+];
+
+fn any(
+    alloc: Global,
+    codec: &ArrayToArrayCodec,
+    form: &ChunkForm,
+    chunk: &Chunk,
+) -> Result<ArrayToArrayCodecPartial<ArrayToArrayCodec, Input>, CodecError> {
+    let input = input(alloc, &chunk.1, Some(chunk.2))?;
+    made(codec.partial_decoder(alloc, input, &form.shape, &form.data_type, &form.fill_value))
+}
+
 fn reads_through(
     rt: &impl Abort,
     alloc: Global,
     codec: &ArrayToArrayCodec,
+    chunk: &Chunk,
 ) -> Result<(), CodecError> {
-    let (told, bytes) = BYTES;
-    let mut stage = any(alloc, codec, &chunk_form(alloc, &told)?, bytes)?;
+    let mut stage = any(alloc, codec, &chunk_form(alloc, &chunk.0)?, chunk)?;
     let asked = Asked::Tuples(&[&[1, 0], &[0, 2]]);
     reads(rt, alloc, &mut stage, &asked, &[3, 2])
 }
 
-const CODECS: &'static [Codec] = &[
-    Codec::Transpose(&[1, 0]),
-    Codec::Reshape(&[Rest]),
-    Codec::Squeeze,
-];
-
 /// The same through the enum of the codecs.
 #[test]
 fn parts_are_read_through_any_codec(rt: HostRuntime) -> Result<(), Fail> {
-    for told in CODECS.iter() {
-        reads_through(&rt, rt.alloc(), &codec_of(rt.alloc(), told)?)?;
+    for (told, chunk) in ANY.iter() {
+        reads_through(&rt, rt.alloc(), &codec_of(rt.alloc(), told)?, chunk)?;
     }
     Ok(())
 }

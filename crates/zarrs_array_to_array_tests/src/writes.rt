@@ -3,93 +3,62 @@
 use crate::checks::{Asked, are, indexer, is, is_refused};
 use crate::forms::Size::Of;
 use crate::forms::{ChunkForm, Codec, Told, Type, chunk_form, codec_of};
+use crate::inputs::{Input, input, made};
 use std::alloc::Global;
 use std::borrow::CowSlice;
 use std::process::Abort;
 use std::test::Fail;
 use zarrs_array_bytes::ArrayBytes;
 use zarrs_array_to_array::{ArrayToArrayCodec, ArrayToArrayCodecPartial};
-use zarrs_bytes::{BytesCodec, BytesCodecPartial};
 use zarrs_chunk::CodecError;
-use zarrs_codec::{ArrayPartialEncoderTraits, ArrayToArrayCodecTraits, MemoryHandle, Refused};
+use zarrs_codec::ArrayPartialEncoderTraits;
 
-const BYTES: Told<'static> = (&[2, 3], Type::Byte, &[5]);
+/// A chunk and its encoded chunk.
+type Chunk = (Told<'static>, Told<'static>);
 
-const LINE: Told<'static> = (&[1, 3], Type::Byte, &[0]);
+/// Two rows of three bytes become three of two.
+const BYTES: Chunk = ((&[2, 3], Type::Byte, &[5]), (&[3, 2], Type::Byte, &[5]));
 
-const CUBE: Told<'static> = (&[2, 2, 2], Type::Long, &[0, 0, 0, 0]);
+const LINE: Chunk = ((&[1, 3], Type::Byte, &[0]), (&[3], Type::Byte, &[0]));
+
+/// All transpositions of a cube have its shape.
+const CUBE: Chunk = (
+    (&[2, 2, 2], Type::Long, &[0, 0, 0, 0]),
+    (&[2, 2, 2], Type::Long, &[0, 0, 0, 0]),
+);
 
 const REVERSED: Codec = Codec::Transpose(&[1, 0]);
 
-/// The stage, or why it wasn't made.
-fn made<D, I: Drop>(answer: Result<D, Refused<I>>) -> Result<D, CodecError> {
-    match answer {
-        Ok(stage) => Ok(stage),
-        Err(Refused { error, handle: _ }) => Err(error),
-    }
-}
-
-type Input = BytesCodecPartial<MemoryHandle>;
-
 type Stage<I> = ArrayToArrayCodecPartial<ArrayToArrayCodec, I>;
 
-/// A handle over this value, or over none.
-fn stored(alloc: Global, value: Option<&[u8]>) -> Result<MemoryHandle, CodecError> {
-    match value {
-        None => Ok(MemoryHandle::new()),
-        Some(value) => Ok(MemoryHandle::with_value(value.to_vec(alloc)?)),
-    }
-}
-
-/// The form of what the codec makes of a chunk of this form.
-fn encoded_form<C: ArrayToArrayCodecTraits>(
-    alloc: Global,
-    codec: &C,
-    form: &ChunkForm,
-) -> Result<ChunkForm, CodecError> {
-    let (shape, data_type, fill_value) = codec.encoded_representation(
-        alloc,
-        &form.shape,
-        &form.data_type,
-        &form.fill_value,
-    )?;
-    Ok(ChunkForm {
-        shape,
-        data_type,
-        fill_value,
-    })
-}
-
-/// The coder of chunks of this form in part, big, over this value.
-fn input(alloc: Global, form: &ChunkForm, value: Option<&[u8]>) -> Result<Input, CodecError> {
-    made(BytesCodec::big().partial_encoder(
-        alloc,
-        stored(alloc, value)?,
-        &form.shape,
-        &form.data_type,
-        &form.fill_value,
-    ))
-}
-
-/// The stage of the codec over the coder of what it makes of a chunk of this form.
-fn stage(
+/// The stage of the codec over this input.
+fn stage<I: ArrayPartialEncoderTraits + Drop>(
     alloc: Global,
     codec: &ArrayToArrayCodec,
     form: &ChunkForm,
+    input: I,
+) -> Result<Stage<I>, CodecError> {
+    made(codec.partial_encoder(alloc, input, &form.shape, &form.data_type, &form.fill_value))
+}
+
+fn stage_over(
+    alloc: Global,
+    codec: &ArrayToArrayCodec,
+    chunk: &Chunk,
     value: Option<&[u8]>,
 ) -> Result<Stage<Input>, CodecError> {
-    let input = input(alloc, &encoded_form(alloc, codec, form)?, value)?;
-    made(codec.partial_encoder(alloc, input, &form.shape, &form.data_type, &form.fill_value))
+    let form = chunk_form(alloc, &chunk.0)?;
+    stage(alloc, codec, &form, input(alloc, &chunk.1, value)?)
 }
 
 fn stage_told(
     alloc: Global,
     codec: &Codec,
-    told: &Told<'_>,
+    chunk: &Chunk,
     value: Option<&[u8]>,
 ) -> Result<Stage<Input>, Fail> {
     let codec = codec_of(alloc, codec)?;
-    Ok(stage(alloc, &codec, &chunk_form(alloc, told)?, value)?)
+    Ok(stage_over(alloc, &codec, chunk, value)?)
 }
 
 /// Where elements are written, and their bytes, the lowest of each first.
@@ -116,13 +85,7 @@ fn is_left(rt: &impl Abort, input: Input, value: Option<&[u8]>, calls: u64) {
 }
 
 /// Codecs, chunks, what is stored, what is written, and the value afterwards.
-const WRITES: &'static [(
-    Codec,
-    Told<'static>,
-    Option<&'static [u8]>,
-    Write,
-    &'static [u8],
-)] = &[
+const WRITES: &'static [(Codec, Chunk, Option<&'static [u8]>, Write, &'static [u8])] = &[
     (
         REVERSED,
         BYTES,
@@ -164,12 +127,12 @@ fn writes(
     rt: &impl Abort,
     alloc: Global,
     codec: &Codec,
-    told: &Told<'_>,
+    chunk: &Chunk,
     value: Option<&[u8]>,
     written: &Write,
     after: &[u8],
 ) -> Result<(), Fail> {
-    let mut stage = stage_told(alloc, codec, told, value)?;
+    let mut stage = stage_told(alloc, codec, chunk, value)?;
     write(alloc, &mut stage, &written.0, written.1)?;
     is_left(rt, stage.into_input(), Some(after), 1);
     Ok(())
@@ -177,8 +140,8 @@ fn writes(
 
 #[test]
 fn parts_are_written_through_any_codec(rt: HostRuntime) -> Result<(), Fail> {
-    for (codec, told, value, written, after) in WRITES.iter() {
-        writes(&rt, rt.alloc(), codec, told, *value, written, after)?;
+    for (codec, chunk, value, written, after) in WRITES.iter() {
+        writes(&rt, rt.alloc(), codec, chunk, *value, written, after)?;
     }
     Ok(())
 }
@@ -221,35 +184,11 @@ fn a_stage_erases_what_its_input_does(rt: HostRuntime) -> Result<(), Fail> {
     Ok(())
 }
 
-/// A stage over a stage, over a cube of words of four bytes.
+/// A stage over a stage, over a cube of numbers of four bytes.
 fn nested(alloc: Global, value: &[u8]) -> Result<Stage<Stage<Input>>, Fail> {
-    let outer = codec_of(alloc, &Codec::Transpose(&[0, 2, 1]))?;
-    nested_told(alloc, &outer, value)
-}
-
-fn nested_told(
-    alloc: Global,
-    outer: &ArrayToArrayCodec,
-    value: &[u8],
-) -> Result<Stage<Stage<Input>>, Fail> {
-    let inner = codec_of(alloc, &Codec::Transpose(&[2, 0, 1]))?;
-    Ok(nested_of(alloc, outer, &inner, &chunk_form(alloc, &CUBE)?, value)?)
-}
-
-fn nested_of(
-    alloc: Global,
-    outer: &ArrayToArrayCodec,
-    inner: &ArrayToArrayCodec,
-    form: &ChunkForm,
-    value: &[u8],
-) -> Result<Stage<Stage<Input>>, CodecError> {
-    let below = stage(
-        alloc,
-        inner,
-        &encoded_form(alloc, outer, form)?,
-        Some(value),
-    )?;
-    made(outer.partial_encoder(alloc, below, &form.shape, &form.data_type, &form.fill_value))
+    let codec = codec_of(alloc, &Codec::Transpose(&[0, 2, 1]))?;
+    let below = stage_told(alloc, &Codec::Transpose(&[2, 0, 1]), &CUBE, Some(value))?;
+    Ok(stage(alloc, &codec, &chunk_form(alloc, &CUBE.0)?, below)?)
 }
 
 /// Words 0, 1, 4, 5, 2, 3, 6 and 7, the highest byte first.
