@@ -1,6 +1,6 @@
 use crate::checks::{Asked, are, indexer, is, is_refused, shape};
 use crate::forms::Size::{Of, Rest};
-use crate::forms::{Codec, codec_of, reshape, transpose};
+use crate::forms::{Codec, codec_of};
 use std::alloc::Global;
 use std::process::Abort;
 use std::test::Fail;
@@ -76,17 +76,17 @@ const PLACES: &'static [Row] = &[
     (Codec::Squeeze, &[1, 1], Asked::Ranges(&[0..1, 1..1]), &[]),
 ];
 
-fn asks_for<C: ArrayToArrayCodecTraits>(
+/// The encoded indexer has these places in the encoded chunk.
+pub(crate) fn asks_for<C: ArrayToArrayCodecTraits>(
     rt: &impl Abort,
     alloc: Global,
     codec: &C,
-    sizes: &[u64],
+    decoded: &ChunkShape,
     indexer: &Indexer,
     places: &[u64],
 ) -> Result<(), CodecError> {
-    let decoded = shape(alloc, sizes)?;
-    let encoded = codec.encoded_shape(alloc, &decoded)?;
-    let asked = codec.encoded_indexer(alloc, indexer, &decoded)?;
+    let encoded = codec.encoded_shape(alloc, decoded)?;
+    let asked = codec.encoded_indexer(alloc, indexer, decoded)?;
     has_places(rt, alloc, &asked, &encoded, places)
 }
 
@@ -110,7 +110,9 @@ fn asks_for_row(
     asked: &Asked<'_>,
     places: &[u64],
 ) -> Result<(), CodecError> {
-    asks_for(rt, alloc, codec, sizes, &indexer(alloc, asked)?, places)
+    let decoded = shape(alloc, sizes)?;
+    let indexer = indexer(alloc, asked)?;
+    asks_for(rt, alloc, codec, &decoded, &indexer, places)
 }
 
 fn asks_for_told(rt: &impl Abort, alloc: Global, row: &Row) -> Result<(), Fail> {
@@ -127,49 +129,14 @@ fn encoded_indexers_have_the_places(rt: HostRuntime) -> Result<(), Fail> {
     Ok(())
 }
 
-/// The last row of a chunk of `[2, 1, 3]`.
-const LAST_ROW: Asked<'static> = Asked::Ranges(&[1..2, 0..1, 0..3]);
-
-fn asks_for_last_row<C: ArrayToArrayCodecTraits>(
-    rt: &impl Abort,
-    alloc: Global,
-    codec: &C,
-    places: &[u64],
-) -> Result<(), CodecError> {
-    let row = indexer(alloc, &LAST_ROW)?;
-    asks_for(rt, alloc, codec, &[2, 1, 3], &row, places)
-}
-
-/// The same of each codec by itself.
-#[test]
-fn an_order_has_encoded_indexers(rt: HostRuntime) -> Result<(), Fail> {
-    let codec = transpose(rt.alloc(), &[2, 1, 0])?;
-    Ok(asks_for_last_row(&rt, rt.alloc(), &codec, &[1, 3, 5])?)
-}
-
-#[test]
-fn sizes_have_encoded_indexers(rt: HostRuntime) -> Result<(), Fail> {
-    let codec = reshape(rt.alloc(), &[Rest])?;
-    Ok(asks_for_last_row(&rt, rt.alloc(), &codec, &[3, 4, 5])?)
-}
-
-#[test]
-fn a_squeezing_codec_has_encoded_indexers(rt: HostRuntime) -> Result<(), Fail> {
-    Ok(asks_for_last_row(&rt, rt.alloc(), &SqueezeCodec::new(), &[3, 4, 5])?)
+fn squeezed_row(alloc: Global) -> Result<Indexer, CodecError> {
+    let chunk = shape(alloc, &[2, 1, 3])?;
+    let row = indexer(alloc, &Asked::Ranges(&[1..2, 0..1, 0..3]))?;
+    SqueezeCodec::new().encoded_indexer(alloc, &row, &chunk)
 }
 
 fn is_region(rt: &impl Abort, indexer: &Indexer) {
     is(rt, "region", &matches!(indexer, Indexer::Subset(_)), &true);
-}
-
-fn squeezed(alloc: Global, row: &Indexer) -> Result<Indexer, CodecError> {
-    let chunk = shape(alloc, &[2, 1, 3])?;
-    SqueezeCodec::new().encoded_indexer(alloc, row, &chunk)
-}
-
-fn squeezed_row(alloc: Global) -> Result<Indexer, CodecError> {
-    let row = indexer(alloc, &LAST_ROW)?;
-    squeezed(alloc, &row)
 }
 
 /// A region of a chunk is one of the squeezed chunk.

@@ -12,6 +12,8 @@
 #[cfg(test)]
 mod blocks;
 #[cfg(test)]
+mod by_itself;
+#[cfg(test)]
 mod checks;
 #[cfg(test)]
 mod forms;

@@ -292,11 +292,21 @@ fn reads_through(
     reads(rt, alloc, &mut stage, &asked, &[3, 2])
 }
 
+fn reads_through_told(
+    rt: &impl Abort,
+    alloc: Global,
+    told: &Codec,
+    chunk: &Chunk,
+) -> Result<(), Fail> {
+    let codec = codec_of(alloc, told)?;
+    Ok(reads_through(rt, alloc, &codec, chunk)?)
+}
+
 /// The same through the enum of the codecs.
 #[test]
 fn parts_are_read_through_any_codec(rt: HostRuntime) -> Result<(), Fail> {
     for (told, chunk) in ANY.iter() {
-        reads_through(&rt, rt.alloc(), &codec_of(rt.alloc(), told)?, chunk)?;
+        reads_through_told(&rt, rt.alloc(), told, chunk)?;
     }
     Ok(())
 }
