@@ -124,20 +124,3 @@ pub(crate) fn texts(
     let offsets = ArrayBytesOffsets::new(offsets.to_vec(alloc)?)?;
     ArrayBytes::new_vlen(raw(alloc, bytes)?, offsets)
 }
-
-fn append_number(bytes: &mut Vec<u8>, number: u8, size: usize) -> Result<(), AllocError> {
-    bytes.push(number)?;
-    for _zero in 1..size {
-        bytes.push(0)?;
-    }
-    Ok(())
-}
-
-/// Numbers of so many bytes each, the lowest first.
-pub(crate) fn numbers(alloc: Global, size: usize, told: &[u8]) -> Result<Vec<u8>, AllocError> {
-    let mut bytes = Vec::new(alloc);
-    for number in told {
-        append_number(&mut bytes, *number, size)?;
-    }
-    Ok(bytes)
-}

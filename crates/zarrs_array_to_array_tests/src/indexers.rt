@@ -1,10 +1,10 @@
 use crate::checks::{Asked, are, indexer, is, is_refused, shape};
 use crate::forms::Size::{Of, Rest};
-use crate::forms::{Codec, codec_of, reshape, transpose};
+use crate::forms::{Codec, codec_of};
 use std::alloc::Global;
 use std::process::Abort;
 use std::test::Fail;
-use zarrs_array_to_array::{ArrayToArrayCodec, SqueezeCodec, encoded_places};
+use zarrs_array_to_array::{ArrayToArrayCodec, SqueezeCodec};
 use zarrs_chunk::{ChunkShape, CodecError, Indexer};
 use zarrs_codec::ArrayToArrayCodecTraits;
 
@@ -76,17 +76,17 @@ const PLACES: &'static [Row] = &[
     (Codec::Squeeze, &[1, 1], Asked::Ranges(&[0..1, 1..1]), &[]),
 ];
 
-fn asks_for<C: ArrayToArrayCodecTraits>(
+/// The encoded indexer has these places in the encoded chunk.
+pub(crate) fn asks_for<C: ArrayToArrayCodecTraits>(
     rt: &impl Abort,
     alloc: Global,
     codec: &C,
-    sizes: &[u64],
+    decoded: &ChunkShape,
     indexer: &Indexer,
     places: &[u64],
 ) -> Result<(), CodecError> {
-    let decoded = shape(alloc, sizes)?;
-    let encoded = codec.encoded_shape(alloc, &decoded)?;
-    let asked = codec.encoded_indexer(alloc, indexer, &decoded)?;
+    let encoded = codec.encoded_shape(alloc, decoded)?;
+    let asked = codec.encoded_indexer(alloc, indexer, decoded)?;
     has_places(rt, alloc, &asked, &encoded, places)
 }
 
@@ -110,7 +110,9 @@ fn asks_for_row(
     asked: &Asked<'_>,
     places: &[u64],
 ) -> Result<(), CodecError> {
-    asks_for(rt, alloc, codec, sizes, &indexer(alloc, asked)?, places)
+    let decoded = shape(alloc, sizes)?;
+    let indexer = indexer(alloc, asked)?;
+    asks_for(rt, alloc, codec, &decoded, &indexer, places)
 }
 
 fn asks_for_told(rt: &impl Abort, alloc: Global, row: &Row) -> Result<(), Fail> {
@@ -127,49 +129,14 @@ fn encoded_indexers_have_the_places(rt: HostRuntime) -> Result<(), Fail> {
     Ok(())
 }
 
-/// The last row of a chunk of `[2, 1, 3]`.
-const LAST_ROW: Asked<'static> = Asked::Ranges(&[1..2, 0..1, 0..3]);
-
-fn asks_for_last_row<C: ArrayToArrayCodecTraits>(
-    rt: &impl Abort,
-    alloc: Global,
-    codec: &C,
-    places: &[u64],
-) -> Result<(), CodecError> {
-    let row = indexer(alloc, &LAST_ROW)?;
-    asks_for(rt, alloc, codec, &[2, 1, 3], &row, places)
-}
-
-/// The same of each codec by itself.
-#[test]
-fn an_order_has_encoded_indexers(rt: HostRuntime) -> Result<(), Fail> {
-    let codec = transpose(rt.alloc(), &[2, 1, 0])?;
-    Ok(asks_for_last_row(&rt, rt.alloc(), &codec, &[1, 3, 5])?)
-}
-
-#[test]
-fn sizes_have_encoded_indexers(rt: HostRuntime) -> Result<(), Fail> {
-    let codec = reshape(rt.alloc(), &[Rest])?;
-    Ok(asks_for_last_row(&rt, rt.alloc(), &codec, &[3, 4, 5])?)
-}
-
-#[test]
-fn a_squeezing_codec_has_encoded_indexers(rt: HostRuntime) -> Result<(), Fail> {
-    Ok(asks_for_last_row(&rt, rt.alloc(), &SqueezeCodec::new(), &[3, 4, 5])?)
+fn squeezed_row(alloc: Global) -> Result<Indexer, CodecError> {
+    let chunk = shape(alloc, &[2, 1, 3])?;
+    let row = indexer(alloc, &Asked::Ranges(&[1..2, 0..1, 0..3]))?;
+    SqueezeCodec::new().encoded_indexer(alloc, &row, &chunk)
 }
 
 fn is_region(rt: &impl Abort, indexer: &Indexer) {
     is(rt, "region", &matches!(indexer, Indexer::Subset(_)), &true);
-}
-
-fn squeezed(alloc: Global, row: &Indexer) -> Result<Indexer, CodecError> {
-    let chunk = shape(alloc, &[2, 1, 3])?;
-    SqueezeCodec::new().encoded_indexer(alloc, row, &chunk)
-}
-
-fn squeezed_row(alloc: Global) -> Result<Indexer, CodecError> {
-    let row = indexer(alloc, &LAST_ROW)?;
-    squeezed(alloc, &row)
 }
 
 /// A region of a chunk is one of the squeezed chunk.
@@ -285,93 +252,6 @@ fn refuses_told(rt: &impl Abort, alloc: Global, row: &RefusedRow) -> Result<(), 
 fn indexers_are_refused(rt: HostRuntime) -> Result<(), Fail> {
     for row in REFUSED.iter() {
         refuses_told(&rt, rt.alloc(), row)?;
-    }
-    Ok(())
-}
-
-fn codecs(alloc: Global, told: &[Codec]) -> Result<Vec<ArrayToArrayCodec>, Fail> {
-    let mut made = Vec::new(alloc);
-    for one in told {
-        made.push(codec_of(alloc, one)?)?;
-    }
-    Ok(made)
-}
-
-const CUBE: &'static [u64] = &[2, 2, 2];
-
-const TWICE: &'static [Codec] = &[Codec::Transpose(&[0, 2, 1]), Codec::Transpose(&[2, 0, 1])];
-
-/// Codecs, one after another, sizes of chunks, what is asked of them, and where it goes.
-type ThroughRow = (
-    &'static [Codec],
-    &'static [u64],
-    Asked<'static>,
-    &'static [u64],
-);
-
-const THROUGH: &'static [ThroughRow] = &[
-    (&[], &[2, 3], Asked::Ranges(&[1..2, 0..3]), &[3, 4, 5]),
-    (
-        &[Codec::Transpose(&[1, 0])],
-        &[2, 3],
-        Asked::Ranges(&[0..2, 0..3]),
-        &[0, 2, 4, 1, 3, 5],
-    ),
-    (
-        TWICE,
-        CUBE,
-        Asked::Ranges(&[0..2, 0..2, 0..2]),
-        &[0, 1, 4, 5, 2, 3, 6, 7],
-    ),
-    (TWICE, CUBE, Asked::Ranges(&[0..2, 1..2, 0..1]), &[4, 6]),
-    (
-        &[
-            Codec::Reshape(&[Of(&[1]), Of(&[0])]),
-            Codec::Transpose(&[1, 0]),
-            Codec::Squeeze,
-        ],
-        &[3, 2],
-        Asked::Tuples(&[&[0, 0], &[0, 1], &[2, 1]]),
-        &[0, 2, 5],
-    ),
-];
-
-fn go(
-    rt: &impl Abort,
-    alloc: Global,
-    codecs: &[ArrayToArrayCodec],
-    sizes: &[u64],
-    asked: &Asked<'_>,
-    places: &[u64],
-) -> Result<(), CodecError> {
-    let shape = shape(alloc, sizes)?;
-    let indexer = indexer(alloc, asked)?;
-    go_to(rt, alloc, codecs, &shape, &indexer, places)
-}
-
-fn go_to(
-    rt: &impl Abort,
-    alloc: Global,
-    codecs: &[ArrayToArrayCodec],
-    shape: &ChunkShape,
-    indexer: &Indexer,
-    places: &[u64],
-) -> Result<(), CodecError> {
-    let came = encoded_places(alloc, codecs, shape, indexer)?;
-    are(rt, "places", came.as_slice(), places);
-    Ok(())
-}
-
-fn go_told(rt: &impl Abort, alloc: Global, row: &ThroughRow) -> Result<(), Fail> {
-    let (told, sizes, asked, places) = row;
-    let codecs = codecs(alloc, told)?;
-    Ok(go(rt, alloc, codecs.as_slice(), sizes, asked, places)?)
-}
-
-#[test]
-fn places_go_through_codecs(rt: HostRuntime) -> Result<(), Fail> {
-    for row in THROUGH.iter() {
-        go_told(&rt, rt.alloc(), row)?;
     }
     Ok(())
 }

@@ -10,15 +10,17 @@
 #![tactic(auto)]
 
 #[cfg(test)]
-mod array_input;
-#[cfg(test)]
 mod blocks;
+#[cfg(test)]
+mod by_itself;
 #[cfg(test)]
 mod checks;
 #[cfg(test)]
 mod forms;
 #[cfg(test)]
 mod indexers;
+#[cfg(test)]
+mod inputs;
 #[cfg(test)]
 mod metadata;
 #[cfg(test)]

@@ -1,101 +1,12 @@
 use crate::checks::{are, is, is_refused, shape};
-use crate::forms::Size::{Is, Of, Rest};
+use crate::forms::Size::{Of, Rest};
 use crate::forms::{Codec, codec_of, reshape, transpose};
 use std::alloc::Global;
 use std::process::Abort;
 use std::test::Fail;
-use zarrs_array_to_array::{ArrayToArrayCodec, ReshapeCodec, SqueezeCodec, TransposeCodec};
+use zarrs_array_to_array::{ArrayToArrayCodec, ReshapeCodec, TransposeCodec};
 use zarrs_chunk::{ChunkShape, CodecError};
-use zarrs_codec::{ArrayToArrayCodecTraits, PartialDecoderCapability, PartialEncoderCapability};
-
-const VIDEO: &'static [u64] = &[5, 4, 4, 3];
-
-/// Codecs, the sizes of chunks, and those of the encoded chunks.
-const ENCODED: &'static [(Codec, &'static [u64], &'static [u64])] = &[
-    (
-        Codec::Reshape(&[Of(&[0, 1]), Of(&[2]), Is(3)]),
-        VIDEO,
-        &[20, 4, 3],
-    ),
-    (Codec::Reshape(&[Of(&[0, 1, 2]), Is(3)]), VIDEO, &[80, 3]),
-    (
-        Codec::Reshape(&[Of(&[0]), Rest, Of(&[2, 3])]),
-        VIDEO,
-        &[5, 4, 12],
-    ),
-    (
-        Codec::Reshape(&[Rest, Is(2), Is(2), Of(&[3])]),
-        VIDEO,
-        &[20, 2, 2, 3],
-    ),
-    (
-        Codec::Reshape(&[Of(&[0, 1]), Of(&[2]), Rest]),
-        VIDEO,
-        &[20, 4, 3],
-    ),
-    (
-        Codec::Reshape(&[Of(&[0]), Rest, Of(&[3])]),
-        VIDEO,
-        &[5, 16, 3],
-    ),
-    (Codec::Reshape(&[Of(&[]), Of(&[0])]), &[4], &[1, 4]),
-    (Codec::Reshape(&[]), &[1, 1], &[]),
-    (
-        Codec::Reshape(&[Of(&[2]), Of(&[0, 1])]),
-        &[2, 3, 4],
-        &[4, 6],
-    ),
-    (Codec::Transpose(&[2, 0, 1]), &[2, 3, 4], &[4, 2, 3]),
-    (Codec::Transpose(&[1, 0]), &[2, 3], &[3, 2]),
-    (Codec::Transpose(&[]), &[], &[]),
-    (Codec::Squeeze, &[1, 2, 1, 2, 3], &[2, 2, 3]),
-    (Codec::Squeeze, &[1, 1], &[1]),
-    (Codec::Squeeze, &[1, 4, 1, 4, 1], &[4, 4]),
-    (Codec::Squeeze, &[1, 3], &[3]),
-];
-
-fn has_encoded_shape<C: ArrayToArrayCodecTraits>(
-    rt: &impl Abort,
-    alloc: Global,
-    codec: &C,
-    decoded: &ChunkShape,
-    wanted: &[u64],
-) -> Result<(), CodecError> {
-    let encoded = codec.encoded_shape(alloc, decoded)?;
-    are(rt, "encoded shape", encoded.as_slice(), wanted);
-    Ok(())
-}
-
-/// The shape of the chunk tells that of the encoded one.
-fn tells_shape(
-    rt: &impl Abort,
-    alloc: Global,
-    codec: &ArrayToArrayCodec,
-    sizes: &[u64],
-    wanted: &[u64],
-) -> Result<(), CodecError> {
-    let decoded = shape(alloc, sizes)?;
-    has_encoded_shape(rt, alloc, codec, &decoded, wanted)
-}
-
-fn tells_shape_told(
-    rt: &impl Abort,
-    alloc: Global,
-    told: &Codec,
-    sizes: &[u64],
-    wanted: &[u64],
-) -> Result<(), Fail> {
-    let codec = codec_of(alloc, told)?;
-    Ok(tells_shape(rt, alloc, &codec, sizes, wanted)?)
-}
-
-#[test]
-fn shapes_are_encoded(rt: HostRuntime) -> Result<(), Fail> {
-    for (told, sizes, wanted) in ENCODED.iter() {
-        tells_shape_told(&rt, rt.alloc(), told, sizes, wanted)?;
-    }
-    Ok(())
-}
+use zarrs_codec::ArrayToArrayCodecTraits;
 
 /// Codecs, the sizes of encoded chunks, and those of the chunks where they tell them.
 const DECODED: &'static [(Codec, &'static [u64], Option<&'static [u64]>)] = &[
@@ -113,10 +24,10 @@ fn is_shape(rt: &impl Abort, came: &Option<ChunkShape>, wanted: Option<&[u64]>) 
     }
 }
 
-fn has_decoded_shape<C: ArrayToArrayCodecTraits>(
+fn has_decoded_shape(
     rt: &impl Abort,
     alloc: Global,
-    codec: &C,
+    codec: &ArrayToArrayCodec,
     sizes: &[u64],
     wanted: Option<&[u64]>,
 ) -> Result<(), CodecError> {
@@ -144,88 +55,6 @@ fn a_transposed_shape_is_decoded(rt: HostRuntime) -> Result<(), Fail> {
     Ok(())
 }
 
-/// Codecs, sizes of chunks that they don't take, and why.
-const REFUSED: &'static [(Codec, &'static [u64], CodecError)] = &[
-    (
-        Codec::Reshape(&[Rest, Is(2), Is(2), Of(&[4])]),
-        VIDEO,
-        CodecError::ReshapeDimension,
-    ),
-    (
-        Codec::Reshape(&[Is(2), Is(2), Is(2)]),
-        VIDEO,
-        CodecError::ReshapeElements,
-    ),
-    (Codec::Reshape(&[]), &[2], CodecError::ReshapeElements),
-    // Seven elements, and a rest beside pairs.
-    (
-        Codec::Reshape(&[Rest, Is(2)]),
-        &[7],
-        CodecError::ReshapeElements,
-    ),
-    // An axis that is none comes before elements that differ.
-    (
-        Codec::Reshape(&[Is(3), Of(&[1])]),
-        &[2],
-        CodecError::ReshapeDimension,
-    ),
-    (
-        Codec::Reshape(&[Of(&[0, 1])]),
-        &[4294967296, 4294967296],
-        CodecError::Overflow,
-    ),
-    (
-        Codec::Reshape(&[Is(4294967296), Is(4294967296)]),
-        &[2],
-        CodecError::Overflow,
-    ),
-    (
-        Codec::Transpose(&[1, 0]),
-        &[2, 3, 4],
-        CodecError::IncompatibleDimensionality,
-    ),
-    (
-        Codec::Transpose(&[0]),
-        &[],
-        CodecError::IncompatibleDimensionality,
-    ),
-    (
-        Codec::Transpose(&[]),
-        &[1],
-        CodecError::IncompatibleDimensionality,
-    ),
-];
-
-fn refuses_shape(
-    rt: &impl Abort,
-    alloc: Global,
-    codec: &ArrayToArrayCodec,
-    sizes: &[u64],
-    cause: CodecError,
-) -> Result<(), Fail> {
-    let decoded = shape(alloc, sizes)?;
-    is_refused(rt, "shape", codec.encoded_shape(alloc, &decoded), cause)
-}
-
-fn refuses_shape_told(
-    rt: &impl Abort,
-    alloc: Global,
-    told: &Codec,
-    sizes: &[u64],
-    cause: CodecError,
-) -> Result<(), Fail> {
-    let codec = codec_of(alloc, told)?;
-    refuses_shape(rt, alloc, &codec, sizes, cause)
-}
-
-#[test]
-fn shapes_are_refused(rt: HostRuntime) -> Result<(), Fail> {
-    for (told, sizes, cause) in REFUSED.iter() {
-        refuses_shape_told(&rt, rt.alloc(), told, sizes, *cause)?;
-    }
-    Ok(())
-}
-
 /// An encoded shape of another number of axes than the order is refused.
 #[test]
 fn an_encoded_shape_of_other_axes_is_refused(rt: HostRuntime) -> Result<(), Fail> {
@@ -243,69 +72,13 @@ fn refuses_encoded(rt: &impl Abort, alloc: Global, codec: &ArrayToArrayCodec) ->
     )
 }
 
-/// What each codec can do in part, and that a chunk is best decoded whole.
-fn reads_in_part<C: ArrayToArrayCodecTraits>(
-    rt: &impl Abort,
+/// What the codec makes of a chunk of `[2, 3, 4]`.
+fn encoded_cube<C: ArrayToArrayCodecTraits>(
     alloc: Global,
     codec: &C,
-) -> Result<(), CodecError> {
-    let reads = PartialDecoderCapability {
-        partial_read: true,
-        partial_decode: true,
-    };
-    is(rt, "reads", &codec.partial_decoder_capability(), &reads);
-    let writes = PartialEncoderCapability {
-        partial_encode: true,
-    };
-    is(rt, "writes", &codec.partial_encoder_capability(), &writes);
-    is_decoded_whole(rt, alloc, codec)
-}
-
-fn is_decoded_whole<C: ArrayToArrayCodecTraits>(
-    rt: &impl Abort,
-    alloc: Global,
-    codec: &C,
-) -> Result<(), CodecError> {
-    let chunk = shape(alloc, &[2, 1, 3])?;
-    let together = codec.partial_decode_granularity(alloc, &chunk)?;
-    are(rt, "together", together.as_slice(), &[2, 1, 3]);
-    Ok(())
-}
-
-const CODECS: &'static [Codec] = &[
-    Codec::Transpose(&[2, 0, 1]),
-    Codec::Reshape(&[Rest]),
-    Codec::Squeeze,
-];
-
-fn reads_in_part_told(rt: &impl Abort, alloc: Global, told: &Codec) -> Result<(), Fail> {
-    let codec = codec_of(alloc, told)?;
-    Ok(reads_in_part(rt, alloc, &codec)?)
-}
-
-#[test]
-fn codecs_read_in_part(rt: HostRuntime) -> Result<(), Fail> {
-    for told in CODECS.iter() {
-        reads_in_part_told(&rt, rt.alloc(), told)?;
-    }
-    Ok(())
-}
-
-#[test]
-fn an_order_reads_in_part(rt: HostRuntime) -> Result<(), Fail> {
-    let codec = transpose(rt.alloc(), &[2, 0, 1])?;
-    Ok(reads_in_part(&rt, rt.alloc(), &codec)?)
-}
-
-#[test]
-fn sizes_read_in_part(rt: HostRuntime) -> Result<(), Fail> {
-    let codec = reshape(rt.alloc(), &[Rest])?;
-    Ok(reads_in_part(&rt, rt.alloc(), &codec)?)
-}
-
-#[test]
-fn a_squeezing_codec_reads_in_part(rt: HostRuntime) -> Result<(), Fail> {
-    Ok(reads_in_part(&rt, rt.alloc(), &SqueezeCodec::default())?)
+) -> Result<ChunkShape, CodecError> {
+    let decoded = shape(alloc, &[2, 3, 4])?;
+    codec.encoded_shape(alloc, &decoded)
 }
 
 fn copied_order(alloc: Global) -> Result<TransposeCodec, Fail> {
@@ -321,22 +94,14 @@ fn copied_sizes(alloc: Global) -> Result<ReshapeCodec, Fail> {
 /// A copy does to a shape what the codec does.
 #[test]
 fn a_copied_order_is_equal(rt: HostRuntime) -> Result<(), Fail> {
-    let codec = copied_order(rt.alloc())?;
-    Ok(encodes_cube(&rt, rt.alloc(), &codec, &[4, 2, 3])?)
+    let encoded = encoded_cube(rt.alloc(), &copied_order(rt.alloc())?)?;
+    are(&rt, "shape", encoded.as_slice(), &[4, 2, 3]);
+    Ok(())
 }
 
 #[test]
 fn copied_sizes_are_equal(rt: HostRuntime) -> Result<(), Fail> {
-    let codec = copied_sizes(rt.alloc())?;
-    Ok(encodes_cube(&rt, rt.alloc(), &codec, &[4, 6])?)
-}
-
-fn encodes_cube<C: ArrayToArrayCodecTraits>(
-    rt: &impl Abort,
-    alloc: Global,
-    codec: &C,
-    wanted: &[u64],
-) -> Result<(), CodecError> {
-    let decoded = shape(alloc, &[2, 3, 4])?;
-    has_encoded_shape(rt, alloc, codec, &decoded, wanted)
+    let encoded = encoded_cube(rt.alloc(), &copied_sizes(rt.alloc())?)?;
+    are(&rt, "shape", encoded.as_slice(), &[4, 6]);
+    Ok(())
 }

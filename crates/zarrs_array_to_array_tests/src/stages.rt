@@ -1,133 +1,66 @@
-use crate::array_input::{ArrayInput, encoded_input};
+//! Reads through stages. A stage asks its input for the encoded indexer, and which one that is stands
+//! in the tables of encoded indexers; so one example of each stage is enough here.
+
 use crate::checks::{Asked, has_bytes, indexer, is, is_refused};
 use crate::forms::Size::{Of, Rest};
-use crate::forms::{
-    ChunkForm, Codec, Size, Told, Type, chunk_form, codec_of, numbers, reshape, transpose,
-};
+use crate::forms::{ChunkForm, Codec, Told, Type, chunk_form, codec_of, reshape, transpose};
+use crate::inputs::{Input, input, made};
 use std::alloc::Global;
-use std::borrow::CowSlice;
 use std::process::Abort;
 use std::test::Fail;
-use zarrs_array_bytes::ArrayBytes;
 use zarrs_array_to_array::{
     ArrayToArrayCodec, ArrayToArrayCodecPartial, ReshapeCodec, ReshapeCodecPartial, SqueezeCodec,
     SqueezeCodecPartial, TransposeCodec, TransposeCodecPartial,
 };
 use zarrs_chunk::{CodecError, CodecName};
-use zarrs_codec::{ArrayPartialDecoderTraits, ArrayToArrayCodecTraits, Refused};
+use zarrs_codec::{ArrayPartialDecoderTraits, Refused};
 
-const COUNTED: &'static [u8] = &[
-    0, 1, 2, 3, 4, 5, 6, 7, 8, 9, 10, 11, 12, 13, 14, 15, 16, 17, 18, 19, 20, 21, 22, 23,
-];
+/// A chunk, its encoded chunk, and the value of that one.
+type Chunk = (Told<'static>, Told<'static>, &'static [u8]);
 
-/// A chunk of elements of so many bytes, their numbers counted from 0.
-type Counted = (Told<'static>, usize, usize);
+/// Two rows of three bytes, transposed.
+const BYTES: Chunk = (
+    (&[2, 3], Type::Byte, &[0]),
+    (&[3, 2], Type::Byte, &[0]),
+    &[0, 3, 1, 4, 2, 5],
+);
 
-const BYTES: Counted = ((&[2, 3], Type::Byte, &[0]), 1, 6);
+/// Two rows of three words, reshaped.
+const WORDS: Chunk = (
+    (&[2, 3], Type::Word, &[0, 0]),
+    (&[3, 2], Type::Word, &[0, 0]),
+    &[0, 0, 0, 1, 0, 2, 0, 3, 0, 4, 0, 5],
+);
 
-const SQUARE: Counted = ((&[4, 4], Type::Long, &[0, 0, 0, 0]), 4, 16);
+/// A row of three numbers of four bytes, squeezed.
+const LONGS: Chunk = (
+    (&[1, 3], Type::Long, &[0, 0, 0, 0]),
+    (&[3], Type::Long, &[0, 0, 0, 0]),
+    &[0, 0, 0, 0, 0, 0, 0, 1, 0, 0, 0, 2],
+);
 
-const WORDS: Counted = ((&[2, 3, 4], Type::Word, &[0, 0]), 2, 24);
+/// The same read through a codec that leaves the axes.
+const PLAIN: Chunk = (
+    (&[2, 3], Type::Byte, &[0]),
+    (&[2, 3], Type::Byte, &[0]),
+    &[0, 1, 2, 3, 4, 5],
+);
 
-const LINES: Counted = ((&[1, 4, 1, 4, 1], Type::Long, &[0, 0, 0, 0]), 4, 16);
+const LINE: Told<'static> = (&[3], Type::Byte, &[0]);
 
-const LINE: Counted = ((&[1, 3], Type::Byte, &[0]), 1, 3);
-
-const POINT: Counted = ((&[1, 1], Type::Byte, &[0]), 1, 1);
-
-/// The first so many of some numbers, or all of them where they are fewer.
-fn first(numbers: &[u8], count: usize) -> &[u8] {
-    if count > numbers.len() {
-        return numbers;
-    }
-    &numbers[..count]
+/// What is asked of a stage's chunk and what comes, in elements of so many bytes; what is refused, since
+/// it is checked against the shape of the chunk and not of the encoded one; and how much the input has.
+#[derive(Clone, Copy)]
+struct Example {
+    asked: Asked<'static>,
+    wanted: &'static [u8],
+    size: usize,
+    outside: Asked<'static>,
+    cause: CodecError,
+    held: usize,
 }
 
-/// The reader of what the codec makes of such a chunk.
-fn counted_input<C: ArrayToArrayCodecTraits>(
-    alloc: Global,
-    codec: &C,
-    form: &ChunkForm,
-    chunk: &Counted,
-) -> Result<ArrayInput, CodecError> {
-    let bytes = numbers(alloc, chunk.1, first(COUNTED, chunk.2))?;
-    encoded_input(
-        alloc,
-        codec,
-        form,
-        ArrayBytes::new_flen(CowSlice::Owned(bytes)),
-    )
-}
-
-/// The stage, or why it wasn't made.
-fn made<D>(answer: Result<D, Refused<ArrayInput>>) -> Result<D, CodecError> {
-    match answer {
-        Ok(stage) => Ok(stage),
-        Err(Refused { error, handle: _ }) => Err(error),
-    }
-}
-
-fn transposed_chunk(
-    alloc: Global,
-    order: &[usize],
-    chunk: &Counted,
-) -> Result<TransposeCodecPartial<ArrayInput>, Fail> {
-    let codec = transpose(alloc, order)?;
-    Ok(transpose_stage(alloc, &codec, &chunk_form(alloc, &chunk.0)?, chunk)?)
-}
-
-fn transpose_stage(
-    alloc: Global,
-    codec: &TransposeCodec,
-    form: &ChunkForm,
-    chunk: &Counted,
-) -> Result<TransposeCodecPartial<ArrayInput>, CodecError> {
-    let input = counted_input(alloc, codec, form, chunk)?;
-    made(codec.partial_decoder(alloc, input, &form.shape, &form.data_type, &form.fill_value))
-}
-
-fn reshaped_chunk(
-    alloc: Global,
-    sizes: &[Size],
-    chunk: &Counted,
-) -> Result<ReshapeCodecPartial<ArrayInput>, Fail> {
-    let codec = reshape(alloc, sizes)?;
-    Ok(reshape_stage(alloc, &codec, &chunk_form(alloc, &chunk.0)?, chunk)?)
-}
-
-fn reshape_stage(
-    alloc: Global,
-    codec: &ReshapeCodec,
-    form: &ChunkForm,
-    chunk: &Counted,
-) -> Result<ReshapeCodecPartial<ArrayInput>, CodecError> {
-    let input = counted_input(alloc, codec, form, chunk)?;
-    made(codec.partial_decoder(alloc, input, &form.shape, &form.data_type, &form.fill_value))
-}
-
-fn squeezed_chunk(
-    alloc: Global,
-    chunk: &Counted,
-) -> Result<SqueezeCodecPartial<ArrayInput>, CodecError> {
-    squeeze_stage(
-        alloc,
-        &SqueezeCodec::new(),
-        &chunk_form(alloc, &chunk.0)?,
-        chunk,
-    )
-}
-
-fn squeeze_stage(
-    alloc: Global,
-    codec: &SqueezeCodec,
-    form: &ChunkForm,
-    chunk: &Counted,
-) -> Result<SqueezeCodecPartial<ArrayInput>, CodecError> {
-    let input = counted_input(alloc, codec, form, chunk)?;
-    made(codec.partial_decoder(alloc, input, &form.shape, &form.data_type, &form.fill_value))
-}
-
-/// What is asked of a chunk has these numbers, of so many bytes each.
+/// What is asked of a chunk has these bytes.
 fn reads<D: ArrayPartialDecoderTraits>(
     rt: &impl Abort,
     alloc: Global,
@@ -138,18 +71,6 @@ fn reads<D: ArrayPartialDecoderTraits>(
     let indexer = indexer(alloc, asked)?;
     let elements = decoder.partial_decode(alloc, &indexer)?;
     has_bytes(rt, "read", &elements, wanted)
-}
-
-fn reads_numbers<D: ArrayPartialDecoderTraits>(
-    rt: &impl Abort,
-    alloc: Global,
-    decoder: &mut D,
-    asked: &Asked<'_>,
-    size: usize,
-    told: &[u8],
-) -> Result<(), CodecError> {
-    let wanted = numbers(alloc, size, told)?;
-    reads(rt, alloc, decoder, asked, wanted.as_slice())
 }
 
 fn refuses<D: ArrayPartialDecoderTraits>(
@@ -163,185 +84,125 @@ fn refuses<D: ArrayPartialDecoderTraits>(
     is_refused(rt, "read", decoder.partial_decode(alloc, &indexer), cause)
 }
 
-/// Chunks, what is asked of them, and its numbers.
-const TRANSPOSED: &'static [(Counted, Asked<'static>, &'static [u8])] = &[
-    (
-        SQUARE,
-        Asked::Ranges(&[0..4, 0..4]),
-        &[0, 1, 2, 3, 4, 5, 6, 7, 8, 9, 10, 11, 12, 13, 14, 15],
-    ),
-    (SQUARE, Asked::Ranges(&[2..4, 0..2]), &[8, 9, 12, 13]),
-    (SQUARE, Asked::Ranges(&[1..3, 1..4]), &[5, 6, 7, 9, 10, 11]),
-    (BYTES, Asked::Tuples(&[&[1, 0], &[0, 2]]), &[3, 2]),
-];
-
-fn reads_transposed(
+/// What a stage reads and refuses, and what it tells without reading.
+fn is_stage<D: ArrayPartialDecoderTraits>(
     rt: &impl Abort,
     alloc: Global,
-    chunk: &Counted,
-    asked: &Asked<'_>,
-    wanted: &[u8],
+    stage: &mut D,
+    example: &Example,
 ) -> Result<(), Fail> {
-    let mut stage = transposed_chunk(alloc, &[1, 0], chunk)?;
-    Ok(reads_numbers(rt, alloc, &mut stage, asked, chunk.1, wanted)?)
+    is(rt, "there", &stage.exists()?, &true);
+    is(
+        rt,
+        "size",
+        &stage.data_type().fixed_size(),
+        &Some(example.size),
+    );
+    is(rt, "held", &stage.size_held(), &example.held);
+    is(rt, "in part", &stage.supports_partial_decode(), &true);
+    reads(rt, alloc, stage, &example.asked, example.wanted)?;
+    refuses(rt, alloc, stage, &example.outside, example.cause)
 }
 
-#[test]
-fn parts_of_transposed_chunks_are_read(rt: HostRuntime) -> Result<(), Fail> {
-    for (chunk, asked, wanted) in TRANSPOSED.iter() {
-        reads_transposed(&rt, rt.alloc(), chunk, asked, wanted)?;
-    }
-    Ok(())
-}
-
-#[test]
-fn parts_of_reshaped_chunks_are_read(rt: HostRuntime) -> Result<(), Fail> {
-    let asked = Asked::Ranges(&[1..2, 1..3, 1..4]);
-    let mut stage = reshaped_chunk(rt.alloc(), &[Of(&[2]), Of(&[0, 1])], &WORDS)?;
-    let wanted: &[u8] = &[17, 18, 19, 21, 22, 23];
-    Ok(reads_numbers(&rt, rt.alloc(), &mut stage, &asked, 2, wanted)?)
-}
-
-/// Chunks, what is asked of them, and its numbers.
-const SQUEEZED: &'static [(Counted, Asked<'static>, &'static [u8])] = &[
-    (
-        LINES,
-        Asked::Ranges(&[0..1, 1..3, 0..1, 1..4, 0..1]),
-        &[5, 6, 7, 9, 10, 11],
-    ),
-    (
-        LINES,
-        Asked::Ranges(&[0..1, 2..4, 0..1, 0..2, 0..1]),
-        &[8, 9, 12, 13],
-    ),
-    (LINE, Asked::Tuples(&[&[0, 2], &[0, 0]]), &[2, 0]),
-    (POINT, Asked::Ranges(&[0..1, 1..1]), &[]),
-];
-
-fn reads_squeezed(
-    rt: &impl Abort,
-    alloc: Global,
-    chunk: &Counted,
-    asked: &Asked<'_>,
-    wanted: &[u8],
-) -> Result<(), CodecError> {
-    let mut stage = squeezed_chunk(alloc, chunk)?;
-    reads_numbers(rt, alloc, &mut stage, asked, chunk.1, wanted)
-}
-
-#[test]
-fn parts_of_squeezed_chunks_are_read(rt: HostRuntime) -> Result<(), Fail> {
-    for (chunk, asked, wanted) in SQUEEZED.iter() {
-        reads_squeezed(&rt, rt.alloc(), chunk, asked, wanted)?;
-    }
-    Ok(())
-}
-
-/// Chunks, what can't be asked of them, and why: it is checked against the shape of the chunk, not of
-/// the encoded one.
-const OUTSIDE: &'static [(Counted, Asked<'static>, CodecError)] = &[
-    (LINE, Asked::Tuples(&[&[1, 0]]), CodecError::OutOfBounds),
-    (POINT, Asked::Ranges(&[0..1, 1..2]), CodecError::OutOfBounds),
-    (
-        LINE,
-        Asked::Ranges(&[0..3]),
-        CodecError::IncompatibleDimensionality,
-    ),
-    (
-        LINE,
-        Asked::Tuples(&[&[2]]),
-        CodecError::IncompatibleDimensionality,
-    ),
-];
-
-fn refuses_squeezed(
-    rt: &impl Abort,
-    alloc: Global,
-    chunk: &Counted,
-    asked: &Asked<'_>,
-    cause: CodecError,
-) -> Result<(), Fail> {
-    refuses(rt, alloc, &mut squeezed_chunk(alloc, chunk)?, asked, cause)
-}
-
-#[test]
-fn parts_outside_squeezed_chunks_are_refused(rt: HostRuntime) -> Result<(), Fail> {
-    for (chunk, asked, cause) in OUTSIDE.iter() {
-        refuses_squeezed(&rt, rt.alloc(), chunk, asked, *cause)?;
-    }
-    Ok(())
-}
-
-#[test]
-fn parts_outside_transposed_chunks_are_refused(rt: HostRuntime) -> Result<(), Fail> {
-    let asked = Asked::Ranges(&[0..3, 0..2]);
-    let mut stage = transposed_chunk(rt.alloc(), &[1, 0], &BYTES)?;
-    refuses(&rt, rt.alloc(), &mut stage, &asked, CodecError::OutOfBounds)
-}
-
-/// What a stage tells without reading.
-fn tells<D: ArrayPartialDecoderTraits>(
-    rt: &impl Abort,
-    decoder: &mut D,
-    size: usize,
-) -> Result<(), Fail> {
-    is(rt, "there", &decoder.exists()?, &true);
-    is(rt, "size", &decoder.data_type().fixed_size(), &Some(size));
-    is(rt, "held", &decoder.size_held(), &0);
-    is(rt, "in part", &decoder.supports_partial_decode(), &true);
-    Ok(())
-}
-
-#[test]
-fn a_transposed_stage_tells_what_its_input_does(rt: HostRuntime) -> Result<(), Fail> {
-    let mut stage = transposed_chunk(rt.alloc(), &[1, 0], &SQUARE)?;
-    tells(&rt, &mut stage, 4)
-}
-
-#[test]
-fn a_reshaped_stage_tells_what_its_input_does(rt: HostRuntime) -> Result<(), Fail> {
-    let mut stage = reshaped_chunk(rt.alloc(), &[Rest], &WORDS)?;
-    tells(&rt, &mut stage, 2)
-}
-
-#[test]
-fn a_squeezed_stage_tells_what_its_input_does(rt: HostRuntime) -> Result<(), Fail> {
-    let mut stage = squeezed_chunk(rt.alloc(), &LINE)?;
-    tells(&rt, &mut stage, 1)
-}
-
-/// The input of a transposed chunk reads the encoded one.
-#[test]
-fn a_stage_hands_its_input_out(rt: HostRuntime) -> Result<(), Fail> {
-    let mut input = transposed_chunk(rt.alloc(), &[1, 0], &BYTES)?.into_input();
-    let row = Asked::Ranges(&[1..2, 0..2]);
-    Ok(reads(&rt, rt.alloc(), &mut input, &row, &[1, 4])?)
-}
-
-/// What a refused making answers, over the reader of a line.
-fn no_stage(alloc: Global, form: &ChunkForm) -> Result<Refused<ArrayInput>, Fail> {
-    let codec = transpose(alloc, &[1, 0])?;
-    no_stage_of(alloc, &codec, form)
-}
-
-fn no_stage_of(
+fn transposing(
     alloc: Global,
     codec: &TransposeCodec,
     form: &ChunkForm,
-) -> Result<Refused<ArrayInput>, Fail> {
-    let input = squeezed_chunk(alloc, &LINE)?.into_input();
-    let answer = codec.partial_decoder(
+) -> Result<TransposeCodecPartial<Input>, CodecError> {
+    let input = input(alloc, &BYTES.1, Some(BYTES.2))?;
+    made(codec.partial_decoder(alloc, input, &form.shape, &form.data_type, &form.fill_value))
+}
+
+fn transposed(alloc: Global) -> Result<TransposeCodecPartial<Input>, Fail> {
+    let codec = transpose(alloc, &[1, 0])?;
+    Ok(transposing(alloc, &codec, &chunk_form(alloc, &BYTES.0)?)?)
+}
+
+#[test]
+fn a_transposing_stage_reads_the_chunk(rt: HostRuntime) -> Result<(), Fail> {
+    let mut stage = transposed(rt.alloc())?;
+    let example = Example {
+        asked: Asked::Tuples(&[&[1, 0], &[0, 2]]),
+        wanted: &[3, 2],
+        size: 1,
+        outside: Asked::Ranges(&[0..3, 0..2]),
+        cause: CodecError::OutOfBounds,
+        held: 6,
+    };
+    is_stage(&rt, rt.alloc(), &mut stage, &example)
+}
+
+fn reshaping(
+    alloc: Global,
+    codec: &ReshapeCodec,
+    form: &ChunkForm,
+) -> Result<ReshapeCodecPartial<Input>, CodecError> {
+    let input = input(alloc, &WORDS.1, Some(WORDS.2))?;
+    made(codec.partial_decoder(alloc, input, &form.shape, &form.data_type, &form.fill_value))
+}
+
+fn reshaped(alloc: Global) -> Result<ReshapeCodecPartial<Input>, Fail> {
+    let codec = reshape(alloc, &[Of(&[1]), Of(&[0])])?;
+    Ok(reshaping(alloc, &codec, &chunk_form(alloc, &WORDS.0)?)?)
+}
+
+#[test]
+fn a_reshaping_stage_reads_the_chunk(rt: HostRuntime) -> Result<(), Fail> {
+    let mut stage = reshaped(rt.alloc())?;
+    let example = Example {
+        asked: Asked::Ranges(&[0..2, 1..3]),
+        wanted: &[1, 0, 2, 0, 4, 0, 5, 0],
+        size: 2,
+        outside: Asked::Tuples(&[&[2, 0]]),
+        cause: CodecError::OutOfBounds,
+        held: 12,
+    };
+    is_stage(&rt, rt.alloc(), &mut stage, &example)
+}
+
+fn squeezing(alloc: Global, form: &ChunkForm) -> Result<SqueezeCodecPartial<Input>, CodecError> {
+    let input = input(alloc, &LONGS.1, Some(LONGS.2))?;
+    made(SqueezeCodec::new().partial_decoder(
         alloc,
         input,
         &form.shape,
         &form.data_type,
         &form.fill_value,
-    );
-    Ok(answer.err().ok_or("a stage was made")?)
+    ))
 }
 
-/// Chunks of which the order of two axes makes no stage, and why.
+fn squeezed(alloc: Global) -> Result<SqueezeCodecPartial<Input>, CodecError> {
+    squeezing(alloc, &chunk_form(alloc, &LONGS.0)?)
+}
+
+#[test]
+fn a_squeezing_stage_reads_the_chunk(rt: HostRuntime) -> Result<(), Fail> {
+    let mut stage = squeezed(rt.alloc())?;
+    let example = Example {
+        asked: Asked::Ranges(&[0..1, 1..3]),
+        wanted: &[1, 0, 0, 0, 2, 0, 0, 0],
+        size: 4,
+        outside: Asked::Ranges(&[0..3]),
+        cause: CodecError::IncompatibleDimensionality,
+        held: 12,
+    };
+    is_stage(&rt, rt.alloc(), &mut stage, &example)
+}
+
+/// The input of a transposed chunk reads the encoded one.
+#[test]
+fn a_stage_hands_its_input_out(rt: HostRuntime) -> Result<(), Fail> {
+    let mut input = transposed(rt.alloc())?.into_input();
+    let row = Asked::Ranges(&[1..2, 0..2]);
+    Ok(reads(&rt, rt.alloc(), &mut input, &row, &[1, 4])?)
+}
+
+/// Chunks of which the order of two axes makes no stage, and why: the type comes before the axes.
 const UNMADE: &'static [(Told<'static>, CodecError)] = &[
+    (
+        (&[2, 3], Type::OptionalByte, &[0]),
+        CodecError::UnsupportedDataType(CodecName::Transpose),
+    ),
     (
         (&[6], Type::OptionalByte, &[0]),
         CodecError::UnsupportedDataType(CodecName::Transpose),
@@ -352,27 +213,37 @@ const UNMADE: &'static [(Told<'static>, CodecError)] = &[
     ),
 ];
 
+fn no_stage(
+    alloc: Global,
+    codec: &TransposeCodec,
+    form: &ChunkForm,
+) -> Result<Refused<Input>, Fail> {
+    let input = input(alloc, &LINE, Some(&[0, 1, 2]))?;
+    let answer = codec.partial_decoder(
+        alloc,
+        input,
+        &form.shape,
+        &form.data_type,
+        &form.fill_value,
+    );
+    Ok(answer.err().ok_or("a stage was made")?)
+}
+
+fn no_stage_told(alloc: Global, told: &Told<'_>) -> Result<Refused<Input>, Fail> {
+    let codec = transpose(alloc, &[1, 0])?;
+    no_stage(alloc, &codec, &chunk_form(alloc, told)?)
+}
+
 /// The cause is this one, and the input that is handed back reads the line.
 fn hands_back(
     rt: &impl Abort,
     alloc: Global,
-    refused: &mut Refused<ArrayInput>,
+    refused: &mut Refused<Input>,
     cause: CodecError,
 ) -> Result<(), Fail> {
     is_refused::<()>(rt, "stage", Err(refused.error), cause)?;
-    let wanted: &[u8] = &[1, 2];
-    Ok(reads(
-        rt,
-        alloc,
-        &mut refused.handle,
-        &Asked::Ranges(&[1..3]),
-        wanted,
-    )?)
-}
-
-fn no_stage_told(alloc: Global, told: &Told<'_>) -> Result<Refused<ArrayInput>, Fail> {
-    let form = chunk_form(alloc, told)?;
-    no_stage(alloc, &form)
+    let asked = Asked::Ranges(&[1..3]);
+    Ok(reads(rt, alloc, &mut refused.handle, &asked, &[1, 2])?)
 }
 
 fn hands_back_row(
@@ -393,12 +264,20 @@ fn a_refused_stage_hands_its_input_back(rt: HostRuntime) -> Result<(), Fail> {
     Ok(())
 }
 
-fn any_stage(
+/// Codecs, and chunks of two rows of three bytes.
+const ANY: &'static [(Codec, Chunk)] = &[
+    (Codec::Transpose(&[1, 0]), BYTES),
+    (Codec::Reshape(&[Of(&[0]), Rest]), PLAIN),
+    (Codec::Squeeze, PLAIN),
+];
+
+fn any(
     alloc: Global,
     codec: &ArrayToArrayCodec,
     form: &ChunkForm,
-) -> Result<ArrayToArrayCodecPartial<ArrayToArrayCodec, ArrayInput>, CodecError> {
-    let input = counted_input(alloc, codec, form, &BYTES)?;
+    chunk: &Chunk,
+) -> Result<ArrayToArrayCodecPartial<ArrayToArrayCodec, Input>, CodecError> {
+    let input = input(alloc, &chunk.1, Some(chunk.2))?;
     made(codec.partial_decoder(alloc, input, &form.shape, &form.data_type, &form.fill_value))
 }
 
@@ -406,28 +285,28 @@ fn reads_through(
     rt: &impl Abort,
     alloc: Global,
     codec: &ArrayToArrayCodec,
+    chunk: &Chunk,
 ) -> Result<(), CodecError> {
-    let mut stage = any_stage(alloc, codec, &chunk_form(alloc, &BYTES.0)?)?;
-    reads(
-        rt,
-        alloc,
-        &mut stage,
-        &Asked::Tuples(&[&[1, 0], &[0, 2]]),
-        &[3, 2],
-    )
+    let mut stage = any(alloc, codec, &chunk_form(alloc, &chunk.0)?, chunk)?;
+    let asked = Asked::Tuples(&[&[1, 0], &[0, 2]]);
+    reads(rt, alloc, &mut stage, &asked, &[3, 2])
+}
+
+fn reads_through_told(
+    rt: &impl Abort,
+    alloc: Global,
+    told: &Codec,
+    chunk: &Chunk,
+) -> Result<(), Fail> {
+    let codec = codec_of(alloc, told)?;
+    Ok(reads_through(rt, alloc, &codec, chunk)?)
 }
 
 /// The same through the enum of the codecs.
 #[test]
 fn parts_are_read_through_any_codec(rt: HostRuntime) -> Result<(), Fail> {
-    for told in [
-        Codec::Transpose(&[1, 0]),
-        Codec::Reshape(&[Rest]),
-        Codec::Squeeze,
-    ]
-    .iter()
-    {
-        reads_through(&rt, rt.alloc(), &codec_of(rt.alloc(), told)?)?;
+    for (told, chunk) in ANY.iter() {
+        reads_through_told(&rt, rt.alloc(), told, chunk)?;
     }
     Ok(())
 }

@@ -2,94 +2,63 @@
 
 use crate::checks::{Asked, are, indexer, is, is_refused};
 use crate::forms::Size::Of;
-use crate::forms::{ChunkForm, Codec, Told, Type, chunk_form, codec_of, numbers};
+use crate::forms::{ChunkForm, Codec, Told, Type, chunk_form, codec_of};
+use crate::inputs::{Input, input, made};
 use std::alloc::Global;
 use std::borrow::CowSlice;
 use std::process::Abort;
 use std::test::Fail;
 use zarrs_array_bytes::ArrayBytes;
 use zarrs_array_to_array::{ArrayToArrayCodec, ArrayToArrayCodecPartial};
-use zarrs_bytes::{BytesCodec, BytesCodecPartial};
 use zarrs_chunk::CodecError;
-use zarrs_codec::{ArrayPartialEncoderTraits, ArrayToArrayCodecTraits, MemoryHandle, Refused};
+use zarrs_codec::ArrayPartialEncoderTraits;
 
-const BYTES: Told<'static> = (&[2, 3], Type::Byte, &[5]);
+/// A chunk and its encoded chunk.
+type Chunk = (Told<'static>, Told<'static>);
 
-const LINE: Told<'static> = (&[1, 3], Type::Byte, &[0]);
+/// Two rows of three bytes become three of two.
+const BYTES: Chunk = ((&[2, 3], Type::Byte, &[5]), (&[3, 2], Type::Byte, &[5]));
 
-const CUBE: Told<'static> = (&[2, 2, 2], Type::Long, &[0, 0, 0, 0]);
+const LINE: Chunk = ((&[1, 3], Type::Byte, &[0]), (&[3], Type::Byte, &[0]));
+
+/// All transpositions of a cube have its shape.
+const CUBE: Chunk = (
+    (&[2, 2, 2], Type::Long, &[0, 0, 0, 0]),
+    (&[2, 2, 2], Type::Long, &[0, 0, 0, 0]),
+);
 
 const REVERSED: Codec = Codec::Transpose(&[1, 0]);
 
-/// The stage, or why it wasn't made.
-fn made<D, I: Drop>(answer: Result<D, Refused<I>>) -> Result<D, CodecError> {
-    match answer {
-        Ok(stage) => Ok(stage),
-        Err(Refused { error, handle: _ }) => Err(error),
-    }
-}
-
-type Input = BytesCodecPartial<MemoryHandle>;
-
 type Stage<I> = ArrayToArrayCodecPartial<ArrayToArrayCodec, I>;
 
-/// A handle over this value, or over none.
-fn stored(alloc: Global, value: Option<&[u8]>) -> Result<MemoryHandle, CodecError> {
-    match value {
-        None => Ok(MemoryHandle::new()),
-        Some(value) => Ok(MemoryHandle::with_value(value.to_vec(alloc)?)),
-    }
-}
-
-/// The form of what the codec makes of a chunk of this form.
-fn encoded_form<C: ArrayToArrayCodecTraits>(
-    alloc: Global,
-    codec: &C,
-    form: &ChunkForm,
-) -> Result<ChunkForm, CodecError> {
-    let (shape, data_type, fill_value) = codec.encoded_representation(
-        alloc,
-        &form.shape,
-        &form.data_type,
-        &form.fill_value,
-    )?;
-    Ok(ChunkForm {
-        shape,
-        data_type,
-        fill_value,
-    })
-}
-
-/// The coder of chunks of this form in part, big, over this value.
-fn input(alloc: Global, form: &ChunkForm, value: Option<&[u8]>) -> Result<Input, CodecError> {
-    made(BytesCodec::big().partial_encoder(
-        alloc,
-        stored(alloc, value)?,
-        &form.shape,
-        &form.data_type,
-        &form.fill_value,
-    ))
-}
-
-/// The stage of the codec over the coder of what it makes of a chunk of this form.
-fn stage(
+/// The stage of the codec over this input.
+fn stage<I: ArrayPartialEncoderTraits + Drop>(
     alloc: Global,
     codec: &ArrayToArrayCodec,
     form: &ChunkForm,
+    input: I,
+) -> Result<Stage<I>, CodecError> {
+    made(codec.partial_encoder(alloc, input, &form.shape, &form.data_type, &form.fill_value))
+}
+
+fn stage_over(
+    alloc: Global,
+    codec: &ArrayToArrayCodec,
+    chunk: &Chunk,
     value: Option<&[u8]>,
 ) -> Result<Stage<Input>, CodecError> {
-    let input = input(alloc, &encoded_form(alloc, codec, form)?, value)?;
-    made(codec.partial_encoder(alloc, input, &form.shape, &form.data_type, &form.fill_value))
+    let form = chunk_form(alloc, &chunk.0)?;
+    stage(alloc, codec, &form, input(alloc, &chunk.1, value)?)
 }
 
 fn stage_told(
     alloc: Global,
     codec: &Codec,
-    told: &Told<'_>,
+    chunk: &Chunk,
     value: Option<&[u8]>,
 ) -> Result<Stage<Input>, Fail> {
     let codec = codec_of(alloc, codec)?;
-    Ok(stage(alloc, &codec, &chunk_form(alloc, told)?, value)?)
+    Ok(stage_over(alloc, &codec, chunk, value)?)
 }
 
 /// Where elements are written, and their bytes, the lowest of each first.
@@ -116,13 +85,7 @@ fn is_left(rt: &impl Abort, input: Input, value: Option<&[u8]>, calls: u64) {
 }
 
 /// Codecs, chunks, what is stored, what is written, and the value afterwards.
-const WRITES: &'static [(
-    Codec,
-    Told<'static>,
-    Option<&'static [u8]>,
-    Write,
-    &'static [u8],
-)] = &[
+const WRITES: &'static [(Codec, Chunk, Option<&'static [u8]>, Write, &'static [u8])] = &[
     (
         REVERSED,
         BYTES,
@@ -164,12 +127,12 @@ fn writes(
     rt: &impl Abort,
     alloc: Global,
     codec: &Codec,
-    told: &Told<'_>,
+    chunk: &Chunk,
     value: Option<&[u8]>,
     written: &Write,
     after: &[u8],
 ) -> Result<(), Fail> {
-    let mut stage = stage_told(alloc, codec, told, value)?;
+    let mut stage = stage_told(alloc, codec, chunk, value)?;
     write(alloc, &mut stage, &written.0, written.1)?;
     is_left(rt, stage.into_input(), Some(after), 1);
     Ok(())
@@ -177,8 +140,8 @@ fn writes(
 
 #[test]
 fn parts_are_written_through_any_codec(rt: HostRuntime) -> Result<(), Fail> {
-    for (codec, told, value, written, after) in WRITES.iter() {
-        writes(&rt, rt.alloc(), codec, told, *value, written, after)?;
+    for (codec, chunk, value, written, after) in WRITES.iter() {
+        writes(&rt, rt.alloc(), codec, chunk, *value, written, after)?;
     }
     Ok(())
 }
@@ -221,51 +184,29 @@ fn a_stage_erases_what_its_input_does(rt: HostRuntime) -> Result<(), Fail> {
     Ok(())
 }
 
-/// Words of four bytes each, the highest first.
-fn words(alloc: Global, told: &[u8]) -> Result<Vec<u8>, CodecError> {
-    let mut bytes = Vec::new(alloc);
-    for word in told {
-        bytes.extend_from_slice(&[0, 0, 0, *word])?;
-    }
-    Ok(bytes)
-}
-
-/// A stage over a stage.
+/// A stage over a stage, over a cube of numbers of four bytes.
 fn nested(alloc: Global, value: &[u8]) -> Result<Stage<Stage<Input>>, Fail> {
-    let outer = codec_of(alloc, &Codec::Transpose(&[0, 2, 1]))?;
-    let inner = codec_of(alloc, &Codec::Transpose(&[2, 0, 1]))?;
-    Ok(nested_of(alloc, &outer, &inner, &chunk_form(alloc, &CUBE)?, value)?)
+    let codec = codec_of(alloc, &Codec::Transpose(&[0, 2, 1]))?;
+    let below = stage_told(alloc, &Codec::Transpose(&[2, 0, 1]), &CUBE, Some(value))?;
+    Ok(stage(alloc, &codec, &chunk_form(alloc, &CUBE.0)?, below)?)
 }
 
-fn nested_of(
-    alloc: Global,
-    outer: &ArrayToArrayCodec,
-    inner: &ArrayToArrayCodec,
-    form: &ChunkForm,
-    value: &[u8],
-) -> Result<Stage<Stage<Input>>, CodecError> {
-    let below = stage(
-        alloc,
-        inner,
-        &encoded_form(alloc, outer, form)?,
-        Some(value),
-    )?;
-    made(outer.partial_encoder(alloc, below, &form.shape, &form.data_type, &form.fill_value))
-}
+/// Words 0, 1, 4, 5, 2, 3, 6 and 7, the highest byte first.
+const BEFORE: &'static [u8] = &[
+    0, 0, 0, 0, 0, 0, 0, 1, 0, 0, 0, 4, 0, 0, 0, 5, 0, 0, 0, 2, 0, 0, 0, 3, 0, 0, 0, 6, 0, 0, 0, 7,
+];
+
+/// The same with 20 for 2 and 60 for 6.
+const AFTER: &'static [u8] = &[
+    0, 0, 0, 0, 0, 0, 0, 1, 0, 0, 0, 4, 0, 0, 0, 5, 0, 0, 0, 20, 0, 0, 0, 3, 0, 0, 0, 60, 0, 0, 0,
+    7,
+];
 
 #[test]
 fn parts_are_written_through_two_codecs(rt: HostRuntime) -> Result<(), Fail> {
-    let before = words(rt.alloc(), &[0, 1, 4, 5, 2, 3, 6, 7])?;
-    let mut stage = nested(rt.alloc(), before.as_slice())?;
-    let bytes = numbers(rt.alloc(), 4, &[20, 60])?;
+    let mut stage = nested(rt.alloc(), BEFORE)?;
     let asked = Asked::Ranges(&[0..2, 1..2, 0..1]);
-    write(rt.alloc(), &mut stage, &asked, bytes.as_slice())?;
-    let after = words(rt.alloc(), &[0, 1, 4, 5, 20, 3, 60, 7])?;
-    is_left(
-        &rt,
-        stage.into_input().into_input(),
-        Some(after.as_slice()),
-        1,
-    );
+    write(rt.alloc(), &mut stage, &asked, &[20, 0, 0, 0, 60, 0, 0, 0])?;
+    is_left(&rt, stage.into_input().into_input(), Some(AFTER), 1);
     Ok(())
 }
