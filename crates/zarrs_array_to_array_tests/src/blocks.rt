@@ -96,13 +96,13 @@ fn moved(alloc: Global, axes: [Axis; 3], size: u64) -> Result<Vec<u8>, AllocErro
 
 /// The axes of a chunk, in its own order.
 fn axes(row: &Row) -> [Axis; 3] {
-    let ([planes, rows, columns], _, fill) = row;
-    let size = fill.len() as u64;
+    let [planes, rows, columns] = row.0;
+    let size = row.2.len() as u64;
     let length = columns.wrapping_mul(size);
     [
-        (*planes, rows.wrapping_mul(length)),
-        (*rows, length),
-        (*columns, size),
+        (planes, rows.wrapping_mul(length)),
+        (rows, length),
+        (columns, size),
     ]
 }
 
