@@ -1,5 +1,6 @@
 -- What the loop over the commands keeps, and how a run ends.
 use Rattle.std.proofs.Common.{◌≡◌, ◌∙◌, ℕ, List, [], ◌∷◌, ◌++◌, Option, Some, None, IfSome, MatchBool, Bool, true, false, Result, Ok, Err, inl, inr, refl, sym, ap, subst, append_assoc, append-nil}
+use Rattle.std.proofs.lemmas.Bool.{false≢true}
 use Rattle.std.specs.Io.KnownBytes.{Appends, Keeps}
 use Rattle.zarrs_chunk.specs.Answer.{Excused, seen}
 use Rattle.zarrs_chunk.specs.declared.codec_error.CodecError.TheVariants.{OutOfMemory}
@@ -94,7 +95,7 @@ reply-given now next line reply h = inl (sym (ap (reply_of now) h))
 error_line-memory : (refusal : Refusal) → wants_memory refusal ≡ true → error_line refusal ≡ out_of_memory
 error_line-memory (Making NoMemory) h = refl
 error_line-memory (Codec OutOfMemory) h = refl
-error_line-memory _ h = absurd (cc)
+error_line-memory _ h = absurd (false≢true h)
 
 refused_by : (b : Bool) (now : State) (line : List ℕ) (refusal : Refusal) → wants_memory refusal ≡ b → Excused b (answer_to now line ≡ Err refusal) → IsReply now line (error_line refusal) now
 refused_by true now line refusal is h = inr (error_line-memory refusal is, refl)

@@ -1,7 +1,6 @@
 -- An element as plain parts, so that equations of chunks are propositions.
 use Rattle.std.specs.Prelude.{◌≡◌, ℕ, zero, suc, Bool, true, false, List, [], cond}
 use Rattle.std.proofs.Common.{refl, ap}
-use Rattle.std.specs.Coded.{Coded, code_by, coded×, coded_ℕ, coded_bool, coded_list}
 use Rattle.zarrs_data_type.specs.Element.{Element, plain, absent, present}
 use Rattle.std.proofs.Props.{props}
 use mathlib.Core.HLevel.{collapsible→set}
@@ -27,9 +26,6 @@ pub element_of_parts-parts_of : (element : Element) → element_of_parts (parts_
 element_of_parts-parts_of (plain bytes) = refl
 element_of_parts-parts_of absent = refl
 element_of_parts-parts_of (present element) = ap present (element_of_parts-parts_of element)
-
-abbrev pub element_code : Coded Element
-element_code = code_by ElementParts (coded× coded_ℕ (coded× coded_bool (coded_list coded_ℕ))) parts_of element_of_parts element_of_parts-parts_of
 
 retract_set : {A B : Type 0} (to : A → B) (from : B → A) → ((x : A) → from (to x) ≡ x) → IsSet B → IsSet A
 retract_set to from back set = collapsible→set (λ x y p. sym (back x) ∙ ap from (ap to p) ∙ back y)
