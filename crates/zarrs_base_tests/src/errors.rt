@@ -291,25 +291,11 @@ fn are_out_of_memory_where_a_growth_was_refused(rt: HostRuntime) {
         &PluginCreateError::from(AllocFailed { value: 5u64 }),
         &fault,
     );
-}
-
-#[test]
-fn differ_by_what_is_in_them(rt: HostRuntime) {
+    is(&rt, "others", &(refusal == CodecError::Overflow), &false);
     is(
         &rt,
-        "numbers",
-        &(CodecError::BytesCodec(9) == CodecError::BytesCodec(29)),
-        &false,
-    );
-    let transpose = CodecError::UnsupportedDataType(CodecName::Transpose);
-    let reshape = CodecError::UnsupportedDataType(CodecName::Reshape);
-    is(&rt, "names", &(transpose == reshape), &false);
-    let one = StorageError { code: 7 };
-    is(&rt, "codes", &(one == StorageError { code: 17 }), &false);
-    is(
-        &rt,
-        "faults",
-        &(PluginCreateError::ZeroSize == PluginCreateError::BitOrder),
+        "other faults",
+        &(fault == PluginCreateError::ZeroSize),
         &false,
     );
 }

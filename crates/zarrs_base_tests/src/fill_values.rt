@@ -24,20 +24,11 @@ fn fits_a_type_or_not(rt: HostRuntime) -> Result<(), Fail> {
     Ok(is_word(&rt, &of_bytes(rt.alloc(), &[1, 2])?, &unlike)?)
 }
 
+/// Absent, and absent inside.
 #[test]
-fn is_null(rt: HostRuntime) -> Result<(), Fail> {
-    are(
-        &rt,
-        "null",
-        FillValue::new_optional_null(rt.alloc())?.as_ne_bytes(),
-        &[0],
-    );
-    Ok(())
-}
-
-#[test]
-fn is_present_around_null(rt: HostRuntime) -> Result<(), Fail> {
-    let present = FillValue::new_optional_null(rt.alloc())?.into_optional()?;
-    are(&rt, "present", present.as_ne_bytes(), &[0, 1]);
+fn is_wrapped_level_by_level(rt: HostRuntime) -> Result<(), Fail> {
+    let null = FillValue::new_optional_null(rt.alloc())?;
+    are(&rt, "null", null.as_ne_bytes(), &[0]);
+    are(&rt, "present", null.into_optional()?.as_ne_bytes(), &[0, 1]);
     Ok(())
 }

@@ -45,4 +45,6 @@ mod settings;
 #[cfg(test)]
 mod subsets;
 #[cfg(test)]
+mod validity;
+#[cfg(test)]
 mod views;

@@ -11,13 +11,14 @@ use zarrs_array_bytes::count_present;
 use zarrs_chunk::CodecError;
 use zarrs_data_type::DataType;
 
-/// The type inside, a mask, and elements. What is taken out where they are those under the mask, and
-/// what is put back where they are those that are present, or the first cause that holds. What stands
-/// under an absent element of an inner mask goes with it.
+/// The type inside, a mask and how many elements are present under it, and elements. What is taken out
+/// where they are those under the mask, and what is put back where they are those that are present, or
+/// the first cause that holds. What stands under an absent element of an inner mask goes with it.
 struct Row {
     name: &'static str,
     data_type: Type,
     mask: &'static [u8],
+    count: Result<u64, CodecError>,
     elements: Held,
     taken_out: Wanted,
     put_back: Wanted,
@@ -53,6 +54,7 @@ const ROWS: &'static [Row] = &[
         name: "no elements",
         data_type: Type::Bytes(1),
         mask: &[],
+        count: Ok(0),
         elements: Fixed(&[]),
         taken_out: Ok(Fixed(&[])),
         put_back: Ok(Masked(&[], &[])),
@@ -61,6 +63,7 @@ const ROWS: &'static [Row] = &[
         name: "none of three",
         data_type: Type::Bytes(1),
         mask: &[0, 0, 0],
+        count: Ok(0),
         elements: Fixed(&[5, 9, 7]),
         taken_out: Ok(Fixed(&[])),
         put_back: THREE_FOR_NONE,
@@ -69,6 +72,7 @@ const ROWS: &'static [Row] = &[
         name: "all of three",
         data_type: Type::Bytes(1),
         mask: &[1, 1, 1],
+        count: Ok(3),
         elements: Fixed(&[5, 9, 7]),
         taken_out: Ok(Fixed(&[5, 9, 7])),
         put_back: Ok(Masked(&[1, 1, 1], &[5, 9, 7])),
@@ -77,6 +81,7 @@ const ROWS: &'static [Row] = &[
         name: "two bytes, two of four",
         data_type: Type::Bytes(2),
         mask: &[0, 1, 1, 0],
+        count: Ok(2),
         elements: Fixed(&[3, 4, 5, 6]),
         taken_out: Err(CodecError::InvalidBytesLength {
             len: 4,
@@ -88,6 +93,7 @@ const ROWS: &'static [Row] = &[
         name: "all texts",
         data_type: Type::Text,
         mask: &[1, 1, 1, 1],
+        count: Ok(4),
         elements: TEXT,
         taken_out: Ok(TEXT),
         put_back: Ok(MaskedTexts(&[1; 4], b"xabcdef", &[1, 2, 4, 4, 7])),
@@ -96,6 +102,7 @@ const ROWS: &'static [Row] = &[
         name: "two of four texts",
         data_type: Type::Text,
         mask: &[1, 0, 0, 1],
+        count: Ok(2),
         elements: TEXT,
         taken_out: Ok(Texts(b"adef", &[0, 1, 4])),
         put_back: FIVE_FOR_THREE,
@@ -104,6 +111,7 @@ const ROWS: &'static [Row] = &[
         name: "two present texts of four",
         data_type: Type::Text,
         mask: &[1, 0, 0, 1],
+        count: Ok(2),
         elements: Texts(b"adef", &[0, 1, 4]),
         taken_out: Err(CodecError::InvalidBytesLength {
             len: 3,
@@ -115,6 +123,7 @@ const ROWS: &'static [Row] = &[
         name: "two of three under masks",
         data_type: Type::Optional(1),
         mask: &[1, 0, 1],
+        count: Ok(2),
         elements: Masked(&[1, 1, 0], &[42, 9, 3]),
         taken_out: Ok(Masked(&[1, 0], &[42, 3])),
         put_back: Err(CodecError::InvalidBytesLength {
@@ -126,6 +135,7 @@ const ROWS: &'static [Row] = &[
         name: "two present ones under masks",
         data_type: Type::Optional(1),
         mask: &[1, 0, 1],
+        count: Ok(2),
         elements: Masked(&[1, 0], &[42, 3]),
         taken_out: TWO_FOR_THREE,
         put_back: Ok(Nested(&[1, 0, 1], &[1, 0, 0], &[42, 0, 3])),
@@ -134,6 +144,7 @@ const ROWS: &'static [Row] = &[
         name: "two of three texts under masks",
         data_type: Type::OptionalText,
         mask: &[0, 1, 1],
+        count: Ok(2),
         elements: MaskedTexts(&[1, 1, 0], b"xabc", &[1, 2, 4, 4]),
         taken_out: Ok(MaskedTexts(&[1, 0], b"bc", &[0, 2, 2])),
         put_back: Err(CodecError::InvalidBytesLength {
@@ -145,6 +156,7 @@ const ROWS: &'static [Row] = &[
         name: "two present texts under masks",
         data_type: Type::OptionalText,
         mask: &[0, 1, 1],
+        count: Ok(2),
         elements: MaskedTexts(&[1, 0], b"bc", &[0, 2, 2]),
         taken_out: TWO_FOR_THREE,
         put_back: Ok(NestedTexts(&[0, 1, 1], &[0, 1, 0], b"bc", &[0, 0, 2, 2])),
@@ -153,6 +165,7 @@ const ROWS: &'static [Row] = &[
         name: "bytes for texts",
         data_type: Type::Text,
         mask: &[1],
+        count: Ok(1),
         elements: Fixed(&[1]),
         taken_out: KIND,
         put_back: KIND,
@@ -161,6 +174,7 @@ const ROWS: &'static [Row] = &[
         name: "a mask byte of 2",
         data_type: Type::Text,
         mask: &[1, 2],
+        count: Err(CodecError::MaskValue),
         elements: Fixed(&[1]),
         taken_out: KIND,
         put_back: Err(CodecError::MaskValue),
@@ -169,6 +183,7 @@ const ROWS: &'static [Row] = &[
         name: "two for three",
         data_type: Type::Bytes(1),
         mask: &[1, 1, 0],
+        count: Ok(2),
         elements: Fixed(&[1, 2]),
         taken_out: TWO_FOR_THREE,
         put_back: Ok(Masked(&[1, 1, 0], &[1, 2, 0])),
@@ -177,6 +192,7 @@ const ROWS: &'static [Row] = &[
         name: "two for one",
         data_type: Type::Bytes(1),
         mask: &[1, 0],
+        count: Ok(1),
         elements: Fixed(&[1, 2]),
         taken_out: Ok(Fixed(&[1])),
         put_back: TWO_FOR_ONE,
@@ -185,6 +201,7 @@ const ROWS: &'static [Row] = &[
         name: "too many bytes",
         data_type: Type::Bytes(4611686018427387904),
         mask: &[0; 4],
+        count: Ok(0),
         elements: Fixed(&[]),
         taken_out: Err(CodecError::Overflow),
         put_back: Err(CodecError::Overflow),
@@ -223,51 +240,4 @@ fn are_taken_out_and_put_back(rt: HostRuntime) -> Result<(), Fail> {
         takes_and_puts(&rt, rt.alloc(), row, true)?;
     }
     Ok(())
-}
-
-/// How many elements a mask leaves.
-struct Counted {
-    name: &'static str,
-    mask: &'static [u8],
-    count: Result<u64, CodecError>,
-}
-
-const COUNTED: &'static [Counted] = &[
-    Counted {
-        name: "no elements",
-        mask: &[],
-        count: Ok(0),
-    },
-    Counted {
-        name: "none",
-        mask: &[0, 0],
-        count: Ok(0),
-    },
-    Counted {
-        name: "one",
-        mask: &[1],
-        count: Ok(1),
-    },
-    Counted {
-        name: "three of four",
-        mask: &[1, 0, 1, 1],
-        count: Ok(3),
-    },
-    Counted {
-        name: "a byte of 2",
-        mask: &[1, 2],
-        count: Err(CodecError::MaskValue),
-    },
-    Counted {
-        name: "a byte of 255",
-        mask: &[255],
-        count: Err(CodecError::MaskValue),
-    },
-];
-
-#[test]
-fn are_counted(rt: HostRuntime) {
-    for row in COUNTED.iter() {
-        is(&rt, row.name, &count_present(row.mask), &row.count);
-    }
 }

@@ -130,14 +130,6 @@ fn is_made_of_ranges_or_of_start_and_shape(rt: HostRuntime) -> Result<(), Fail> 
     Ok(())
 }
 
-#[test]
-fn is_made_of_a_shape(rt: HostRuntime) -> Result<(), Fail> {
-    let whole = ArraySubset::new_with_shape(rt.alloc(), [4, 5].to_vec(rt.alloc())?)?;
-    are(&rt, "start", whole.start(), &[0, 0]);
-    are(&rt, "shape", whole.shape(), &[4, 5]);
-    Ok(())
-}
-
 /// A start and a shape that make no subset, and why: the axes come before an end past 64 bits.
 struct Refusal {
     name: &'static str,
