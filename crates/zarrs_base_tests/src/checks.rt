@@ -9,25 +9,25 @@ use std::test::Fail;
 use zarrs_chunk::{ArraySubset, ChunkShape, CodecError, Indexer};
 
 /// What came is what is wanted.
-pub(crate) fn is<T: PartialEq + Debug>(rt: &impl Abort, about: &str, came: &T, wanted: &T) {
-    assert_eq!(rt; *came, *wanted, "{about}");
+pub(crate) fn is<T: PartialEq + Debug>(rt: &impl Abort, name: &str, came: &T, wanted: &T) {
+    assert_eq!(rt; *came, *wanted, "{name}");
 }
 
 /// The items that came are those that are wanted.
-pub(crate) fn are<T: PartialEq + Debug>(rt: &impl Abort, about: &str, came: &[T], wanted: &[T]) {
-    assert_eq!(rt; came, wanted, "{about}");
+pub(crate) fn are<T: PartialEq + Debug>(rt: &impl Abort, name: &str, came: &[T], wanted: &[T]) {
+    assert_eq!(rt; came, wanted, "{name}");
 }
 
-/// Two values are equal, or they are not, both ways.
-pub(crate) fn compares<T: PartialEq>(rt: &impl Abort, one: &T, other: &T, equal: bool) {
-    is(rt, "equal", &(*one == *other), &equal);
-    is(rt, "another", &(*other != *one), &!equal);
+/// A value is equal to its copy and to no value that is unlike it, both ways.
+pub(crate) fn compares<T: PartialEq>(rt: &impl Abort, name: &str, one: &T, copy: &T, unlike: &T) {
+    is(rt, name, &(*one == *copy && *copy == *one), &true);
+    is(rt, name, &(*one != *unlike && *unlike != *one), &true);
 }
 
 /// The answer is this refusal. A want of memory is an error of the test.
 pub(crate) fn is_refused<T: Drop>(
     rt: &impl Abort,
-    about: &str,
+    name: &str,
     answer: Result<T, CodecError>,
     cause: CodecError,
 ) -> Result<(), Fail> {
@@ -35,7 +35,7 @@ pub(crate) fn is_refused<T: Drop>(
     if came == Some(CodecError::OutOfMemory) {
         return Err(CodecError::OutOfMemory)?;
     }
-    is(rt, about, &came, &Some(cause));
+    is(rt, name, &came, &Some(cause));
     Ok(())
 }
 
@@ -44,8 +44,8 @@ pub(crate) fn shape(alloc: Global, sizes: &[u64]) -> Result<ChunkShape, CodecErr
     ChunkShape::new(sizes.to_vec(alloc)?).ok_or(CodecError::OutOfBounds)
 }
 
-/// Which elements are meant, as plain data.
-#[derive(Clone, Copy)]
+/// Which elements are meant, as plain data: those in a range for each axis, or those of a list of
+/// tuples.
 pub(crate) enum Asked {
     Ranges(&'static [Range<u64>]),
     Tuples(&'static [&'static [u64]]),
@@ -53,13 +53,9 @@ pub(crate) enum Asked {
 
 pub(crate) fn indexer(alloc: Global, asked: &Asked) -> Result<Indexer, CodecError> {
     match asked {
-        Asked::Ranges(ranges) => subset(alloc, ranges),
+        Asked::Ranges(ranges) => Ok(Indexer::Subset(ArraySubset::new_with_ranges(alloc, ranges)?)),
         Asked::Tuples(tuples) => list(alloc, tuples),
     }
-}
-
-fn subset(alloc: Global, ranges: &[Range<u64>]) -> Result<Indexer, CodecError> {
-    Ok(Indexer::Subset(ArraySubset::new_with_ranges(alloc, ranges)?))
 }
 
 fn list(alloc: Global, tuples: &[&[u64]]) -> Result<Indexer, CodecError> {

@@ -1,56 +1,84 @@
 use crate::checks::{are, compares, is, shape};
-use std::alloc::Global;
 use std::process::Abort;
 use std::test::Fail;
 use zarrs_chunk::{ChunkShape, CodecError};
 
-/// Sizes, no two of them alike, and how many elements they have.
-const COUNTED: &'static [(&'static [u64], Result<u64, CodecError>)] = &[
-    (&[], Ok(1)),
-    (&[4], Ok(4)),
-    (&[7], Ok(7)),
-    (&[4, 4], Ok(16)),
-    (&[4, 5], Ok(20)),
-    (&[5, 4], Ok(20)),
-    (&[4, 5, 1], Ok(20)),
-    (&[2, 3, 4], Ok(24)),
-    (&[4294967296, 4294967295], Ok(18446744069414584320)),
-    (&[4294967296, 4294967296], Err(CodecError::Overflow)),
+struct Row {
+    name: &'static str,
+    sizes: &'static [u64],
+    elements: Result<u64, CodecError>,
+    /// Sizes of another shape.
+    unlike: &'static [u64],
+}
+
+const ROWS: &'static [Row] = &[
+    Row {
+        name: "no axes",
+        sizes: &[],
+        elements: Ok(1),
+        unlike: &[1],
+    },
+    Row {
+        name: "one axis",
+        sizes: &[4],
+        elements: Ok(4),
+        unlike: &[7],
+    },
+    Row {
+        name: "a square",
+        sizes: &[4, 4],
+        elements: Ok(16),
+        unlike: &[4],
+    },
+    Row {
+        name: "rows of five",
+        sizes: &[4, 5],
+        elements: Ok(20),
+        unlike: &[5, 4],
+    },
+    Row {
+        name: "an axis of one",
+        sizes: &[4, 5, 1],
+        elements: Ok(20),
+        unlike: &[4, 5],
+    },
+    Row {
+        name: "three axes",
+        sizes: &[2, 3, 4],
+        elements: Ok(24),
+        unlike: &[2, 3, 5],
+    },
+    Row {
+        name: "64 bits",
+        sizes: &[4294967296, 4294967295],
+        elements: Ok(18446744069414584320),
+        unlike: &[4294967295, 4294967296],
+    },
+    Row {
+        name: "65 bits",
+        sizes: &[4294967296, 4294967296],
+        elements: Err(CodecError::Overflow),
+        unlike: &[4294967296, 4294967295],
+    },
 ];
 
-/// The shape has these sizes and this count, and its copy is equal.
-fn has_count(
+fn is_shape(
     rt: &impl Abort,
-    chunk: &ChunkShape,
-    sizes: &[u64],
-    count: &Result<u64, CodecError>,
+    row: &Row,
+    made: &ChunkShape,
+    unlike: &ChunkShape,
 ) -> Result<(), CodecError> {
-    are(rt, "sizes", chunk.as_slice(), sizes);
-    is(rt, "count", &chunk.num_elements(), count);
-    compares(rt, &chunk.clone()?, chunk, true);
+    are(rt, row.name, made.as_slice(), row.sizes);
+    is(rt, row.name, &made.num_elements(), &row.elements);
+    compares(rt, row.name, made, &made.clone()?, unlike);
     Ok(())
 }
 
 #[test]
 fn counts_the_elements(rt: HostRuntime) -> Result<(), Fail> {
-    for (sizes, count) in COUNTED.iter() {
-        has_count(&rt, &shape(rt.alloc(), sizes)?, sizes, count)?;
-    }
-    Ok(())
-}
-
-/// The shape is the one at this place alone.
-fn is_at(rt: &impl Abort, alloc: Global, one: &ChunkShape, place: usize) -> Result<(), CodecError> {
-    for (other_place, (other, _)) in COUNTED.iter().enumerate() {
-        compares(rt, one, &shape(alloc, other)?, place == other_place);
-    }
-    Ok(())
-}
-
-#[test]
-fn differs_by_its_sizes(rt: HostRuntime) -> Result<(), Fail> {
-    for (place, (one, _)) in COUNTED.iter().enumerate() {
-        is_at(&rt, rt.alloc(), &shape(rt.alloc(), one)?, place)?;
+    for row in ROWS.iter() {
+        let made = shape(rt.alloc(), row.sizes)?;
+        is_shape(&rt, row, &made, &shape(rt.alloc(), row.unlike)?)?;
     }
     Ok(())
 }

@@ -13,7 +13,6 @@ use zarrs_data_type::DataType;
 pub(crate) type Elements = Result<ArrayBytes<'static>, CodecError>;
 
 /// A type. A number is how many components of 8 bits an element has.
-#[derive(Clone, Copy)]
 pub(crate) enum Type {
     Bytes(u64),
     Text,
@@ -22,18 +21,18 @@ pub(crate) enum Type {
     Nested(u64),
 }
 
+fn optional_bytes(alloc: Global, count: u64) -> Result<DataType, CodecError> {
+    DataType::optional(alloc, DataType::components(8, count, false)?)
+}
+
 pub(crate) fn data_type(alloc: Global, told: &Type) -> Result<DataType, CodecError> {
     match told {
         Type::Bytes(count) => DataType::components(8, *count, false),
         Type::Text => Ok(DataType::string()),
-        Type::Optional(count) => optional_type(alloc, *count),
+        Type::Optional(count) => optional_bytes(alloc, *count),
         Type::OptionalText => DataType::optional(alloc, DataType::string()),
-        Type::Nested(count) => DataType::optional(alloc, optional_type(alloc, *count)?),
+        Type::Nested(count) => DataType::optional(alloc, optional_bytes(alloc, *count)?),
     }
-}
-
-fn optional_type(alloc: Global, count: u64) -> Result<DataType, CodecError> {
-    DataType::optional(alloc, DataType::components(8, count, false)?)
 }
 
 type Bytes = &'static [u8];
@@ -42,7 +41,6 @@ type Offsets = &'static [usize];
 
 /// Elements of one size; of any length, with their offsets; under a mask, or under two, the outer
 /// one first.
-#[derive(Clone, Copy)]
 pub(crate) enum Held {
     Fixed(Bytes),
     Texts(Bytes, Offsets),
@@ -52,11 +50,17 @@ pub(crate) enum Held {
     NestedTexts(Bytes, Bytes, Bytes, Offsets),
 }
 
-/// The outer mask, the inner one, the bytes and the offsets.
-type Parts = (Option<Bytes>, Option<Bytes>, Bytes, Option<Offsets>);
+/// What a container is made of.
+#[derive(Clone, Copy)]
+struct HeldParts {
+    outer_mask: Option<Bytes>,
+    mask: Option<Bytes>,
+    bytes: Bytes,
+    offsets: Option<Offsets>,
+}
 
-fn parts(held: &Held) -> Parts {
-    match held {
+fn parts(held: &Held) -> HeldParts {
+    let (outer_mask, mask, bytes, offsets) = match held {
         Fixed(bytes) => (None, None, *bytes, None),
         Texts(bytes, offsets) => (None, None, *bytes, Some(*offsets)),
         Masked(mask, bytes) => (None, Some(*mask), *bytes, None),
@@ -65,6 +69,12 @@ fn parts(held: &Held) -> Parts {
         NestedTexts(outer, mask, bytes, offsets) => {
             (Some(*outer), Some(*mask), *bytes, Some(*offsets))
         }
+    };
+    HeldParts {
+        outer_mask,
+        mask,
+        bytes,
+        offsets,
     }
 }
 
@@ -97,15 +107,16 @@ fn under(alloc: Global, mask: Option<Bytes>, array: ArrayBytes<'static>, lent: b
 
 /// The container, with bytes that are lent to it, or with its own.
 pub(crate) fn container(alloc: Global, held: &Held, lent: bool) -> Elements {
-    let (outer, mask, bytes, offsets) = parts(held);
-    let array = unmasked(alloc, bytes, offsets, lent)?;
-    under(alloc, outer, under(alloc, mask, array, lent)?, lent)
+    let parts = parts(held);
+    let array = unmasked(alloc, parts.bytes, parts.offsets, lent)?;
+    let array = under(alloc, parts.mask, array, lent)?;
+    under(alloc, parts.outer_mask, array, lent)
 }
 
 /// What stands under the mask, if one is wanted.
 fn below<'a>(
     rt: &impl Abort,
-    about: &str,
+    name: &str,
     came: &'a ArrayBytes<'static>,
     mask: Option<Bytes>,
 ) -> Result<&'a ArrayBytes<'static>, CodecError> {
@@ -113,7 +124,7 @@ fn below<'a>(
         None => Ok(came),
         Some(mask) => {
             let (inner, lent) = came.as_optional()?;
-            are(rt, about, lent, mask);
+            are(rt, name, lent, mask);
             Ok(inner)
         }
     }
@@ -122,17 +133,17 @@ fn below<'a>(
 /// The container has these elements of one size or of any length.
 fn has_bytes(
     rt: &impl Abort,
-    about: &str,
+    name: &str,
     came: &ArrayBytes<'static>,
     bytes: Bytes,
     offsets: Option<Offsets>,
 ) -> Result<(), CodecError> {
     match offsets {
-        None => are(rt, about, came.as_fixed()?, bytes),
+        None => are(rt, name, came.as_fixed()?, bytes),
         Some(offsets) => {
             let (lent, ends) = came.as_variable()?;
-            are(rt, about, lent, bytes);
-            are(rt, about, ends.as_slice(), offsets);
+            are(rt, name, lent, bytes);
+            are(rt, name, ends.as_slice(), offsets);
         }
     }
     Ok(())
@@ -141,13 +152,14 @@ fn has_bytes(
 /// The container that came is this one, by the parts that it lends.
 pub(crate) fn holds(
     rt: &impl Abort,
-    about: &str,
+    name: &str,
     came: &ArrayBytes<'static>,
     wanted: &Held,
 ) -> Result<(), CodecError> {
-    let (outer, mask, bytes, offsets) = parts(wanted);
-    let inside = below(rt, about, came, outer)?;
-    has_bytes(rt, about, below(rt, about, inside, mask)?, bytes, offsets)
+    let parts = parts(wanted);
+    let inside = below(rt, name, came, parts.outer_mask)?;
+    let inside = below(rt, name, inside, parts.mask)?;
+    has_bytes(rt, name, inside, parts.bytes, parts.offsets)
 }
 
 /// What is answered: a container, or the first cause that holds.
@@ -155,12 +167,12 @@ pub(crate) type Wanted = Result<Held, CodecError>;
 
 pub(crate) fn answers(
     rt: &impl Abort,
-    about: &str,
+    name: &str,
     answer: Elements,
     wanted: &Wanted,
 ) -> Result<(), Fail> {
     match wanted {
-        Ok(held) => Ok(holds(rt, about, &answer?, held)?),
-        Err(cause) => is_refused(rt, about, answer, *cause),
+        Ok(held) => Ok(holds(rt, name, &answer?, held)?),
+        Err(cause) => is_refused(rt, name, answer, *cause),
     }
 }

@@ -1,104 +1,88 @@
-use crate::checks::{compares, is, is_refused};
-use std::alloc::Global;
+//! Data types. Those with a name are played in the transcripts of the tool, with their bits and signs.
+
+use crate::checks::{compares, is};
 use std::process::Abort;
 use std::test::Fail;
 use zarrs_chunk::CodecError;
 use zarrs_data_type::{Components, DataType, Endianness, HasComponents};
 
-/// A type's size, its components, and whether its elements have any length or may be absent.
-type Row = (Option<usize>, Option<Components>, bool, bool);
-
-fn is_type(rt: &impl Abort, about: &str, came: &DataType, wanted: &Row) {
-    is(rt, about, &came.fixed_size(), &wanted.0);
-    is(rt, about, &came.components(), &wanted.1);
-    is(rt, about, &came.is_variable(), &wanted.2);
-    is(rt, about, &came.is_optional(), &wanted.3);
-    is(rt, about, &came.as_optional().is_some(), &wanted.3);
+/// What a type says of its elements: their size, their components, and whether they have any length
+/// or may be absent.
+struct Said {
+    name: &'static str,
+    fixed_size: Option<usize>,
+    components: Option<Components>,
+    is_variable: bool,
+    is_optional: bool,
 }
 
-const VARIABLE: Row = (None, None, true, false);
+fn says(
+    rt: &impl Abort,
+    said: &Said,
+    data_type: &DataType,
+    unlike: &DataType,
+) -> Result<(), CodecError> {
+    is(rt, said.name, &data_type.fixed_size(), &said.fixed_size);
+    is(rt, said.name, &data_type.components(), &said.components);
+    is(rt, said.name, &data_type.is_variable(), &said.is_variable);
+    is(rt, said.name, &data_type.is_optional(), &said.is_optional);
+    compares(rt, said.name, data_type, &data_type.clone()?, unlike);
+    Ok(())
+}
 
-const OPTIONAL: Row = (None, None, false, true);
-
-const PAIR: Row = (
-    Some(4),
-    Some(Components {
+/// Two components of 12 bits stand in two bytes each.
+const PAIR: Said = Said {
+    name: "two components",
+    fixed_size: Some(4),
+    components: Some(Components {
         component_size_bits: 12,
         num_components: 2,
         sign_extension: true,
     }),
-    false,
-    false,
-);
+    is_variable: false,
+    is_optional: false,
+};
+
+const TEXT: Said = Said {
+    name: "text",
+    fixed_size: None,
+    components: None,
+    is_variable: true,
+    is_optional: false,
+};
+
+const OPTIONAL: Said = Said {
+    name: "optional",
+    fixed_size: None,
+    components: None,
+    is_variable: false,
+    is_optional: true,
+};
 
 #[test]
-fn has_a_size_or_none(rt: HostRuntime) -> Result<(), Fail> {
-    is_type(
-        &rt,
-        "components",
-        &DataType::components(12, 2, true)?,
-        &PAIR,
-    );
-    is_type(&rt, "text", &DataType::string(), &VARIABLE);
-    is_type(&rt, "bytes", &DataType::bytes(), &VARIABLE);
-    Ok(())
+fn says_what_its_elements_are(rt: HostRuntime) -> Result<(), Fail> {
+    let pair = DataType::components(12, 2, true)?;
+    says(&rt, &PAIR, &pair, &DataType::components(12, 2, false)?)?;
+    says(&rt, &TEXT, &DataType::string(), &DataType::bytes())?;
+    Ok(says(&rt, &TEXT, &DataType::bytes(), &DataType::string())?)
 }
 
-/// Bits, components, and the cause by which such a type is refused.
-const REFUSED: &'static [(u64, u64, CodecError)] = &[
-    (0, 1, CodecError::BitRange),
-    (1, 0, CodecError::BitRange),
-    (18446744073709551615, 8, CodecError::Overflow),
-];
-
-#[test]
-fn is_refused_without_bits_or_past_64_bits(rt: HostRuntime) -> Result<(), Fail> {
-    for (bits, count, cause) in REFUSED.iter() {
-        is_refused(
-            &rt,
-            "type",
-            DataType::components(*bits, *count, false),
-            *cause,
-        )?;
-    }
-    Ok(())
-}
-
-#[test]
-fn differs_by_kind_and_components(rt: HostRuntime) -> Result<(), Fail> {
-    compares(
-        &rt,
-        &DataType::bool(),
-        &DataType::components(1, 1, false)?,
-        true,
-    );
-    compares(&rt, &DataType::int8(), &DataType::uint8(), false);
-    compares(&rt, &DataType::string(), &DataType::bytes(), false);
-    Ok(())
-}
-
-fn optional_text(alloc: Global) -> Result<DataType, CodecError> {
-    DataType::optional(alloc, DataType::string())
-}
-
-/// A type round that of optional texts.
-fn is_round(rt: &impl Abort, data_type: &DataType, text: &DataType) -> Result<(), CodecError> {
-    is_type(rt, "levels", data_type, &OPTIONAL);
-    compares(rt, data_type, text, false);
-    compares(rt, &data_type.clone()?, data_type, true);
-    compares(
+fn is_around(rt: &impl Abort, optional: &DataType, inner: &DataType) -> Result<(), CodecError> {
+    says(rt, &OPTIONAL, optional, inner)?;
+    is(
         rt,
-        data_type.as_optional().ok_or(CodecError::ArrayBytesKind)?,
-        text,
-        true,
+        "inside",
+        optional.as_optional().ok_or(CodecError::ArrayBytesKind)?,
+        inner,
     );
+    is(rt, "inside text", &inner.as_optional().is_none(), &true);
     Ok(())
 }
 
 #[test]
-fn nests(rt: HostRuntime) -> Result<(), Fail> {
-    let twice = DataType::optional(rt.alloc(), optional_text(rt.alloc())?)?;
-    Ok(is_round(&rt, &twice, &optional_text(rt.alloc())?)?)
+fn may_be_optional(rt: HostRuntime) -> Result<(), Fail> {
+    let optional = DataType::optional(rt.alloc(), DataType::string())?;
+    Ok(is_around(&rt, &optional, &DataType::string())?)
 }
 
 /// How many bits a component has, of any type that may have some.
@@ -110,9 +94,5 @@ fn bits_of<T: HasComponents>(data_type: &T) -> Option<u64> {
 fn is_called_by_its_trait(rt: HostRuntime) {
     is(&rt, "words", &bits_of(&DataType::uint16()), &Some(16));
     is(&rt, "text", &bits_of(&DataType::string()), &None);
-}
-
-#[test]
-fn the_native_order_is_little(rt: HostRuntime) {
     is(&rt, "order", &Endianness::native(), &Endianness::Little);
 }

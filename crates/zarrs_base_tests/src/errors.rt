@@ -1,132 +1,301 @@
 use crate::checks::is;
-use CodecError::*;
 use std::alloc::{AllocError, AllocFailed, Global};
+use std::fmt::Display;
 use std::process::Abort;
 use std::test::Fail;
 use zarrs_chunk::{CodecError, CodecName, StorageError};
+use zarrs_metadata::PluginCreateError;
 
-/// Errors, no two of them equal, the name of each, and what its text has in it beside that.
-const ERRORS: &'static [(CodecError, &'static str, &'static str)] = &[
-    (OutOfMemory, "OutOfMemory", ""),
-    (Storage(StorageError { code: 7 }), "Storage", "7"),
-    (Storage(StorageError { code: 17 }), "Storage", "17"),
-    (
-        UnsupportedDataType(CodecName::Transpose),
-        "UnsupportedDataType",
-        "transpose",
-    ),
-    (
-        UnsupportedDataType(CodecName::Reshape),
-        "UnsupportedDataType",
-        "reshape",
-    ),
-    (
-        UnsupportedDataType(CodecName::Squeeze),
-        "UnsupportedDataType",
-        "squeeze",
-    ),
-    (
-        UnsupportedDataType(CodecName::Bytes),
-        "UnsupportedDataType",
-        "bytes",
-    ),
-    (
-        UnsupportedDataType(CodecName::PackBits),
-        "UnsupportedDataType",
-        "packbits",
-    ),
-    (
-        UnsupportedDataType(CodecName::Vlen),
-        "UnsupportedDataType",
-        "vlen",
-    ),
-    (
-        UnsupportedDataType(CodecName::Optional),
-        "UnsupportedDataType",
-        "optional",
-    ),
-    (EndiannessMissing, "EndiannessMissing", ""),
-    (ArrayBytesKind, "ArrayBytesKind", ""),
-    (
-        InvalidBytesLength {
+/// An error, its name, and what its text has in it behind the name.
+struct Row<E: 'static> {
+    error: E,
+    name: &'static str,
+    part: &'static str,
+}
+
+const REFUSALS: &'static [Row<CodecError>] = &[
+    Row {
+        error: CodecError::OutOfMemory,
+        name: "OutOfMemory",
+        part: "",
+    },
+    Row {
+        error: CodecError::Storage(StorageError { code: 7 }),
+        name: "Storage",
+        part: "7",
+    },
+    Row {
+        error: CodecError::Storage(StorageError { code: 17 }),
+        name: "Storage",
+        part: "17",
+    },
+    Row {
+        error: CodecError::UnsupportedDataType(CodecName::Transpose),
+        name: "UnsupportedDataType",
+        part: "transpose",
+    },
+    Row {
+        error: CodecError::UnsupportedDataType(CodecName::Reshape),
+        name: "UnsupportedDataType",
+        part: "reshape",
+    },
+    Row {
+        error: CodecError::UnsupportedDataType(CodecName::Squeeze),
+        name: "UnsupportedDataType",
+        part: "squeeze",
+    },
+    Row {
+        error: CodecError::UnsupportedDataType(CodecName::Bytes),
+        name: "UnsupportedDataType",
+        part: "bytes",
+    },
+    Row {
+        error: CodecError::UnsupportedDataType(CodecName::PackBits),
+        name: "UnsupportedDataType",
+        part: "packbits",
+    },
+    Row {
+        error: CodecError::UnsupportedDataType(CodecName::Vlen),
+        name: "UnsupportedDataType",
+        part: "vlen",
+    },
+    Row {
+        error: CodecError::UnsupportedDataType(CodecName::Optional),
+        name: "UnsupportedDataType",
+        part: "optional",
+    },
+    Row {
+        error: CodecError::EndiannessMissing,
+        name: "EndiannessMissing",
+        part: "",
+    },
+    Row {
+        error: CodecError::ArrayBytesKind,
+        name: "ArrayBytesKind",
+        part: "",
+    },
+    Row {
+        error: CodecError::InvalidBytesLength {
             len: 3,
             expected: 40,
         },
-        "InvalidBytesLength",
-        "3 found, 40 expected",
-    ),
-    (
-        InvalidBytesLength {
+        name: "InvalidBytesLength",
+        part: "3 found, 40 expected",
+    },
+    Row {
+        error: CodecError::InvalidBytesLength {
             len: 40,
             expected: 3,
         },
-        "InvalidBytesLength",
-        "40 found, 3 expected",
-    ),
-    (IncompatibleDimensionality, "IncompatibleDimensionality", ""),
-    (OutOfBounds, "OutOfBounds", ""),
-    (Overflow, "Overflow", ""),
-    (InvalidFillValue, "InvalidFillValue", ""),
-    (ReshapeDimension, "ReshapeDimension", ""),
-    (ReshapeElements, "ReshapeElements", ""),
-    (BitRange, "BitRange", ""),
-    (PaddingByte, "PaddingByte", ""),
-    (IndexLength, "IndexLength", ""),
-    (InvalidOffsets, "InvalidOffsets", ""),
-    (OffsetTooLarge, "OffsetTooLarge", ""),
-    (OffsetNotKept, "OffsetNotKept", ""),
-    (MaskValue, "MaskValue", ""),
-    (HeaderOverflow, "HeaderOverflow", ""),
-    (InvalidByteRange, "InvalidByteRange", ""),
-    (BytesCodec(9), "BytesCodec", "9"),
-    (BytesCodec(29), "BytesCodec", "29"),
-    (DataMismatch, "DataMismatch", ""),
-    (UnsupportedTarget, "UnsupportedTarget", ""),
-    (TargetMismatch, "TargetMismatch", ""),
-    (ReversedRange, "ReversedRange", ""),
+        name: "InvalidBytesLength",
+        part: "40 found, 3 expected",
+    },
+    Row {
+        error: CodecError::IncompatibleDimensionality,
+        name: "IncompatibleDimensionality",
+        part: "",
+    },
+    Row {
+        error: CodecError::OutOfBounds,
+        name: "OutOfBounds",
+        part: "",
+    },
+    Row {
+        error: CodecError::Overflow,
+        name: "Overflow",
+        part: "",
+    },
+    Row {
+        error: CodecError::InvalidFillValue,
+        name: "InvalidFillValue",
+        part: "",
+    },
+    Row {
+        error: CodecError::ReshapeDimension,
+        name: "ReshapeDimension",
+        part: "",
+    },
+    Row {
+        error: CodecError::ReshapeElements,
+        name: "ReshapeElements",
+        part: "",
+    },
+    Row {
+        error: CodecError::BitRange,
+        name: "BitRange",
+        part: "",
+    },
+    Row {
+        error: CodecError::PaddingByte,
+        name: "PaddingByte",
+        part: "",
+    },
+    Row {
+        error: CodecError::IndexLength,
+        name: "IndexLength",
+        part: "",
+    },
+    Row {
+        error: CodecError::InvalidOffsets,
+        name: "InvalidOffsets",
+        part: "",
+    },
+    Row {
+        error: CodecError::OffsetTooLarge,
+        name: "OffsetTooLarge",
+        part: "",
+    },
+    Row {
+        error: CodecError::OffsetNotKept,
+        name: "OffsetNotKept",
+        part: "",
+    },
+    Row {
+        error: CodecError::MaskValue,
+        name: "MaskValue",
+        part: "",
+    },
+    Row {
+        error: CodecError::HeaderOverflow,
+        name: "HeaderOverflow",
+        part: "",
+    },
+    Row {
+        error: CodecError::InvalidByteRange,
+        name: "InvalidByteRange",
+        part: "",
+    },
+    Row {
+        error: CodecError::BytesCodec(9),
+        name: "BytesCodec",
+        part: "9",
+    },
+    Row {
+        error: CodecError::BytesCodec(29),
+        name: "BytesCodec",
+        part: "29",
+    },
+    Row {
+        error: CodecError::DataMismatch,
+        name: "DataMismatch",
+        part: "",
+    },
+    Row {
+        error: CodecError::UnsupportedTarget,
+        name: "UnsupportedTarget",
+        part: "",
+    },
+    Row {
+        error: CodecError::TargetMismatch,
+        name: "TargetMismatch",
+        part: "",
+    },
+    Row {
+        error: CodecError::ReversedRange,
+        name: "ReversedRange",
+        part: "",
+    },
 ];
 
-/// The error has this name, its copy is equal, and its text begins with the name and has the part.
-fn has_name(
-    rt: &impl Abort,
-    alloc: Global,
-    error: &CodecError,
-    name: &str,
-    part: &str,
-) -> Result<(), Fail> {
-    is(rt, name, &error.name(), &name);
-    is(rt, name, &error.clone()?, error);
+const FAULTS: &'static [Row<PluginCreateError>] = &[
+    Row {
+        error: PluginCreateError::OutOfMemory,
+        name: "OutOfMemory",
+        part: "",
+    },
+    Row {
+        error: PluginCreateError::UnknownName,
+        name: "UnknownName",
+        part: "",
+    },
+    Row {
+        error: PluginCreateError::InvalidConfiguration,
+        name: "InvalidConfiguration",
+        part: "",
+    },
+    Row {
+        error: PluginCreateError::MissingArrayToBytes,
+        name: "MissingArrayToBytes",
+        part: "",
+    },
+    Row {
+        error: PluginCreateError::MultipleArrayToBytes,
+        name: "MultipleArrayToBytes",
+        part: "",
+    },
+    Row {
+        error: PluginCreateError::BitOrder,
+        name: "BitOrder",
+        part: "",
+    },
+    Row {
+        error: PluginCreateError::MultipleAuto,
+        name: "MultipleAuto",
+        part: "",
+    },
+    Row {
+        error: PluginCreateError::ZeroSize,
+        name: "ZeroSize",
+        part: "",
+    },
+    Row {
+        error: PluginCreateError::NotAPermutation,
+        name: "NotAPermutation",
+        part: "",
+    },
+];
+
+/// The error's text begins with its name, and has the part.
+fn has_text<E: Display>(rt: &impl Abort, alloc: Global, row: &Row<E>) -> Result<(), Fail> {
+    let error = &row.error;
     let text = format!(in alloc; "{error}")?;
+    let begins = text.as_bytes().starts_with(row.name.as_bytes());
+    is(rt, row.name, &begins, &true);
+    is(rt, row.name, &text.contains(row.part), &true);
+    Ok(())
+}
+
+#[test]
+fn refusals_have_names_and_texts(rt: HostRuntime) -> Result<(), Fail> {
+    for row in REFUSALS.iter() {
+        is(&rt, row.name, &row.error.name(), &row.name);
+        has_text(&rt, rt.alloc(), row)?;
+    }
+    Ok(())
+}
+
+#[test]
+fn faults_have_names_and_texts(rt: HostRuntime) -> Result<(), Fail> {
+    for row in FAULTS.iter() {
+        is(&rt, row.name, &row.error.name(), &row.name);
+        has_text(&rt, rt.alloc(), row)?;
+    }
+    Ok(())
+}
+
+#[test]
+fn are_out_of_memory_where_a_growth_was_refused(rt: HostRuntime) {
+    let refusal = CodecError::OutOfMemory;
+    is(&rt, "refused", &CodecError::from(AllocError), &refusal);
     is(
-        rt,
-        name,
-        &text.as_bytes().starts_with(name.as_bytes()),
-        &true,
+        &rt,
+        "handed back",
+        &CodecError::from(AllocFailed { value: 5u64 }),
+        &refusal,
     );
-    is(rt, name, &text.contains(part), &true);
-    Ok(())
-}
-
-/// The error is the one at this place alone.
-fn is_at(rt: &impl Abort, one: &CodecError, name: &str, place: usize) {
-    for (other_place, (other, _, _)) in ERRORS.iter().enumerate() {
-        is(rt, name, &(one == other), &(place == other_place));
-    }
-}
-
-#[test]
-fn has_a_name_and_a_text_of_its_own(rt: HostRuntime) -> Result<(), Fail> {
-    for (place, (error, name, part)) in ERRORS.iter().enumerate() {
-        has_name(&rt, rt.alloc(), error, name, part)?;
-        is_at(&rt, error, name, place);
-    }
-    Ok(())
-}
-
-#[test]
-fn is_out_of_memory_where_a_growth_was_refused(rt: HostRuntime) {
-    let refused = CodecError::from(AllocError);
-    is(&rt, "refused", &refused, &CodecError::OutOfMemory);
-    let failed = CodecError::from(AllocFailed { value: 5u64 });
-    is(&rt, "handed back", &failed, &CodecError::OutOfMemory);
+    let fault = PluginCreateError::OutOfMemory;
+    is(&rt, "refused", &PluginCreateError::from(AllocError), &fault);
+    is(
+        &rt,
+        "handed back",
+        &PluginCreateError::from(AllocFailed { value: 5u64 }),
+        &fault,
+    );
+    is(&rt, "others", &(refusal == CodecError::Overflow), &false);
+    is(
+        &rt,
+        "other faults",
+        &(fault == PluginCreateError::ZeroSize),
+        &false,
+    );
 }
