@@ -176,65 +176,16 @@ const REVERSALS: &'static [Row] = &[
     },
 ];
 
-/// An axis of an encoded chunk: how many indices it has, and how many bytes of the chunk are between
-/// two of them.
+/// An axis of a chunk: how many indices it has, and how many bytes are between two of them in the chunk
+/// that isn't encoded.
 #[derive(Clone, Copy)]
 struct Axis {
     count: u64,
     step: u64,
 }
 
-/// Where the index of an axis begins, that begins there.
-fn at(from: u64, axis: Axis, index: u64) -> u64 {
-    from.wrapping_add(index.wrapping_mul(axis.step))
-}
-
-fn append_element(bytes: &mut Vec<u8>, from: u64, size: u64) -> Result<(), AllocError> {
-    for index in 0..size {
-        bytes.push((from.wrapping_add(index) % 251) as u8)?;
-    }
-    Ok(())
-}
-
-fn append_row(bytes: &mut Vec<u8>, from: u64, axis: Axis, size: u64) -> Result<(), AllocError> {
-    for index in 0..axis.count {
-        append_element(bytes, at(from, axis, index), size)?;
-    }
-    Ok(())
-}
-
-fn append_plane(
-    bytes: &mut Vec<u8>,
-    from: u64,
-    rows: Axis,
-    columns: Axis,
-    size: u64,
-) -> Result<(), AllocError> {
-    for index in 0..rows.count {
-        append_row(bytes, at(from, rows, index), columns, size)?;
-    }
-    Ok(())
-}
-
-/// The bytes of an encoded chunk of these axes.
-fn moved(alloc: Global, axes: [Axis; 3], size: u64) -> Result<Vec<u8>, AllocError> {
-    let [planes, rows, columns] = axes;
-    let mut bytes = Vec::new(alloc);
-    for index in 0..planes.count {
-        append_plane(&mut bytes, at(0, planes, index), rows, columns, size)?;
-    }
-    Ok(bytes)
-}
-
-/// So many bytes of a chunk, from its first on.
-fn counted(alloc: Global, len: usize) -> Result<Vec<u8>, AllocError> {
-    let mut bytes = Vec::new(alloc);
-    append_element(&mut bytes, 0, len as u64)?;
-    Ok(bytes)
-}
-
-/// The axes of a chunk, in its own order.
-fn axes(row: &Row) -> [Axis; 3] {
+/// The axes of a chunk, in its own order. The last are the bytes of an element.
+fn axes(row: &Row) -> [Axis; 4] {
     let [planes, rows, columns] = row.sizes;
     let size = row.element.fill.len() as u64;
     let length = columns.wrapping_mul(size);
@@ -251,7 +202,48 @@ fn axes(row: &Row) -> [Axis; 3] {
             count: columns,
             step: size,
         },
+        Axis {
+            count: size,
+            step: 1,
+        },
     ]
+}
+
+/// The index of a number along an axis, as bytes, and what is left of the number for the axes before it.
+fn split(number: u64, axis: Axis) -> (u64, u64) {
+    let count = axis.count.max(1);
+    ((number % count).wrapping_mul(axis.step), number / count)
+}
+
+/// The byte that stands there in a chunk of these axes. It is told by its place in the chunk that isn't
+/// encoded.
+fn byte_at(axes: [Axis; 4], number: u64) -> u8 {
+    let [planes, rows, columns, bytes] = axes;
+    let (byte, rest) = split(number, bytes);
+    let (column, rest) = split(rest, columns);
+    let (row, rest) = split(rest, rows);
+    let (plane, _) = split(rest, planes);
+    let place = plane
+        .wrapping_add(row)
+        .wrapping_add(column)
+        .wrapping_add(byte);
+    (place % 251) as u8
+}
+
+/// The bytes of a chunk of these axes.
+fn bytes_of(alloc: Global, axes: [Axis; 4], count: u64) -> Result<Vec<u8>, AllocError> {
+    let mut bytes = Vec::new(alloc);
+    for number in 0..count {
+        bytes.push(byte_at(axes, number))?;
+    }
+    Ok(bytes)
+}
+
+/// How many bytes a chunk has.
+fn count(row: &Row) -> u64 {
+    let [planes, rows, columns] = row.sizes;
+    let elements = planes.wrapping_mul(rows).wrapping_mul(columns);
+    elements.wrapping_mul(row.element.fill.len() as u64)
 }
 
 /// The chunk of these bytes is encoded to these, and decoded.
@@ -272,36 +264,32 @@ fn moves_row(
     moves(rt, alloc, row.name, codec, &form, decoded, encoded)
 }
 
-/// The chunk whose bytes are told by where they stand is encoded to these, and decoded.
-fn moves_counted(
-    rt: &impl Abort,
-    alloc: Global,
-    codec: &TransposeCodec,
-    row: &Row,
-    encoded: &[u8],
-) -> Result<(), CodecError> {
-    let decoded = counted(alloc, encoded.len())?;
-    moves_row(rt, alloc, codec, row, decoded.as_slice(), encoded)
-}
-
 /// The encoded chunk has these axes.
 fn has_axes(
     rt: &impl Abort,
     alloc: Global,
     codec: &TransposeCodec,
     row: &Row,
-    axes: [Axis; 3],
+    encoded: [Axis; 4],
 ) -> Result<(), CodecError> {
-    let encoded = moved(alloc, axes, row.element.fill.len() as u64)?;
-    moves_counted(rt, alloc, codec, row, encoded.as_slice())
+    let decoded = bytes_of(alloc, axes(row), count(row))?;
+    let encoded = bytes_of(alloc, encoded, count(row))?;
+    moves_row(
+        rt,
+        alloc,
+        codec,
+        row,
+        decoded.as_slice(),
+        encoded.as_slice(),
+    )
 }
 
 #[test]
 fn planes_are_turned(rt: HostRuntime) -> Result<(), Fail> {
     let codec = transpose(rt.alloc(), &[0, 2, 1])?;
     for row in PLANES.iter() {
-        let [planes, rows, columns] = axes(row);
-        has_axes(&rt, rt.alloc(), &codec, row, [planes, columns, rows])?;
+        let [planes, rows, columns, bytes] = axes(row);
+        has_axes(&rt, rt.alloc(), &codec, row, [planes, columns, rows, bytes])?;
     }
     Ok(())
 }
@@ -310,8 +298,8 @@ fn planes_are_turned(rt: HostRuntime) -> Result<(), Fail> {
 fn axes_are_reversed(rt: HostRuntime) -> Result<(), Fail> {
     let codec = transpose(rt.alloc(), &[2, 1, 0])?;
     for row in REVERSALS.iter() {
-        let [planes, rows, columns] = axes(row);
-        has_axes(&rt, rt.alloc(), &codec, row, [columns, rows, planes])?;
+        let [planes, rows, columns, bytes] = axes(row);
+        has_axes(&rt, rt.alloc(), &codec, row, [columns, rows, planes, bytes])?;
     }
     Ok(())
 }

@@ -16,6 +16,9 @@ pub(crate) const TURN: &'static str = r#"{"name":"transpose","configuration":{"o
 /// The same by the sizes alone: the elements stay where they are.
 pub(crate) const SWAP: &'static str = r#"{"name":"reshape","configuration":{"shape":[[1],[0]]}}"#;
 
+/// All elements along one axis.
+pub(crate) const FLAT: &'static str = r#"{"name":"reshape","configuration":{"shape":[-1]}}"#;
+
 pub(crate) const SQUEEZE: &'static str = r#""zarrs.squeeze""#;
 
 /// The metadata of a text that reads.

@@ -1,7 +1,7 @@
 //! What is asked of an encoded chunk where a part of the chunk is meant: told by its places there.
 
 use crate::checks::{Asked, answers, indexer, is, shape};
-use crate::forms::{SQUEEZE, TURN, codec};
+use crate::forms::{FLAT, SQUEEZE, TURN, codec};
 use std::alloc::Global;
 use std::process::Abort;
 use std::test::Fail;
@@ -10,8 +10,6 @@ use zarrs_chunk::{ChunkShape, CodecError, Indexer};
 use zarrs_codec::ArrayToArrayCodecTraits;
 
 const AXES: CodecError = CodecError::IncompatibleDimensionality;
-
-const FLAT: &'static str = r#"{"name":"reshape","configuration":{"shape":[-1]}}"#;
 
 const FOUR: &'static str = r#"{"name":"reshape","configuration":{"shape":[[4]]}}"#;
 

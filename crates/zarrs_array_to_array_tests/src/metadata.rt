@@ -2,42 +2,28 @@
 //! compared as JSON text.
 
 use crate::checks::is;
-use crate::forms::{TURN, codec, metadata, one_size};
+use crate::forms::{SQUEEZE, TURN, codec, metadata, one_size};
 use std::alloc::Global;
 use std::process::Abort;
 use std::test::Fail;
-use zarrs_array_to_array::{ReshapeCodec, SqueezeCodec, TransposeCodec};
+use zarrs_array_to_array::{ArrayToArrayCodec, ReshapeCodec, SqueezeCodec, TransposeCodec};
 use zarrs_codec::CodecTraits;
-use zarrs_metadata::PluginCreateError::UnknownName;
 use zarrs_metadata::{
     MetadataV3, PluginCreateError, ReshapeCodecConfiguration, ReshapeCodecConfigurationV1,
     SqueezeCodecConfiguration, SqueezeCodecConfigurationV0, TransposeCodecConfiguration,
     TransposeCodecConfigurationV1, TransposeOrder,
 };
 
-/// The codec that a metadata is given to: any, or one of its own call.
-#[derive(Clone, Copy)]
-enum Maker {
-    Any,
-    Transpose,
-    Reshape,
-    Squeeze,
-}
-
-/// A metadata, and what is written of the codec; or the cause why there is none.
+/// A metadata, and what is written of its codec.
 struct Row {
     name: &'static str,
-    maker: Maker,
     metadata: &'static str,
-    written: Result<&'static str, PluginCreateError>,
+    written: &'static str,
 }
 
 const TURN_WRITTEN: &'static str = r#"{"configuration":{"order":[1,0]},"name":"transpose"}"#;
 
 const SIZES: &'static str = r#"{"name":"reshape","configuration":{"shape":[[0,1],-1,[3],10]}}"#;
-
-const SIZES_WRITTEN: &'static str =
-    r#"{"configuration":{"shape":[[0,1],-1,[3],10]},"name":"reshape"}"#;
 
 const ONE_SIZE_WRITTEN: &'static str = r#"{"configuration":{"shape":[-1]},"name":"reshape"}"#;
 
@@ -45,64 +31,29 @@ const SQUEEZE_WRITTEN: &'static str = r#"{"configuration":{},"name":"zarrs.squee
 
 const ROWS: &'static [Row] = &[
     Row {
-        name: "an order and what is passed over",
-        maker: Maker::Any,
+        name: "an order of two axes",
+        metadata: TURN,
+        written: TURN_WRITTEN,
+    },
+    Row {
+        name: "an order of none, and what is passed over",
         metadata: r#"{"name":"transpose","configuration":{"order":[],"x":"C"},"must_understand":false}"#,
-        written: Ok(r#"{"configuration":{"order":[]},"name":"transpose"}"#),
+        written: r#"{"configuration":{"order":[]},"name":"transpose"}"#,
     },
     Row {
         name: "all forms of a size",
-        maker: Maker::Any,
         metadata: SIZES,
-        written: Ok(SIZES_WRITTEN),
+        written: r#"{"configuration":{"shape":[[0,1],-1,[3],10]},"name":"reshape"}"#,
     },
     Row {
-        name: "the other name of squeeze",
-        maker: Maker::Any,
+        name: "squeeze without a configuration",
+        metadata: SQUEEZE,
+        written: SQUEEZE_WRITTEN,
+    },
+    Row {
+        name: "squeeze by its other name",
         metadata: r#"{"name":"https://codec.zarrs.dev/array_to_array/squeeze","configuration":{"x":1}}"#,
-        written: Ok(SQUEEZE_WRITTEN),
-    },
-    Row {
-        name: "no codec of chunks to chunks",
-        maker: Maker::Any,
-        metadata: r#""bytes""#,
-        written: Err(UnknownName),
-    },
-    Row {
-        name: "transpose by its own call",
-        maker: Maker::Transpose,
-        metadata: TURN,
-        written: Ok(TURN_WRITTEN),
-    },
-    Row {
-        name: "reshape by its own call",
-        maker: Maker::Reshape,
-        metadata: SIZES,
-        written: Ok(SIZES_WRITTEN),
-    },
-    Row {
-        name: "squeeze by its own call",
-        maker: Maker::Squeeze,
-        metadata: r#""zarrs.squeeze""#,
-        written: Ok(SQUEEZE_WRITTEN),
-    },
-    Row {
-        name: "transpose of sizes",
-        maker: Maker::Transpose,
-        metadata: SIZES,
-        written: Err(UnknownName),
-    },
-    Row {
-        name: "reshape of an order",
-        maker: Maker::Reshape,
-        metadata: TURN,
-        written: Err(UnknownName),
-    },
-    Row {
-        name: "squeeze of an order",
-        maker: Maker::Squeeze,
-        metadata: TURN,
-        written: Err(UnknownName),
+        written: SQUEEZE_WRITTEN,
     },
 ];
 
@@ -118,70 +69,6 @@ fn written(alloc: Global, codec: &impl CodecTraits) -> Result<String, PluginCrea
     Ok(metadata.to_value(alloc)?.to_string(alloc)?)
 }
 
-fn any_again(alloc: Global, text: &str) -> Result<String, PluginCreateError> {
-    written(alloc, &codec(alloc, text)?)
-}
-
-fn transpose_again(alloc: Global, text: &str) -> Result<String, PluginCreateError> {
-    let codec = TransposeCodec::create(alloc, &metadata(alloc, text)?)?;
-    written(alloc, &codec)
-}
-
-fn reshape_again(alloc: Global, text: &str) -> Result<String, PluginCreateError> {
-    let codec = ReshapeCodec::create(alloc, &metadata(alloc, text)?)?;
-    written(alloc, &codec)
-}
-
-fn squeeze_again(alloc: Global, text: &str) -> Result<String, PluginCreateError> {
-    let codec = SqueezeCodec::create(&metadata(alloc, text)?)?;
-    written(alloc, &codec)
-}
-
-fn made_again(alloc: Global, row: &Row) -> Result<String, PluginCreateError> {
-    match row.maker {
-        Maker::Any => any_again(alloc, row.metadata),
-        Maker::Transpose => transpose_again(alloc, row.metadata),
-        Maker::Reshape => reshape_again(alloc, row.metadata),
-        Maker::Squeeze => squeeze_again(alloc, row.metadata),
-    }
-}
-
-/// A text or a refusal, as plain data.
-fn text_of<'a>(came: &'a Result<String, PluginCreateError>) -> Result<&'a str, PluginCreateError> {
-    match came {
-        Ok(text) => Ok(text.as_str()),
-        Err(cause) => Err(*cause),
-    }
-}
-
-/// This text is answered, or this refusal. A want of memory is an error of the test.
-fn answers(
-    rt: &impl Abort,
-    about: &str,
-    came: Result<&str, PluginCreateError>,
-    wanted: Result<&str, PluginCreateError>,
-) -> Result<(), PluginCreateError> {
-    if let Err(PluginCreateError::OutOfMemory) = came {
-        return Err(PluginCreateError::OutOfMemory);
-    }
-    is(rt, about, &came, &wanted);
-    Ok(())
-}
-
-fn is_made_again(rt: &impl Abort, alloc: Global, row: &Row) -> Result<(), PluginCreateError> {
-    let came = made_again(alloc, row);
-    answers(rt, row.name, text_of(&came), row.written)
-}
-
-/// A codec is made of its metadata alone, and what is written of it is its metadata again.
-#[test]
-fn codecs_are_made_and_written(rt: HostRuntime) -> Result<(), Fail> {
-    for row in ROWS.iter() {
-        is_made_again(&rt, rt.alloc(), row)?;
-    }
-    Ok(())
-}
-
 /// The codec is written as this text.
 pub(crate) fn is_written<C: CodecTraits>(
     rt: &impl Abort,
@@ -192,6 +79,42 @@ pub(crate) fn is_written<C: CodecTraits>(
 ) -> Result<(), PluginCreateError> {
     let text = written(alloc, codec)?;
     is(rt, about, &text.as_str(), &wanted);
+    Ok(())
+}
+
+fn is_written_again(rt: &impl Abort, alloc: Global, row: &Row) -> Result<(), PluginCreateError> {
+    let codec = codec(alloc, row.metadata)?;
+    is_written(rt, row.name, alloc, &codec, row.written)
+}
+
+/// A codec is made of its metadata alone, and what is written of it is its metadata again.
+#[test]
+fn codecs_are_made_and_written(rt: HostRuntime) -> Result<(), Fail> {
+    for row in ROWS.iter() {
+        is_written_again(&rt, rt.alloc(), row)?;
+    }
+    Ok(())
+}
+
+fn is_unknown<C: Drop>(rt: &impl Abort, about: &str, answer: Result<C, PluginCreateError>) {
+    is(
+        rt,
+        about,
+        &answer.err(),
+        &Some(PluginCreateError::UnknownName),
+    );
+}
+
+/// A codec isn't made of the metadata of another.
+#[test]
+fn other_metadata_is_unknown(rt: HostRuntime) -> Result<(), Fail> {
+    let order = metadata(rt.alloc(), TURN)?;
+    let sizes = metadata(rt.alloc(), SIZES)?;
+    let bytes = metadata(rt.alloc(), r#""bytes""#)?;
+    is_unknown(&rt, "transpose", TransposeCodec::create(rt.alloc(), &sizes));
+    is_unknown(&rt, "reshape", ReshapeCodec::create(rt.alloc(), &order));
+    is_unknown(&rt, "squeeze", SqueezeCodec::create(&order));
+    is_unknown(&rt, "any", ArrayToArrayCodec::create(rt.alloc(), &bytes));
     Ok(())
 }
 
