@@ -1,142 +1,267 @@
 //! Transposed planes and reversed axes of sizes on both sides of a block's edge, beside a plain slow
 //! rule: the bytes of a chunk are told by where they stand, so each byte of the answer is told too.
 
-use crate::forms::{Told, Type, chunk_form, transpose};
-use crate::moves::moves;
+use crate::by_itself::moves;
+use crate::forms::{Chunk, Type, chunk_form, transpose};
 use std::alloc::{AllocError, Global};
 use std::process::Abort;
 use std::test::Fail;
 use zarrs_array_to_array::TransposeCodec;
 use zarrs_chunk::CodecError;
 
-/// A chunk of three axes: its sizes, its type, and its fill value.
-type Row = ([u64; 3], Type, &'static [u8]);
+/// An element: its type and a fill value of so many bytes.
+#[derive(Clone, Copy)]
+struct Element {
+    data_type: Type,
+    fill: &'static [u8],
+}
+
+const BYTE: Element = Element {
+    data_type: Type::Byte,
+    fill: &[0],
+};
+
+const WORD: Element = Element {
+    data_type: Type::Word,
+    fill: &[0, 0],
+};
+
+const LONG: Element = Element {
+    data_type: Type::Long,
+    fill: &[0, 0, 0, 0],
+};
+
+/// A chunk of three axes.
+struct Row {
+    name: &'static str,
+    sizes: [u64; 3],
+    element: Element,
+}
 
 /// Planes of so many rows and columns, one behind another.
 const PLANES: &'static [Row] = &[
-    ([1, 1, 1], Type::Byte, &[0]),
-    ([3, 2, 2], Type::Byte, &[0]),
-    ([2, 5, 3], Type::Byte, &[0]),
-    ([1, 3, 127], Type::Byte, &[0]),
-    ([1, 2, 128], Type::Byte, &[0]),
-    ([2, 1, 129], Type::Byte, &[0]),
-    ([1, 17, 4], Type::Byte, &[0]),
-    ([1, 3, 63], Type::Word, &[0, 0]),
-    ([1, 3, 64], Type::Word, &[0, 0]),
-    ([1, 3, 65], Type::Word, &[0, 0]),
-    ([2, 15, 17], Type::Long, &[0, 0, 0, 0]),
-    ([1, 16, 16], Type::Long, &[0, 0, 0, 0]),
-    ([1, 17, 15], Type::Long, &[0, 0, 0, 0]),
-    ([1, 2, 31], Type::Long, &[0, 0, 0, 0]),
-    ([2, 3, 32], Type::Long, &[0, 0, 0, 0]),
-    ([1, 2, 33], Type::Long, &[0, 0, 0, 0]),
+    Row {
+        name: "1 x 1 x 1 bytes",
+        sizes: [1, 1, 1],
+        element: BYTE,
+    },
+    Row {
+        name: "3 x 2 x 2 bytes",
+        sizes: [3, 2, 2],
+        element: BYTE,
+    },
+    Row {
+        name: "2 x 5 x 3 bytes",
+        sizes: [2, 5, 3],
+        element: BYTE,
+    },
+    Row {
+        name: "1 x 3 x 127 bytes",
+        sizes: [1, 3, 127],
+        element: BYTE,
+    },
+    Row {
+        name: "1 x 2 x 128 bytes",
+        sizes: [1, 2, 128],
+        element: BYTE,
+    },
+    Row {
+        name: "2 x 1 x 129 bytes",
+        sizes: [2, 1, 129],
+        element: BYTE,
+    },
+    Row {
+        name: "1 x 17 x 4 bytes",
+        sizes: [1, 17, 4],
+        element: BYTE,
+    },
+    Row {
+        name: "1 x 3 x 63 words",
+        sizes: [1, 3, 63],
+        element: WORD,
+    },
+    Row {
+        name: "1 x 3 x 64 words",
+        sizes: [1, 3, 64],
+        element: WORD,
+    },
+    Row {
+        name: "1 x 3 x 65 words",
+        sizes: [1, 3, 65],
+        element: WORD,
+    },
+    Row {
+        name: "2 x 15 x 17 longs",
+        sizes: [2, 15, 17],
+        element: LONG,
+    },
+    Row {
+        name: "1 x 16 x 16 longs",
+        sizes: [1, 16, 16],
+        element: LONG,
+    },
+    Row {
+        name: "1 x 17 x 15 longs",
+        sizes: [1, 17, 15],
+        element: LONG,
+    },
+    Row {
+        name: "1 x 2 x 31 longs",
+        sizes: [1, 2, 31],
+        element: LONG,
+    },
+    Row {
+        name: "2 x 3 x 32 longs",
+        sizes: [2, 3, 32],
+        element: LONG,
+    },
+    Row {
+        name: "1 x 2 x 33 longs",
+        sizes: [1, 2, 33],
+        element: LONG,
+    },
 ];
 
 /// Chunks whose axes are turned round.
 const REVERSALS: &'static [Row] = &[
-    ([5, 6, 40], Type::Byte, &[0]),
-    ([2, 3, 127], Type::Byte, &[0]),
-    ([2, 3, 128], Type::Byte, &[0]),
-    ([3, 2, 129], Type::Byte, &[0]),
-    ([17, 1, 5], Type::Byte, &[0]),
-    ([2, 3, 33], Type::Word, &[0, 0]),
-    ([5, 6, 40], Type::Long, &[0, 0, 0, 0]),
-    ([15, 2, 17], Type::Long, &[0, 0, 0, 0]),
-    ([16, 2, 16], Type::Long, &[0, 0, 0, 0]),
-    ([17, 2, 15], Type::Long, &[0, 0, 0, 0]),
+    Row {
+        name: "5 x 6 x 40 bytes",
+        sizes: [5, 6, 40],
+        element: BYTE,
+    },
+    Row {
+        name: "2 x 3 x 127 bytes",
+        sizes: [2, 3, 127],
+        element: BYTE,
+    },
+    Row {
+        name: "2 x 3 x 128 bytes",
+        sizes: [2, 3, 128],
+        element: BYTE,
+    },
+    Row {
+        name: "3 x 2 x 129 bytes",
+        sizes: [3, 2, 129],
+        element: BYTE,
+    },
+    Row {
+        name: "17 x 1 x 5 bytes",
+        sizes: [17, 1, 5],
+        element: BYTE,
+    },
+    Row {
+        name: "2 x 3 x 33 words",
+        sizes: [2, 3, 33],
+        element: WORD,
+    },
+    Row {
+        name: "5 x 6 x 40 longs",
+        sizes: [5, 6, 40],
+        element: LONG,
+    },
+    Row {
+        name: "15 x 2 x 17 longs",
+        sizes: [15, 2, 17],
+        element: LONG,
+    },
+    Row {
+        name: "16 x 2 x 16 longs",
+        sizes: [16, 2, 16],
+        element: LONG,
+    },
+    Row {
+        name: "17 x 2 x 15 longs",
+        sizes: [17, 2, 15],
+        element: LONG,
+    },
 ];
 
-/// An axis of an encoded chunk: how many indices it has, and how many bytes of the chunk are between
-/// two of them.
-type Axis = (u64, u64);
-
-fn append_bytes(bytes: &mut Vec<u8>, from: u64, count: u64) -> Result<(), AllocError> {
-    for index in 0..count {
-        bytes.push((from.wrapping_add(index) % 251) as u8)?;
-    }
-    Ok(())
+/// An axis of a chunk: how many indices it has, and how many bytes are between two of them in the chunk
+/// that isn't encoded.
+#[derive(Clone, Copy)]
+struct Axis {
+    count: u64,
+    step: u64,
 }
 
-fn append_row(bytes: &mut Vec<u8>, from: u64, axis: Axis, size: u64) -> Result<(), AllocError> {
-    let (count, step) = axis;
-    for index in 0..count {
-        append_bytes(bytes, from.wrapping_add(index.wrapping_mul(step)), size)?;
-    }
-    Ok(())
+/// The axes of a chunk, in its own order. The last are the bytes of an element.
+fn axes(row: &Row) -> [Axis; 4] {
+    let [planes, rows, columns] = row.sizes;
+    let size = row.element.fill.len() as u64;
+    let length = columns.wrapping_mul(size);
+    [
+        Axis {
+            count: planes,
+            step: rows.wrapping_mul(length),
+        },
+        Axis {
+            count: rows,
+            step: length,
+        },
+        Axis {
+            count: columns,
+            step: size,
+        },
+        Axis {
+            count: size,
+            step: 1,
+        },
+    ]
 }
 
-fn append_plane(
-    bytes: &mut Vec<u8>,
-    from: u64,
-    rows: Axis,
-    columns: Axis,
-    size: u64,
-) -> Result<(), AllocError> {
-    let (count, step) = rows;
-    for index in 0..count {
-        append_row(
-            bytes,
-            from.wrapping_add(index.wrapping_mul(step)),
-            columns,
-            size,
-        )?;
-    }
-    Ok(())
+/// The index of a number along an axis, as bytes, and what is left of the number for the axes before it.
+fn split(number: u64, axis: Axis) -> (u64, u64) {
+    let count = axis.count.max(1);
+    ((number % count).wrapping_mul(axis.step), number / count)
 }
 
-/// The bytes of an encoded chunk of these axes.
-fn moved(alloc: Global, axes: [Axis; 3], size: u64) -> Result<Vec<u8>, AllocError> {
-    let [(count, step), rows, columns] = axes;
+/// The byte that stands there in a chunk of these axes. It is told by its place in the chunk that isn't
+/// encoded.
+fn byte_at(axes: [Axis; 4], number: u64) -> u8 {
+    let [planes, rows, columns, bytes] = axes;
+    let (byte, rest) = split(number, bytes);
+    let (column, rest) = split(rest, columns);
+    let (row, rest) = split(rest, rows);
+    let (plane, _) = split(rest, planes);
+    let place = plane
+        .wrapping_add(row)
+        .wrapping_add(column)
+        .wrapping_add(byte);
+    (place % 251) as u8
+}
+
+/// The bytes of a chunk of these axes.
+fn bytes_of(alloc: Global, axes: [Axis; 4], count: u64) -> Result<Vec<u8>, AllocError> {
     let mut bytes = Vec::new(alloc);
-    for index in 0..count {
-        append_plane(&mut bytes, index.wrapping_mul(step), rows, columns, size)?;
+    for number in 0..count {
+        bytes.push(byte_at(axes, number))?;
     }
     Ok(bytes)
 }
 
-/// The axes of a chunk, in its own order.
-fn axes(row: &Row) -> [Axis; 3] {
-    let [planes, rows, columns] = row.0;
-    let size = row.2.len() as u64;
-    let length = columns.wrapping_mul(size);
-    [
-        (planes, rows.wrapping_mul(length)),
-        (rows, length),
-        (columns, size),
-    ]
+/// How many bytes a chunk has.
+fn count(row: &Row) -> u64 {
+    let [planes, rows, columns] = row.sizes;
+    let elements = planes.wrapping_mul(rows).wrapping_mul(columns);
+    elements.wrapping_mul(row.element.fill.len() as u64)
 }
 
 /// The chunk of these bytes is encoded to these, and decoded.
-fn moves_chunk(
-    rt: &impl Abort,
-    alloc: Global,
-    codec: &TransposeCodec,
-    told: &Told<'_>,
-    decoded: &[u8],
-    encoded: &[u8],
-) -> Result<(), CodecError> {
-    let form = chunk_form(alloc, told)?;
-    moves(rt, alloc, codec, &form, decoded, encoded)
-}
-
-/// The chunk whose bytes are told by where they stand is encoded to these, and decoded.
-fn moves_counted(
+fn moves_row(
     rt: &impl Abort,
     alloc: Global,
     codec: &TransposeCodec,
     row: &Row,
+    decoded: &[u8],
     encoded: &[u8],
 ) -> Result<(), CodecError> {
-    let (sizes, data_type, fill) = row;
-    let decoded = moved(alloc, [(1, 0), (1, 0), (encoded.len() as u64, 1)], 1)?;
-    moves_chunk(
-        rt,
-        alloc,
-        codec,
-        &(sizes, *data_type, fill),
-        decoded.as_slice(),
-        encoded,
-    )
+    let chunk = Chunk {
+        sizes: &row.sizes,
+        data_type: row.element.data_type,
+        fill: row.element.fill,
+    };
+    let form = chunk_form(alloc, &chunk)?;
+    moves(rt, alloc, row.name, codec, &form, decoded, encoded)
 }
 
 /// The encoded chunk has these axes.
@@ -145,18 +270,26 @@ fn has_axes(
     alloc: Global,
     codec: &TransposeCodec,
     row: &Row,
-    axes: [Axis; 3],
+    encoded: [Axis; 4],
 ) -> Result<(), CodecError> {
-    let encoded = moved(alloc, axes, row.2.len() as u64)?;
-    moves_counted(rt, alloc, codec, row, encoded.as_slice())
+    let decoded = bytes_of(alloc, axes(row), count(row))?;
+    let encoded = bytes_of(alloc, encoded, count(row))?;
+    moves_row(
+        rt,
+        alloc,
+        codec,
+        row,
+        decoded.as_slice(),
+        encoded.as_slice(),
+    )
 }
 
 #[test]
 fn planes_are_turned(rt: HostRuntime) -> Result<(), Fail> {
     let codec = transpose(rt.alloc(), &[0, 2, 1])?;
     for row in PLANES.iter() {
-        let [planes, rows, columns] = axes(row);
-        has_axes(&rt, rt.alloc(), &codec, row, [planes, columns, rows])?;
+        let [planes, rows, columns, bytes] = axes(row);
+        has_axes(&rt, rt.alloc(), &codec, row, [planes, columns, rows, bytes])?;
     }
     Ok(())
 }
@@ -165,8 +298,8 @@ fn planes_are_turned(rt: HostRuntime) -> Result<(), Fail> {
 fn axes_are_reversed(rt: HostRuntime) -> Result<(), Fail> {
     let codec = transpose(rt.alloc(), &[2, 1, 0])?;
     for row in REVERSALS.iter() {
-        let [planes, rows, columns] = axes(row);
-        has_axes(&rt, rt.alloc(), &codec, row, [columns, rows, planes])?;
+        let [planes, rows, columns, bytes] = axes(row);
+        has_axes(&rt, rt.alloc(), &codec, row, [columns, rows, planes, bytes])?;
     }
     Ok(())
 }

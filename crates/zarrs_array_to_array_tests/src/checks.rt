@@ -5,7 +5,6 @@ use std::alloc::Global;
 use std::fmt::Debug;
 use std::ops::Range;
 use std::process::Abort;
-use std::test::Fail;
 use zarrs_array_bytes::ArrayBytes;
 use zarrs_chunk::{ArraySubset, ChunkShape, CodecError, Indexer};
 
@@ -19,6 +18,34 @@ pub(crate) fn are<T: PartialEq + Debug>(rt: &impl Abort, about: &str, came: &[T]
     assert_eq!(rt; came, wanted, "{about}");
 }
 
+/// The answer is this one, or this refusal. A want of memory is an error of the test.
+pub(crate) fn answers<T: PartialEq + Debug>(
+    rt: &impl Abort,
+    about: &str,
+    came: &Result<T, CodecError>,
+    wanted: &Result<T, CodecError>,
+) -> Result<(), CodecError> {
+    if let Err(CodecError::OutOfMemory) = came {
+        return Err(CodecError::OutOfMemory);
+    }
+    is(rt, about, came, wanted);
+    Ok(())
+}
+
+/// The refusal that came is this one, or none is due. A want of memory is an error of the test.
+pub(crate) fn is_refusal(
+    rt: &impl Abort,
+    about: &str,
+    came: Option<CodecError>,
+    wanted: Option<CodecError>,
+) -> Result<(), CodecError> {
+    if came == Some(CodecError::OutOfMemory) {
+        return Err(CodecError::OutOfMemory);
+    }
+    is(rt, about, &came, &wanted);
+    Ok(())
+}
+
 /// The container that came has these bytes, in elements of one size.
 pub(crate) fn has_bytes(
     rt: &impl Abort,
@@ -27,21 +54,6 @@ pub(crate) fn has_bytes(
     wanted: &[u8],
 ) -> Result<(), CodecError> {
     are(rt, about, came.as_fixed()?, wanted);
-    Ok(())
-}
-
-/// The answer is this refusal. A want of memory is an error of the test.
-pub(crate) fn is_refused<T: Drop>(
-    rt: &impl Abort,
-    about: &str,
-    answer: Result<T, CodecError>,
-    cause: CodecError,
-) -> Result<(), Fail> {
-    let came = answer.err();
-    if came == Some(CodecError::OutOfMemory) {
-        return Err(CodecError::OutOfMemory)?;
-    }
-    is(rt, about, &came, &Some(cause));
     Ok(())
 }
 

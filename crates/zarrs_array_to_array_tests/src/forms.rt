@@ -1,46 +1,39 @@
-//! Codecs and chunks as plain data, and what is made of them.
+//! Codecs and chunks as plain data, and what is made of them. A codec is told by its metadata.
 
 use crate::checks::shape;
+use serde_json::Value;
 use std::alloc::{AllocError, Global};
 use std::borrow::CowSlice;
 use zarrs_array_bytes::{ArrayBytes, ArrayBytesOffsets, ArrayBytesRaw};
-use zarrs_array_to_array::{ArrayToArrayCodec, ReshapeCodec, SqueezeCodec, TransposeCodec};
+use zarrs_array_to_array::{ArrayToArrayCodec, TransposeCodec};
 use zarrs_chunk::{ChunkShape, CodecError};
 use zarrs_data_type::{DataType, FillValue};
-use zarrs_metadata::{PluginCreateError, ReshapeDim, ReshapeShape, TransposeOrder};
+use zarrs_metadata::{MetadataV3, PluginCreateError, ReshapeDim, ReshapeShape, TransposeOrder};
 
-/// A size of a reshaped chunk.
-#[derive(Clone, Copy)]
-pub(crate) enum Size {
-    Is(u64),
-    Rest,
-    Of(&'static [u64]),
-}
+/// Two axes change places.
+pub(crate) const TURN: &'static str = r#"{"name":"transpose","configuration":{"order":[1,0]}}"#;
 
-/// A codec.
-#[derive(Clone, Copy)]
-pub(crate) enum Codec {
-    Transpose(&'static [usize]),
-    Reshape(&'static [Size]),
-    Squeeze,
-}
+/// The same by the sizes alone: the elements stay where they are.
+pub(crate) const SWAP: &'static str = r#"{"name":"reshape","configuration":{"shape":[[1],[0]]}}"#;
 
-fn dim(alloc: Global, told: &Size) -> Result<ReshapeDim, PluginCreateError> {
-    match told {
-        Size::Is(size) => Ok(ReshapeDim::Size(*size)),
-        Size::Rest => Ok(ReshapeDim::Auto),
-        Size::Of(axes) => Ok(ReshapeDim::InputDims(axes.to_vec(alloc)?)),
+/// All elements along one axis.
+pub(crate) const FLAT: &'static str = r#"{"name":"reshape","configuration":{"shape":[-1]}}"#;
+
+pub(crate) const SQUEEZE: &'static str = r#""zarrs.squeeze""#;
+
+/// The metadata of a text that reads.
+pub(crate) fn metadata(alloc: Global, text: &str) -> Result<MetadataV3, PluginCreateError> {
+    match Value::from_str(alloc, text) {
+        Ok(tree) => MetadataV3::from_value(alloc, &tree),
+        Err(_) => Err(PluginCreateError::OutOfMemory),
     }
 }
 
-fn dims(alloc: Global, told: &[Size]) -> Result<Vec<ReshapeDim>, PluginCreateError> {
-    let mut made = Vec::new(alloc);
-    for one in told {
-        made.push(dim(alloc, one)?)?;
-    }
-    Ok(made)
+pub(crate) fn codec(alloc: Global, text: &str) -> Result<ArrayToArrayCodec, PluginCreateError> {
+    ArrayToArrayCodec::create(alloc, &metadata(alloc, text)?)
 }
 
+/// The codec of an order of axes.
 pub(crate) fn transpose(
     alloc: Global,
     order: &[usize],
@@ -48,19 +41,11 @@ pub(crate) fn transpose(
     Ok(TransposeCodec::new(TransposeOrder::new(alloc, order)?))
 }
 
-pub(crate) fn reshape(alloc: Global, told: &[Size]) -> Result<ReshapeCodec, PluginCreateError> {
-    Ok(ReshapeCodec::new(ReshapeShape::new(dims(alloc, told)?)?))
-}
-
-pub(crate) fn codec_of(
-    alloc: Global,
-    told: &Codec,
-) -> Result<ArrayToArrayCodec, PluginCreateError> {
-    match told {
-        Codec::Transpose(order) => Ok(ArrayToArrayCodec::Transpose(transpose(alloc, order)?)),
-        Codec::Reshape(sizes) => Ok(ArrayToArrayCodec::Reshape(reshape(alloc, sizes)?)),
-        Codec::Squeeze => Ok(ArrayToArrayCodec::Squeeze(SqueezeCodec::new())),
-    }
+/// One size, for all elements.
+pub(crate) fn one_size(alloc: Global) -> Result<ReshapeShape, PluginCreateError> {
+    let mut sizes = Vec::new(alloc);
+    sizes.push(ReshapeDim::Auto)?;
+    ReshapeShape::new(sizes)
 }
 
 /// A type of elements.
@@ -73,7 +58,7 @@ pub(crate) enum Type {
     OptionalByte,
 }
 
-fn data_type(alloc: Global, told: &Type) -> Result<DataType, CodecError> {
+fn data_type(alloc: Global, told: Type) -> Result<DataType, CodecError> {
     match told {
         Type::Byte => Ok(DataType::uint8()),
         Type::Word => Ok(DataType::uint16()),
@@ -83,8 +68,13 @@ fn data_type(alloc: Global, told: &Type) -> Result<DataType, CodecError> {
     }
 }
 
-/// A chunk: its sizes, its type and its fill value.
-pub(crate) type Told<'a> = (&'a [u64], Type, &'a [u8]);
+/// A chunk: its sizes, the type of its elements, and its fill value.
+#[derive(Clone, Copy)]
+pub(crate) struct Chunk<'a> {
+    pub(crate) sizes: &'a [u64],
+    pub(crate) data_type: Type,
+    pub(crate) fill: &'a [u8],
+}
 
 /// What a codec is told of a chunk.
 #[derive(Drop)]
@@ -94,11 +84,10 @@ pub(crate) struct ChunkForm {
     pub(crate) fill_value: FillValue,
 }
 
-pub(crate) fn chunk_form(alloc: Global, told: &Told<'_>) -> Result<ChunkForm, CodecError> {
-    let (sizes, data_type_told, fill) = told;
-    let shape = shape(alloc, sizes)?;
-    let data_type = data_type(alloc, data_type_told)?;
-    let fill_value = FillValue::new(fill.to_vec(alloc)?);
+pub(crate) fn chunk_form(alloc: Global, chunk: &Chunk<'_>) -> Result<ChunkForm, CodecError> {
+    let shape = shape(alloc, chunk.sizes)?;
+    let data_type = data_type(alloc, chunk.data_type)?;
+    let fill_value = FillValue::new(chunk.fill.to_vec(alloc)?);
     Ok(ChunkForm {
         shape,
         data_type,
@@ -113,6 +102,11 @@ fn raw(alloc: Global, bytes: &[u8]) -> Result<ArrayBytesRaw<'static>, AllocError
 /// Elements of one size.
 pub(crate) fn fixed(alloc: Global, bytes: &[u8]) -> Result<ArrayBytes<'static>, CodecError> {
     Ok(ArrayBytes::new_flen(raw(alloc, bytes)?))
+}
+
+/// Elements of one size, lent.
+pub(crate) fn lent(bytes: &[u8]) -> ArrayBytes<'_> {
+    ArrayBytes::new_flen(CowSlice::Borrowed(bytes))
 }
 
 /// Elements of any length.

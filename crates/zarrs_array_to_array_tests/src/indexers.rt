@@ -1,130 +1,237 @@
-use crate::checks::{Asked, are, indexer, is, is_refused, shape};
-use crate::forms::Size::{Of, Rest};
-use crate::forms::{Codec, codec_of};
+//! What is asked of an encoded chunk where a part of the chunk is meant: told by its places there.
+
+use crate::checks::{Asked, answers, indexer, is, shape};
+use crate::forms::{FLAT, SQUEEZE, TURN, codec};
 use std::alloc::Global;
 use std::process::Abort;
 use std::test::Fail;
-use zarrs_array_to_array::{ArrayToArrayCodec, SqueezeCodec};
+use zarrs_array_to_array::SqueezeCodec;
 use zarrs_chunk::{ChunkShape, CodecError, Indexer};
 use zarrs_codec::ArrayToArrayCodecTraits;
 
-const SQUARE: &'static [u64] = &[4, 4];
+const AXES: CodecError = CodecError::IncompatibleDimensionality;
 
-const LINES: &'static [u64] = &[1, 4, 1, 4, 1];
+const FOUR: &'static str = r#"{"name":"reshape","configuration":{"shape":[[4]]}}"#;
 
-/// Codecs, sizes of chunks, what is asked of them, and its places in the encoded chunk.
-type Row = (Codec, &'static [u64], Asked<'static>, &'static [u64]);
+/// A codec by its metadata, the sizes of a chunk, what is asked of it, and the places of that in the
+/// encoded chunk.
+struct Row {
+    name: &'static str,
+    codec: &'static str,
+    sizes: &'static [u64],
+    asked: Asked<'static>,
+    places: Result<&'static [u64], CodecError>,
+}
 
-const PLACES: &'static [Row] = &[
-    (
-        Codec::Transpose(&[1, 0]),
-        SQUARE,
-        Asked::Ranges(&[2..4, 0..2]),
-        &[2, 6, 3, 7],
-    ),
-    (
-        Codec::Transpose(&[1, 0]),
-        SQUARE,
-        Asked::Ranges(&[1..3, 1..4]),
-        &[5, 9, 13, 6, 10, 14],
-    ),
-    (
-        Codec::Transpose(&[1, 0]),
-        &[2, 3],
-        Asked::Tuples(&[&[1, 0], &[0, 2]]),
-        &[1, 4],
-    ),
-    (
-        Codec::Transpose(&[1, 0]),
-        &[2, 3],
-        Asked::Ranges(&[1..1, 0..3]),
-        &[],
-    ),
-    (Codec::Transpose(&[]), &[], Asked::Ranges(&[]), &[0]),
-    (
-        Codec::Reshape(&[Of(&[2]), Of(&[0, 1])]),
-        &[2, 3, 4],
-        Asked::Ranges(&[1..2, 1..3, 1..4]),
-        &[17, 18, 19, 21, 22, 23],
-    ),
-    (
-        Codec::Reshape(&[Rest]),
-        &[2, 3],
-        Asked::Tuples(&[&[1, 2], &[0, 0], &[1, 2]]),
-        &[5, 0, 5],
-    ),
-    (
-        Codec::Squeeze,
-        LINES,
-        Asked::Ranges(&[0..1, 1..3, 0..1, 1..4, 0..1]),
-        &[5, 6, 7, 9, 10, 11],
-    ),
-    (
-        Codec::Squeeze,
-        LINES,
-        Asked::Ranges(&[0..1, 2..4, 0..1, 0..2, 0..1]),
-        &[8, 9, 12, 13],
-    ),
-    (
-        Codec::Squeeze,
-        &[1, 3],
-        Asked::Tuples(&[&[0, 2], &[0, 0]]),
-        &[2, 0],
-    ),
-    // An empty range along an axis that is dropped, where another axis stays and where none does.
-    (Codec::Squeeze, &[1, 3], Asked::Ranges(&[1..1, 0..3]), &[]),
-    (Codec::Squeeze, &[1, 1], Asked::Ranges(&[0..1, 1..1]), &[]),
+const ROWS: &'static [Row] = &[
+    Row {
+        name: "a square is turned",
+        codec: TURN,
+        sizes: &[4, 4],
+        asked: Asked::Ranges(&[2..4, 0..2]),
+        places: Ok(&[2, 6, 3, 7]),
+    },
+    Row {
+        name: "a rectangle is turned",
+        codec: TURN,
+        sizes: &[4, 4],
+        asked: Asked::Ranges(&[1..3, 1..4]),
+        places: Ok(&[5, 9, 13, 6, 10, 14]),
+    },
+    Row {
+        name: "tuples are turned",
+        codec: TURN,
+        sizes: &[2, 3],
+        asked: Asked::Tuples(&[&[1, 0], &[0, 2]]),
+        places: Ok(&[1, 4]),
+    },
+    Row {
+        name: "an empty region is turned",
+        codec: TURN,
+        sizes: &[2, 3],
+        asked: Asked::Ranges(&[1..1, 0..3]),
+        places: Ok(&[]),
+    },
+    Row {
+        name: "no axes are turned",
+        codec: r#"{"name":"transpose","configuration":{"order":[]}}"#,
+        sizes: &[],
+        asked: Asked::Ranges(&[]),
+        places: Ok(&[0]),
+    },
+    Row {
+        name: "a region in another shape",
+        codec: r#"{"name":"reshape","configuration":{"shape":[[2],[0,1]]}}"#,
+        sizes: &[2, 3, 4],
+        asked: Asked::Ranges(&[1..2, 1..3, 1..4]),
+        places: Ok(&[17, 18, 19, 21, 22, 23]),
+    },
+    Row {
+        name: "a tuple comes twice",
+        codec: FLAT,
+        sizes: &[2, 3],
+        asked: Asked::Tuples(&[&[1, 2], &[0, 0], &[1, 2]]),
+        places: Ok(&[5, 0, 5]),
+    },
+    Row {
+        name: "a region of two axes among three of one",
+        codec: SQUEEZE,
+        sizes: &[1, 4, 1, 4, 1],
+        asked: Asked::Ranges(&[0..1, 1..3, 0..1, 1..4, 0..1]),
+        places: Ok(&[5, 6, 7, 9, 10, 11]),
+    },
+    Row {
+        name: "another one at its edge",
+        codec: SQUEEZE,
+        sizes: &[1, 4, 1, 4, 1],
+        asked: Asked::Ranges(&[0..1, 2..4, 0..1, 0..2, 0..1]),
+        places: Ok(&[8, 9, 12, 13]),
+    },
+    Row {
+        name: "squeezed tuples",
+        codec: SQUEEZE,
+        sizes: &[1, 3],
+        asked: Asked::Tuples(&[&[0, 2], &[0, 0]]),
+        places: Ok(&[2, 0]),
+    },
+    Row {
+        name: "a squeezed tuple outside",
+        codec: SQUEEZE,
+        sizes: &[1, 3],
+        asked: Asked::Tuples(&[&[1, 0]]),
+        places: Err(CodecError::OutOfBounds),
+    },
+    Row {
+        name: "an empty range along the axis that is left out",
+        codec: SQUEEZE,
+        sizes: &[1, 3],
+        asked: Asked::Ranges(&[1..1, 0..3]),
+        places: Ok(&[]),
+    },
+    Row {
+        name: "the same where no other axis is",
+        codec: SQUEEZE,
+        sizes: &[1, 1],
+        asked: Asked::Ranges(&[0..1, 1..1]),
+        places: Ok(&[]),
+    },
+    Row {
+        name: "a range outside along that axis",
+        codec: SQUEEZE,
+        sizes: &[1, 1],
+        asked: Asked::Ranges(&[0..1, 1..2]),
+        places: Err(CodecError::OutOfBounds),
+    },
+    Row {
+        name: "the axes of the squeezed chunk",
+        codec: SQUEEZE,
+        sizes: &[1, 3],
+        asked: Asked::Ranges(&[0..3]),
+        places: Err(AXES),
+    },
+    Row {
+        name: "a tuple of the squeezed chunk",
+        codec: SQUEEZE,
+        sizes: &[1, 3],
+        asked: Asked::Tuples(&[&[2]]),
+        places: Err(AXES),
+    },
+    Row {
+        name: "a region of the turned chunk",
+        codec: TURN,
+        sizes: &[2, 3],
+        asked: Asked::Ranges(&[0..3, 0..2]),
+        places: Err(CodecError::OutOfBounds),
+    },
+    Row {
+        name: "a tuple of the turned chunk",
+        codec: TURN,
+        sizes: &[2, 3],
+        asked: Asked::Tuples(&[&[2, 0]]),
+        places: Err(CodecError::OutOfBounds),
+    },
+    Row {
+        name: "one range of two",
+        codec: TURN,
+        sizes: &[2, 3],
+        asked: Asked::Ranges(&[0..1]),
+        places: Err(AXES),
+    },
+    Row {
+        name: "the region comes before the order, which has two axes",
+        codec: TURN,
+        sizes: &[2],
+        asked: Asked::Ranges(&[0..3]),
+        places: Err(CodecError::OutOfBounds),
+    },
+    Row {
+        name: "the order has two axes",
+        codec: TURN,
+        sizes: &[2],
+        asked: Asked::Ranges(&[0..2]),
+        places: Err(AXES),
+    },
+    Row {
+        name: "a region outside the chunk that is reshaped",
+        codec: FLAT,
+        sizes: &[2, 3],
+        asked: Asked::Ranges(&[0..2, 0..4]),
+        places: Err(CodecError::OutOfBounds),
+    },
+    Row {
+        name: "the axis of the reshaped chunk",
+        codec: FLAT,
+        sizes: &[2, 3],
+        asked: Asked::Ranges(&[0..6]),
+        places: Err(AXES),
+    },
+    Row {
+        name: "the region comes before the sizes, which name no axis of the chunk",
+        codec: FOUR,
+        sizes: &[2],
+        asked: Asked::Ranges(&[0..3]),
+        places: Err(CodecError::OutOfBounds),
+    },
+    Row {
+        name: "the sizes name no axis of the chunk",
+        codec: FOUR,
+        sizes: &[2],
+        asked: Asked::Ranges(&[0..2]),
+        places: Err(CodecError::ReshapeDimension),
+    },
 ];
 
-/// The encoded indexer has these places in the encoded chunk.
-pub(crate) fn asks_for<C: ArrayToArrayCodecTraits>(
-    rt: &impl Abort,
+/// The places in the encoded chunk of what is asked of a chunk of this shape.
+pub(crate) fn encoded_places<C: ArrayToArrayCodecTraits>(
     alloc: Global,
     codec: &C,
     decoded: &ChunkShape,
-    indexer: &Indexer,
-    places: &[u64],
-) -> Result<(), CodecError> {
-    let encoded = codec.encoded_shape(alloc, decoded)?;
-    let asked = codec.encoded_indexer(alloc, indexer, decoded)?;
-    has_places(rt, alloc, &asked, &encoded, places)
-}
-
-fn has_places(
-    rt: &impl Abort,
-    alloc: Global,
-    asked: &Indexer,
-    encoded: &ChunkShape,
-    places: &[u64],
-) -> Result<(), CodecError> {
-    let came = asked.places(alloc, encoded)?;
-    are(rt, "places", came.as_slice(), places);
-    Ok(())
-}
-
-fn asks_for_row(
-    rt: &impl Abort,
-    alloc: Global,
-    codec: &ArrayToArrayCodec,
-    sizes: &[u64],
     asked: &Asked<'_>,
-    places: &[u64],
-) -> Result<(), CodecError> {
-    let decoded = shape(alloc, sizes)?;
-    let indexer = indexer(alloc, asked)?;
-    asks_for(rt, alloc, codec, &decoded, &indexer, places)
+) -> Result<Vec<u64>, CodecError> {
+    let meant = indexer(alloc, asked)?;
+    let encoded = codec.encoded_indexer(alloc, &meant, decoded)?;
+    encoded.places(alloc, &codec.encoded_shape(alloc, decoded)?)
 }
 
-fn asks_for_told(rt: &impl Abort, alloc: Global, row: &Row) -> Result<(), Fail> {
-    let (told, sizes, asked, places) = row;
-    let codec = codec_of(alloc, told)?;
-    Ok(asks_for_row(rt, alloc, &codec, sizes, asked, places)?)
+/// Places or a refusal, as plain data.
+fn numbers<'a>(came: &'a Result<Vec<u64>, CodecError>) -> Result<&'a [u64], CodecError> {
+    match came {
+        Ok(places) => Ok(places.as_slice()),
+        Err(cause) => Err(*cause),
+    }
+}
+
+fn has_places(rt: &impl Abort, alloc: Global, row: &Row) -> Result<(), Fail> {
+    let codec = codec(alloc, row.codec)?;
+    let decoded = shape(alloc, row.sizes)?;
+    let came = encoded_places(alloc, &codec, &decoded, &row.asked);
+    Ok(answers(rt, row.name, &numbers(&came), &row.places)?)
 }
 
 #[test]
-fn encoded_indexers_have_the_places(rt: HostRuntime) -> Result<(), Fail> {
-    for row in PLACES.iter() {
-        asks_for_told(&rt, rt.alloc(), row)?;
+fn indexers_are_encoded(rt: HostRuntime) -> Result<(), Fail> {
+    for row in ROWS.iter() {
+        has_places(&rt, rt.alloc(), row)?;
     }
     Ok(())
 }
@@ -135,123 +242,15 @@ fn squeezed_row(alloc: Global) -> Result<Indexer, CodecError> {
     SqueezeCodec::new().encoded_indexer(alloc, &row, &chunk)
 }
 
-fn is_region(rt: &impl Abort, indexer: &Indexer) {
-    is(rt, "region", &matches!(indexer, Indexer::Subset(_)), &true);
-}
-
 /// A region of a chunk is one of the squeezed chunk.
 #[test]
 fn a_squeezed_region_is_a_region(rt: HostRuntime) -> Result<(), Fail> {
-    is_region(&rt, &squeezed_row(rt.alloc())?);
-    Ok(())
-}
-
-const AXES: CodecError = CodecError::IncompatibleDimensionality;
-
-/// Codecs, sizes of chunks, what can't be asked of them, and why.
-type RefusedRow = (Codec, &'static [u64], Asked<'static>, CodecError);
-
-const REFUSED: &'static [RefusedRow] = &[
-    (
-        Codec::Squeeze,
-        &[1, 3],
-        Asked::Tuples(&[&[1, 0]]),
-        CodecError::OutOfBounds,
-    ),
-    (
-        Codec::Squeeze,
-        &[1, 1],
-        Asked::Ranges(&[0..1, 1..2]),
-        CodecError::OutOfBounds,
-    ),
-    (Codec::Squeeze, &[1, 3], Asked::Ranges(&[0..3]), AXES),
-    (Codec::Squeeze, &[1, 3], Asked::Tuples(&[&[2]]), AXES),
-    (
-        Codec::Transpose(&[1, 0]),
-        &[2, 3],
-        Asked::Ranges(&[0..3, 0..2]),
-        CodecError::OutOfBounds,
-    ),
-    (
-        Codec::Transpose(&[1, 0]),
-        &[2, 3],
-        Asked::Tuples(&[&[2, 0]]),
-        CodecError::OutOfBounds,
-    ),
-    (
-        Codec::Transpose(&[1, 0]),
-        &[2, 3],
-        Asked::Ranges(&[0..1]),
-        AXES,
-    ),
-    // The indexer comes before the shape, which has another number of axes than the order.
-    (
-        Codec::Transpose(&[1, 0]),
-        &[2],
-        Asked::Ranges(&[0..3]),
-        CodecError::OutOfBounds,
-    ),
-    (
-        Codec::Transpose(&[1, 0]),
-        &[2],
-        Asked::Ranges(&[0..2]),
-        AXES,
-    ),
-    (
-        Codec::Reshape(&[Rest]),
-        &[2, 3],
-        Asked::Ranges(&[0..2, 0..4]),
-        CodecError::OutOfBounds,
-    ),
-    (
-        Codec::Reshape(&[Rest]),
-        &[2, 3],
-        Asked::Ranges(&[0..6]),
-        AXES,
-    ),
-    // The indexer comes before the shape, of which the sizes can't be.
-    (
-        Codec::Reshape(&[Of(&[4])]),
-        &[2],
-        Asked::Ranges(&[0..3]),
-        CodecError::OutOfBounds,
-    ),
-    (
-        Codec::Reshape(&[Of(&[4])]),
-        &[2],
-        Asked::Ranges(&[0..2]),
-        CodecError::ReshapeDimension,
-    ),
-];
-
-fn refuses(
-    rt: &impl Abort,
-    alloc: Global,
-    codec: &ArrayToArrayCodec,
-    sizes: &[u64],
-    asked: &Asked<'_>,
-    cause: CodecError,
-) -> Result<(), Fail> {
-    let decoded = shape(alloc, sizes)?;
-    let indexer = indexer(alloc, asked)?;
-    is_refused(
-        rt,
-        "indexer",
-        codec.encoded_indexer(alloc, &indexer, &decoded),
-        cause,
-    )
-}
-
-fn refuses_told(rt: &impl Abort, alloc: Global, row: &RefusedRow) -> Result<(), Fail> {
-    let (told, sizes, asked, cause) = row;
-    let codec = codec_of(alloc, told)?;
-    refuses(rt, alloc, &codec, sizes, asked, *cause)
-}
-
-#[test]
-fn indexers_are_refused(rt: HostRuntime) -> Result<(), Fail> {
-    for row in REFUSED.iter() {
-        refuses_told(&rt, rt.alloc(), row)?;
-    }
+    let squeezed = squeezed_row(rt.alloc())?;
+    is(
+        &rt,
+        "region",
+        &matches!(squeezed, Indexer::Subset(_)),
+        &true,
+    );
     Ok(())
 }

@@ -1,6 +1,9 @@
 //! Tests of the codecs that move elements, over the public calls of `zarrs_array_to_array`. Without
 //! tests the crate is empty.
 //!
+//! What the line tool shows of them stands in `zarrs_transcripts`: whole chunks, and parts that are read
+//! and written through a chain. Here is the rest: shapes and indexers, each codec by itself, stages over
+//! an input of `bytes`, what is refused with the input handed back, metadata, and blocks of many sizes.
 //! Answers are written by hand, from what the formats say. A want of memory ends a test with that
 //! error and is never compared, so a run in which an allocation fails shows each answer that changes
 //! otherwise.
@@ -24,12 +27,12 @@ mod inputs;
 #[cfg(test)]
 mod metadata;
 #[cfg(test)]
-mod moves;
-#[cfg(test)]
 mod refusals;
 #[cfg(test)]
 mod shapes;
 #[cfg(test)]
 mod stages;
+#[cfg(test)]
+mod unmade;
 #[cfg(test)]
 mod writes;

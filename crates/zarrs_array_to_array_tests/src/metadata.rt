@@ -1,93 +1,61 @@
-//! The codecs made from metadata, and written as it again.
-//!
-//! Metadata is given and compared as JSON text, written by hand.
+//! The codecs made of metadata and of configurations, and written as metadata again, which is given and
+//! compared as JSON text.
+
 use crate::checks::is;
-use serde_json::{Map, Value};
+use crate::forms::{SQUEEZE, TURN, codec, metadata, one_size};
 use std::alloc::Global;
 use std::process::Abort;
 use std::test::Fail;
 use zarrs_array_to_array::{ArrayToArrayCodec, ReshapeCodec, SqueezeCodec, TransposeCodec};
 use zarrs_codec::CodecTraits;
-use zarrs_metadata::PluginCreateError::UnknownName;
 use zarrs_metadata::{
-    Configuration, MetadataV3, PluginCreateError, ReshapeCodecConfiguration,
-    SqueezeCodecConfiguration, TransposeCodecConfiguration,
+    MetadataV3, PluginCreateError, ReshapeCodecConfiguration, ReshapeCodecConfigurationV1,
+    SqueezeCodecConfiguration, SqueezeCodecConfigurationV0, TransposeCodecConfiguration,
+    TransposeCodecConfigurationV1, TransposeOrder,
 };
 
-/// How a codec is made: of a metadata, by the call of all codecs or by its own, or of what stands under
-/// the one key of its configuration.
-#[derive(Clone, Copy)]
-enum Maker {
-    Any,
-    Transpose,
-    Reshape,
-    Squeeze,
-    TransposeOf,
-    ReshapeOf,
-    SqueezeOf,
+/// A metadata, and what is written of its codec.
+struct Row {
+    name: &'static str,
+    metadata: &'static str,
+    written: &'static str,
 }
 
-/// What a codec is made of, and what is written of it; or the cause why there is none.
-type Row = (Maker, &'static str, Result<&'static str, PluginCreateError>);
-
-const ORDER: &'static str = r#"{"name":"transpose","configuration":{"order":[1,0]}}"#;
-
-const ORDER_WRITTEN: &'static str = r#"{"configuration":{"order":[1,0]},"name":"transpose"}"#;
+const TURN_WRITTEN: &'static str = r#"{"configuration":{"order":[1,0]},"name":"transpose"}"#;
 
 const SIZES: &'static str = r#"{"name":"reshape","configuration":{"shape":[[0,1],-1,[3],10]}}"#;
 
-const SIZES_WRITTEN: &'static str =
-    r#"{"configuration":{"shape":[[0,1],-1,[3],10]},"name":"reshape"}"#;
-
-const SQUEEZE: &'static str = r#""zarrs.squeeze""#;
+const ONE_SIZE_WRITTEN: &'static str = r#"{"configuration":{"shape":[-1]},"name":"reshape"}"#;
 
 const SQUEEZE_WRITTEN: &'static str = r#"{"configuration":{},"name":"zarrs.squeeze"}"#;
 
 const ROWS: &'static [Row] = &[
-    (Maker::Any, ORDER, Ok(ORDER_WRITTEN)),
-    (
-        Maker::Any,
-        r#"{"name":"transpose","configuration":{"order":[],"x":"C"},"must_understand":false}"#,
-        Ok(r#"{"configuration":{"order":[]},"name":"transpose"}"#),
-    ),
-    (Maker::Any, SIZES, Ok(SIZES_WRITTEN)),
-    (Maker::Any, SQUEEZE, Ok(SQUEEZE_WRITTEN)),
-    (
-        Maker::Any,
-        r#"{"name":"https://codec.zarrs.dev/array_to_array/squeeze","configuration":{"x":1}}"#,
-        Ok(SQUEEZE_WRITTEN),
-    ),
-    (Maker::Any, r#""bytes""#, Err(UnknownName)),
-    (Maker::Transpose, ORDER, Ok(ORDER_WRITTEN)),
-    (Maker::Reshape, SIZES, Ok(SIZES_WRITTEN)),
-    (Maker::Squeeze, SQUEEZE, Ok(SQUEEZE_WRITTEN)),
-    (Maker::Transpose, SIZES, Err(UnknownName)),
-    (Maker::Reshape, ORDER, Err(UnknownName)),
-    (Maker::Squeeze, ORDER, Err(UnknownName)),
-    (Maker::TransposeOf, "[1,0]", Ok(ORDER_WRITTEN)),
-    (Maker::ReshapeOf, "[[0,1],-1,[3],10]", Ok(SIZES_WRITTEN)),
-    (Maker::SqueezeOf, "null", Ok(SQUEEZE_WRITTEN)),
+    Row {
+        name: "an order of two axes",
+        metadata: TURN,
+        written: TURN_WRITTEN,
+    },
+    Row {
+        name: "an order of none, and what is passed over",
+        metadata: r#"{"name":"transpose","configuration":{"order":[],"x":"C"},"must_understand":false}"#,
+        written: r#"{"configuration":{"order":[]},"name":"transpose"}"#,
+    },
+    Row {
+        name: "all forms of a size",
+        metadata: SIZES,
+        written: r#"{"configuration":{"shape":[[0,1],-1,[3],10]},"name":"reshape"}"#,
+    },
+    Row {
+        name: "squeeze without a configuration",
+        metadata: SQUEEZE,
+        written: SQUEEZE_WRITTEN,
+    },
+    Row {
+        name: "squeeze by its other name",
+        metadata: r#"{"name":"https://codec.zarrs.dev/array_to_array/squeeze","configuration":{"x":1}}"#,
+        written: SQUEEZE_WRITTEN,
+    },
 ];
-
-/// The tree of a text that reads.
-fn tree(alloc: Global, text: &str) -> Result<Value, PluginCreateError> {
-    match Value::from_str(alloc, text) {
-        Ok(tree) => Ok(tree),
-        Err(_) => Err(PluginCreateError::OutOfMemory),
-    }
-}
-
-fn metadata(alloc: Global, text: &str) -> Result<MetadataV3, PluginCreateError> {
-    MetadataV3::from_value(alloc, &tree(alloc, text)?)
-}
-
-/// The configuration with one member.
-fn configuration(alloc: Global, key: &str, text: &str) -> Result<Configuration, PluginCreateError> {
-    let mut members = Map::new(alloc);
-    let tree = tree(alloc, text)?;
-    serde_json::put(&mut members, alloc, key, tree)?;
-    Ok(members)
-}
 
 /// The text of a codec's name and configuration, as one metadata.
 fn written(alloc: Global, codec: &impl CodecTraits) -> Result<String, PluginCreateError> {
@@ -101,88 +69,88 @@ fn written(alloc: Global, codec: &impl CodecTraits) -> Result<String, PluginCrea
     Ok(metadata.to_value(alloc)?.to_string(alloc)?)
 }
 
-fn any_again(alloc: Global, text: &str) -> Result<String, PluginCreateError> {
-    let codec = ArrayToArrayCodec::create(alloc, &metadata(alloc, text)?)?;
-    written(alloc, &codec)
-}
-
-fn transpose_again(alloc: Global, text: &str) -> Result<String, PluginCreateError> {
-    written(
-        alloc,
-        &TransposeCodec::create(alloc, &metadata(alloc, text)?)?,
-    )
-}
-
-fn reshape_again(alloc: Global, text: &str) -> Result<String, PluginCreateError> {
-    written(
-        alloc,
-        &ReshapeCodec::create(alloc, &metadata(alloc, text)?)?,
-    )
-}
-
-fn squeeze_again(alloc: Global, text: &str) -> Result<String, PluginCreateError> {
-    written(alloc, &SqueezeCodec::create(&metadata(alloc, text)?)?)
-}
-
-fn transpose_of(alloc: Global, text: &str) -> Result<String, PluginCreateError> {
-    let members = configuration(alloc, "order", text)?;
-    let fields = TransposeCodecConfiguration::from_configuration(alloc, &members)?;
-    written(
-        alloc,
-        &TransposeCodec::new_with_configuration(alloc, &fields)?,
-    )
-}
-
-fn reshape_of(alloc: Global, text: &str) -> Result<String, PluginCreateError> {
-    let members = configuration(alloc, "shape", text)?;
-    let fields = ReshapeCodecConfiguration::from_configuration(alloc, &members)?;
-    written(
-        alloc,
-        &ReshapeCodec::new_with_configuration(alloc, &fields)?,
-    )
-}
-
-fn squeeze_of(alloc: Global, text: &str) -> Result<String, PluginCreateError> {
-    let members = configuration(alloc, "x", text)?;
-    let fields = SqueezeCodecConfiguration::from_configuration(&members)?;
-    written(alloc, &SqueezeCodec::new_with_configuration(&fields)?)
-}
-
-fn made(alloc: Global, maker: Maker, text: &str) -> Result<String, PluginCreateError> {
-    match maker {
-        Maker::Any => any_again(alloc, text),
-        Maker::Transpose => transpose_again(alloc, text),
-        Maker::Reshape => reshape_again(alloc, text),
-        Maker::Squeeze => squeeze_again(alloc, text),
-        Maker::TransposeOf => transpose_of(alloc, text),
-        Maker::ReshapeOf => reshape_of(alloc, text),
-        Maker::SqueezeOf => squeeze_of(alloc, text),
-    }
-}
-
-/// A text is answered, or a refusal. A want of memory is an error of the test.
-fn answers(
+/// The codec is written as this text.
+pub(crate) fn is_written<C: CodecTraits>(
     rt: &impl Abort,
     about: &str,
-    came: Result<String, PluginCreateError>,
-    wanted: Result<&str, PluginCreateError>,
-) -> Result<(), Fail> {
-    let came = match &came {
-        Ok(text) => Ok(text.as_str()),
-        Err(cause) => Err(*cause),
-    };
-    if came == Err(PluginCreateError::OutOfMemory) {
-        return Err(PluginCreateError::OutOfMemory)?;
-    }
-    is(rt, about, &came, &wanted);
+    alloc: Global,
+    codec: &C,
+    wanted: &str,
+) -> Result<(), PluginCreateError> {
+    let text = written(alloc, codec)?;
+    is(rt, about, &text.as_str(), &wanted);
     Ok(())
+}
+
+fn is_written_again(rt: &impl Abort, alloc: Global, row: &Row) -> Result<(), PluginCreateError> {
+    let codec = codec(alloc, row.metadata)?;
+    is_written(rt, row.name, alloc, &codec, row.written)
 }
 
 /// A codec is made of its metadata alone, and what is written of it is its metadata again.
 #[test]
 fn codecs_are_made_and_written(rt: HostRuntime) -> Result<(), Fail> {
-    for (maker, text, wanted) in ROWS.iter() {
-        answers(&rt, text, made(rt.alloc(), *maker, text), *wanted)?;
+    for row in ROWS.iter() {
+        is_written_again(&rt, rt.alloc(), row)?;
     }
+    Ok(())
+}
+
+fn is_unknown<C: Drop>(rt: &impl Abort, about: &str, answer: Result<C, PluginCreateError>) {
+    is(
+        rt,
+        about,
+        &answer.err(),
+        &Some(PluginCreateError::UnknownName),
+    );
+}
+
+/// A codec isn't made of the metadata of another.
+#[test]
+fn other_metadata_is_unknown(rt: HostRuntime) -> Result<(), Fail> {
+    let order = metadata(rt.alloc(), TURN)?;
+    let sizes = metadata(rt.alloc(), SIZES)?;
+    let bytes = metadata(rt.alloc(), r#""bytes""#)?;
+    is_unknown(&rt, "transpose", TransposeCodec::create(rt.alloc(), &sizes));
+    is_unknown(&rt, "reshape", ReshapeCodec::create(rt.alloc(), &order));
+    is_unknown(&rt, "squeeze", SqueezeCodec::create(&order));
+    is_unknown(&rt, "any", ArrayToArrayCodec::create(rt.alloc(), &bytes));
+    Ok(())
+}
+
+fn transpose_of(alloc: Global) -> Result<TransposeCodec, PluginCreateError> {
+    let order = TransposeOrder::new(alloc, &[1, 0])?;
+    let fields = TransposeCodecConfiguration::V1(TransposeCodecConfigurationV1 { order });
+    TransposeCodec::new_with_configuration(alloc, &fields)
+}
+
+fn reshape_of(alloc: Global) -> Result<ReshapeCodec, PluginCreateError> {
+    let shape = one_size(alloc)?;
+    let fields = ReshapeCodecConfiguration::V1(ReshapeCodecConfigurationV1 { shape });
+    ReshapeCodec::new_with_configuration(alloc, &fields)
+}
+
+fn squeeze_of() -> Result<SqueezeCodec, PluginCreateError> {
+    let fields = SqueezeCodecConfiguration::V0(SqueezeCodecConfigurationV0 {});
+    SqueezeCodec::new_with_configuration(&fields)
+}
+
+#[test]
+fn codecs_are_made_of_configurations(rt: HostRuntime) -> Result<(), Fail> {
+    is_written(
+        &rt,
+        "transpose",
+        rt.alloc(),
+        &transpose_of(rt.alloc())?,
+        TURN_WRITTEN,
+    )?;
+    is_written(
+        &rt,
+        "reshape",
+        rt.alloc(),
+        &reshape_of(rt.alloc())?,
+        ONE_SIZE_WRITTEN,
+    )?;
+    is_written(&rt, "squeeze", rt.alloc(), &squeeze_of()?, SQUEEZE_WRITTEN)?;
     Ok(())
 }

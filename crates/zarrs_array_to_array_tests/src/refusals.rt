@@ -1,5 +1,7 @@
-use crate::checks::is_refused;
-use crate::forms::{ChunkForm, Codec, Told, Type, chunk_form, codec_of, fixed, texts};
+//! Containers that a transposition doesn't encode or decode, by its own calls.
+
+use crate::checks::is_refusal;
+use crate::forms::{Chunk, ChunkForm, TURN, Type, chunk_form, codec, fixed, texts};
 use std::alloc::Global;
 use std::process::Abort;
 use std::test::Fail;
@@ -16,120 +18,157 @@ const AXES: CodecError = CodecError::IncompatibleDimensionality;
 
 /// A chunk, the bytes of a container, with offsets where its elements have any length, and why the order
 /// of two axes doesn't take it.
-type Row = (
-    Told<'static>,
-    &'static [u8],
-    Option<&'static [usize]>,
-    CodecError,
-);
+struct Row {
+    name: &'static str,
+    chunk: Chunk<'static>,
+    bytes: &'static [u8],
+    offsets: Option<&'static [usize]>,
+    cause: CodecError,
+}
 
-/// An optional type comes before a number of axes, that before a count, and that before bytes that are
-/// none of the chunk.
+/// A type comes before a number of axes, that before a count, and that before bytes that are none of the
+/// chunk.
 const REFUSED: &'static [Row] = &[
-    ((&[2, 3], Type::OptionalByte, &[0]), SIX, None, UNSUPPORTED),
-    ((&[6], Type::OptionalByte, &[0]), SIX, None, UNSUPPORTED),
-    ((&[6], Type::Byte, &[0]), SIX, None, AXES),
-    (
-        (&[4294967296, 4294967296, 2], Type::Byte, &[0]),
-        SIX,
-        None,
-        AXES,
-    ),
-    (
-        (&[4294967296, 4294967296], Type::Byte, &[0]),
-        SIX,
-        None,
-        CodecError::Overflow,
-    ),
-    (
-        (&[2, 4], Type::Byte, &[0]),
-        SIX,
-        None,
-        CodecError::InvalidBytesLength {
+    Row {
+        name: "an optional type",
+        chunk: Chunk {
+            sizes: &[2, 3],
+            data_type: Type::OptionalByte,
+            fill: &[0],
+        },
+        bytes: SIX,
+        offsets: None,
+        cause: UNSUPPORTED,
+    },
+    Row {
+        name: "an optional type before the axes",
+        chunk: Chunk {
+            sizes: &[6],
+            data_type: Type::OptionalByte,
+            fill: &[0],
+        },
+        bytes: SIX,
+        offsets: None,
+        cause: UNSUPPORTED,
+    },
+    Row {
+        name: "one axis",
+        chunk: Chunk {
+            sizes: &[6],
+            data_type: Type::Byte,
+            fill: &[0],
+        },
+        bytes: SIX,
+        offsets: None,
+        cause: AXES,
+    },
+    Row {
+        name: "three axes before the count",
+        chunk: Chunk {
+            sizes: &[4294967296, 4294967296, 2],
+            data_type: Type::Byte,
+            fill: &[0],
+        },
+        bytes: SIX,
+        offsets: None,
+        cause: AXES,
+    },
+    Row {
+        name: "too many elements",
+        chunk: Chunk {
+            sizes: &[4294967296, 4294967296],
+            data_type: Type::Byte,
+            fill: &[0],
+        },
+        bytes: SIX,
+        offsets: None,
+        cause: CodecError::Overflow,
+    },
+    Row {
+        name: "six elements for eight",
+        chunk: Chunk {
+            sizes: &[2, 4],
+            data_type: Type::Byte,
+            fill: &[0],
+        },
+        bytes: SIX,
+        offsets: None,
+        cause: CodecError::InvalidBytesLength {
             len: 6,
             expected: 8,
         },
-    ),
-    (
-        (&[2, 3], Type::Text, &[]),
-        SIX,
-        None,
-        CodecError::ArrayBytesKind,
-    ),
-    (
-        (&[1, 2], Type::Byte, &[0]),
-        b"ab",
-        Some(&[0, 1, 2]),
-        CodecError::ArrayBytesKind,
-    ),
+    },
+    Row {
+        name: "elements of one size for texts",
+        chunk: Chunk {
+            sizes: &[2, 3],
+            data_type: Type::Text,
+            fill: &[],
+        },
+        bytes: SIX,
+        offsets: None,
+        cause: CodecError::ArrayBytesKind,
+    },
+    Row {
+        name: "elements of any length for bytes",
+        chunk: Chunk {
+            sizes: &[1, 2],
+            data_type: Type::Byte,
+            fill: &[0],
+        },
+        bytes: b"ab",
+        offsets: Some(&[0, 1, 2]),
+        cause: CodecError::ArrayBytesKind,
+    },
 ];
 
-fn container(
-    alloc: Global,
-    bytes: &[u8],
-    offsets: Option<&[usize]>,
-) -> Result<ArrayBytes<'static>, CodecError> {
-    match offsets {
-        None => fixed(alloc, bytes),
-        Some(offsets) => texts(alloc, bytes, offsets),
+fn container(alloc: Global, row: &Row) -> Result<ArrayBytes<'static>, CodecError> {
+    match row.offsets {
+        None => fixed(alloc, row.bytes),
+        Some(offsets) => texts(alloc, row.bytes, offsets),
     }
 }
 
-fn refuses_to_encode(
+fn isnt_encoded(
     rt: &impl Abort,
     alloc: Global,
     codec: &ArrayToArrayCodec,
     form: &ChunkForm,
-    chunk: ArrayBytes<'static>,
-    cause: CodecError,
-) -> Result<(), Fail> {
+    row: &Row,
+) -> Result<(), CodecError> {
+    let chunk = container(alloc, row)?;
     let answer = codec.encode(alloc, chunk, &form.shape, &form.data_type, &form.fill_value);
-    is_refused(rt, "encoded", answer, cause)
+    is_refusal(rt, row.name, answer.err(), Some(row.cause))
 }
 
-fn refuses_to_decode(
+fn isnt_decoded(
     rt: &impl Abort,
     alloc: Global,
     codec: &ArrayToArrayCodec,
     form: &ChunkForm,
-    chunk: ArrayBytes<'static>,
-    cause: CodecError,
-) -> Result<(), Fail> {
+    row: &Row,
+) -> Result<(), CodecError> {
+    let chunk = container(alloc, row)?;
     let answer = codec.decode(alloc, chunk, &form.shape, &form.data_type, &form.fill_value);
-    is_refused(rt, "decoded", answer, cause)
+    is_refusal(rt, row.name, answer.err(), Some(row.cause))
 }
 
-fn refuses(
-    rt: &impl Abort,
-    alloc: Global,
-    codec: &ArrayToArrayCodec,
-    form: &ChunkForm,
-    bytes: &[u8],
-    offsets: Option<&[usize]>,
-    cause: CodecError,
-) -> Result<(), Fail> {
-    let chunk = container(alloc, bytes, offsets)?;
-    refuses_to_encode(rt, alloc, codec, form, chunk, cause)?;
-    let chunk = container(alloc, bytes, offsets)?;
-    refuses_to_decode(rt, alloc, codec, form, chunk, cause)
-}
-
-fn refuses_row(
+fn is_refused(
     rt: &impl Abort,
     alloc: Global,
     codec: &ArrayToArrayCodec,
     row: &Row,
-) -> Result<(), Fail> {
-    let (told, bytes, offsets, cause) = row;
-    let form = chunk_form(alloc, told)?;
-    refuses(rt, alloc, codec, &form, bytes, *offsets, *cause)
+) -> Result<(), CodecError> {
+    let form = chunk_form(alloc, &row.chunk)?;
+    isnt_encoded(rt, alloc, codec, &form, row)?;
+    isnt_decoded(rt, alloc, codec, &form, row)
 }
 
 #[test]
 fn chunks_are_refused_by_the_first_cause(rt: HostRuntime) -> Result<(), Fail> {
-    let codec = codec_of(rt.alloc(), &Codec::Transpose(&[1, 0]))?;
+    let codec = codec(rt.alloc(), TURN)?;
     for row in REFUSED.iter() {
-        refuses_row(&rt, rt.alloc(), &codec, row)?;
+        is_refused(&rt, rt.alloc(), &codec, row)?;
     }
     Ok(())
 }

@@ -1,312 +1,387 @@
-//! Reads through stages. A stage asks its input for the encoded indexer, and which one that is stands
-//! in the tables of encoded indexers; so one example of each stage is enough here.
+//! Reads, erases and writes through stages by themselves, each by the call of the traits. A stage asks its
+//! input for the encoded indexer, and which one that is stands in the table of encoded indexers; so one
+//! example of each stage is enough here.
 
-use crate::checks::{Asked, has_bytes, indexer, is, is_refused};
-use crate::forms::Size::{Of, Rest};
-use crate::forms::{ChunkForm, Codec, Told, Type, chunk_form, codec_of, reshape, transpose};
-use crate::inputs::{Input, input, made};
+use crate::checks::{Asked, has_bytes, indexer, is, is_refusal};
+use crate::forms::{
+    Chunk, ChunkForm, FLAT, SQUEEZE, TURN, Type, chunk_form, codec, lent, one_size, transpose,
+};
+use crate::inputs::{Input, input, is_left, made};
 use std::alloc::Global;
 use std::process::Abort;
 use std::test::Fail;
 use zarrs_array_to_array::{
-    ArrayToArrayCodec, ArrayToArrayCodecPartial, ReshapeCodec, ReshapeCodecPartial, SqueezeCodec,
-    SqueezeCodecPartial, TransposeCodec, TransposeCodecPartial,
+    ArrayToArrayCodec, ReshapeCodec, ReshapeCodecPartial, SqueezeCodec, SqueezeCodecPartial,
+    TransposeCodec, TransposeCodecPartial,
 };
-use zarrs_chunk::{CodecError, CodecName};
-use zarrs_codec::{ArrayPartialDecoderTraits, Refused};
+use zarrs_chunk::CodecError;
+use zarrs_codec::{ArrayPartialDecoderTraits, ArrayPartialEncoderTraits};
 
-/// A chunk, its encoded chunk, and the value of that one.
-type Chunk = (Told<'static>, Told<'static>, &'static [u8]);
-
-/// Two rows of three bytes, transposed.
-const BYTES: Chunk = (
-    (&[2, 3], Type::Byte, &[0]),
-    (&[3, 2], Type::Byte, &[0]),
-    &[0, 3, 1, 4, 2, 5],
-);
-
-/// Two rows of three words, reshaped.
-const WORDS: Chunk = (
-    (&[2, 3], Type::Word, &[0, 0]),
-    (&[3, 2], Type::Word, &[0, 0]),
-    &[0, 0, 0, 1, 0, 2, 0, 3, 0, 4, 0, 5],
-);
-
-/// A row of three numbers of four bytes, squeezed.
-const LONGS: Chunk = (
-    (&[1, 3], Type::Long, &[0, 0, 0, 0]),
-    (&[3], Type::Long, &[0, 0, 0, 0]),
-    &[0, 0, 0, 0, 0, 0, 0, 1, 0, 0, 0, 2],
-);
-
-/// The same read through a codec that leaves the axes.
-const PLAIN: Chunk = (
-    (&[2, 3], Type::Byte, &[0]),
-    (&[2, 3], Type::Byte, &[0]),
-    &[0, 1, 2, 3, 4, 5],
-);
-
-const LINE: Told<'static> = (&[3], Type::Byte, &[0]);
-
-/// What is asked of a stage's chunk and what comes, in elements of so many bytes; what is refused, since
-/// it is checked against the shape of the chunk and not of the encoded one; and how much the input has.
-#[derive(Clone, Copy)]
+/// A chunk and its encoded chunk, with the value of that one, the highest byte of an element first; what
+/// is read of the chunk, in elements of so many bytes, the lowest byte first; what is refused, since it
+/// is checked against the chunk's shape and not against the encoded one; and what is written once the
+/// value is erased, and the value that this leaves.
 struct Example {
-    asked: Asked<'static>,
-    wanted: &'static [u8],
+    name: &'static str,
+    chunk: Chunk<'static>,
+    encoded: Chunk<'static>,
+    value: &'static [u8],
     size: usize,
+    asked: Asked<'static>,
+    elements: &'static [u8],
     outside: Asked<'static>,
     cause: CodecError,
-    held: usize,
+    at: Asked<'static>,
+    data: &'static [u8],
+    left: &'static [u8],
 }
 
+/// Two rows of three bytes.
+const TRANSPOSED: &'static Example = &Example {
+    name: "transpose",
+    chunk: Chunk {
+        sizes: &[2, 3],
+        data_type: Type::Byte,
+        fill: &[5],
+    },
+    encoded: Chunk {
+        sizes: &[3, 2],
+        data_type: Type::Byte,
+        fill: &[5],
+    },
+    value: &[0, 3, 1, 4, 2, 5],
+    size: 1,
+    asked: Asked::Tuples(&[&[1, 0], &[0, 2]]),
+    elements: &[3, 2],
+    outside: Asked::Ranges(&[0..3, 0..2]),
+    cause: CodecError::OutOfBounds,
+    at: Asked::Ranges(&[0..1, 1..3]),
+    data: &[7, 8],
+    left: &[5, 5, 7, 5, 8, 5],
+};
+
+/// Two rows of three words. The fill value is 256 + 9.
+const RESHAPED: &'static Example = &Example {
+    name: "reshape",
+    chunk: Chunk {
+        sizes: &[2, 3],
+        data_type: Type::Word,
+        fill: &[9, 1],
+    },
+    encoded: Chunk {
+        sizes: &[6],
+        data_type: Type::Word,
+        fill: &[9, 1],
+    },
+    value: &[0, 0, 0, 1, 0, 2, 0, 3, 0, 4, 0, 5],
+    size: 2,
+    asked: Asked::Ranges(&[0..2, 1..3]),
+    elements: &[1, 0, 2, 0, 4, 0, 5, 0],
+    outside: Asked::Tuples(&[&[2, 0]]),
+    cause: CodecError::OutOfBounds,
+    at: Asked::Ranges(&[0..2, 2..3]),
+    data: &[7, 0, 8, 0],
+    left: &[1, 9, 1, 9, 0, 7, 1, 9, 1, 9, 0, 8],
+};
+
+/// A row of three numbers of four bytes.
+const SQUEEZED: &'static Example = &Example {
+    name: "squeeze",
+    chunk: Chunk {
+        sizes: &[1, 3],
+        data_type: Type::Long,
+        fill: &[0, 0, 0, 0],
+    },
+    encoded: Chunk {
+        sizes: &[3],
+        data_type: Type::Long,
+        fill: &[0, 0, 0, 0],
+    },
+    value: &[0, 0, 0, 0, 0, 0, 0, 1, 0, 0, 0, 2],
+    size: 4,
+    asked: Asked::Ranges(&[0..1, 1..3]),
+    elements: &[1, 0, 0, 0, 2, 0, 0, 0],
+    outside: Asked::Ranges(&[0..3]),
+    cause: CodecError::IncompatibleDimensionality,
+    at: Asked::Tuples(&[&[0, 2], &[0, 0]]),
+    data: &[7, 0, 0, 0, 8, 0, 0, 0],
+    left: &[0, 0, 0, 8, 0, 0, 0, 0, 0, 0, 0, 7],
+};
+
 /// What is asked of a chunk has these bytes.
-fn reads<D: ArrayPartialDecoderTraits>(
+pub(crate) fn reads<D: ArrayPartialDecoderTraits>(
     rt: &impl Abort,
     alloc: Global,
+    about: &str,
     decoder: &mut D,
     asked: &Asked<'_>,
     wanted: &[u8],
 ) -> Result<(), CodecError> {
-    let indexer = indexer(alloc, asked)?;
-    let elements = decoder.partial_decode(alloc, &indexer)?;
-    has_bytes(rt, "read", &elements, wanted)
+    let elements = decoder.partial_decode(alloc, &indexer(alloc, asked)?)?;
+    has_bytes(rt, about, &elements, wanted)
 }
 
+/// What is asked of a chunk is refused.
 fn refuses<D: ArrayPartialDecoderTraits>(
     rt: &impl Abort,
     alloc: Global,
     decoder: &mut D,
-    asked: &Asked<'_>,
-    cause: CodecError,
-) -> Result<(), Fail> {
-    let indexer = indexer(alloc, asked)?;
-    is_refused(rt, "read", decoder.partial_decode(alloc, &indexer), cause)
+    example: &Example,
+) -> Result<(), CodecError> {
+    let answer = decoder.partial_decode(alloc, &indexer(alloc, &example.outside)?);
+    is_refusal(rt, example.name, answer.err(), Some(example.cause))
 }
 
-/// What a stage reads and refuses, and what it tells without reading.
-fn is_stage<D: ArrayPartialDecoderTraits>(
+/// Writes these elements there.
+pub(crate) fn write<E: ArrayPartialEncoderTraits>(
+    alloc: Global,
+    encoder: &mut E,
+    at: &Asked<'_>,
+    data: &[u8],
+) -> Result<(), CodecError> {
+    let elements = lent(data);
+    encoder.partial_encode(alloc, &indexer(alloc, at)?, &elements)
+}
+
+/// What a stage tells without reading.
+fn tells<D: ArrayPartialDecoderTraits>(
+    rt: &impl Abort,
+    stage: &mut D,
+    example: &Example,
+) -> Result<(), CodecError> {
+    is(rt, example.name, &stage.exists()?, &true);
+    let size = stage.data_type().fixed_size();
+    is(rt, example.name, &size, &Some(example.size));
+    is(rt, example.name, &stage.size_held(), &example.value.len());
+    is(rt, example.name, &stage.supports_partial_decode(), &true);
+    Ok(())
+}
+
+/// What a stage tells, reads and refuses.
+fn decodes<D: ArrayPartialDecoderTraits>(
     rt: &impl Abort,
     alloc: Global,
     stage: &mut D,
     example: &Example,
-) -> Result<(), Fail> {
-    is(rt, "there", &stage.exists()?, &true);
-    is(
+) -> Result<(), CodecError> {
+    tells(rt, stage, example)?;
+    reads(
         rt,
-        "size",
-        &stage.data_type().fixed_size(),
-        &Some(example.size),
-    );
-    is(rt, "held", &stage.size_held(), &example.held);
-    is(rt, "in part", &stage.supports_partial_decode(), &true);
-    reads(rt, alloc, stage, &example.asked, example.wanted)?;
-    refuses(rt, alloc, stage, &example.outside, example.cause)
+        alloc,
+        example.name,
+        stage,
+        &example.asked,
+        example.elements,
+    )?;
+    refuses(rt, alloc, stage, example)
 }
 
-fn transposing(
+/// What a stage reads, that nothing is there when it has erased it, and that it writes.
+fn edits<E: ArrayPartialEncoderTraits>(
+    rt: &impl Abort,
+    alloc: Global,
+    stage: &mut E,
+    example: &Example,
+) -> Result<(), CodecError> {
+    is(rt, example.name, &stage.supports_partial_encode(), &true);
+    reads(
+        rt,
+        alloc,
+        example.name,
+        stage,
+        &example.asked,
+        example.elements,
+    )?;
+    stage.erase()?;
+    is(rt, example.name, &stage.exists()?, &false);
+    write(alloc, stage, &example.at, example.data)
+}
+
+fn transposed_decodes(
+    rt: &impl Abort,
     alloc: Global,
     codec: &TransposeCodec,
     form: &ChunkForm,
-) -> Result<TransposeCodecPartial<Input>, CodecError> {
-    let input = input(alloc, &BYTES.1, Some(BYTES.2))?;
-    made(codec.partial_decoder(alloc, input, &form.shape, &form.data_type, &form.fill_value))
-}
-
-fn transposed(alloc: Global) -> Result<TransposeCodecPartial<Input>, Fail> {
-    let codec = transpose(alloc, &[1, 0])?;
-    Ok(transposing(alloc, &codec, &chunk_form(alloc, &BYTES.0)?)?)
-}
-
-#[test]
-fn a_transposing_stage_reads_the_chunk(rt: HostRuntime) -> Result<(), Fail> {
-    let mut stage = transposed(rt.alloc())?;
-    let example = Example {
-        asked: Asked::Tuples(&[&[1, 0], &[0, 2]]),
-        wanted: &[3, 2],
-        size: 1,
-        outside: Asked::Ranges(&[0..3, 0..2]),
-        cause: CodecError::OutOfBounds,
-        held: 6,
-    };
-    is_stage(&rt, rt.alloc(), &mut stage, &example)
-}
-
-fn reshaping(
-    alloc: Global,
-    codec: &ReshapeCodec,
-    form: &ChunkForm,
-) -> Result<ReshapeCodecPartial<Input>, CodecError> {
-    let input = input(alloc, &WORDS.1, Some(WORDS.2))?;
-    made(codec.partial_decoder(alloc, input, &form.shape, &form.data_type, &form.fill_value))
-}
-
-fn reshaped(alloc: Global) -> Result<ReshapeCodecPartial<Input>, Fail> {
-    let codec = reshape(alloc, &[Of(&[1]), Of(&[0])])?;
-    Ok(reshaping(alloc, &codec, &chunk_form(alloc, &WORDS.0)?)?)
-}
-
-#[test]
-fn a_reshaping_stage_reads_the_chunk(rt: HostRuntime) -> Result<(), Fail> {
-    let mut stage = reshaped(rt.alloc())?;
-    let example = Example {
-        asked: Asked::Ranges(&[0..2, 1..3]),
-        wanted: &[1, 0, 2, 0, 4, 0, 5, 0],
-        size: 2,
-        outside: Asked::Tuples(&[&[2, 0]]),
-        cause: CodecError::OutOfBounds,
-        held: 12,
-    };
-    is_stage(&rt, rt.alloc(), &mut stage, &example)
-}
-
-fn squeezing(alloc: Global, form: &ChunkForm) -> Result<SqueezeCodecPartial<Input>, CodecError> {
-    let input = input(alloc, &LONGS.1, Some(LONGS.2))?;
-    made(SqueezeCodec::new().partial_decoder(
+) -> Result<(), CodecError> {
+    let input = input(alloc, &TRANSPOSED.encoded, TRANSPOSED.value)?;
+    let mut stage: TransposeCodecPartial<Input> = made(codec.partial_decoder(
         alloc,
         input,
         &form.shape,
         &form.data_type,
         &form.fill_value,
-    ))
+    ))?;
+    decodes(rt, alloc, &mut stage, TRANSPOSED)
 }
 
-fn squeezed(alloc: Global) -> Result<SqueezeCodecPartial<Input>, CodecError> {
-    squeezing(alloc, &chunk_form(alloc, &LONGS.0)?)
-}
-
-#[test]
-fn a_squeezing_stage_reads_the_chunk(rt: HostRuntime) -> Result<(), Fail> {
-    let mut stage = squeezed(rt.alloc())?;
-    let example = Example {
-        asked: Asked::Ranges(&[0..1, 1..3]),
-        wanted: &[1, 0, 0, 0, 2, 0, 0, 0],
-        size: 4,
-        outside: Asked::Ranges(&[0..3]),
-        cause: CodecError::IncompatibleDimensionality,
-        held: 12,
-    };
-    is_stage(&rt, rt.alloc(), &mut stage, &example)
-}
-
-/// The input of a transposed chunk reads the encoded one.
-#[test]
-fn a_stage_hands_its_input_out(rt: HostRuntime) -> Result<(), Fail> {
-    let mut input = transposed(rt.alloc())?.into_input();
-    let row = Asked::Ranges(&[1..2, 0..2]);
-    Ok(reads(&rt, rt.alloc(), &mut input, &row, &[1, 4])?)
-}
-
-/// Chunks of which the order of two axes makes no stage, and why: the type comes before the axes.
-const UNMADE: &'static [(Told<'static>, CodecError)] = &[
-    (
-        (&[2, 3], Type::OptionalByte, &[0]),
-        CodecError::UnsupportedDataType(CodecName::Transpose),
-    ),
-    (
-        (&[6], Type::OptionalByte, &[0]),
-        CodecError::UnsupportedDataType(CodecName::Transpose),
-    ),
-    (
-        (&[6], Type::Byte, &[0]),
-        CodecError::IncompatibleDimensionality,
-    ),
-];
-
-fn no_stage(
+fn transposed_edits(
+    rt: &impl Abort,
     alloc: Global,
     codec: &TransposeCodec,
     form: &ChunkForm,
-) -> Result<Refused<Input>, Fail> {
-    let input = input(alloc, &LINE, Some(&[0, 1, 2]))?;
-    let answer = codec.partial_decoder(
+) -> Result<(), CodecError> {
+    let input = input(alloc, &TRANSPOSED.encoded, TRANSPOSED.value)?;
+    let mut stage = made(codec.partial_encoder(
         alloc,
         input,
         &form.shape,
         &form.data_type,
         &form.fill_value,
-    );
-    Ok(answer.err().ok_or("a stage was made")?)
-}
-
-fn no_stage_told(alloc: Global, told: &Told<'_>) -> Result<Refused<Input>, Fail> {
-    let codec = transpose(alloc, &[1, 0])?;
-    no_stage(alloc, &codec, &chunk_form(alloc, told)?)
-}
-
-/// The cause is this one, and the input that is handed back reads the line.
-fn hands_back(
-    rt: &impl Abort,
-    alloc: Global,
-    refused: &mut Refused<Input>,
-    cause: CodecError,
-) -> Result<(), Fail> {
-    is_refused::<()>(rt, "stage", Err(refused.error), cause)?;
-    let asked = Asked::Ranges(&[1..3]);
-    Ok(reads(rt, alloc, &mut refused.handle, &asked, &[1, 2])?)
-}
-
-fn hands_back_row(
-    rt: &impl Abort,
-    alloc: Global,
-    told: &Told<'_>,
-    cause: CodecError,
-) -> Result<(), Fail> {
-    let mut refused = no_stage_told(alloc, told)?;
-    hands_back(rt, alloc, &mut refused, cause)
-}
-
-#[test]
-fn a_refused_stage_hands_its_input_back(rt: HostRuntime) -> Result<(), Fail> {
-    for (told, cause) in UNMADE.iter() {
-        hands_back_row(&rt, rt.alloc(), told, *cause)?;
-    }
+    ))?;
+    edits(rt, alloc, &mut stage, TRANSPOSED)?;
+    is_left(rt, TRANSPOSED.name, stage.into_input(), TRANSPOSED.left, 2);
     Ok(())
 }
 
-/// Codecs, and chunks of two rows of three bytes.
-const ANY: &'static [(Codec, Chunk)] = &[
-    (Codec::Transpose(&[1, 0]), BYTES),
-    (Codec::Reshape(&[Of(&[0]), Rest]), PLAIN),
-    (Codec::Squeeze, PLAIN),
-];
+#[test]
+fn a_transposing_stage_reads_and_writes(rt: HostRuntime) -> Result<(), Fail> {
+    let codec = transpose(rt.alloc(), &[1, 0])?.clone()?;
+    let form = chunk_form(rt.alloc(), &TRANSPOSED.chunk)?;
+    transposed_decodes(&rt, rt.alloc(), &codec, &form)?;
+    Ok(transposed_edits(&rt, rt.alloc(), &codec, &form)?)
+}
 
-fn any(
+fn reshaped_decodes(
+    rt: &impl Abort,
+    alloc: Global,
+    codec: &ReshapeCodec,
+    form: &ChunkForm,
+) -> Result<(), CodecError> {
+    let input = input(alloc, &RESHAPED.encoded, RESHAPED.value)?;
+    let mut stage: ReshapeCodecPartial<Input> = made(codec.partial_decoder(
+        alloc,
+        input,
+        &form.shape,
+        &form.data_type,
+        &form.fill_value,
+    ))?;
+    decodes(rt, alloc, &mut stage, RESHAPED)
+}
+
+fn reshaped_edits(
+    rt: &impl Abort,
+    alloc: Global,
+    codec: &ReshapeCodec,
+    form: &ChunkForm,
+) -> Result<(), CodecError> {
+    let input = input(alloc, &RESHAPED.encoded, RESHAPED.value)?;
+    let mut stage = made(codec.partial_encoder(
+        alloc,
+        input,
+        &form.shape,
+        &form.data_type,
+        &form.fill_value,
+    ))?;
+    edits(rt, alloc, &mut stage, RESHAPED)?;
+    is_left(rt, RESHAPED.name, stage.into_input(), RESHAPED.left, 2);
+    Ok(())
+}
+
+#[test]
+fn a_reshaping_stage_reads_and_writes(rt: HostRuntime) -> Result<(), Fail> {
+    let codec = ReshapeCodec::new(one_size(rt.alloc())?).clone()?;
+    let form = chunk_form(rt.alloc(), &RESHAPED.chunk)?;
+    reshaped_decodes(&rt, rt.alloc(), &codec, &form)?;
+    Ok(reshaped_edits(&rt, rt.alloc(), &codec, &form)?)
+}
+
+fn squeezed_decodes(
+    rt: &impl Abort,
+    alloc: Global,
+    codec: &SqueezeCodec,
+    form: &ChunkForm,
+) -> Result<(), CodecError> {
+    let input = input(alloc, &SQUEEZED.encoded, SQUEEZED.value)?;
+    let mut stage: SqueezeCodecPartial<Input> = made(codec.partial_decoder(
+        alloc,
+        input,
+        &form.shape,
+        &form.data_type,
+        &form.fill_value,
+    ))?;
+    decodes(rt, alloc, &mut stage, SQUEEZED)
+}
+
+fn squeezed_edits(
+    rt: &impl Abort,
+    alloc: Global,
+    codec: &SqueezeCodec,
+    form: &ChunkForm,
+) -> Result<(), CodecError> {
+    let input = input(alloc, &SQUEEZED.encoded, SQUEEZED.value)?;
+    let mut stage = made(codec.partial_encoder(
+        alloc,
+        input,
+        &form.shape,
+        &form.data_type,
+        &form.fill_value,
+    ))?;
+    edits(rt, alloc, &mut stage, SQUEEZED)?;
+    is_left(rt, SQUEEZED.name, stage.into_input(), SQUEEZED.left, 2);
+    Ok(())
+}
+
+#[test]
+fn a_squeezing_stage_reads_and_writes(rt: HostRuntime) -> Result<(), Fail> {
+    let form = chunk_form(rt.alloc(), &SQUEEZED.chunk)?;
+    squeezed_decodes(&rt, rt.alloc(), &SqueezeCodec::default(), &form)?;
+    Ok(squeezed_edits(&rt, rt.alloc(), &SqueezeCodec::new(), &form)?)
+}
+
+fn any_decodes(
+    rt: &impl Abort,
     alloc: Global,
     codec: &ArrayToArrayCodec,
     form: &ChunkForm,
-    chunk: &Chunk,
-) -> Result<ArrayToArrayCodecPartial<ArrayToArrayCodec, Input>, CodecError> {
-    let input = input(alloc, &chunk.1, Some(chunk.2))?;
-    made(codec.partial_decoder(alloc, input, &form.shape, &form.data_type, &form.fill_value))
+    example: &Example,
+) -> Result<(), CodecError> {
+    let input = input(alloc, &example.encoded, example.value)?;
+    let mut stage = made(codec.partial_decoder(
+        alloc,
+        input,
+        &form.shape,
+        &form.data_type,
+        &form.fill_value,
+    ))?;
+    decodes(rt, alloc, &mut stage, example)
 }
 
-fn reads_through(
+fn any_edits(
     rt: &impl Abort,
     alloc: Global,
     codec: &ArrayToArrayCodec,
-    chunk: &Chunk,
+    form: &ChunkForm,
+    example: &Example,
 ) -> Result<(), CodecError> {
-    let mut stage = any(alloc, codec, &chunk_form(alloc, &chunk.0)?, chunk)?;
-    let asked = Asked::Tuples(&[&[1, 0], &[0, 2]]);
-    reads(rt, alloc, &mut stage, &asked, &[3, 2])
+    let input = input(alloc, &example.encoded, example.value)?;
+    let mut stage = made(codec.partial_encoder(
+        alloc,
+        input,
+        &form.shape,
+        &form.data_type,
+        &form.fill_value,
+    ))?;
+    edits(rt, alloc, &mut stage, example)?;
+    is_left(rt, example.name, stage.into_input(), example.left, 2);
+    Ok(())
 }
 
-fn reads_through_told(
+fn any_reads_and_writes(
     rt: &impl Abort,
     alloc: Global,
-    told: &Codec,
-    chunk: &Chunk,
+    metadata: &str,
+    example: &Example,
 ) -> Result<(), Fail> {
-    let codec = codec_of(alloc, told)?;
-    Ok(reads_through(rt, alloc, &codec, chunk)?)
+    let codec = codec(alloc, metadata)?;
+    let form = chunk_form(alloc, &example.chunk)?;
+    any_decodes(rt, alloc, &codec, &form, example)?;
+    Ok(any_edits(rt, alloc, &codec, &form, example)?)
 }
 
 /// The same through the enum of the codecs.
 #[test]
-fn parts_are_read_through_any_codec(rt: HostRuntime) -> Result<(), Fail> {
-    for (told, chunk) in ANY.iter() {
-        reads_through_told(&rt, rt.alloc(), told, chunk)?;
-    }
-    Ok(())
+fn a_stage_of_any_codec_reads_and_writes(rt: HostRuntime) -> Result<(), Fail> {
+    any_reads_and_writes(&rt, rt.alloc(), TURN, TRANSPOSED)?;
+    any_reads_and_writes(&rt, rt.alloc(), FLAT, RESHAPED)?;
+    any_reads_and_writes(&rt, rt.alloc(), SQUEEZE, SQUEEZED)
 }

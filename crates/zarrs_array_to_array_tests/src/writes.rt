@@ -1,33 +1,15 @@
-//! Writes through stages, over a chunk of `bytes` in memory.
+//! Writes through stages of any codec, over a chunk of `bytes` in memory.
 
-use crate::checks::{Asked, are, indexer, is, is_refused};
-use crate::forms::Size::Of;
-use crate::forms::{ChunkForm, Codec, Told, Type, chunk_form, codec_of};
-use crate::inputs::{Input, input, made};
+use crate::checks::{Asked, is_refusal};
+use crate::forms::{Chunk, ChunkForm, SQUEEZE, SWAP, TURN, Type, chunk_form, codec};
+use crate::inputs::{Input, input, is_left, made};
+use crate::stages::write;
 use std::alloc::Global;
-use std::borrow::CowSlice;
 use std::process::Abort;
 use std::test::Fail;
-use zarrs_array_bytes::ArrayBytes;
 use zarrs_array_to_array::{ArrayToArrayCodec, ArrayToArrayCodecPartial};
 use zarrs_chunk::CodecError;
 use zarrs_codec::ArrayPartialEncoderTraits;
-
-/// A chunk and its encoded chunk.
-type Chunk = (Told<'static>, Told<'static>);
-
-/// Two rows of three bytes become three of two.
-const BYTES: Chunk = ((&[2, 3], Type::Byte, &[5]), (&[3, 2], Type::Byte, &[5]));
-
-const LINE: Chunk = ((&[1, 3], Type::Byte, &[0]), (&[3], Type::Byte, &[0]));
-
-/// All transpositions of a cube have its shape.
-const CUBE: Chunk = (
-    (&[2, 2, 2], Type::Long, &[0, 0, 0, 0]),
-    (&[2, 2, 2], Type::Long, &[0, 0, 0, 0]),
-);
-
-const REVERSED: Codec = Codec::Transpose(&[1, 0]);
 
 type Stage<I> = ArrayToArrayCodecPartial<ArrayToArrayCodec, I>;
 
@@ -41,157 +23,179 @@ fn stage<I: ArrayPartialEncoderTraits + Drop>(
     made(codec.partial_encoder(alloc, input, &form.shape, &form.data_type, &form.fill_value))
 }
 
-fn stage_over(
+/// A codec by its metadata, its chunk and the encoded chunk with the value of that one; what is written,
+/// why not if it isn't; the value afterwards, and how many writing calls the handle had.
+struct Row {
+    name: &'static str,
+    codec: &'static str,
+    chunk: Chunk<'static>,
+    encoded: Chunk<'static>,
+    value: &'static [u8],
+    at: Asked<'static>,
+    data: &'static [u8],
+    cause: Option<CodecError>,
+    left: &'static [u8],
+    writing_calls: u64,
+}
+
+/// Two rows of three bytes.
+const ROWS_OF_BYTES: Chunk<'static> = Chunk {
+    sizes: &[2, 3],
+    data_type: Type::Byte,
+    fill: &[5],
+};
+
+/// Three rows of two bytes.
+const COLUMNS: Chunk<'static> = Chunk {
+    sizes: &[3, 2],
+    data_type: Type::Byte,
+    fill: &[5],
+};
+
+const ROWS: &'static [Row] = &[
+    Row {
+        name: "of two elements for one place the last stands",
+        codec: TURN,
+        chunk: ROWS_OF_BYTES,
+        encoded: COLUMNS,
+        value: &[0, 3, 1, 4, 2, 5],
+        at: Asked::Tuples(&[&[0, 0], &[0, 0]]),
+        data: &[7, 8],
+        cause: None,
+        left: &[8, 3, 1, 4, 2, 5],
+        writing_calls: 1,
+    },
+    Row {
+        name: "the second row is each second element",
+        codec: TURN,
+        chunk: ROWS_OF_BYTES,
+        encoded: COLUMNS,
+        value: &[0, 3, 1, 4, 2, 5],
+        at: Asked::Ranges(&[1..2, 0..3]),
+        data: &[7, 8, 9],
+        cause: None,
+        left: &[0, 7, 1, 8, 2, 9],
+        writing_calls: 1,
+    },
+    Row {
+        name: "the last column of another shape",
+        codec: SWAP,
+        chunk: ROWS_OF_BYTES,
+        encoded: COLUMNS,
+        value: &[0, 1, 2, 3, 4, 5],
+        at: Asked::Ranges(&[0..2, 2..3]),
+        data: &[7, 8],
+        cause: None,
+        left: &[0, 1, 7, 3, 4, 8],
+        writing_calls: 1,
+    },
+    Row {
+        name: "a value that is too short grows",
+        codec: SQUEEZE,
+        chunk: Chunk {
+            sizes: &[1, 3],
+            data_type: Type::Byte,
+            fill: &[0],
+        },
+        encoded: Chunk {
+            sizes: &[3],
+            data_type: Type::Byte,
+            fill: &[0],
+        },
+        value: &[1],
+        at: Asked::Tuples(&[&[0, 2], &[0, 0]]),
+        data: &[7, 8],
+        cause: None,
+        left: &[8, 0, 7],
+        writing_calls: 1,
+    },
+    Row {
+        name: "one range of two",
+        codec: TURN,
+        chunk: ROWS_OF_BYTES,
+        encoded: COLUMNS,
+        value: &[1],
+        at: Asked::Ranges(&[0..1]),
+        data: &[],
+        cause: Some(CodecError::IncompatibleDimensionality),
+        left: &[1],
+        writing_calls: 0,
+    },
+    Row {
+        name: "a region of the encoded chunk",
+        codec: TURN,
+        chunk: ROWS_OF_BYTES,
+        encoded: COLUMNS,
+        value: &[1],
+        at: Asked::Ranges(&[0..3, 0..2]),
+        data: &[],
+        cause: Some(CodecError::OutOfBounds),
+        left: &[1],
+        writing_calls: 0,
+    },
+    Row {
+        name: "one element for two places",
+        codec: TURN,
+        chunk: ROWS_OF_BYTES,
+        encoded: COLUMNS,
+        value: &[1],
+        at: Asked::Ranges(&[0..1, 0..2]),
+        data: &[1],
+        cause: Some(CodecError::DataMismatch),
+        left: &[1],
+        writing_calls: 0,
+    },
+];
+
+fn row_stage(
     alloc: Global,
     codec: &ArrayToArrayCodec,
-    chunk: &Chunk,
-    value: Option<&[u8]>,
+    row: &Row,
 ) -> Result<Stage<Input>, CodecError> {
-    let form = chunk_form(alloc, &chunk.0)?;
-    stage(alloc, codec, &form, input(alloc, &chunk.1, value)?)
+    let form = chunk_form(alloc, &row.chunk)?;
+    stage(alloc, codec, &form, input(alloc, &row.encoded, row.value)?)
 }
-
-fn stage_told(
-    alloc: Global,
-    codec: &Codec,
-    chunk: &Chunk,
-    value: Option<&[u8]>,
-) -> Result<Stage<Input>, Fail> {
-    let codec = codec_of(alloc, codec)?;
-    Ok(stage_over(alloc, &codec, chunk, value)?)
-}
-
-/// Where elements are written, and their bytes, the lowest of each first.
-type Write = (Asked<'static>, &'static [u8]);
-
-fn write<E: ArrayPartialEncoderTraits>(
-    alloc: Global,
-    encoder: &mut E,
-    asked: &Asked<'_>,
-    bytes: &[u8],
-) -> Result<(), CodecError> {
-    let elements = ArrayBytes::new_flen(CowSlice::Borrowed(bytes));
-    encoder.partial_encode(alloc, &indexer(alloc, asked)?, &elements)
-}
-
-/// What the handle has then, and how many writing calls there were.
-fn is_left(rt: &impl Abort, input: Input, value: Option<&[u8]>, calls: u64) {
-    let handle = input.into_handle();
-    is(rt, "stored", &handle.value().is_some(), &value.is_some());
-    if let (Some(came), Some(wanted)) = (handle.value(), value) {
-        are(rt, "left", came, wanted);
-    }
-    is(rt, "writing calls", &handle.write_calls(), &calls);
-}
-
-/// Codecs, chunks, what is stored, what is written, and the value afterwards.
-const WRITES: &'static [(Codec, Chunk, Option<&'static [u8]>, Write, &'static [u8])] = &[
-    (
-        REVERSED,
-        BYTES,
-        Some(&[0, 3, 1, 4, 2, 5]),
-        (Asked::Tuples(&[&[0, 0], &[0, 0]]), &[7, 8]),
-        &[8, 3, 1, 4, 2, 5],
-    ),
-    (
-        REVERSED,
-        BYTES,
-        Some(&[0, 3, 1, 4, 2, 5]),
-        (Asked::Ranges(&[1..2, 0..3]), &[7, 8, 9]),
-        &[0, 7, 1, 8, 2, 9],
-    ),
-    (
-        REVERSED,
-        BYTES,
-        None,
-        (Asked::Ranges(&[0..1, 1..3]), &[7, 8]),
-        &[5, 5, 7, 5, 8, 5],
-    ),
-    (
-        Codec::Reshape(&[Of(&[1]), Of(&[0])]),
-        BYTES,
-        Some(&[0, 1, 2, 3, 4, 5]),
-        (Asked::Ranges(&[0..2, 2..3]), &[7, 8]),
-        &[0, 1, 7, 3, 4, 8],
-    ),
-    (
-        Codec::Squeeze,
-        LINE,
-        Some(&[1]),
-        (Asked::Tuples(&[&[0, 2], &[0, 0]]), &[7, 8]),
-        &[8, 0, 7],
-    ),
-];
 
 fn writes(
     rt: &impl Abort,
     alloc: Global,
-    codec: &Codec,
-    chunk: &Chunk,
-    value: Option<&[u8]>,
-    written: &Write,
-    after: &[u8],
-) -> Result<(), Fail> {
-    let mut stage = stage_told(alloc, codec, chunk, value)?;
-    write(alloc, &mut stage, &written.0, written.1)?;
-    is_left(rt, stage.into_input(), Some(after), 1);
+    codec: &ArrayToArrayCodec,
+    row: &Row,
+) -> Result<(), CodecError> {
+    let mut stage = row_stage(alloc, codec, row)?;
+    let answer = write(alloc, &mut stage, &row.at, row.data);
+    is_refusal(rt, row.name, answer.err(), row.cause)?;
+    is_left(
+        rt,
+        row.name,
+        stage.into_input(),
+        row.left,
+        row.writing_calls,
+    );
     Ok(())
+}
+
+fn writes_told(rt: &impl Abort, alloc: Global, row: &Row) -> Result<(), Fail> {
+    let codec = codec(alloc, row.codec)?;
+    Ok(writes(rt, alloc, &codec, row)?)
 }
 
 #[test]
 fn parts_are_written_through_any_codec(rt: HostRuntime) -> Result<(), Fail> {
-    for (codec, chunk, value, written, after) in WRITES.iter() {
-        writes(&rt, rt.alloc(), codec, chunk, *value, written, after)?;
+    for row in ROWS.iter() {
+        writes_told(&rt, rt.alloc(), row)?;
     }
     Ok(())
 }
 
-/// What isn't written to a transposed chunk, and why.
-const REFUSED: &'static [(Write, CodecError)] = &[
-    (
-        (Asked::Ranges(&[0..1]), &[]),
-        CodecError::IncompatibleDimensionality,
-    ),
-    ((Asked::Ranges(&[0..3, 0..2]), &[]), CodecError::OutOfBounds),
-    (
-        (Asked::Ranges(&[0..1, 0..2]), &[1]),
-        CodecError::DataMismatch,
-    ),
-];
+/// All transpositions of a cube have its shape.
+const CUBE: Chunk<'static> = Chunk {
+    sizes: &[2, 2, 2],
+    data_type: Type::Long,
+    fill: &[0, 0, 0, 0],
+};
 
-fn refuses(rt: &impl Abort, alloc: Global, written: &Write, cause: CodecError) -> Result<(), Fail> {
-    let mut stage = stage_told(alloc, &REVERSED, &BYTES, Some(&[1]))?;
-    let answer = write(alloc, &mut stage, &written.0, written.1);
-    is_refused(rt, "write", answer, cause)?;
-    is_left(rt, stage.into_input(), Some(&[1]), 0);
-    Ok(())
-}
-
-#[test]
-fn a_refused_write_leaves_the_value(rt: HostRuntime) -> Result<(), Fail> {
-    for (written, cause) in REFUSED.iter() {
-        refuses(&rt, rt.alloc(), written, *cause)?;
-    }
-    Ok(())
-}
-
-#[test]
-fn a_stage_erases_what_its_input_does(rt: HostRuntime) -> Result<(), Fail> {
-    let mut stage = stage_told(rt.alloc(), &REVERSED, &BYTES, Some(&[1]))?;
-    is(&rt, "in part", &stage.supports_partial_encode(), &true);
-    is(&rt, "erased", &stage.erase(), &Ok(()));
-    is_left(&rt, stage.into_input(), None, 1);
-    Ok(())
-}
-
-/// A stage over a stage, over a cube of numbers of four bytes.
-fn nested(alloc: Global, value: &[u8]) -> Result<Stage<Stage<Input>>, Fail> {
-    let codec = codec_of(alloc, &Codec::Transpose(&[0, 2, 1]))?;
-    let below = stage_told(alloc, &Codec::Transpose(&[2, 0, 1]), &CUBE, Some(value))?;
-    Ok(stage(alloc, &codec, &chunk_form(alloc, &CUBE.0)?, below)?)
-}
-
-/// Words 0, 1, 4, 5, 2, 3, 6 and 7, the highest byte first.
+/// The numbers 0, 1, 4, 5, 2, 3, 6 and 7, the highest byte first.
 const BEFORE: &'static [u8] = &[
     0, 0, 0, 0, 0, 0, 0, 1, 0, 0, 0, 4, 0, 0, 0, 5, 0, 0, 0, 2, 0, 0, 0, 3, 0, 0, 0, 6, 0, 0, 0, 7,
 ];
@@ -202,11 +206,35 @@ const AFTER: &'static [u8] = &[
     7,
 ];
 
+fn cube_stage<I: ArrayPartialEncoderTraits + Drop>(
+    alloc: Global,
+    metadata: &str,
+    input: I,
+) -> Result<Stage<I>, Fail> {
+    let codec = codec(alloc, metadata)?;
+    Ok(stage(alloc, &codec, &chunk_form(alloc, &CUBE)?, input)?)
+}
+
+/// A stage over a stage, over a cube of numbers of four bytes.
+fn nested(alloc: Global) -> Result<Stage<Stage<Input>>, Fail> {
+    let below = cube_stage(
+        alloc,
+        r#"{"name":"transpose","configuration":{"order":[2,0,1]}}"#,
+        input(alloc, &CUBE, BEFORE)?,
+    )?;
+    cube_stage(
+        alloc,
+        r#"{"name":"transpose","configuration":{"order":[0,2,1]}}"#,
+        below,
+    )
+}
+
 #[test]
 fn parts_are_written_through_two_codecs(rt: HostRuntime) -> Result<(), Fail> {
-    let mut stage = nested(rt.alloc(), BEFORE)?;
+    let mut stage = nested(rt.alloc())?;
     let asked = Asked::Ranges(&[0..2, 1..2, 0..1]);
     write(rt.alloc(), &mut stage, &asked, &[20, 0, 0, 0, 60, 0, 0, 0])?;
-    is_left(&rt, stage.into_input().into_input(), Some(AFTER), 1);
+    let input = stage.into_input().into_input();
+    is_left(&rt, "two codecs", input, AFTER, 1);
     Ok(())
 }
