@@ -52,13 +52,45 @@ pub(crate) const OPTIONAL: &'static str =
 pub(crate) const THREE_LEVELS: &'static str =
     r#"{"shape":[3],"data_type":{"optional":{"optional":"string"}},"fill_value":"00","codecs":[{"name":"optional","configuration":{"mask_codecs":["packbits"],"data_codecs":[{"name":"optional","configuration":{"mask_codecs":["bytes"],"data_codecs":[{"name":"zarrs.vlen","configuration":{"index_codecs":[{"name":"bytes","configuration":{"endian":"little"}}],"data_codecs":["bytes","sample.length"],"index_data_type":"uint32","index_location":"end"}}]}}]}}]}"#;
 
-/// A chunk, and the chain that stores it.
+/// What a chain is told of a chunk.
 #[derive(Drop)]
-pub(crate) struct Chunk {
-    pub(crate) chain: CodecChain<SampleBytesCodec>,
+pub(crate) struct Form {
     pub(crate) shape: ChunkShape,
     pub(crate) data_type: DataType,
     pub(crate) fill_value: FillValue,
+}
+
+/// A chunk, and the chain that stores it.
+#[derive(Drop)]
+pub(crate) struct Chunk {
+    pub(crate) form: Form,
+    pub(crate) chain: CodecChain<SampleBytesCodec>,
+}
+
+fn part<'v>(members: &'v Members, name: &str) -> Result<&'v Value, Refusal> {
+    member(members, name).ok_or(Refusal::Syntax)
+}
+
+fn shape(alloc: Global, members: &Members) -> Result<ChunkShape, Refusal> {
+    let sizes = numbers(alloc, part(members, "shape")?)?;
+    ChunkShape::new(sizes).ok_or(Refusal::Syntax)
+}
+
+fn element_type(alloc: Global, members: &Members) -> Result<DataType, Refusal> {
+    data_type(alloc, part(members, "data_type")?)
+}
+
+fn fill_value(alloc: Global, members: &Members) -> Result<FillValue, Refusal> {
+    let bytes = hex_bytes(alloc, part(members, "fill_value")?)?;
+    Ok(FillValue::new(bytes))
+}
+
+fn form_among(alloc: Global, members: &Members) -> Result<Form, Refusal> {
+    Ok(Form {
+        shape: shape(alloc, members)?,
+        data_type: element_type(alloc, members)?,
+        fill_value: fill_value(alloc, members)?,
+    })
 }
 
 fn metadata(alloc: Global, tree: &Value) -> Result<Vec<MetadataV3>, Refusal> {
@@ -71,26 +103,15 @@ fn metadata(alloc: Global, tree: &Value) -> Result<Vec<MetadataV3>, Refusal> {
     Ok(list)
 }
 
-fn chain(alloc: Global, tree: &Value) -> Result<CodecChain<SampleBytesCodec>, Refusal> {
-    let list = metadata(alloc, tree)?;
+fn chain(alloc: Global, members: &Members) -> Result<CodecChain<SampleBytesCodec>, Refusal> {
+    let list = metadata(alloc, part(members, "codecs")?)?;
     Ok(CodecChain::from_metadata(alloc, list.as_slice(), &SampleMaker)?)
 }
 
-fn shape(alloc: Global, tree: &Value) -> Result<ChunkShape, Refusal> {
-    ChunkShape::new(numbers(alloc, tree)?).ok_or(Refusal::Syntax)
-}
-
-fn part<'v>(members: &'v Members, name: &str) -> Result<&'v Value, Refusal> {
-    member(members, name).ok_or(Refusal::Syntax)
-}
-
 fn chunk_among(alloc: Global, members: &Members) -> Result<Chunk, Refusal> {
-    Ok(Chunk {
-        chain: chain(alloc, part(members, "codecs")?)?,
-        shape: shape(alloc, part(members, "shape")?)?,
-        data_type: data_type(alloc, part(members, "data_type")?)?,
-        fill_value: FillValue::new(hex_bytes(alloc, part(members, "fill_value")?)?),
-    })
+    let form = form_among(alloc, members)?;
+    let chain = chain(alloc, members)?;
+    Ok(Chunk { form, chain })
 }
 
 /// The chunk of a header.
@@ -112,7 +133,7 @@ pub(crate) fn elements(
     text: &str,
 ) -> Result<ArrayBytes<'static>, Refusal> {
     let tree = tree(alloc, text.as_bytes())?;
-    zarrs_chain_json::elements(alloc, &chunk.data_type, &tree)
+    zarrs_chain_json::elements(alloc, &chunk.form.data_type, &tree)
 }
 
 /// The edit of a writing line: where elements are written, and the elements.
@@ -122,7 +143,7 @@ pub(crate) fn edit(
     text: &str,
 ) -> Result<zarrs_chain_json::Edit, Refusal> {
     let tree = tree(alloc, text.as_bytes())?;
-    zarrs_chain_json::read_edit(alloc, &chunk.data_type, &tree)
+    zarrs_chain_json::read_edit(alloc, &chunk.form.data_type, &tree)
 }
 
 /// A handle that keeps these bytes, or nothing.
@@ -139,13 +160,15 @@ pub(crate) fn decoder<H: BytesPartialDecoderTraits + Drop>(
     chunk: &Chunk,
     handle: H,
 ) -> Result<Decoder<'_, H>, CodecError> {
-    let Chunk {
-        chain,
+    let Form {
         shape,
         data_type,
         fill_value,
-    } = chunk;
-    match chain.partial_decoder(alloc, handle, shape, data_type, fill_value) {
+    } = &chunk.form;
+    match chunk
+        .chain
+        .partial_decoder(alloc, handle, shape, data_type, fill_value)
+    {
         Ok(decoder) => Ok(decoder),
         Err(refused) => Err(refused.error),
     }
@@ -157,13 +180,15 @@ pub(crate) fn encoder<H: BytesPartialEncoderTraits + Drop>(
     chunk: &Chunk,
     handle: H,
 ) -> Result<Encoder<'_, H>, CodecError> {
-    let Chunk {
-        chain,
+    let Form {
         shape,
         data_type,
         fill_value,
-    } = chunk;
-    match chain.partial_encoder(alloc, handle, shape, data_type, fill_value) {
+    } = &chunk.form;
+    match chunk
+        .chain
+        .partial_encoder(alloc, handle, shape, data_type, fill_value)
+    {
         Ok(encoder) => Ok(encoder),
         Err(refused) => Err(refused.error),
     }

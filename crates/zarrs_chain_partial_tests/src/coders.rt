@@ -170,7 +170,13 @@ fn tells<D: ArrayPartialDecoderTraits>(
     chunk: &Chunk,
     row: &Row,
 ) -> Result<(), CodecError> {
-    is(rt, row.name, "type", coder.data_type(), &chunk.data_type);
+    is(
+        rt,
+        row.name,
+        "type",
+        coder.data_type(),
+        &chunk.form.data_type,
+    );
     is(
         rt,
         row.name,
@@ -260,9 +266,9 @@ fn vlen_decoder<'a>(
     match codec.partial_decoder(
         alloc,
         handle,
-        &chunk.shape,
-        &chunk.data_type,
-        &chunk.fill_value,
+        &chunk.form.shape,
+        &chunk.form.data_type,
+        &chunk.form.fill_value,
     ) {
         Ok(decoder) => Ok(decoder),
         Err(refused) => Err(refused.error),

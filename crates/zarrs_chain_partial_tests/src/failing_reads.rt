@@ -2,7 +2,7 @@
 //! never again once it is made.
 
 use crate::checks::{is, is_cause};
-use crate::chunks::{BYTES, Chunk, Decoder, WITH_LENGTH, chunk_of, indexer, stored};
+use crate::chunks::{BYTES, Chunk, Decoder, Form, WITH_LENGTH, chunk_of, indexer, stored};
 use crate::failing_handle::{FAILED, FailingHandle};
 use std::alloc::Global;
 use std::process::Abort;
@@ -99,13 +99,15 @@ fn is_unmade(
 
 fn reads_of(rt: &impl Abort, alloc: Global, chunk: &Chunk, row: &Row) -> Result<(), Fail> {
     let handle = FailingHandle::new(stored(alloc, Some(row.value))?, row.calls_before);
-    let Chunk {
-        chain,
+    let Form {
         shape,
         data_type,
         fill_value,
-    } = chunk;
-    match chain.partial_decoder(alloc, handle, shape, data_type, fill_value) {
+    } = &chunk.form;
+    match chunk
+        .chain
+        .partial_decoder(alloc, handle, shape, data_type, fill_value)
+    {
         Ok(mut decoder) => reads_twice(rt, alloc, &mut decoder, row),
         Err(refused) => Ok(is_unmade(rt, &refused, row)?),
     }

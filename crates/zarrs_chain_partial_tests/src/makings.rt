@@ -2,7 +2,7 @@
 
 use crate::checks::{is, is_cause};
 use crate::chunks::{
-    BYTES, Chunk, OPTIONAL, ORDERLESS, TEXTS, THREE_LEVELS, WITH_LENGTH, chunk_of, stored,
+    BYTES, Chunk, Form, OPTIONAL, ORDERLESS, TEXTS, THREE_LEVELS, WITH_LENGTH, chunk_of, stored,
 };
 use crate::coders::Coder;
 use std::alloc::Global;
@@ -108,13 +108,13 @@ fn refused_decoder(
     chunk: &Chunk,
     handle: MemoryHandle,
 ) -> Option<Refused<MemoryHandle>> {
-    let Chunk {
-        chain,
+    let Form {
         shape,
         data_type,
         fill_value,
-    } = chunk;
-    chain
+    } = &chunk.form;
+    chunk
+        .chain
         .partial_decoder(alloc, handle, shape, data_type, fill_value)
         .err()
 }
@@ -124,13 +124,13 @@ fn refused_encoder(
     chunk: &Chunk,
     handle: MemoryHandle,
 ) -> Option<Refused<MemoryHandle>> {
-    let Chunk {
-        chain,
+    let Form {
         shape,
         data_type,
         fill_value,
-    } = chunk;
-    chain
+    } = &chunk.form;
+    chunk
+        .chain
         .partial_encoder(alloc, handle, shape, data_type, fill_value)
         .err()
 }
@@ -147,9 +147,9 @@ fn refused_by_vlen(
             .partial_decoder(
                 alloc,
                 handle,
-                &chunk.shape,
-                &chunk.data_type,
-                &chunk.fill_value,
+                &chunk.form.shape,
+                &chunk.form.data_type,
+                &chunk.form.fill_value,
             )
             .err(),
     )

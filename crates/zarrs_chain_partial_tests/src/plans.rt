@@ -265,7 +265,13 @@ fn tells(
     chunk: &Chunk,
     row: &Row,
 ) -> Result<(), Fail> {
-    is(rt, row.name, "type", decoder.data_type(), &chunk.data_type);
+    is(
+        rt,
+        row.name,
+        "type",
+        decoder.data_type(),
+        &chunk.form.data_type,
+    );
     is(
         rt,
         row.name,

@@ -180,7 +180,7 @@ fn tells(
     encoder: &mut Encoder<'_, MemoryHandle>,
     chunk: &Chunk,
 ) -> Result<(), CodecError> {
-    is(rt, NAME, "type", encoder.data_type(), &chunk.data_type);
+    is(rt, NAME, "type", encoder.data_type(), &chunk.form.data_type);
     is(
         rt,
         NAME,
