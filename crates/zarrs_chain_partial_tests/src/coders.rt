@@ -1,16 +1,16 @@
 //! Coders by the traits that they share: the decoders and encoders of chains, and the decoder of a
 //! `vlen` codec by itself.
 
-use crate::checks::{is, is_cause};
+use crate::checks::{are_elements, is, is_cause};
 use crate::chunks::{
-    A_AND_BC, BYTES, Chunk, HALF_BYTES, TEXTS, chunk_of, decoder, elements, encoder, indexer,
-    stored,
+    A_AND_BC, BYTES, Chunk, HALF_BYTES, TEXTS, chunk_of, decoder, encoder, indexer, stored,
 };
 use std::alloc::Global;
 use std::process::Abort;
 use std::test::Fail;
+use zarrs_array_bytes::ArrayBytes;
 use zarrs_chain_partial::{VlenCodecPartialTraits, VlenPartialDecoder};
-use zarrs_chunk::{CodecError, CodecName};
+use zarrs_chunk::{CodecError, CodecName, Indexer};
 use zarrs_codec::{ArrayPartialDecoderTraits, MemoryHandle, SampleBytesCodec};
 use zarrs_codec_chain::{ArrayToBytesCodec, VlenCodec};
 
@@ -196,7 +196,16 @@ fn tells<D: ArrayPartialDecoderTraits>(
     Ok(())
 }
 
-/// The coder reads these elements.
+/// What the coder reads at these places.
+fn read<D: ArrayPartialDecoderTraits>(
+    alloc: Global,
+    coder: &mut D,
+    places: &str,
+) -> Result<ArrayBytes<'static>, Fail> {
+    let places = indexer(alloc, places)?;
+    Ok(coder.partial_decode(alloc, &places)?)
+}
+
 fn reads<D: ArrayPartialDecoderTraits>(
     rt: &impl Abort,
     alloc: Global,
@@ -205,11 +214,18 @@ fn reads<D: ArrayPartialDecoderTraits>(
     row: &Row,
     wanted: &str,
 ) -> Result<(), Fail> {
-    let places = indexer(alloc, row.places)?;
-    let came = coder.partial_decode(alloc, &places)?;
-    let wanted = elements(alloc, chunk, wanted)?;
-    is(rt, row.name, "elements", &came, &wanted);
+    let came = read(alloc, coder, row.places)?;
+    are_elements(rt, alloc, row.name, chunk, &came, wanted)?;
     Ok(())
+}
+
+/// Why the coder reads nothing at these places.
+fn refusal_at<D: ArrayPartialDecoderTraits>(
+    alloc: Global,
+    coder: &mut D,
+    places: &Indexer,
+) -> Option<CodecError> {
+    coder.partial_decode(alloc, places).err()
 }
 
 fn refuses<D: ArrayPartialDecoderTraits>(
@@ -220,7 +236,7 @@ fn refuses<D: ArrayPartialDecoderTraits>(
     cause: CodecError,
 ) -> Result<(), Fail> {
     let places = indexer(alloc, row.places)?;
-    let refusal = coder.partial_decode(alloc, &places).err();
+    let refusal = refusal_at(alloc, coder, &places);
     is_cause(rt, row.name, refusal, &Some(cause))?;
     Ok(())
 }

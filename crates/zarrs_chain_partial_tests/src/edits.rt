@@ -12,7 +12,7 @@ use zarrs_codec::MemoryHandle;
 
 /// Where elements are written and which, or nothing where all is erased. The fourth edit has an element
 /// too many.
-const EDITS: &'static [Option<&'static str>] = &[
+const LIST: &'static [Option<&'static str>] = &[
     Some(r#"{"at":{"ranges":[[0,2]]},"data":["01","02"]}"#),
     None,
     Some(r#"{"at":{"ranges":[[3,4]]},"data":["09"]}"#),
@@ -58,7 +58,7 @@ fn made(alloc: Global, chunk: &Chunk, text: &Option<&str>) -> Result<Edit<'stati
 
 fn edits(alloc: Global, chunk: &Chunk) -> Result<Vec<Edit<'static>>, Fail> {
     let mut all = Vec::new(alloc);
-    for text in EDITS.iter() {
+    for text in LIST.iter() {
         all.push(made(alloc, chunk, text)?)?;
     }
     Ok(all)

@@ -2,23 +2,22 @@
 //! never again once it is made.
 
 use crate::checks::{is, is_cause};
-use crate::chunks::{BYTES, Chunk, Decoder, Form, WITH_LENGTH, chunk_of, indexer, stored};
+use crate::chunks::{BYTES, Chunk, Decoder, Form, WITH_LENGTH, chunk_of, decoder, indexer, stored};
 use crate::failing_handle::{FAILED, FailingHandle};
 use std::alloc::Global;
 use std::process::Abort;
 use std::test::Fail;
 use zarrs_chain_partial::CodecChainPartialTraits;
-use zarrs_chunk::CodecError;
+use zarrs_chunk::{CodecError, Indexer};
 use zarrs_codec::Refused;
 
-/// A chunk, what is stored of it, how many calls of the handle pass before one fails, and why the
-/// decoder isn't made, why its first read is refused and why its second one, if they are.
+/// A chunk, what is stored of it, how many calls of the handle pass before one fails, and why the first
+/// read is refused and why the second one, if they are.
 struct Row {
     name: &'static str,
     chunk: &'static str,
     value: &'static str,
     calls_before: u64,
-    making: Option<CodecError>,
     first: Option<CodecError>,
     second: Option<CodecError>,
 }
@@ -29,7 +28,6 @@ const ROWS: &'static [Row] = &[
         chunk: BYTES,
         value: "0a0b0c0d",
         calls_before: 0,
-        making: None,
         first: Some(FAILED),
         second: None,
     },
@@ -38,79 +36,55 @@ const ROWS: &'static [Row] = &[
         chunk: BYTES,
         value: "0a0b0c0d",
         calls_before: 1,
-        making: None,
         first: None,
         second: Some(FAILED),
     },
     Row {
-        name: "bytes under a length, where the first call fails",
-        chunk: WITH_LENGTH,
-        value: "04000000000000000a0b0c0d",
-        calls_before: 0,
-        making: Some(FAILED),
-        first: None,
-        second: None,
-    },
-    Row {
         name: "bytes under a length, where the second call fails",
         chunk: WITH_LENGTH,
-        value: "04000000000000000a0b0c0d",
+        value: LONG,
         calls_before: 1,
-        making: None,
         first: None,
         second: None,
     },
 ];
 
-/// Why the second element isn't read, if it isn't.
-fn refusal_of(
+/// Four bytes under their length.
+const LONG: &'static str = "04000000000000000a0b0c0d";
+
+type FailingDecoder<'a> = Decoder<'a, FailingHandle>;
+
+fn refusal_at(
     alloc: Global,
-    decoder: &mut Decoder<'_, FailingHandle>,
-) -> Result<Option<CodecError>, Fail> {
-    let places = indexer(alloc, r#"{"ranges":[[1,2]]}"#)?;
-    Ok(decoder.partial_decode(alloc, &places).err())
+    decoder: &mut FailingDecoder<'_>,
+    places: &Indexer,
+) -> Option<CodecError> {
+    decoder.partial_decode(alloc, places).err()
 }
 
-/// The decoder is made, and reads twice.
+/// Reads the second element twice.
 fn reads_twice(
     rt: &impl Abort,
     alloc: Global,
-    decoder: &mut Decoder<'_, FailingHandle>,
+    decoder: &mut FailingDecoder<'_>,
     row: &Row,
 ) -> Result<(), Fail> {
-    is_cause(rt, row.name, row.making, &None)?;
-    is_cause(rt, row.name, refusal_of(alloc, decoder)?, &row.first)?;
-    is_cause(rt, row.name, refusal_of(alloc, decoder)?, &row.second)?;
+    let places = indexer(alloc, r#"{"ranges":[[1,2]]}"#)?;
+    let first = refusal_at(alloc, decoder, &places);
+    is_cause(rt, row.name, first, &row.first)?;
+    let second = refusal_at(alloc, decoder, &places);
+    is_cause(rt, row.name, second, &row.second)?;
     Ok(())
 }
 
-/// The decoder isn't made, and the handle that has failed comes back with its value.
-fn is_unmade(
-    rt: &impl Abort,
-    refused: &Refused<FailingHandle>,
-    row: &Row,
-) -> Result<(), CodecError> {
-    is_cause(rt, row.name, Some(refused.error), &row.making)?;
-    is(rt, row.name, "faults", &refused.handle.faults, &1);
-    let is_stored = refused.handle.memory.value().is_some();
-    is(rt, row.name, "stored", &is_stored, &true);
-    Ok(())
+fn handle(alloc: Global, value: &str, calls_before: u64) -> Result<FailingHandle, Fail> {
+    Ok(FailingHandle::new(stored(alloc, Some(value))?, calls_before))
 }
 
 fn reads_of(rt: &impl Abort, alloc: Global, chunk: &Chunk, row: &Row) -> Result<(), Fail> {
-    let handle = FailingHandle::new(stored(alloc, Some(row.value))?, row.calls_before);
-    let Form {
-        shape,
-        data_type,
-        fill_value,
-    } = &chunk.form;
-    match chunk
-        .chain
-        .partial_decoder(alloc, handle, shape, data_type, fill_value)
-    {
-        Ok(mut decoder) => reads_twice(rt, alloc, &mut decoder, row),
-        Err(refused) => Ok(is_unmade(rt, &refused, row)?),
-    }
+    let handle = handle(alloc, row.value, row.calls_before)?;
+    let mut decoder = decoder(alloc, chunk, handle)?;
+    reads_twice(rt, alloc, &mut decoder, row)
 }
 
 fn reads_row(rt: &impl Abort, alloc: Global, row: &Row) -> Result<(), Fail> {
@@ -123,5 +97,47 @@ fn reads_fail_where_the_handle_is_asked(rt: HostRuntime) -> Result<(), Fail> {
     for row in ROWS.iter() {
         reads_row(&rt, rt.alloc(), row)?;
     }
+    Ok(())
+}
+
+const UNFILLED: &'static str = "a cache that isn't filled";
+
+type RefusedMaking = Refused<FailingHandle>;
+
+/// The handle that has failed comes back with its value.
+fn hands_back(rt: &impl Abort, unmade: &RefusedMaking) -> Result<(), CodecError> {
+    is_cause(rt, UNFILLED, Some(unmade.error), &Some(FAILED))?;
+    is(rt, UNFILLED, "faults", &unmade.handle.faults, &1);
+    let length = unmade.handle.memory.value().unwrap_or(&[]).len();
+    is(rt, UNFILLED, "length", &length, &12);
+    Ok(())
+}
+
+fn is_unmade(rt: &impl Abort, unmade: &Option<RefusedMaking>) -> Result<(), CodecError> {
+    is(rt, UNFILLED, "unmade", &unmade.is_some(), &true);
+    match unmade {
+        Some(unmade) => hands_back(rt, unmade),
+        None => Ok(()),
+    }
+}
+
+fn unmade(alloc: Global, chunk: &Chunk) -> Result<Option<RefusedMaking>, Fail> {
+    let Form {
+        shape,
+        data_type,
+        fill_value,
+    } = &chunk.form;
+    let handle = handle(alloc, LONG, 0)?;
+    let made = chunk
+        .chain
+        .partial_decoder(alloc, handle, shape, data_type, fill_value);
+    Ok(made.err())
+}
+
+#[test]
+fn no_decoder_is_made_where_its_cache_is_not_filled(rt: HostRuntime) -> Result<(), Fail> {
+    let chunk = chunk_of(rt.alloc(), WITH_LENGTH)?;
+    let unmade = unmade(rt.alloc(), &chunk)?;
+    is_unmade(&rt, &unmade)?;
     Ok(())
 }

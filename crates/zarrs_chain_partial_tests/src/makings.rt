@@ -23,7 +23,7 @@ struct Row {
 }
 
 /// A decoder with a cache reads the value. An encoder has none, nor has the decoder of a `vlen` codec.
-const REFUSED: &'static [Row] = &[
+const ROWS: &'static [Row] = &[
     Row {
         name: "a decoder of words without an order",
         coder: Coder::Decoder,
@@ -75,17 +75,19 @@ const REFUSED: &'static [Row] = &[
     },
 ];
 
+type RefusedMaking = Refused<MemoryHandle>;
+
 /// The refusal is this one, and the handle keeps the value and wasn't written.
 fn hands_back(
     rt: &impl Abort,
     alloc: Global,
-    refused: &Refused<MemoryHandle>,
+    refused: &RefusedMaking,
     row: &Row,
 ) -> Result<(), Fail> {
     is_cause(rt, row.name, Some(refused.error), &Some(row.cause))?;
-    let value = hex::decode(alloc, row.value)?;
+    let wanted = stored(alloc, Some(row.value))?;
     let came = refused.handle.value();
-    is(rt, row.name, "value", &came, &Some(value.as_slice()));
+    is(rt, row.name, "value", &came, &wanted.value());
     is(rt, row.name, "calls", &refused.handle.write_calls(), &0);
     Ok(())
 }
@@ -93,7 +95,7 @@ fn hands_back(
 fn is_refused(
     rt: &impl Abort,
     alloc: Global,
-    refused: &Option<Refused<MemoryHandle>>,
+    refused: &Option<RefusedMaking>,
     row: &Row,
 ) -> Result<(), Fail> {
     is(rt, row.name, "refused", &refused.is_some(), &true);
@@ -103,64 +105,59 @@ fn is_refused(
     }
 }
 
-fn refused_decoder(
-    alloc: Global,
-    chunk: &Chunk,
-    handle: MemoryHandle,
-) -> Option<Refused<MemoryHandle>> {
+fn refused_decoder(alloc: Global, chunk: &Chunk, row: &Row) -> Result<Option<RefusedMaking>, Fail> {
     let Form {
         shape,
         data_type,
         fill_value,
     } = &chunk.form;
-    chunk
+    let handle = stored(alloc, Some(row.value))?;
+    let made = chunk
         .chain
-        .partial_decoder(alloc, handle, shape, data_type, fill_value)
-        .err()
+        .partial_decoder(alloc, handle, shape, data_type, fill_value);
+    Ok(made.err())
 }
 
-fn refused_encoder(
-    alloc: Global,
-    chunk: &Chunk,
-    handle: MemoryHandle,
-) -> Option<Refused<MemoryHandle>> {
+fn refused_encoder(alloc: Global, chunk: &Chunk, row: &Row) -> Result<Option<RefusedMaking>, Fail> {
     let Form {
         shape,
         data_type,
         fill_value,
     } = &chunk.form;
-    chunk
+    let handle = stored(alloc, Some(row.value))?;
+    let made = chunk
         .chain
-        .partial_encoder(alloc, handle, shape, data_type, fill_value)
-        .err()
+        .partial_encoder(alloc, handle, shape, data_type, fill_value);
+    Ok(made.err())
+}
+
+fn refused_by(
+    alloc: Global,
+    codec: &VlenCodec<SampleBytesCodec>,
+    chunk: &Chunk,
+    row: &Row,
+) -> Result<Option<RefusedMaking>, Fail> {
+    let Form {
+        shape,
+        data_type,
+        fill_value,
+    } = &chunk.form;
+    let handle = stored(alloc, Some(row.value))?;
+    let made = codec.partial_decoder(alloc, handle, shape, data_type, fill_value);
+    Ok(made.err())
 }
 
 /// The default `vlen` codec makes no decoder of this chunk.
-fn refused_by_vlen(
-    alloc: Global,
-    chunk: &Chunk,
-    handle: MemoryHandle,
-) -> Result<Option<Refused<MemoryHandle>>, Fail> {
-    let codec: VlenCodec<SampleBytesCodec> = VlenCodec::new_default(alloc)?;
-    Ok(
-        codec
-            .partial_decoder(
-                alloc,
-                handle,
-                &chunk.form.shape,
-                &chunk.form.data_type,
-                &chunk.form.fill_value,
-            )
-            .err(),
-    )
+fn refused_by_vlen(alloc: Global, chunk: &Chunk, row: &Row) -> Result<Option<RefusedMaking>, Fail> {
+    let codec = VlenCodec::new_default(alloc)?;
+    refused_by(alloc, &codec, chunk, row)
 }
 
-fn refused(alloc: Global, chunk: &Chunk, row: &Row) -> Result<Option<Refused<MemoryHandle>>, Fail> {
-    let handle = stored(alloc, Some(row.value))?;
+fn refused(alloc: Global, chunk: &Chunk, row: &Row) -> Result<Option<RefusedMaking>, Fail> {
     match row.coder {
-        Coder::Decoder => Ok(refused_decoder(alloc, chunk, handle)),
-        Coder::Encoder => Ok(refused_encoder(alloc, chunk, handle)),
-        Coder::OfVlen => refused_by_vlen(alloc, chunk, handle),
+        Coder::Decoder => refused_decoder(alloc, chunk, row),
+        Coder::Encoder => refused_encoder(alloc, chunk, row),
+        Coder::OfVlen => refused_by_vlen(alloc, chunk, row),
     }
 }
 
@@ -172,7 +169,7 @@ fn refuses_row(rt: &impl Abort, alloc: Global, row: &Row) -> Result<(), Fail> {
 
 #[test]
 fn a_refused_making_hands_the_handle_back(rt: HostRuntime) -> Result<(), Fail> {
-    for row in REFUSED.iter() {
+    for row in ROWS.iter() {
         refuses_row(&rt, rt.alloc(), row)?;
     }
     Ok(())

@@ -8,7 +8,7 @@ use crate::chunks::{
 use std::alloc::Global;
 use std::process::Abort;
 use std::test::Fail;
-use zarrs_codec::MemoryHandle;
+use zarrs_codec::{ByteRange, MemoryHandle};
 
 /// A chunk, what is stored of it, how many bytes are kept in memory, the places that are asked for,
 /// and where the ranges of bytes start and end that are planned for them: none where the decoder keeps
@@ -291,14 +291,22 @@ fn tells(
     Ok(())
 }
 
+fn planned(
+    alloc: Global,
+    decoder: &Decoder<'_, MemoryHandle>,
+    places: &str,
+) -> Result<Option<Vec<ByteRange>>, Fail> {
+    let places = indexer(alloc, places)?;
+    Ok(decoder.planned_ranges(alloc, &places)?)
+}
+
 fn plans(
     rt: &impl Abort,
     alloc: Global,
     decoder: &Decoder<'_, MemoryHandle>,
     row: &Row,
 ) -> Result<(), Fail> {
-    let places = indexer(alloc, row.places)?;
-    let planned = decoder.planned_ranges(alloc, &places)?;
+    let planned = planned(alloc, decoder, row.places)?;
     is_plan(rt, row.name, planned.as_deref(), row.planned);
     Ok(())
 }

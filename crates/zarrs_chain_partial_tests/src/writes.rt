@@ -1,15 +1,15 @@
 //! How often the encoders of chains write, and what they say of themselves.
 
-use crate::checks::{is, is_cause, is_plan};
+use crate::checks::{are_elements, is, is_cause, is_plan};
 use crate::chunks::{
-    A_AND_BC, BYTES, Chunk, Encoder, TEXTS, WITH_LENGTH, chunk_of, edit, elements, encoder,
-    indexer, stored,
+    A_AND_BC, BYTES, Chunk, Encoder, TEXTS, WITH_LENGTH, chunk_of, edit, encoder, indexer, stored,
 };
 use std::alloc::Global;
 use std::process::Abort;
 use std::test::Fail;
+use zarrs_array_bytes::ArrayBytes;
 use zarrs_chunk::CodecError;
-use zarrs_codec::{ArrayPartialEncoderTraits, MemoryHandle};
+use zarrs_codec::{ArrayPartialEncoderTraits, ByteRange, MemoryHandle};
 
 /// A chunk, what is stored of it, where elements are written and which, why they aren't, if they
 /// aren't, whether a part is written without the rest, how many bytes the handle keeps then, and how
@@ -26,7 +26,7 @@ struct Row {
 }
 
 /// What is stored afterwards stands in `writes.txt` of the transcripts.
-const WRITES: &'static [Row] = &[
+const ROWS: &'static [Row] = &[
     Row {
         name: "words of axes that are turned twice",
         chunk: r#"{"shape":[2,2,2],"data_type":"uint32","fill_value":"00000000","codecs":[{"name":"transpose","configuration":{"order":[0,2,1]}},{"name":"transpose","configuration":{"order":[2,0,1]}},{"name":"bytes","configuration":{"endian":"big"}}]}"#,
@@ -162,7 +162,7 @@ fn writes_row(rt: &impl Abort, alloc: Global, row: &Row) -> Result<(), Fail> {
 
 #[test]
 fn an_accepted_write_is_one_call(rt: HostRuntime) -> Result<(), Fail> {
-    for row in WRITES.iter() {
+    for row in ROWS.iter() {
         writes_row(&rt, rt.alloc(), row)?;
     }
     Ok(())
@@ -200,7 +200,31 @@ fn tells(
     Ok(())
 }
 
-/// The encoder plans to read the byte, and reads this of it.
+const ALL: &'static str = r#"{"ranges":[[0,1]]}"#;
+
+fn planned(
+    alloc: Global,
+    encoder: &Encoder<'_, MemoryHandle>,
+) -> Result<Option<Vec<ByteRange>>, Fail> {
+    let all = indexer(alloc, ALL)?;
+    Ok(encoder.planned_ranges(alloc, &all)?)
+}
+
+/// The encoder plans to read the byte.
+fn plans(rt: &impl Abort, alloc: Global, encoder: &Encoder<'_, MemoryHandle>) -> Result<(), Fail> {
+    let planned = planned(alloc, encoder)?;
+    is_plan(rt, NAME, planned.as_deref(), Some(&[(0, 1)]));
+    Ok(())
+}
+
+fn read(
+    alloc: Global,
+    encoder: &mut Encoder<'_, MemoryHandle>,
+) -> Result<ArrayBytes<'static>, Fail> {
+    let all = indexer(alloc, ALL)?;
+    Ok(encoder.partial_decode(alloc, &all)?)
+}
+
 fn reads(
     rt: &impl Abort,
     alloc: Global,
@@ -208,12 +232,8 @@ fn reads(
     chunk: &Chunk,
     wanted: &str,
 ) -> Result<(), Fail> {
-    let all = indexer(alloc, r#"{"ranges":[[0,1]]}"#)?;
-    let planned = encoder.planned_ranges(alloc, &all)?;
-    is_plan(rt, NAME, planned.as_deref(), Some(&[(0, 1)]));
-    let came = encoder.partial_decode(alloc, &all)?;
-    let wanted = elements(alloc, chunk, wanted)?;
-    is(rt, NAME, "elements", &came, &wanted);
+    let came = read(alloc, encoder)?;
+    are_elements(rt, alloc, NAME, chunk, &came, wanted)?;
     Ok(())
 }
 
@@ -234,6 +254,7 @@ fn fills_and_erases(rt: &impl Abort, alloc: Global, chunk: &Chunk) -> Result<(),
     let mut encoder = encoder(alloc, chunk, MemoryHandle::new())?;
     tells(rt, &mut encoder, chunk)?;
     fills(rt, alloc, &mut encoder, chunk)?;
+    plans(rt, alloc, &encoder)?;
     reads(rt, alloc, &mut encoder, chunk, r#"["ff"]"#)?;
     encoder.erase()?;
     tells(rt, &mut encoder, chunk)?;
