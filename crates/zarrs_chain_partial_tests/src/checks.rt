@@ -1,0 +1,69 @@
+//! Checks, which take references, since an assert beside owned values is dear to prove.
+
+use crate::chunks::{Chunk, elements};
+use std::alloc::Global;
+use std::fmt::Debug;
+use std::process::Abort;
+use zarrs_array_bytes::ArrayBytes;
+use zarrs_chain_json::Refusal;
+use zarrs_chunk::CodecError;
+use zarrs_codec::ByteRange;
+
+/// What came is what is wanted.
+pub(crate) fn is<T: PartialEq + Debug>(
+    rt: &impl Abort,
+    row: &str,
+    about: &str,
+    came: &T,
+    wanted: &T,
+) {
+    assert_eq!(rt; *came, *wanted, "{row}: {about}");
+}
+
+/// The refusal that came, or none, is the one that is wanted. A want of memory is an error of the
+/// test.
+pub(crate) fn is_cause(
+    rt: &impl Abort,
+    row: &str,
+    came: Option<CodecError>,
+    wanted: &Option<CodecError>,
+) -> Result<(), CodecError> {
+    if came == Some(CodecError::OutOfMemory) {
+        return Err(CodecError::OutOfMemory);
+    }
+    is(rt, row, "refusal", &came, wanted);
+    Ok(())
+}
+
+/// The ranges start and end here.
+fn are_ranges(rt: &impl Abort, row: &str, came: &[ByteRange], wanted: &[(u64, u64)]) {
+    is(rt, row, "ranges", &came.len(), &wanted.len());
+    for (range, ends) in came.iter().zip(wanted.iter()) {
+        is(rt, row, "range", &(range.start(), range.end()), ends);
+    }
+}
+
+/// These ranges are planned, or none can be.
+pub(crate) fn is_plan(
+    rt: &impl Abort,
+    row: &str,
+    came: Option<&[ByteRange]>,
+    wanted: Option<&[(u64, u64)]>,
+) {
+    is(rt, row, "planned", &came.is_some(), &wanted.is_some());
+    are_ranges(rt, row, came.unwrap_or(&[]), wanted.unwrap_or(&[]));
+}
+
+/// The elements of the chunk that came are those of the list.
+pub(crate) fn are_elements(
+    rt: &impl Abort,
+    alloc: Global,
+    row: &str,
+    chunk: &Chunk,
+    came: &ArrayBytes<'static>,
+    wanted: &str,
+) -> Result<(), Refusal> {
+    let wanted = elements(alloc, chunk, wanted)?;
+    is(rt, row, "elements", came, &wanted);
+    Ok(())
+}

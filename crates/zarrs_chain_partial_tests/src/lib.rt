@@ -1,0 +1,30 @@
+//! Tests of chunks that are read and written in part through chains, over the public calls. Without
+//! tests the crate is empty.
+//!
+//! What is read, what is written, what is stored afterwards and why a line is refused stands in the
+//! transcripts of `zarrs_transcripts`. Here is what no line of the tool shows: which bytes are planned
+//! and how many are kept, how often a handle is written, what a refused making hands back, edits and
+//! reads over a handle that fails, the decoder of a `vlen` codec by itself, and the traits of coders.
+//!
+//! Chunks, values, indexers and elements are the texts that the tool takes. Answers are written by
+//! hand. A want of memory ends a test with that error and is never compared.
+#![tactic(auto)]
+
+#[cfg(test)]
+mod checks;
+#[cfg(test)]
+mod chunks;
+#[cfg(test)]
+mod coders;
+#[cfg(test)]
+mod edits;
+#[cfg(test)]
+mod failing_handle;
+#[cfg(test)]
+mod failing_reads;
+#[cfg(test)]
+mod makings;
+#[cfg(test)]
+mod plans;
+#[cfg(test)]
+mod writes;
