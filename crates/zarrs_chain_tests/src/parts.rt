@@ -14,7 +14,8 @@ use zarrs_codec::{
 };
 use zarrs_codec_chain::ArrayToBytesCodec;
 
-const SHOWN: &'static str = r#"[{"name":"transpose","configuration":{"order":[1,0]}},{"name":"reshape","configuration":{"shape":[-1]}},"packbits","sample.length","sample.reverse"]"#;
+const SHOWN: &'static str =
+    r#"[{"name":"transpose","configuration":{"order":[1,0]}},{"name":"reshape","configuration":{"shape":[-1]}},"packbits","sample.length","sample.reverse"]"#;
 
 const OUTER: &'static [SampleBytesCodec] = &[SampleBytesCodec::Length, SampleBytesCodec::Reverse];
 

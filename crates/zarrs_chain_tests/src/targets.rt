@@ -119,7 +119,10 @@ const ROWS: &'static [Row] = &[
         sizes: &[2, 3],
         ranges: &[0..2, 1..2],
         masks: 0,
-        answer: Err(InvalidBytesLength { len: 1, expected: 2 }),
+        answer: Err(InvalidBytesLength {
+            len: 1,
+            expected: 2,
+        }),
         after: &[0; 6],
     },
 ];

@@ -83,7 +83,10 @@ const ROWS: &'static [Row] = &[
         elements: &[1, 0, 2, 1],
         encoded: Ok(&[1, 0, 2, 1]),
         value: &[1, 0, 2],
-        decoded: Err(InvalidBytesLength { len: 3, expected: 4 }),
+        decoded: Err(InvalidBytesLength {
+            len: 3,
+            expected: 4,
+        }),
     },
     Row {
         name: "packed behind their length",
@@ -100,7 +103,10 @@ const ROWS: &'static [Row] = &[
             expected: 40,
         }),
         value: &[5, 0, 0, 0, 0, 0, 0, 0, 1, 2, 3, 4, 5],
-        decoded: Err(InvalidBytesLength { len: 5, expected: 6 }),
+        decoded: Err(InvalidBytesLength {
+            len: 5,
+            expected: 6,
+        }),
     },
     Row {
         name: "a length that isn't that of the bytes",
@@ -169,9 +175,15 @@ const ROWS: &'static [Row] = &[
         },
         size: Ok(FixedSize(4)),
         elements: &[10, 11, 12],
-        encoded: Err(InvalidBytesLength { len: 3, expected: 4 }),
+        encoded: Err(InvalidBytesLength {
+            len: 3,
+            expected: 4,
+        }),
         value: &[10, 11, 12],
-        decoded: Err(InvalidBytesLength { len: 3, expected: 4 }),
+        decoded: Err(InvalidBytesLength {
+            len: 3,
+            expected: 4,
+        }),
     },
     Row {
         name: "no byte order",
@@ -201,12 +213,9 @@ const ROWS: &'static [Row] = &[
 
 fn is_measured(rt: &impl Abort, alloc: Global, case: &Case, row: &Row) -> Result<(), CodecError> {
     let form = &case.form;
-    let came = case.chain.encoded_representation(
-        alloc,
-        &form.shape,
-        &form.data_type,
-        &form.fill_value,
-    );
+    let came = case
+        .chain
+        .encoded_representation(alloc, &form.shape, &form.data_type, &form.fill_value);
     answers(rt, row.name, &came, &row.size)
 }
 
