@@ -10,7 +10,7 @@ use zarrs_array_bytes::{ArrayBytes, ArrayBytesOffsets};
 use zarrs_chain_json::Refusal;
 use zarrs_chunk::CodecError;
 use zarrs_chunk::CodecError::{
-    ArrayBytesKind, BitRange, BytesCodec, EndiannessMissing, InvalidBytesLength, PaddingByte,
+    ArrayBytesKind, BitRange, BytesCodec, EndiannessMissing, InvalidBytesLength,
 };
 use zarrs_codec::BytesRepresentation;
 use zarrs_codec::BytesRepresentation::{FixedSize, UnboundedSize};
@@ -44,6 +44,26 @@ const ROWS: &'static [Row] = &[
         decoded: Ok(&[0, 1, 2, 3, 4, 5]),
     },
     Row {
+        name: "axes turned twice",
+        codecs: r#"[{"name":"transpose","configuration":{"order":[0,2,1]}},{"name":"transpose","configuration":{"order":[2,0,1]}},{"name":"bytes","configuration":{"endian":"big"}}]"#,
+        chunk: Chunk {
+            shape: &[2, 2, 2],
+            data_type: r#""uint32""#,
+            fill_value: &[0, 0, 0, 0],
+        },
+        size: Ok(FixedSize(32)),
+        elements: &[1, 2],
+        encoded: Err(InvalidBytesLength {
+            len: 2,
+            expected: 32,
+        }),
+        value: &[1, 2],
+        decoded: Err(InvalidBytesLength {
+            len: 2,
+            expected: 32,
+        }),
+    },
+    Row {
         name: "codecs of all three kinds",
         codecs: r#"[{"name":"transpose","configuration":{"order":[1,0]}},{"name":"packbits","configuration":{"padding_encoding":"first_byte"}},"sample.reverse"]"#,
         chunk: Chunk {
@@ -52,10 +72,16 @@ const ROWS: &'static [Row] = &[
             fill_value: &[0],
         },
         size: Ok(FixedSize(2)),
-        elements: &[1, 1, 0, 0],
-        encoded: Ok(&[5, 4]),
-        value: &[5, 3],
-        decoded: Err(PaddingByte),
+        elements: &[1, 1, 0],
+        encoded: Err(InvalidBytesLength {
+            len: 3,
+            expected: 4,
+        }),
+        value: &[5],
+        decoded: Err(InvalidBytesLength {
+            len: 1,
+            expected: 2,
+        }),
     },
     Row {
         name: "elements that lose a bit",
@@ -66,10 +92,16 @@ const ROWS: &'static [Row] = &[
             fill_value: &[0],
         },
         size: Ok(FixedSize(1)),
-        elements: &[7, 255],
-        encoded: Ok(&[59]),
-        value: &[59],
-        decoded: Ok(&[6, 254]),
+        elements: &[7, 255, 7],
+        encoded: Err(InvalidBytesLength {
+            len: 3,
+            expected: 2,
+        }),
+        value: &[59, 59],
+        decoded: Err(InvalidBytesLength {
+            len: 2,
+            expected: 1,
+        }),
     },
     Row {
         name: "packed whole bytes have no padding byte",
@@ -80,8 +112,11 @@ const ROWS: &'static [Row] = &[
             fill_value: &[0, 0],
         },
         size: Ok(FixedSize(4)),
-        elements: &[1, 0, 2, 1],
-        encoded: Ok(&[1, 0, 2, 1]),
+        elements: &[1, 0, 2],
+        encoded: Err(InvalidBytesLength {
+            len: 3,
+            expected: 4,
+        }),
         value: &[1, 0, 2],
         decoded: Err(InvalidBytesLength {
             len: 3,
@@ -113,20 +148,26 @@ const ROWS: &'static [Row] = &[
         codecs: r#"["bytes","sample.length"]"#,
         chunk: PAIR,
         size: Ok(FixedSize(10)),
-        elements: &[1, 2],
-        encoded: Ok(&[2, 0, 0, 0, 0, 0, 0, 0, 1, 2]),
+        elements: &[1],
+        encoded: Err(InvalidBytesLength {
+            len: 1,
+            expected: 2,
+        }),
         value: &[3, 0, 0, 0, 0, 0, 0, 0, 1, 2],
         decoded: Err(BytesCodec(2)),
     },
     Row {
-        name: "a length turned round with the bytes",
+        name: "a length that isn't that of the bytes, turned round with them",
         codecs: r#"["bytes","sample.length","sample.reverse"]"#,
         chunk: PAIR,
         size: Ok(FixedSize(10)),
-        elements: &[1, 2],
-        encoded: Ok(&[2, 1, 0, 0, 0, 0, 0, 0, 0, 2]),
-        value: &[2, 1, 0, 0, 0, 0, 0, 0, 0, 2],
-        decoded: Ok(&[1, 2]),
+        elements: &[1, 2, 3],
+        encoded: Err(InvalidBytesLength {
+            len: 3,
+            expected: 2,
+        }),
+        value: &[2, 1, 0, 0, 0, 0, 0, 0, 0, 3],
+        decoded: Err(BytesCodec(2)),
     },
     Row {
         name: "as many bytes as 64 bits count",

@@ -20,7 +20,7 @@ use zarrs_codec_chain::ArrayToBytesCodec;
 
 /// What comes of decoding into four bytes and three flags of a mask, each 9 before: three elements go
 /// behind the first byte.
-pub(crate) struct Into {
+pub(crate) struct DecodedInto {
     pub(crate) answer: Result<(), CodecError>,
     pub(crate) values: &'static [u8],
     pub(crate) mask: &'static [u8],
@@ -36,7 +36,7 @@ pub(crate) struct Row {
     pub(crate) elements: Elements,
     pub(crate) value: &'static [u8],
     pub(crate) decoded: Elements,
-    pub(crate) into: Into,
+    pub(crate) into: DecodedInto,
 }
 
 fn is_measured<C: ArrayToBytesCodecTraits>(

@@ -21,8 +21,7 @@ pub(crate) const OPTIONS: &'static str =
 
 pub(crate) type Chain = CodecChain<SampleBytesCodec>;
 
-/// A chunk: its sizes, and the type of its elements, as JSON. Of that type its fill value has one byte
-/// of zero where an element has one byte or may be absent, and none where it is a text.
+/// A chunk: its sizes, the type of its elements, as JSON, and the bytes of its fill value.
 pub(crate) struct Chunk {
     pub(crate) shape: &'static [u64],
     pub(crate) data_type: &'static str,

@@ -1,18 +1,18 @@
 //! Chunks whose containers hold more than their elements: bytes before the first text, and bytes,
 //! texts and flags where an element is absent. None of it is encoded.
 
-use crate::calls::{Into, Row};
+use crate::calls::{DecodedInto, Row};
 use crate::forms::{Chunk, Elements, OPTIONS, TEXTS};
 use zarrs_chunk::CodecError::{TargetMismatch, UnsupportedTarget};
 use zarrs_codec::BytesRepresentation::{BoundedSize, UnboundedSize};
 
-const NOT_FOR_TEXTS: Into = Into {
+const NOT_FOR_TEXTS: DecodedInto = DecodedInto {
     answer: Err(UnsupportedTarget),
     values: &[9, 9, 9, 9],
     mask: &[9, 9, 9],
 };
 
-const NOT_FOR_ITS_LEVELS: Into = Into {
+const NOT_FOR_ITS_LEVELS: DecodedInto = DecodedInto {
     answer: Err(TargetMismatch),
     values: &[9, 9, 9, 9],
     mask: &[9, 9, 9],
@@ -90,7 +90,7 @@ pub(crate) const ROWS: &'static [Row] = &[
             ends: &[],
             masks: &[&[1, 0, 1]],
         },
-        into: Into {
+        into: DecodedInto {
             answer: Ok(()),
             values: &[9, 5, 0, 7],
             mask: &[1, 0, 1],
