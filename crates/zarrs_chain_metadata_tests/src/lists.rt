@@ -1,125 +1,103 @@
-use crate::checks::{answers, written};
+//! Chains made from lists of metadata, and the lists that are written of them.
+
+use crate::checks::{is_shown, tree};
+use serde_json::Value;
 use std::alloc::Global;
 use std::process::Abort;
 use std::test::Fail;
-use zarrs_metadata::PluginCreateError;
-use zarrs_metadata::PluginCreateError::{
-    BitOrder, InvalidConfiguration, MissingArrayToBytes, MultipleArrayToBytes, NotAPermutation,
-    UnknownName,
-};
+use zarrs_codec::{SampleBytesCodec, SampleMaker};
+use zarrs_codec_chain::CodecChain;
+use zarrs_metadata::{MetadataV3, PluginCreateError};
 
-type Row = (&'static str, Result<&'static str, PluginCreateError>);
-
-/// Lists of codecs without chains inside, and how their chain is written; or why there is none.
-const FLAT: [Row; 15] = [
-    (
-        r#"["bytes",{"name":"transpose","configuration":{"order":[1,0]}}]"#,
-        Ok(
-            r#"[{"configuration":{"order":[1,0]},"name":"transpose"},{"configuration":{},"name":"bytes"}]"#,
-        ),
-    ),
-    (
-        r#"["sample.length","bytes","sample.reverse","zarrs.squeeze"]"#,
-        Ok(
-            r#"[{"configuration":{},"name":"zarrs.squeeze"},{"configuration":{},"name":"bytes"},"sample.length","sample.reverse"]"#,
-        ),
-    ),
-    (r#"["bytes","endian"]"#, Err(MultipleArrayToBytes)),
-    ("[]", Err(MissingArrayToBytes)),
-    (
-        r#"[{"name":"gzip","must_understand":false},"bytes"]"#,
-        Ok(r#"[{"configuration":{},"name":"bytes"}]"#),
-    ),
-    (
-        r#"["bytes",{"name":"transpose","must_understand":false}]"#,
-        Ok(r#"[{"configuration":{},"name":"bytes"}]"#),
-    ),
-    (
-        r#"["bytes",{"name":"transpose","configuration":{"order":[1,0]},"must_understand":false}]"#,
-        Ok(
-            r#"[{"configuration":{"order":[1,0]},"name":"transpose"},{"configuration":{},"name":"bytes"}]"#,
-        ),
-    ),
-    (
-        r#"["bytes",{"name":"endian","must_understand":false}]"#,
-        Err(MultipleArrayToBytes),
-    ),
-    (r#"["gzip","bytes"]"#, Err(UnknownName)),
-    (r#"["bytes","bytes","gzip"]"#, Err(MultipleArrayToBytes)),
-    (
-        r#"[{"name":"bytes","must_understand":null}]"#,
-        Ok(r#"[{"configuration":{},"name":"bytes"}]"#),
-    ),
-    (r#"["gzip",5]"#, Err(InvalidConfiguration)),
-    (r#"["transpose","bytes"]"#, Err(InvalidConfiguration)),
-    (
-        r#"[{"name":"transpose","configuration":{"order":[0,0]}}]"#,
-        Err(NotAPermutation),
-    ),
-    (
-        r#"[{"name":"packbits","configuration":{"first_bit":3,"last_bit":2}},"gzip"]"#,
-        Err(BitOrder),
-    ),
-];
-
-/// Lists of codecs with chains inside.
-const NESTED: [Row; 8] = [
-    (
-        r#"[{"name":"https://codec.zarrs.dev/array_to_bytes/vlen","configuration":{"index_codecs":[{"name":"endian","configuration":{"endian":"little"}}],"data_codecs":["bytes"],"index_data_type":"uint64"}}]"#,
-        Ok(
-            r#"[{"configuration":{"data_codecs":[{"configuration":{},"name":"bytes"}],"index_codecs":[{"configuration":{"endian":"little"},"name":"bytes"}],"index_data_type":"uint64","index_location":"start"},"name":"zarrs.vlen"}]"#,
-        ),
-    ),
-    (
-        r#"["sample.reverse",{"name":"optional","configuration":{"mask_codecs":["packbits"],"data_codecs":[{"name":"zarrs.optional","configuration":{"mask_codecs":["bytes"],"data_codecs":["sample.length","bytes"]}}]}}]"#,
-        Ok(
-            r#"[{"configuration":{"data_codecs":[{"configuration":{"data_codecs":[{"configuration":{},"name":"bytes"},"sample.length"],"mask_codecs":[{"configuration":{},"name":"bytes"}]},"name":"zarrs.optional"}],"mask_codecs":[{"configuration":{"first_bit":null,"last_bit":null,"padding_encoding":"none"},"name":"packbits"}]},"name":"zarrs.optional"},"sample.reverse"]"#,
-        ),
-    ),
-    (
-        r#"[{"name":"optional","must_understand":false,"configuration":{"mask_codecs":["bytes"],"data_codecs":["bytes"]}}]"#,
-        Ok(
-            r#"[{"configuration":{"data_codecs":[{"configuration":{},"name":"bytes"}],"mask_codecs":[{"configuration":{},"name":"bytes"}]},"name":"zarrs.optional"}]"#,
-        ),
-    ),
-    (
-        r#"["bytes",{"name":"optional","must_understand":false,"configuration":{"mask_codecs":[],"data_codecs":["bytes"]}}]"#,
-        Ok(r#"[{"configuration":{},"name":"bytes"}]"#),
-    ),
-    (
-        r#"["bytes",{"name":"zarrs.vlen","must_understand":false,"configuration":{"index_codecs":["bytes",5],"data_codecs":["bytes"],"index_data_type":"uint64"}}]"#,
-        Ok(r#"[{"configuration":{},"name":"bytes"}]"#),
-    ),
-    (
-        r#"[{"name":"optional","configuration":{"mask_codecs":["gzip"],"data_codecs":[]}}]"#,
-        Err(UnknownName),
-    ),
-    (
-        r#"[{"name":"optional","configuration":{"mask_codecs":["bytes"],"data_codecs":[]}}]"#,
-        Err(MissingArrayToBytes),
-    ),
-    (
-        r#"[{"name":"zarrs.vlen","configuration":{"index_codecs":["bytes","bytes"],"data_codecs":["gzip"],"index_data_type":"uint32","index_location":"end"}}]"#,
-        Err(MultipleArrayToBytes),
-    ),
-];
-
-fn check(rt: &impl Abort, alloc: Global, row: &Row) -> Result<(), Fail> {
-    answers(rt, row.0, written(alloc, row.0), row.1)
+/// A list that makes a chain, and the list that is written of the chain.
+struct Row {
+    name: &'static str,
+    list: &'static str,
+    written: &'static str,
 }
 
-#[test]
-fn flat_lists_make_chains(rt: HostRuntime) -> Result<(), Fail> {
-    for row in &FLAT {
-        check(&rt, rt.alloc(), row)?;
+const ROWS: &'static [Row] = &[
+    Row {
+        name: "codecs of chunks to chunks come first",
+        list: r#"["bytes",{"name":"transpose","configuration":{"order":[1,0]}}]"#,
+        written: r#"[{"configuration":{"order":[1,0]},"name":"transpose"},{"configuration":{},"name":"bytes"}]"#,
+    },
+    Row {
+        name: "codecs of a kind keep their order",
+        list: r#"["sample.length","bytes","sample.reverse","zarrs.squeeze"]"#,
+        written: r#"[{"configuration":{},"name":"zarrs.squeeze"},{"configuration":{},"name":"bytes"},"sample.length","sample.reverse"]"#,
+    },
+    Row {
+        name: "what is passed over isn't written",
+        list: r#"[{"name":"gzip","must_understand":false},{"name":"endian","must_understand":false,"configuration":{"endian":"big","other":5}}]"#,
+        written: r#"[{"configuration":{"endian":"big"},"name":"bytes"}]"#,
+    },
+    Row {
+        name: "the index at the start where nothing is said",
+        list: r#"[{"name":"https://codec.zarrs.dev/array_to_bytes/vlen","configuration":{"index_codecs":[{"name":"endian","configuration":{"endian":"little"}}],"data_codecs":["bytes"],"index_data_type":"uint64"}}]"#,
+        written: r#"[{"configuration":{"data_codecs":[{"configuration":{},"name":"bytes"}],"index_codecs":[{"configuration":{"endian":"little"},"name":"bytes"}],"index_data_type":"uint64","index_location":"start"},"name":"zarrs.vlen"}]"#,
+    },
+    Row {
+        name: "chains inside chains",
+        list: r#"["sample.reverse",{"name":"optional","configuration":{"mask_codecs":["packbits"],"data_codecs":[{"name":"zarrs.optional","configuration":{"mask_codecs":["bytes"],"data_codecs":["sample.length","bytes"]}}]}}]"#,
+        written: r#"[{"configuration":{"data_codecs":[{"configuration":{"data_codecs":[{"configuration":{},"name":"bytes"},"sample.length"],"mask_codecs":[{"configuration":{},"name":"bytes"}]},"name":"zarrs.optional"}],"mask_codecs":[{"configuration":{"first_bit":null,"last_bit":null,"padding_encoding":"none"},"name":"packbits"}]},"name":"zarrs.optional"},"sample.reverse"]"#,
+    },
+];
+
+fn metadatas(alloc: Global, items: &[Value]) -> Result<Vec<MetadataV3>, PluginCreateError> {
+    let mut list = Vec::new(alloc);
+    for item in items {
+        list.push(MetadataV3::from_value(alloc, item)?)?;
     }
-    Ok(())
+    Ok(list)
+}
+
+fn chain_of(
+    alloc: Global,
+    list: &Value,
+) -> Result<CodecChain<SampleBytesCodec>, PluginCreateError> {
+    match list {
+        Value::Array(items) => {
+            let list = metadatas(alloc, items)?;
+            CodecChain::from_metadata(alloc, &list, &SampleMaker)
+        }
+        _ => Err(PluginCreateError::InvalidConfiguration),
+    }
+}
+
+/// The chain of a list.
+pub(crate) fn chain(
+    alloc: Global,
+    list: &str,
+) -> Result<CodecChain<SampleBytesCodec>, PluginCreateError> {
+    let list = tree(alloc, list)?;
+    chain_of(alloc, &list)
+}
+
+fn trees(alloc: Global, list: &[MetadataV3]) -> Result<Vec<Value>, PluginCreateError> {
+    let mut trees = Vec::new(alloc);
+    for metadata in list {
+        trees.push(metadata.to_value(alloc)?)?;
+    }
+    Ok(trees)
+}
+
+/// What is written of the chain of a list.
+fn written(alloc: Global, list: &str) -> Result<Value, PluginCreateError> {
+    let chain = chain(alloc, list)?;
+    let list = chain.create_metadatas(alloc)?;
+    Ok(Value::Array(trees(alloc, &list)?))
+}
+
+fn is_written(rt: &impl Abort, alloc: Global, row: &Row) -> Result<(), Fail> {
+    let written = written(alloc, row.list)?;
+    is_shown(rt, row.name, alloc, &written, row.written)
 }
 
 #[test]
-fn lists_inside_make_chains_inside(rt: HostRuntime) -> Result<(), Fail> {
-    for row in &NESTED {
-        check(&rt, rt.alloc(), row)?;
+fn lists_are_written_of_chains(rt: HostRuntime) -> Result<(), Fail> {
+    for row in ROWS {
+        is_written(&rt, rt.alloc(), row)?;
     }
     Ok(())
 }

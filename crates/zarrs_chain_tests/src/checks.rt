@@ -15,17 +15,17 @@ pub(crate) fn are<T: PartialEq + Debug>(rt: &impl Abort, about: &str, came: &[T]
     assert_eq!(rt; came, wanted, "{about}");
 }
 
-/// The refusal that came, or none, is the one that is wanted. A want of memory is an error of the
+/// The answer or the refusal that came is the one that is wanted. A want of memory is an error of the
 /// test.
-pub(crate) fn is_cause(
+pub(crate) fn answers<T: PartialEq + Debug>(
     rt: &impl Abort,
     about: &str,
-    came: Option<CodecError>,
-    wanted: &Option<CodecError>,
+    came: &Result<T, CodecError>,
+    wanted: &Result<T, CodecError>,
 ) -> Result<(), CodecError> {
-    if came == Some(CodecError::OutOfMemory) {
+    if let Err(CodecError::OutOfMemory) = came {
         return Err(CodecError::OutOfMemory);
     }
-    is(rt, about, &came, wanted);
+    is(rt, about, came, wanted);
     Ok(())
 }

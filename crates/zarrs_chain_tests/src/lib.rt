@@ -1,32 +1,20 @@
-//! Tests of chains of codecs, over their public calls. Without tests the crate is empty.
+//! Tests of whole chunks through chains without chains inside: how many bytes a value has, encoding,
+//! decoding, also into a target, making a value shorter, and what a chain is made of and does in part.
+//! Without tests the crate is empty.
 //!
-//! Answers are written by hand. A want of memory ends a test with that error and is never compared.
-//!
-//! The check proves a test before it runs. So examples stand in tables of constants, which cost it
-//! nothing, and a test goes over its table by a function that takes one row.
+//! What the line tool shows of chains stands in `zarrs_transcripts`. Here is the rest: sizes, what a
+//! refusal carries, and calls that the tool doesn't make. Chains and chunks are told as in the tool's
+//! headers. Answers are written by hand. A want of memory ends a test with that error and is never
+//! compared.
 #![tactic(auto)]
 
 #[cfg(test)]
 mod checks;
 #[cfg(test)]
-mod default_vlen;
-#[cfg(test)]
-mod edits;
-#[cfg(test)]
-mod failing_edits;
-#[cfg(test)]
 mod forms;
-#[cfg(test)]
-mod made;
 #[cfg(test)]
 mod parts;
 #[cfg(test)]
-mod reads;
-#[cfg(test)]
-mod refusals;
-#[cfg(test)]
-mod rows;
-#[cfg(test)]
 mod targets;
 #[cfg(test)]
-mod vlen_reads;
+mod whole;

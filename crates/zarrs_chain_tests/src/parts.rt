@@ -1,26 +1,23 @@
 //! What a chain is made of, and what it does in part.
 
 use crate::checks::is;
-use crate::forms::{BYTE, Chain, Moving, ToBytes, Told, chain, chunk_form};
+use crate::forms::{Chain, chain, shape};
 use std::alloc::Global;
 use std::process::Abort;
 use std::test::Fail;
 use zarrs_array_to_array::ArrayToArrayCodec;
+use zarrs_chain_json::Refusal;
 use zarrs_chunk::CodecError;
 use zarrs_codec::{
     ArrayCodecTraits, CodecTraits, PartialDecoderCapability, PartialEncoderCapability,
     SampleBytesCodec,
 };
 use zarrs_codec_chain::ArrayToBytesCodec;
-use zarrs_metadata::PackBitsPaddingEncoding;
 
-const PLAIN: ToBytes = ToBytes::Bytes(None);
-
-const PACKED: ToBytes = ToBytes::Packed(PackBitsPaddingEncoding::None, None, None);
+const SHOWN: &'static str =
+    r#"[{"name":"transpose","configuration":{"order":[1,0]}},{"name":"reshape","configuration":{"shape":[-1]}},"packbits","sample.length","sample.reverse"]"#;
 
 const OUTER: &'static [SampleBytesCodec] = &[SampleBytesCodec::Length, SampleBytesCodec::Reverse];
-
-const SHOWN: Told = Told::Flat((&[Moving::By(&[1, 0]), Moving::Flat], PACKED, OUTER));
 
 /// The chain transposes, does one thing more to chunks, packs them, and has these codecs of bytes.
 fn has_parts(rt: &impl Abort, chain: &Chain) {
@@ -34,56 +31,79 @@ fn has_parts(rt: &impl Abort, chain: &Chain) {
     is(rt, "outer", &same, &true);
 }
 
+/// What is best decoded together of a chunk is all of it.
+fn is_whole(rt: &impl Abort, alloc: Global, chain: &Chain) -> Result<(), CodecError> {
+    let shape = shape(alloc, &[2, 3])?;
+    let came = chain.partial_decode_granularity(alloc, &shape)?;
+    is(rt, "granularity", &came, &shape);
+    Ok(())
+}
+
 #[test]
 fn shows_its_parts(rt: HostRuntime) -> Result<(), Fail> {
-    let chain = chain(rt.alloc(), &SHOWN)?;
+    let chain = chain(rt.alloc(), SHOWN)?;
     has_parts(&rt, &chain);
+    is_whole(&rt, rt.alloc(), &chain)?;
     Ok(())
 }
 
 /// A chain, whether it reads in part, and whether it writes in part.
-type Capable = (&'static Told, bool, bool);
+struct Capable {
+    name: &'static str,
+    codecs: &'static str,
+    reads: bool,
+    writes: bool,
+}
 
 const CAPABLE: &'static [Capable] = &[
-    (&Told::Flat((&[Moving::Flat], PLAIN, &[])), true, true),
-    (&Told::Flat((&[Moving::Flat], PACKED, &[])), true, false),
-    (&Told::Flat((&[], PLAIN, OUTER)), false, false),
-    (&SHOWN, false, false),
+    Capable {
+        name: "bytes",
+        codecs: r#"[{"name":"reshape","configuration":{"shape":[-1]}},"bytes"]"#,
+        reads: true,
+        writes: true,
+    },
+    Capable {
+        name: "packbits",
+        codecs: r#"[{"name":"reshape","configuration":{"shape":[-1]}},"packbits"]"#,
+        reads: true,
+        writes: false,
+    },
+    Capable {
+        name: "bytes, and codecs of bytes",
+        codecs: r#"["bytes","sample.length","sample.reverse"]"#,
+        reads: false,
+        writes: false,
+    },
+    Capable {
+        name: "codecs of all three kinds",
+        codecs: SHOWN,
+        reads: false,
+        writes: false,
+    },
 ];
 
-fn is_capable(rt: &impl Abort, alloc: Global, row: &Capable) -> Result<(), Fail> {
-    let (told, reads, writes) = row;
-    let chain = chain(alloc, told)?;
+fn is_capable(rt: &impl Abort, chain: &Chain, row: &Capable) {
     let decoder = PartialDecoderCapability {
-        partial_read: *reads,
-        partial_decode: *reads,
+        partial_read: row.reads,
+        partial_decode: row.reads,
     };
-    is(rt, "reads", &chain.partial_decoder_capability(), &decoder);
+    is(rt, row.name, &chain.partial_decoder_capability(), &decoder);
     let encoder = PartialEncoderCapability {
-        partial_encode: *writes,
+        partial_encode: row.writes,
     };
-    is(rt, "writes", &chain.partial_encoder_capability(), &encoder);
+    is(rt, row.name, &chain.partial_encoder_capability(), &encoder);
+}
+
+fn does(rt: &impl Abort, alloc: Global, row: &Capable) -> Result<(), Refusal> {
+    let chain = chain(alloc, row.codecs)?;
+    is_capable(rt, &chain, row);
     Ok(())
 }
 
 #[test]
 fn does_in_part_what_its_codecs_do(rt: HostRuntime) -> Result<(), Fail> {
-    for row in CAPABLE.iter() {
-        is_capable(&rt, rt.alloc(), row)?;
+    for row in CAPABLE {
+        does(&rt, rt.alloc(), row)?;
     }
-    Ok(())
-}
-
-fn is_whole(rt: &impl Abort, alloc: Global, chain: &Chain) -> Result<(), CodecError> {
-    let form = chunk_form(alloc, &(&[2, 3], BYTE, 0))?;
-    let came = chain.partial_decode_granularity(alloc, &form.shape)?;
-    is(rt, "granularity", &came, &form.shape);
-    Ok(())
-}
-
-#[test]
-fn is_decoded_whole(rt: HostRuntime) -> Result<(), Fail> {
-    let chain = chain(rt.alloc(), &SHOWN)?;
-    is_whole(&rt, rt.alloc(), &chain)?;
     Ok(())
 }

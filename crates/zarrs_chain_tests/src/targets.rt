@@ -1,17 +1,16 @@
 //! Chunks that chains decode into a target, and values that they are asked to make shorter.
 
-use crate::checks::{are, is, is_cause};
-use crate::forms::{
-    BYTE, Chain, ChunkForm, Form, Kind, OPTIONS, PLAIN, STRINGS, TURNED, Told, WITH_LENGTH,
-    made_case,
-};
+use crate::checks::{answers, are};
+use crate::forms::{Case, Chunk, ChunkForm, PAIR, made, shape};
 use std::alloc::Global;
 use std::borrow::CowSlice;
 use std::ops::Range;
 use std::process::Abort;
 use std::test::Fail;
 use zarrs_array_bytes::{ArrayBytesDecodeIntoTarget, ArrayBytesFixedView};
-use zarrs_chunk::{ArraySubset, ChunkShape, CodecError, CodecName};
+use zarrs_chain_json::Refusal;
+use zarrs_chunk::CodecError::{BytesCodec, InvalidBytesLength, TargetMismatch};
+use zarrs_chunk::{ArraySubset, CodecError};
 use zarrs_codec::ArrayToBytesCodecTraits;
 
 /// The view of these ranges of an array of single bytes.
@@ -22,36 +21,125 @@ fn view<'a>(
     ranges: &[Range<u64>],
 ) -> Result<ArrayBytesFixedView<'a>, CodecError> {
     let subset = ArraySubset::new_with_ranges(alloc, ranges)?;
-    let shape = ChunkShape::new(sizes.to_vec(alloc)?).ok_or(CodecError::OutOfBounds)?;
+    let shape = shape(alloc, sizes)?;
     ArrayBytesFixedView::new(alloc, bytes, 1, &shape, subset)
 }
 
-/// A target of elements without masks.
-fn unmasked<'a>(
-    alloc: Global,
-    bytes: &'a mut [u8],
-    sizes: &[u64],
-    ranges: &[Range<u64>],
-) -> Result<ArrayBytesDecodeIntoTarget<'a>, CodecError> {
-    Ok(ArrayBytesDecodeIntoTarget {
-        values: view(alloc, bytes, sizes, ranges)?,
-        masks: Vec::new(alloc),
-    })
+/// A chain, a chunk and its value; the sizes of an array of six zeros, the ranges where the chunk is to
+/// go, and how many masks there are; whether it goes there, or the first cause why not; and the array
+/// afterwards.
+struct Row {
+    name: &'static str,
+    codecs: &'static str,
+    chunk: Chunk,
+    value: &'static [u8],
+    sizes: &'static [u64],
+    ranges: &'static [Range<u64>],
+    masks: usize,
+    answer: Result<(), CodecError>,
+    after: &'static [u8],
 }
 
-/// A target of elements in a row behind the first byte, and of one mask of all bytes.
-fn masked<'a>(
+const ROWS: &'static [Row] = &[
+    Row {
+        name: "a column",
+        codecs: r#"["bytes"]"#,
+        chunk: PAIR,
+        value: &[1, 2],
+        sizes: &[2, 3],
+        ranges: &[0..2, 1..2],
+        masks: 0,
+        answer: Ok(()),
+        after: &[0, 1, 0, 0, 2, 0],
+    },
+    Row {
+        name: "two of six in a row",
+        codecs: r#"["bytes","sample.length"]"#,
+        chunk: PAIR,
+        value: &[2, 0, 0, 0, 0, 0, 0, 0, 1, 2],
+        sizes: &[6],
+        ranges: &[1..3],
+        masks: 0,
+        answer: Ok(()),
+        after: &[0, 1, 2, 0, 0, 0],
+    },
+    Row {
+        name: "two columns of a chunk whose axes are turned",
+        codecs: r#"[{"name":"transpose","configuration":{"order":[1,0]}},"bytes"]"#,
+        chunk: Chunk {
+            shape: &[2, 2],
+            data_type: r#""uint8""#,
+            fill_value: &[0],
+        },
+        value: &[1, 3, 2, 4],
+        sizes: &[2, 3],
+        ranges: &[0..2, 1..3],
+        masks: 0,
+        answer: Ok(()),
+        after: &[0, 1, 2, 0, 3, 4],
+    },
+    Row {
+        name: "one place for two elements",
+        codecs: r#"["bytes"]"#,
+        chunk: PAIR,
+        value: &[1, 2],
+        sizes: &[2, 3],
+        ranges: &[0..1, 1..2],
+        masks: 0,
+        answer: Err(TargetMismatch),
+        after: &[0; 6],
+    },
+    Row {
+        name: "a mask over elements without masks",
+        codecs: r#"["bytes"]"#,
+        chunk: PAIR,
+        value: &[1, 2],
+        sizes: &[2, 3],
+        ranges: &[0..2, 1..2],
+        masks: 1,
+        answer: Err(TargetMismatch),
+        after: &[0; 6],
+    },
+    Row {
+        name: "one place, and a short value",
+        codecs: r#"["bytes"]"#,
+        chunk: PAIR,
+        value: &[1],
+        sizes: &[2, 3],
+        ranges: &[0..1, 1..2],
+        masks: 0,
+        answer: Err(TargetMismatch),
+        after: &[0; 6],
+    },
+    Row {
+        name: "a short value",
+        codecs: r#"["bytes"]"#,
+        chunk: PAIR,
+        value: &[1],
+        sizes: &[2, 3],
+        ranges: &[0..2, 1..2],
+        masks: 0,
+        answer: Err(InvalidBytesLength {
+            len: 1,
+            expected: 2,
+        }),
+        after: &[0; 6],
+    },
+];
+
+/// A target of the row's ranges, under so many masks of two flags as the row has, at most one.
+fn target<'a>(
     alloc: Global,
     bytes: &'a mut [u8],
     flags: &'a mut [u8],
+    row: &Row,
 ) -> Result<ArrayBytesDecodeIntoTarget<'a>, CodecError> {
-    let len = bytes.len() as u64;
-    let count = flags.len() as u64;
-    let mask = view(alloc, flags, &[count], &[0..count])?;
     let mut masks = Vec::new(alloc);
-    masks.push(mask)?;
+    if row.masks > 0 {
+        masks.push(view(alloc, flags, &[2], &[0..2])?)?;
+    }
     Ok(ArrayBytesDecodeIntoTarget {
-        values: view(alloc, bytes, &[len], &[1..len])?,
+        values: view(alloc, bytes, row.sizes, row.ranges)?,
         masks,
     })
 }
@@ -73,217 +161,59 @@ fn decode_into<C: ArrayToBytesCodecTraits>(
     )
 }
 
-/// A chain, a chunk, its value, the sizes of an array of 6 bytes, the ranges where the chunk goes, and
-/// the bytes afterwards. Before, each is 0.
-type Row = (
-    &'static Told,
-    Form,
-    &'static [u8],
-    &'static [u64],
-    &'static [Range<u64>],
-    &'static [u8],
-);
-
-/// The last chain turns the axes: its value is 1, 3, 2, 4.
-const WRITTEN: &'static [Row] = &[
-    (
-        &PLAIN,
-        (&[2], BYTE, 0),
-        &[1, 2],
-        &[2, 3],
-        &[0..2, 1..2],
-        &[0, 1, 0, 0, 2, 0],
-    ),
-    (
-        &WITH_LENGTH,
-        (&[2], BYTE, 0),
-        &[2, 0, 0, 0, 0, 0, 0, 0, 1, 2],
-        &[6],
-        &[1..3],
-        &[0, 1, 2, 0, 0, 0],
-    ),
-    (
-        &TURNED,
-        (&[2, 2], BYTE, 0),
-        &[1, 3, 2, 4],
-        &[2, 3],
-        &[0..2, 1..3],
-        &[0, 1, 2, 0, 3, 4],
-    ),
-];
-
-fn writes_form(
-    rt: &impl Abort,
-    alloc: Global,
-    chain: &Chain,
-    form: &ChunkForm,
-    row: &Row,
-) -> Result<(), CodecError> {
-    let (_, _, value, sizes, ranges, after) = row;
+fn is_decoded(rt: &impl Abort, alloc: Global, case: &Case, row: &Row) -> Result<(), CodecError> {
     let mut bytes = [0u8; 6];
-    let mut target = unmasked(alloc, &mut bytes, sizes, ranges)?;
-    decode_into(alloc, chain, form, value, &mut target)?;
-    are(rt, "written", target.values.as_slice(), after);
-    Ok(())
-}
-
-fn writes(rt: &impl Abort, alloc: Global, row: &Row) -> Result<(), Fail> {
-    let case = made_case(alloc, row.0, &row.1)?;
-    writes_form(rt, alloc, &case.chain, &case.form, row)?;
-    Ok(())
-}
-
-#[test]
-fn writes_chunks_at_the_places_of_a_subset(rt: HostRuntime) -> Result<(), Fail> {
-    for row in WRITTEN.iter() {
-        writes(&rt, rt.alloc(), row)?;
-    }
-    Ok(())
-}
-
-/// A chain, a chunk, its value, the ranges of an array of 2 times 3 where the chunk is to go, and why
-/// it doesn't: the first of the causes that hold.
-type RefusedRow = (
-    &'static Told,
-    Form,
-    &'static [u8],
-    &'static [Range<u64>],
-    Option<CodecError>,
-);
-
-const REFUSED: &'static [RefusedRow] = &[
-    (
-        &PLAIN,
-        (&[2], BYTE, 0),
-        &[1, 2],
-        &[0..1, 1..2],
-        Some(CodecError::TargetMismatch),
-    ),
-    (
-        &PLAIN,
-        (&[2], BYTE, 0),
-        &[1],
-        &[0..1, 1..2],
-        Some(CodecError::TargetMismatch),
-    ),
-    (
-        &PLAIN,
-        (&[2], BYTE, 0),
-        &[1],
-        &[0..2, 1..2],
-        Some(CodecError::InvalidBytesLength {
-            len: 1,
-            expected: 2,
-        }),
-    ),
-    (
-        &STRINGS,
-        (&[2], Kind::Text, 0),
-        &[],
-        &[0..1, 1..2],
-        Some(CodecError::UnsupportedTarget),
-    ),
-    (
-        &OPTIONS,
-        (&[2], BYTE, 0),
-        &[],
-        &[0..1, 1..2],
-        Some(CodecError::UnsupportedDataType(CodecName::Optional)),
-    ),
-    (
-        &OPTIONS,
-        (&[2], BYTE, 1),
-        &[],
-        &[0..2, 1..2],
-        Some(CodecError::TargetMismatch),
-    ),
-];
-
-fn refuses_form(
-    rt: &impl Abort,
-    alloc: Global,
-    chain: &Chain,
-    form: &ChunkForm,
-    row: &RefusedRow,
-) -> Result<(), CodecError> {
-    let (_, _, value, ranges, cause) = row;
-    let mut bytes = [9u8; 6];
-    let mut target = unmasked(alloc, &mut bytes, &[2, 3], ranges)?;
-    let answer = decode_into(alloc, chain, form, value, &mut target);
-    is_cause(rt, "refused", answer.err(), cause)?;
-    are(rt, "left", target.values.as_slice(), &[9, 9, 9, 9, 9, 9]);
-    Ok(())
-}
-
-fn refuses(rt: &impl Abort, alloc: Global, row: &RefusedRow) -> Result<(), Fail> {
-    let case = made_case(alloc, row.0, &row.1)?;
-    refuses_form(rt, alloc, &case.chain, &case.form, row)?;
-    Ok(())
-}
-
-#[test]
-fn refuses_what_the_target_does_not_take(rt: HostRuntime) -> Result<(), Fail> {
-    for row in REFUSED.iter() {
-        refuses(&rt, rt.alloc(), row)?;
-    }
-    Ok(())
-}
-
-/// The elements 5, absent and 7.
-const MASKED: &'static [u8] = &[
-    3, 0, 0, 0, 0, 0, 0, 0, 2, 0, 0, 0, 0, 0, 0, 0, 1, 0, 1, 5, 7,
-];
-
-fn writes_both(
-    rt: &impl Abort,
-    alloc: Global,
-    chain: &Chain,
-    form: &ChunkForm,
-) -> Result<(), CodecError> {
-    let mut bytes = [9u8; 4];
-    let mut flags = [9u8; 3];
-    let mut target = masked(alloc, &mut bytes, &mut flags)?;
-    decode_into(alloc, chain, form, MASKED, &mut target)?;
-    are(rt, "values", target.values.as_slice(), &[9, 5, 0, 7]);
-    for mask in target.masks.iter() {
-        are(rt, "mask", mask.as_slice(), &[1, 0, 1]);
-    }
-    Ok(())
-}
-
-#[test]
-fn writes_elements_and_masks(rt: HostRuntime) -> Result<(), Fail> {
-    let case = made_case(rt.alloc(), &OPTIONS, &(&[3], BYTE, 1))?;
-    writes_both(&rt, rt.alloc(), &case.chain, &case.form)?;
-    Ok(())
-}
-
-fn refuses_mask(
-    rt: &impl Abort,
-    alloc: Global,
-    chain: &Chain,
-    form: &ChunkForm,
-) -> Result<(), CodecError> {
-    let mut bytes = [9u8; 3];
     let mut flags = [9u8; 2];
-    let mut target = masked(alloc, &mut bytes, &mut flags)?;
-    let answer = decode_into(alloc, chain, form, &[1, 2], &mut target);
-    is_cause(
-        rt,
-        "refused",
-        answer.err(),
-        &Some(CodecError::TargetMismatch),
-    )?;
-    are(rt, "left", target.values.as_slice(), &[9, 9, 9]);
+    let mut target = target(alloc, &mut bytes, &mut flags, row)?;
+    let came = decode_into(alloc, &case.chain, &case.form, row.value, &mut target);
+    answers(rt, row.name, &came, &row.answer)?;
+    are(rt, row.name, target.values.as_slice(), row.after);
+    Ok(())
+}
+
+fn is_decoded_into(rt: &impl Abort, alloc: Global, row: &Row) -> Result<(), Refusal> {
+    let case = made(alloc, row.codecs, &row.chunk)?;
+    is_decoded(rt, alloc, &case, row)?;
     Ok(())
 }
 
 #[test]
-fn refuses_a_mask_too_many(rt: HostRuntime) -> Result<(), Fail> {
-    let case = made_case(rt.alloc(), &PLAIN, &(&[2], BYTE, 0))?;
-    refuses_mask(&rt, rt.alloc(), &case.chain, &case.form)?;
+fn decodes_into_the_places_of_a_subset(rt: HostRuntime) -> Result<(), Fail> {
+    for row in ROWS {
+        is_decoded_into(&rt, rt.alloc(), row)?;
+    }
     Ok(())
 }
+
+/// A chain of two elements of one byte, a value, and whether a shorter one is made of it, or why not.
+struct Compacted {
+    name: &'static str,
+    codecs: &'static str,
+    value: &'static [u8],
+    shorter: Result<bool, CodecError>,
+}
+
+/// Only the bytes codecs look at the value.
+const COMPACTED: &'static [Compacted] = &[
+    Compacted {
+        name: "a good value",
+        codecs: r#"["bytes","sample.length"]"#,
+        value: &[2, 0, 0, 0, 0, 0, 0, 0, 1, 2],
+        shorter: Ok(false),
+    },
+    Compacted {
+        name: "one element too many",
+        codecs: r#"["bytes"]"#,
+        value: &[1, 2, 3],
+        shorter: Ok(false),
+    },
+    Compacted {
+        name: "a length that isn't that of the bytes",
+        codecs: r#"["bytes","sample.length"]"#,
+        value: &[3, 0, 0, 0, 0, 0, 0, 0, 1, 2],
+        shorter: Err(BytesCodec(2)),
+    },
+];
 
 fn compact<C: ArrayToBytesCodecTraits>(
     alloc: Global,
@@ -298,47 +228,19 @@ fn compact<C: ArrayToBytesCodecTraits>(
         &form.data_type,
         &form.fill_value,
     )?;
-    Ok(shorter.is_none())
+    Ok(shorter.is_some())
 }
 
-/// What is made shorter of a value: nothing, or why it isn't.
-fn is_left(
-    rt: &impl Abort,
-    alloc: Global,
-    chain: &Chain,
-    form: &ChunkForm,
-    value: &[u8],
-) -> Result<(), CodecError> {
-    let is_none = compact(alloc, chain, form, value)?;
-    is(rt, "none", &is_none, &true);
-    Ok(())
-}
-
-/// A chain, a value, and why its bytes codecs don't decode it, if they don't.
-type Compacted = (&'static Told, &'static [u8], Option<CodecError>);
-
-/// Only the bytes codecs look at the value.
-const COMPACTED: &'static [Compacted] = &[
-    (&WITH_LENGTH, &[2, 0, 0, 0, 0, 0, 0, 0, 1, 2], None),
-    (&PLAIN, &[1, 2, 3], None),
-    (
-        &WITH_LENGTH,
-        &[3, 0, 0, 0, 0, 0, 0, 0, 1, 2],
-        Some(CodecError::BytesCodec(2)),
-    ),
-];
-
-fn is_compacted(rt: &impl Abort, alloc: Global, row: &Compacted) -> Result<(), Fail> {
-    let (told, value, cause) = row;
-    let case = made_case(alloc, told, &(&[2], BYTE, 0))?;
-    let answer = is_left(rt, alloc, &case.chain, &case.form, value);
-    is_cause(rt, "compact", answer.err(), cause)?;
+fn is_compacted(rt: &impl Abort, alloc: Global, row: &Compacted) -> Result<(), Refusal> {
+    let case = made(alloc, row.codecs, &PAIR)?;
+    let shorter = compact(alloc, &case.chain, &case.form, row.value);
+    answers(rt, row.name, &shorter, &row.shorter)?;
     Ok(())
 }
 
 #[test]
 fn makes_no_value_shorter(rt: HostRuntime) -> Result<(), Fail> {
-    for row in COMPACTED.iter() {
+    for row in COMPACTED {
         is_compacted(&rt, rt.alloc(), row)?;
     }
     Ok(())

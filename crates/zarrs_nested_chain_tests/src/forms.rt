@@ -1,0 +1,111 @@
+//! Codecs, chunks and elements, made of plain data.
+
+use std::alloc::Global;
+use std::borrow::CowSlice;
+use std::slice;
+use zarrs_array_bytes::{ArrayBytes, ArrayBytesOffsets};
+use zarrs_chain_json::{Refusal, data_type, tree};
+use zarrs_chunk::{ChunkShape, CodecError};
+use zarrs_codec::{SampleBytesCodec, SampleMaker};
+use zarrs_codec_chain::CodecChain;
+use zarrs_data_type::{DataType, FillValue};
+use zarrs_metadata::MetadataV3;
+
+/// Texts behind their offsets, which have eight bytes each.
+pub(crate) const TEXTS: &'static str =
+    r#"{"name":"zarrs.vlen","configuration":{"index_codecs":[{"name":"bytes","configuration":{"endian":"little"}}],"data_codecs":["bytes"],"index_data_type":"uint64","index_location":"start"}}"#;
+
+/// Elements that may be absent, mask and data as they are.
+pub(crate) const OPTIONS: &'static str =
+    r#"{"name":"optional","configuration":{"mask_codecs":["bytes"],"data_codecs":["bytes"]}}"#;
+
+pub(crate) type Chain = CodecChain<SampleBytesCodec>;
+
+/// A chunk: its sizes, the type of its elements, as JSON, and the bytes of its fill value.
+pub(crate) struct Chunk {
+    pub(crate) shape: &'static [u64],
+    pub(crate) data_type: &'static str,
+    pub(crate) fill_value: &'static [u8],
+}
+
+/// What a codec is told of a chunk.
+#[derive(Drop)]
+pub(crate) struct ChunkForm {
+    pub(crate) shape: ChunkShape,
+    pub(crate) data_type: DataType,
+    pub(crate) fill_value: FillValue,
+}
+
+/// A chain of one codec, and a chunk that it is told of, as one value: each that a function owns makes
+/// it dearer to prove.
+#[derive(Drop)]
+pub(crate) struct Case {
+    pub(crate) chain: Chain,
+    pub(crate) form: ChunkForm,
+}
+
+fn metadata(alloc: Global, text: &str) -> Result<MetadataV3, Refusal> {
+    let tree = tree(alloc, text.as_bytes())?;
+    Ok(MetadataV3::from_value(alloc, &tree)?)
+}
+
+fn chain(alloc: Global, codec: &str) -> Result<Chain, Refusal> {
+    let metadata = metadata(alloc, codec)?;
+    let chain = CodecChain::from_metadata(alloc, slice::from_ref(&metadata), &SampleMaker)?;
+    Ok(chain)
+}
+
+fn data_type_named(alloc: Global, name: &str) -> Result<DataType, Refusal> {
+    let tree = tree(alloc, name.as_bytes())?;
+    data_type(alloc, &tree)
+}
+
+pub(crate) fn shape(alloc: Global, sizes: &[u64]) -> Result<ChunkShape, CodecError> {
+    ChunkShape::new(sizes.to_vec(alloc)?).ok_or(CodecError::OutOfBounds)
+}
+
+fn chunk_form(alloc: Global, chunk: &Chunk) -> Result<ChunkForm, Refusal> {
+    Ok(ChunkForm {
+        shape: shape(alloc, chunk.shape)?,
+        data_type: data_type_named(alloc, chunk.data_type)?,
+        fill_value: FillValue::new(chunk.fill_value.to_vec(alloc)?),
+    })
+}
+
+/// The chain of a codec's metadata, as JSON, and such a chunk.
+pub(crate) fn made(alloc: Global, codec: &str, chunk: &Chunk) -> Result<Case, Refusal> {
+    Ok(Case {
+        chain: chain(alloc, codec)?,
+        form: chunk_form(alloc, chunk)?,
+    })
+}
+
+/// Elements as a container holds them: their bytes; where each text begins and the last one ends, or
+/// nothing where all are of one size; the masks over them, the innermost first.
+pub(crate) struct Elements {
+    pub(crate) bytes: &'static [u8],
+    pub(crate) ends: &'static [usize],
+    pub(crate) masks: &'static [&'static [u8]],
+}
+
+fn unmasked(
+    alloc: Global,
+    bytes: &'static [u8],
+    ends: &[usize],
+) -> Result<ArrayBytes<'static>, CodecError> {
+    let bytes = CowSlice::Borrowed(bytes);
+    if ends.is_empty() {
+        return Ok(ArrayBytes::new_flen(bytes));
+    }
+    let offsets = ArrayBytesOffsets::new(ends.to_vec(alloc)?)?;
+    ArrayBytes::new_vlen(bytes, offsets)
+}
+
+/// A container of these elements.
+pub(crate) fn held(alloc: Global, elements: &Elements) -> Result<ArrayBytes<'static>, CodecError> {
+    let mut array = unmasked(alloc, elements.bytes, elements.ends)?;
+    for mask in elements.masks {
+        array = array.with_optional_mask(alloc, CowSlice::Borrowed(mask))?;
+    }
+    Ok(array)
+}
