@@ -1,0 +1,324 @@
+//! A handle of the tests' own, which fails in the middle.
+ghost use Rattle.std.specs.Prelude.{◌≡◌, Ok};
+ghost use Rattle.zarrs_chunk.specs.Answer.{Answers, fault, is_fault};
+ghost use Rattle.zarrs_codec.specs.StorageState.{count_if, last_failure};
+
+use crate::checks::{is, is_cause};
+use crate::forms::{Asked, Form, decoder, indexer, repeated, subset};
+use crate::parts::reads_part;
+use Asked::{FirstsAnd, Ranges};
+use std::alloc::Global;
+use std::process::Abort;
+use std::test::Fail;
+use zarrs_bytes::BytesCodecPartial;
+use zarrs_chunk::{CodecError, Indexer, StorageError};
+use zarrs_codec::{ByteRange, BytesPartialDecoderTraits, MemoryHandle};
+
+/// A handle over memory of which one call fails: the one behind so many others.
+#[derive(Drop)]
+struct FailingHandle {
+    memory: MemoryHandle,
+    calls_before: u64,
+    faults: u64,
+    failure: Option<StorageError>,
+}
+
+impl FailingHandle {
+    /// Counts a call, and refuses it where it is the one that fails.
+    fn pass(&mut self) -> Result<(), CodecError>
+        ensures memory { self.new.memory ≡ self.old.memory }
+        ensures answer { Answers fault (λ passed. passed) result (Ok tt) }
+        ensures faults { self.new.faults ≡ count_if (is_fault result) self.old.faults }
+        ensures failure { self.new.failure ≡ last_failure result self.old.failure }
+    {
+        if self.calls_before == 0 {
+            let failure = StorageError { code: 7 };
+            self.calls_before = u64::MAX;
+            self.faults = self.faults.wrapping_add(1);
+            self.failure = Some(failure);
+            return Err(CodecError::Storage(failure));
+        }
+        self.calls_before -= 1;
+        Ok(())
+    }
+}
+
+impl BytesPartialDecoderTraits for FailingHandle {
+    ghost use Rattle.std.specs.Prelude.{true, None};
+    ghost use Rattle.zarrs_codec.specs.StorageState.{held_bytes};
+    ghost use Rattle.zarrs_codec.specs.MemoryHandle.{handle_value as stored_bytes};
+
+    ghost state = { λ handle. record { value = stored_bytes handle.memory; sure = None; faults = handle.faults; failure = handle.failure; writes = 0 } };
+
+    ghost lent = { λ _. None };
+
+    ghost held = { λ handle. held_bytes (stored_bytes handle.memory) };
+
+    ghost reads_ranges = { true };
+
+    fn exists(&mut self) -> Result<bool, CodecError> {
+        self.pass()?;
+        self.memory.exists()
+    }
+
+    fn size_held(&self) -> usize {
+        self.memory.size_held()
+    }
+
+    fn partial_decode_many(
+        &mut self,
+        alloc: Global,
+        ranges: &[ByteRange],
+    ) -> Result<Option<Vec<u8>>, CodecError> {
+        self.pass()?;
+        self.memory.partial_decode_many(alloc, ranges)
+    }
+
+    fn decode(&mut self, alloc: Global) -> Result<Option<Vec<u8>>, CodecError> {
+        self.pass()?;
+        self.memory.decode(alloc)
+    }
+
+    fn supports_partial_decode(&self) -> bool {
+        true
+    }
+}
+
+const FAILED: Option<CodecError> = Some(CodecError::Storage(StorageError { code: 7 }));
+
+/// Bytes, so many times one after another.
+struct Copies {
+    part: &'static [u8],
+    count: u64,
+}
+
+/// A chunk and its value, what is asked for twice, and the elements; how many calls of the handle pass
+/// before one fails; and why each of the two reads is refused, where it is.
+struct Row {
+    name: &'static str,
+    form: Form<'static>,
+    value: Option<Copies>,
+    asked: Asked<'static>,
+    elements: Copies,
+    calls_before: u64,
+    first: Option<CodecError>,
+    second: Option<CodecError>,
+}
+
+const WORDS: Form<'static> = Form {
+    sizes: &[3],
+    bits: 16,
+    components: 1,
+    fill: &[9, 8],
+};
+
+const ROWS_OF_BYTES: Form<'static> = Form {
+    sizes: &[1025, 17],
+    bits: 8,
+    components: 1,
+    fill: &[9],
+};
+
+const ROWS: &'static [Row] = &[
+    Row {
+        name: "a read over a value",
+        form: WORDS,
+        value: Some(Copies {
+            part: &[1, 2],
+            count: 1,
+        }),
+        asked: Ranges(&[0..1]),
+        elements: Copies {
+            part: &[2, 1],
+            count: 1,
+        },
+        calls_before: 0,
+        first: FAILED,
+        second: None,
+    },
+    Row {
+        name: "a read over nothing",
+        form: WORDS,
+        value: None,
+        asked: Ranges(&[0..1]),
+        elements: Copies {
+            part: &[9, 8],
+            count: 1,
+        },
+        calls_before: 0,
+        first: FAILED,
+        second: None,
+    },
+    Row {
+        name: "the second batch of a read",
+        form: WORDS,
+        value: Some(Copies {
+            part: &[1, 2],
+            count: 3,
+        }),
+        asked: FirstsAnd(1024, 2),
+        elements: Copies {
+            part: &[2, 1],
+            count: 1025,
+        },
+        calls_before: 1,
+        first: FAILED,
+        second: None,
+    },
+    // Ranges of 16 bytes take as much memory as their bytes, and are read by one call.
+    Row {
+        name: "the second read of long ranges",
+        form: ROWS_OF_BYTES,
+        value: Some(Copies {
+            part: &[5],
+            count: 17425,
+        }),
+        asked: Ranges(&[0..1025, 0..16]),
+        elements: Copies {
+            part: &[5],
+            count: 16400,
+        },
+        calls_before: 1,
+        first: None,
+        second: FAILED,
+    },
+    Row {
+        name: "the second batch of short ranges",
+        form: ROWS_OF_BYTES,
+        value: Some(Copies {
+            part: &[5],
+            count: 17425,
+        }),
+        asked: Ranges(&[0..1025, 0..15]),
+        elements: Copies {
+            part: &[5],
+            count: 15375,
+        },
+        calls_before: 1,
+        first: FAILED,
+        second: None,
+    },
+];
+
+type Decoder = BytesCodecPartial<FailingHandle>;
+
+/// A decoder over a handle of which one call fails.
+fn failing(
+    alloc: Global,
+    form: &Form<'_>,
+    memory: MemoryHandle,
+    calls_before: u64,
+) -> Result<Decoder, CodecError> {
+    let handle = FailingHandle {
+        memory,
+        calls_before,
+        faults: 0,
+        failure: None,
+    };
+    decoder(alloc, form, handle)
+}
+
+fn memory(alloc: Global, value: &Option<Copies>) -> Result<MemoryHandle, CodecError> {
+    match value {
+        None => Ok(MemoryHandle::new()),
+        Some(value) => Ok(MemoryHandle::with_value(repeated(alloc, value.part, value.count)?)),
+    }
+}
+
+/// A read that is refused for this cause, or answered.
+fn reads(
+    rt: &impl Abort,
+    name: &str,
+    alloc: Global,
+    decoder: &mut Decoder,
+    asked: &Indexer,
+    elements: &[u8],
+    refusal: Option<CodecError>,
+) -> Result<(), CodecError> {
+    if refusal.is_none() {
+        return reads_part(rt, name, alloc, decoder, asked, elements);
+    }
+    is_cause(
+        rt,
+        name,
+        decoder.partial_decode(alloc, asked).err(),
+        refusal,
+    )
+}
+
+fn fails_once(rt: &impl Abort, alloc: Global, row: &Row) -> Result<(), CodecError> {
+    let memory = memory(alloc, &row.value)?;
+    let mut decoder = failing(alloc, &row.form, memory, row.calls_before)?;
+    let asked = indexer(alloc, &row.asked)?;
+    let elements = repeated(alloc, row.elements.part, row.elements.count)?;
+    let elements = elements.as_slice();
+    reads(
+        rt,
+        row.name,
+        alloc,
+        &mut decoder,
+        &asked,
+        elements,
+        row.first,
+    )?;
+    reads(
+        rt,
+        row.name,
+        alloc,
+        &mut decoder,
+        &asked,
+        elements,
+        row.second,
+    )?;
+    is(rt, row.name, &decoder.into_handle().faults, &1);
+    Ok(())
+}
+
+// The next read is answered as ever.
+#[test]
+fn a_failing_call_refuses_its_read_alone(rt: HostRuntime) -> Result<(), Fail> {
+    for row in ROWS.iter() {
+        fails_once(&rt, rt.alloc(), row)?;
+    }
+    Ok(())
+}
+
+/// No call of the handle is made for an indexer that lies outside, or for a plan: the call that fails
+/// is the first one behind them.
+fn is_not_asked_in_vain(
+    rt: &impl Abort,
+    alloc: Global,
+    decoder: &mut Decoder,
+    outside: &Indexer,
+    inside: &Indexer,
+) -> Result<(), CodecError> {
+    let refusal = Some(CodecError::OutOfBounds);
+    is_cause(
+        rt,
+        "read",
+        decoder.partial_decode(alloc, outside).err(),
+        refusal,
+    )?;
+    is_cause(
+        rt,
+        "plan",
+        decoder.planned_ranges(alloc, outside).err(),
+        refusal,
+    )?;
+    is_cause(
+        rt,
+        "plan",
+        decoder.planned_ranges(alloc, inside).err(),
+        None,
+    )?;
+    is_cause(rt, "there", decoder.exists().err(), FAILED)?;
+    is(rt, "there again", &decoder.exists(), &Ok(false));
+    Ok(())
+}
+
+#[test]
+fn an_indexer_is_refused_before_the_handle_is_asked(rt: HostRuntime) -> Result<(), Fail> {
+    let mut decoder = failing(rt.alloc(), &WORDS, MemoryHandle::new(), 0)?;
+    let (outside, inside) = (subset(rt.alloc(), &[0..4])?, subset(rt.alloc(), &[0..3])?);
+    Ok(is_not_asked_in_vain(&rt, rt.alloc(), &mut decoder, &outside, &inside)?)
+}

@@ -1,0 +1,127 @@
+//! Chunks that are decoded into a target.
+
+use crate::checks::{are, is_cause};
+use crate::forms::{ChunkForm, Form, chunk_form, shape};
+use std::alloc::Global;
+use std::borrow::CowSlice;
+use std::ops::Range;
+use std::process::Abort;
+use std::test::Fail;
+use zarrs_array_bytes::{ArrayBytesDecodeIntoTarget, ArrayBytesFixedView};
+use zarrs_bytes::BytesCodec;
+use zarrs_chunk::{ArraySubset, CodecError};
+use zarrs_codec::ArrayToBytesCodecTraits;
+
+/// Where in two rows of three zeros the elements 1 and 2 go, whether there is a view for a mask too,
+/// the six bytes afterwards, and why nothing is written, where nothing is.
+struct Row {
+    name: &'static str,
+    ranges: &'static [Range<u64>],
+    is_masked: bool,
+    after: &'static [u8],
+    refusal: Option<CodecError>,
+}
+
+const ROWS: &'static [Row] = &[
+    Row {
+        name: "a column",
+        ranges: &[0..2, 1..2],
+        is_masked: false,
+        after: &[0, 1, 0, 0, 2, 0],
+        refusal: None,
+    },
+    Row {
+        name: "the end of a row",
+        ranges: &[1..2, 1..3],
+        is_masked: false,
+        after: &[0, 0, 0, 0, 1, 2],
+        refusal: None,
+    },
+    Row {
+        name: "one place",
+        ranges: &[0..1, 1..2],
+        is_masked: false,
+        after: &[0; 6],
+        refusal: Some(CodecError::TargetMismatch),
+    },
+    Row {
+        name: "a mask too many",
+        ranges: &[0..2, 1..2],
+        is_masked: true,
+        after: &[0; 6],
+        refusal: Some(CodecError::TargetMismatch),
+    },
+];
+
+/// The view of these ranges of an array of single bytes.
+fn view<'a>(
+    alloc: Global,
+    bytes: &'a mut [u8],
+    sizes: &[u64],
+    ranges: &[Range<u64>],
+) -> Result<ArrayBytesFixedView<'a>, CodecError> {
+    let subset = ArraySubset::new_with_ranges(alloc, ranges)?;
+    ArrayBytesFixedView::new(alloc, bytes, 1, &shape(alloc, sizes)?, subset)
+}
+
+/// The views of masks: one of two bytes, or none.
+fn masks<'a>(
+    alloc: Global,
+    flags: &'a mut [u8],
+    row: &Row,
+) -> Result<Vec<ArrayBytesFixedView<'a>>, CodecError> {
+    let mut masks = Vec::new(alloc);
+    if row.is_masked {
+        masks.push(view(alloc, flags, &[2], &[0..2])?)?;
+    }
+    Ok(masks)
+}
+
+/// The bytes of the target's views, which are zeros in the masks.
+fn is_left(rt: &impl Abort, target: &ArrayBytesDecodeIntoTarget<'_>, row: &Row) {
+    are(rt, row.name, target.values.as_slice(), row.after);
+    for mask in target.masks.iter() {
+        are(rt, row.name, mask.as_slice(), &[0, 0]);
+    }
+}
+
+fn decodes_into<C: ArrayToBytesCodecTraits>(
+    rt: &impl Abort,
+    alloc: Global,
+    codec: &C,
+    form: &ChunkForm,
+    row: &Row,
+) -> Result<(), CodecError> {
+    let mut bytes = [0u8; 6];
+    let mut flags = [0u8; 2];
+    let mut target = ArrayBytesDecodeIntoTarget {
+        values: view(alloc, &mut bytes, &[2, 3], row.ranges)?,
+        masks: masks(alloc, &mut flags, row)?,
+    };
+    let answer = codec.decode_into(
+        alloc,
+        CowSlice::Borrowed(&[1, 2]),
+        &form.shape,
+        &form.data_type,
+        &form.fill_value,
+        &mut target,
+    );
+    is_left(rt, &target, row);
+    is_cause(rt, row.name, answer.err(), row.refusal)
+}
+
+const PAIR: Form<'static> = Form {
+    sizes: &[2],
+    bits: 8,
+    components: 1,
+    fill: &[0],
+};
+
+#[test]
+fn decodes_into_a_target_that_fits(rt: HostRuntime) -> Result<(), Fail> {
+    let form = chunk_form(rt.alloc(), &PAIR)?;
+    for row in ROWS.iter() {
+        decodes_into(&rt, rt.alloc(), &BytesCodec::big(), &form, row)?;
+    }
+    Ok(())
+}

@@ -1,0 +1,349 @@
+//! Chunks that are written in part: what is left, by how many writing calls of the handle.
+
+use crate::checks::{has_bytes, is, is_cause, is_value};
+use crate::forms::{Asked, ChunkForm, Form, chunk_form, indexer, stored, subset};
+use crate::whole::texts;
+use Asked::{Ranges, Tuples};
+use std::alloc::Global;
+use std::borrow::CowSlice;
+use std::process::Abort;
+use std::test::Fail;
+use zarrs_array_bytes::ArrayBytes;
+use zarrs_bytes::{BytesCodec, BytesCodecPartial};
+use zarrs_chunk::{CodecError, Indexer};
+use zarrs_codec::{ArrayPartialEncoderTraits, BytesPartialEncoderTraits, MemoryHandle, Refused};
+use zarrs_data_type::DataType;
+
+type Encoder = BytesCodecPartial<MemoryHandle>;
+
+/// A coder that writes too. The highest byte of a component is the first one in a value.
+fn encoder(alloc: Global, form: &ChunkForm, handle: MemoryHandle) -> Result<Encoder, CodecError> {
+    let made = BytesCodec::big().partial_encoder(
+        alloc,
+        handle,
+        &form.shape,
+        &form.data_type,
+        &form.fill_value,
+    );
+    match made {
+        Ok(encoder) => Ok(encoder),
+        Err(Refused { error, handle: _ }) => Err(error),
+    }
+}
+
+const FOUR: Form<'static> = Form {
+    sizes: &[4],
+    bits: 8,
+    components: 1,
+    fill: &[0],
+};
+
+const WORDS: Form<'static> = Form {
+    sizes: &[3],
+    bits: 16,
+    components: 1,
+    fill: &[9, 8],
+};
+
+const AXES: Option<CodecError> = Some(CodecError::IncompatibleDimensionality);
+
+const OUTSIDE: Option<CodecError> = Some(CodecError::OutOfBounds);
+
+const MISMATCH: Option<CodecError> = Some(CodecError::DataMismatch);
+
+/// What is stored, where new elements are written, their bytes as they stand in memory, what is stored
+/// afterwards, how many writing calls there were, and why nothing is written, where nothing is.
+struct Row {
+    name: &'static str,
+    form: Form<'static>,
+    value: Option<&'static [u8]>,
+    asked: Asked<'static>,
+    bytes: &'static [u8],
+    after: Option<&'static [u8]>,
+    calls: u64,
+    refusal: Option<CodecError>,
+}
+
+const ROWS: &'static [Row] = &[
+    Row {
+        name: "behind the end of a short value",
+        form: FOUR,
+        value: Some(&[10]),
+        asked: Ranges(&[3..4]),
+        bytes: &[13],
+        after: Some(&[10, 0, 0, 13]),
+        calls: 1,
+        refusal: None,
+    },
+    Row {
+        name: "no element over nothing",
+        form: FOUR,
+        value: None,
+        asked: Ranges(&[1..1]),
+        bytes: &[],
+        after: Some(&[0, 0, 0, 0]),
+        calls: 1,
+        refusal: None,
+    },
+    Row {
+        name: "no element over a short value",
+        form: FOUR,
+        value: Some(&[1]),
+        asked: Ranges(&[4..4]),
+        bytes: &[],
+        after: Some(&[1]),
+        calls: 1,
+        refusal: None,
+    },
+    Row {
+        name: "a word over nothing",
+        form: WORDS,
+        value: None,
+        asked: Ranges(&[0..1]),
+        bytes: &[1, 2],
+        after: Some(&[2, 1, 8, 9, 8, 9]),
+        calls: 1,
+        refusal: None,
+    },
+    Row {
+        name: "a word of a list over a value",
+        form: WORDS,
+        value: Some(&[8, 9, 4, 3, 8, 9]),
+        asked: Tuples(&[&[0]]),
+        bytes: &[5, 6],
+        after: Some(&[6, 5, 4, 3, 8, 9]),
+        calls: 1,
+        refusal: None,
+    },
+    Row {
+        name: "an axis too many, over nothing",
+        form: WORDS,
+        value: None,
+        asked: Ranges(&[0..1, 0..1]),
+        bytes: &[],
+        after: None,
+        calls: 0,
+        refusal: AXES,
+    },
+    Row {
+        name: "a range outside, over nothing",
+        form: WORDS,
+        value: None,
+        asked: Ranges(&[2..4]),
+        bytes: &[],
+        after: None,
+        calls: 0,
+        refusal: OUTSIDE,
+    },
+    Row {
+        name: "a tuple outside, over nothing",
+        form: WORDS,
+        value: None,
+        asked: Tuples(&[&[3]]),
+        bytes: &[1, 2],
+        after: None,
+        calls: 0,
+        refusal: OUTSIDE,
+    },
+    Row {
+        name: "a word for two places, over nothing",
+        form: WORDS,
+        value: None,
+        asked: Tuples(&[&[0], &[1]]),
+        bytes: &[1, 2],
+        after: None,
+        calls: 0,
+        refusal: MISMATCH,
+    },
+    Row {
+        name: "a word for no place, over nothing",
+        form: WORDS,
+        value: None,
+        asked: Ranges(&[1..1]),
+        bytes: &[1, 2],
+        after: None,
+        calls: 0,
+        refusal: MISMATCH,
+    },
+    Row {
+        name: "half a word, over nothing",
+        form: WORDS,
+        value: None,
+        asked: Ranges(&[0..1]),
+        bytes: &[1],
+        after: None,
+        calls: 0,
+        refusal: MISMATCH,
+    },
+    Row {
+        name: "an axis too many, over a value",
+        form: WORDS,
+        value: Some(&[1, 2, 3, 4, 5, 6]),
+        asked: Ranges(&[0..1, 0..1]),
+        bytes: &[],
+        after: Some(&[1, 2, 3, 4, 5, 6]),
+        calls: 0,
+        refusal: AXES,
+    },
+    Row {
+        name: "a range outside, over a value",
+        form: WORDS,
+        value: Some(&[1, 2, 3, 4, 5, 6]),
+        asked: Ranges(&[2..4]),
+        bytes: &[],
+        after: Some(&[1, 2, 3, 4, 5, 6]),
+        calls: 0,
+        refusal: OUTSIDE,
+    },
+    Row {
+        name: "a tuple outside, over a value",
+        form: WORDS,
+        value: Some(&[1, 2, 3, 4, 5, 6]),
+        asked: Tuples(&[&[3]]),
+        bytes: &[1, 2],
+        after: Some(&[1, 2, 3, 4, 5, 6]),
+        calls: 0,
+        refusal: OUTSIDE,
+    },
+    Row {
+        name: "a word for two places, over a value",
+        form: WORDS,
+        value: Some(&[1, 2, 3, 4, 5, 6]),
+        asked: Tuples(&[&[0], &[1]]),
+        bytes: &[1, 2],
+        after: Some(&[1, 2, 3, 4, 5, 6]),
+        calls: 0,
+        refusal: MISMATCH,
+    },
+    Row {
+        name: "a word for no place, over a value",
+        form: WORDS,
+        value: Some(&[1, 2, 3, 4, 5, 6]),
+        asked: Ranges(&[1..1]),
+        bytes: &[1, 2],
+        after: Some(&[1, 2, 3, 4, 5, 6]),
+        calls: 0,
+        refusal: MISMATCH,
+    },
+    Row {
+        name: "half a word, over a value",
+        form: WORDS,
+        value: Some(&[1, 2, 3, 4, 5, 6]),
+        asked: Ranges(&[0..1]),
+        bytes: &[1],
+        after: Some(&[1, 2, 3, 4, 5, 6]),
+        calls: 0,
+        refusal: MISMATCH,
+    },
+];
+
+/// What the handle has, and how many writing calls there were.
+fn is_left(rt: &impl Abort, name: &str, handle: &MemoryHandle, value: Option<&[u8]>, calls: u64) {
+    is_value(rt, name, handle.value(), value);
+    is(rt, name, &handle.write_calls(), &calls);
+}
+
+/// Why the write is refused, where it is.
+fn write(
+    alloc: Global,
+    encoder: &mut Encoder,
+    asked: &Indexer,
+    bytes: &[u8],
+) -> Option<CodecError> {
+    let elements = ArrayBytes::new_flen(CowSlice::Borrowed(bytes));
+    encoder.partial_encode(alloc, asked, &elements).err()
+}
+
+fn writes(rt: &impl Abort, alloc: Global, row: &Row) -> Result<(), CodecError> {
+    let form = chunk_form(alloc, &row.form)?;
+    let mut encoder = encoder(alloc, &form, stored(alloc, row.value)?)?;
+    let refusal = write(alloc, &mut encoder, &indexer(alloc, &row.asked)?, row.bytes);
+    is_cause(rt, row.name, refusal, row.refusal)?;
+    is_left(rt, row.name, &encoder.into_handle(), row.after, row.calls);
+    Ok(())
+}
+
+#[test]
+fn a_write_is_one_call_and_a_refused_one_none(rt: HostRuntime) -> Result<(), Fail> {
+    for row in ROWS.iter() {
+        writes(&rt, rt.alloc(), row)?;
+    }
+    Ok(())
+}
+
+/// What a coder of three words answers as any coder does, the elements 2 and 3 among it. Two texts are
+/// refused, a word is written, and then the chunk is erased.
+fn edits<E: ArrayPartialEncoderTraits>(
+    rt: &impl Abort,
+    alloc: Global,
+    encoder: &mut E,
+    asked: &Indexer,
+) -> Result<(), CodecError> {
+    let part = encoder.partial_decode(alloc, asked)?;
+    has_bytes(rt, "read", &part, &[4, 3, 6, 5])?;
+    let refusal = encoder.partial_encode(alloc, asked, &texts(alloc)?).err();
+    is_cause(rt, "texts", refusal, Some(CodecError::ArrayBytesKind))?;
+    encoder.partial_encode(alloc, asked, &part)?;
+    is(rt, "erased", &encoder.erase(), &Ok(()));
+    Ok(())
+}
+
+/// What it tells without reading: nothing is stored any more.
+fn tells<E: ArrayPartialEncoderTraits>(rt: &impl Abort, encoder: &mut E) {
+    is(rt, "type", encoder.data_type(), &DataType::uint16());
+    is(rt, "there", &encoder.exists(), &Ok(false));
+    is(rt, "held", &encoder.size_held(), &0);
+    is(rt, "reads", &encoder.supports_partial_decode(), &true);
+    is(rt, "writes", &encoder.supports_partial_encode(), &true);
+}
+
+#[test]
+fn a_coder_is_any_coder_of_parts(rt: HostRuntime) -> Result<(), Fail> {
+    let form = chunk_form(rt.alloc(), &WORDS)?;
+    let handle = stored(rt.alloc(), Some(&[1, 2, 3, 4, 5, 6]))?;
+    let mut encoder = encoder(rt.alloc(), &form, handle)?;
+    let asked = subset(rt.alloc(), &[1..3])?;
+    edits(&rt, rt.alloc(), &mut encoder, &asked)?;
+    tells(&rt, &mut encoder);
+    is_left(&rt, "left", &encoder.into_handle(), None, 2);
+    Ok(())
+}
+
+/// Without a byte order no coder of words is made, and what was given comes back.
+fn hands_back<H: BytesPartialEncoderTraits + Drop>(
+    rt: &impl Abort,
+    alloc: Global,
+    form: &ChunkForm,
+    handle: H,
+) -> Result<H, Fail> {
+    let (codec, shape) = (BytesCodec::new(None), &form.shape);
+    let made = codec.partial_decoder(alloc, handle, shape, &form.data_type, &form.fill_value);
+    let refused = made.err().ok_or("a decoder was made")?;
+    is_cause(
+        rt,
+        "decoder",
+        Some(refused.error),
+        Some(CodecError::EndiannessMissing),
+    )?;
+    let handle = refused.handle;
+    let made = codec.partial_encoder(alloc, handle, shape, &form.data_type, &form.fill_value);
+    let refused = made.err().ok_or("an encoder was made")?;
+    is_cause(
+        rt,
+        "encoder",
+        Some(refused.error),
+        Some(CodecError::EndiannessMissing),
+    )?;
+    Ok(refused.handle)
+}
+
+#[test]
+fn hands_back_a_handle_that_is_owned_or_lent(rt: HostRuntime) -> Result<(), Fail> {
+    let form = chunk_form(rt.alloc(), &WORDS)?;
+    let mut handle = stored(rt.alloc(), Some(&[1, 2]))?;
+    let lent = hands_back(&rt, rt.alloc(), &form, &mut handle)?;
+    is_left(&rt, "lent", lent, Some(&[1, 2]), 0);
+    let handle = hands_back(&rt, rt.alloc(), &form, handle)?;
+    is_left(&rt, "owned", &handle, Some(&[1, 2]), 0);
+    Ok(())
+}
