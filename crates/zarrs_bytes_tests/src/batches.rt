@@ -1,6 +1,5 @@
 //! Reads of many short runs, whose ranges are made and asked for a batch at a time.
 
-use crate::checks::is_cause;
 use crate::forms::{Asked, Form, decoder, indexer, repeated};
 use crate::parts::reads_part;
 use crate::widths::numbered;
@@ -59,14 +58,21 @@ fn reads_count(
 ) -> Result<(), CodecError> {
     let asked = places(alloc, count)?;
     let (stored, unstored) = (words(alloc, count)?, repeated(alloc, &[1, 2], count)?);
-    reads_part(rt, "stored", alloc, over_value, &asked, stored.as_slice())?;
+    reads_part(
+        rt,
+        "stored",
+        alloc,
+        over_value,
+        &asked,
+        Ok(stored.as_slice()),
+    )?;
     reads_part(
         rt,
         "unstored",
         alloc,
         over_none,
         &asked,
-        unstored.as_slice(),
+        Ok(unstored.as_slice()),
     )
 }
 
@@ -98,8 +104,8 @@ fn lacks_behind(
     count: u64,
 ) -> Result<(), CodecError> {
     let asked = indexer(alloc, &Asked::FirstsAnd(count, 699))?;
-    let answer = decoder.partial_decode(alloc, &asked);
-    is_cause(rt, "read", answer.err(), Some(CodecError::InvalidByteRange))
+    let wanted = Err(CodecError::InvalidByteRange);
+    reads_part(rt, "a byte is missing", alloc, decoder, &asked, wanted)
 }
 
 // The last word is asked for as the last place of the first batch, and of the second.

@@ -11,38 +11,51 @@ pub(crate) fn is<T: PartialEq + Debug>(rt: &impl Abort, name: &str, came: &T, wa
     assert_eq!(rt; *came, *wanted, "{name}");
 }
 
-/// These bytes came.
-pub(crate) fn are(rt: &impl Abort, name: &str, came: &[u8], wanted: &[u8]) {
-    is(rt, name, &came, &wanted);
-}
-
 /// The bytes that came, or none.
 pub(crate) fn is_value(rt: &impl Abort, name: &str, came: Option<&[u8]>, wanted: Option<&[u8]>) {
     is(rt, name, &came, &wanted);
 }
 
-/// The container that came has these bytes, in elements of one size.
-pub(crate) fn has_bytes(
-    rt: &impl Abort,
-    name: &str,
-    came: &ArrayBytes<'_>,
-    wanted: &[u8],
-) -> Result<(), CodecError> {
-    are(rt, name, came.as_fixed()?, wanted);
-    Ok(())
-}
+/// Bytes, or a refusal.
+pub(crate) type Answer<'a> = Result<&'a [u8], CodecError>;
 
-/// The call was refused for this cause, or it was not refused. A want of memory is an error of the
-/// test.
-pub(crate) fn is_cause(
+/// These bytes are answered, or this refusal. A want of memory is an error of the test.
+pub(crate) fn answers(
     rt: &impl Abort,
     name: &str,
-    came: Option<CodecError>,
-    wanted: Option<CodecError>,
+    came: Answer<'_>,
+    wanted: Answer<'_>,
 ) -> Result<(), CodecError> {
-    if came == Some(CodecError::OutOfMemory) {
+    if came == Err(CodecError::OutOfMemory) {
         return Err(CodecError::OutOfMemory);
     }
     is(rt, name, &came, &wanted);
     Ok(())
+}
+
+/// The call was refused for this cause. A want of memory is an error of the test.
+pub(crate) fn is_refused(
+    rt: &impl Abort,
+    name: &str,
+    came: Option<CodecError>,
+    cause: CodecError,
+) -> Result<(), CodecError> {
+    if came == Some(CodecError::OutOfMemory) {
+        return Err(CodecError::OutOfMemory);
+    }
+    is(rt, name, &came, &Some(cause));
+    Ok(())
+}
+
+/// Elements of one size that have these bytes are answered, or this refusal.
+pub(crate) fn answers_elements(
+    rt: &impl Abort,
+    name: &str,
+    came: Result<ArrayBytes<'_>, CodecError>,
+    wanted: Answer<'_>,
+) -> Result<(), CodecError> {
+    match came {
+        Ok(elements) => answers(rt, name, elements.as_fixed(), wanted),
+        Err(cause) => answers(rt, name, Err(cause), wanted),
+    }
 }

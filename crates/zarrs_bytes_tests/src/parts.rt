@@ -1,7 +1,7 @@
 //! Chunks that are read in part: the ranges of bytes that a read plans, fill values, and what a decoder
 //! tells of its handle.
 
-use crate::checks::{has_bytes, is, is_cause, is_value};
+use crate::checks::{Answer, answers_elements, is, is_value};
 use crate::forms::{Asked, Form, decoder, indexer, repeated, stored, subset};
 use Asked::{Ranges, Tuples};
 use std::alloc::Global;
@@ -12,17 +12,17 @@ use zarrs_chunk::{CodecError, Indexer};
 use zarrs_codec::{ByteRange, BytesPartialDecoderTraits, MemoryHandle};
 use zarrs_data_type::DataType;
 
-/// A read by a decoder.
+/// A read by a decoder is answered with these bytes, or is refused.
 pub(crate) fn reads_part<H: BytesPartialDecoderTraits>(
     rt: &impl Abort,
     name: &str,
     alloc: Global,
     decoder: &mut BytesCodecPartial<H>,
     asked: &Indexer,
-    elements: &[u8],
+    wanted: Answer<'_>,
 ) -> Result<(), CodecError> {
-    let part = decoder.partial_decode(alloc, asked)?;
-    has_bytes(rt, name, &part, elements)
+    let part = decoder.partial_decode(alloc, asked);
+    answers_elements(rt, name, part, wanted)
 }
 
 const SQUARE: Form<'static> = Form {
@@ -60,9 +60,9 @@ const MOST_WORDS: Form<'static> = Form {
     fill: &[1, 2],
 };
 
-const AXES: Option<CodecError> = Some(CodecError::IncompatibleDimensionality);
+const AXES: CodecError = CodecError::IncompatibleDimensionality;
 
-const OUTSIDE: Option<CodecError> = Some(CodecError::OutOfBounds);
+const OUTSIDE: CodecError = CodecError::OutOfBounds;
 
 /// What is asked for of a chunk, and the ranges of bytes that a read asks for, by their starts and
 /// ends; or why there are none.
@@ -70,8 +70,7 @@ struct Planned {
     name: &'static str,
     form: Form<'static>,
     asked: Asked<'static>,
-    ranges: &'static [(u64, u64)],
-    refusal: Option<CodecError>,
+    ranges: Result<&'static [(u64, u64)], CodecError>,
 }
 
 const PLANNED: &'static [Planned] = &[
@@ -79,151 +78,144 @@ const PLANNED: &'static [Planned] = &[
         name: "column 0 of rows 1 and 2",
         form: SQUARE,
         asked: Ranges(&[1..3, 0..1]),
-        ranges: &[(4, 5), (8, 9)],
-        refusal: None,
+        ranges: Ok(&[(4, 5), (8, 9)]),
     },
     Planned {
         name: "the whole chunk",
         form: SQUARE,
         asked: Ranges(&[0..4, 0..4]),
-        ranges: &[(0, 16)],
-        refusal: None,
+        ranges: Ok(&[(0, 16)]),
     },
     Planned {
         name: "two rows",
         form: SQUARE,
         asked: Ranges(&[1..3, 0..4]),
-        ranges: &[(4, 12)],
-        refusal: None,
+        ranges: Ok(&[(4, 12)]),
     },
     Planned {
         name: "the first two",
         form: FOUR,
         asked: Ranges(&[0..2]),
-        ranges: &[(0, 2)],
-        refusal: None,
+        ranges: Ok(&[(0, 2)]),
     },
     Planned {
         name: "the last two",
         form: FOUR,
         asked: Ranges(&[2..4]),
-        ranges: &[(2, 4)],
-        refusal: None,
+        ranges: Ok(&[(2, 4)]),
     },
     Planned {
         name: "an empty range inside",
         form: FOUR,
         asked: Ranges(&[1..1]),
-        ranges: &[],
-        refusal: None,
+        ranges: Ok(&[]),
     },
     Planned {
         name: "an empty range at the end",
         form: FOUR,
         asked: Ranges(&[4..4]),
-        ranges: &[],
-        refusal: None,
+        ranges: Ok(&[]),
     },
     Planned {
         name: "no tuples",
         form: FOUR,
         asked: Tuples(&[]),
-        ranges: &[],
-        refusal: None,
+        ranges: Ok(&[]),
     },
     Planned {
         name: "column 1 of words",
         form: WORDS,
         asked: Ranges(&[0..2, 1..2]),
-        ranges: &[(2, 4), (6, 8)],
-        refusal: None,
+        ranges: Ok(&[(2, 4), (6, 8)]),
     },
     Planned {
         name: "words out of order, one of them twice",
         form: WORDS,
         asked: Tuples(&[&[1, 1], &[0, 0], &[1, 1]]),
-        ranges: &[(6, 8), (0, 2), (6, 8)],
-        refusal: None,
+        ranges: Ok(&[(6, 8), (0, 2), (6, 8)]),
     },
     Planned {
         name: "the first of as many bytes as can be",
         form: LONGEST,
         asked: Ranges(&[0..1]),
-        ranges: &[(0, 1)],
-        refusal: None,
+        ranges: Ok(&[(0, 1)]),
     },
     Planned {
         name: "the last of as many bytes as can be",
         form: LONGEST,
         asked: Ranges(&[18446744073709551614..18446744073709551615]),
-        ranges: &[(18446744073709551614, 18446744073709551615)],
-        refusal: None,
+        ranges: Ok(&[(18446744073709551614, 18446744073709551615)]),
     },
     Planned {
         name: "the last of as many words as can be",
         form: MOST_WORDS,
         asked: Tuples(&[&[9223372036854775806]]),
-        ranges: &[(18446744073709551612, 18446744073709551614)],
-        refusal: None,
+        ranges: Ok(&[(18446744073709551612, 18446744073709551614)]),
     },
     Planned {
         name: "an axis too few",
         form: SQUARE,
         asked: Ranges(&[0..1]),
-        ranges: &[],
-        refusal: AXES,
+        ranges: Err(AXES),
     },
     Planned {
         name: "an axis too few, and outside",
         form: SQUARE,
         asked: Ranges(&[9..10]),
-        ranges: &[],
-        refusal: AXES,
+        ranges: Err(AXES),
     },
     Planned {
         name: "a row too many",
         form: SQUARE,
         asked: Ranges(&[0..5, 0..4]),
-        ranges: &[],
-        refusal: OUTSIDE,
+        ranges: Err(OUTSIDE),
     },
     Planned {
         name: "an empty range outside",
         form: SQUARE,
         asked: Ranges(&[5..5, 0..1]),
-        ranges: &[],
-        refusal: OUTSIDE,
+        ranges: Err(OUTSIDE),
     },
     Planned {
         name: "the second tuple has an axis too few",
         form: SQUARE,
         asked: Tuples(&[&[0, 0], &[0]]),
-        ranges: &[],
-        refusal: AXES,
+        ranges: Err(AXES),
     },
     Planned {
         name: "the axes of a later tuple come first",
         form: SQUARE,
         asked: Tuples(&[&[9, 9], &[0, 0, 0]]),
-        ranges: &[],
-        refusal: AXES,
+        ranges: Err(AXES),
     },
     Planned {
         name: "the second tuple is outside",
         form: SQUARE,
         asked: Tuples(&[&[0, 0], &[0, 4]]),
-        ranges: &[],
-        refusal: OUTSIDE,
+        ranges: Err(OUTSIDE),
     },
 ];
 
-/// The ranges that came have these starts and ends.
-fn have_ends(rt: &impl Abort, name: &str, came: &[ByteRange], wanted: &[(u64, u64)]) {
-    is(rt, name, &came.len(), &wanted.len());
-    for (range, (start, end)) in came.iter().zip(wanted) {
-        is(rt, name, &range.start(), start);
-        is(rt, name, &range.end(), end);
+/// These ranges are answered, or this refusal. A want of memory is an error of the test.
+fn are_planned(
+    rt: &impl Abort,
+    row: &Planned,
+    came: Result<&[(u64, u64)], CodecError>,
+) -> Result<(), CodecError> {
+    if came == Err(CodecError::OutOfMemory) {
+        return Err(CodecError::OutOfMemory);
     }
+    is(rt, row.name, &came, &row.ranges);
+    Ok(())
+}
+
+/// The starts and ends of ranges.
+fn ends(alloc: Global, ranges: &[ByteRange]) -> Result<Vec<(u64, u64)>, CodecError> {
+    let mut ends = Vec::new(alloc);
+    for range in ranges {
+        ends.push((range.start(), range.end()))?;
+    }
+    Ok(ends)
 }
 
 fn plans(
@@ -234,11 +226,8 @@ fn plans(
     row: &Planned,
 ) -> Result<(), CodecError> {
     match decoder.planned_ranges(alloc, asked) {
-        Err(cause) => is_cause(rt, row.name, Some(cause), row.refusal),
-        Ok(ranges) => {
-            have_ends(rt, row.name, ranges.as_slice(), row.ranges);
-            is_cause(rt, row.name, None, row.refusal)
-        }
+        Ok(ranges) => are_planned(rt, row, Ok(ends(alloc, ranges.as_slice())?.as_slice())),
+        Err(cause) => are_planned(rt, row, Err(cause)),
     }
 }
 
@@ -305,7 +294,7 @@ fn reads_fill_of_rows(
 ) -> Result<(), CodecError> {
     let wanted = repeated(alloc, row.fill, rows.saturating_mul(count))?;
     let asked = subset(alloc, &[0..rows, 0..count])?;
-    reads_part(rt, row.name, alloc, decoder, &asked, wanted.as_slice())
+    reads_part(rt, row.name, alloc, decoder, &asked, Ok(wanted.as_slice()))
 }
 
 /// So many elements of one row of three, and of all of them.
@@ -370,7 +359,7 @@ fn read_once<H: BytesPartialDecoderTraits + Drop>(
     let mut decoder = decoder(alloc, &THREE, handle)?;
     tells(rt, &mut decoder, true, 6);
     let asked = subset(alloc, &[1..3])?;
-    reads_part(rt, "part", alloc, &mut decoder, &asked, &[4, 3, 6, 5])?;
+    reads_part(rt, "part", alloc, &mut decoder, &asked, Ok(&[4, 3, 6, 5]))?;
     Ok(decoder.into_handle())
 }
 

@@ -4,7 +4,7 @@ ghost use Rattle.std.specs.Prelude.{IfOk};
 ghost use Rattle.zarrs_data_type.specs.Element.{Chunk};
 ghost use Rattle.zarrs_array_bytes.specs.Validity.{Holds};
 
-use crate::checks::has_bytes;
+use crate::checks::answers;
 use crate::forms::{ChunkForm, Form, chunk_form};
 use std::alloc::Global;
 use std::borrow::CowSlice;
@@ -51,7 +51,7 @@ fn comes_back(rt: &impl Abort, alloc: Global, form: &ChunkForm) -> Result<(), Co
         &form.data_type,
         &form.fill_value,
     )?;
-    has_bytes(rt, "back", &back, memory)
+    answers(rt, "back", back.as_fixed(), Ok(memory))
 }
 
 #[test]

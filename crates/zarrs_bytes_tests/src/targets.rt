@@ -1,6 +1,6 @@
 //! Chunks that are decoded into a target.
 
-use crate::checks::{are, is_cause};
+use crate::checks::{Answer, answers, is};
 use crate::forms::{ChunkForm, Form, chunk_form, shape};
 use std::alloc::Global;
 use std::borrow::CowSlice;
@@ -12,14 +12,13 @@ use zarrs_bytes::BytesCodec;
 use zarrs_chunk::{ArraySubset, CodecError};
 use zarrs_codec::ArrayToBytesCodecTraits;
 
-/// Where in two rows of three zeros the elements 1 and 2 go, whether there is a view for a mask too,
-/// the six bytes afterwards, and why nothing is written, where nothing is.
+/// Where in two rows of three zeros the elements 1 and 2 go, whether there is a view for a mask too, and
+/// the six bytes afterwards; or why nothing is written.
 struct Row {
     name: &'static str,
     ranges: &'static [Range<u64>],
     is_masked: bool,
-    after: &'static [u8],
-    refusal: Option<CodecError>,
+    after: Answer<'static>,
 }
 
 const ROWS: &'static [Row] = &[
@@ -27,29 +26,25 @@ const ROWS: &'static [Row] = &[
         name: "a column",
         ranges: &[0..2, 1..2],
         is_masked: false,
-        after: &[0, 1, 0, 0, 2, 0],
-        refusal: None,
+        after: Ok(&[0, 1, 0, 0, 2, 0]),
     },
     Row {
         name: "the end of a row",
         ranges: &[1..2, 1..3],
         is_masked: false,
-        after: &[0, 0, 0, 0, 1, 2],
-        refusal: None,
+        after: Ok(&[0, 0, 0, 0, 1, 2]),
     },
     Row {
         name: "one place",
         ranges: &[0..1, 1..2],
         is_masked: false,
-        after: &[0; 6],
-        refusal: Some(CodecError::TargetMismatch),
+        after: Err(CodecError::TargetMismatch),
     },
     Row {
         name: "a mask too many",
         ranges: &[0..2, 1..2],
         is_masked: true,
-        after: &[0; 6],
-        refusal: Some(CodecError::TargetMismatch),
+        after: Err(CodecError::TargetMismatch),
     },
 ];
 
@@ -77,11 +72,11 @@ fn masks<'a>(
     Ok(masks)
 }
 
-/// The bytes of the target's views, which are zeros in the masks.
-fn is_left(rt: &impl Abort, target: &ArrayBytesDecodeIntoTarget<'_>, row: &Row) {
-    are(rt, row.name, target.values.as_slice(), row.after);
+/// Nothing was written in any view.
+fn is_unchanged(rt: &impl Abort, target: &ArrayBytesDecodeIntoTarget<'_>, row: &Row) {
+    is(rt, row.name, &target.values.as_slice(), &[0; 6].as_slice());
     for mask in target.masks.iter() {
-        are(rt, row.name, mask.as_slice(), &[0, 0]);
+        is(rt, row.name, &mask.as_slice(), &[0, 0].as_slice());
     }
 }
 
@@ -98,16 +93,15 @@ fn decodes_into<C: ArrayToBytesCodecTraits>(
         values: view(alloc, &mut bytes, &[2, 3], row.ranges)?,
         masks: masks(alloc, &mut flags, row)?,
     };
-    let answer = codec.decode_into(
-        alloc,
-        CowSlice::Borrowed(&[1, 2]),
-        &form.shape,
-        &form.data_type,
-        &form.fill_value,
-        &mut target,
-    );
-    is_left(rt, &target, row);
-    is_cause(rt, row.name, answer.err(), row.refusal)
+    let (shape, data_type, fill_value) = (&form.shape, &form.data_type, &form.fill_value);
+    let value = CowSlice::Borrowed([1, 2].as_slice());
+    match codec.decode_into(alloc, value, shape, data_type, fill_value, &mut target) {
+        Ok(()) => answers(rt, row.name, Ok(target.values.as_slice()), row.after),
+        Err(cause) => {
+            is_unchanged(rt, &target, row);
+            answers(rt, row.name, Err(cause), row.after)
+        }
+    }
 }
 
 const PAIR: Form<'static> = Form {

@@ -1,7 +1,9 @@
 //! Whole chunks, by the calls that all codecs of chunks to bytes have.
 
-use crate::checks::{are, has_bytes, is, is_cause};
+use crate::checks::{Answer, answers, answers_elements, is};
 use crate::forms::{BIG, ChunkForm, Form, LITTLE, chunk_form};
+use BytesRepresentation::FixedSize;
+use CodecError::{EndiannessMissing, InvalidBytesLength};
 use std::alloc::Global;
 use std::borrow::CowSlice;
 use std::process::Abort;
@@ -12,29 +14,24 @@ use zarrs_chunk::CodecError;
 use zarrs_codec::{ArrayToBytesCodecTraits, BytesRepresentation};
 use zarrs_data_type::Endianness;
 
-/// Elements, as they stand in memory, have this value.
+/// Elements have this value, or are refused.
 pub(crate) fn encodes<C: ArrayToBytesCodecTraits>(
     rt: &impl Abort,
     name: &str,
     alloc: Global,
     codec: &C,
     form: &ChunkForm,
-    memory: ArrayBytesRaw<'_>,
-    value: &[u8],
+    elements: ArrayBytes<'_>,
+    wanted: Answer<'_>,
 ) -> Result<(), CodecError> {
-    let elements = ArrayBytes::new_flen(memory);
-    let came = codec.encode(
-        alloc,
-        elements,
-        &form.shape,
-        &form.data_type,
-        &form.fill_value,
-    )?;
-    are(rt, name, came.as_slice(), value);
-    Ok(())
+    let (shape, data_type, fill_value) = (&form.shape, &form.data_type, &form.fill_value);
+    match codec.encode(alloc, elements, shape, data_type, fill_value) {
+        Ok(value) => answers(rt, name, Ok(value.as_slice()), wanted),
+        Err(cause) => answers(rt, name, Err(cause), wanted),
+    }
 }
 
-/// The value stands for these elements.
+/// The value stands for elements with these bytes in memory, or is refused.
 pub(crate) fn decodes<C: ArrayToBytesCodecTraits>(
     rt: &impl Abort,
     name: &str,
@@ -42,42 +39,35 @@ pub(crate) fn decodes<C: ArrayToBytesCodecTraits>(
     codec: &C,
     form: &ChunkForm,
     value: ArrayBytesRaw<'_>,
-    memory: &[u8],
-) -> Result<(), CodecError> {
-    let came = codec.decode(alloc, value, &form.shape, &form.data_type, &form.fill_value)?;
-    has_bytes(rt, name, &came, memory)
-}
-
-/// The value has so many bytes, and no fewer would do.
-fn represents<C: ArrayToBytesCodecTraits>(
-    rt: &impl Abort,
-    name: &str,
-    alloc: Global,
-    codec: &C,
-    form: &ChunkForm,
-    value: &[u8],
+    wanted: Answer<'_>,
 ) -> Result<(), CodecError> {
     let (shape, data_type, fill_value) = (&form.shape, &form.data_type, &form.fill_value);
-    let came = codec.encoded_representation(alloc, shape, data_type, fill_value)?;
-    let wanted = BytesRepresentation::FixedSize(value.len() as u64);
-    is(rt, name, &came, &wanted);
-    let lent = CowSlice::Borrowed(value);
-    let shorter = codec.compact(alloc, lent, shape, data_type, fill_value)?;
-    is(rt, name, &shorter.is_none(), &true);
-    Ok(())
+    let came = codec.decode(alloc, value, shape, data_type, fill_value);
+    answers_elements(rt, name, came, wanted)
 }
 
-/// Elements, as they stand in memory, and their value.
-struct Coded {
+/// The elements of a chunk, as they stand in memory, and a value; how many bytes a value has; and what
+/// the elements and the value are answered with.
+struct Row {
     name: &'static str,
     order: Option<Endianness>,
     form: Form<'static>,
     memory: &'static [u8],
     value: &'static [u8],
+    representation: Result<BytesRepresentation, CodecError>,
+    encoded: Answer<'static>,
+    decoded: Answer<'static>,
 }
 
 const PAIR: Form<'static> = Form {
     sizes: &[2],
+    bits: 8,
+    components: 1,
+    fill: &[0],
+};
+
+const FOUR: Form<'static> = Form {
+    sizes: &[4],
     bits: 8,
     components: 1,
     fill: &[0],
@@ -90,185 +80,147 @@ const WORDS: Form<'static> = Form {
     fill: &[0, 0],
 };
 
-const CODED: &'static [Coded] = &[
-    Coded {
+const INTEGERS: Form<'static> = Form {
+    sizes: &[10, 10],
+    bits: 32,
+    components: 1,
+    fill: &[0; 4],
+};
+
+const ROWS: &'static [Row] = &[
+    Row {
         name: "bytes without an order",
         order: None,
         form: PAIR,
         memory: &[1, 2],
         value: &[1, 2],
+        representation: Ok(FixedSize(2)),
+        encoded: Ok(&[1, 2]),
+        decoded: Ok(&[1, 2]),
     },
-    Coded {
+    Row {
         name: "words, the lowest byte first",
         order: LITTLE,
         form: WORDS,
         memory: &[1, 0, 2, 1],
         value: &[1, 0, 2, 1],
+        representation: Ok(FixedSize(4)),
+        encoded: Ok(&[1, 0, 2, 1]),
+        decoded: Ok(&[1, 0, 2, 1]),
     },
-    Coded {
+    Row {
         name: "words, the highest byte first",
         order: BIG,
         form: WORDS,
         memory: &[1, 0, 2, 1],
         value: &[0, 1, 1, 2],
+        representation: Ok(FixedSize(4)),
+        encoded: Ok(&[0, 1, 1, 2]),
+        decoded: Ok(&[1, 0, 2, 1]),
+    },
+    Row {
+        name: "32 bits without an order",
+        order: None,
+        form: INTEGERS,
+        memory: &[0; 400],
+        value: &[0; 400],
+        representation: Err(EndiannessMissing),
+        encoded: Err(EndiannessMissing),
+        decoded: Err(EndiannessMissing),
+    },
+    Row {
+        name: "three bytes for four",
+        order: None,
+        form: FOUR,
+        memory: &[10, 11, 12],
+        value: &[10, 11, 12],
+        representation: Ok(FixedSize(4)),
+        encoded: Err(InvalidBytesLength {
+            len: 3,
+            expected: 4,
+        }),
+        decoded: Err(InvalidBytesLength {
+            len: 3,
+            expected: 4,
+        }),
+    },
+    Row {
+        name: "no byte for two words",
+        order: BIG,
+        form: WORDS,
+        memory: &[],
+        value: &[],
+        representation: Ok(FixedSize(4)),
+        encoded: Err(InvalidBytesLength {
+            len: 0,
+            expected: 4,
+        }),
+        decoded: Err(InvalidBytesLength {
+            len: 0,
+            expected: 4,
+        }),
+    },
+    Row {
+        name: "five bytes for two words",
+        order: BIG,
+        form: WORDS,
+        memory: &[1, 2, 3, 4, 5],
+        value: &[1, 2, 3, 4, 5],
+        representation: Ok(FixedSize(4)),
+        encoded: Err(InvalidBytesLength {
+            len: 5,
+            expected: 4,
+        }),
+        decoded: Err(InvalidBytesLength {
+            len: 5,
+            expected: 4,
+        }),
     },
 ];
 
-fn codes(rt: &impl Abort, alloc: Global, row: &Coded) -> Result<(), CodecError> {
+/// How many bytes the value has, and that no fewer would do; or why it has none.
+fn represents<C: ArrayToBytesCodecTraits>(
+    rt: &impl Abort,
+    alloc: Global,
+    codec: &C,
+    form: &ChunkForm,
+    row: &Row,
+) {
+    let (shape, data_type, fill_value) = (&form.shape, &form.data_type, &form.fill_value);
+    let came = codec.encoded_representation(alloc, shape, data_type, fill_value);
+    is(rt, row.name, &came, &row.representation);
+    let lent = CowSlice::Borrowed(row.value);
+    match codec.compact(alloc, lent, shape, data_type, fill_value) {
+        Ok(shorter) => is(
+            rt,
+            row.name,
+            &shorter.is_none(),
+            &row.representation.is_ok(),
+        ),
+        Err(cause) => is(rt, row.name, &Err(cause), &row.representation),
+    }
+}
+
+fn codes(rt: &impl Abort, alloc: Global, row: &Row) -> Result<(), CodecError> {
     let codec = BytesCodec::new(row.order);
     let form = chunk_form(alloc, &row.form)?;
-    let (memory, value) = (
-        CowSlice::Borrowed(row.memory),
+    let elements = ArrayBytes::new_flen(CowSlice::Borrowed(row.memory));
+    let (lent, owned) = (
         CowSlice::Borrowed(row.value),
+        CowSlice::Owned(row.value.to_vec(alloc)?),
     );
-    represents(rt, row.name, alloc, &codec, &form, row.value)?;
-    encodes(rt, row.name, alloc, &codec, &form, memory, row.value)?;
-    decodes(rt, row.name, alloc, &codec, &form, value, row.memory)
+    represents(rt, alloc, &codec, &form, row);
+    encodes(rt, row.name, alloc, &codec, &form, elements, row.encoded)?;
+    decodes(rt, row.name, alloc, &codec, &form, lent, row.decoded)?;
+    decodes(rt, row.name, alloc, &codec, &form, owned, row.decoded)
 }
 
 #[test]
 fn encodes_and_decodes_chunks(rt: HostRuntime) -> Result<(), Fail> {
-    for row in CODED.iter() {
+    for row in ROWS.iter() {
         codes(&rt, rt.alloc(), row)?;
     }
     Ok(())
-}
-
-/// Bytes that are neither the elements of a chunk nor its value, and why.
-struct Refused {
-    name: &'static str,
-    order: Option<Endianness>,
-    form: Form<'static>,
-    bytes: &'static [u8],
-    cause: CodecError,
-}
-
-const REFUSED: &'static [Refused] = &[
-    Refused {
-        name: "32 bits without an order",
-        order: None,
-        form: Form {
-            sizes: &[10, 10],
-            bits: 32,
-            components: 1,
-            fill: &[0; 4],
-        },
-        bytes: &[0; 400],
-        cause: CodecError::EndiannessMissing,
-    },
-    Refused {
-        name: "three bytes for four",
-        order: None,
-        form: Form {
-            sizes: &[4],
-            bits: 8,
-            components: 1,
-            fill: &[0],
-        },
-        bytes: &[10, 11, 12],
-        cause: CodecError::InvalidBytesLength {
-            len: 3,
-            expected: 4,
-        },
-    },
-    Refused {
-        name: "no byte for two words",
-        order: BIG,
-        form: WORDS,
-        bytes: &[],
-        cause: CodecError::InvalidBytesLength {
-            len: 0,
-            expected: 4,
-        },
-    },
-    Refused {
-        name: "five bytes for two words",
-        order: BIG,
-        form: WORDS,
-        bytes: &[1, 2, 3, 4, 5],
-        cause: CodecError::InvalidBytesLength {
-            len: 5,
-            expected: 4,
-        },
-    },
-];
-
-/// Elements that aren't encoded.
-fn encodes_not<C: ArrayToBytesCodecTraits>(
-    rt: &impl Abort,
-    name: &str,
-    alloc: Global,
-    codec: &C,
-    form: &ChunkForm,
-    elements: ArrayBytes<'_>,
-    cause: CodecError,
-) -> Result<(), CodecError> {
-    let answer = codec.encode(
-        alloc,
-        elements,
-        &form.shape,
-        &form.data_type,
-        &form.fill_value,
-    );
-    is_cause(rt, name, answer.err(), Some(cause))
-}
-
-/// A value that isn't decoded.
-fn decodes_not<C: ArrayToBytesCodecTraits>(
-    rt: &impl Abort,
-    name: &str,
-    alloc: Global,
-    codec: &C,
-    form: &ChunkForm,
-    value: ArrayBytesRaw<'_>,
-    cause: CodecError,
-) -> Result<(), CodecError> {
-    let answer = codec.decode(alloc, value, &form.shape, &form.data_type, &form.fill_value);
-    is_cause(rt, name, answer.err(), Some(cause))
-}
-
-fn refuses(rt: &impl Abort, alloc: Global, row: &Refused) -> Result<(), CodecError> {
-    let codec = BytesCodec::new(row.order);
-    let form = chunk_form(alloc, &row.form)?;
-    let (lent, owned) = (
-        CowSlice::Borrowed(row.bytes),
-        CowSlice::Owned(row.bytes.to_vec(alloc)?),
-    );
-    let elements = ArrayBytes::new_flen(CowSlice::Borrowed(row.bytes));
-    decodes_not(rt, row.name, alloc, &codec, &form, lent, row.cause)?;
-    decodes_not(rt, row.name, alloc, &codec, &form, owned, row.cause)?;
-    encodes_not(rt, row.name, alloc, &codec, &form, elements, row.cause)
-}
-
-#[test]
-fn refuses_other_bytes(rt: HostRuntime) -> Result<(), Fail> {
-    for row in REFUSED.iter() {
-        refuses(&rt, rt.alloc(), row)?;
-    }
-    Ok(())
-}
-
-/// A chunk that isn't taken has no representation, and no value of it is made shorter.
-fn is_not_taken<C: ArrayToBytesCodecTraits>(
-    rt: &impl Abort,
-    alloc: Global,
-    codec: &C,
-    form: &ChunkForm,
-    row: &Refused,
-) -> Result<(), CodecError> {
-    let (shape, data_type, fill_value) = (&form.shape, &form.data_type, &form.fill_value);
-    let answer = codec.encoded_representation(alloc, shape, data_type, fill_value);
-    is_cause(rt, row.name, answer.err(), Some(row.cause))?;
-    let lent = CowSlice::Borrowed(row.bytes);
-    let answer = codec.compact(alloc, lent, shape, data_type, fill_value);
-    is_cause(rt, row.name, answer.err(), Some(row.cause))
-}
-
-#[test]
-fn takes_no_wide_components_without_an_order(rt: HostRuntime) -> Result<(), Fail> {
-    let row = &REFUSED[0];
-    let form = chunk_form(rt.alloc(), &row.form)?;
-    Ok(is_not_taken(&rt, rt.alloc(), &BytesCodec::new(None), &form, row)?)
 }
 
 /// A chunk whose elements come as texts, and as bytes that may be absent, and why neither is encoded.
@@ -322,16 +274,9 @@ fn masked(alloc: Global) -> Result<ArrayBytes<'static>, CodecError> {
 fn refuses_kinds(rt: &impl Abort, alloc: Global, row: &OtherKind) -> Result<(), CodecError> {
     let codec = BytesCodec::new(row.order);
     let form = chunk_form(alloc, &row.form)?;
-    encodes_not(rt, row.name, alloc, &codec, &form, texts(alloc)?, row.cause)?;
-    encodes_not(
-        rt,
-        row.name,
-        alloc,
-        &codec,
-        &form,
-        masked(alloc)?,
-        row.cause,
-    )
+    let wanted = Err(row.cause);
+    encodes(rt, row.name, alloc, &codec, &form, texts(alloc)?, wanted)?;
+    encodes(rt, row.name, alloc, &codec, &form, masked(alloc)?, wanted)
 }
 
 #[test]

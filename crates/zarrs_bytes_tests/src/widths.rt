@@ -7,6 +7,7 @@ use std::alloc::{AllocError, Global};
 use std::borrow::CowSlice;
 use std::process::Abort;
 use std::test::Fail;
+use zarrs_array_bytes::ArrayBytes;
 use zarrs_bytes::BytesCodec;
 use zarrs_chunk::CodecError;
 
@@ -124,12 +125,13 @@ fn codes(
     value: &[u8],
 ) -> Result<(), CodecError> {
     let (elements, stored) = (memory.to_vec(alloc)?, value.to_vec(alloc)?);
-    let (elements, stored) = (CowSlice::Owned(elements), CowSlice::Owned(stored));
-    let (lent_elements, lent_value) = (CowSlice::Borrowed(memory), CowSlice::Borrowed(value));
-    encodes(rt, name, alloc, &codec, form, elements, value)?;
-    encodes(rt, name, alloc, &codec, form, lent_elements, value)?;
-    decodes(rt, name, alloc, &codec, form, stored, memory)?;
-    decodes(rt, name, alloc, &codec, form, lent_value, memory)
+    let elements = ArrayBytes::new_flen(CowSlice::Owned(elements));
+    let lent_elements = ArrayBytes::new_flen(CowSlice::Borrowed(memory));
+    let (stored, lent_value) = (CowSlice::Owned(stored), CowSlice::Borrowed(value));
+    encodes(rt, name, alloc, &codec, form, elements, Ok(value))?;
+    encodes(rt, name, alloc, &codec, form, lent_elements, Ok(value))?;
+    decodes(rt, name, alloc, &codec, form, stored, Ok(memory))?;
+    decodes(rt, name, alloc, &codec, form, lent_value, Ok(memory))
 }
 
 /// The components of these bytes, which are turned round here. The fill value is the first of them.

@@ -1,6 +1,6 @@
 //! Chunks that are written in part: what is left, by how many writing calls of the handle.
 
-use crate::checks::{has_bytes, is, is_cause, is_value};
+use crate::checks::{Answer, answers, is, is_refused, is_value};
 use crate::forms::{Asked, ChunkForm, Form, chunk_form, indexer, stored, subset};
 use crate::whole::texts;
 use Asked::{Ranges, Tuples};
@@ -45,23 +45,21 @@ const WORDS: Form<'static> = Form {
     fill: &[9, 8],
 };
 
-const AXES: Option<CodecError> = Some(CodecError::IncompatibleDimensionality);
+const AXES: CodecError = CodecError::IncompatibleDimensionality;
 
-const OUTSIDE: Option<CodecError> = Some(CodecError::OutOfBounds);
+const OUTSIDE: CodecError = CodecError::OutOfBounds;
 
-const MISMATCH: Option<CodecError> = Some(CodecError::DataMismatch);
+const MISMATCH: CodecError = CodecError::DataMismatch;
 
-/// What is stored, where new elements are written, their bytes as they stand in memory, what is stored
-/// afterwards, how many writing calls there were, and why nothing is written, where nothing is.
+/// What is stored, where new elements are written, their bytes as they stand in memory, and what is
+/// stored afterwards; or why nothing is written.
 struct Row {
     name: &'static str,
     form: Form<'static>,
     value: Option<&'static [u8]>,
     asked: Asked<'static>,
     bytes: &'static [u8],
-    after: Option<&'static [u8]>,
-    calls: u64,
-    refusal: Option<CodecError>,
+    after: Answer<'static>,
 }
 
 const ROWS: &'static [Row] = &[
@@ -71,9 +69,7 @@ const ROWS: &'static [Row] = &[
         value: Some(&[10]),
         asked: Ranges(&[3..4]),
         bytes: &[13],
-        after: Some(&[10, 0, 0, 13]),
-        calls: 1,
-        refusal: None,
+        after: Ok(&[10, 0, 0, 13]),
     },
     Row {
         name: "no element over nothing",
@@ -81,9 +77,7 @@ const ROWS: &'static [Row] = &[
         value: None,
         asked: Ranges(&[1..1]),
         bytes: &[],
-        after: Some(&[0, 0, 0, 0]),
-        calls: 1,
-        refusal: None,
+        after: Ok(&[0, 0, 0, 0]),
     },
     Row {
         name: "no element over a short value",
@@ -91,9 +85,7 @@ const ROWS: &'static [Row] = &[
         value: Some(&[1]),
         asked: Ranges(&[4..4]),
         bytes: &[],
-        after: Some(&[1]),
-        calls: 1,
-        refusal: None,
+        after: Ok(&[1]),
     },
     Row {
         name: "a word over nothing",
@@ -101,9 +93,7 @@ const ROWS: &'static [Row] = &[
         value: None,
         asked: Ranges(&[0..1]),
         bytes: &[1, 2],
-        after: Some(&[2, 1, 8, 9, 8, 9]),
-        calls: 1,
-        refusal: None,
+        after: Ok(&[2, 1, 8, 9, 8, 9]),
     },
     Row {
         name: "a word of a list over a value",
@@ -111,9 +101,7 @@ const ROWS: &'static [Row] = &[
         value: Some(&[8, 9, 4, 3, 8, 9]),
         asked: Tuples(&[&[0]]),
         bytes: &[5, 6],
-        after: Some(&[6, 5, 4, 3, 8, 9]),
-        calls: 1,
-        refusal: None,
+        after: Ok(&[6, 5, 4, 3, 8, 9]),
     },
     Row {
         name: "an axis too many, over nothing",
@@ -121,9 +109,7 @@ const ROWS: &'static [Row] = &[
         value: None,
         asked: Ranges(&[0..1, 0..1]),
         bytes: &[],
-        after: None,
-        calls: 0,
-        refusal: AXES,
+        after: Err(AXES),
     },
     Row {
         name: "a range outside, over nothing",
@@ -131,9 +117,7 @@ const ROWS: &'static [Row] = &[
         value: None,
         asked: Ranges(&[2..4]),
         bytes: &[],
-        after: None,
-        calls: 0,
-        refusal: OUTSIDE,
+        after: Err(OUTSIDE),
     },
     Row {
         name: "a tuple outside, over nothing",
@@ -141,9 +125,7 @@ const ROWS: &'static [Row] = &[
         value: None,
         asked: Tuples(&[&[3]]),
         bytes: &[1, 2],
-        after: None,
-        calls: 0,
-        refusal: OUTSIDE,
+        after: Err(OUTSIDE),
     },
     Row {
         name: "a word for two places, over nothing",
@@ -151,9 +133,7 @@ const ROWS: &'static [Row] = &[
         value: None,
         asked: Tuples(&[&[0], &[1]]),
         bytes: &[1, 2],
-        after: None,
-        calls: 0,
-        refusal: MISMATCH,
+        after: Err(MISMATCH),
     },
     Row {
         name: "a word for no place, over nothing",
@@ -161,9 +141,7 @@ const ROWS: &'static [Row] = &[
         value: None,
         asked: Ranges(&[1..1]),
         bytes: &[1, 2],
-        after: None,
-        calls: 0,
-        refusal: MISMATCH,
+        after: Err(MISMATCH),
     },
     Row {
         name: "half a word, over nothing",
@@ -171,9 +149,7 @@ const ROWS: &'static [Row] = &[
         value: None,
         asked: Ranges(&[0..1]),
         bytes: &[1],
-        after: None,
-        calls: 0,
-        refusal: MISMATCH,
+        after: Err(MISMATCH),
     },
     Row {
         name: "an axis too many, over a value",
@@ -181,9 +157,7 @@ const ROWS: &'static [Row] = &[
         value: Some(&[1, 2, 3, 4, 5, 6]),
         asked: Ranges(&[0..1, 0..1]),
         bytes: &[],
-        after: Some(&[1, 2, 3, 4, 5, 6]),
-        calls: 0,
-        refusal: AXES,
+        after: Err(AXES),
     },
     Row {
         name: "a range outside, over a value",
@@ -191,9 +165,7 @@ const ROWS: &'static [Row] = &[
         value: Some(&[1, 2, 3, 4, 5, 6]),
         asked: Ranges(&[2..4]),
         bytes: &[],
-        after: Some(&[1, 2, 3, 4, 5, 6]),
-        calls: 0,
-        refusal: OUTSIDE,
+        after: Err(OUTSIDE),
     },
     Row {
         name: "a tuple outside, over a value",
@@ -201,9 +173,7 @@ const ROWS: &'static [Row] = &[
         value: Some(&[1, 2, 3, 4, 5, 6]),
         asked: Tuples(&[&[3]]),
         bytes: &[1, 2],
-        after: Some(&[1, 2, 3, 4, 5, 6]),
-        calls: 0,
-        refusal: OUTSIDE,
+        after: Err(OUTSIDE),
     },
     Row {
         name: "a word for two places, over a value",
@@ -211,9 +181,7 @@ const ROWS: &'static [Row] = &[
         value: Some(&[1, 2, 3, 4, 5, 6]),
         asked: Tuples(&[&[0], &[1]]),
         bytes: &[1, 2],
-        after: Some(&[1, 2, 3, 4, 5, 6]),
-        calls: 0,
-        refusal: MISMATCH,
+        after: Err(MISMATCH),
     },
     Row {
         name: "a word for no place, over a value",
@@ -221,9 +189,7 @@ const ROWS: &'static [Row] = &[
         value: Some(&[1, 2, 3, 4, 5, 6]),
         asked: Ranges(&[1..1]),
         bytes: &[1, 2],
-        after: Some(&[1, 2, 3, 4, 5, 6]),
-        calls: 0,
-        refusal: MISMATCH,
+        after: Err(MISMATCH),
     },
     Row {
         name: "half a word, over a value",
@@ -231,9 +197,7 @@ const ROWS: &'static [Row] = &[
         value: Some(&[1, 2, 3, 4, 5, 6]),
         asked: Ranges(&[0..1]),
         bytes: &[1],
-        after: Some(&[1, 2, 3, 4, 5, 6]),
-        calls: 0,
-        refusal: MISMATCH,
+        after: Err(MISMATCH),
     },
 ];
 
@@ -243,24 +207,44 @@ fn is_left(rt: &impl Abort, name: &str, handle: &MemoryHandle, value: Option<&[u
     is(rt, name, &handle.write_calls(), &calls);
 }
 
-/// Why the write is refused, where it is.
+/// What a write that was answered so leaves: the new value by one writing call, or the old one without
+/// any.
+fn leaves(
+    rt: &impl Abort,
+    row: &Row,
+    handle: &MemoryHandle,
+    answer: Result<(), CodecError>,
+) -> Result<(), CodecError> {
+    match answer {
+        Ok(()) => {
+            is(rt, row.name, &handle.write_calls(), &1);
+            answers(rt, row.name, Ok(handle.value().unwrap_or(&[])), row.after)
+        }
+        Err(cause) => {
+            is_value(rt, row.name, handle.value(), row.value);
+            answers(rt, row.name, Err(cause), row.after)?;
+            is(rt, row.name, &handle.write_calls(), &0);
+            Ok(())
+        }
+    }
+}
+
 fn write(
     alloc: Global,
     encoder: &mut Encoder,
     asked: &Indexer,
     bytes: &[u8],
-) -> Option<CodecError> {
+) -> Result<(), CodecError> {
     let elements = ArrayBytes::new_flen(CowSlice::Borrowed(bytes));
-    encoder.partial_encode(alloc, asked, &elements).err()
+    encoder.partial_encode(alloc, asked, &elements)
 }
 
 fn writes(rt: &impl Abort, alloc: Global, row: &Row) -> Result<(), CodecError> {
     let form = chunk_form(alloc, &row.form)?;
     let mut encoder = encoder(alloc, &form, stored(alloc, row.value)?)?;
-    let refusal = write(alloc, &mut encoder, &indexer(alloc, &row.asked)?, row.bytes);
-    is_cause(rt, row.name, refusal, row.refusal)?;
-    is_left(rt, row.name, &encoder.into_handle(), row.after, row.calls);
-    Ok(())
+    let asked = indexer(alloc, &row.asked)?;
+    let answer = write(alloc, &mut encoder, &asked, row.bytes);
+    leaves(rt, row, &encoder.into_handle(), answer)
 }
 
 #[test]
@@ -280,9 +264,9 @@ fn edits<E: ArrayPartialEncoderTraits>(
     asked: &Indexer,
 ) -> Result<(), CodecError> {
     let part = encoder.partial_decode(alloc, asked)?;
-    has_bytes(rt, "read", &part, &[4, 3, 6, 5])?;
+    answers(rt, "read", part.as_fixed(), Ok(&[4, 3, 6, 5]))?;
     let refusal = encoder.partial_encode(alloc, asked, &texts(alloc)?).err();
-    is_cause(rt, "texts", refusal, Some(CodecError::ArrayBytesKind))?;
+    is_refused(rt, "texts", refusal, CodecError::ArrayBytesKind)?;
     encoder.partial_encode(alloc, asked, &part)?;
     is(rt, "erased", &encoder.erase(), &Ok(()));
     Ok(())
@@ -319,20 +303,20 @@ fn hands_back<H: BytesPartialEncoderTraits + Drop>(
     let (codec, shape) = (BytesCodec::new(None), &form.shape);
     let made = codec.partial_decoder(alloc, handle, shape, &form.data_type, &form.fill_value);
     let refused = made.err().ok_or("a decoder was made")?;
-    is_cause(
+    is_refused(
         rt,
         "decoder",
         Some(refused.error),
-        Some(CodecError::EndiannessMissing),
+        CodecError::EndiannessMissing,
     )?;
     let handle = refused.handle;
     let made = codec.partial_encoder(alloc, handle, shape, &form.data_type, &form.fill_value);
     let refused = made.err().ok_or("an encoder was made")?;
-    is_cause(
+    is_refused(
         rt,
         "encoder",
         Some(refused.error),
-        Some(CodecError::EndiannessMissing),
+        CodecError::EndiannessMissing,
     )?;
     Ok(refused.handle)
 }
