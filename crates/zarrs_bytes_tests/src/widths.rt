@@ -124,14 +124,14 @@ fn codes(
     memory: &[u8],
     value: &[u8],
 ) -> Result<(), CodecError> {
-    let (elements, stored) = (memory.to_vec(alloc)?, value.to_vec(alloc)?);
-    let elements = ArrayBytes::new_flen(CowSlice::Owned(elements));
-    let lent_elements = ArrayBytes::new_flen(CowSlice::Borrowed(memory));
-    let (stored, lent_value) = (CowSlice::Owned(stored), CowSlice::Borrowed(value));
-    encodes(rt, name, alloc, &codec, form, elements, Ok(value))?;
-    encodes(rt, name, alloc, &codec, form, lent_elements, Ok(value))?;
-    decodes(rt, name, alloc, &codec, form, stored, Ok(memory))?;
-    decodes(rt, name, alloc, &codec, form, lent_value, Ok(memory))
+    let lent = ArrayBytes::new_flen(CowSlice::Borrowed(memory));
+    encodes(rt, name, alloc, &codec, form, lent, Ok(value))?;
+    let owned = ArrayBytes::new_flen(CowSlice::Owned(memory.to_vec(alloc)?));
+    encodes(rt, name, alloc, &codec, form, owned, Ok(value))?;
+    let lent = CowSlice::Borrowed(value);
+    decodes(rt, name, alloc, &codec, form, lent, Ok(memory))?;
+    let owned = CowSlice::Owned(value.to_vec(alloc)?);
+    decodes(rt, name, alloc, &codec, form, owned, Ok(memory))
 }
 
 /// The components of these bytes, which are turned round here. The fill value is the first of them.

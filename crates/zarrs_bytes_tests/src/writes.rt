@@ -11,13 +11,18 @@ use std::test::Fail;
 use zarrs_array_bytes::ArrayBytes;
 use zarrs_bytes::{BytesCodec, BytesCodecPartial};
 use zarrs_chunk::{CodecError, Indexer};
-use zarrs_codec::{ArrayPartialEncoderTraits, BytesPartialEncoderTraits, MemoryHandle, Refused};
+use zarrs_codec::{
+    ArrayPartialEncoderTraits, BytesPartialDecoderTraits, BytesPartialEncoderTraits, MemoryHandle,
+    Refused,
+};
 use zarrs_data_type::DataType;
 
 type Encoder = BytesCodecPartial<MemoryHandle>;
 
-/// A coder that writes too. The highest byte of a component is the first one in a value.
-fn encoder(alloc: Global, form: &ChunkForm, handle: MemoryHandle) -> Result<Encoder, CodecError> {
+/// A coder of such a chunk that writes too, over a handle. The highest byte of a component is the first
+/// one in a value.
+fn encoder(alloc: Global, form: &Form<'_>, handle: MemoryHandle) -> Result<Encoder, CodecError> {
+    let form = chunk_form(alloc, form)?;
     let made = BytesCodec::big().partial_encoder(
         alloc,
         handle,
@@ -50,6 +55,8 @@ const AXES: CodecError = CodecError::IncompatibleDimensionality;
 const OUTSIDE: CodecError = CodecError::OutOfBounds;
 
 const MISMATCH: CodecError = CodecError::DataMismatch;
+
+const NO_ORDER: CodecError = CodecError::EndiannessMissing;
 
 /// What is stored, where new elements are written, their bytes as they stand in memory, and what is
 /// stored afterwards; or why nothing is written.
@@ -240,8 +247,7 @@ fn write(
 }
 
 fn writes(rt: &impl Abort, alloc: Global, row: &Row) -> Result<(), CodecError> {
-    let form = chunk_form(alloc, &row.form)?;
-    let mut encoder = encoder(alloc, &form, stored(alloc, row.value)?)?;
+    let mut encoder = encoder(alloc, &row.form, stored(alloc, row.value)?)?;
     let asked = indexer(alloc, &row.asked)?;
     let answer = write(alloc, &mut encoder, &asked, row.bytes);
     leaves(rt, row, &encoder.into_handle(), answer)
@@ -283,9 +289,8 @@ fn tells<E: ArrayPartialEncoderTraits>(rt: &impl Abort, encoder: &mut E) {
 
 #[test]
 fn a_coder_is_any_coder_of_parts(rt: HostRuntime) -> Result<(), Fail> {
-    let form = chunk_form(rt.alloc(), &WORDS)?;
     let handle = stored(rt.alloc(), Some(&[1, 2, 3, 4, 5, 6]))?;
-    let mut encoder = encoder(rt.alloc(), &form, handle)?;
+    let mut encoder = encoder(rt.alloc(), &WORDS, handle)?;
     let asked = subset(rt.alloc(), &[1..3])?;
     edits(&rt, rt.alloc(), &mut encoder, &asked)?;
     tells(&rt, &mut encoder);
@@ -293,31 +298,41 @@ fn a_coder_is_any_coder_of_parts(rt: HostRuntime) -> Result<(), Fail> {
     Ok(())
 }
 
-/// Without a byte order no coder of words is made, and what was given comes back.
-fn hands_back<H: BytesPartialEncoderTraits + Drop>(
+/// Without a byte order no decoder of words is made, and what was given comes back.
+fn no_decoder<H: BytesPartialDecoderTraits + Drop>(
     rt: &impl Abort,
     alloc: Global,
     form: &ChunkForm,
     handle: H,
 ) -> Result<H, Fail> {
-    let (codec, shape) = (BytesCodec::new(None), &form.shape);
-    let made = codec.partial_decoder(alloc, handle, shape, &form.data_type, &form.fill_value);
+    let made = BytesCodec::new(None).partial_decoder(
+        alloc,
+        handle,
+        &form.shape,
+        &form.data_type,
+        &form.fill_value,
+    );
     let refused = made.err().ok_or("a decoder was made")?;
-    is_refused(
-        rt,
-        "decoder",
-        Some(refused.error),
-        CodecError::EndiannessMissing,
-    )?;
-    let handle = refused.handle;
-    let made = codec.partial_encoder(alloc, handle, shape, &form.data_type, &form.fill_value);
+    is_refused(rt, "decoder", Some(refused.error), NO_ORDER)?;
+    Ok(refused.handle)
+}
+
+/// And no coder that writes too.
+fn no_encoder<H: BytesPartialEncoderTraits + Drop>(
+    rt: &impl Abort,
+    alloc: Global,
+    form: &ChunkForm,
+    handle: H,
+) -> Result<H, Fail> {
+    let made = BytesCodec::new(None).partial_encoder(
+        alloc,
+        handle,
+        &form.shape,
+        &form.data_type,
+        &form.fill_value,
+    );
     let refused = made.err().ok_or("an encoder was made")?;
-    is_refused(
-        rt,
-        "encoder",
-        Some(refused.error),
-        CodecError::EndiannessMissing,
-    )?;
+    is_refused(rt, "encoder", Some(refused.error), NO_ORDER)?;
     Ok(refused.handle)
 }
 
@@ -325,9 +340,9 @@ fn hands_back<H: BytesPartialEncoderTraits + Drop>(
 fn hands_back_a_handle_that_is_owned_or_lent(rt: HostRuntime) -> Result<(), Fail> {
     let form = chunk_form(rt.alloc(), &WORDS)?;
     let mut handle = stored(rt.alloc(), Some(&[1, 2]))?;
-    let lent = hands_back(&rt, rt.alloc(), &form, &mut handle)?;
-    is_left(&rt, "lent", lent, Some(&[1, 2]), 0);
-    let handle = hands_back(&rt, rt.alloc(), &form, handle)?;
-    is_left(&rt, "owned", &handle, Some(&[1, 2]), 0);
+    no_decoder(&rt, rt.alloc(), &form, &mut handle)?;
+    let handle = no_decoder(&rt, rt.alloc(), &form, handle)?;
+    let handle = no_encoder(&rt, rt.alloc(), &form, handle)?;
+    is_left(&rt, "handed back", &handle, Some(&[1, 2]), 0);
     Ok(())
 }
