@@ -12,24 +12,34 @@ pub(crate) fn is<T: PartialEq + Debug>(rt: &impl Abort, name: &str, came: &T, wa
     assert_eq!(rt; *came, *wanted, "{name}");
 }
 
-/// The bytes that came, or none.
-pub(crate) fn is_value(rt: &impl Abort, name: &str, came: Option<&[u8]>, wanted: Option<&[u8]>) {
-    is(rt, name, &came, &wanted);
-}
+/// Bytes, or none, or a refusal.
+pub(crate) type Answer<'a> = Result<Option<&'a [u8]>, CodecError>;
 
-/// The call was refused for this cause, or it was not refused. A want of memory is an error of the
-/// test.
-pub(crate) fn is_cause(
+/// This is answered. A want of memory is an error of the test.
+pub(crate) fn answers(
     rt: &impl Abort,
     name: &str,
-    came: Option<CodecError>,
-    wanted: Option<CodecError>,
+    came: Answer<'_>,
+    wanted: Answer<'_>,
 ) -> Result<(), CodecError> {
-    if came == Some(CodecError::OutOfMemory) {
+    if came == Err(CodecError::OutOfMemory) {
         return Err(CodecError::OutOfMemory);
     }
     is(rt, name, &came, &wanted);
     Ok(())
+}
+
+/// The same of owned bytes.
+pub(crate) fn answers_value(
+    rt: &impl Abort,
+    name: &str,
+    came: Result<Option<Vec<u8>>, CodecError>,
+    wanted: Answer<'_>,
+) -> Result<(), CodecError> {
+    match came {
+        Ok(value) => answers(rt, name, Ok(value.as_deref()), wanted),
+        Err(cause) => answers(rt, name, Err(cause), wanted),
+    }
 }
 
 /// A handle in memory over this value, or over none.

@@ -1,6 +1,6 @@
 //! The sample codecs of bytes, called as any codec of bytes is, and their maker.
 
-use crate::checks::{is, is_cause};
+use crate::checks::{Answer, answers, is};
 use BytesRepresentation::{BoundedSize, FixedSize, UnboundedSize};
 use SampleBytesCodec::{Length, Reverse};
 use std::alloc::Global;
@@ -15,12 +15,14 @@ use zarrs_codec::{
 };
 use zarrs_metadata::MetadataV3;
 
-/// Bytes, and what a codec makes of them.
+/// Bytes, and what a codec makes of them; encoded bytes, and what they stand for.
 struct Coded {
     name: &'static str,
     codec: SampleBytesCodec,
     bytes: &'static [u8],
     encoded: &'static [u8],
+    stored: &'static [u8],
+    decoded: Answer<'static>,
 }
 
 const CODED: &'static [Coded] = &[
@@ -29,129 +31,103 @@ const CODED: &'static [Coded] = &[
         codec: Reverse,
         bytes: &[1, 2, 3],
         encoded: &[3, 2, 1],
+        stored: &[3, 2, 1],
+        decoded: Ok(Some(&[1, 2, 3])),
     },
     Coded {
         name: "no bytes in reverse",
         codec: Reverse,
         bytes: &[],
         encoded: &[],
+        stored: &[],
+        decoded: Ok(Some(&[])),
     },
     Coded {
         name: "the bytes behind their length",
         codec: Length,
         bytes: &[1, 2],
         encoded: &[2, 0, 0, 0, 0, 0, 0, 0, 1, 2],
+        stored: &[2, 0, 0, 0, 0, 0, 0, 0, 1, 2],
+        decoded: Ok(Some(&[1, 2])),
     },
     Coded {
         name: "no bytes behind their length",
         codec: Length,
         bytes: &[],
         encoded: &[0, 0, 0, 0, 0, 0, 0, 0],
+        stored: &[0, 0, 0, 0, 0, 0, 0, 0],
+        decoded: Ok(Some(&[])),
+    },
+    Coded {
+        name: "no length",
+        codec: Length,
+        bytes: &[],
+        encoded: &[0, 0, 0, 0, 0, 0, 0, 0],
+        stored: &[],
+        decoded: Err(CodecError::BytesCodec(1)),
+    },
+    Coded {
+        name: "seven bytes of a length",
+        codec: Length,
+        bytes: &[],
+        encoded: &[0, 0, 0, 0, 0, 0, 0, 0],
+        stored: &[0, 0, 0, 0, 0, 0, 0],
+        decoded: Err(CodecError::BytesCodec(1)),
+    },
+    Coded {
+        name: "a length of more bytes",
+        codec: Length,
+        bytes: &[1, 2],
+        encoded: &[2, 0, 0, 0, 0, 0, 0, 0, 1, 2],
+        stored: &[3, 0, 0, 0, 0, 0, 0, 0, 1, 2],
+        decoded: Err(CodecError::BytesCodec(2)),
+    },
+    Coded {
+        name: "a length of fewer bytes",
+        codec: Length,
+        bytes: &[1, 2],
+        encoded: &[2, 0, 0, 0, 0, 0, 0, 0, 1, 2],
+        stored: &[1, 0, 0, 0, 0, 0, 0, 0, 1, 2],
+        decoded: Err(CodecError::BytesCodec(2)),
     },
 ];
 
-fn are_bytes(rt: &impl Abort, name: &str, came: &ArrayBytesRaw<'_>, wanted: &[u8]) {
-    is(rt, name, &came.as_slice(), &wanted);
-}
-
-/// Bytes that are lent or owned, encoded.
 fn encodes<C: BytesToBytesCodecTraits>(
     rt: &impl Abort,
     alloc: Global,
     codec: &C,
-    bytes: ArrayBytesRaw<'_>,
     row: &Coded,
 ) -> Result<(), CodecError> {
-    let encoded = codec.encode(alloc, bytes)?;
-    are_bytes(rt, row.name, &encoded, row.encoded);
+    let encoded = codec.encode(alloc, CowSlice::Borrowed(row.bytes))?;
+    is(rt, row.name, &encoded.as_slice(), &row.encoded);
     Ok(())
 }
 
-/// Bytes that are lent or owned, decoded.
+/// Encoded bytes that are lent or owned.
 fn decodes<C: BytesToBytesCodecTraits>(
     rt: &impl Abort,
     alloc: Global,
     codec: &C,
-    encoded: ArrayBytesRaw<'_>,
+    stored: ArrayBytesRaw<'_>,
     row: &Coded,
 ) -> Result<(), CodecError> {
-    let bytes = codec.decode(alloc, encoded, &UnboundedSize)?;
-    are_bytes(rt, row.name, &bytes, row.bytes);
-    Ok(())
+    match codec.decode(alloc, stored, &UnboundedSize) {
+        Ok(bytes) => answers(rt, row.name, Ok(Some(bytes.as_slice())), row.decoded),
+        Err(cause) => answers(rt, row.name, Err(cause), row.decoded),
+    }
 }
 
 fn codes(rt: &impl Abort, alloc: Global, row: &Coded) -> Result<(), CodecError> {
-    let (codec, bytes, encoded) = (row.codec, row.bytes, row.encoded);
-    encodes(rt, alloc, &codec, CowSlice::Borrowed(bytes), row)?;
-    encodes(
-        rt,
-        alloc,
-        &codec,
-        CowSlice::Owned(bytes.to_vec(alloc)?),
-        row,
-    )?;
-    decodes(rt, alloc, &codec, CowSlice::Borrowed(encoded), row)?;
-    decodes(
-        rt,
-        alloc,
-        &codec,
-        CowSlice::Owned(encoded.to_vec(alloc)?),
-        row,
-    )
+    encodes(rt, alloc, &row.codec, row)?;
+    decodes(rt, alloc, &row.codec, CowSlice::Borrowed(row.stored), row)?;
+    let owned = CowSlice::Owned(row.stored.to_vec(alloc)?);
+    decodes(rt, alloc, &row.codec, owned, row)
 }
 
 #[test]
 fn samples_encode_and_decode_bytes(rt: HostRuntime) -> Result<(), Fail> {
     for row in CODED.iter() {
         codes(&rt, rt.alloc(), row)?;
-    }
-    Ok(())
-}
-
-/// Bytes that stand for none.
-struct Refused {
-    name: &'static str,
-    encoded: &'static [u8],
-    cause: CodecError,
-}
-
-const REFUSED: &'static [Refused] = &[
-    Refused {
-        name: "no length",
-        encoded: &[],
-        cause: CodecError::BytesCodec(1),
-    },
-    Refused {
-        name: "seven bytes of a length",
-        encoded: &[0, 0, 0, 0, 0, 0, 0],
-        cause: CodecError::BytesCodec(1),
-    },
-    Refused {
-        name: "a length of more bytes",
-        encoded: &[3, 0, 0, 0, 0, 0, 0, 0, 1, 2],
-        cause: CodecError::BytesCodec(2),
-    },
-    Refused {
-        name: "a length of fewer bytes",
-        encoded: &[1, 0, 0, 0, 0, 0, 0, 0, 1, 2],
-        cause: CodecError::BytesCodec(2),
-    },
-];
-
-fn refuses(
-    rt: &impl Abort,
-    alloc: Global,
-    encoded: ArrayBytesRaw<'_>,
-    row: &Refused,
-) -> Result<(), CodecError> {
-    let answer = Length.decode(alloc, encoded, &UnboundedSize);
-    is_cause(rt, row.name, answer.err(), Some(row.cause))
-}
-
-#[test]
-fn a_length_is_that_of_the_bytes(rt: HostRuntime) -> Result<(), Fail> {
-    for row in REFUSED.iter() {
-        refuses(&rt, rt.alloc(), CowSlice::Borrowed(row.encoded), row)?;
     }
     Ok(())
 }
@@ -287,17 +263,17 @@ fn makes<M: BytesCodecMaker<SampleBytesCodec>>(
     Ok(())
 }
 
-/// The codec's metadata has the row's name, and no configuration.
-fn is_written<C: BytesToBytesCodecTraits>(
+/// The codec's metadata has this name, and no configuration.
+fn is_named<C: BytesToBytesCodecTraits>(
     rt: &impl Abort,
     alloc: Global,
     codec: &C,
-    row: &Made,
+    name: &str,
 ) -> Result<(), Fail> {
     let metadata = codec.metadata(alloc)?;
-    is(rt, row.name, &metadata.name(), &row.name);
-    is(rt, row.name, &metadata.configuration().is_none(), &true);
-    is(rt, row.name, &metadata.must_understand(), &true);
+    is(rt, name, &metadata.name(), &name);
+    is(rt, name, &metadata.configuration().is_none(), &true);
+    is(rt, name, &metadata.must_understand(), &true);
     Ok(())
 }
 
@@ -306,18 +282,6 @@ fn samples_have_names_by_which_they_are_made(rt: HostRuntime) -> Result<(), Fail
     for row in MADE.iter() {
         makes(&rt, rt.alloc(), &SampleMaker, row)?;
     }
-    is_written(&rt, rt.alloc(), &Reverse, &MADE[0])?;
-    is_written(&rt, rt.alloc(), &Length, &MADE[1])
-}
-
-/// Copies are equal, and the codecs differ.
-#[test]
-fn samples_are_copied_and_compared(rt: HostRuntime) -> Result<(), Fail> {
-    is(&rt, "reverse", &Reverse.clone()?, &Reverse);
-    is(&rt, "length", &Length.clone()?, &Length);
-    is(&rt, "different", &(Reverse == Length), &false);
-    is(&rt, "maker", &SampleMaker.clone()?, &SampleMaker);
-    is(&rt, "reading", &READS_WHOLE.clone()?, &READS_WHOLE);
-    is(&rt, "writing", &WRITES_WHOLE.clone()?, &WRITES_WHOLE);
-    Ok(())
+    is_named(&rt, rt.alloc(), &Reverse, "sample.reverse")?;
+    is_named(&rt, rt.alloc(), &Length, "sample.length")
 }
