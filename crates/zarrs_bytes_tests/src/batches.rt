@@ -1,34 +1,130 @@
-//! Reads of many short runs, whose ranges are made and asked for a batch at a time.
+//! Reads of many short runs, whose ranges are made and asked for a batch of 1,024 at a time.
 
-use crate::forms::{Asked, Form, decoder, indexer, repeated};
+use crate::checks::Answer;
+use crate::forms::{ChunkForm, Form, chunk_form, decoder, repeated};
 use crate::parts::reads_part;
 use crate::widths::numbered;
 use std::alloc::{AllocError, Global};
 use std::process::Abort;
 use std::test::Fail;
-use zarrs_bytes::BytesCodecPartial;
 use zarrs_chunk::{CodecError, Indexer};
 use zarrs_codec::MemoryHandle;
 
+/// The last of the places below is the one with the number 1,023.
 const WORDS: Form<'static> = Form {
-    sizes: &[700],
+    sizes: &[9463],
     bits: 16,
     components: 1,
     fill: &[1, 2],
 };
 
-/// Counts on both sides of the edges of batches.
-const COUNTS: &'static [u64] = &[0, 1, 1023, 1024, 1025, 2047, 2048, 2049];
-
-/// A place out of order, and the same after 700 others.
+/// A place out of order, and the same after all others.
 fn place(number: u64) -> u64 {
-    (number % 700).wrapping_mul(37) % 700
+    (number % 9463).wrapping_mul(37) % 9463
 }
 
-/// A list of so many places.
-fn places(alloc: Global, count: u64) -> Result<Indexer, CodecError> {
+/// Places with numbers in a row, how many bytes are stored, and whether one is missing.
+struct Row {
+    name: &'static str,
+    first: u64,
+    count: u64,
+    stored: u64,
+    is_missing: bool,
+}
+
+/// Counts on both sides of the edges of batches, over a whole value; then lists without and with the
+/// last word, at the end of the first batch and at the beginning of the second.
+const ROWS: &'static [Row] = &[
+    Row {
+        name: "none",
+        first: 0,
+        count: 0,
+        stored: 18926,
+        is_missing: false,
+    },
+    Row {
+        name: "one",
+        first: 0,
+        count: 1,
+        stored: 18926,
+        is_missing: false,
+    },
+    Row {
+        name: "a batch without one",
+        first: 0,
+        count: 1023,
+        stored: 18926,
+        is_missing: false,
+    },
+    Row {
+        name: "a batch",
+        first: 0,
+        count: 1024,
+        stored: 18926,
+        is_missing: false,
+    },
+    Row {
+        name: "a batch and one",
+        first: 0,
+        count: 1025,
+        stored: 18926,
+        is_missing: false,
+    },
+    Row {
+        name: "two batches without one",
+        first: 0,
+        count: 2047,
+        stored: 18926,
+        is_missing: false,
+    },
+    Row {
+        name: "two batches",
+        first: 0,
+        count: 2048,
+        stored: 18926,
+        is_missing: false,
+    },
+    Row {
+        name: "two batches and one",
+        first: 0,
+        count: 2049,
+        stored: 18926,
+        is_missing: false,
+    },
+    Row {
+        name: "all before the missing byte",
+        first: 0,
+        count: 1023,
+        stored: 18925,
+        is_missing: false,
+    },
+    Row {
+        name: "the missing byte ends a batch",
+        first: 0,
+        count: 1024,
+        stored: 18925,
+        is_missing: true,
+    },
+    Row {
+        name: "a batch before the missing byte",
+        first: 9462,
+        count: 1024,
+        stored: 18925,
+        is_missing: false,
+    },
+    Row {
+        name: "the missing byte begins a batch",
+        first: 9462,
+        count: 1025,
+        stored: 18925,
+        is_missing: true,
+    },
+];
+
+/// The places with these numbers.
+fn places(alloc: Global, row: &Row) -> Result<Indexer, CodecError> {
     let mut indices = Vec::new(alloc);
-    for number in 0..count {
+    for number in row.first..row.first.saturating_add(row.count) {
         indices.push(vec![in alloc; place(number)]?)?;
     }
     Ok(Indexer::Indices(indices))
@@ -36,9 +132,9 @@ fn places(alloc: Global, count: u64) -> Result<Indexer, CodecError> {
 
 /// The words there by a slow rule: the value has the bytes 0, 1, 2 and so on, and each word is turned
 /// round.
-fn words(alloc: Global, count: u64) -> Result<Vec<u8>, AllocError> {
+fn words(alloc: Global, row: &Row) -> Result<Vec<u8>, AllocError> {
     let mut words = Vec::new(alloc);
-    for number in 0..count {
+    for number in row.first..row.first.saturating_add(row.count) {
         let first = place(number).wrapping_mul(2);
         words.push((first.wrapping_add(1) % 251) as u8)?;
         words.push((first % 251) as u8)?;
@@ -46,73 +142,39 @@ fn words(alloc: Global, count: u64) -> Result<Vec<u8>, AllocError> {
     Ok(words)
 }
 
-type Decoder = BytesCodecPartial<MemoryHandle>;
-
-/// So many words, where a value is stored, and where none is.
-fn reads_count(
+fn reads_over(
     rt: &impl Abort,
     alloc: Global,
-    over_value: &mut Decoder,
-    over_none: &mut Decoder,
-    count: u64,
+    form: &ChunkForm,
+    handle: MemoryHandle,
+    row: &Row,
+    wanted: Answer<'_>,
 ) -> Result<(), CodecError> {
-    let asked = places(alloc, count)?;
-    let (stored, unstored) = (words(alloc, count)?, repeated(alloc, &[1, 2], count)?);
-    reads_part(
-        rt,
-        "stored",
-        alloc,
-        over_value,
-        &asked,
-        Ok(stored.as_slice()),
-    )?;
-    reads_part(
-        rt,
-        "unstored",
-        alloc,
-        over_none,
-        &asked,
-        Ok(unstored.as_slice()),
-    )
+    let mut decoder = decoder(alloc, form, handle)?;
+    let asked = places(alloc, row)?;
+    reads_part(rt, row.name, alloc, &mut decoder, &asked, wanted)
 }
 
-fn reads_each_count(
-    rt: &impl Abort,
-    alloc: Global,
-    over_value: &mut Decoder,
-    over_none: &mut Decoder,
-) -> Result<(), CodecError> {
-    for count in COUNTS.iter() {
-        reads_count(rt, alloc, over_value, over_none, *count)?;
+/// The row's places, over the value and over nothing.
+fn reads(rt: &impl Abort, alloc: Global, form: &ChunkForm, row: &Row) -> Result<(), CodecError> {
+    let words = words(alloc, row)?;
+    let wanted = if row.is_missing {
+        Err(CodecError::InvalidByteRange)
+    } else {
+        Ok(words.as_slice())
+    };
+    let handle = MemoryHandle::with_value(numbered(alloc, 1, row.stored)?);
+    reads_over(rt, alloc, form, handle, row, wanted)?;
+    let fills = repeated(alloc, &[1, 2], row.count)?;
+    let handle = MemoryHandle::new();
+    reads_over(rt, alloc, form, handle, row, Ok(fills.as_slice()))
+}
+
+#[test]
+fn reads_lists_at_the_edges_of_batches(rt: HostRuntime) -> Result<(), Fail> {
+    let form = chunk_form(rt.alloc(), &WORDS)?;
+    for row in ROWS.iter() {
+        reads(&rt, rt.alloc(), &form, row)?;
     }
     Ok(())
-}
-
-#[test]
-fn reads_lists_of_each_length(rt: HostRuntime) -> Result<(), Fail> {
-    let handle = MemoryHandle::with_value(numbered(rt.alloc(), 1, 1400)?);
-    let mut over_value = decoder(rt.alloc(), &WORDS, handle)?;
-    let mut over_none = decoder(rt.alloc(), &WORDS, MemoryHandle::new())?;
-    Ok(reads_each_count(&rt, rt.alloc(), &mut over_value, &mut over_none)?)
-}
-
-/// The first word so many times, and then the last one, of which a byte is missing.
-fn lacks_behind(
-    rt: &impl Abort,
-    alloc: Global,
-    decoder: &mut Decoder,
-    count: u64,
-) -> Result<(), CodecError> {
-    let asked = indexer(alloc, &Asked::FirstsAnd(count, 699))?;
-    let wanted = Err(CodecError::InvalidByteRange);
-    reads_part(rt, "a byte is missing", alloc, decoder, &asked, wanted)
-}
-
-// The last word is asked for as the last place of the first batch, and of the second.
-#[test]
-fn refuses_a_byte_that_is_missing(rt: HostRuntime) -> Result<(), Fail> {
-    let handle = MemoryHandle::with_value(numbered(rt.alloc(), 1, 1399)?);
-    let mut decoder = decoder(rt.alloc(), &WORDS, handle)?;
-    lacks_behind(&rt, rt.alloc(), &mut decoder, 1023)?;
-    Ok(lacks_behind(&rt, rt.alloc(), &mut decoder, 1024)?)
 }

@@ -11,11 +11,6 @@ pub(crate) fn is<T: PartialEq + Debug>(rt: &impl Abort, name: &str, came: &T, wa
     assert_eq!(rt; *came, *wanted, "{name}");
 }
 
-/// The bytes that came, or none.
-pub(crate) fn is_value(rt: &impl Abort, name: &str, came: Option<&[u8]>, wanted: Option<&[u8]>) {
-    is(rt, name, &came, &wanted);
-}
-
 /// Bytes, or a refusal.
 pub(crate) type Answer<'a> = Result<&'a [u8], CodecError>;
 
@@ -30,20 +25,6 @@ pub(crate) fn answers(
         return Err(CodecError::OutOfMemory);
     }
     is(rt, name, &came, &wanted);
-    Ok(())
-}
-
-/// The call was refused for this cause. A want of memory is an error of the test.
-pub(crate) fn is_refused(
-    rt: &impl Abort,
-    name: &str,
-    came: Option<CodecError>,
-    cause: CodecError,
-) -> Result<(), CodecError> {
-    if came == Some(CodecError::OutOfMemory) {
-        return Err(CodecError::OutOfMemory);
-    }
-    is(rt, name, &came, &Some(cause));
     Ok(())
 }
 

@@ -1,7 +1,7 @@
 //! The codec by itself: its byte orders, what it tells of itself, and how long its values are.
 
 use crate::checks::is;
-use crate::forms::{BIG, Form, LITTLE, chunk_form, shape};
+use crate::forms::{BIG, Form, LITTLE, chunk_form};
 use std::alloc::Global;
 use std::process::Abort;
 use std::test::Fail;
@@ -10,62 +10,7 @@ use zarrs_chunk::{ChunkShape, CodecError};
 use zarrs_codec::{ArrayCodecTraits, BytesRepresentation};
 use zarrs_data_type::Endianness;
 
-/// A byte order. Its name is what `Debug` writes of the codec.
-struct Order {
-    name: &'static str,
-    order: Option<Endianness>,
-}
-
-/// No two of them are equal.
-const ORDERS: &'static [Order] = &[
-    Order {
-        name: "BytesCodec { endianness: Some(Little) }",
-        order: LITTLE,
-    },
-    Order {
-        name: "BytesCodec { endianness: Some(Big) }",
-        order: BIG,
-    },
-    Order {
-        name: "BytesCodec { endianness: None }",
-        order: None,
-    },
-];
-
-fn is_shown(rt: &impl Abort, alloc: Global, codec: BytesCodec, name: &str) -> Result<(), Fail> {
-    is(rt, name, &codec.clone()?, &codec);
-    let shown = format!(in alloc; "{codec:?}")?;
-    is(rt, "shown", &shown.as_str(), &name);
-    Ok(())
-}
-
-/// The codec is the one of the order at this place alone.
-fn is_at(rt: &impl Abort, codec: BytesCodec, place: usize) {
-    for (other_place, other) in ORDERS.iter().enumerate() {
-        let same = codec == BytesCodec::new(other.order);
-        is(rt, other.name, &same, &(place == other_place));
-    }
-}
-
-#[test]
-fn a_codec_is_shown_with_its_order_and_differs_by_it(rt: HostRuntime) -> Result<(), Fail> {
-    for (place, row) in ORDERS.iter().enumerate() {
-        is_at(&rt, BytesCodec::new(row.order), place);
-        is_shown(&rt, rt.alloc(), BytesCodec::new(row.order), row.name)?;
-    }
-    Ok(())
-}
-
-#[test]
-fn orders_have_names(rt: HostRuntime) {
-    let (little, big) = (BytesCodec::new(LITTLE), BytesCodec::new(BIG));
-    is(&rt, "little", &BytesCodec::little(), &little);
-    is(&rt, "big", &BytesCodec::big(), &big);
-    is(&rt, "default", &BytesCodec::default(), &little);
-}
-
-/// What a codec that reads and writes in part tells of itself. A chunk of this shape is best decoded
-/// as a whole.
+/// What a codec that reads and writes in part tells of itself. A chunk is best decoded as a whole.
 fn tells<C: ArrayCodecTraits>(
     rt: &impl Abort,
     alloc: Global,
@@ -84,9 +29,15 @@ fn tells<C: ArrayCodecTraits>(
 }
 
 #[test]
-fn tells_what_it_does_in_part(rt: HostRuntime) -> Result<(), Fail> {
-    let shape = shape(rt.alloc(), &[2, 3])?;
-    Ok(tells(&rt, rt.alloc(), &BytesCodec::big(), &shape)?)
+fn a_codec_has_an_order_and_works_in_part(rt: HostRuntime) -> Result<(), Fail> {
+    let (little, big) = (BytesCodec::new(LITTLE), BytesCodec::new(BIG));
+    is(&rt, "little", &BytesCodec::little(), &little);
+    is(&rt, "big", &BytesCodec::big(), &big);
+    is(&rt, "default", &BytesCodec::default(), &little);
+    is(&rt, "two orders", &(little == big), &false);
+    is(&rt, "no order", &(BytesCodec::new(None) == little), &false);
+    let form = chunk_form(rt.alloc(), &LENGTHS[0].form)?;
+    Ok(tells(&rt, rt.alloc(), &big, &form.shape)?)
 }
 
 /// A chunk, and how many bytes its value has.

@@ -3,11 +3,11 @@ ghost use Rattle.std.specs.Prelude.{◌≡◌, Ok};
 ghost use Rattle.zarrs_chunk.specs.Answer.{Answers, fault, is_fault};
 ghost use Rattle.zarrs_codec.specs.StorageState.{count_if, last_failure};
 
-use crate::checks::{is, is_refused};
-use crate::forms::{Asked, Form, decoder, indexer, repeated, subset};
+use crate::checks::is;
+use crate::forms::{Form, chunk_form, decoder, repeated, subset};
 use crate::parts::reads_part;
-use Asked::{FirstsAnd, Ranges};
 use std::alloc::Global;
+use std::ops::Range;
 use std::process::Abort;
 use std::test::Fail;
 use zarrs_bytes::BytesCodecPartial;
@@ -98,7 +98,7 @@ struct Row {
     name: &'static str,
     form: Form<'static>,
     value: Option<Copies>,
-    asked: Asked<'static>,
+    ranges: &'static [Range<u64>],
     elements: Copies,
     calls_before: u64,
     fails_first: bool,
@@ -124,9 +124,9 @@ const ROWS: &'static [Row] = &[
         form: WORDS,
         value: Some(Copies {
             part: &[1, 2],
-            count: 1,
+            count: 3,
         }),
-        asked: Ranges(&[0..1]),
+        ranges: &[0..1],
         elements: Copies {
             part: &[2, 1],
             count: 1,
@@ -138,27 +138,12 @@ const ROWS: &'static [Row] = &[
         name: "a read over nothing",
         form: WORDS,
         value: None,
-        asked: Ranges(&[0..1]),
+        ranges: &[0..1],
         elements: Copies {
             part: &[9, 8],
             count: 1,
         },
         calls_before: 0,
-        fails_first: true,
-    },
-    Row {
-        name: "the second batch of a read",
-        form: WORDS,
-        value: Some(Copies {
-            part: &[1, 2],
-            count: 3,
-        }),
-        asked: FirstsAnd(1024, 2),
-        elements: Copies {
-            part: &[2, 1],
-            count: 1025,
-        },
-        calls_before: 1,
         fails_first: true,
     },
     // Ranges of 16 bytes take as much memory as their bytes, and are read by one call.
@@ -169,7 +154,7 @@ const ROWS: &'static [Row] = &[
             part: &[5],
             count: 17425,
         }),
-        asked: Ranges(&[0..1025, 0..16]),
+        ranges: &[0..1025, 0..16],
         elements: Copies {
             part: &[5],
             count: 16400,
@@ -184,7 +169,7 @@ const ROWS: &'static [Row] = &[
             part: &[5],
             count: 17425,
         }),
-        asked: Ranges(&[0..1025, 0..15]),
+        ranges: &[0..1025, 0..15],
         elements: Copies {
             part: &[5],
             count: 15375,
@@ -205,13 +190,14 @@ fn memory(alloc: Global, value: &Option<Copies>) -> Result<MemoryHandle, CodecEr
 
 /// A decoder over a handle of which one call fails.
 fn failing(alloc: Global, row: &Row) -> Result<Decoder, CodecError> {
+    let form = chunk_form(alloc, &row.form)?;
     let handle = FailingHandle {
         memory: memory(alloc, &row.value)?,
         calls_before: row.calls_before,
         faults: 0,
         failure: None,
     };
-    decoder(alloc, &row.form, handle)
+    decoder(alloc, &form, handle)
 }
 
 /// Two reads, one of which fails.
@@ -221,7 +207,7 @@ fn reads_twice(
     decoder: &mut Decoder,
     row: &Row,
 ) -> Result<(), CodecError> {
-    let asked = indexer(alloc, &row.asked)?;
+    let asked = subset(alloc, row.ranges)?;
     let elements = repeated(alloc, row.elements.part, row.elements.count)?;
     let elements = Ok(elements.as_slice());
     let (first, second) = if row.fails_first {
@@ -256,16 +242,13 @@ fn is_not_asked_in_vain(
     alloc: Global,
     decoder: &mut Decoder,
     outside: &Indexer,
+    inside: &Indexer,
 ) -> Result<(), CodecError> {
-    let refusal = CodecError::OutOfBounds;
-    reads_part(rt, "read", alloc, decoder, outside, Err(refusal))?;
-    is_refused(
-        rt,
-        "plan",
-        decoder.planned_ranges(alloc, outside).err(),
-        refusal,
-    )?;
-    is_refused(rt, "there", decoder.exists().err(), FAILED)?;
+    let refusal = Err(CodecError::OutOfBounds);
+    reads_part(rt, "outside", alloc, decoder, outside, refusal)?;
+    let planned = decoder.planned_ranges(alloc, inside)?;
+    is(rt, "planned", &planned.len(), &1);
+    is(rt, "there", &decoder.exists(), &Err(FAILED));
     is(rt, "there again", &decoder.exists(), &Ok(true));
     Ok(())
 }
@@ -273,6 +256,6 @@ fn is_not_asked_in_vain(
 #[test]
 fn an_indexer_is_refused_before_the_handle_is_asked(rt: HostRuntime) -> Result<(), Fail> {
     let mut decoder = failing(rt.alloc(), &ROWS[0])?;
-    let outside = subset(rt.alloc(), &[0..4])?;
-    Ok(is_not_asked_in_vain(&rt, rt.alloc(), &mut decoder, &outside)?)
+    let (outside, inside) = (subset(rt.alloc(), &[0..4])?, subset(rt.alloc(), &[0..1])?);
+    Ok(is_not_asked_in_vain(&rt, rt.alloc(), &mut decoder, &outside, &inside)?)
 }

@@ -30,29 +30,17 @@ pub(crate) struct ChunkForm {
 }
 
 pub(crate) fn chunk_form(alloc: Global, form: &Form<'_>) -> Result<ChunkForm, CodecError> {
-    let is_signed = form.bits % 8 == 4;
+    let shape = ChunkShape::new(form.sizes.to_vec(alloc)?);
     Ok(ChunkForm {
-        shape: shape(alloc, form.sizes)?,
-        data_type: DataType::components(form.bits, form.components, is_signed)?,
+        shape: shape.ok_or(CodecError::OutOfBounds)?,
+        data_type: DataType::components(form.bits, form.components, form.bits % 8 == 4)?,
         fill_value: FillValue::new(form.fill.to_vec(alloc)?),
     })
 }
 
-pub(crate) fn shape(alloc: Global, sizes: &[u64]) -> Result<ChunkShape, CodecError> {
-    ChunkShape::new(sizes.to_vec(alloc)?).ok_or(CodecError::OutOfBounds)
-}
-
-/// A decoder of such a chunk in part, over a handle.
+/// A decoder of such a chunk in part, over a handle. The highest byte of a component is the first one
+/// in a value.
 pub(crate) fn decoder<H: BytesPartialDecoderTraits + Drop>(
-    alloc: Global,
-    form: &Form<'_>,
-    handle: H,
-) -> Result<BytesCodecPartial<H>, CodecError> {
-    decoder_of(alloc, &chunk_form(alloc, form)?, handle)
-}
-
-/// The highest byte of a component is the first one in a value.
-fn decoder_of<H: BytesPartialDecoderTraits + Drop>(
     alloc: Global,
     form: &ChunkForm,
     handle: H,
@@ -75,15 +63,12 @@ fn decoder_of<H: BytesPartialDecoderTraits + Drop>(
 pub(crate) enum Asked<'a> {
     Ranges(&'a [Range<u64>]),
     Tuples(&'a [&'a [u64]]),
-    /// Of a chunk with one axis, the first element so many times, and then the one at a place.
-    FirstsAnd(u64, u64),
 }
 
 pub(crate) fn indexer(alloc: Global, asked: &Asked<'_>) -> Result<Indexer, CodecError> {
     match asked {
         Asked::Ranges(ranges) => subset(alloc, ranges),
         Asked::Tuples(tuples) => list(alloc, tuples),
-        Asked::FirstsAnd(count, place) => firsts(alloc, *count, *place),
     }
 }
 
@@ -96,15 +81,6 @@ fn list(alloc: Global, tuples: &[&[u64]]) -> Result<Indexer, CodecError> {
     for tuple in tuples {
         indices.push(tuple.to_vec(alloc)?)?;
     }
-    Ok(Indexer::Indices(indices))
-}
-
-fn firsts(alloc: Global, count: u64, place: u64) -> Result<Indexer, CodecError> {
-    let mut indices = Vec::new(alloc);
-    for _copy in 0..count {
-        indices.push(vec![in alloc; 0u64]?)?;
-    }
-    indices.push(vec![in alloc; place]?)?;
     Ok(Indexer::Indices(indices))
 }
 

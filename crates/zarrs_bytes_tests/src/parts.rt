@@ -1,8 +1,10 @@
 //! Chunks that are read in part: the ranges of bytes that a read plans, fill values, and what a decoder
 //! tells of its handle.
 
-use crate::checks::{Answer, answers_elements, is, is_value};
-use crate::forms::{Asked, Form, decoder, indexer, repeated, stored, subset};
+use crate::checks::{Answer, answers, answers_elements, is};
+use crate::forms::{
+    Asked, ChunkForm, Form, chunk_form, decoder, indexer, repeated, stored, subset,
+};
 use Asked::{Ranges, Tuples};
 use std::alloc::Global;
 use std::process::Abort;
@@ -60,17 +62,21 @@ const MOST_WORDS: Form<'static> = Form {
     fill: &[1, 2],
 };
 
-const AXES: CodecError = CodecError::IncompatibleDimensionality;
+/// There are ranges.
+const PLAN: Answer<'static> = Ok(&[]);
 
-const OUTSIDE: CodecError = CodecError::OutOfBounds;
+const AXES: Answer<'static> = Err(CodecError::IncompatibleDimensionality);
 
-/// What is asked for of a chunk, and the ranges of bytes that a read asks for, by their starts and
-/// ends; or why there are none.
+const OUTSIDE: Answer<'static> = Err(CodecError::OutOfBounds);
+
+/// What is asked for of a chunk, the ranges of bytes that a read asks for, by their starts and ends, and
+/// why none are planned, where none are.
 struct Planned {
     name: &'static str,
     form: Form<'static>,
     asked: Asked<'static>,
-    ranges: Result<&'static [(u64, u64)], CodecError>,
+    ranges: &'static [(u64, u64)],
+    planned: Answer<'static>,
 }
 
 const PLANNED: &'static [Planned] = &[
@@ -78,144 +84,151 @@ const PLANNED: &'static [Planned] = &[
         name: "column 0 of rows 1 and 2",
         form: SQUARE,
         asked: Ranges(&[1..3, 0..1]),
-        ranges: Ok(&[(4, 5), (8, 9)]),
+        ranges: &[(4, 5), (8, 9)],
+        planned: PLAN,
     },
     Planned {
         name: "the whole chunk",
         form: SQUARE,
         asked: Ranges(&[0..4, 0..4]),
-        ranges: Ok(&[(0, 16)]),
+        ranges: &[(0, 16)],
+        planned: PLAN,
     },
     Planned {
         name: "two rows",
         form: SQUARE,
         asked: Ranges(&[1..3, 0..4]),
-        ranges: Ok(&[(4, 12)]),
+        ranges: &[(4, 12)],
+        planned: PLAN,
     },
     Planned {
         name: "the first two",
         form: FOUR,
         asked: Ranges(&[0..2]),
-        ranges: Ok(&[(0, 2)]),
+        ranges: &[(0, 2)],
+        planned: PLAN,
     },
     Planned {
         name: "the last two",
         form: FOUR,
         asked: Ranges(&[2..4]),
-        ranges: Ok(&[(2, 4)]),
+        ranges: &[(2, 4)],
+        planned: PLAN,
     },
     Planned {
         name: "an empty range inside",
         form: FOUR,
         asked: Ranges(&[1..1]),
-        ranges: Ok(&[]),
+        ranges: &[],
+        planned: PLAN,
     },
     Planned {
         name: "an empty range at the end",
         form: FOUR,
         asked: Ranges(&[4..4]),
-        ranges: Ok(&[]),
+        ranges: &[],
+        planned: PLAN,
     },
     Planned {
         name: "no tuples",
         form: FOUR,
         asked: Tuples(&[]),
-        ranges: Ok(&[]),
+        ranges: &[],
+        planned: PLAN,
     },
     Planned {
         name: "column 1 of words",
         form: WORDS,
         asked: Ranges(&[0..2, 1..2]),
-        ranges: Ok(&[(2, 4), (6, 8)]),
+        ranges: &[(2, 4), (6, 8)],
+        planned: PLAN,
     },
     Planned {
         name: "words out of order, one of them twice",
         form: WORDS,
         asked: Tuples(&[&[1, 1], &[0, 0], &[1, 1]]),
-        ranges: Ok(&[(6, 8), (0, 2), (6, 8)]),
+        ranges: &[(6, 8), (0, 2), (6, 8)],
+        planned: PLAN,
     },
     Planned {
         name: "the first of as many bytes as can be",
         form: LONGEST,
         asked: Ranges(&[0..1]),
-        ranges: Ok(&[(0, 1)]),
+        ranges: &[(0, 1)],
+        planned: PLAN,
     },
     Planned {
         name: "the last of as many bytes as can be",
         form: LONGEST,
         asked: Ranges(&[18446744073709551614..18446744073709551615]),
-        ranges: Ok(&[(18446744073709551614, 18446744073709551615)]),
+        ranges: &[(18446744073709551614, 18446744073709551615)],
+        planned: PLAN,
     },
     Planned {
         name: "the last of as many words as can be",
         form: MOST_WORDS,
         asked: Tuples(&[&[9223372036854775806]]),
-        ranges: Ok(&[(18446744073709551612, 18446744073709551614)]),
+        ranges: &[(18446744073709551612, 18446744073709551614)],
+        planned: PLAN,
     },
     Planned {
         name: "an axis too few",
         form: SQUARE,
         asked: Ranges(&[0..1]),
-        ranges: Err(AXES),
+        ranges: &[],
+        planned: AXES,
     },
     Planned {
         name: "an axis too few, and outside",
         form: SQUARE,
         asked: Ranges(&[9..10]),
-        ranges: Err(AXES),
+        ranges: &[],
+        planned: AXES,
     },
     Planned {
         name: "a row too many",
         form: SQUARE,
         asked: Ranges(&[0..5, 0..4]),
-        ranges: Err(OUTSIDE),
+        ranges: &[],
+        planned: OUTSIDE,
     },
     Planned {
         name: "an empty range outside",
         form: SQUARE,
         asked: Ranges(&[5..5, 0..1]),
-        ranges: Err(OUTSIDE),
+        ranges: &[],
+        planned: OUTSIDE,
     },
     Planned {
         name: "the second tuple has an axis too few",
         form: SQUARE,
         asked: Tuples(&[&[0, 0], &[0]]),
-        ranges: Err(AXES),
+        ranges: &[],
+        planned: AXES,
     },
     Planned {
         name: "the axes of a later tuple come first",
         form: SQUARE,
         asked: Tuples(&[&[9, 9], &[0, 0, 0]]),
-        ranges: Err(AXES),
+        ranges: &[],
+        planned: AXES,
     },
     Planned {
         name: "the second tuple is outside",
         form: SQUARE,
         asked: Tuples(&[&[0, 0], &[0, 4]]),
-        ranges: Err(OUTSIDE),
+        ranges: &[],
+        planned: OUTSIDE,
     },
 ];
 
-/// These ranges are answered, or this refusal. A want of memory is an error of the test.
-fn are_planned(
-    rt: &impl Abort,
-    row: &Planned,
-    came: Result<&[(u64, u64)], CodecError>,
-) -> Result<(), CodecError> {
-    if came == Err(CodecError::OutOfMemory) {
-        return Err(CodecError::OutOfMemory);
+/// The ranges that came have the row's starts and ends.
+fn have_ends(rt: &impl Abort, row: &Planned, came: &[ByteRange]) {
+    is(rt, row.name, &came.len(), &row.ranges.len());
+    for (range, (start, end)) in came.iter().zip(row.ranges) {
+        is(rt, row.name, &range.start(), start);
+        is(rt, row.name, &range.end(), end);
     }
-    is(rt, row.name, &came, &row.ranges);
-    Ok(())
-}
-
-/// The starts and ends of ranges.
-fn ends(alloc: Global, ranges: &[ByteRange]) -> Result<Vec<(u64, u64)>, CodecError> {
-    let mut ends = Vec::new(alloc);
-    for range in ranges {
-        ends.push((range.start(), range.end()))?;
-    }
-    Ok(ends)
 }
 
 fn plans(
@@ -226,14 +239,19 @@ fn plans(
     row: &Planned,
 ) -> Result<(), CodecError> {
     match decoder.planned_ranges(alloc, asked) {
-        Ok(ranges) => are_planned(rt, row, Ok(ends(alloc, ranges.as_slice())?.as_slice())),
-        Err(cause) => are_planned(rt, row, Err(cause)),
+        Ok(ranges) => {
+            have_ends(rt, row, ranges.as_slice());
+            answers(rt, row.name, Ok(&[]), row.planned)
+        }
+        Err(cause) => answers(rt, row.name, Err(cause), row.planned),
     }
 }
 
 fn plans_row(rt: &impl Abort, alloc: Global, row: &Planned) -> Result<(), CodecError> {
-    let decoder = decoder(alloc, &row.form, MemoryHandle::new())?;
-    plans(rt, alloc, &decoder, &indexer(alloc, &row.asked)?, row)
+    let form = chunk_form(alloc, &row.form)?;
+    let decoder = decoder(alloc, &form, MemoryHandle::new())?;
+    let asked = indexer(alloc, &row.asked)?;
+    plans(rt, alloc, &decoder, &asked, row)
 }
 
 #[test]
@@ -318,6 +336,7 @@ fn reads_fill(rt: &impl Abort, alloc: Global, row: &Fill) -> Result<(), CodecErr
         components: row.fill.len() as u64,
         fill: row.fill,
     };
+    let form = chunk_form(alloc, &form)?;
     let mut decoder = decoder(alloc, &form, MemoryHandle::new())?;
     reads_each_count(rt, alloc, &mut decoder, row)
 }
@@ -337,46 +356,39 @@ const THREE: Form<'static> = Form {
     fill: &[0, 0],
 };
 
-/// What a decoder of three words tells without reading. It keeps what its handle keeps, and no more.
-fn tells<H: BytesPartialDecoderTraits>(
-    rt: &impl Abort,
-    decoder: &mut BytesCodecPartial<H>,
-    is_there: bool,
-    held: usize,
-) {
-    is(rt, "type", decoder.data_type(), &DataType::uint16());
-    is(rt, "in part", &decoder.supports_partial_decode(), &true);
-    is(rt, "held", &decoder.size_held(), &held);
-    is(rt, "there", &decoder.exists(), &Ok(is_there));
-}
-
-/// A part, read by a decoder that is made for it, and the handle afterwards.
-fn read_once<H: BytesPartialDecoderTraits + Drop>(
+/// What a decoder of three words tells: it keeps what its handle keeps, and no more. Then the last two
+/// are read, and the handle comes back.
+fn tells<H: BytesPartialDecoderTraits + Drop>(
     rt: &impl Abort,
     alloc: Global,
+    form: &ChunkForm,
     handle: H,
+    value: Option<&[u8]>,
+    elements: &[u8],
 ) -> Result<H, CodecError> {
-    let mut decoder = decoder(alloc, &THREE, handle)?;
-    tells(rt, &mut decoder, true, 6);
+    let mut decoder = decoder(alloc, form, handle)?;
+    is(rt, "type", decoder.data_type(), &DataType::uint16());
+    is(rt, "in part", &decoder.supports_partial_decode(), &true);
+    is(
+        rt,
+        "held",
+        &decoder.size_held(),
+        &value.unwrap_or(&[]).len(),
+    );
+    is(rt, "there", &decoder.exists(), &Ok(value.is_some()));
     let asked = subset(alloc, &[1..3])?;
-    reads_part(rt, "part", alloc, &mut decoder, &asked, Ok(&[4, 3, 6, 5]))?;
+    reads_part(rt, "part", alloc, &mut decoder, &asked, Ok(elements))?;
     Ok(decoder.into_handle())
 }
 
 #[test]
 fn borrows_or_owns_its_handle(rt: HostRuntime) -> Result<(), Fail> {
-    let value: &[u8] = &[1, 2, 3, 4, 5, 6];
-    let mut handle = stored(rt.alloc(), Some(value))?;
-    read_once(&rt, rt.alloc(), &mut handle)?;
-    is_value(&rt, "lent", handle.value(), Some(value));
-    let handle = read_once(&rt, rt.alloc(), handle)?;
-    is_value(&rt, "owned", handle.value(), Some(value));
-    Ok(())
-}
-
-#[test]
-fn tells_that_nothing_is_stored(rt: HostRuntime) -> Result<(), Fail> {
-    let mut decoder = decoder(rt.alloc(), &THREE, MemoryHandle::new())?;
-    tells(&rt, &mut decoder, false, 0);
+    let value: Option<&[u8]> = Some(&[1, 2, 3, 4, 5, 6]);
+    let form = chunk_form(rt.alloc(), &THREE)?;
+    let mut handle = stored(rt.alloc(), value)?;
+    tells(&rt, rt.alloc(), &form, &mut handle, value, &[4, 3, 6, 5])?;
+    let handle = tells(&rt, rt.alloc(), &form, handle, value, &[4, 3, 6, 5])?;
+    is(&rt, "kept", &handle.value(), &value);
+    tells(&rt, rt.alloc(), &form, MemoryHandle::new(), None, &[0; 4])?;
     Ok(())
 }

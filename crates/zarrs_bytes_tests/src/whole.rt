@@ -205,23 +205,10 @@ fn codes(rt: &impl Abort, alloc: Global, row: &Row) -> Result<(), CodecError> {
     let codec = BytesCodec::new(row.order);
     let form = chunk_form(alloc, &row.form)?;
     represents(rt, alloc, &codec, &form, row);
-    codes_lent(rt, alloc, codec, &form, row)?;
-    let owned = CowSlice::Owned(row.value.to_vec(alloc)?);
-    decodes(rt, row.name, alloc, &codec, &form, owned, row.decoded)
-}
-
-/// The row's bytes, as they are.
-fn codes_lent(
-    rt: &impl Abort,
-    alloc: Global,
-    codec: BytesCodec,
-    form: &ChunkForm,
-    row: &Row,
-) -> Result<(), CodecError> {
     let elements = ArrayBytes::new_flen(CowSlice::Borrowed(row.memory));
-    encodes(rt, row.name, alloc, &codec, form, elements, row.encoded)?;
+    encodes(rt, row.name, alloc, &codec, &form, elements, row.encoded)?;
     let value = CowSlice::Borrowed(row.value);
-    decodes(rt, row.name, alloc, &codec, form, value, row.decoded)
+    decodes(rt, row.name, alloc, &codec, &form, value, row.decoded)
 }
 
 #[test]

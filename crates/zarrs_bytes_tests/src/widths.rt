@@ -99,21 +99,15 @@ const WIDTHS: &'static [Width] = &[
 pub(crate) fn numbered(alloc: Global, size: u64, count: u64) -> Result<Vec<u8>, AllocError> {
     let mut bytes = Vec::new(alloc);
     for place in 0..count {
-        bytes.push((turned_place(size, place) % 251) as u8)?;
+        let behind = place % size.max(1);
+        let first = place.wrapping_sub(behind);
+        let turned = first.wrapping_add(size.wrapping_sub(1).wrapping_sub(behind));
+        bytes.push((turned % 251) as u8)?;
     }
     Ok(bytes)
 }
 
-/// Where the byte comes from that stands here once each `size` bytes are turned round.
-fn turned_place(size: u64, place: u64) -> u64 {
-    let behind = place % size.max(1);
-    let last = size.wrapping_sub(1);
-    place
-        .wrapping_sub(behind)
-        .wrapping_add(last.wrapping_sub(behind))
-}
-
-/// A chunk of these elements has this value, and the value stands for it: of owned bytes and of lent
+/// A chunk of these elements has this value, and the value stands for it: of lent bytes and of owned
 /// ones.
 fn codes(
     rt: &impl Abort,
@@ -134,15 +128,12 @@ fn codes(
     decodes(rt, name, alloc, &codec, form, owned, Ok(memory))
 }
 
-/// The components of these bytes, which are turned round here. The fill value is the first of them.
-fn turns(
-    rt: &impl Abort,
-    alloc: Global,
-    row: &Width,
-    count: u64,
-    memory: &[u8],
-    turned: &[u8],
-) -> Result<(), CodecError> {
+/// So many components, all of them turned round or none. The fill value is the first of them.
+fn turns(rt: &impl Abort, alloc: Global, row: &Width, count: u64) -> Result<(), CodecError> {
+    let bytes = row.size.saturating_mul(count);
+    let memory = numbered(alloc, 1, bytes)?;
+    let turned = numbered(alloc, row.size, bytes)?;
+    let (memory, turned) = (memory.as_slice(), turned.as_slice());
     let form = Form {
         sizes: &[count],
         bits: row.size.saturating_mul(8),
@@ -170,21 +161,9 @@ fn turns(
     )
 }
 
-fn turns_components(
-    rt: &impl Abort,
-    alloc: Global,
-    row: &Width,
-    count: u64,
-) -> Result<(), CodecError> {
-    let bytes = row.size.saturating_mul(count);
-    let memory = numbered(alloc, 1, bytes)?;
-    let turned = numbered(alloc, row.size, bytes)?;
-    turns(rt, alloc, row, count, memory.as_slice(), turned.as_slice())
-}
-
 fn turns_each_count(rt: &impl Abort, alloc: Global, row: &Width) -> Result<(), CodecError> {
     for count in row.counts.iter() {
-        turns_components(rt, alloc, row, *count)?;
+        turns(rt, alloc, row, *count)?;
     }
     Ok(())
 }

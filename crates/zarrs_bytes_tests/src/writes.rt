@@ -1,6 +1,6 @@
 //! Chunks that are written in part: what is left, by how many writing calls of the handle.
 
-use crate::checks::{Answer, answers, is, is_refused, is_value};
+use crate::checks::{Answer, answers, is};
 use crate::forms::{Asked, ChunkForm, Form, chunk_form, indexer, stored, subset};
 use crate::whole::texts;
 use Asked::{Ranges, Tuples};
@@ -19,10 +19,8 @@ use zarrs_data_type::DataType;
 
 type Encoder = BytesCodecPartial<MemoryHandle>;
 
-/// A coder of such a chunk that writes too, over a handle. The highest byte of a component is the first
-/// one in a value.
-fn encoder(alloc: Global, form: &Form<'_>, handle: MemoryHandle) -> Result<Encoder, CodecError> {
-    let form = chunk_form(alloc, form)?;
+/// A coder that writes too, over a handle. The highest byte of a component is the first one in a value.
+fn encoder(alloc: Global, form: &ChunkForm, handle: MemoryHandle) -> Result<Encoder, CodecError> {
     let made = BytesCodec::big().partial_encoder(
         alloc,
         handle,
@@ -50,13 +48,15 @@ const WORDS: Form<'static> = Form {
     fill: &[9, 8],
 };
 
-const AXES: CodecError = CodecError::IncompatibleDimensionality;
+const AXES: Answer<'static> = Err(CodecError::IncompatibleDimensionality);
 
-const OUTSIDE: CodecError = CodecError::OutOfBounds;
+const OUTSIDE: Answer<'static> = Err(CodecError::OutOfBounds);
 
-const MISMATCH: CodecError = CodecError::DataMismatch;
+const MISMATCH: Answer<'static> = Err(CodecError::DataMismatch);
 
-const NO_ORDER: CodecError = CodecError::EndiannessMissing;
+const KIND: Answer<'static> = Err(CodecError::ArrayBytesKind);
+
+const NO_ORDER: Answer<'static> = Err(CodecError::EndiannessMissing);
 
 /// What is stored, where new elements are written, their bytes as they stand in memory, and what is
 /// stored afterwards; or why nothing is written.
@@ -116,7 +116,7 @@ const ROWS: &'static [Row] = &[
         value: None,
         asked: Ranges(&[0..1, 0..1]),
         bytes: &[],
-        after: Err(AXES),
+        after: AXES,
     },
     Row {
         name: "a range outside, over nothing",
@@ -124,7 +124,7 @@ const ROWS: &'static [Row] = &[
         value: None,
         asked: Ranges(&[2..4]),
         bytes: &[],
-        after: Err(OUTSIDE),
+        after: OUTSIDE,
     },
     Row {
         name: "a tuple outside, over nothing",
@@ -132,7 +132,7 @@ const ROWS: &'static [Row] = &[
         value: None,
         asked: Tuples(&[&[3]]),
         bytes: &[1, 2],
-        after: Err(OUTSIDE),
+        after: OUTSIDE,
     },
     Row {
         name: "a word for two places, over nothing",
@@ -140,7 +140,7 @@ const ROWS: &'static [Row] = &[
         value: None,
         asked: Tuples(&[&[0], &[1]]),
         bytes: &[1, 2],
-        after: Err(MISMATCH),
+        after: MISMATCH,
     },
     Row {
         name: "a word for no place, over nothing",
@@ -148,7 +148,7 @@ const ROWS: &'static [Row] = &[
         value: None,
         asked: Ranges(&[1..1]),
         bytes: &[1, 2],
-        after: Err(MISMATCH),
+        after: MISMATCH,
     },
     Row {
         name: "half a word, over nothing",
@@ -156,7 +156,7 @@ const ROWS: &'static [Row] = &[
         value: None,
         asked: Ranges(&[0..1]),
         bytes: &[1],
-        after: Err(MISMATCH),
+        after: MISMATCH,
     },
     Row {
         name: "an axis too many, over a value",
@@ -164,7 +164,7 @@ const ROWS: &'static [Row] = &[
         value: Some(&[1, 2, 3, 4, 5, 6]),
         asked: Ranges(&[0..1, 0..1]),
         bytes: &[],
-        after: Err(AXES),
+        after: AXES,
     },
     Row {
         name: "a range outside, over a value",
@@ -172,7 +172,7 @@ const ROWS: &'static [Row] = &[
         value: Some(&[1, 2, 3, 4, 5, 6]),
         asked: Ranges(&[2..4]),
         bytes: &[],
-        after: Err(OUTSIDE),
+        after: OUTSIDE,
     },
     Row {
         name: "a tuple outside, over a value",
@@ -180,7 +180,7 @@ const ROWS: &'static [Row] = &[
         value: Some(&[1, 2, 3, 4, 5, 6]),
         asked: Tuples(&[&[3]]),
         bytes: &[1, 2],
-        after: Err(OUTSIDE),
+        after: OUTSIDE,
     },
     Row {
         name: "a word for two places, over a value",
@@ -188,7 +188,7 @@ const ROWS: &'static [Row] = &[
         value: Some(&[1, 2, 3, 4, 5, 6]),
         asked: Tuples(&[&[0], &[1]]),
         bytes: &[1, 2],
-        after: Err(MISMATCH),
+        after: MISMATCH,
     },
     Row {
         name: "a word for no place, over a value",
@@ -196,7 +196,7 @@ const ROWS: &'static [Row] = &[
         value: Some(&[1, 2, 3, 4, 5, 6]),
         asked: Ranges(&[1..1]),
         bytes: &[1, 2],
-        after: Err(MISMATCH),
+        after: MISMATCH,
     },
     Row {
         name: "half a word, over a value",
@@ -204,15 +204,9 @@ const ROWS: &'static [Row] = &[
         value: Some(&[1, 2, 3, 4, 5, 6]),
         asked: Ranges(&[0..1]),
         bytes: &[1],
-        after: Err(MISMATCH),
+        after: MISMATCH,
     },
 ];
-
-/// What the handle has, and how many writing calls there were.
-fn is_left(rt: &impl Abort, name: &str, handle: &MemoryHandle, value: Option<&[u8]>, calls: u64) {
-    is_value(rt, name, handle.value(), value);
-    is(rt, name, &handle.write_calls(), &calls);
-}
 
 /// What a write that was answered so leaves: the new value by one writing call, or the old one without
 /// any.
@@ -228,7 +222,7 @@ fn leaves(
             answers(rt, row.name, Ok(handle.value().unwrap_or(&[])), row.after)
         }
         Err(cause) => {
-            is_value(rt, row.name, handle.value(), row.value);
+            is(rt, row.name, &handle.value(), &row.value);
             answers(rt, row.name, Err(cause), row.after)?;
             is(rt, row.name, &handle.write_calls(), &0);
             Ok(())
@@ -236,20 +230,12 @@ fn leaves(
     }
 }
 
-fn write(
-    alloc: Global,
-    encoder: &mut Encoder,
-    asked: &Indexer,
-    bytes: &[u8],
-) -> Result<(), CodecError> {
-    let elements = ArrayBytes::new_flen(CowSlice::Borrowed(bytes));
-    encoder.partial_encode(alloc, asked, &elements)
-}
-
 fn writes(rt: &impl Abort, alloc: Global, row: &Row) -> Result<(), CodecError> {
-    let mut encoder = encoder(alloc, &row.form, stored(alloc, row.value)?)?;
+    let form = chunk_form(alloc, &row.form)?;
+    let mut encoder = encoder(alloc, &form, stored(alloc, row.value)?)?;
     let asked = indexer(alloc, &row.asked)?;
-    let answer = write(alloc, &mut encoder, &asked, row.bytes);
+    let elements = ArrayBytes::new_flen(CowSlice::Borrowed(row.bytes));
+    let answer = encoder.partial_encode(alloc, &asked, &elements);
     leaves(rt, row, &encoder.into_handle(), answer)
 }
 
@@ -261,63 +247,53 @@ fn a_write_is_one_call_and_a_refused_one_none(rt: HostRuntime) -> Result<(), Fai
     Ok(())
 }
 
-/// What a coder of three words answers as any coder does, the elements 2 and 3 among it. Two texts are
-/// refused, a word is written, and then the chunk is erased.
+/// What a coder of three words, the last two of them 3 and 4 and 5 and 6, answers as any coder of parts
+/// does. Two texts are refused, a part is written, and the chunk is erased.
 fn edits<E: ArrayPartialEncoderTraits>(
     rt: &impl Abort,
     alloc: Global,
     encoder: &mut E,
     asked: &Indexer,
 ) -> Result<(), CodecError> {
+    is(rt, "type", encoder.data_type(), &DataType::uint16());
+    is(rt, "held", &encoder.size_held(), &6);
+    is(rt, "reads", &encoder.supports_partial_decode(), &true);
+    is(rt, "writes", &encoder.supports_partial_encode(), &true);
     let part = encoder.partial_decode(alloc, asked)?;
     answers(rt, "read", part.as_fixed(), Ok(&[4, 3, 6, 5]))?;
-    let refusal = encoder.partial_encode(alloc, asked, &texts(alloc)?).err();
-    is_refused(rt, "texts", refusal, CodecError::ArrayBytesKind)?;
     encoder.partial_encode(alloc, asked, &part)?;
     is(rt, "erased", &encoder.erase(), &Ok(()));
+    is(rt, "there", &encoder.exists(), &Ok(false));
     Ok(())
 }
 
-/// What it tells without reading: nothing is stored any more.
-fn tells<E: ArrayPartialEncoderTraits>(rt: &impl Abort, encoder: &mut E) {
-    is(rt, "type", encoder.data_type(), &DataType::uint16());
-    is(rt, "there", &encoder.exists(), &Ok(false));
-    is(rt, "held", &encoder.size_held(), &0);
-    is(rt, "reads", &encoder.supports_partial_decode(), &true);
-    is(rt, "writes", &encoder.supports_partial_encode(), &true);
+/// Elements of another kind.
+fn refuses_texts(
+    rt: &impl Abort,
+    alloc: Global,
+    encoder: &mut Encoder,
+    asked: &Indexer,
+) -> Result<(), CodecError> {
+    let texts = texts(alloc)?;
+    match encoder.partial_encode(alloc, asked, &texts) {
+        Ok(()) => answers(rt, "texts", Ok(&[]), KIND),
+        Err(cause) => answers(rt, "texts", Err(cause), KIND),
+    }
 }
 
 #[test]
 fn a_coder_is_any_coder_of_parts(rt: HostRuntime) -> Result<(), Fail> {
+    let form = chunk_form(rt.alloc(), &WORDS)?;
     let handle = stored(rt.alloc(), Some(&[1, 2, 3, 4, 5, 6]))?;
-    let mut encoder = encoder(rt.alloc(), &WORDS, handle)?;
+    let mut encoder = encoder(rt.alloc(), &form, handle)?;
     let asked = subset(rt.alloc(), &[1..3])?;
+    refuses_texts(&rt, rt.alloc(), &mut encoder, &asked)?;
     edits(&rt, rt.alloc(), &mut encoder, &asked)?;
-    tells(&rt, &mut encoder);
-    is_left(&rt, "left", &encoder.into_handle(), None, 2);
+    is(&rt, "calls", &encoder.into_handle().write_calls(), &2);
     Ok(())
 }
 
-/// Without a byte order no decoder of words is made, and what was given comes back.
-fn no_decoder<H: BytesPartialDecoderTraits + Drop>(
-    rt: &impl Abort,
-    alloc: Global,
-    form: &ChunkForm,
-    handle: H,
-) -> Result<H, Fail> {
-    let made = BytesCodec::new(None).partial_decoder(
-        alloc,
-        handle,
-        &form.shape,
-        &form.data_type,
-        &form.fill_value,
-    );
-    let refused = made.err().ok_or("a decoder was made")?;
-    is_refused(rt, "decoder", Some(refused.error), NO_ORDER)?;
-    Ok(refused.handle)
-}
-
-/// And no coder that writes too.
+/// Without a byte order no coder of words is made, and what was given comes back.
 fn no_encoder<H: BytesPartialEncoderTraits + Drop>(
     rt: &impl Abort,
     alloc: Global,
@@ -332,17 +308,36 @@ fn no_encoder<H: BytesPartialEncoderTraits + Drop>(
         &form.fill_value,
     );
     let refused = made.err().ok_or("an encoder was made")?;
-    is_refused(rt, "encoder", Some(refused.error), NO_ORDER)?;
+    answers(rt, "encoder", Err(refused.error), NO_ORDER)?;
+    Ok(refused.handle)
+}
+
+/// The same of a decoder.
+fn no_decoder<H: BytesPartialDecoderTraits + Drop>(
+    rt: &impl Abort,
+    alloc: Global,
+    form: &ChunkForm,
+    handle: H,
+) -> Result<H, Fail> {
+    let made = BytesCodec::new(None).partial_decoder(
+        alloc,
+        handle,
+        &form.shape,
+        &form.data_type,
+        &form.fill_value,
+    );
+    let refused = made.err().ok_or("a decoder was made")?;
+    answers(rt, "decoder", Err(refused.error), NO_ORDER)?;
     Ok(refused.handle)
 }
 
 #[test]
 fn hands_back_a_handle_that_is_owned_or_lent(rt: HostRuntime) -> Result<(), Fail> {
+    let value: Option<&[u8]> = Some(&[1, 2]);
     let form = chunk_form(rt.alloc(), &WORDS)?;
-    let mut handle = stored(rt.alloc(), Some(&[1, 2]))?;
+    let mut handle = stored(rt.alloc(), value)?;
     no_decoder(&rt, rt.alloc(), &form, &mut handle)?;
-    let handle = no_decoder(&rt, rt.alloc(), &form, handle)?;
     let handle = no_encoder(&rt, rt.alloc(), &form, handle)?;
-    is_left(&rt, "handed back", &handle, Some(&[1, 2]), 0);
+    is(&rt, "handed back", &handle.value(), &value);
     Ok(())
 }
