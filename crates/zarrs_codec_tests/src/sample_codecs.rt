@@ -99,8 +99,8 @@ fn encodes<C: BytesToBytesCodecTraits>(
     row: &Coded,
 ) -> Result<(), CodecError> {
     let encoded = codec.encode(alloc, CowSlice::Borrowed(row.bytes))?;
-    is(rt, row.name, &encoded.as_slice(), &row.encoded);
-    Ok(())
+    let (came, wanted) = (encoded.as_slice(), row.encoded);
+    answers(rt, row.name, Ok(Some(came)), Ok(Some(wanted)))
 }
 
 /// Encoded bytes that are lent or owned.
