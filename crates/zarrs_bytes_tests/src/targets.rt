@@ -60,6 +60,24 @@ fn view<'a>(
     ArrayBytesFixedView::new(alloc, bytes, 1, &shape, subset)
 }
 
+/// The target: the view of the elements, and one of a mask of two bytes, where there is to be one.
+fn target<'a>(
+    alloc: Global,
+    bytes: &'a mut [u8],
+    flags: &'a mut [u8],
+    row: &Row,
+) -> Result<ArrayBytesDecodeIntoTarget<'a>, CodecError> {
+    let mut masks = Vec::new(alloc);
+    if row.is_masked {
+        let mask = view(alloc, flags, &[2], &[0..2])?;
+        masks.push(mask)?;
+    }
+    Ok(ArrayBytesDecodeIntoTarget {
+        values: view(alloc, bytes, &[2, 3], row.ranges)?,
+        masks,
+    })
+}
+
 /// What the elements' view has afterwards. Where the call is refused, it has zeros as before.
 fn decodes_into<C: ArrayToBytesCodecTraits>(
     rt: &impl Abort,
@@ -80,7 +98,6 @@ fn decodes_into<C: ArrayToBytesCodecTraits>(
     }
 }
 
-/// A mask's view is of two bytes.
 fn decodes_row(
     rt: &impl Abort,
     alloc: Global,
@@ -89,13 +106,7 @@ fn decodes_row(
 ) -> Result<(), CodecError> {
     let mut bytes = [0u8; 6];
     let mut flags = [0u8; 2];
-    let mut target = ArrayBytesDecodeIntoTarget {
-        values: view(alloc, &mut bytes, &[2, 3], row.ranges)?,
-        masks: Vec::new(alloc),
-    };
-    if row.is_masked {
-        target.masks.push(view(alloc, &mut flags, &[2], &[0..2])?)?;
-    }
+    let mut target = target(alloc, &mut bytes, &mut flags, row)?;
     decodes_into(rt, alloc, &BytesCodec::big(), form, &mut target, row)
 }
 
