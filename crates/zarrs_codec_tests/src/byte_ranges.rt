@@ -1,97 +1,100 @@
+//! Ranges of bytes.
+
 use crate::checks::is;
-use std::alloc::Global;
 use std::process::Abort;
-use std::test::Fail;
-use zarrs_codec::{ByteRange, BytesRepresentation};
+use zarrs_codec::ByteRange;
 
 const LAST: u64 = 18446744073709551615;
 
-/// Starts and ends of ranges, no two of them equal.
-const RANGES: &'static [(u64, u64)] = &[(0, 0), (3, 7), (3, 8), (2, 7), (0, LAST), (LAST, LAST)];
-
-fn has_ends(rt: &impl Abort, range: ByteRange, start: u64, end: u64) -> Result<(), Fail> {
-    is(rt, "start", &range.start(), &start);
-    is(rt, "end", &range.end(), &end);
-    is(rt, "copy", &range.clone()?, &range);
-    Ok(())
+/// A start, an end, whether there is such a range, and whether it is the one from 3 to 7.
+struct Row {
+    name: &'static str,
+    start: u64,
+    end: u64,
+    is_made: bool,
+    is_three_to_seven: bool,
 }
 
-/// The range is the one at this place alone.
-fn is_at(rt: &impl Abort, range: Option<ByteRange>, place: usize) {
-    for (other_place, (start, end)) in RANGES.iter().enumerate() {
-        let same = range == ByteRange::new(*start..*end);
-        is(rt, "same", &same, &(place == other_place));
-    }
-}
-
-#[test]
-fn has_a_start_and_an_end_and_differs_by_them(rt: HostRuntime) -> Result<(), Fail> {
-    for (place, (start, end)) in RANGES.iter().enumerate() {
-        let range = ByteRange::new(*start..*end);
-        is_at(&rt, range, place);
-        has_ends(&rt, range.ok_or("no range")?, *start, *end)?;
-    }
-    Ok(())
-}
-
-#[test]
-fn is_shown_with_its_start(rt: HostRuntime) -> Result<(), Fail> {
-    let range = ByteRange::new(3..7);
-    let text = format!(in rt.alloc(); "{range:?}")?;
-    is(&rt, "shown", &text.contains("start"), &true);
-    Ok(())
-}
-
-#[test]
-fn never_ends_before_it_starts(rt: HostRuntime) {
-    is(&rt, "one", &ByteRange::new(1..0), &None);
-    is(&rt, "more", &ByteRange::new(7..3), &None);
-    is(&rt, "most", &ByteRange::new(LAST..0), &None);
-}
-
-/// Representations, no two of them equal, their greatest sizes, and what `Debug` writes.
-const REPRESENTATIONS: &'static [(BytesRepresentation, Option<u64>, &'static str)] = &[
-    (BytesRepresentation::FixedSize(4), Some(4), "FixedSize(4)"),
-    (BytesRepresentation::FixedSize(9), Some(9), "FixedSize(9)"),
-    (
-        BytesRepresentation::BoundedSize(4),
-        Some(4),
-        "BoundedSize(4)",
-    ),
-    (
-        BytesRepresentation::BoundedSize(9),
-        Some(9),
-        "BoundedSize(9)",
-    ),
-    (BytesRepresentation::UnboundedSize, None, "UnboundedSize"),
+const ROWS: &'static [Row] = &[
+    Row {
+        name: "empty at the start",
+        start: 0,
+        end: 0,
+        is_made: true,
+        is_three_to_seven: false,
+    },
+    Row {
+        name: "inside",
+        start: 3,
+        end: 7,
+        is_made: true,
+        is_three_to_seven: true,
+    },
+    Row {
+        name: "another end",
+        start: 3,
+        end: 8,
+        is_made: true,
+        is_three_to_seven: false,
+    },
+    Row {
+        name: "another start",
+        start: 2,
+        end: 7,
+        is_made: true,
+        is_three_to_seven: false,
+    },
+    Row {
+        name: "longest",
+        start: 0,
+        end: LAST,
+        is_made: true,
+        is_three_to_seven: false,
+    },
+    Row {
+        name: "empty at the end",
+        start: LAST,
+        end: LAST,
+        is_made: true,
+        is_three_to_seven: false,
+    },
+    Row {
+        name: "ends one before it starts",
+        start: 1,
+        end: 0,
+        is_made: false,
+        is_three_to_seven: false,
+    },
+    Row {
+        name: "ends before it starts",
+        start: 7,
+        end: 3,
+        is_made: false,
+        is_three_to_seven: false,
+    },
+    Row {
+        name: "ends long before it starts",
+        start: LAST,
+        end: 0,
+        is_made: false,
+        is_three_to_seven: false,
+    },
 ];
 
-fn has_size(
-    rt: &impl Abort,
-    alloc: Global,
-    representation: BytesRepresentation,
-    size: Option<u64>,
-    text: &str,
-) -> Result<(), Fail> {
-    is(rt, text, &representation.size(), &size);
-    is(rt, text, &representation.clone()?, &representation);
-    let shown = format!(in alloc; "{representation:?}")?;
-    is(rt, text, &shown.as_str(), &text);
-    Ok(())
-}
-
-/// The representation is the one at this place alone.
-fn is_representation_at(rt: &impl Abort, one: &BytesRepresentation, text: &str, place: usize) {
-    for (other_place, (other, _, _)) in REPRESENTATIONS.iter().enumerate() {
-        is(rt, text, &(one == other), &(place == other_place));
+fn has_ends(rt: &impl Abort, row: &Row) {
+    let range = ByteRange::new(row.start..row.end);
+    let is_same = range == ByteRange::new(3..7);
+    is(rt, row.name, &is_same, &row.is_three_to_seven);
+    is(rt, row.name, &range.is_some(), &row.is_made);
+    if let Some(range) = range {
+        is(rt, row.name, &range.start(), &row.start);
+        is(rt, row.name, &range.end(), &row.end);
     }
 }
 
 #[test]
-fn representations_have_a_greatest_size_and_differ(rt: HostRuntime) -> Result<(), Fail> {
-    for (place, (representation, size, text)) in REPRESENTATIONS.iter().enumerate() {
-        is_representation_at(&rt, representation, text, place);
-        has_size(&rt, rt.alloc(), *representation, *size, text)?;
+fn ranges_have_ends_and_differ_by_them(rt: HostRuntime) {
+    for row in ROWS.iter() {
+        has_ends(&rt, row);
     }
-    Ok(())
 }

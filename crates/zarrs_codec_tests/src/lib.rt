@@ -1,8 +1,8 @@
-//! Tests of codecs and storage handles, over their public calls: `zarrs_codec` and `zarrs_bytes`.
-//! Without tests the crate is empty.
+//! Tests of what all codecs share, over the public calls of `zarrs_codec`: ranges of bytes, how many
+//! bytes a value has, the handle in memory, and the sample codecs of bytes. Without tests the crate is
+//! empty.
 //!
-//! What the line tool shows of the codec stands in `zarrs_transcripts`. Here is the rest. Answers are
-//! written by hand, or made by a plain slow rule that stands beside them. A want of
+//! What the line tool shows stands in `zarrs_transcripts`. Answers are written by hand. A want of
 //! memory ends a test with that error and is never compared, so a run in which an allocation fails
 //! shows each answer that changes otherwise.
 //!
@@ -13,26 +13,12 @@
 #[cfg(test)]
 mod byte_ranges;
 #[cfg(test)]
-mod bytes_batches;
-#[cfg(test)]
-mod bytes_codec;
-#[cfg(test)]
-mod bytes_law;
-#[cfg(test)]
-mod bytes_parts;
-#[cfg(test)]
-mod bytes_refusals;
-#[cfg(test)]
-mod bytes_widths;
-#[cfg(test)]
-mod bytes_writes;
-#[cfg(test)]
 mod checks;
 #[cfg(test)]
-mod failing_handle;
-#[cfg(test)]
-mod forms;
-#[cfg(test)]
-mod memory_handle;
+mod memory_reads;
 #[cfg(test)]
 mod memory_writes;
+#[cfg(test)]
+mod representations;
+#[cfg(test)]
+mod sample_codecs;

@@ -1,5 +1,5 @@
-use Rattle.zarrs_codec_tests.proofs.RoundTrip.{both_hold}
-use Rattle.zarrs_codec_tests.proofs.bytes_law.there_and_back.Goals as goal
+use Rattle.zarrs_bytes_tests.proofs.RoundTrip.{both_hold}
+use Rattle.zarrs_bytes_tests.proofs.round_trip.there_and_back.Goals as goal
 
 pub returns : goal.returns
 returns c =

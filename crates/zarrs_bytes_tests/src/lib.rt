@@ -1,0 +1,37 @@
+//! Tests of the codec `bytes`, over the public calls of `zarrs_bytes`: whole chunks, and chunks that
+//! are read and written in part over a handle. Without tests the crate is empty.
+//!
+//! What the line tool shows of the codec stands in `zarrs_transcripts`. Here is the rest: bytes that
+//! are lent, components and batches at the edges of blocks, planned ranges, sizes held, writing calls,
+//! and a handle that fails. Answers are written by hand, or made by a plain slow rule that stands
+//! beside them. A want of memory ends a test with that error and is never compared, so a run in which
+//! an allocation fails shows each answer that changes otherwise.
+//!
+//! The check proves a test before it runs. So examples stand in tables of constants, which cost it
+//! nothing, and a test goes over its table by a function that takes one row.
+#![tactic(auto)]
+
+#[cfg(test)]
+mod batches;
+#[cfg(test)]
+mod checks;
+#[cfg(test)]
+mod codec;
+#[cfg(test)]
+mod failing_handle;
+#[cfg(test)]
+mod forms;
+#[cfg(test)]
+mod lent_bytes;
+#[cfg(test)]
+mod parts;
+#[cfg(test)]
+mod round_trip;
+#[cfg(test)]
+mod targets;
+#[cfg(test)]
+mod whole;
+#[cfg(test)]
+mod widths;
+#[cfg(test)]
+mod writes;

@@ -1,0 +1,175 @@
+//! The handle in memory, and one that is lent, in reading.
+
+use crate::checks::{Answer, answers_value, is, stored};
+use std::alloc::Global;
+use std::process::Abort;
+use std::test::Fail;
+use zarrs_chunk::CodecError;
+use zarrs_codec::{ByteRange, BytesPartialDecoderTraits};
+
+const LAST: u64 = 18446744073709551615;
+
+/// A value, or none; ranges, by their starts and ends; and what comes of them.
+struct Row {
+    name: &'static str,
+    value: Option<&'static [u8]>,
+    ranges: &'static [(u64, u64)],
+    bytes: Answer<'static>,
+}
+
+const TWENTY: Option<&'static [u8]> = Some(&[
+    10, 11, 12, 13, 14, 15, 16, 17, 18, 19, 20, 21, 22, 23, 24, 25, 26, 27, 28, 29,
+]);
+
+const PAST: Answer<'static> = Err(CodecError::InvalidByteRange);
+
+const ROWS: &'static [Row] = &[
+    Row {
+        name: "no range of nothing",
+        value: None,
+        ranges: &[],
+        bytes: Ok(None),
+    },
+    // Where nothing is stored, ranges are not looked at.
+    Row {
+        name: "the longest range of nothing",
+        value: None,
+        ranges: &[(0, 1), (0, LAST)],
+        bytes: Ok(None),
+    },
+    Row {
+        name: "no range of an empty value",
+        value: Some(&[]),
+        ranges: &[],
+        bytes: Ok(Some(&[])),
+    },
+    Row {
+        name: "an empty range of an empty value",
+        value: Some(&[]),
+        ranges: &[(0, 0)],
+        bytes: Ok(Some(&[])),
+    },
+    Row {
+        name: "past an empty value",
+        value: Some(&[]),
+        ranges: &[(0, 1)],
+        bytes: PAST,
+    },
+    Row {
+        name: "no range",
+        value: Some(&[10, 11, 12]),
+        ranges: &[],
+        bytes: Ok(Some(&[])),
+    },
+    Row {
+        name: "one range",
+        value: TWENTY,
+        ranges: &[(0, 3)],
+        bytes: Ok(Some(&[10, 11, 12])),
+    },
+    Row {
+        name: "in any order, and twice",
+        value: TWENTY,
+        ranges: &[(2, 3), (0, 1), (2, 3)],
+        bytes: Ok(Some(&[12, 10, 12])),
+    },
+    Row {
+        name: "an empty range at the end",
+        value: TWENTY,
+        ranges: &[(20, 20)],
+        bytes: Ok(Some(&[])),
+    },
+    Row {
+        name: "an empty range between others",
+        value: TWENTY,
+        ranges: &[(4, 6), (1, 1), (18, 20)],
+        bytes: Ok(Some(&[14, 15, 28, 29])),
+    },
+    Row {
+        name: "four and four bytes",
+        value: TWENTY,
+        ranges: &[(4, 8), (0, 4)],
+        bytes: Ok(Some(&[14, 15, 16, 17, 10, 11, 12, 13])),
+    },
+    Row {
+        name: "eight bytes and one",
+        value: TWENTY,
+        ranges: &[(12, 20), (0, 1)],
+        bytes: Ok(Some(&[22, 23, 24, 25, 26, 27, 28, 29, 10])),
+    },
+    Row {
+        name: "all bytes",
+        value: TWENTY,
+        ranges: &[(0, 20)],
+        bytes: Ok(TWENTY),
+    },
+    Row {
+        name: "ends past the value",
+        value: TWENTY,
+        ranges: &[(2, 21)],
+        bytes: PAST,
+    },
+    Row {
+        name: "the second range ends past the value",
+        value: TWENTY,
+        ranges: &[(0, 1), (20, 21)],
+        bytes: PAST,
+    },
+    Row {
+        name: "ends as far as can be",
+        value: TWENTY,
+        ranges: &[(0, LAST)],
+        bytes: PAST,
+    },
+    Row {
+        name: "an empty range past the end",
+        value: TWENTY,
+        ranges: &[(21, 21)],
+        bytes: PAST,
+    },
+];
+
+fn byte_ranges(alloc: Global, ends: &[(u64, u64)]) -> Result<Vec<ByteRange>, CodecError> {
+    let mut ranges = Vec::new(alloc);
+    for (start, end) in ends {
+        let range = ByteRange::new(*start..*end).ok_or(CodecError::InvalidByteRange)?;
+        ranges.push(range)?;
+    }
+    Ok(ranges)
+}
+
+/// What a handle over the row's value answers.
+fn asks<H: BytesPartialDecoderTraits>(
+    rt: &impl Abort,
+    alloc: Global,
+    handle: &mut H,
+    ranges: &[ByteRange],
+    row: &Row,
+) -> Result<(), CodecError> {
+    let size = row.value.unwrap_or(&[]).len();
+    is(rt, row.name, &handle.exists(), &Ok(row.value.is_some()));
+    is(rt, row.name, &handle.size_held(), &size);
+    is(rt, row.name, &handle.supports_partial_decode(), &true);
+    let whole = handle.decode(alloc);
+    answers_value(rt, row.name, whole, Ok(row.value))?;
+    let part = handle.partial_decode_many(alloc, ranges);
+    answers_value(rt, row.name, part, row.bytes)
+}
+
+/// The handle is lent to the calls, and keeps its value.
+fn reads(rt: &impl Abort, alloc: Global, row: &Row) -> Result<(), CodecError> {
+    let ranges = byte_ranges(alloc, row.ranges)?;
+    let mut handle = stored(alloc, row.value)?;
+    asks(rt, alloc, &mut &mut handle, ranges.as_slice(), row)?;
+    is(rt, row.name, &handle.value(), &row.value);
+    is(rt, row.name, &handle.into_value().as_deref(), &row.value);
+    Ok(())
+}
+
+#[test]
+fn a_handle_in_memory_answers_its_value(rt: HostRuntime) -> Result<(), Fail> {
+    for row in ROWS.iter() {
+        reads(&rt, rt.alloc(), row)?;
+    }
+    Ok(())
+}
