@@ -1,3 +1,4 @@
+//! The fields of configurations that are read.
 use crate::checks::{configuration, is};
 use std::alloc::Global;
 use std::process::Abort;
@@ -23,25 +24,25 @@ fn of_transpose(rt: HostRuntime) -> Result<(), Fail> {
     Ok(())
 }
 
+fn bytes(alloc: Global, text: &str) -> Result<BytesCodecConfiguration, PluginCreateError> {
+    BytesCodecConfiguration::from_configuration(&configuration(alloc, text)?)
+}
+
 #[test]
 fn of_bytes(rt: HostRuntime) -> Result<(), Fail> {
-    let members = configuration(rt.alloc(), r#"{"endian":"big"}"#)?;
-    let BytesCodecConfiguration::V1(fields) = BytesCodecConfiguration::from_configuration(
-        &members,
-    )?;
+    let BytesCodecConfiguration::V1(fields) = bytes(rt.alloc(), r#"{"endian":"big"}"#)?;
     is(&rt, "endian", &fields.endian, &Some(Endianness::Big));
     Ok(())
 }
 
+fn packbits(alloc: Global, text: &str) -> Result<PackBitsCodecConfiguration, PluginCreateError> {
+    PackBitsCodecConfiguration::from_configuration(&configuration(alloc, text)?)
+}
+
 #[test]
 fn of_packbits(rt: HostRuntime) -> Result<(), Fail> {
-    let members = configuration(
-        rt.alloc(),
-        r#"{"padding_encoding":"last_byte","first_bit":2}"#,
-    )?;
-    let PackBitsCodecConfiguration::V1(fields) = PackBitsCodecConfiguration::from_configuration(
-        &members,
-    )?;
+    let text = r#"{"padding_encoding":"last_byte","first_bit":2}"#;
+    let PackBitsCodecConfiguration::V1(fields) = packbits(rt.alloc(), text)?;
     let wanted = PackBitsCodecConfigurationV1 {
         padding_encoding: Some(PackBitsPaddingEncoding::LastByte),
         first_bit: Some(2),
@@ -51,41 +52,51 @@ fn of_packbits(rt: HostRuntime) -> Result<(), Fail> {
     Ok(())
 }
 
-/// Which version of `vlen` a configuration has, and how many codecs its lists.
-fn vlen_counts(alloc: Global, text: &str) -> Result<(u64, usize, usize), PluginCreateError> {
-    let members = configuration(alloc, text)?;
-    match &VlenCodecConfiguration::from_configuration(alloc, &members)? {
-        VlenCodecConfiguration::V0(fields) => {
-            Ok((0, fields.index_codecs.len(), fields.data_codecs.len()))
-        }
-        VlenCodecConfiguration::V0_1(fields) => {
-            Ok((1, fields.index_codecs.len(), fields.data_codecs.len()))
-        }
-    }
+/// A configuration of `vlen`: its text, which version it is of, and how many codecs its lists have.
+struct Version {
+    text: &'static str,
+    version: u64,
+    index_codecs: usize,
+    data_codecs: usize,
 }
 
-fn has_version(
-    rt: &impl Abort,
-    alloc: Global,
-    text: &str,
-    wanted: (u64, usize, usize),
-) -> Result<(), Fail> {
-    is(rt, text, &vlen_counts(alloc, text)?, &wanted);
-    Ok(())
+const VERSIONS: &'static [Version] = &[
+    Version {
+        text: r#"{"index_codecs":["bytes"],"data_codecs":[],"index_data_type":"uint32"}"#,
+        version: 0,
+        index_codecs: 1,
+        data_codecs: 0,
+    },
+    Version {
+        text: r#"{"index_codecs":["bytes"],"data_codecs":["a","b"],"index_data_type":"uint64","index_location":"start"}"#,
+        version: 1,
+        index_codecs: 1,
+        data_codecs: 2,
+    },
+];
+
+fn has_version(rt: &impl Abort, read: &VlenCodecConfiguration, row: &Version) {
+    let (version, index_codecs, data_codecs) = match read {
+        VlenCodecConfiguration::V0(fields) => {
+            (0, fields.index_codecs.len(), fields.data_codecs.len())
+        }
+        VlenCodecConfiguration::V0_1(fields) => {
+            (1, fields.index_codecs.len(), fields.data_codecs.len())
+        }
+    };
+    is(rt, row.text, &version, &row.version);
+    is(rt, row.text, &index_codecs, &row.index_codecs);
+    is(rt, row.text, &data_codecs, &row.data_codecs);
+}
+
+fn vlen(alloc: Global, text: &str) -> Result<VlenCodecConfiguration, PluginCreateError> {
+    VlenCodecConfiguration::from_configuration(alloc, &configuration(alloc, text)?)
 }
 
 #[test]
 fn of_vlen(rt: HostRuntime) -> Result<(), Fail> {
-    has_version(
-        &rt,
-        rt.alloc(),
-        r#"{"index_codecs":["bytes"],"data_codecs":[],"index_data_type":"uint32"}"#,
-        (0, 1, 0),
-    )?;
-    has_version(
-        &rt,
-        rt.alloc(),
-        r#"{"index_codecs":["bytes"],"data_codecs":["a","b"],"index_data_type":"uint64","index_location":"start"}"#,
-        (1, 1, 2),
-    )
+    for row in VERSIONS.iter() {
+        has_version(&rt, &vlen(rt.alloc(), row.text)?, row);
+    }
+    Ok(())
 }
