@@ -18,9 +18,9 @@ pub(crate) fn tree(alloc: Global, text: &str) -> Result<Value, PluginCreateError
     }
 }
 
-/// The configuration of a text that is an object.
-pub(crate) fn configuration(alloc: Global, text: &str) -> Result<Configuration, PluginCreateError> {
-    match tree(alloc, text)? {
+/// The configuration that a tree is.
+pub(crate) fn members(tree: &Value) -> Result<&Configuration, PluginCreateError> {
+    match tree {
         Value::Object(members) => Ok(members),
         _ => Err(PluginCreateError::UnknownName),
     }

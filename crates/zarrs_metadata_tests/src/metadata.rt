@@ -1,30 +1,64 @@
-//! Metadata made by hand.
-use crate::checks::{configuration, is};
+//! Metadata made by hand, of the fields of configurations.
+use crate::checks::is;
 use std::alloc::Global;
 use std::process::Abort;
 use std::test::Fail;
-use zarrs_metadata::{MetadataV3, PluginCreateError};
+use zarrs_data_type::Endianness;
+use zarrs_metadata::{
+    BytesCodecConfiguration, BytesCodecConfigurationV1, MetadataV3, PackBitsCodecConfiguration,
+    PackBitsCodecConfigurationV1, PackBitsPaddingEncoding, PluginCreateError,
+};
 
-/// The metadata is written so, with this name and this mark, and so many members in its configuration.
-struct Made {
+/// What metadata shows: its name, its mark, how many members its configuration has, and its text.
+struct Shown {
     name: &'static str,
     must_understand: bool,
     members: usize,
     text: &'static str,
 }
 
-fn written(alloc: Global, metadata: &MetadataV3) -> Result<String, PluginCreateError> {
-    Ok(metadata.to_value(alloc)?.to_string(alloc)?)
+const NAME: Shown = Shown {
+    name: "zarrs.squeeze",
+    must_understand: true,
+    members: 0,
+    text: r#""zarrs.squeeze""#,
+};
+
+const BYTES: Shown = Shown {
+    name: "bytes",
+    must_understand: true,
+    members: 1,
+    text: r#"{"configuration":{"endian":"big"},"name":"bytes"}"#,
+};
+
+const PACKBITS: Shown = Shown {
+    name: "packbits",
+    must_understand: false,
+    members: 3,
+    text: r#"{"configuration":{"first_bit":2,"last_bit":null,"padding_encoding":"last_byte"},"must_understand":false,"name":"packbits"}"#,
+};
+
+fn bytes(alloc: Global) -> Result<MetadataV3, PluginCreateError> {
+    let endian = Some(Endianness::Big);
+    let fields = BytesCodecConfiguration::V1(BytesCodecConfigurationV1 { endian });
+    MetadataV3::new_with_configuration(alloc, "bytes", fields.to_configuration(alloc)?)
 }
 
-fn shows(rt: &impl Abort, metadata: &MetadataV3, wanted: &Made) {
+fn packbits(alloc: Global) -> Result<MetadataV3, PluginCreateError> {
+    let fields = PackBitsCodecConfiguration::V1(PackBitsCodecConfigurationV1 {
+        padding_encoding: Some(PackBitsPaddingEncoding::LastByte),
+        first_bit: Some(2),
+        last_bit: None,
+    });
+    let configuration = fields.to_configuration(alloc)?;
+    let metadata = MetadataV3::new_with_configuration(alloc, "packbits", configuration)?;
+    Ok(metadata.with_must_understand(false))
+}
+
+fn shows(rt: &impl Abort, metadata: &MetadataV3, wanted: &Shown) {
     is(rt, "name", &metadata.name(), &wanted.name);
-    is(
-        rt,
-        "must understand",
-        &metadata.must_understand(),
-        &wanted.must_understand,
-    );
+    let mark = metadata.must_understand();
+    is(rt, "must understand", &mark, &wanted.must_understand);
     let members = match metadata.configuration() {
         Some(configuration) => configuration.len(),
         None => 0,
@@ -36,44 +70,26 @@ fn is_made(
     rt: &impl Abort,
     alloc: Global,
     metadata: &MetadataV3,
-    wanted: &Made,
-) -> Result<(), PluginCreateError> {
+    wanted: &Shown,
+) -> Result<(), Fail> {
     shows(rt, metadata, wanted);
-    is(
-        rt,
-        "text",
-        &written(alloc, metadata)?.as_str(),
-        &wanted.text,
-    );
+    let text = metadata.to_value(alloc)?.to_string(alloc)?;
+    is(rt, "text", &text.as_str(), &wanted.text);
     Ok(())
 }
-
-const NAMED: Made = Made {
-    name: "zarrs.squeeze",
-    must_understand: true,
-    members: 0,
-    text: r#""zarrs.squeeze""#,
-};
-
-const CONFIGURED: Made = Made {
-    name: "bytes",
-    must_understand: false,
-    members: 1,
-    text: r#"{"configuration":{"endian":"big"},"must_understand":false,"name":"bytes"}"#,
-};
 
 #[test]
 fn of_a_name(rt: HostRuntime) -> Result<(), Fail> {
-    let metadata = MetadataV3::new(rt.alloc(), "zarrs.squeeze")?;
-    is_made(&rt, rt.alloc(), &metadata, &NAMED)?;
-    Ok(())
+    is_made(
+        &rt,
+        rt.alloc(),
+        &MetadataV3::new(rt.alloc(), "zarrs.squeeze")?,
+        &NAME,
+    )
 }
 
 #[test]
-fn with_a_configuration_and_a_mark(rt: HostRuntime) -> Result<(), Fail> {
-    let members = configuration(rt.alloc(), r#"{"endian":"big"}"#)?;
-    let metadata = MetadataV3::new_with_configuration(rt.alloc(), "bytes", members)?;
-    let metadata = metadata.with_must_understand(false);
-    is_made(&rt, rt.alloc(), &metadata, &CONFIGURED)?;
-    Ok(())
+fn of_a_name_and_a_configuration(rt: HostRuntime) -> Result<(), Fail> {
+    is_made(&rt, rt.alloc(), &bytes(rt.alloc())?, &BYTES)?;
+    is_made(&rt, rt.alloc(), &packbits(rt.alloc())?, &PACKBITS)
 }
