@@ -9,6 +9,4 @@ mod checks;
 #[cfg(test)]
 mod readers;
 #[cfg(test)]
-mod texts;
-#[cfg(test)]
 mod writers;

@@ -1,60 +1,125 @@
-//! Readers that fail: the run ends as a fault, and the lines that came whole are answered.
-use crate::checks::{behind_header, check_run};
+//! Lines that are no text, and readers that fail: such a run ends as a fault, and the lines that came
+//! whole are answered.
+use crate::checks::{HEADER, is};
 use std::alloc::Global;
 use std::io;
 use std::io::{BufReader, ErrorKind, Read};
+use std::process::Abort;
 use std::test::Fail;
-use zarrs_chain_lines::run::RunEnd;
+use zarrs_chain_lines::run::{RunEnd, run};
 
-/// Gives some bytes, and then fails.
+/// What is sent, what is answered, and how the run ends.
+struct Sent {
+    name: &'static str,
+    header: &'static [u8],
+    lines: &'static [u8],
+    /// Whether the reader fails behind the lines, in place of their end.
+    fails: bool,
+    answers: &'static [u8],
+    end: RunEnd,
+}
+
+const SENT: &'static [Sent] = &[
+    Sent {
+        name: "commands that are no UTF-8",
+        header: HEADER,
+        lines: b"load \"\xff\"\n\xff\nvalue\n",
+        fails: false,
+        answers: b"error Syntax\nerror Syntax\nok none\n",
+        end: RunEnd::Done,
+    },
+    Sent {
+        name: "a header that is no UTF-8",
+        header: b"\xff\n",
+        lines: b"value\n",
+        fails: false,
+        answers: b"error Syntax\n",
+        end: RunEnd::BadHeader,
+    },
+    Sent {
+        name: "CR before LF, which is a byte of the line",
+        header: HEADER,
+        lines: b"value\r\nvalue\n",
+        fails: false,
+        answers: b"error Syntax\nok none\n",
+        end: RunEnd::Done,
+    },
+    Sent {
+        name: "a failure in the middle of a line",
+        header: HEADER,
+        lines: b"value\nload \"0a\"\nval",
+        fails: true,
+        answers: b"ok none\nok\n",
+        end: RunEnd::Fault,
+    },
+    Sent {
+        name: "a failure in place of the end",
+        header: HEADER,
+        lines: b"value\n",
+        fails: true,
+        answers: b"ok none\n",
+        end: RunEnd::Fault,
+    },
+    Sent {
+        name: "a failure in the header",
+        header: b"{\"shape\"",
+        lines: b"",
+        fails: true,
+        answers: b"",
+        end: RunEnd::Fault,
+    },
+    Sent {
+        name: "a failure before the header",
+        header: b"\n\n",
+        lines: b"",
+        fails: true,
+        answers: b"",
+        end: RunEnd::Fault,
+    },
+];
+
+/// Gives the bytes of the header, then those of the lines, and then may fail.
 #[derive(Drop)]
-struct FailingReader<'a>(&'a [u8]);
+struct FakeReader {
+    header: &'static [u8],
+    lines: &'static [u8],
+    fails: bool,
+}
 
-impl Read for FailingReader<'_> {
+impl Read for FakeReader {
     fn read(&mut self, buf: &mut [u8]) -> io::Result<usize> {
-        if self.0.is_empty() {
+        if !self.header.is_empty() {
+            return self.header.read(buf);
+        }
+        if self.lines.is_empty() && self.fails {
             return Err(ErrorKind::Other.into());
         }
-        self.0.read(buf)
+        self.lines.read(buf)
     }
 }
 
-fn failing_behind(alloc: Global, bytes: &[u8]) -> io::Result<BufReader<FailingReader<'_>>> {
-    BufReader::new(alloc, FailingReader(bytes))
+fn reader(alloc: Global, row: &Sent) -> io::Result<BufReader<FakeReader>> {
+    let reader = FakeReader {
+        header: row.header,
+        lines: row.lines,
+        fails: row.fails,
+    };
+    BufReader::new(alloc, reader)
 }
 
-#[test]
-fn a_failure_in_the_middle_of_a_line(rt: HostRuntime) -> Result<(), Fail> {
-    let input = behind_header(&rt, b"value\nload \"0a\"\nval")?;
-    let mut reader = failing_behind(rt.alloc(), &input)?;
-    check_run(
-        &rt,
-        "a command",
-        &mut reader,
-        b"ok none\nok\n",
-        RunEnd::Fault,
-    );
+fn is_answered(rt: &impl Abort, alloc: Global, row: &Sent) -> Result<(), Fail> {
+    let mut reader = reader(alloc, row)?;
+    let mut written = Vec::new(alloc);
+    let end = run(alloc, &mut reader, &mut written);
+    is(rt, row.name, &end, &row.end);
+    is(rt, row.name, &written.as_slice(), &row.answers);
     Ok(())
 }
 
 #[test]
-fn a_failure_in_place_of_the_end(rt: HostRuntime) -> Result<(), Fail> {
-    let input = behind_header(&rt, b"value\n")?;
-    let mut reader = failing_behind(rt.alloc(), &input)?;
-    check_run(&rt, "the end", &mut reader, b"ok none\n", RunEnd::Fault);
-    Ok(())
-}
-
-#[test]
-fn a_failure_in_the_header(rt: HostRuntime) -> Result<(), Fail> {
-    let mut reader = failing_behind(rt.alloc(), b"{\"shape\"")?;
-    check_run(&rt, "the header", &mut reader, b"", RunEnd::Fault);
-    Ok(())
-}
-
-#[test]
-fn a_failure_before_the_header(rt: HostRuntime) -> Result<(), Fail> {
-    let mut reader = failing_behind(rt.alloc(), b"\n\n")?;
-    check_run(&rt, "empty lines", &mut reader, b"", RunEnd::Fault);
+fn that_fail_and_bytes_that_are_no_text(rt: HostRuntime) -> Result<(), Fail> {
+    for row in SENT.iter() {
+        is_answered(&rt, rt.alloc(), row)?;
+    }
     Ok(())
 }

@@ -1,5 +1,5 @@
 //! Writers that fail in a write or in the flush, and what is flushed.
-use crate::checks::{behind_header, is};
+use crate::checks::is;
 use std::alloc::Global;
 use std::io;
 use std::io::{BufWriter, ErrorKind, Write};
@@ -45,117 +45,83 @@ impl Write for FakeWriter {
     }
 }
 
-fn run_over(alloc: Global, input: &[u8], writer: &mut FakeWriter) -> RunEnd {
-    let mut reader: &[u8] = input;
+/// What is sent, and how the run ends where all is written.
+struct Sent {
+    name: &'static str,
+    lines: &'static [u8],
+    end: RunEnd,
+}
+
+/// A good header and three commands, the second of which is refused.
+const COMMANDS: &'static [u8] =
+    b"{\"shape\":[1],\"data_type\":\"uint8\",\"fill_value\":\"00\",\"codecs\":[\"bytes\"]}\nvalue\nsing\nvalue\n";
+
+const SENT: &'static [Sent] = &[
+    Sent {
+        name: "an answer, a refusal and an answer again",
+        lines: COMMANDS,
+        end: RunEnd::Done,
+    },
+    Sent {
+        name: "a bad header",
+        lines: b"sing\n",
+        end: RunEnd::BadHeader,
+    },
+    Sent {
+        name: "no line",
+        lines: b"",
+        end: RunEnd::Done,
+    },
+];
+
+/// More writes than a run of the table needs.
+const MANY: usize = 100;
+
+fn run_over(alloc: Global, row: &Sent, writer: &mut FakeWriter) -> RunEnd {
+    let mut reader = row.lines;
     run(alloc, &mut reader, writer)
 }
 
 /// A run over a writer that takes so many writes.
-fn end_after(alloc: Global, input: &[u8], writes: usize) -> RunEnd {
-    run_over(alloc, input, &mut FakeWriter::new(writes, true))
+fn end_after(alloc: Global, row: &Sent, writes: usize) -> RunEnd {
+    run_over(alloc, row, &mut FakeWriter::new(writes, true))
 }
 
-/// A run over a writer that takes all writes and fails in the flush.
-fn end_unflushed(alloc: Global, input: &[u8]) -> RunEnd {
-    run_over(alloc, input, &mut FakeWriter::new(100, false))
+/// Where all is written, all is flushed, and where the flush fails, the run ends as a fault: the disk
+/// may be full when the last bytes go out.
+fn flushes(rt: &impl Abort, alloc: Global, row: &Sent) -> usize {
+    let end = run_over(alloc, row, &mut FakeWriter::new(MANY, false));
+    is(rt, row.name, &end, &RunEnd::Fault);
+    let mut writer = FakeWriter::new(MANY, true);
+    let end = run_over(alloc, row, &mut writer);
+    is(rt, row.name, &end, &row.end);
+    is(rt, row.name, &writer.unflushed, &0);
+    MANY.saturating_sub(writer.writes_left)
 }
 
-/// How many writes a run needs: with fewer it ends as a fault.
-fn check_writes<R: Abort + AllocGlobal>(rt: &R, input: &[u8], end: RunEnd) {
-    let mut writer = FakeWriter::new(100, true);
-    let ended = run_over(rt.alloc(), input, &mut writer);
-    is(rt, "all are taken", &ended, &end);
-    let needed = 100usize.saturating_sub(writer.writes_left);
+/// With fewer writes than a run needs it ends as a fault.
+fn needs_each_write(rt: &impl Abort, alloc: Global, row: &Sent) {
+    let needed = flushes(rt, alloc, row);
     for writes in 0..needed {
-        let ended = end_after(rt.alloc(), input, writes);
-        is(rt, "one write fails", &ended, &RunEnd::Fault);
+        let end = end_after(alloc, row, writes);
+        is(rt, row.name, &end, &RunEnd::Fault);
     }
-    let ended = end_after(rt.alloc(), input, needed);
-    is(rt, "as many as are needed", &ended, &end);
-}
-
-/// An answer, a refusal and an answer again, each of which may be cut at each of its writes.
-#[test]
-fn each_write_of_a_good_run(rt: HostRuntime) -> Result<(), Fail> {
-    let input = behind_header(&rt, b"value\nsing\nvalue\n")?;
-    check_writes(&rt, &input, RunEnd::Done);
-    Ok(())
+    is(rt, row.name, &end_after(alloc, row, needed), &row.end);
 }
 
 #[test]
-fn each_write_after_a_bad_header(rt: HostRuntime) -> Result<(), Fail> {
-    check_writes(&rt, b"sing\n", RunEnd::BadHeader);
-    Ok(())
-}
-
-#[test]
-fn nothing_is_written_for_nothing(rt: HostRuntime) -> Result<(), Fail> {
-    is(
-        &rt,
-        "no line",
-        &end_after(rt.alloc(), b"", 0),
-        &RunEnd::Done,
-    );
-    Ok(())
-}
-
-/// The disk is full when the run is over and the last bytes go out.
-#[test]
-fn a_flush_that_fails(rt: HostRuntime) -> Result<(), Fail> {
-    let input = behind_header(&rt, b"value\n")?;
-    is(
-        &rt,
-        "a good run",
-        &end_unflushed(rt.alloc(), &input),
-        &RunEnd::Fault,
-    );
-    is(
-        &rt,
-        "a bad header",
-        &end_unflushed(rt.alloc(), b"sing\n"),
-        &RunEnd::Fault,
-    );
-    is(
-        &rt,
-        "no line",
-        &end_unflushed(rt.alloc(), b""),
-        &RunEnd::Fault,
-    );
-    Ok(())
+fn that_fail_in_a_write_or_in_the_flush(rt: HostRuntime) {
+    for row in SENT.iter() {
+        needs_each_write(&rt, rt.alloc(), row);
+    }
 }
 
 /// The program's own writer holds all answers back, up to the flush.
 #[test]
-fn a_buffer_that_can_not_be_written(rt: HostRuntime) -> Result<(), Fail> {
-    let input = behind_header(&rt, b"value\n")?;
-    let mut reader = input.as_slice();
+fn that_hold_answers_back(rt: HostRuntime) -> Result<(), Fail> {
+    let mut reader = COMMANDS;
     let mut writer = BufWriter::new(rt.alloc(), FakeWriter::new(0, true))?;
-    let ended = run(rt.alloc(), &mut reader, &mut writer);
-    is(&rt, "a full disk", &ended, &RunEnd::Fault);
-    Ok(())
-}
-
-/// What a run leaves unflushed.
-fn unflushed_after(alloc: Global, input: &[u8]) -> usize {
-    let mut writer = FakeWriter::new(100, true);
-    let _ = run_over(alloc, input, &mut writer);
-    writer.unflushed
-}
-
-#[test]
-fn every_ending_flushes(rt: HostRuntime) -> Result<(), Fail> {
-    let input = behind_header(&rt, b"value\n")?;
-    is(
-        &rt,
-        "the end of input",
-        &unflushed_after(rt.alloc(), &input),
-        &0,
-    );
-    is(
-        &rt,
-        "a bad header",
-        &unflushed_after(rt.alloc(), b"sing\n"),
-        &0,
-    );
+    let end = run(rt.alloc(), &mut reader, &mut writer);
+    is(&rt, "a full disk", &end, &RunEnd::Fault);
     Ok(())
 }

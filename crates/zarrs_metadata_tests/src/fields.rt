@@ -1,91 +1,67 @@
-use crate::checks::{configuration, is};
+//! The fields of configurations that are read.
+use crate::checks::{is, members, tree};
 use std::alloc::Global;
 use std::process::Abort;
 use std::test::Fail;
-use zarrs_data_type::Endianness;
-use zarrs_metadata::{
-    BytesCodecConfiguration, PackBitsCodecConfiguration, PackBitsCodecConfigurationV1,
-    PackBitsPaddingEncoding, PluginCreateError, TransposeCodecConfiguration,
-    VlenCodecConfiguration,
-};
+use zarrs_metadata::{TransposeCodecConfiguration, VlenCodecConfiguration};
+
+fn has_order(rt: &impl Abort, read: &TransposeCodecConfiguration, wanted: &[usize]) {
+    let TransposeCodecConfiguration::V1(fields) = read;
+    is(rt, "order", &fields.order.as_slice(), &wanted);
+}
 
 #[test]
 fn of_transpose(rt: HostRuntime) -> Result<(), Fail> {
-    let members = configuration(rt.alloc(), r#"{"order":[2,0,1]}"#)?;
-    let read = TransposeCodecConfiguration::from_configuration(rt.alloc(), &members)?;
-    let TransposeCodecConfiguration::V1(fields) = &read;
-    is(
-        &rt,
-        "order",
-        &fields.order.as_slice(),
-        &[2, 0, 1].as_slice(),
-    );
+    let tree = tree(rt.alloc(), r#"{"order":[2,0,1]}"#)?;
+    let read = TransposeCodecConfiguration::from_configuration(rt.alloc(), members(&tree)?)?;
+    has_order(&rt, &read, &[2, 0, 1]);
     Ok(())
 }
 
-#[test]
-fn of_bytes(rt: HostRuntime) -> Result<(), Fail> {
-    let members = configuration(rt.alloc(), r#"{"endian":"big"}"#)?;
-    let BytesCodecConfiguration::V1(fields) = BytesCodecConfiguration::from_configuration(
-        &members,
-    )?;
-    is(&rt, "endian", &fields.endian, &Some(Endianness::Big));
-    Ok(())
+/// A configuration of `vlen`: its text, which version it is of, and how many codecs its lists have.
+struct Version {
+    text: &'static str,
+    version: u64,
+    index_codecs: usize,
+    data_codecs: usize,
 }
 
-#[test]
-fn of_packbits(rt: HostRuntime) -> Result<(), Fail> {
-    let members = configuration(
-        rt.alloc(),
-        r#"{"padding_encoding":"last_byte","first_bit":2}"#,
-    )?;
-    let PackBitsCodecConfiguration::V1(fields) = PackBitsCodecConfiguration::from_configuration(
-        &members,
-    )?;
-    let wanted = PackBitsCodecConfigurationV1 {
-        padding_encoding: Some(PackBitsPaddingEncoding::LastByte),
-        first_bit: Some(2),
-        last_bit: None,
+const VERSIONS: &'static [Version] = &[
+    Version {
+        text: r#"{"index_codecs":["bytes"],"data_codecs":[],"index_data_type":"uint32"}"#,
+        version: 0,
+        index_codecs: 1,
+        data_codecs: 0,
+    },
+    Version {
+        text: r#"{"index_codecs":["bytes"],"data_codecs":["a","b"],"index_data_type":"uint64","index_location":"start"}"#,
+        version: 1,
+        index_codecs: 1,
+        data_codecs: 2,
+    },
+];
+
+fn has_version(rt: &impl Abort, read: &VlenCodecConfiguration, row: &Version) {
+    let (version, index_codecs, data_codecs) = match read {
+        VlenCodecConfiguration::V0(fields) => (0, &fields.index_codecs, &fields.data_codecs),
+        VlenCodecConfiguration::V0_1(fields) => (1, &fields.index_codecs, &fields.data_codecs),
     };
-    is(&rt, "fields", &fields, &wanted);
-    Ok(())
+    is(rt, row.text, &version, &row.version);
+    is(rt, row.text, &index_codecs.len(), &row.index_codecs);
+    is(rt, row.text, &data_codecs.len(), &row.data_codecs);
 }
 
-/// Which version of `vlen` a configuration has, and how many codecs its lists.
-fn vlen_counts(alloc: Global, text: &str) -> Result<(u64, usize, usize), PluginCreateError> {
-    let members = configuration(alloc, text)?;
-    match &VlenCodecConfiguration::from_configuration(alloc, &members)? {
-        VlenCodecConfiguration::V0(fields) => {
-            Ok((0, fields.index_codecs.len(), fields.data_codecs.len()))
-        }
-        VlenCodecConfiguration::V0_1(fields) => {
-            Ok((1, fields.index_codecs.len(), fields.data_codecs.len()))
-        }
-    }
-}
-
-fn has_version(
-    rt: &impl Abort,
-    alloc: Global,
-    text: &str,
-    wanted: (u64, usize, usize),
-) -> Result<(), Fail> {
-    is(rt, text, &vlen_counts(alloc, text)?, &wanted);
+fn is_read(rt: &impl Abort, alloc: Global, row: &Version) -> Result<(), Fail> {
+    let tree = tree(alloc, row.text)?;
+    let read = VlenCodecConfiguration::from_configuration(alloc, members(&tree)?)?;
+    has_version(rt, &read, row);
     Ok(())
 }
 
 #[test]
 fn of_vlen(rt: HostRuntime) -> Result<(), Fail> {
-    has_version(
-        &rt,
-        rt.alloc(),
-        r#"{"index_codecs":["bytes"],"data_codecs":[],"index_data_type":"uint32"}"#,
-        (0, 1, 0),
-    )?;
-    has_version(
-        &rt,
-        rt.alloc(),
-        r#"{"index_codecs":["bytes"],"data_codecs":["a","b"],"index_data_type":"uint64","index_location":"start"}"#,
-        (1, 1, 2),
-    )
+    for row in VERSIONS.iter() {
+        is_read(&rt, rt.alloc(), row)?;
+    }
+    Ok(())
 }

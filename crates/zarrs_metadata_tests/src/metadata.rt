@@ -1,127 +1,95 @@
-use crate::checks::{answers, configuration, is, tree};
+//! Metadata made by hand, of the fields of configurations.
+use crate::checks::is;
 use std::alloc::Global;
 use std::process::Abort;
 use std::test::Fail;
-use zarrs_metadata::PluginCreateError::InvalidConfiguration;
-use zarrs_metadata::{MetadataV3, PluginCreateError};
+use zarrs_data_type::Endianness;
+use zarrs_metadata::{
+    BytesCodecConfiguration, BytesCodecConfigurationV1, MetadataV3, PackBitsCodecConfiguration,
+    PackBitsCodecConfigurationV1, PackBitsPaddingEncoding, PluginCreateError,
+};
 
-/// Metadata, and how it is written again; or why it is refused.
-const ROWS: &'static [(&'static str, Result<&'static str, PluginCreateError>)] = &[
-    (r#""bytes""#, Ok(r#""bytes""#)),
-    (r#"{"name":"bytes"}"#, Ok(r#""bytes""#)),
-    (
-        r#"{"name":"bytes","configuration":null,"must_understand":null,"other":7}"#,
-        Ok(r#""bytes""#),
-    ),
-    (
-        r#"{"name":"bytes","must_understand":true}"#,
-        Ok(r#""bytes""#),
-    ),
-    (
-        r#"{"name":"gzip","must_understand":false}"#,
-        Ok(r#"{"must_understand":false,"name":"gzip"}"#),
-    ),
-    (
-        r#"{"name":"transpose","configuration":{"order":[1,0]}}"#,
-        Ok(r#"{"configuration":{"order":[1,0]},"name":"transpose"}"#),
-    ),
-    (
-        r#"{"name":"bytes","configuration":{}}"#,
-        Ok(r#"{"configuration":{},"name":"bytes"}"#),
-    ),
-    (
-        r#"{"must_understand":false,"name":"a","configuration":{"z":null,"b":[-1,"x",{}]}}"#,
-        Ok(r#"{"configuration":{"b":[-1,"x",{}],"z":null},"must_understand":false,"name":"a"}"#),
-    ),
-    ("null", Err(InvalidConfiguration)),
-    ("5", Err(InvalidConfiguration)),
-    ("true", Err(InvalidConfiguration)),
-    (r#"["bytes"]"#, Err(InvalidConfiguration)),
-    ("{}", Err(InvalidConfiguration)),
-    (r#"{"name":null}"#, Err(InvalidConfiguration)),
-    (r#"{"name":["bytes"]}"#, Err(InvalidConfiguration)),
-    (
-        r#"{"name":"bytes","configuration":[]}"#,
-        Err(InvalidConfiguration),
-    ),
-    (
-        r#"{"name":"bytes","configuration":"little"}"#,
-        Err(InvalidConfiguration),
-    ),
-    (
-        r#"{"name":"bytes","must_understand":0}"#,
-        Err(InvalidConfiguration),
-    ),
-    (
-        r#"{"name":"bytes","must_understand":"false"}"#,
-        Err(InvalidConfiguration),
-    ),
-    (
-        r#"{"name":"bytes","configuration":{"other":[{"deep":1.0}]}}"#,
-        Err(InvalidConfiguration),
-    ),
-    (r#"{"name":"bytes","other":1e3}"#, Err(InvalidConfiguration)),
-];
-
-fn written_again(alloc: Global, text: &str) -> Result<String, PluginCreateError> {
-    let metadata = MetadataV3::from_value(alloc, &tree(alloc, text)?)?;
-    Ok(metadata.to_value(alloc)?.to_string(alloc)?)
+/// What metadata shows: its name, its mark, how many members its configuration has, and its text.
+struct Shown {
+    name: &'static str,
+    must_understand: bool,
+    members: usize,
+    text: &'static str,
 }
 
-#[test]
-fn is_read_and_written(rt: HostRuntime) -> Result<(), Fail> {
-    for (text, wanted) in ROWS.iter() {
-        answers(&rt, text, written_again(rt.alloc(), text), *wanted)?;
-    }
-    Ok(())
+const NAME: Shown = Shown {
+    name: "zarrs.squeeze",
+    must_understand: true,
+    members: 0,
+    text: r#""zarrs.squeeze""#,
+};
+
+const BYTES: Shown = Shown {
+    name: "bytes",
+    must_understand: true,
+    members: 1,
+    text: r#"{"configuration":{"endian":"big"},"name":"bytes"}"#,
+};
+
+const PACKBITS: Shown = Shown {
+    name: "packbits",
+    must_understand: false,
+    members: 3,
+    text: r#"{"configuration":{"first_bit":2,"last_bit":null,"padding_encoding":"last_byte"},"must_understand":false,"name":"packbits"}"#,
+};
+
+fn bytes(alloc: Global) -> Result<MetadataV3, PluginCreateError> {
+    let endian = Some(Endianness::Big);
+    let fields = BytesCodecConfiguration::V1(BytesCodecConfigurationV1 { endian });
+    MetadataV3::new_with_configuration(alloc, "bytes", fields.to_configuration(alloc)?)
 }
 
-fn written(alloc: Global, metadata: MetadataV3) -> Result<String, PluginCreateError> {
-    Ok(metadata.to_value(alloc)?.to_string(alloc)?)
+fn packbits(alloc: Global) -> Result<MetadataV3, PluginCreateError> {
+    let fields = PackBitsCodecConfiguration::V1(PackBitsCodecConfigurationV1 {
+        padding_encoding: Some(PackBitsPaddingEncoding::LastByte),
+        first_bit: Some(2),
+        last_bit: None,
+    });
+    let configuration = fields.to_configuration(alloc)?;
+    let metadata = MetadataV3::new_with_configuration(alloc, "packbits", configuration)?;
+    Ok(metadata.with_must_understand(false))
 }
 
-#[test]
-fn is_made_of_a_name(rt: HostRuntime) -> Result<(), Fail> {
-    let metadata = MetadataV3::new(rt.alloc(), "zarrs.squeeze")?;
-    answers(
-        &rt,
-        "name alone",
-        written(rt.alloc(), metadata),
-        Ok(r#""zarrs.squeeze""#),
-    )
-}
-
-#[test]
-fn need_not_be_understood(rt: HostRuntime) -> Result<(), Fail> {
-    let metadata = MetadataV3::new(rt.alloc(), "gzip")?.with_must_understand(false);
-    is(&rt, "must understand", &metadata.must_understand(), &false);
-    answers(
-        &rt,
-        "flag",
-        written(rt.alloc(), metadata),
-        Ok(r#"{"must_understand":false,"name":"gzip"}"#),
-    )
-}
-
-fn shows(rt: &impl Abort, metadata: &MetadataV3) {
-    is(rt, "name", &metadata.name(), &"bytes");
-    is(rt, "must understand", &metadata.must_understand(), &true);
+fn shows(rt: &impl Abort, metadata: &MetadataV3, wanted: &Shown) {
+    is(rt, "name", &metadata.name(), &wanted.name);
+    let mark = metadata.must_understand();
+    is(rt, "must understand", &mark, &wanted.must_understand);
     let members = match metadata.configuration() {
         Some(configuration) => configuration.len(),
         None => 0,
     };
-    is(rt, "members", &members, &1);
+    is(rt, "members", &members, &wanted.members);
+}
+
+fn is_made(
+    rt: &impl Abort,
+    alloc: Global,
+    metadata: &MetadataV3,
+    wanted: &Shown,
+) -> Result<(), Fail> {
+    shows(rt, metadata, wanted);
+    let text = metadata.to_value(alloc)?.to_string(alloc)?;
+    is(rt, "text", &text.as_str(), &wanted.text);
+    Ok(())
 }
 
 #[test]
-fn is_made_with_a_configuration(rt: HostRuntime) -> Result<(), Fail> {
-    let members = configuration(rt.alloc(), r#"{"endian":"big"}"#)?;
-    let metadata = MetadataV3::new_with_configuration(rt.alloc(), "bytes", members)?;
-    shows(&rt, &metadata);
-    answers(
+fn of_a_name(rt: HostRuntime) -> Result<(), Fail> {
+    is_made(
         &rt,
-        "configuration",
-        written(rt.alloc(), metadata),
-        Ok(r#"{"configuration":{"endian":"big"},"name":"bytes"}"#),
+        rt.alloc(),
+        &MetadataV3::new(rt.alloc(), "zarrs.squeeze")?,
+        &NAME,
     )
+}
+
+#[test]
+fn of_a_name_and_a_configuration(rt: HostRuntime) -> Result<(), Fail> {
+    is_made(&rt, rt.alloc(), &bytes(rt.alloc())?, &BYTES)?;
+    is_made(&rt, rt.alloc(), &packbits(rt.alloc())?, &PACKBITS)
 }

@@ -3,13 +3,17 @@
 
 use std::fmt::Debug;
 use std::process::Abort;
-use std::test::Fail;
 use zarrs_array_bytes::ArrayBytes;
 use zarrs_chunk::CodecError;
 
 /// What came is what is wanted.
 pub(crate) fn is<T: PartialEq + Debug>(rt: &impl Abort, about: &str, came: &T, wanted: &T) {
     assert_eq!(rt; *came, *wanted, "{about}");
+}
+
+/// The items that came are those that are wanted.
+pub(crate) fn are<T: PartialEq + Debug>(rt: &impl Abort, about: &str, came: &[T], wanted: &[T]) {
+    assert_eq!(rt; came, wanted, "{about}");
 }
 
 /// The container that came has these bytes, in elements of one size.
@@ -19,21 +23,20 @@ pub(crate) fn has_bytes(
     came: &ArrayBytes<'_>,
     wanted: &[u8],
 ) -> Result<(), CodecError> {
-    is(rt, about, &came.as_fixed()?, &wanted);
+    are(rt, about, came.as_fixed()?, wanted);
     Ok(())
 }
 
-/// The answer is this refusal. A want of memory is an error of the test.
-pub(crate) fn is_refused<T: Drop>(
+/// The refusal that came is the one that is wanted. A want of memory is an error of the test.
+pub(crate) fn is_cause(
     rt: &impl Abort,
     about: &str,
-    answer: Result<T, CodecError>,
-    cause: CodecError,
-) -> Result<(), Fail> {
-    let came = answer.err();
+    came: Option<CodecError>,
+    wanted: CodecError,
+) -> Result<(), CodecError> {
     if came == Some(CodecError::OutOfMemory) {
-        return Err(CodecError::OutOfMemory)?;
+        return Err(CodecError::OutOfMemory);
     }
-    is(rt, about, &came, &Some(cause));
+    is(rt, about, &came, &Some(wanted));
     Ok(())
 }

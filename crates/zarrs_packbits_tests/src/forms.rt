@@ -1,40 +1,80 @@
-//! Codecs, chunks and indexers as plain data.
+//! Codecs, chunks and indexers as plain data, and what is made of them.
 
 use std::alloc::Global;
 use std::ops::Range;
 use zarrs_chunk::{ArraySubset, ChunkShape, CodecError, Indexer};
 use zarrs_codec::{MemoryHandle, Refused};
 use zarrs_data_type::{DataType, FillValue};
-use zarrs_metadata::PackBitsPaddingEncoding;
+use zarrs_metadata::{PackBitsPaddingEncoding, PluginCreateError};
 use zarrs_packbits::{PackBitsCodec, PackBitsPartialDecoder};
 
-pub(crate) const NONE: PackBitsPaddingEncoding = PackBitsPaddingEncoding::None;
-
-pub(crate) const FIRST: PackBitsPaddingEncoding = PackBitsPaddingEncoding::FirstByte;
-
-pub(crate) const LAST: PackBitsPaddingEncoding = PackBitsPaddingEncoding::LastByte;
-
-/// A codec: where the padding byte stands, and the first and the last bit that are kept.
-pub(crate) type Kept = (PackBitsPaddingEncoding, Option<u64>, Option<u64>);
-
-/// The codec of these settings, which are in order.
-pub(crate) fn codec(kept: &Kept) -> Result<PackBitsCodec, CodecError> {
-    let (padding, first, last) = *kept;
-    match PackBitsCodec::new(padding, first, last) {
-        Ok(codec) => Ok(codec),
-        Err(_) => Err(CodecError::BitRange),
-    }
-}
-
-/// A type: so many components of so many bits, signed or not; or texts.
+/// The settings of a codec.
 #[derive(Clone, Copy)]
-pub(crate) enum Type {
-    Bits(u64, u64, bool),
-    Text,
+pub(crate) struct Settings {
+    pub(crate) padding: PackBitsPaddingEncoding,
+    pub(crate) first_bit: Option<u64>,
+    pub(crate) last_bit: Option<u64>,
 }
 
-/// A chunk: its sizes, its type and its fill value.
-pub(crate) type Told<'a> = (&'a [u64], Type, &'a [u8]);
+/// All bits are kept, without a padding byte.
+pub(crate) const ALL_BITS: Settings = Settings {
+    padding: PackBitsPaddingEncoding::None,
+    first_bit: None,
+    last_bit: None,
+};
+
+/// All bits are kept, and the padding byte comes first.
+pub(crate) const PADDED_FIRST: Settings = Settings {
+    padding: PackBitsPaddingEncoding::FirstByte,
+    first_bit: None,
+    last_bit: None,
+};
+
+/// All bits are kept, and the padding byte comes last.
+pub(crate) const PADDED_LAST: Settings = Settings {
+    padding: PackBitsPaddingEncoding::LastByte,
+    first_bit: None,
+    last_bit: None,
+};
+
+/// The codec of these settings.
+pub(crate) fn codec(settings: &Settings) -> Result<PackBitsCodec, PluginCreateError> {
+    PackBitsCodec::new(settings.padding, settings.first_bit, settings.last_bit)
+}
+
+/// A chunk: its sizes, the components of its elements, and its fill value.
+#[derive(Clone, Copy)]
+pub(crate) struct Chunk {
+    pub(crate) sizes: &'static [u64],
+    pub(crate) bits: u64,
+    pub(crate) components: u64,
+    pub(crate) signed: bool,
+    pub(crate) fill: &'static [u8],
+}
+
+/// Two elements of one bit.
+pub(crate) const FLAGS: Chunk = Chunk {
+    sizes: &[2],
+    bits: 1,
+    components: 1,
+    signed: false,
+    fill: &[0],
+};
+
+/// Eight rows of five elements of one bit.
+pub(crate) const GRID: Chunk = Chunk {
+    sizes: &[8, 5],
+    ..FLAGS
+};
+
+/// Two elements of sixteen bits.
+pub(crate) const WORDS: Chunk = Chunk {
+    sizes: &[2],
+    bits: 16,
+    components: 1,
+    signed: false,
+    fill: &[0, 0],
+};
 
 /// What a codec is told of a chunk.
 #[derive(Drop)]
@@ -44,18 +84,10 @@ pub(crate) struct ChunkForm {
     pub(crate) fill_value: FillValue,
 }
 
-fn data_type(told: &Type) -> Result<DataType, CodecError> {
-    match told {
-        Type::Bits(bits, count, sign) => DataType::components(*bits, *count, *sign),
-        Type::Text => Ok(DataType::string()),
-    }
-}
-
-pub(crate) fn chunk_form(alloc: Global, told: &Told<'_>) -> Result<ChunkForm, CodecError> {
-    let (sizes, data_type_told, fill) = told;
-    let shape = ChunkShape::new(sizes.to_vec(alloc)?).ok_or(CodecError::OutOfBounds)?;
-    let data_type = data_type(data_type_told)?;
-    let fill_value = FillValue::new(fill.to_vec(alloc)?);
+pub(crate) fn chunk_form(alloc: Global, chunk: &Chunk) -> Result<ChunkForm, CodecError> {
+    let shape = ChunkShape::new(chunk.sizes.to_vec(alloc)?).ok_or(CodecError::OutOfBounds)?;
+    let data_type = DataType::components(chunk.bits, chunk.components, chunk.signed)?;
+    let fill_value = FillValue::new(chunk.fill.to_vec(alloc)?);
     Ok(ChunkForm {
         shape,
         data_type,
@@ -65,15 +97,6 @@ pub(crate) fn chunk_form(alloc: Global, told: &Told<'_>) -> Result<ChunkForm, Co
 
 /// A decoder of such a chunk in part, over a handle.
 pub(crate) fn decoder(
-    alloc: Global,
-    codec: PackBitsCodec,
-    told: &Told<'_>,
-    handle: MemoryHandle,
-) -> Result<PackBitsPartialDecoder<MemoryHandle>, CodecError> {
-    decoder_of(alloc, codec, &chunk_form(alloc, told)?, handle)
-}
-
-fn decoder_of(
     alloc: Global,
     codec: PackBitsCodec,
     form: &ChunkForm,

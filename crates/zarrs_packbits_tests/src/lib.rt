@@ -1,9 +1,11 @@
 //! Tests of the codec `packbits`, over the public calls of `zarrs_packbits`, and of the metadata of
 //! both codecs to bytes. Without tests the crate is empty.
 //!
-//! What the line tool shows of the codec stands in `zarrs_transcripts`. Here is the rest. Answers are
-//! written by hand. A want of memory ends a test with that error and is never compared, so a run in
-//! which an allocation fails shows each answer that changes otherwise.
+//! What the line tool shows of the codec stands in `zarrs_transcripts`: what it writes, what is
+//! decoded and read of it, and what it refuses. Here is the rest: the lengths of values, the bytes
+//! that a read asks for, metadata that is written again, and calls by hand. Answers are written by
+//! hand. A want of memory ends a test with that error and is never compared, so a run in which an
+//! allocation fails shows each answer that changes otherwise.
 //!
 //! The check proves a test before it runs. So examples stand in tables of constants, which cost it
 //! nothing, and a test goes over its table by a function that takes one row.
@@ -12,14 +14,18 @@
 #[cfg(test)]
 mod bit_places;
 #[cfg(test)]
+mod by_traits;
+#[cfg(test)]
 mod checks;
 #[cfg(test)]
 mod forms;
 #[cfg(test)]
+mod lengths;
+#[cfg(test)]
 mod metadata;
 #[cfg(test)]
-mod packbits_codec;
+mod reads;
 #[cfg(test)]
-mod packbits_parts;
+mod refusals;
 #[cfg(test)]
-mod packbits_refusals;
+mod settings;
