@@ -1,5 +1,5 @@
 //! A handle of the tests' own, which fails in the middle.
-ghost use Rattle.std.specs.Prelude.{◌≡◌, Ok};
+ghost use Rattle.std.specs.Prelude.{◌≡◌, Ok, true};
 ghost use Rattle.zarrs_chunk.specs.Answer.{Answers, fault, is_fault};
 ghost use Rattle.zarrs_codec.specs.StorageState.{count_if, last_failure};
 

@@ -29,3 +29,19 @@ pub(crate) fn answers<T: PartialEq + Debug>(
     is(rt, about, came, wanted);
     Ok(())
 }
+
+/// The bytes or the refusal that came are those that are wanted. A want of memory is an error of the
+/// test.
+pub(crate) fn gives(
+    rt: &impl Abort,
+    about: &str,
+    came: Result<&[u8], CodecError>,
+    wanted: Result<&[u8], CodecError>,
+) -> Result<(), CodecError> {
+    match (came, wanted) {
+        (Ok(came), Ok(wanted)) => are(rt, about, came, wanted),
+        (Err(CodecError::OutOfMemory), _) => return Err(CodecError::OutOfMemory),
+        (came, wanted) => is(rt, about, &came.err(), &wanted.err()),
+    }
+    Ok(())
+}

@@ -1,6 +1,6 @@
 //! Whole chunks: how many bytes a value has, what is encoded, and what is decoded.
 
-use crate::checks::answers;
+use crate::checks::{answers, gives};
 use crate::forms::{Case, Chunk, PAIR, made};
 use std::alloc::Global;
 use std::borrow::CowSlice;
@@ -274,7 +274,7 @@ fn is_encoded(rt: &impl Abort, alloc: Global, case: &Case, row: &Row) -> Result<
         Ok(value) => Ok(value.as_slice()),
         Err(cause) => Err(*cause),
     };
-    answers(rt, row.name, &seen, &row.encoded)
+    gives(rt, row.name, seen, row.encoded)
 }
 
 fn is_decoded(rt: &impl Abort, alloc: Global, case: &Case, row: &Row) -> Result<(), CodecError> {
@@ -290,7 +290,7 @@ fn is_decoded(rt: &impl Abort, alloc: Global, case: &Case, row: &Row) -> Result<
         Ok(elements) => elements.as_fixed(),
         Err(cause) => Err(*cause),
     };
-    answers(rt, row.name, &seen, &row.decoded)
+    gives(rt, row.name, seen, row.decoded)
 }
 
 fn is_coded(rt: &impl Abort, alloc: Global, row: &Row) -> Result<(), Refusal> {
