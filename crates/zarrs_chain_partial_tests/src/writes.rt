@@ -151,7 +151,7 @@ fn writes_of(rt: &impl Abort, alloc: Global, chunk: &Chunk, row: &Row) -> Result
     writes(rt, alloc, &mut encoder, chunk, row)?;
     erases(rt, &mut encoder, row)?;
     let calls = encoder.into_handle().write_calls();
-    is(rt, row.name, "calls", &calls, &(row.calls + 1));
+    is(rt, row.name, "calls", &calls, &row.calls.wrapping_add(1));
     Ok(())
 }
 
