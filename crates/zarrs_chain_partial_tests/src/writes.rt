@@ -250,14 +250,29 @@ fn fills(
     Ok(())
 }
 
-fn fills_and_erases(rt: &impl Abort, alloc: Global, chunk: &Chunk) -> Result<(), Fail> {
-    let mut encoder = encoder(alloc, chunk, MemoryHandle::new())?;
-    tells(rt, &mut encoder, chunk)?;
-    fills(rt, alloc, &mut encoder, chunk)?;
-    plans(rt, alloc, &encoder)?;
-    reads(rt, alloc, &mut encoder, chunk, r#"["ff"]"#)?;
+/// Nothing is stored at first and at last, and a fill value in between.
+fn fills_and_erases(
+    rt: &impl Abort,
+    alloc: Global,
+    encoder: &mut Encoder<'_, MemoryHandle>,
+    chunk: &Chunk,
+) -> Result<(), Fail> {
+    tells(rt, encoder, chunk)?;
+    fills(rt, alloc, encoder, chunk)?;
+    plans(rt, alloc, encoder)?;
+    reads(rt, alloc, encoder, chunk, r#"["ff"]"#)?;
     encoder.erase()?;
-    tells(rt, &mut encoder, chunk)?;
+    tells(rt, encoder, chunk)?;
+    Ok(())
+}
+
+fn fills_and_erases_by_two_calls(
+    rt: &impl Abort,
+    alloc: Global,
+    chunk: &Chunk,
+) -> Result<(), Fail> {
+    let mut encoder = encoder(alloc, chunk, MemoryHandle::new())?;
+    fills_and_erases(rt, alloc, &mut encoder, chunk)?;
     let handle = encoder.into_decoder().into_handle();
     is(rt, NAME, "calls", &handle.write_calls(), &2);
     Ok(())
@@ -266,5 +281,5 @@ fn fills_and_erases(rt: &impl Abort, alloc: Global, chunk: &Chunk) -> Result<(),
 #[test]
 fn an_encoder_stores_fill_values_and_erases_them(rt: HostRuntime) -> Result<(), Fail> {
     let chunk = chunk_of(rt.alloc(), FOUR_BITS)?;
-    fills_and_erases(&rt, rt.alloc(), &chunk)
+    fills_and_erases_by_two_calls(&rt, rt.alloc(), &chunk)
 }
