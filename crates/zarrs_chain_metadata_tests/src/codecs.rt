@@ -3,14 +3,15 @@
 use crate::checks::{is, is_shown, metadata};
 use crate::lists::chain;
 use serde_json::Value;
-use std::alloc::Global;
+use std::alloc::{AllocError, Global};
 use std::process::Abort;
 use std::test::Fail;
+use zarrs_bytes::BytesCodec;
 use zarrs_codec::{CodecTraits, SampleBytesCodec, SampleMaker};
-use zarrs_codec_chain::{CodecChain, OptionalCodec, VlenCodec};
+use zarrs_codec_chain::{ArrayToBytesCodec, CodecChain, OptionalCodec, VlenCodec};
 use zarrs_metadata::{
     MetadataV3, OptionalCodecConfiguration, PluginCreateError, VlenCodecConfiguration,
-    VlenIndexLocation,
+    VlenIndexDataType, VlenIndexLocation,
 };
 
 type Vlen = VlenCodec<SampleBytesCodec>;
@@ -135,6 +136,47 @@ fn optional_configured(alloc: Global, text: &str) -> Result<Optional, PluginCrea
 fn optional_is_made_of_a_configuration(rt: HostRuntime) -> Result<(), Fail> {
     let codec = optional_configured(rt.alloc(), OPTIONAL)?;
     is_written(&rt, rt.alloc(), &codec, OPTIONAL_WRITTEN)
+}
+
+/// `optional` over texts whose offsets of four bytes stand behind them.
+const OPTIONAL_TEXTS: &'static str =
+    r#"{"configuration":{"data_codecs":[{"configuration":{"data_codecs":[{"configuration":{"endian":"little"},"name":"bytes"}],"index_codecs":[{"configuration":{"endian":"little"},"name":"bytes"}],"index_data_type":"uint32","index_location":"end"},"name":"zarrs.vlen"}],"mask_codecs":[{"configuration":{"endian":"little"},"name":"bytes"}]},"name":"zarrs.optional"}"#;
+
+type Boxed = Box<CodecChain<SampleBytesCodec>>;
+
+/// A codec of chunks to bytes alone, as a chain inside another codec.
+fn alone(alloc: Global, codec: ArrayToBytesCodec<SampleBytesCodec>) -> Result<Boxed, AllocError> {
+    Ok(Box::new(
+        alloc,
+        CodecChain::new(Vec::new(alloc), codec, Vec::new(alloc)),
+    )?)
+}
+
+fn bytes_alone(alloc: Global) -> Result<Boxed, AllocError> {
+    alone(alloc, ArrayToBytesCodec::Bytes(BytesCodec::little()))
+}
+
+fn texts_by_hand(alloc: Global) -> Result<Vlen, AllocError> {
+    let index = bytes_alone(alloc)?;
+    let data = bytes_alone(alloc)?;
+    Ok(VlenCodec::new(
+        index,
+        data,
+        VlenIndexDataType::UInt32,
+        VlenIndexLocation::End,
+    ))
+}
+
+fn optional_texts_by_hand(alloc: Global) -> Result<Optional, AllocError> {
+    let masks = bytes_alone(alloc)?;
+    let texts = alone(alloc, ArrayToBytesCodec::Vlen(texts_by_hand(alloc)?))?;
+    Ok(OptionalCodec::new(masks, texts))
+}
+
+#[test]
+fn codecs_are_made_of_chains_by_hand(rt: HostRuntime) -> Result<(), Fail> {
+    let codec = optional_texts_by_hand(rt.alloc())?;
+    is_written(&rt, rt.alloc(), &codec, OPTIONAL_TEXTS)
 }
 
 fn has_no_metadata(
