@@ -94,12 +94,42 @@ fn are_ranges(rt: &impl Abort, about: &str, came: &[ByteRange], wanted: &[Range<
     }
 }
 
-fn plans(rt: &impl Abort, alloc: Global, row: &Planned) -> Result<(), Fail> {
-    let form = chunk_form(alloc, &row.chunk)?;
-    let decoder = decoder(alloc, codec(&row.settings)?, &form, MemoryHandle::new())?;
-    let planned = decoder.planned_ranges(alloc, &subset(alloc, row.asked)?)?;
+type Decoder = PackBitsPartialDecoder<MemoryHandle>;
+
+/// A decoder of the chunk over a handle.
+fn made(
+    alloc: Global,
+    settings: &Settings,
+    chunk: &Chunk,
+    handle: MemoryHandle,
+) -> Result<Decoder, Fail> {
+    let form = chunk_form(alloc, chunk)?;
+    Ok(decoder(alloc, codec(settings)?, &form, handle)?)
+}
+
+fn ranges_for(
+    alloc: Global,
+    decoder: &Decoder,
+    asked: &[Range<u64>],
+) -> Result<Vec<ByteRange>, CodecError> {
+    let asked = subset(alloc, asked)?;
+    decoder.planned_ranges(alloc, &asked)
+}
+
+fn plans_by(
+    rt: &impl Abort,
+    alloc: Global,
+    decoder: &Decoder,
+    row: &Planned,
+) -> Result<(), CodecError> {
+    let planned = ranges_for(alloc, decoder, row.asked)?;
     are_ranges(rt, row.name, planned.as_slice(), row.ranges);
     Ok(())
+}
+
+fn plans(rt: &impl Abort, alloc: Global, row: &Planned) -> Result<(), Fail> {
+    let decoder = made(alloc, &row.settings, &row.chunk, MemoryHandle::new())?;
+    Ok(plans_by(rt, alloc, &decoder, row)?)
 }
 
 #[test]
@@ -157,29 +187,41 @@ fn reads_not<D: ArrayPartialDecoderTraits>(
     is_cause(rt, "read", answer.err(), CodecError::OutOfBounds)
 }
 
-/// A decoder does what all decoders of chunks do, and hands its handle back.
+/// What all decoders of chunks do.
+fn answers<D: ArrayPartialDecoderTraits>(
+    rt: &impl Abort,
+    alloc: Global,
+    decoder: &mut D,
+) -> Result<(), CodecError> {
+    tells(rt, decoder, true, 1);
+    reads(rt, alloc, decoder)?;
+    reads_not(rt, alloc, decoder)
+}
+
+/// Two elements as they are stored.
+const STORED: &'static [u8] = &[59];
+
+fn over_stored(alloc: Global) -> Result<Decoder, Fail> {
+    let handle = MemoryHandle::with_value(STORED.to_vec(alloc)?);
+    made(alloc, &UPPER_BITS, &FOURS, handle)
+}
+
+fn keeps(rt: &impl Abort, handle: &MemoryHandle) {
+    are(rt, "stored", handle.value().unwrap_or(&[]), STORED);
+}
+
+/// A decoder answers, and hands its handle back.
 #[test]
 fn go_through_a_decoder(rt: HostRuntime) -> Result<(), Fail> {
-    let value: &[u8] = &[59];
-    let handle = MemoryHandle::with_value(value.to_vec(rt.alloc())?);
-    let form = chunk_form(rt.alloc(), &FOURS)?;
-    let mut decoder = decoder(rt.alloc(), codec(&UPPER_BITS)?, &form, handle)?;
-    tells(&rt, &mut decoder, true, 1);
-    reads(&rt, rt.alloc(), &mut decoder)?;
-    reads_not(&rt, rt.alloc(), &mut decoder)?;
-    are(
-        &rt,
-        "stored",
-        decoder.into_handle().value().unwrap_or(&[]),
-        value,
-    );
+    let mut decoder = over_stored(rt.alloc())?;
+    answers(&rt, rt.alloc(), &mut decoder)?;
+    keeps(&rt, &decoder.into_handle());
     Ok(())
 }
 
 #[test]
 fn find_nothing_where_nothing_is_stored(rt: HostRuntime) -> Result<(), Fail> {
-    let form = chunk_form(rt.alloc(), &FOURS)?;
-    let mut decoder = decoder(rt.alloc(), codec(&ALL_BITS)?, &form, MemoryHandle::new())?;
+    let mut decoder = made(rt.alloc(), &ALL_BITS, &FOURS, MemoryHandle::new())?;
     tells(&rt, &mut decoder, false, 0);
     Ok(())
 }
