@@ -32,7 +32,7 @@ flags_more bytes index bit word flag h l below same e =
     ∙ ap (λ (bits : List ℕ). flags_before bit bytes index ++ bits) (sym (flag_at bytes index bit h l))
     ∙ sym (flat_more (λ part. field bit 1 (component_bits 1 bytes part)) index)
 
-flat_split : (f : ℕ → List ℕ) (a b : ℕ) → flat_map f (range_with_len 0 (a + b)) ≡ flat_map f (range_with_len 0 a) ++ flat_map (λ j. f (a + j)) (range_with_len 0 b)
+pub flat_split : (f : ℕ → List ℕ) (a b : ℕ) → flat_map f (range_with_len 0 (a + b)) ≡ flat_map f (range_with_len 0 a) ++ flat_map (λ j. f (a + j)) (range_with_len 0 b)
 flat_split f a zero =
     ap (λ n. flat_map f (range_with_len 0 n)) (let e : a + 0 ≡ a = omega arith in e) ∙ sym (append-nil (flat_map f (range_with_len 0 a)))
 flat_split f a (suc b) =

@@ -22,3 +22,6 @@ pub mod Tests
 pub mod WholeChunk
 pub mod WholeReads
 pub mod Counted
+pub mod WordLemmas
+pub mod BlockLemmas
+pub mod ProductLemmas

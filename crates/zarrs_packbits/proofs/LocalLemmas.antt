@@ -119,3 +119,10 @@ component_room size part n bytes e lt =
     let row : (part + 1) * size ≤ n * size = mul-le-mul_right size more in
     let next : (part + 1) * size ≡ part * size + size = omega arith in
     omega arith
+
+-- the kept bits of a component, by their place among the bytes
+pub field_of_part : (size part n first count : ℕ) (bytes : List ℕ) → length bytes ≡ n * size → part < n → first + count ≤ 8 * size → field (8 * (part * size + first / 8) + first % 8) count (bits_of bytes) ≡ field first count (component_bits size bytes part)
+field_of_part size part n first count bytes e lt h =
+    ap (λ k. field k count (bits_of bytes)) (let q : 8 * (part * size + first / 8) + first % 8 ≡ 8 * (part * size) + first = omega arith in q)
+    ∙ ap (take count) (sym (drop-drop first (8 * (part * size)) (bits_of bytes)) ∙ ap (drop first) (sym (bits_of-drop (part * size) bytes)))
+    ∙ field_from size part n first count bytes e lt h

@@ -121,7 +121,7 @@ no_bits count r x y h =
     let e : count - r ≡ 0 = omega arith in
     ap (λ n. low_bits n x) e ∙ ap (λ n. low_bits n y) (sym e)
 
-get_or-low_bits : (n v i : ℕ) → i < n → get_or (low_bits n v) i 0 ≡ v / 2 ^ i % 2
+pub get_or-low_bits : (n v i : ℕ) → i < n → get_or (low_bits n v) i 0 ≡ v / 2 ^ i % 2
 get_or-low_bits zero v i h = absurd (omega arith)
 get_or-low_bits (suc n) v zero h = ap (λ x. x % 2) (let e : v ≡ v / 2 ^ 0 = omega arith in e)
 get_or-low_bits (suc n) v (suc i) h =
@@ -230,3 +230,17 @@ read_field bytes start s count word h l is =
     ∙ take-drop-take count s 64 (bits_of (drop start bytes)) l
     ∙ ap (λ ns. take count (drop s ns)) (bits_of-drop start bytes)
     ∙ ap (take count) (drop-drop s (8 * start) (bits_of bytes))
+
+-- the first bytes of a word
+pub first_bytes : (used word : ℕ) → used ≤ 8 → bits_of (take used (to_le_bytes w64 word)) ≡ low_bits (8 * used) word
+first_bytes used word h =
+    ap bits_of (take-bytes used 8 0 word h)
+    ∙ sym (bits_of-bytes used 0 word)
+    ∙ ap (low_bits (8 * used)) (let e : word / 256 ^ 0 ≡ word = omega arith in e)
+
+-- whole bytes of a word that is partly filled go out
+pub level : (front : List ℕ) (filled word whole rest : ℕ) → whole ≤ 8 → filled ≡ 8 * whole + rest → bits_of (front ++ take whole (to_le_bytes w64 word)) ++ low_bits rest (word / 2 ^ (8 * whole)) ≡ bits_of front ++ low_bits filled word
+level front filled word whole rest h e =
+    ap (λ (xs : List ℕ). xs ++ low_bits rest (word / 2 ^ (8 * whole))) (flat_map-append (low_bits 8) front (take whole (to_le_bytes w64 word)) ∙ ap (λ (xs : List ℕ). bits_of front ++ xs) (first_bytes whole word h))
+    ∙ append_assoc (bits_of front) (low_bits (8 * whole) word) (low_bits rest (word / 2 ^ (8 * whole)))
+    ∙ ap (λ (xs : List ℕ). bits_of front ++ xs) (sym (low_bits-split (8 * whole) rest word) ∙ ap (λ n. low_bits n word) (sym e))

@@ -1,5 +1,5 @@
 -- The bits of a component that are kept.
-use Rattle.std.specs.Prelude.{ℕ, ◌+◌, ◌-◌, ◌*◌, Bool, true, false, List, ◌++◌, length, take, drop, replicate, get_or}
+use Rattle.std.specs.Prelude.{ℕ, ◌+◌, ◌-◌, ◌*◌, ◌^◌, Bool, true, false, List, ◌++◌, length, take, drop, replicate, get_or}
 use Rattle.zarrs_packbits.specs.Bits.{bits_of, field}
 
 -- the bits of a component, where each has `size` bytes
@@ -19,3 +19,8 @@ full_component first above sign kept = replicate first 0 ++ (kept ++ replicate a
 abbrev pub kept_component : ℕ → ℕ → Bool → List ℕ → List ℕ
 kept_component first count sign component =
     full_component first (length component - (first + count)) sign (field first count component)
+
+-- what the last of so many bits counts where the type has a sign, else nothing
+abbrev pub sign_weight : Bool → ℕ → ℕ
+sign_weight true count = 2 ^ (count - 1)
+sign_weight false count = 0

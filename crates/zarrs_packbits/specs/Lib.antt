@@ -1,4 +1,5 @@
 pub mod Bits
+pub mod BlockBits
 pub mod BitStream
 pub mod DivRem8Bit
 pub mod KeptBits

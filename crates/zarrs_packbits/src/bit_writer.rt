@@ -1,14 +1,19 @@
 //! Bits that are put one behind another.
-ghost use Rattle.std.specs.Prelude.{◌≡◌, ℕ, ◌+◌, ◌*◌, ◌^◌, ◌<◌, ◌≤◌, List, [], ◌++◌, length, replicate, IfOk, slice_index};
+ghost use Rattle.std.specs.Prelude.{◌≡◌, ℕ, ◌+◌, ◌*◌, ◌/◌, ◌%◌, ◌^◌, ◌<◌, ◌≤◌, List, [], ◌++◌, length, replicate, IfOk, slice_index};
 ghost use Rattle.zarrs_packbits.specs.Bits.{low_bits, bits_of, field, bit_of};
 ghost use Rattle.zarrs_packbits.specs.BitStream.{stream_of_bytes, components_from};
+ghost use Rattle.zarrs_packbits.specs.BlockBits.{stream_before};
 ghost use Rattle.zarrs_packbits.specs.KeptBits.{full_component};
 ghost use Rattle.zarrs_packbits.specs.PackedLayout.{IsPackedLayout, parts_of};
 ghost use Rattle.zarrs_packbits.specs.Packing.{packing, spare_bits};
-ghost use Rattle.zarrs_packbits.specs.WrittenBits.{flags_of, written_bits};
+ghost use Rattle.zarrs_packbits.specs.WrittenBits.{flags_of, written_bits, IsPartlyFilled};
 
+use crate::blocks::{
+    append_bits_spread, append_halves_joined, append_halves_spread, append_quarters_joined,
+    append_quarters_spread,
+};
 use crate::layout::PackedLayout;
-use crate::words::{append_bits, gather_flags, read_bits};
+use crate::words::{append_bits, component_word, gather_flags, read_bits, read_within};
 use std::alloc::{AllocError, Global};
 use std::marker::Model;
 
@@ -48,6 +53,250 @@ pub(crate) fn in_range(bytes: Vec<u8>) -> Vec<u8>
     ensures below { (i : ℕ) → slice_index result.items i < 256 }
 {
     bytes
+}
+
+/// Appends so many components of up to 64 bits, whose kept bits stand in the bytes from bit `at` on,
+/// to the bits that stand in `out` and in the first `filled` bits of `word`. The answer is the word
+/// that is partly filled then, and how far.
+fn append_components(
+    out: &mut Vec<u8>,
+    word: u64,
+    filled: u32,
+    layout: &PackedLayout,
+    bytes: &[u8],
+    at: u64,
+    parts: u64,
+) -> Result<(u64, u32), AllocError>
+    requires begun { IsPartlyFilled word filled }
+    requires some { 0 < layout.now.count }
+    requires fits { layout.now.first + layout.now.count + layout.now.above ≤ 64 }
+    requires inside { at + parts * layout.now.count ≤ 8 * length bytes.now }
+    requires at { at + parts * layout.now.count < 2 ^ 64 }
+    ensures bits { IfOk result (λ left. written_bits out.new.items left.0 left.1 ≡ written_bits out.old.items word filled ++ components_from layout.now at parts (bits_of bytes.now)) }
+    ensures left { IfOk result (λ left. IsPartlyFilled left.0 left.1) }
+{
+    let PackedLayout {
+        first,
+        count,
+        above,
+        sign,
+        ..
+    } = *layout;
+    let mut last = word;
+    let mut used = filled;
+    for part in 0..parts {
+        let kept = read_bits(bytes, at + part * count, count as u32);
+        let bits = component_word(kept, first, count, above, sign);
+        let (more, reached) = append_bits(out, last, used, bits, (first + count + above) as u32)?;
+        last = more;
+        used = reached;
+    }
+    Ok((last, used))
+}
+
+/// Appends the kept bits, up to 64 of each, of a chunk's components from one of them on.
+fn append_kept(
+    out: &mut Vec<u8>,
+    word: u64,
+    filled: u32,
+    layout: &PackedLayout,
+    bytes: &[u8],
+    begin: u64,
+) -> Result<(u64, u32), AllocError>
+    requires begun { IsPartlyFilled word filled }
+    requires layout { IsPackedLayout layout.now }
+    requires last { layout.now.first + layout.now.count < 2 ^ 64 }
+    requires count { layout.now.count ≤ 64 }
+    requires len { length bytes.now ≡ parts_of layout.now * layout.now.size }
+    requires begin { begin ≤ parts_of layout.now }
+    ensures bits { IfOk result (λ left. (front : List ℕ) → written_bits out.old.items word filled ≡ front ++ stream_before layout.now begin bytes.now → written_bits out.new.items left.0 left.1 ≡ front ++ stream_of_bytes layout.now bytes.now) }
+    ensures left { IfOk result (λ left. IsPartlyFilled left.0 left.1) }
+{
+    let PackedLayout {
+        first,
+        count,
+        size,
+        ..
+    } = *layout;
+    let mut last = word;
+    let mut used = filled;
+    for part in begin..layout.elements * layout.group {
+        let start = (part * size) as usize;
+        let kept = read_bits(&bytes[start..], first, count as u32);
+        let (more, reached) = append_bits(out, last, used, kept, count as u32)?;
+        last = more;
+        used = reached;
+    }
+    Ok((last, used))
+}
+
+/// Up to which of a chunk's components the kept bits stand in eight bytes from where they begin,
+/// and `begin` at least.
+fn parts_by_words(layout: &PackedLayout, len: usize, begin: u64) -> u64
+    requires layout { IsPackedLayout layout.now }
+    requires count { layout.now.count ≤ 64 }
+    requires begin { begin ≤ parts_of layout.now }
+    ensures from { begin ≤ result }
+    ensures within { result ≤ parts_of layout.now }
+    ensures reach { begin < result → result * layout.now.size + layout.now.first / 8 + 8 ≤ len + layout.now.size }
+    ensures fits { begin < result → layout.now.first % 8 + layout.now.count ≤ 64 }
+{
+    let skip = layout.first / 8;
+    if layout.first % 8 + layout.count > 64 || (len as u64) < skip + 8 {
+        return begin;
+    }
+    let reach = (len as u64 - skip - 8) / layout.size + 1;
+    begin.max(reach.min(layout.elements * layout.group))
+}
+
+/// Appends the kept bits of a chunk's components from `begin` to `end`, each out of a word.
+fn append_by_words(
+    out: &mut Vec<u8>,
+    word: u64,
+    filled: u32,
+    layout: &PackedLayout,
+    bytes: &[u8],
+    begin: u64,
+    end: u64,
+) -> Result<(u64, u32), AllocError>
+    requires begun { IsPartlyFilled word filled }
+    requires layout { IsPackedLayout layout.now }
+    requires count { layout.now.count ≤ 64 }
+    requires len { length bytes.now ≡ parts_of layout.now * layout.now.size }
+    requires begin { begin ≤ end }
+    requires end { end ≤ parts_of layout.now }
+    requires reach { begin < end → end * layout.now.size + layout.now.first / 8 + 8 ≤ length bytes.now + layout.now.size }
+    requires fits { begin < end → layout.now.first % 8 + layout.now.count ≤ 64 }
+    ensures bits { IfOk result (λ left. (front : List ℕ) → written_bits out.old.items word filled ≡ front ++ stream_before layout.now begin bytes.now → written_bits out.new.items left.0 left.1 ≡ front ++ stream_before layout.now end bytes.now) }
+    ensures left { IfOk result (λ left. IsPartlyFilled left.0 left.1) }
+{
+    let PackedLayout {
+        first,
+        count,
+        size,
+        ..
+    } = *layout;
+    let mut last = word;
+    let mut used = filled;
+    for part in begin..end {
+        let start = (part * size + first / 8) as usize;
+        let kept = read_within(bytes, start, (first % 8) as u32, count as u32);
+        let (more, reached) = append_bits(out, last, used, kept, count as u32)?;
+        last = more;
+        used = reached;
+    }
+    Ok((last, used))
+}
+
+/// Those of the bits in `word` that make whole bytes go to `out`. The answer is the word that is
+/// partly filled then, and how far.
+fn leveled(out: &mut Vec<u8>, word: u64, filled: u32) -> Result<(u64, u32), AllocError>
+    requires begun { IsPartlyFilled word filled }
+    ensures bits { IfOk result (λ left. written_bits out.new.items left.0 left.1 ≡ written_bits out.old.items word filled) }
+    ensures left { IfOk result (λ left. IsPartlyFilled left.0 left.1) }
+{
+    if filled < 8 {
+        return Ok((word, filled));
+    }
+    let whole = filled / 8;
+    out.extend_from_slice(&word.to_le_bytes()[..whole as usize])?;
+    Ok((word >> (8 * whole), filled % 8))
+}
+
+/// Appends two or four bits of each of these bytes, as many as make blocks of 64.
+fn append_joined(out: &mut Vec<u8>, layout: &PackedLayout, bytes: &[u8]) -> Result<(), AllocError>
+    requires size { layout.now.size ≡ 1 }
+    requires within { layout.now.first + layout.now.count ≤ 8 }
+    requires count { (layout.now.count ≡ 4 → ⊥) → layout.now.count ≡ 2 }
+    ensures { IfOk result (λ _. bits_of out.new.items ≡ bits_of out.old.items ++ stream_before layout.now (64 * (length bytes.now / 64)) bytes.now) }
+{
+    if layout.count == 4 {
+        append_halves_joined(out, bytes, layout.first)
+    } else {
+        append_quarters_joined(out, bytes, layout.first)
+    }
+}
+
+/// Appends the kept bits of the first components of a chunk, as many as go by blocks, and says how
+/// many went.
+fn append_first(
+    out: &mut Vec<u8>,
+    word: u64,
+    filled: u32,
+    layout: &PackedLayout,
+    bytes: &[u8],
+) -> Result<(u64, u32, u64), AllocError>
+    requires begun { IsPartlyFilled word filled }
+    requires layout { IsPackedLayout layout.now }
+    requires len { length bytes.now ≡ parts_of layout.now * layout.now.size }
+    ensures bits { IfOk result (λ left. written_bits out.new.items left.0 left.1 ≡ written_bits out.old.items word filled ++ stream_before layout.now left.2 bytes.now) }
+    ensures left { IfOk result (λ left. IsPartlyFilled left.0 left.1) }
+    ensures within { IfOk result (λ left. left.2 ≤ parts_of layout.now) }
+{
+    if layout.size != 1 || (layout.count != 4 && layout.count != 2) {
+        return Ok((word, filled, 0));
+    }
+    let (last, used) = leveled(out, word, filled)?;
+    if used != 0 {
+        return Ok((last, used, 0));
+    }
+    append_joined(out, layout, bytes)?;
+    Ok((0, 0, (64 * (bytes.len() / 64)) as u64))
+}
+
+/// Appends so many components of one byte whose kept bits, one, two or four each, stand in the bytes from
+/// the first one on.
+fn append_spread(
+    out: &mut Vec<u8>,
+    layout: &PackedLayout,
+    bytes: &[u8],
+    parts: u64,
+) -> Result<(), AllocError>
+    requires size { layout.now.first + layout.now.count + layout.now.above ≡ 8 }
+    requires count { (layout.now.count ≡ 1 → ⊥) → (layout.now.count ≡ 2 → ⊥) → layout.now.count ≡ 4 }
+    requires inside { parts * layout.now.count ≤ 8 * length bytes.now }
+    ensures { IfOk result (λ _. bits_of out.new.items ≡ bits_of out.old.items ++ components_from layout.now 0 parts (bits_of bytes.now)) }
+{
+    if layout.count == 1 {
+        append_bits_spread(out, layout, bytes, parts)
+    } else if layout.count == 2 {
+        append_quarters_spread(out, layout, bytes, parts)
+    } else {
+        append_halves_spread(out, layout, bytes, parts)
+    }
+}
+
+/// Appends so many components of one byte, whose kept bits, one, two or four each, stand in the bytes
+/// from bit `at` on: 64 at a time, from the first one on that begins a byte.
+fn append_bytes(
+    out: &mut Vec<u8>,
+    word: u64,
+    filled: u32,
+    layout: &PackedLayout,
+    bytes: &[u8],
+    at: u64,
+    parts: u64,
+) -> Result<(u64, u32), AllocError>
+    requires begun { IsPartlyFilled word filled }
+    requires some { 0 < layout.now.count }
+    requires size { layout.now.first + layout.now.count + layout.now.above ≡ 8 }
+    requires count { (layout.now.count ≡ 1 → ⊥) → (layout.now.count ≡ 2 → ⊥) → layout.now.count ≡ 4 }
+    requires inside { at + parts * layout.now.count ≤ 8 * length bytes.now }
+    requires at { at + parts * layout.now.count < 2 ^ 64 }
+    ensures bits { IfOk result (λ left. written_bits out.new.items left.0 left.1 ≡ written_bits out.old.items word filled ++ components_from layout.now at parts (bits_of bytes.now)) }
+    ensures left { IfOk result (λ left. IsPartlyFilled left.0 left.1) }
+{
+    let head = ((8 - at % 8) % 8 / layout.count).min(parts);
+    let (part, reached) = append_components(out, word, filled, layout, bytes, at, head)?;
+    let (last, used) = leveled(out, part, reached)?;
+    let next = at + head * layout.count;
+    let rest = parts - head;
+    if next % 8 != 0 || used != 0 {
+        let left = append_components(out, last, used, layout, bytes, next, rest)?;
+        return Ok(left);
+    }
+    append_spread(out, layout, &bytes[(next / 8) as usize..], rest)?;
+    Ok((0, 0))
 }
 
 impl Model for BitWriter {
@@ -166,10 +415,101 @@ impl BitWriter {
         if layout.size == 1 && layout.count == 1 {
             return self.put_flags(bytes, layout.first);
         }
+        if layout.count <= 64 {
+            return self.put_kept(layout, bytes);
+        }
         for part in 0..layout.elements * layout.group {
             let start = (part * layout.size) as usize;
             self.put_field(&bytes[start..], layout.first, layout.count)?;
         }
+        Ok(())
+    }
+
+    /// The same where a word holds the kept bits of a component.
+    fn put_kept(&mut self, layout: &PackedLayout, bytes: &[u8]) -> Result<(), AllocError>
+        requires layout { IsPackedLayout layout.now }
+        requires last { layout.now.first + layout.now.count < 2 ^ 64 }
+        requires count { layout.now.count ≤ 64 }
+        requires len { length bytes.now ≡ parts_of layout.now * layout.now.size }
+        ensures { IfOk result (λ _. self.new ≡ self.old ++ stream_of_bytes layout.now bytes.now) }
+    {
+        let (part, reached, begin) = append_first(
+            &mut self.out,
+            self.word,
+            self.filled,
+            layout,
+            bytes,
+        )?;
+        let end = parts_by_words(layout, bytes.len(), begin);
+        let (part, reached) = append_by_words(
+            &mut self.out,
+            part,
+            reached,
+            layout,
+            bytes,
+            begin,
+            end,
+        )?;
+        let (word, filled) = append_kept(&mut self.out, part, reached, layout, bytes, end)?;
+        self.word = word;
+        self.filled = filled;
+        Ok(())
+    }
+
+    /// Puts so many components of one byte, of which one bit is kept, or two or four.
+    fn put_spread(
+        &mut self,
+        layout: &PackedLayout,
+        bytes: &[u8],
+        at: u64,
+        parts: u64,
+    ) -> Result<(), AllocError>
+        requires some { 0 < layout.now.count }
+        requires size { layout.now.first + layout.now.count + layout.now.above ≡ 8 }
+        requires count { (layout.now.count ≡ 1 → ⊥) → (layout.now.count ≡ 2 → ⊥) → layout.now.count ≡ 4 }
+        requires inside { at + parts * layout.now.count ≤ 8 * length bytes.now }
+        requires at { at + parts * layout.now.count < 2 ^ 64 }
+        ensures { IfOk result (λ _. self.new ≡ self.old ++ components_from layout.now at parts (bits_of bytes.now)) }
+    {
+        let (word, filled) = append_bytes(
+            &mut self.out,
+            self.word,
+            self.filled,
+            layout,
+            bytes,
+            at,
+            parts,
+        )?;
+        self.word = word;
+        self.filled = filled;
+        Ok(())
+    }
+
+    /// Puts so many components of up to 64 bits, whose kept bits stand in the bytes from bit `at` on.
+    fn put_narrow(
+        &mut self,
+        layout: &PackedLayout,
+        bytes: &[u8],
+        at: u64,
+        parts: u64,
+    ) -> Result<(), AllocError>
+        requires some { 0 < layout.now.count }
+        requires fits { layout.now.first + layout.now.count + layout.now.above ≤ 64 }
+        requires inside { at + parts * layout.now.count ≤ 8 * length bytes.now }
+        requires at { at + parts * layout.now.count < 2 ^ 64 }
+        ensures { IfOk result (λ _. self.new ≡ self.old ++ components_from layout.now at parts (bits_of bytes.now)) }
+    {
+        let (word, filled) = append_components(
+            &mut self.out,
+            self.word,
+            self.filled,
+            layout,
+            bytes,
+            at,
+            parts,
+        )?;
+        self.word = word;
+        self.filled = filled;
         Ok(())
     }
 
@@ -186,6 +526,12 @@ impl BitWriter {
         requires at { at + parts * layout.now.count < 2 ^ 64 }
         ensures { IfOk result (λ _. self.new ≡ self.old ++ components_from layout.now at parts (bits_of bytes.now)) }
     {
+        if layout.is_spread() {
+            return self.put_spread(layout, bytes, at, parts);
+        }
+        if layout.is_narrow() {
+            return self.put_narrow(layout, bytes, at, parts);
+        }
         for part in 0..parts {
             self.put_component(
                 bytes,

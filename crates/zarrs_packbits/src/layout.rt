@@ -1,4 +1,4 @@
-ghost use Rattle.std.specs.Prelude.{◌<◌, ◌≤◌, ◌+◌, ◌≡◌, length};
+ghost use Rattle.std.specs.Prelude.{IsTrue, ◌<◌, ◌≤◌, ◌+◌, ◌≡◌, length};
 ghost use Rattle.zarrs_packbits.specs.PackedLayout.{IsPackedLayout, is_whole, is_in_reach, spare_of};
 ghost use Rattle.zarrs_packbits.specs.PaddingByte.{lead, trail, value_len, padding_holds};
 ghost use Rattle.zarrs_packbits.specs.ReadPlan.{run_start, run_end};
@@ -32,6 +32,27 @@ impl PackedLayout {
         ensures { result ≡ is_whole self.now }
     {
         self.first == 0 && self.above == 0
+    }
+
+    /// Whether a word holds a component.
+    pub(crate) fn is_narrow(&self) -> bool
+        ensures { IsTrue result → self.now.first + self.now.count + self.now.above ≤ 64 }
+    {
+        self.first <= 64
+            && self.count <= 64
+            && self.above <= 64
+            && self.first + self.count + self.above <= 64
+    }
+
+    /// Whether a component is one byte, of which one bit is kept, or two or four.
+    pub(crate) fn is_spread(&self) -> bool
+        ensures size { IsTrue result → self.now.first + self.now.count + self.now.above ≡ 8 }
+        ensures count { IsTrue result → (self.now.count ≡ 1 → ⊥) → (self.now.count ≡ 2 → ⊥) → self.now.count ≡ 4 }
+    {
+        self.first < 8
+            && (self.count == 1 || self.count == 2 || self.count == 4)
+            && self.above < 8
+            && self.first + self.count + self.above == 8
     }
 
     /// Whether 64 bits count the chunk's bytes and, where not all bits of whole bytes are kept, the

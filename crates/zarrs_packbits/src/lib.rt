@@ -8,6 +8,7 @@
 mod array_to_bytes;
 mod bit_places;
 mod bit_writer;
+mod blocks;
 pub mod laws;
 mod layout;
 mod metadata;

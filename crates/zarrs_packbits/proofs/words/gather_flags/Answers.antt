@@ -1,9 +1,11 @@
-use Rattle.std.proofs.Common.{◌≡◌, ◌+◌, ◌*◌, ◌/◌, ◌%◌, ◌^◌, ◌<◌, ◌≤◌, get_or, arith, ap, ◌∙◌}
+use Rattle.std.proofs.Common.{◌≡◌, ◌+◌, ◌*◌, ◌/◌, ◌%◌, ◌^◌, ◌<◌, ◌≤◌, get_or, length, arith, ap, sym, subst, ◌∙◌}
 use Rattle.std.specs.Prelude.{bit_or, bit_and}
 use Rattle.std.proofs.lemmas.Nat.{shl_whole, or_comm, or_shifted, pow-add}
 use Rattle.std.proofs.lemmas.Nat.Bits.{shr_and_one, bit_at-lt}
 use Rattle.std.proofs.Math.Nat.{mul-le-mul_right}
 use Rattle.zarrs_packbits.proofs.FlagLemmas.{flags_more}
+use Rattle.zarrs_packbits.specs.Bits.{low_bits}
+use Rattle.zarrs_packbits.specs.WrittenBits.{flags_of}
 use Rattle.zarrs_packbits.proofs.words.gather_flags.Goals as goal
 
 pub loop-index-preserved : goal.loop-index-preserved
@@ -22,3 +24,9 @@ loop-index-preserved c =
       bits = flags_more c.args.bytes.now n c.args.bit word flag (omega arith) c.requires.bit below c.loop-index.invariant.bits is;
       below = omega (arith, below, mul-le-mul_right (2 ^ n) one, pow-add 2 n 1);
     })
+
+pub returns-then-bytes-eq64-clause-bits : goal.returns-then-bytes-eq64-clause-bits
+returns-then-bytes-eq64-clause-bits c = ap (λ n. low_bits n c.gather_word.result) c.if-bytes-eq64.true ∙ c.gather_word.ensures
+
+pub returns-then-bytes-eq64-clause-below : goal.returns-then-bytes-eq64-clause-below
+returns-then-bytes-eq64-clause-below c = subst (λ n. c.gather_word.result < 2 ^ n) (sym c.if-bytes-eq64.true) c.gather_word.type_inv
