@@ -1,8 +1,9 @@
 -- Numbers that follow one another, and the runs that they make.
 use Rattle.std.proofs.Common.{◌≡◌, ℕ, zero, suc, ◌+◌, ◌-◌, ◌<◌, ◌≤◌, List, [], ◌∷◌, ◌++◌, length, get_or, take, drop, arith, ap, ◌∙◌, sym}
+use Rattle.std.specs.Prelude.{◌≢◌}
 use Rattle.std.specs.List.{range_with_len, All}
 use Rattle.std.proofs.Math.Seq.{take-add}
-use Rattle.std.proofs.lemmas.List.{take_more, get_or-take, get_or-drop}
+use Rattle.std.proofs.lemmas.List.{take_more, get_or-take, get_or-drop, length-drop}
 use Rattle.std.proofs.lemmas.List.FromFn.{get_or-range_with_len}
 use Rattle.zarrs_chunk.specs.Runs.{joined_runs}
 use Rattle.zarrs_chunk.proofs.BoxTuples.{joined_runs-push}
@@ -46,3 +47,11 @@ run_below xs rest at start len limit same some within first run below =
     let there : get_or rest (len - 1) 0 ≡ get_or xs (at + (len - 1)) 0 = ap (λ ys. get_or ys (len - 1) 0) same ∙ get_or-drop at xs (len - 1) 0 in
     let small = below (at + (len - 1)) 0 (omega arith) in
     omega (arith, last, there, small, first)
+
+-- where a run goes as far as numbers follow one another, the number behind it isn't the next
+pub run_ends : (xs rest : List ℕ) (at start len : ℕ) → rest ≡ drop at xs → 0 < len → start ≡ get_or rest 0 0 → take len rest ≡ range_with_len start len → (len < length rest → get_or rest len 0 ≢ get_or rest (len - 1) 0 + 1) → at + len < length xs → start + len ≢ get_or xs (at + len) 0
+run_ends xs rest at start len same some first run longest more = λ e.
+    let last = place_in_run rest len (len - 1) (run ∙ ap (λ s. range_with_len s len) first) (omega arith) in
+    let there : get_or rest len 0 ≡ get_or xs (at + len) 0 = ap (λ ys. get_or ys len 0) same ∙ get_or-drop at xs len 0 in
+    let long : len < length rest = omega (arith, ap (λ (ys : List ℕ). length ys) same, length-drop at xs) in
+    longest long (omega (arith, last, there, first, e))

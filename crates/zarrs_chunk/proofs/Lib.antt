@@ -1,3 +1,4 @@
+pub mod Apart
 pub mod BoxLaws
 pub mod BoxTuples
 pub mod Consecutive

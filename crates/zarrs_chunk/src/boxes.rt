@@ -1,9 +1,9 @@
 //! Products of sizes, and the places and runs of a box, over plain slices.
-ghost use Rattle.std.specs.Prelude.{◌≡◌, ◌<◌, ◌≤◌, ◌^◌, ◌+◌, ◌*◌, ℕ, length, drop, slice_index, true, IfOk, OnOk, SomeIff, All};
+ghost use Rattle.std.specs.Prelude.{◌≡◌, ◌<◌, ◌≤◌, ◌^◌, ◌+◌, ◌-◌, ◌*◌, ℕ, length, drop, slice_index, true, IfOk, OnOk, SomeIff, All};
 ghost use Rattle.std.specs.List.{flat_map, range_with_len};
 ghost use Rattle.zarrs_chunk.specs.ChunkShape.{product};
 ghost use Rattle.zarrs_chunk.specs.Levels.{numbers_behind, box_places as places_of_box, IsFitting};
-ghost use Rattle.zarrs_chunk.specs.Runs.{joined_runs};
+ghost use Rattle.zarrs_chunk.specs.Runs.{joined_runs, AreApart};
 ghost use Rattle.zarrs_chunk.specs.Levels.{AreWhole};
 ghost use Rattle.zarrs_chunk.specs.Tuples.{is_box_inside as box_inside};
 
@@ -140,12 +140,15 @@ pub fn box_places(
     box_fronts(alloc, sizes, starts, lengths, sizes.len())
 }
 
-/// How many axes stand before those at the end that the box covers whole.
+/// How many axes stand before those at the end that the box covers whole: it doesn't cover the last
+/// of them.
 fn outer_axes(sizes: &[u64], starts: &[u64], lengths: &[u64]) -> usize
     requires starts { length starts.now ≡ length sizes.now }
     requires lengths { length lengths.now ≡ length sizes.now }
+    requires inside { box_inside sizes.now starts.now lengths.now ≡ true }
     ensures axes { result ≤ length sizes.now }
     ensures whole { AreWhole result (length sizes.now) sizes.now starts.now lengths.now }
+    ensures partial { 0 < result → slice_index lengths.now (result - 1) < slice_index sizes.now (result - 1) }
 {
     let mut axes = 0;
     for index in 0..sizes.len() {
@@ -183,6 +186,7 @@ pub fn box_runs(
     ensures places { IfOk result (λ v. joined_runs v.items ≡ places_of_box sizes.now starts.now lengths.now) }
     ensures filled { IfOk result (λ v. All (λ run. 0 < run.1) v.items) }
     ensures below { IfOk result (λ v. All (λ run. run.0 + run.1 ≤ product sizes.now) v.items) }
+    ensures apart { IfOk result (λ v. AreApart v.items) }
 {
     if lengths.contains(&0) {
         return Ok(Vec::new(alloc));

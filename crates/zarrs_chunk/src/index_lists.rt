@@ -3,7 +3,7 @@ ghost use Rattle.std.specs.Prelude.{◌≡◌, ◌==◌, ◌<◌, ◌≤◌, ◌
 ghost use Rattle.std.specs.List.{list_all};
 ghost use Rattle.zarrs_chunk.specs.Answer.{Answers, Excused, memory, is_fault};
 ghost use Rattle.zarrs_chunk.specs.ChunkShape.{product};
-ghost use Rattle.zarrs_chunk.specs.Runs.{joined_runs};
+ghost use Rattle.zarrs_chunk.specs.Runs.{joined_runs, AreApart};
 ghost use Rattle.zarrs_chunk.specs.Selection.{indices as indices_of, bounds_of, places_of};
 ghost use Rattle.zarrs_chunk.specs.Tuples.{row_major as row_major_of, is_tuple_inside as tuple_inside};
 ghost use Rattle.zarrs_chunk.specs.declared.codec_error.CodecError.TheVariants.{OutOfBounds};
@@ -12,6 +12,7 @@ use crate::boxes::checked_product;
 use crate::chunk_shape::ChunkShape;
 use crate::codec_error::CodecError;
 use crate::indices::{ArrayIndices, is_tuple_inside, place_inside};
+use crate::runs::append_place;
 use std::alloc::Global;
 
 fn have_axes(axes: usize, tuples: &[ArrayIndices]) -> bool
@@ -70,7 +71,7 @@ fn push_place(places: &mut Vec<u64>, sizes: &[u64], tuple: &[u64]) -> Result<(),
     Ok(())
 }
 
-/// One tuple more, as a run of one place at the end of the runs.
+/// One tuple more, at the end of the runs.
 fn push_run(runs: &mut Vec<(u64, u64)>, sizes: &[u64], tuple: &[u64]) -> Result<(), CodecError>
     requires axes { length tuple.now ≡ length sizes.now }
     requires positive { All (λ size. 0 < size) sizes.now }
@@ -78,10 +79,11 @@ fn push_run(runs: &mut Vec<(u64, u64)>, sizes: &[u64], tuple: &[u64]) -> Result<
     ensures pushed { MatchResult result (λ _. (tuple_inside sizes.now tuple.now ≡ true) × (joined_runs runs.new.items ≡ joined_runs runs.old.items ++ row_major_of sizes.now tuple.now ∷ [])) (λ e. Excused (memory e) ((tuple_inside sizes.now tuple.now ≡ false) × (e ≡ OutOfBounds))) }
     ensures filled { OnOk result (All (λ run. 0 < run.1) runs.old.items → All (λ run. 0 < run.1) runs.new.items) }
     ensures below { OnOk result (All (λ run. run.0 + run.1 ≤ product sizes.now) runs.old.items → All (λ run. run.0 + run.1 ≤ product sizes.now) runs.new.items) }
+    ensures apart { OnOk result (AreApart runs.old.items → AreApart runs.new.items) }
     ensures no_fault { is_fault result ≡ false }
 {
     let place = place_inside(sizes, tuple).ok_or(CodecError::OutOfBounds)?;
-    runs.push((place, 1))?;
+    append_place(runs, place)?;
     Ok(())
 }
 
@@ -104,7 +106,7 @@ fn tuple_places(
     Ok(places)
 }
 
-/// The same, with each place as a run of one.
+/// The same, with places that follow one another as one run.
 fn tuple_runs(
     alloc: Global,
     sizes: &[u64],
@@ -116,6 +118,7 @@ fn tuple_runs(
     ensures places { MatchResult result (λ v. (list_all (λ tuple. tuple_inside sizes.now tuple.items) tuples.now ≡ true) × (joined_runs v.items ≡ map (λ tuple. row_major_of sizes.now tuple.items) tuples.now)) (λ e. Excused (memory e) ((list_all (λ tuple. tuple_inside sizes.now tuple.items) tuples.now ≡ false) × (e ≡ OutOfBounds))) }
     ensures filled { IfOk result (λ v. All (λ run. 0 < run.1) v.items) }
     ensures below { IfOk result (λ v. All (λ run. run.0 + run.1 ≤ product sizes.now) v.items) }
+    ensures apart { IfOk result (λ v. AreApart v.items) }
     ensures no_fault { is_fault result ≡ false }
 {
     let mut runs = Vec::with_capacity(alloc, tuples.len())?;
@@ -142,7 +145,7 @@ pub fn indices_places(
     Ok(places)
 }
 
-/// The runs of a list of tuples, one for each tuple in list order.
+/// The runs of a list of tuples, in list order.
 pub fn indices_runs(
     alloc: Global,
     shape: &ChunkShape,
@@ -152,6 +155,7 @@ pub fn indices_runs(
     ensures filled { IfOk result (λ v. All (λ run. 0 < run.1) v.items) }
     ensures below { IfOk result (λ v. All (λ run. run.0 + run.1 ≤ product shape.now) v.items) }
     ensures count { IfOk result (λ v. length (joined_runs v.items) < 2 ^ 64) }
+    ensures apart { IfOk result (λ v. AreApart v.items) }
     ensures no_fault { is_fault result ≡ false }
 {
     let sizes = shape.as_slice();

@@ -2,7 +2,7 @@ ghost use Rattle.std.specs.Prelude.{◌≡◌, ◌<◌, ◌≤◌, ◌+◌, ◌^
 ghost use Rattle.zarrs_chunk.specs.Answer.{Answers, memory, is_fault};
 ghost use Rattle.zarrs_chunk.specs.ChunkShape.{product};
 ghost use Rattle.zarrs_chunk.specs.Indexer.{selection_of};
-ghost use Rattle.zarrs_chunk.specs.Runs.{joined_runs};
+ghost use Rattle.zarrs_chunk.specs.Runs.{joined_runs, AreApart};
 ghost use Rattle.zarrs_chunk.specs.Selection.{subset as subset_of, bounds_of, len_of, places_of};
 
 use crate::array_subset::ArraySubset;
@@ -62,6 +62,7 @@ fn subset_runs(
     ensures filled { IfOk result (λ v. All (λ run. 0 < run.1) v.items) }
     ensures below { IfOk result (λ v. All (λ run. run.0 + run.1 ≤ product shape.now) v.items) }
     ensures count { IfOk result (λ v. length (joined_runs v.items) < 2 ^ 64) }
+    ensures apart { IfOk result (λ v. AreApart v.items) }
     ensures no_fault { is_fault result ≡ false }
 {
     let sizes = shape.as_slice();
@@ -110,12 +111,13 @@ impl Indexer {
     }
 
     /// The places in order, as runs of a start and a length: consecutive numbers, none of the runs
-    /// empty. Refusals as `places`.
+    /// empty, and none starting where the one before it ends. Refusals as `places`.
     pub fn runs(&self, alloc: Global, shape: &ChunkShape) -> Result<Vec<(u64, u64)>, CodecError>
         ensures places { Answers memory (λ v. joined_runs v.items) result (places_of (selection_of self.now) shape.now) }
         ensures filled { IfOk result (λ v. All (λ run. 0 < run.1) v.items) }
         ensures below { IfOk result (λ v. All (λ run. run.0 + run.1 ≤ product shape.now) v.items) }
         ensures count { IfOk result (λ v. length (joined_runs v.items) < 2 ^ 64) }
+        ensures apart { IfOk result (λ v. AreApart v.items) }
         ensures no_fault { is_fault result ≡ false }
     {
         match self {

@@ -5,6 +5,7 @@ use Rattle.std.proofs.lemmas.List.Elements.{All-push}
 use Rattle.zarrs_chunk.specs.ChunkShape.{product}
 use Rattle.zarrs_chunk.specs.Runs.{joined_runs}
 use Rattle.zarrs_chunk.specs.Tuples.{row_major}
+use Rattle.zarrs_chunk.proofs.Apart.{AreApart-nil, AreApart-one, rows_apart, map-take_more}
 use Rattle.zarrs_chunk.proofs.BoxTuples.{box_tuples-nothing, flat_map-take_more, joined_runs-push}
 use Rattle.zarrs_chunk.proofs.Fitting.{row_fits}
 use Rattle.zarrs_chunk.proofs.Products.{All-positive, product_positive, product_positive-drop}
@@ -87,6 +88,7 @@ loop-front-preserved c =
     rw c.in_ok-push-2.ensures.items (record {
       places = joined_runs-push c.loop-front.runs.items start len ∙ ap (λ ns. ns ++ range_with_len start len) c.loop-front.invariant.places ∙ sym more;
       filled = All-push (λ (run : ℕ × ℕ). 0 < run.1) c.loop-front.runs.items (start, len) c.loop-front.invariant.filled filled;
+      rows = ap (λ (runs : List (ℕ × ℕ)). runs ++ (start, len) ∷ []) c.loop-front.invariant.rows ∙ sym (map-take_more (λ front. ((front * get_or sizes last 0 + get_or c.args.starts.now last 0) * whole, len)) c.deref-front-items.result.now c.loop-front.front-index 0 (omega arith));
       below = All-push (λ (run : ℕ × ℕ). run.0 + run.1 ≤ product sizes) c.loop-front.runs.items (start, len) c.loop-front.invariant.below ends;
     })
 
@@ -102,3 +104,27 @@ returns-clause-places c =
     ∙ ap (λ whole. rows whole c.in_ok-fronts.fronts.items) whole_is
     ∙ sym (rows_before_whole sizes c.args.starts.now c.args.lengths.now c.in_ok-fronts.fronts.items last axes (omega arith) (omega arith) c.requires.starts c.requires.lengths c.outer_axes-axes.ensures.whole)
     ∙ c.in_ok-fronts.ensures.level
+
+pub returns-then-contains-clause-apart : goal.returns-then-contains-clause-apart
+returns-then-contains-clause-apart c = rw c.new.ensures.items AreApart-nil
+
+pub returns-then-axes-eq0-clause-apart : goal.returns-then-axes-eq0-clause-apart
+returns-then-axes-eq0-clause-apart c =
+    let runs : c.push.new.self.items ≡ (0, product c.args.sizes.now) ∷ []
+    = c.in_ok-push.ensures.items ∙ ap (λ (xs : List (ℕ × ℕ)). xs ++ (0, c.known_product.result) ∷ []) c.new-runs.ensures.items ∙ ap (λ n. (0, n) ∷ []) c.known_product.ensures in
+    rw runs (AreApart-one (0, product c.args.sizes.now))
+
+pub returns-clause-apart : goal.returns-clause-apart
+returns-clause-apart c =
+    let sizes = c.args.sizes.now in
+    let axes = c.outer_axes-axes.result in
+    let last = axes - 1 in
+    let whole = c.known_product-whole.result in
+    let whole_is : whole ≡ product (drop axes sizes) = c.known_product-whole.ensures ∙ ap product (take_rest sizes axes) in
+    let row : ℕ → ℕ × ℕ = λ front. ((front * get_or sizes last 0 + get_or c.args.starts.now last 0) * whole, get_or c.args.lengths.now last 0 * whole) in
+    let fronts = c.in_ok-fronts.fronts.items in
+    let rows : c.loop-front.runs.items ≡ map row fronts = c.loop-front.invariant.rows ∙ ap (map row) (take_all c.loop-front.front-index c.deref-front-items.result.now (omega arith) ∙ c.deref-front-items.ensures.value) in
+    let positive = All-positive c.args.lengths.now (sym c.contains.ensures.value ∙ c.if-contains.false) last 0 (omega arith) in
+    let short : get_or c.args.lengths.now last 0 < get_or sizes last 0 = c.outer_axes-axes.ensures.partial (omega arith) in
+    let some : 0 < whole = rw whole_is (product_positive-drop sizes axes c.requires.positive) in
+    rw rows (rows_apart (get_or sizes last 0) (get_or c.args.starts.now last 0) (get_or c.args.lengths.now last 0) whole fronts positive short some)

@@ -2,7 +2,8 @@ use Rattle.std.proofs.Common.{ℕ, ◌≡◌, ◌+◌, ◌-◌, ◌<◌, ◌≤�
 use Rattle.std.specs.List.{range_with_len}
 use Rattle.std.proofs.lemmas.List.{take_rest, get_or-drop, length-drop, length-append}
 use Rattle.std.proofs.lemmas.List.Elements.{All-push}
-use Rattle.zarrs_chunk.proofs.Consecutive.{joined_runs-more, run_below}
+use Rattle.zarrs_chunk.proofs.Consecutive.{joined_runs-more, run_below, run_ends}
+use Rattle.zarrs_chunk.proofs.Apart.{AreApart-push, EndsElsewhere-push}
 use Rattle.zarrs_chunk.proofs.runs.runs_of_places.Goals as goal
 
 pub loop-at-preserved : goal.loop-at-preserved
@@ -22,5 +23,7 @@ loop-at-preserved c =
       places = joined_runs-more runs places rest at start len c.loop-at.invariant.places same run;
       filled = All-push (λ (run : ℕ × ℕ). 0 < run.1) runs (start, len) c.loop-at.invariant.filled c.run_length-len.ensures.some;
       below = λ limit h. All-push (λ (run : ℕ × ℕ). run.0 + run.1 ≤ limit) runs (start, len) (c.loop-at.invariant.below limit h) (run_below places rest at start len limit same c.run_length-len.ensures.some room (sym here) run h);
+      apart = AreApart-push runs (start, len) c.loop-at.invariant.apart (c.loop-at.invariant.ends (omega arith));
+      ends = λ more. EndsElsewhere-push runs (start, len) (get_or places (at + len) 0) (run_ends places rest at start len same c.run_length-len.ensures.some (sym here) run (λ l. c.run_length-len.ensures.longest l) more);
       count = omega (arith, length-append runs ((start, len) ∷ []), c.run_length-len.ensures.some, c.loop-at.invariant.count);
     })
