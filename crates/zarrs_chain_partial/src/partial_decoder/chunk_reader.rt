@@ -3,7 +3,7 @@ ghost use Rattle.std.specs.Prelude.{◌≡◌, ◌<◌, ◌≤◌, ◌+◌, ◌^
 ghost use Rattle.zarrs_chunk.specs.Answer.{Answers, AnswersBy, fault, memory, memory_or_fault, is_fault, seen};
 ghost use Rattle.zarrs_chunk.specs.ChunkShape.{product};
 ghost use Rattle.zarrs_chunk.specs.Indexer.{selection_of};
-ghost use Rattle.zarrs_chunk.specs.Runs.{joined_runs};
+ghost use Rattle.zarrs_chunk.specs.Runs.{joined_runs, AreApart};
 ghost use Rattle.zarrs_chunk.specs.Selection.{bounds_of, places_of};
 ghost use Rattle.zarrs_data_type.specs.Element.{Chunk, fill_element};
 ghost use Rattle.zarrs_data_type.specs.FillValue.{fill_fits};
@@ -154,7 +154,8 @@ impl<'a, B: BytesToBytesCodecTraits> ChunkReader<'a, B> {
         self.shape.as_slice();
     }
 
-    /// Where the places that an indexer means go in the chunk that the codec to bytes gets, as runs.
+    /// Where the places that an indexer means go in the chunk that the codec to bytes gets, as runs,
+    /// none of which starts where the one before it ends.
     pub(crate) fn runs(
         &self,
         alloc: Global,
@@ -164,6 +165,7 @@ impl<'a, B: BytesToBytesCodecTraits> ChunkReader<'a, B> {
         ensures filled { IfOk result (λ runs. All (λ run. 0 < run.1) runs.items) }
         ensures inside { IfOk result (λ runs. All (λ run. run.0 + run.1 ≤ product self.now.encoded) runs.items) }
         ensures count { IfOk result (λ runs. length (joined_runs runs.items) < 2 ^ 64) }
+        ensures apart { IfOk result (λ runs. AreApart runs.items) }
         ensures no_fault { is_fault result ≡ false }
     {
         self.is_sound();

@@ -3,7 +3,7 @@ ghost use Rattle.std.specs.Prelude.{◌≡◌, ◌<◌, ◌≤◌, ◌+◌, ◌^
 ghost use Rattle.zarrs_chunk.specs.Answer.{Answers, memory, is_fault};
 ghost use Rattle.zarrs_chunk.specs.ChunkShape.{product};
 ghost use Rattle.zarrs_chunk.specs.Indexer.{selection_of};
-ghost use Rattle.zarrs_chunk.specs.Runs.{joined_runs};
+ghost use Rattle.zarrs_chunk.specs.Runs.{joined_runs, AreApart};
 ghost use Rattle.zarrs_array_to_array.specs.Mapping.{mapping_of, chained_places};
 
 use std::alloc::Global;
@@ -11,9 +11,9 @@ use zarrs_array_to_array::{ArrayToArrayCodec, encoded_places};
 use zarrs_chunk::{ChunkShape, CodecError, Indexer, runs_of_places};
 
 /// Where the places that an indexer means go through the codecs, in order, as runs of a start and a
-/// length. Without codecs the indexer's own runs are lent on, so that no place is written down by
-/// itself. Refusals, the first that holds, `OutOfMemory` aside: those of `Indexer::places`, and then
-/// those of each codec's `encoded_shape`.
+/// length, none of which starts where the one before it ends. Without codecs the indexer's own runs
+/// are lent on, so that no place is written down by itself. Refusals, the first that holds,
+/// `OutOfMemory` aside: those of `Indexer::places`, and then those of each codec's `encoded_shape`.
 pub(crate) fn encoded_runs(
     alloc: Global,
     codecs: &[ArrayToArrayCodec],
@@ -24,6 +24,7 @@ pub(crate) fn encoded_runs(
     ensures filled { IfOk result (λ runs. All (λ run. 0 < run.1) runs.items) }
     ensures below { IfOk result (λ runs. All (λ run. run.0 + run.1 ≤ product shape.now) runs.items) }
     ensures count { IfOk result (λ runs. length (joined_runs runs.items) < 2 ^ 64) }
+    ensures apart { IfOk result (λ runs. AreApart runs.items) }
     ensures no_fault { is_fault result ≡ false }
 {
     if codecs.is_empty() {
