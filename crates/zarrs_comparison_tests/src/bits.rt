@@ -1,0 +1,436 @@
+//! The codec `packbits` against a plain body that moves one bit at a time: for all widths of a
+//! component up to 70 bits, all first and last bits, and each padding and both signs (for wide components by
+//! turns).
+
+use std::alloc::Global;
+use std::borrow::CowSlice;
+use std::fmt::Debug;
+use std::ops::Range;
+use std::process::Abort;
+use std::test::Fail;
+use zarrs_array_bytes::ArrayBytes;
+use zarrs_chunk::{ArraySubset, ChunkShape, CodecError, Indexer};
+use zarrs_codec::{MemoryHandle, Refused};
+use zarrs_data_type::{DataType, FillValue};
+use zarrs_metadata::PackBitsPaddingEncoding;
+use zarrs_packbits::{PackBitsCodec, PackBitsPartialDecoder};
+
+/// The widest component, in bits.
+const WIDEST: u64 = 70;
+
+/// The widest component that is tried with all paddings and both signs.
+const ALL_PAIRS: u64 = 16;
+
+/// The elements of a chunk, of one component each.
+const ELEMENTS: u64 = 5;
+
+/// Room for the elements of a chunk, and for its value.
+const ROOM: usize = 64;
+
+/// A fill value, of which a component's bytes are taken.
+const FILL: [u8; ROOM] = [0; ROOM];
+
+/// Places that are read in part.
+struct Run {
+    name: &'static str,
+    start: u64,
+    end: u64,
+}
+
+const RUNS: &'static [Run] = &[
+    Run {
+        name: "the places in the middle are read",
+        start: 1,
+        end: 4,
+    },
+    Run {
+        name: "the last place is read",
+        start: 4,
+        end: 5,
+    },
+];
+
+/// The width of a component, the bits of it that are kept, and how they are packed.
+#[derive(Clone, Copy, Debug, PartialEq)]
+struct Case {
+    bits: u64,
+    first: u64,
+    last: u64,
+    signed: bool,
+    padding: PackBitsPaddingEncoding,
+}
+
+/// How many bytes so many bits take.
+fn bytes_for(bits: u64) -> u64 {
+    bits.div_ceil(8)
+}
+
+/// One bit of bytes, the lowest of each byte first. Behind them all bits are clear.
+fn plain_bit(bytes: &[u8], place: u64) -> bool {
+    match bytes.get((place / 8) as usize) {
+        Some(byte) => *byte >> (place % 8) as u8 & 1 == 1,
+        None => false,
+    }
+}
+
+/// Sets one bit of bytes.
+fn set_plain_bit(bytes: &mut [u8], place: u64) {
+    if let Some(byte) = bytes.get_mut((place / 8) as usize) {
+        *byte |= 1u8 << (place % 8) as u8;
+    }
+}
+
+fn set_plain_byte(bytes: &mut [u8], place: u64, value: u64) {
+    if let Some(byte) = bytes.get_mut(place as usize) {
+        *byte = (value % 256) as u8;
+    }
+}
+
+/// How many bits of all elements are kept.
+fn plain_kept(case: &Case) -> u64 {
+    case.last
+        .wrapping_sub(case.first)
+        .wrapping_add(1)
+        .wrapping_mul(ELEMENTS)
+}
+
+/// Where the padding byte stands: nowhere where all bits of whole bytes are kept.
+fn plain_padding(case: &Case) -> PackBitsPaddingEncoding {
+    if case.first == 0 && case.last.wrapping_add(1) == case.bits && case.bits % 8 == 0 {
+        PackBitsPaddingEncoding::None
+    } else {
+        case.padding
+    }
+}
+
+/// The bit of a value that the first kept bit is.
+fn plain_lead(case: &Case) -> u64 {
+    match plain_padding(case) {
+        PackBitsPaddingEncoding::FirstByte => 8,
+        _ => 0,
+    }
+}
+
+/// Puts the kept bits of all elements one behind another.
+fn pack_plain_bits(case: &Case, elements: &[u8], value: &mut [u8]) {
+    let mut to = plain_lead(case);
+    for element in 0..ELEMENTS {
+        let start = bytes_for(case.bits).wrapping_mul(8).wrapping_mul(element);
+        for bit in case.first..case.last.wrapping_add(1) {
+            if plain_bit(elements, start.wrapping_add(bit)) {
+                set_plain_bit(value, to);
+            }
+            to = to.wrapping_add(1);
+        }
+    }
+}
+
+/// Puts the padding byte, and tells how many bytes the value has.
+fn put_plain_padding(case: &Case, value: &mut [u8]) -> u64 {
+    let packed = bytes_for(plain_kept(case));
+    let spare = packed.wrapping_mul(8).wrapping_sub(plain_kept(case));
+    match plain_padding(case) {
+        PackBitsPaddingEncoding::None => packed,
+        PackBitsPaddingEncoding::FirstByte => {
+            set_plain_byte(value, 0, spare);
+            packed.wrapping_add(1)
+        }
+        PackBitsPaddingEncoding::LastByte => {
+            set_plain_byte(value, packed, spare);
+            packed.wrapping_add(1)
+        }
+    }
+}
+
+/// The kept bit that a bit of an element's bytes is, if it is one: below the kept bits none, and above
+/// them the last one where there is a sign.
+fn plain_source(case: &Case, bit: u64) -> Option<u64> {
+    if bit < case.first {
+        None
+    } else if bit <= case.last {
+        Some(bit.wrapping_sub(case.first))
+    } else if case.signed {
+        Some(case.last.wrapping_sub(case.first))
+    } else {
+        None
+    }
+}
+
+/// Puts the bits of a value where they stood in the elements.
+fn unpack_plain_bits(case: &Case, value: &[u8], elements: &mut [u8]) {
+    let width = bytes_for(case.bits).wrapping_mul(8);
+    let kept = case.last.wrapping_sub(case.first).wrapping_add(1);
+    for element in 0..ELEMENTS {
+        let from = plain_lead(case).wrapping_add(kept.wrapping_mul(element));
+        for bit in 0..width {
+            if let Some(source) = plain_source(case, bit) {
+                if plain_bit(value, from.wrapping_add(source)) {
+                    set_plain_bit(elements, width.wrapping_mul(element).wrapping_add(bit));
+                }
+            }
+        }
+    }
+}
+
+/// Some bytes, by a formula.
+fn fill_by_formula(case: &Case, bytes: &mut [u8]) {
+    let mut state = case
+        .bits
+        .wrapping_mul(128)
+        .wrapping_add(case.first)
+        .wrapping_mul(128)
+        .wrapping_add(case.last);
+    for byte in bytes.iter_mut() {
+        state = state
+            .wrapping_mul(6364136223846793005)
+            .wrapping_add(1442695040888963407);
+        *byte = (state / 1099511627776 % 256) as u8;
+    }
+}
+
+fn head(bytes: &[u8], len: u64) -> &[u8] {
+    bytes.get(..len as usize).unwrap_or(&[])
+}
+
+fn part(bytes: &[u8], start: u64, end: u64) -> &[u8] {
+    bytes.get(start as usize..end as usize).unwrap_or(&[])
+}
+
+fn is<T: PartialEq + Debug>(rt: &impl Abort, about: &str, came: &T, wanted: &T) {
+    assert_eq!(rt; *came, *wanted, "{about}");
+}
+
+/// The bytes that came are those of the plain body: if not, the case is shown.
+fn are(rt: &impl Abort, about: &str, case: &Case, came: &[u8], wanted: &[u8]) {
+    if came != wanted {
+        is(rt, about, &Some(*case), &None);
+    }
+}
+
+/// What a codec is told of a chunk.
+#[derive(Drop)]
+struct ChunkForm {
+    shape: ChunkShape,
+    data_type: DataType,
+    fill_value: FillValue,
+}
+
+fn chunk_form(alloc: Global, case: &Case) -> Result<ChunkForm, CodecError> {
+    let sizes: &[u64] = &[ELEMENTS];
+    let shape = ChunkShape::new(sizes.to_vec(alloc)?).ok_or(CodecError::OutOfBounds)?;
+    let data_type = DataType::components(case.bits, 1, case.signed)?;
+    let fill_value = FillValue::new(head(&FILL, bytes_for(case.bits)).to_vec(alloc)?);
+    Ok(ChunkForm {
+        shape,
+        data_type,
+        fill_value,
+    })
+}
+
+fn encodes(
+    rt: &impl Abort,
+    alloc: Global,
+    codec: &PackBitsCodec,
+    form: &ChunkForm,
+    case: &Case,
+    elements: &[u8],
+    value: &[u8],
+) -> Result<(), CodecError> {
+    let encoded = codec.encode(
+        alloc,
+        ArrayBytes::new_flen(CowSlice::Borrowed(elements)),
+        &form.shape,
+        &form.data_type,
+        &form.fill_value,
+    )?;
+    are(rt, "encoded", case, &encoded, value);
+    Ok(())
+}
+
+fn decodes(
+    rt: &impl Abort,
+    alloc: Global,
+    codec: &PackBitsCodec,
+    form: &ChunkForm,
+    case: &Case,
+    value: &[u8],
+    decoded: &[u8],
+) -> Result<(), CodecError> {
+    let came = codec.decode(
+        alloc,
+        CowSlice::Borrowed(value),
+        &form.shape,
+        &form.data_type,
+        &form.fill_value,
+    )?;
+    are(rt, "decoded", case, came.as_fixed()?, decoded);
+    Ok(())
+}
+
+type Decoder = PackBitsPartialDecoder<MemoryHandle>;
+
+fn decoder(
+    alloc: Global,
+    codec: &PackBitsCodec,
+    form: &ChunkForm,
+    value: &[u8],
+) -> Result<Decoder, CodecError> {
+    let handle = MemoryHandle::with_value(value.to_vec(alloc)?);
+    let made = codec.partial_decoder(
+        alloc,
+        handle,
+        &form.shape,
+        &form.data_type,
+        &form.fill_value,
+    );
+    match made {
+        Ok(decoder) => Ok(decoder),
+        Err(Refused { error, handle: _ }) => Err(error),
+    }
+}
+
+fn read(
+    alloc: Global,
+    decoder: &mut Decoder,
+    run: &Run,
+) -> Result<ArrayBytes<'static>, CodecError> {
+    let subset = ArraySubset::new_with_ranges(alloc, &[run.start..run.end])?;
+    decoder.partial_decode(alloc, &Indexer::Subset(subset))
+}
+
+fn reads_run(
+    rt: &impl Abort,
+    alloc: Global,
+    decoder: &mut Decoder,
+    case: &Case,
+    run: &Run,
+    decoded: &[u8],
+) -> Result<(), CodecError> {
+    let came = read(alloc, decoder, run)?;
+    let size = bytes_for(case.bits);
+    let wanted = part(
+        decoded,
+        size.wrapping_mul(run.start),
+        size.wrapping_mul(run.end),
+    );
+    are(rt, run.name, case, came.as_fixed()?, wanted);
+    Ok(())
+}
+
+fn reads_runs(
+    rt: &impl Abort,
+    alloc: Global,
+    decoder: &mut Decoder,
+    case: &Case,
+    decoded: &[u8],
+) -> Result<(), CodecError> {
+    for run in RUNS.iter() {
+        reads_run(rt, alloc, decoder, case, run, decoded)?;
+    }
+    Ok(())
+}
+
+fn reads(
+    rt: &impl Abort,
+    alloc: Global,
+    codec: &PackBitsCodec,
+    form: &ChunkForm,
+    case: &Case,
+    value: &[u8],
+    decoded: &[u8],
+) -> Result<(), CodecError> {
+    let mut decoder = decoder(alloc, codec, form, value)?;
+    reads_runs(rt, alloc, &mut decoder, case, decoded)
+}
+
+fn does_all(
+    rt: &impl Abort,
+    alloc: Global,
+    form: &ChunkForm,
+    case: &Case,
+    elements: &[u8],
+    value: &[u8],
+    decoded: &[u8],
+) -> Result<(), Fail> {
+    let codec = PackBitsCodec::new(case.padding, Some(case.first), Some(case.last))?;
+    encodes(rt, alloc, &codec, form, case, elements, value)?;
+    decodes(rt, alloc, &codec, form, case, value, decoded)?;
+    reads(rt, alloc, &codec, form, case, value, decoded)?;
+    Ok(())
+}
+
+/// The codec does what the plain body does.
+fn is_alike(rt: &impl Abort, alloc: Global, case: &Case) -> Result<(), Fail> {
+    let mut elements = [0u8; ROOM];
+    fill_by_formula(case, &mut elements);
+    let mut value = [0u8; ROOM];
+    pack_plain_bits(case, &elements, &mut value);
+    let value_len = put_plain_padding(case, &mut value);
+    let mut decoded = [0u8; ROOM];
+    unpack_plain_bits(case, &value, &mut decoded);
+    let len = bytes_for(case.bits).wrapping_mul(ELEMENTS);
+    let form = chunk_form(alloc, case)?;
+    does_all(
+        rt,
+        alloc,
+        &form,
+        case,
+        head(&elements, len),
+        head(&value, value_len),
+        head(&decoded, len),
+    )
+}
+
+/// Which pairs of a padding and a sign are tried: all six up to `ALL_PAIRS` bits, and above one, by
+/// turns.
+fn turns(bits: u64, first: u64, last: u64) -> Range<u64> {
+    if bits <= ALL_PAIRS {
+        return 0..6;
+    }
+    let mixed = bits
+        .wrapping_mul(131)
+        .wrapping_add(first.wrapping_mul(37))
+        .wrapping_add(last.wrapping_mul(17));
+    let turn = mixed / 8 % 6;
+    turn..turn.wrapping_add(1)
+}
+
+fn padding_at(turn: u64) -> PackBitsPaddingEncoding {
+    match turn % 3 {
+        0 => PackBitsPaddingEncoding::None,
+        1 => PackBitsPaddingEncoding::FirstByte,
+        _ => PackBitsPaddingEncoding::LastByte,
+    }
+}
+
+fn are_alike(rt: &impl Abort, alloc: Global, bits: u64, first: u64, last: u64) -> Result<(), Fail> {
+    for turn in turns(bits, first, last) {
+        let case = Case {
+            bits,
+            first,
+            last,
+            signed: turn % 2 == 1,
+            padding: padding_at(turn),
+        };
+        is_alike(rt, alloc, &case)?;
+    }
+    Ok(())
+}
+
+/// All bits that can be kept of such a component.
+fn are_alike_at(rt: &impl Abort, alloc: Global, bits: u64) -> Result<(), Fail> {
+    for first in 0..bits {
+        for last in first..bits {
+            are_alike(rt, alloc, bits, first, last)?;
+        }
+    }
+    Ok(())
+}
+
+#[test]
+fn are_moved_as_one_at_a_time(rt: HostRuntime) -> Result<(), Fail> {
+    for bits in 1..WIDEST + 1 {
+        are_alike_at(&rt, rt.alloc(), bits)?;
+    }
+    Ok(())
+}
