@@ -26,17 +26,3 @@ pub(crate) fn has_bytes(
     are(rt, about, came.as_fixed()?, wanted);
     Ok(())
 }
-
-/// The refusal that came is the one that is wanted. A want of memory is an error of the test.
-pub(crate) fn is_cause(
-    rt: &impl Abort,
-    about: &str,
-    came: Option<CodecError>,
-    wanted: CodecError,
-) -> Result<(), CodecError> {
-    if came == Some(CodecError::OutOfMemory) {
-        return Err(CodecError::OutOfMemory);
-    }
-    is(rt, about, &came, &Some(wanted));
-    Ok(())
-}

@@ -9,7 +9,6 @@ use zarrs_metadata::{PackBitsPaddingEncoding, PluginCreateError};
 use zarrs_packbits::{PackBitsCodec, PackBitsPartialDecoder};
 
 /// The settings of a codec.
-#[derive(Clone, Copy)]
 pub(crate) struct Settings {
     pub(crate) padding: PackBitsPaddingEncoding,
     pub(crate) first_bit: Option<u64>,
@@ -43,7 +42,6 @@ pub(crate) fn codec(settings: &Settings) -> Result<PackBitsCodec, PluginCreateEr
 }
 
 /// A chunk: its sizes, the components of its elements, and its fill value.
-#[derive(Clone, Copy)]
 pub(crate) struct Chunk {
     pub(crate) sizes: &'static [u64],
     pub(crate) bits: u64,

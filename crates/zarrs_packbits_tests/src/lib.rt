@@ -26,6 +26,4 @@ mod metadata;
 #[cfg(test)]
 mod reads;
 #[cfg(test)]
-mod refusals;
-#[cfg(test)]
 mod settings;

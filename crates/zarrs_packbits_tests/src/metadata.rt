@@ -16,7 +16,6 @@ use zarrs_metadata::{
 use zarrs_packbits::PackBitsCodec;
 
 /// Which codec is asked to be made.
-#[derive(Clone, Copy)]
 enum Asked {
     Bytes,
     PackBits,
