@@ -141,6 +141,22 @@ const ROWS: &'static [Row] = &[
         unlike: Tuples(&[&[3, 3], &[1, 0], &[0, 2], &[3, 3]]),
     },
     Row {
+        name: "a list of neighbours",
+        sizes: &[4, 4],
+        asked: Tuples(&[&[0, 3], &[1, 0]]),
+        places: &[3, 4],
+        runs: &[(3, 2)],
+        unlike: Tuples(&[&[0, 3], &[1, 1]]),
+    },
+    Row {
+        name: "a list of neighbours that is left and taken up",
+        sizes: &[4, 4],
+        asked: Tuples(&[&[1, 0], &[1, 1], &[1, 1], &[1, 2], &[0, 0]]),
+        places: &[4, 5, 5, 6, 0],
+        runs: &[(4, 2), (5, 2), (0, 1)],
+        unlike: Tuples(&[&[1, 0], &[1, 1], &[1, 2], &[0, 0]]),
+    },
+    Row {
         name: "a list of empty tuples",
         sizes: &[],
         asked: Tuples(&[&[], &[]]),
