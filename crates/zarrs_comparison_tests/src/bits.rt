@@ -1,11 +1,10 @@
 //! The codec `packbits` against a plain body that moves one bit at a time: for all widths of a
-//! component up to 70 bits, all first and last bits, and each padding and both signs (for wide components by
-//! turns).
+//! component up to 70 bits, all first and last bits, all paddings and both signs, whole and in part.
+//! Chunks of narrow components are long enough for the blocks in which the codec moves them.
 
 use std::alloc::Global;
 use std::borrow::CowSlice;
 use std::fmt::Debug;
-use std::ops::Range;
 use std::process::Abort;
 use std::test::Fail;
 use zarrs_array_bytes::ArrayBytes;
@@ -18,41 +17,20 @@ use zarrs_packbits::{PackBitsCodec, PackBitsPartialDecoder};
 /// The widest component, in bits.
 const WIDEST: u64 = 70;
 
-/// The widest component that is tried with all paddings and both signs.
-const ALL_PAIRS: u64 = 16;
-
-/// The elements of a chunk, of one component each.
-const ELEMENTS: u64 = 5;
+/// The widest component of which a chunk has many.
+const NARROW: u64 = 8;
 
 /// Room for the elements of a chunk, and for its value.
-const ROOM: usize = 64;
+const ROOM: usize = 256;
 
 /// A fill value, of which a component's bytes are taken.
 const FILL: [u8; ROOM] = [0; ROOM];
 
-/// Places that are read in part.
-struct Run {
-    name: &'static str,
-    start: u64,
-    end: u64,
-}
-
-const RUNS: &'static [Run] = &[
-    Run {
-        name: "the places in the middle are read",
-        start: 1,
-        end: 4,
-    },
-    Run {
-        name: "the last place is read",
-        start: 4,
-        end: 5,
-    },
-];
-
-/// The width of a component, the bits of it that are kept, and how they are packed.
+/// How many elements of one component a chunk has, the width of a component, the bits of it that are
+/// kept, and how they are packed.
 #[derive(Clone, Copy, Debug, PartialEq)]
 struct Case {
+    elements: u64,
     bits: u64,
     first: u64,
     last: u64,
@@ -91,7 +69,7 @@ fn plain_kept(case: &Case) -> u64 {
     case.last
         .wrapping_sub(case.first)
         .wrapping_add(1)
-        .wrapping_mul(ELEMENTS)
+        .wrapping_mul(case.elements)
 }
 
 /// Where the padding byte stands: nowhere where all bits of whole bytes are kept.
@@ -114,7 +92,7 @@ fn plain_lead(case: &Case) -> u64 {
 /// Puts the kept bits of all elements one behind another.
 fn pack_plain_bits(case: &Case, elements: &[u8], value: &mut [u8]) {
     let mut to = plain_lead(case);
-    for element in 0..ELEMENTS {
+    for element in 0..case.elements {
         let start = bytes_for(case.bits).wrapping_mul(8).wrapping_mul(element);
         for bit in case.first..case.last.wrapping_add(1) {
             if plain_bit(elements, start.wrapping_add(bit)) {
@@ -160,7 +138,7 @@ fn plain_source(case: &Case, bit: u64) -> Option<u64> {
 fn unpack_plain_bits(case: &Case, value: &[u8], elements: &mut [u8]) {
     let width = bytes_for(case.bits).wrapping_mul(8);
     let kept = case.last.wrapping_sub(case.first).wrapping_add(1);
-    for element in 0..ELEMENTS {
+    for element in 0..case.elements {
         let from = plain_lead(case).wrapping_add(kept.wrapping_mul(element));
         for bit in 0..width {
             if let Some(source) = plain_source(case, bit) {
@@ -216,7 +194,7 @@ struct ChunkForm {
 }
 
 fn chunk_form(alloc: Global, case: &Case) -> Result<ChunkForm, CodecError> {
-    let sizes: &[u64] = &[ELEMENTS];
+    let sizes: &[u64] = &[case.elements];
     let shape = ChunkShape::new(sizes.to_vec(alloc)?).ok_or(CodecError::OutOfBounds)?;
     let data_type = DataType::components(case.bits, 1, case.signed)?;
     let fill_value = FillValue::new(head(&FILL, bytes_for(case.bits)).to_vec(alloc)?);
@@ -292,31 +270,31 @@ fn decoder(
 fn read(
     alloc: Global,
     decoder: &mut Decoder,
-    run: &Run,
+    start: u64,
+    end: u64,
 ) -> Result<ArrayBytes<'static>, CodecError> {
-    let subset = ArraySubset::new_with_ranges(alloc, &[run.start..run.end])?;
+    let subset = ArraySubset::new_with_ranges(alloc, &[start..end])?;
     decoder.partial_decode(alloc, &Indexer::Subset(subset))
 }
 
+/// The places from the start up to the end are read as the plain body has them.
 fn reads_run(
     rt: &impl Abort,
     alloc: Global,
     decoder: &mut Decoder,
     case: &Case,
-    run: &Run,
+    start: u64,
+    end: u64,
     decoded: &[u8],
 ) -> Result<(), CodecError> {
-    let came = read(alloc, decoder, run)?;
+    let came = read(alloc, decoder, start, end)?;
     let size = bytes_for(case.bits);
-    let wanted = part(
-        decoded,
-        size.wrapping_mul(run.start),
-        size.wrapping_mul(run.end),
-    );
-    are(rt, run.name, case, came.as_fixed()?, wanted);
+    let wanted = part(decoded, size.wrapping_mul(start), size.wrapping_mul(end));
+    are(rt, "read", case, came.as_fixed()?, wanted);
     Ok(())
 }
 
+/// All places but the first and the last, and the last.
 fn reads_runs(
     rt: &impl Abort,
     alloc: Global,
@@ -324,10 +302,9 @@ fn reads_runs(
     case: &Case,
     decoded: &[u8],
 ) -> Result<(), CodecError> {
-    for run in RUNS.iter() {
-        reads_run(rt, alloc, decoder, case, run, decoded)?;
-    }
-    Ok(())
+    let last = case.elements.wrapping_sub(1);
+    reads_run(rt, alloc, decoder, case, 1, last, decoded)?;
+    reads_run(rt, alloc, decoder, case, last, case.elements, decoded)
 }
 
 fn reads(
@@ -368,7 +345,7 @@ fn is_alike(rt: &impl Abort, alloc: Global, case: &Case) -> Result<(), Fail> {
     let value_len = put_plain_padding(case, &mut value);
     let mut decoded = [0u8; ROOM];
     unpack_plain_bits(case, &value, &mut decoded);
-    let len = bytes_for(case.bits).wrapping_mul(ELEMENTS);
+    let len = bytes_for(case.bits).wrapping_mul(case.elements);
     let form = chunk_form(alloc, case)?;
     does_all(
         rt,
@@ -381,18 +358,9 @@ fn is_alike(rt: &impl Abort, alloc: Global, case: &Case) -> Result<(), Fail> {
     )
 }
 
-/// Which pairs of a padding and a sign are tried: all six up to `ALL_PAIRS` bits, and above one, by
-/// turns.
-fn turns(bits: u64, first: u64, last: u64) -> Range<u64> {
-    if bits <= ALL_PAIRS {
-        return 0..6;
-    }
-    let mixed = bits
-        .wrapping_mul(131)
-        .wrapping_add(first.wrapping_mul(37))
-        .wrapping_add(last.wrapping_mul(17));
-    let turn = mixed / 8 % 6;
-    turn..turn.wrapping_add(1)
+/// Of narrow components so many that the codec moves them in blocks, with some before and behind.
+fn elements_of(bits: u64) -> u64 {
+    if bits <= NARROW { 141 } else { 5 }
 }
 
 fn padding_at(turn: u64) -> PackBitsPaddingEncoding {
@@ -404,8 +372,9 @@ fn padding_at(turn: u64) -> PackBitsPaddingEncoding {
 }
 
 fn are_alike(rt: &impl Abort, alloc: Global, bits: u64, first: u64, last: u64) -> Result<(), Fail> {
-    for turn in turns(bits, first, last) {
+    for turn in 0..6 {
         let case = Case {
+            elements: elements_of(bits),
             bits,
             first,
             last,
