@@ -45,3 +45,11 @@ pub(crate) fn gives(
     }
     Ok(())
 }
+
+/// Why there is no answer, if there is none.
+pub(crate) fn cause<T>(answer: &Result<T, CodecError>) -> Result<(), CodecError> {
+    match answer {
+        Ok(_) => Ok(()),
+        Err(cause) => Err(*cause),
+    }
+}

@@ -1,13 +1,23 @@
-//! Chains and chunks, made of what a header of the tool says.
+//! Chains, chunks and elements, made of plain data: of what a header of the tool says.
 
 use serde_json::Value;
 use std::alloc::Global;
+use std::borrow::CowSlice;
+use zarrs_array_bytes::{ArrayBytes, ArrayBytesOffsets};
 use zarrs_chain_json::{Refusal, data_type, tree};
 use zarrs_chunk::{ChunkShape, CodecError};
 use zarrs_codec::{SampleBytesCodec, SampleMaker};
 use zarrs_codec_chain::CodecChain;
 use zarrs_data_type::{DataType, FillValue};
 use zarrs_metadata::{MetadataV3, PluginCreateError};
+
+/// Texts behind their offsets, which have eight bytes each.
+pub(crate) const TEXTS: &'static str =
+    r#"[{"name":"zarrs.vlen","configuration":{"index_codecs":[{"name":"bytes","configuration":{"endian":"little"}}],"data_codecs":["bytes"],"index_data_type":"uint64","index_location":"start"}}]"#;
+
+/// Elements that may be absent, mask and data as they are.
+pub(crate) const OPTIONS: &'static str =
+    r#"[{"name":"optional","configuration":{"mask_codecs":["bytes"],"data_codecs":["bytes"]}}]"#;
 
 pub(crate) type Chain = CodecChain<SampleBytesCodec>;
 
@@ -89,4 +99,34 @@ pub(crate) fn made(alloc: Global, codecs: &str, chunk: &Chunk) -> Result<Case, R
         chain: chain(alloc, codecs)?,
         form: chunk_form(alloc, chunk)?,
     })
+}
+
+/// Elements as a container holds them: their bytes; where each text begins and the last one ends, or
+/// nothing where all are of one size; the masks over them, the innermost first.
+pub(crate) struct Elements {
+    pub(crate) bytes: &'static [u8],
+    pub(crate) ends: &'static [usize],
+    pub(crate) masks: &'static [&'static [u8]],
+}
+
+fn unmasked(
+    alloc: Global,
+    bytes: &'static [u8],
+    ends: &[usize],
+) -> Result<ArrayBytes<'static>, CodecError> {
+    let bytes = CowSlice::Borrowed(bytes);
+    if ends.is_empty() {
+        return Ok(ArrayBytes::new_flen(bytes));
+    }
+    let offsets = ArrayBytesOffsets::new(ends.to_vec(alloc)?)?;
+    ArrayBytes::new_vlen(bytes, offsets)
+}
+
+/// A container of these elements.
+pub(crate) fn held(alloc: Global, elements: &Elements) -> Result<ArrayBytes<'static>, CodecError> {
+    let mut array = unmasked(alloc, elements.bytes, elements.ends)?;
+    for mask in elements.masks {
+        array = array.with_optional_mask(alloc, CowSlice::Borrowed(mask))?;
+    }
+    Ok(array)
 }

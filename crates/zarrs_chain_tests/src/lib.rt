@@ -1,19 +1,29 @@
-//! Tests of whole chunks through chains without chains inside: how many bytes a value has, encoding,
-//! decoding, also into a target, making a value shorter, and what a chain is made of and does in part.
-//! Without tests the crate is empty.
+//! Tests of chains and of the codecs with chains inside, `vlen` and `optional`: how many bytes a value
+//! has, encoding, decoding, also into a target, making a value shorter, what a chain is made of and does
+//! in part, and the metadata that is written of it. Without tests the crate is empty.
 //!
-//! What the line tool shows of chains stands in `zarrs_transcripts`. Here is the rest: sizes, what a
-//! refusal carries, and calls that the tool doesn't make. Chains and chunks are told as in the tool's
-//! headers. Answers are written by hand. A want of memory ends a test with that error and is never
-//! compared.
+//! What the line tool shows of chains stands in `zarrs_transcripts`. Here is the rest: sizes, containers
+//! with bytes that no element has, what a refusal carries, and calls that the tool doesn't make. Chains
+//! and chunks are told as in the tool's headers. Answers are written by hand. A want of memory ends a
+//! test with that error and is never compared.
 #![tactic(auto)]
 
 #[cfg(test)]
 mod checks;
 #[cfg(test)]
+mod codecs;
+#[cfg(test)]
 mod forms;
 #[cfg(test)]
+mod lists;
+#[cfg(test)]
+mod nested;
+#[cfg(test)]
+mod nested_rows;
+#[cfg(test)]
 mod parts;
+#[cfg(test)]
+mod refusals;
 #[cfg(test)]
 mod targets;
 #[cfg(test)]

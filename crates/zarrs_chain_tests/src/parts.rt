@@ -1,13 +1,13 @@
 //! What a chain is made of, and what it does in part.
 
 use crate::checks::is;
-use crate::forms::{Chain, chain, shape};
+use crate::forms::{Chain, chain};
 use std::alloc::Global;
 use std::process::Abort;
 use std::test::Fail;
 use zarrs_array_to_array::ArrayToArrayCodec;
 use zarrs_chain_json::Refusal;
-use zarrs_chunk::CodecError;
+use zarrs_chunk::{ChunkShape, CodecError};
 use zarrs_codec::{
     ArrayCodecTraits, CodecTraits, PartialDecoderCapability, PartialEncoderCapability,
     SampleBytesCodec,
@@ -32,10 +32,15 @@ fn has_parts(rt: &impl Abort, chain: &Chain) {
 }
 
 /// What is best decoded together of a chunk is all of it.
-fn is_whole(rt: &impl Abort, alloc: Global, chain: &Chain) -> Result<(), CodecError> {
-    let shape = shape(alloc, &[2, 3])?;
-    let came = chain.partial_decode_granularity(alloc, &shape)?;
-    is(rt, "granularity", &came, &shape);
+pub(crate) fn is_whole<C: ArrayCodecTraits>(
+    rt: &impl Abort,
+    alloc: Global,
+    about: &str,
+    codec: &C,
+    shape: &ChunkShape,
+) -> Result<(), CodecError> {
+    let together = codec.partial_decode_granularity(alloc, shape)?;
+    is(rt, about, &together, shape);
     Ok(())
 }
 
@@ -43,7 +48,6 @@ fn is_whole(rt: &impl Abort, alloc: Global, chain: &Chain) -> Result<(), CodecEr
 fn shows_its_parts(rt: HostRuntime) -> Result<(), Fail> {
     let chain = chain(rt.alloc(), SHOWN)?;
     has_parts(&rt, &chain);
-    is_whole(&rt, rt.alloc(), &chain)?;
     Ok(())
 }
 
@@ -82,21 +86,28 @@ const CAPABLE: &'static [Capable] = &[
     },
 ];
 
-fn is_capable(rt: &impl Abort, chain: &Chain, row: &Capable) {
+/// The codec reads and writes in part, or doesn't.
+pub(crate) fn is_capable<C: CodecTraits>(
+    rt: &impl Abort,
+    about: &str,
+    codec: &C,
+    reads: bool,
+    writes: bool,
+) {
     let decoder = PartialDecoderCapability {
-        partial_read: row.reads,
-        partial_decode: row.reads,
+        partial_read: reads,
+        partial_decode: reads,
     };
-    is(rt, row.name, &chain.partial_decoder_capability(), &decoder);
+    is(rt, about, &codec.partial_decoder_capability(), &decoder);
     let encoder = PartialEncoderCapability {
-        partial_encode: row.writes,
+        partial_encode: writes,
     };
-    is(rt, row.name, &chain.partial_encoder_capability(), &encoder);
+    is(rt, about, &codec.partial_encoder_capability(), &encoder);
 }
 
 fn does(rt: &impl Abort, alloc: Global, row: &Capable) -> Result<(), Refusal> {
     let chain = chain(alloc, row.codecs)?;
-    is_capable(rt, &chain, row);
+    is_capable(rt, row.name, &chain, row.reads, row.writes);
     Ok(())
 }
 

@@ -1,7 +1,7 @@
 //! Chunks that chains decode into a target, and values that they are asked to make shorter.
 
 use crate::checks::{answers, are};
-use crate::forms::{Case, Chunk, ChunkForm, PAIR, made, shape};
+use crate::forms::{Chunk, ChunkForm, PAIR, made, shape};
 use std::alloc::Global;
 use std::borrow::CowSlice;
 use std::ops::Range;
@@ -25,19 +25,25 @@ fn view<'a>(
     ArrayBytesFixedView::new(alloc, bytes, 1, &shape, subset)
 }
 
-/// A chain, a chunk and its value; the sizes of an array of six zeros, the ranges where the chunk is to
-/// go, and how many masks there are; whether it goes there, or the first cause why not; and the array
-/// afterwards.
+/// The sizes of an array of six bytes, each 9; the ranges where a chunk is to go; how many masks the
+/// target has, each of as many flags and in the same places; whether the chunk goes there, or the first
+/// cause why not; and the array and each mask afterwards.
+pub(crate) struct Into {
+    pub(crate) sizes: &'static [u64],
+    pub(crate) ranges: &'static [Range<u64>],
+    pub(crate) masks: usize,
+    pub(crate) answer: Result<(), CodecError>,
+    pub(crate) values: &'static [u8],
+    pub(crate) mask: &'static [u8],
+}
+
+/// A chain, a chunk and its value, and what comes of decoding that.
 struct Row {
     name: &'static str,
     codecs: &'static str,
     chunk: Chunk,
     value: &'static [u8],
-    sizes: &'static [u64],
-    ranges: &'static [Range<u64>],
-    masks: usize,
-    answer: Result<(), CodecError>,
-    after: &'static [u8],
+    into: Into,
 }
 
 const ROWS: &'static [Row] = &[
@@ -46,22 +52,28 @@ const ROWS: &'static [Row] = &[
         codecs: r#"["bytes"]"#,
         chunk: PAIR,
         value: &[1, 2],
-        sizes: &[2, 3],
-        ranges: &[0..2, 1..2],
-        masks: 0,
-        answer: Ok(()),
-        after: &[0, 1, 0, 0, 2, 0],
+        into: Into {
+            sizes: &[2, 3],
+            ranges: &[0..2, 1..2],
+            masks: 0,
+            answer: Ok(()),
+            values: &[9, 1, 9, 9, 2, 9],
+            mask: &[9; 6],
+        },
     },
     Row {
         name: "two of six in a row",
         codecs: r#"["bytes","sample.length"]"#,
         chunk: PAIR,
         value: &[2, 0, 0, 0, 0, 0, 0, 0, 1, 2],
-        sizes: &[6],
-        ranges: &[1..3],
-        masks: 0,
-        answer: Ok(()),
-        after: &[0, 1, 2, 0, 0, 0],
+        into: Into {
+            sizes: &[6],
+            ranges: &[1..3],
+            masks: 0,
+            answer: Ok(()),
+            values: &[9, 1, 2, 9, 9, 9],
+            mask: &[9; 6],
+        },
     },
     Row {
         name: "two columns of a chunk whose axes are turned",
@@ -72,74 +84,88 @@ const ROWS: &'static [Row] = &[
             fill_value: &[0],
         },
         value: &[1, 3, 2, 4],
-        sizes: &[2, 3],
-        ranges: &[0..2, 1..3],
-        masks: 0,
-        answer: Ok(()),
-        after: &[0, 1, 2, 0, 3, 4],
+        into: Into {
+            sizes: &[2, 3],
+            ranges: &[0..2, 1..3],
+            masks: 0,
+            answer: Ok(()),
+            values: &[9, 1, 2, 9, 3, 4],
+            mask: &[9; 6],
+        },
     },
     Row {
         name: "one place for two elements",
         codecs: r#"["bytes"]"#,
         chunk: PAIR,
         value: &[1, 2],
-        sizes: &[2, 3],
-        ranges: &[0..1, 1..2],
-        masks: 0,
-        answer: Err(TargetMismatch),
-        after: &[0; 6],
+        into: Into {
+            sizes: &[2, 3],
+            ranges: &[0..1, 1..2],
+            masks: 0,
+            answer: Err(TargetMismatch),
+            values: &[9; 6],
+            mask: &[9; 6],
+        },
     },
     Row {
         name: "a mask over elements without masks",
         codecs: r#"["bytes"]"#,
         chunk: PAIR,
         value: &[1, 2],
-        sizes: &[2, 3],
-        ranges: &[0..2, 1..2],
-        masks: 1,
-        answer: Err(TargetMismatch),
-        after: &[0; 6],
+        into: Into {
+            sizes: &[2, 3],
+            ranges: &[0..2, 1..2],
+            masks: 1,
+            answer: Err(TargetMismatch),
+            values: &[9; 6],
+            mask: &[9; 6],
+        },
     },
     Row {
         name: "one place, and a short value",
         codecs: r#"["bytes"]"#,
         chunk: PAIR,
         value: &[1],
-        sizes: &[2, 3],
-        ranges: &[0..1, 1..2],
-        masks: 0,
-        answer: Err(TargetMismatch),
-        after: &[0; 6],
+        into: Into {
+            sizes: &[2, 3],
+            ranges: &[0..1, 1..2],
+            masks: 0,
+            answer: Err(TargetMismatch),
+            values: &[9; 6],
+            mask: &[9; 6],
+        },
     },
     Row {
         name: "a short value",
         codecs: r#"["bytes"]"#,
         chunk: PAIR,
         value: &[1],
-        sizes: &[2, 3],
-        ranges: &[0..2, 1..2],
-        masks: 0,
-        answer: Err(InvalidBytesLength {
-            len: 1,
-            expected: 2,
-        }),
-        after: &[0; 6],
+        into: Into {
+            sizes: &[2, 3],
+            ranges: &[0..2, 1..2],
+            masks: 0,
+            answer: Err(InvalidBytesLength {
+                len: 1,
+                expected: 2,
+            }),
+            values: &[9; 6],
+            mask: &[9; 6],
+        },
     },
 ];
 
-/// A target of the row's ranges, under so many masks of two flags as the row has, at most one.
 fn target<'a>(
     alloc: Global,
     bytes: &'a mut [u8],
     flags: &'a mut [u8],
-    row: &Row,
+    into: &Into,
 ) -> Result<ArrayBytesDecodeIntoTarget<'a>, CodecError> {
     let mut masks = Vec::new(alloc);
-    if row.masks > 0 {
-        masks.push(view(alloc, flags, &[2], &[0..2])?)?;
+    if into.masks > 0 {
+        masks.push(view(alloc, flags, into.sizes, into.ranges)?)?;
     }
     Ok(ArrayBytesDecodeIntoTarget {
-        values: view(alloc, bytes, row.sizes, row.ranges)?,
+        values: view(alloc, bytes, into.sizes, into.ranges)?,
         masks,
     })
 }
@@ -161,26 +187,45 @@ fn decode_into<C: ArrayToBytesCodecTraits>(
     )
 }
 
-fn is_decoded(rt: &impl Abort, alloc: Global, case: &Case, row: &Row) -> Result<(), CodecError> {
-    let mut bytes = [0u8; 6];
-    let mut flags = [9u8; 2];
-    let mut target = target(alloc, &mut bytes, &mut flags, row)?;
-    let came = decode_into(alloc, &case.chain, &case.form, row.value, &mut target);
-    answers(rt, row.name, &came, &row.answer)?;
-    are(rt, row.name, target.values.as_slice(), row.after);
+pub(crate) fn is_decoded_into<C: ArrayToBytesCodecTraits>(
+    rt: &impl Abort,
+    alloc: Global,
+    codec: &C,
+    form: &ChunkForm,
+    about: &str,
+    value: &[u8],
+    into: &Into,
+) -> Result<(), CodecError> {
+    let mut bytes = [9u8; 6];
+    let mut flags = [9u8; 6];
+    let mut target = target(alloc, &mut bytes, &mut flags, into)?;
+    let came = decode_into(alloc, codec, form, value, &mut target);
+    answers(rt, about, &came, &into.answer)?;
+    are(rt, about, target.values.as_slice(), into.values);
+    for view in &target.masks {
+        are(rt, about, view.as_slice(), into.mask);
+    }
     Ok(())
 }
 
-fn is_decoded_into(rt: &impl Abort, alloc: Global, row: &Row) -> Result<(), Refusal> {
+fn chain_decodes_into(rt: &impl Abort, alloc: Global, row: &Row) -> Result<(), Refusal> {
     let case = made(alloc, row.codecs, &row.chunk)?;
-    is_decoded(rt, alloc, &case, row)?;
+    is_decoded_into(
+        rt,
+        alloc,
+        &case.chain,
+        &case.form,
+        row.name,
+        row.value,
+        &row.into,
+    )?;
     Ok(())
 }
 
 #[test]
-fn decodes_into_the_places_of_a_subset(rt: HostRuntime) -> Result<(), Fail> {
+fn chains_decode_into_the_places_of_a_subset(rt: HostRuntime) -> Result<(), Fail> {
     for row in ROWS {
-        is_decoded_into(&rt, rt.alloc(), row)?;
+        chain_decodes_into(&rt, rt.alloc(), row)?;
     }
     Ok(())
 }
@@ -231,17 +276,38 @@ fn compact<C: ArrayToBytesCodecTraits>(
     Ok(shorter.is_some())
 }
 
-fn is_compacted(rt: &impl Abort, alloc: Global, row: &Compacted) -> Result<(), Refusal> {
+/// A shorter value is made of this one, or not, or why that can't be told.
+pub(crate) fn is_compacted<C: ArrayToBytesCodecTraits>(
+    rt: &impl Abort,
+    alloc: Global,
+    codec: &C,
+    form: &ChunkForm,
+    about: &str,
+    value: &[u8],
+    wanted: &Result<bool, CodecError>,
+) -> Result<(), CodecError> {
+    let shorter = compact(alloc, codec, form, value);
+    answers(rt, about, &shorter, wanted)
+}
+
+fn chain_compacts(rt: &impl Abort, alloc: Global, row: &Compacted) -> Result<(), Refusal> {
     let case = made(alloc, row.codecs, &PAIR)?;
-    let shorter = compact(alloc, &case.chain, &case.form, row.value);
-    answers(rt, row.name, &shorter, &row.shorter)?;
+    is_compacted(
+        rt,
+        alloc,
+        &case.chain,
+        &case.form,
+        row.name,
+        row.value,
+        &row.shorter,
+    )?;
     Ok(())
 }
 
 #[test]
-fn makes_no_value_shorter(rt: HostRuntime) -> Result<(), Fail> {
+fn chains_make_no_value_shorter(rt: HostRuntime) -> Result<(), Fail> {
     for row in COMPACTED {
-        is_compacted(&rt, rt.alloc(), row)?;
+        chain_compacts(&rt, rt.alloc(), row)?;
     }
     Ok(())
 }

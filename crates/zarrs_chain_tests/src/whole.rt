@@ -1,34 +1,35 @@
 //! Whole chunks: how many bytes a value has, what is encoded, and what is decoded.
 
-use crate::checks::{answers, gives};
-use crate::forms::{Case, Chunk, PAIR, made};
+use crate::checks::{answers, cause, gives, is};
+use crate::forms::{Chunk, ChunkForm, Elements, PAIR, held, made};
+use crate::refusals::REFUSED;
 use std::alloc::Global;
 use std::borrow::CowSlice;
 use std::process::Abort;
 use std::test::Fail;
-use zarrs_array_bytes::{ArrayBytes, ArrayBytesOffsets};
+use zarrs_array_bytes::ArrayBytes;
 use zarrs_chain_json::Refusal;
 use zarrs_chunk::CodecError;
 use zarrs_chunk::CodecError::{
     ArrayBytesKind, BitRange, BytesCodec, EndiannessMissing, InvalidBytesLength,
 };
-use zarrs_codec::BytesRepresentation;
 use zarrs_codec::BytesRepresentation::{FixedSize, UnboundedSize};
+use zarrs_codec::{ArrayToBytesCodecTraits, BytesRepresentation};
 
 /// A chain and a chunk, and three answers of the chain, or why there is none: how many bytes a value
 /// has, the value of elements, and the elements of a value.
-struct Row {
-    name: &'static str,
-    codecs: &'static str,
-    chunk: Chunk,
-    size: Result<BytesRepresentation, CodecError>,
-    elements: &'static [u8],
-    encoded: Result<&'static [u8], CodecError>,
-    value: &'static [u8],
-    decoded: Result<&'static [u8], CodecError>,
+pub(crate) struct Row {
+    pub(crate) name: &'static str,
+    pub(crate) codecs: &'static str,
+    pub(crate) chunk: Chunk,
+    pub(crate) size: Result<BytesRepresentation, CodecError>,
+    pub(crate) elements: Elements,
+    pub(crate) encoded: Result<&'static [u8], CodecError>,
+    pub(crate) value: &'static [u8],
+    pub(crate) decoded: Result<Elements, CodecError>,
 }
 
-const ROWS: &'static [Row] = &[
+const FLAT: &'static [Row] = &[
     Row {
         name: "one axis and whole bytes",
         codecs: r#"[{"name":"reshape","configuration":{"shape":[-1]}},"bytes"]"#,
@@ -38,10 +39,18 @@ const ROWS: &'static [Row] = &[
             fill_value: &[0],
         },
         size: Ok(FixedSize(6)),
-        elements: &[0, 1, 2, 3, 4, 5],
+        elements: Elements {
+            bytes: &[0, 1, 2, 3, 4, 5],
+            ends: &[],
+            masks: &[],
+        },
         encoded: Ok(&[0, 1, 2, 3, 4, 5]),
         value: &[0, 1, 2, 3, 4, 5],
-        decoded: Ok(&[0, 1, 2, 3, 4, 5]),
+        decoded: Ok(Elements {
+            bytes: &[0, 1, 2, 3, 4, 5],
+            ends: &[],
+            masks: &[],
+        }),
     },
     Row {
         name: "axes turned twice",
@@ -52,7 +61,11 @@ const ROWS: &'static [Row] = &[
             fill_value: &[0, 0, 0, 0],
         },
         size: Ok(FixedSize(32)),
-        elements: &[1, 2],
+        elements: Elements {
+            bytes: &[1, 2],
+            ends: &[],
+            masks: &[],
+        },
         encoded: Err(InvalidBytesLength {
             len: 2,
             expected: 32,
@@ -72,7 +85,11 @@ const ROWS: &'static [Row] = &[
             fill_value: &[0],
         },
         size: Ok(FixedSize(2)),
-        elements: &[1, 1, 0],
+        elements: Elements {
+            bytes: &[1, 1, 0],
+            ends: &[],
+            masks: &[],
+        },
         encoded: Err(InvalidBytesLength {
             len: 3,
             expected: 4,
@@ -92,7 +109,11 @@ const ROWS: &'static [Row] = &[
             fill_value: &[0],
         },
         size: Ok(FixedSize(1)),
-        elements: &[7, 255, 7],
+        elements: Elements {
+            bytes: &[7, 255, 7],
+            ends: &[],
+            masks: &[],
+        },
         encoded: Err(InvalidBytesLength {
             len: 3,
             expected: 2,
@@ -112,7 +133,11 @@ const ROWS: &'static [Row] = &[
             fill_value: &[0, 0],
         },
         size: Ok(FixedSize(4)),
-        elements: &[1, 0, 2],
+        elements: Elements {
+            bytes: &[1, 0, 2],
+            ends: &[],
+            masks: &[],
+        },
         encoded: Err(InvalidBytesLength {
             len: 3,
             expected: 4,
@@ -132,7 +157,11 @@ const ROWS: &'static [Row] = &[
             fill_value: &[0],
         },
         size: Ok(FixedSize(14)),
-        elements: &[1, 0],
+        elements: Elements {
+            bytes: &[1, 0],
+            ends: &[],
+            masks: &[],
+        },
         encoded: Err(InvalidBytesLength {
             len: 2,
             expected: 40,
@@ -148,7 +177,11 @@ const ROWS: &'static [Row] = &[
         codecs: r#"["bytes","sample.length"]"#,
         chunk: PAIR,
         size: Ok(FixedSize(10)),
-        elements: &[1],
+        elements: Elements {
+            bytes: &[1],
+            ends: &[],
+            masks: &[],
+        },
         encoded: Err(InvalidBytesLength {
             len: 1,
             expected: 2,
@@ -161,7 +194,11 @@ const ROWS: &'static [Row] = &[
         codecs: r#"["bytes","sample.length","sample.reverse"]"#,
         chunk: PAIR,
         size: Ok(FixedSize(10)),
-        elements: &[1, 2, 3],
+        elements: Elements {
+            bytes: &[1, 2, 3],
+            ends: &[],
+            masks: &[],
+        },
         encoded: Err(InvalidBytesLength {
             len: 3,
             expected: 2,
@@ -178,7 +215,11 @@ const ROWS: &'static [Row] = &[
             fill_value: &[0],
         },
         size: Ok(FixedSize(18446744073709551615)),
-        elements: &[1, 2],
+        elements: Elements {
+            bytes: &[1, 2],
+            ends: &[],
+            masks: &[],
+        },
         encoded: Err(InvalidBytesLength {
             len: 2,
             expected: 18446744073709551607,
@@ -198,7 +239,11 @@ const ROWS: &'static [Row] = &[
             fill_value: &[0],
         },
         size: Ok(UnboundedSize),
-        elements: &[1, 2],
+        elements: Elements {
+            bytes: &[1, 2],
+            ends: &[],
+            masks: &[],
+        },
         encoded: Err(InvalidBytesLength {
             len: 2,
             expected: 18446744073709551608,
@@ -215,7 +260,11 @@ const ROWS: &'static [Row] = &[
             fill_value: &[0],
         },
         size: Ok(FixedSize(4)),
-        elements: &[10, 11, 12],
+        elements: Elements {
+            bytes: &[10, 11, 12],
+            ends: &[],
+            masks: &[],
+        },
         encoded: Err(InvalidBytesLength {
             len: 3,
             expected: 4,
@@ -235,7 +284,11 @@ const ROWS: &'static [Row] = &[
             fill_value: &[0, 0, 0, 0],
         },
         size: Err(EndiannessMissing),
-        elements: &[1, 2],
+        elements: Elements {
+            bytes: &[1, 2],
+            ends: &[],
+            masks: &[],
+        },
         encoded: Err(EndiannessMissing),
         value: &[1, 2],
         decoded: Err(EndiannessMissing),
@@ -245,25 +298,55 @@ const ROWS: &'static [Row] = &[
         codecs: r#"[{"name":"packbits","configuration":{"first_bit":3,"last_bit":8}}]"#,
         chunk: PAIR,
         size: Err(BitRange),
-        elements: &[1, 2],
+        elements: Elements {
+            bytes: &[1, 2],
+            ends: &[],
+            masks: &[],
+        },
         encoded: Err(BitRange),
         value: &[1, 2],
         decoded: Err(BitRange),
     },
+    Row {
+        name: "texts in place of elements of one size",
+        codecs: r#"["bytes"]"#,
+        chunk: PAIR,
+        size: Ok(FixedSize(2)),
+        elements: Elements {
+            bytes: b"ab",
+            ends: &[0, 1, 2],
+            masks: &[],
+        },
+        encoded: Err(ArrayBytesKind),
+        value: &[1, 2],
+        decoded: Ok(Elements {
+            bytes: &[1, 2],
+            ends: &[],
+            masks: &[],
+        }),
+    },
 ];
 
-fn is_measured(rt: &impl Abort, alloc: Global, case: &Case, row: &Row) -> Result<(), CodecError> {
-    let form = &case.form;
-    let came = case
-        .chain
-        .encoded_representation(alloc, &form.shape, &form.data_type, &form.fill_value);
+fn is_measured<C: ArrayToBytesCodecTraits>(
+    rt: &impl Abort,
+    alloc: Global,
+    codec: &C,
+    form: &ChunkForm,
+    row: &Row,
+) -> Result<(), CodecError> {
+    let came = codec.encoded_representation(alloc, &form.shape, &form.data_type, &form.fill_value);
     answers(rt, row.name, &came, &row.size)
 }
 
-fn is_encoded(rt: &impl Abort, alloc: Global, case: &Case, row: &Row) -> Result<(), CodecError> {
-    let form = &case.form;
-    let elements = ArrayBytes::new_flen(CowSlice::Borrowed(row.elements));
-    let came = case.chain.encode(
+fn is_encoded<C: ArrayToBytesCodecTraits>(
+    rt: &impl Abort,
+    alloc: Global,
+    codec: &C,
+    form: &ChunkForm,
+    row: &Row,
+) -> Result<(), CodecError> {
+    let elements = held(alloc, &row.elements)?;
+    let came = codec.encode(
         alloc,
         elements,
         &form.shape,
@@ -277,63 +360,75 @@ fn is_encoded(rt: &impl Abort, alloc: Global, case: &Case, row: &Row) -> Result<
     gives(rt, row.name, seen, row.encoded)
 }
 
-fn is_decoded(rt: &impl Abort, alloc: Global, case: &Case, row: &Row) -> Result<(), CodecError> {
-    let form = &case.form;
-    let came = case.chain.decode(
+fn are_held(
+    rt: &impl Abort,
+    alloc: Global,
+    about: &str,
+    came: &ArrayBytes<'static>,
+    wanted: &Elements,
+) -> Result<(), CodecError> {
+    let wanted = held(alloc, wanted)?;
+    is(rt, about, came, &wanted);
+    Ok(())
+}
+
+/// The elements or the refusal that came are those of the row. A want of memory is an error of the
+/// test.
+fn are_decoded(
+    rt: &impl Abort,
+    alloc: Global,
+    came: &Result<ArrayBytes<'static>, CodecError>,
+    row: &Row,
+) -> Result<(), CodecError> {
+    match (came, &row.decoded) {
+        (Ok(came), Ok(wanted)) => are_held(rt, alloc, row.name, came, wanted),
+        (came, wanted) => answers(rt, row.name, &cause(came), &cause(wanted)),
+    }
+}
+
+fn is_decoded<C: ArrayToBytesCodecTraits>(
+    rt: &impl Abort,
+    alloc: Global,
+    codec: &C,
+    form: &ChunkForm,
+    row: &Row,
+) -> Result<(), CodecError> {
+    let came = codec.decode(
         alloc,
         CowSlice::Borrowed(row.value),
         &form.shape,
         &form.data_type,
         &form.fill_value,
     );
-    let seen = match &came {
-        Ok(elements) => elements.as_fixed(),
-        Err(cause) => Err(*cause),
-    };
-    gives(rt, row.name, seen, row.decoded)
+    are_decoded(rt, alloc, &came, row)
 }
 
-fn is_coded(rt: &impl Abort, alloc: Global, row: &Row) -> Result<(), Refusal> {
+/// The codec measures, encodes and decodes as the row says.
+pub(crate) fn is_coded<C: ArrayToBytesCodecTraits>(
+    rt: &impl Abort,
+    alloc: Global,
+    codec: &C,
+    form: &ChunkForm,
+    row: &Row,
+) -> Result<(), CodecError> {
+    is_measured(rt, alloc, codec, form, row)?;
+    is_encoded(rt, alloc, codec, form, row)?;
+    is_decoded(rt, alloc, codec, form, row)
+}
+
+fn chain_codes(rt: &impl Abort, alloc: Global, row: &Row) -> Result<(), Refusal> {
     let case = made(alloc, row.codecs, &row.chunk)?;
-    is_measured(rt, alloc, &case, row)?;
-    is_encoded(rt, alloc, &case, row)?;
-    is_decoded(rt, alloc, &case, row)?;
+    is_coded(rt, alloc, &case.chain, &case.form, row)?;
     Ok(())
 }
 
 #[test]
-fn measures_encodes_and_decodes(rt: HostRuntime) -> Result<(), Fail> {
-    for row in ROWS {
-        is_coded(&rt, rt.alloc(), row)?;
+fn chains_measure_encode_and_decode(rt: HostRuntime) -> Result<(), Fail> {
+    for row in FLAT {
+        chain_codes(&rt, rt.alloc(), row)?;
     }
-    Ok(())
-}
-
-/// "a" and "b", which a chunk of single bytes doesn't hold.
-fn texts(alloc: Global) -> Result<ArrayBytes<'static>, CodecError> {
-    let offsets = ArrayBytesOffsets::new([0, 1, 2].to_vec(alloc)?)?;
-    ArrayBytes::new_vlen(CowSlice::Borrowed(b"ab"), offsets)
-}
-
-fn are_refused(rt: &impl Abort, alloc: Global, case: &Case) -> Result<(), CodecError> {
-    let form = &case.form;
-    let came = case.chain.encode(
-        alloc,
-        texts(alloc)?,
-        &form.shape,
-        &form.data_type,
-        &form.fill_value,
-    );
-    let seen = match &came {
-        Ok(value) => Ok(value.as_slice()),
-        Err(cause) => Err(*cause),
-    };
-    answers(rt, "texts", &seen, &Err(ArrayBytesKind))
-}
-
-#[test]
-fn encodes_no_elements_of_another_kind(rt: HostRuntime) -> Result<(), Fail> {
-    let case = made(rt.alloc(), r#"["bytes"]"#, &PAIR)?;
-    are_refused(&rt, rt.alloc(), &case)?;
+    for row in REFUSED {
+        chain_codes(&rt, rt.alloc(), row)?;
+    }
     Ok(())
 }

@@ -1,12 +1,12 @@
 //! Chains made from lists of metadata, and the lists that are written of them.
 
-use crate::checks::{is_shown, tree};
+use crate::checks::is;
+use crate::forms::chain;
 use serde_json::Value;
 use std::alloc::Global;
 use std::process::Abort;
 use std::test::Fail;
-use zarrs_codec::{SampleBytesCodec, SampleMaker};
-use zarrs_codec_chain::CodecChain;
+use zarrs_chain_json::Refusal;
 use zarrs_metadata::{MetadataV3, PluginCreateError};
 
 /// A list that makes a chain, and the list that is written of the chain.
@@ -44,36 +44,6 @@ const ROWS: &'static [Row] = &[
     },
 ];
 
-fn metadatas(alloc: Global, items: &[Value]) -> Result<Vec<MetadataV3>, PluginCreateError> {
-    let mut list = Vec::new(alloc);
-    for item in items {
-        list.push(MetadataV3::from_value(alloc, item)?)?;
-    }
-    Ok(list)
-}
-
-fn chain_of(
-    alloc: Global,
-    list: &Value,
-) -> Result<CodecChain<SampleBytesCodec>, PluginCreateError> {
-    match list {
-        Value::Array(items) => {
-            let list = metadatas(alloc, items)?;
-            CodecChain::from_metadata(alloc, &list, &SampleMaker)
-        }
-        _ => Err(PluginCreateError::InvalidConfiguration),
-    }
-}
-
-/// The chain of a list.
-pub(crate) fn chain(
-    alloc: Global,
-    list: &str,
-) -> Result<CodecChain<SampleBytesCodec>, PluginCreateError> {
-    let list = tree(alloc, list)?;
-    chain_of(alloc, &list)
-}
-
 fn trees(alloc: Global, list: &[MetadataV3]) -> Result<Vec<Value>, PluginCreateError> {
     let mut trees = Vec::new(alloc);
     for metadata in list {
@@ -83,13 +53,26 @@ fn trees(alloc: Global, list: &[MetadataV3]) -> Result<Vec<Value>, PluginCreateE
 }
 
 /// What is written of the chain of a list.
-fn written(alloc: Global, list: &str) -> Result<Value, PluginCreateError> {
+fn written(alloc: Global, list: &str) -> Result<Value, Refusal> {
     let chain = chain(alloc, list)?;
     let list = chain.create_metadatas(alloc)?;
     Ok(Value::Array(trees(alloc, &list)?))
 }
 
-fn is_written(rt: &impl Abort, alloc: Global, row: &Row) -> Result<(), Fail> {
+/// The tree is shown as this text.
+pub(crate) fn is_shown(
+    rt: &impl Abort,
+    about: &str,
+    alloc: Global,
+    tree: &Value,
+    wanted: &str,
+) -> Result<(), Refusal> {
+    let text = tree.to_string(alloc)?;
+    is(rt, about, &text.as_str(), &wanted);
+    Ok(())
+}
+
+fn is_written(rt: &impl Abort, alloc: Global, row: &Row) -> Result<(), Refusal> {
     let written = written(alloc, row.list)?;
     is_shown(rt, row.name, alloc, &written, row.written)
 }
