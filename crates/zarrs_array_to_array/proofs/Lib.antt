@@ -21,6 +21,7 @@ pub mod MappedChunks
 pub mod Stages
 pub mod CheckedTuples
 pub mod PlaneRows
+pub mod RowGroups
 pub mod AxisRows
 pub mod FixedChunks
 pub mod Readers

@@ -4,8 +4,9 @@ ghost use Rattle.zarrs_array_to_array.specs.Axes.{behind, reach, axes_of};
 ghost use Rattle.zarrs_array_to_array.specs.Orders.{permuted as permuted_of};
 ghost use Rattle.zarrs_array_to_array.specs.Strides.{next_rows, strides as strides_of, stepped, last_tuple, all_stepped};
 
-use crate::strides::strides;
+use crate::strides::{strides, write_rows};
 use std::alloc::{AllocError, Global};
+use std::mem;
 
 /// One axis of a chunk: how many indices it has, and how many places one step along it passes.
 #[derive(Clone, Copy, Debug, Drop)]
@@ -115,4 +116,23 @@ pub(crate) fn ordered_axes(
 {
     let steps = strides(alloc, sizes)?;
     axes_in_order(alloc, order, sizes, steps.as_slice())
+}
+
+/// The places of all tuples over the axes, the last axis fastest.
+pub(crate) fn places_over(alloc: Global, axes: &[Axis]) -> Result<Vec<u64>, AllocError>
+    requires fits { reach axes.now < 2 ^ 64 }
+    ensures { IfOk result (λ v. v.items ≡ behind axes.now (0 ∷ [])) }
+{
+    let mut places = vec![in alloc; 0]?;
+    let mut rows = Vec::new(alloc);
+    for axis in axes {
+        write_rows(
+            &mut rows,
+            places.as_slice(),
+            axis.step as u64,
+            axis.size as u64,
+        )?;
+        mem::swap(&mut places, &mut rows);
+    }
+    Ok(places)
 }

@@ -14,6 +14,7 @@ pub mod laws;
 mod metadata;
 mod planes;
 mod reshape;
+mod row_groups;
 mod squeeze;
 mod strides;
 mod transpose;

@@ -6,55 +6,11 @@ ghost use Rattle.zarrs_array_to_array.specs.Strides.{row, next_rows};
 ghost use Rattle.zarrs_array_to_array.specs.Axes.{behind, reach, stretch};
 
 use crate::axis::Axis;
+use crate::row_groups::append_row;
 use std::alloc::{AllocError, Global};
 
 /// How many bytes a row of a block has, which is what memory brings at once.
 const BLOCK: usize = 64;
-
-/// Appends so many bytes from each element of a row on.
-#[inline(always)]
-fn append_row_of(
-    out: &mut Vec<u8>,
-    bytes: &[u8],
-    size: usize,
-    front: usize,
-    axis: Axis,
-    len: usize,
-) -> Result<(), AllocError>
-    requires sized { 0 < size }
-    requires inside { (k : ℕ) → k < axis.size → (front + k * axis.step) * size + len ≤ length bytes.now }
-    ensures { OnOk result (out.new.items ≡ out.old.items ++ flat_map (stretch len size bytes.now) (row front axis.step axis.size)) }
-{
-    for index in 0..axis.size {
-        let from = (front + index * axis.step) * size;
-        out.extend_from_slice(&bytes[from..from + len])?;
-    }
-    Ok(())
-}
-
-/// Appends so many bytes from each element of a row on. The lengths of most are constants here, so
-/// that each is a few moves and no call to copy.
-fn append_row(
-    out: &mut Vec<u8>,
-    bytes: &[u8],
-    size: usize,
-    front: usize,
-    axis: Axis,
-    len: usize,
-) -> Result<(), AllocError>
-    requires sized { 0 < size }
-    requires inside { (k : ℕ) → k < axis.size → (front + k * axis.step) * size + len ≤ length bytes.now }
-    ensures { OnOk result (out.new.items ≡ out.old.items ++ flat_map (stretch len size bytes.now) (row front axis.step axis.size)) }
-{
-    match len {
-        1 => append_row_of(out, bytes, size, front, axis, 1),
-        2 => append_row_of(out, bytes, size, front, axis, 2),
-        4 => append_row_of(out, bytes, size, front, axis, 4),
-        8 => append_row_of(out, bytes, size, front, axis, 8),
-        64 => append_row_of(out, bytes, size, front, axis, 64),
-        _ => append_row_of(out, bytes, size, front, axis, len),
-    }
-}
 
 /// Appends the columns of a block, one after another: it has `count` rows of `width` elements.
 fn append_columns(

@@ -2,9 +2,9 @@
 //! component up to 70 bits, all first and last bits, all paddings and both signs, whole and in part.
 //! Chunks of narrow components are long enough for the blocks in which the codec moves them.
 
+use crate::checks::{are, head, part};
 use std::alloc::Global;
 use std::borrow::CowSlice;
-use std::fmt::Debug;
 use std::process::Abort;
 use std::test::Fail;
 use zarrs_array_bytes::ArrayBytes;
@@ -163,25 +163,6 @@ fn fill_by_formula(case: &Case, bytes: &mut [u8]) {
             .wrapping_mul(6364136223846793005)
             .wrapping_add(1442695040888963407);
         *byte = (state / 1099511627776 % 256) as u8;
-    }
-}
-
-fn head(bytes: &[u8], len: u64) -> &[u8] {
-    bytes.get(..len as usize).unwrap_or(&[])
-}
-
-fn part(bytes: &[u8], start: u64, end: u64) -> &[u8] {
-    bytes.get(start as usize..end as usize).unwrap_or(&[])
-}
-
-fn is<T: PartialEq + Debug>(rt: &impl Abort, about: &str, came: &T, wanted: &T) {
-    assert_eq!(rt; *came, *wanted, "{about}");
-}
-
-/// The bytes that came are those of the plain body: if not, the case is shown.
-fn are(rt: &impl Abort, about: &str, case: &Case, came: &[u8], wanted: &[u8]) {
-    if came != wanted {
-        is(rt, about, &Some(*case), &None);
     }
 }
 

@@ -8,3 +8,7 @@
 
 #[cfg(test)]
 mod bits;
+#[cfg(test)]
+mod checks;
+#[cfg(test)]
+mod transpositions;

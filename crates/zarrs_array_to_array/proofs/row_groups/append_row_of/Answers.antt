@@ -1,7 +1,7 @@
 use Rattle.std.proofs.Common.{◌+◌, ◌*◌, ◌++◌, List, ℕ, ap, ◌∙◌}
 use Rattle.zarrs_array_to_array.specs.Axes.{stretch}
 use Rattle.zarrs_array_to_array.proofs.PlaneRows.{more_of_row}
-use Rattle.zarrs_array_to_array.proofs.planes.append_row_of.Goals as goal
+use Rattle.zarrs_array_to_array.proofs.row_groups.append_row_of.Goals as goal
 
 pub loop-index-preserved : goal.loop-index-preserved
 loop-index-preserved c =

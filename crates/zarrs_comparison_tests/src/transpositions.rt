@@ -1,0 +1,428 @@
+//! The codec `transpose` against a plain body that finds one element at a time: for all orders of up
+//! to four axes whose sizes are 1 to 3, and for all orders of some longer axes, of elements of 1, 2, 3,
+//! 4, 8 and 16 bytes and of texts.
+
+use crate::checks::{are, head, part};
+use std::alloc::Global;
+use std::borrow::CowSlice;
+use std::process::Abort;
+use std::test::Fail;
+use zarrs_array_bytes::{ArrayBytes, ArrayBytesOffsets};
+use zarrs_array_to_array::TransposeCodec;
+use zarrs_chunk::{ChunkShape, CodecError};
+use zarrs_codec::ArrayToArrayCodecTraits;
+use zarrs_data_type::{DataType, FillValue};
+use zarrs_metadata::TransposeOrder;
+
+/// Room for the bytes of a chunk.
+const ROOM: usize = 6400;
+
+/// Room for where each text of a chunk starts, and where the last one ends.
+const PLACES: usize = 400;
+
+/// All orders of up to four axes.
+const ORDERS: &'static [&'static [usize]] = &[
+    &[0],
+    &[0, 1],
+    &[1, 0],
+    &[0, 1, 2],
+    &[0, 2, 1],
+    &[1, 0, 2],
+    &[1, 2, 0],
+    &[2, 0, 1],
+    &[2, 1, 0],
+    &[0, 1, 2, 3],
+    &[0, 1, 3, 2],
+    &[0, 2, 1, 3],
+    &[0, 2, 3, 1],
+    &[0, 3, 1, 2],
+    &[0, 3, 2, 1],
+    &[1, 0, 2, 3],
+    &[1, 0, 3, 2],
+    &[1, 2, 0, 3],
+    &[1, 2, 3, 0],
+    &[1, 3, 0, 2],
+    &[1, 3, 2, 0],
+    &[2, 0, 1, 3],
+    &[2, 0, 3, 1],
+    &[2, 1, 0, 3],
+    &[2, 1, 3, 0],
+    &[2, 3, 0, 1],
+    &[2, 3, 1, 0],
+    &[3, 0, 1, 2],
+    &[3, 0, 2, 1],
+    &[3, 1, 0, 2],
+    &[3, 1, 2, 0],
+    &[3, 2, 0, 1],
+    &[3, 2, 1, 0],
+];
+
+/// Sizes on both sides of those in which the codec moves elements together.
+const LONG: &'static [&'static [u64]] = &[
+    &[129],
+    &[17, 5],
+    &[64, 4],
+    &[2, 130],
+    &[33, 1, 10],
+    &[3, 33, 2],
+    &[2, 3, 65],
+    &[16, 2, 1, 11],
+    &[2, 17, 3, 3],
+];
+
+/// How many bytes an element has, where all have as many.
+const ELEMENTS: &'static [u64] = &[1, 2, 3, 4, 8, 16];
+
+/// The sizes of a chunk, the order of its axes, and the bytes of an element, which are none for texts.
+#[derive(Clone, Copy, Debug, PartialEq)]
+struct Case<'a> {
+    sizes: &'a [u64],
+    order: &'a [usize],
+    element: u64,
+}
+
+fn size_along(sizes: &[u64], axis: usize) -> u64 {
+    match sizes.get(axis) {
+        Some(size) => *size,
+        None => 1,
+    }
+}
+
+/// How many elements have indices behind this axis.
+fn plain_stride(sizes: &[u64], axis: usize) -> u64 {
+    let mut stride: u64 = 1;
+    for behind in axis.wrapping_add(1)..sizes.len() {
+        stride = stride.wrapping_mul(size_along(sizes, behind));
+    }
+    stride
+}
+
+fn plain_count(sizes: &[u64]) -> u64 {
+    let mut count: u64 = 1;
+    for size in sizes {
+        count = count.wrapping_mul(*size);
+    }
+    count
+}
+
+/// The place in the chunk of the element that stands at this place of the transposed one: the last
+/// axis of that one goes fastest.
+fn plain_origin(case: &Case<'_>, place: u64) -> u64 {
+    let mut rest = place;
+    let mut origin: u64 = 0;
+    for axis in case.order.iter().rev() {
+        let size = size_along(case.sizes, *axis).max(1);
+        let step = plain_stride(case.sizes, *axis);
+        origin = origin.wrapping_add((rest % size).wrapping_mul(step));
+        rest /= size;
+    }
+    origin
+}
+
+fn put_bytes(room: &mut [u8], start: u64, bytes: &[u8]) {
+    let end = start.wrapping_add(bytes.len() as u64);
+    if let Some(place) = room.get_mut(start as usize..end as usize) {
+        if place.len() == bytes.len() {
+            place.copy_from_slice(bytes);
+        }
+    }
+}
+
+/// Puts the elements of the transposed chunk one behind another.
+fn put_transposed(case: &Case<'_>, elements: &[u8], moved: &mut [u8]) {
+    for place in 0..plain_count(case.sizes) {
+        let from = plain_origin(case, place).wrapping_mul(case.element);
+        let element = part(elements, from, from.wrapping_add(case.element));
+        put_bytes(moved, place.wrapping_mul(case.element), element);
+    }
+}
+
+/// Some bytes, by a formula.
+fn fill_by_formula(bytes: &mut [u8]) {
+    let mut state: u64 = 1;
+    for byte in bytes.iter_mut() {
+        state = state
+            .wrapping_mul(6364136223846793005)
+            .wrapping_add(1442695040888963407);
+        *byte = (state / 1099511627776 % 256) as u8;
+    }
+}
+
+/// Texts one behind another, and where each of them starts.
+#[derive(Drop)]
+struct Texts {
+    bytes: [u8; ROOM],
+    offsets: [usize; PLACES],
+    count: u64,
+    len: u64,
+}
+
+impl Texts {
+    fn new() -> Texts {
+        Texts {
+            bytes: [0; ROOM],
+            offsets: [0; PLACES],
+            count: 0,
+            len: 0,
+        }
+    }
+
+    fn push(&mut self, text: &[u8]) {
+        put_bytes(&mut self.bytes, self.len, text);
+        self.len = self.len.wrapping_add(text.len() as u64);
+        self.count = self.count.wrapping_add(1);
+        if let Some(offset) = self.offsets.get_mut(self.count as usize) {
+            *offset = self.len as usize;
+        }
+    }
+
+    fn bytes(&self) -> &[u8] {
+        head(&self.bytes, self.len)
+    }
+
+    fn offsets(&self) -> &[usize] {
+        head(&self.offsets, self.count.wrapping_add(1))
+    }
+}
+
+/// The text at a place of the chunk: none to three bytes of all.
+fn plain_text(bytes: &[u8], place: u64) -> &[u8] {
+    let start = place.wrapping_mul(3);
+    part(bytes, start, start.wrapping_add(place % 4))
+}
+
+fn texts_of(case: &Case<'_>, bytes: &[u8]) -> Texts {
+    let mut texts = Texts::new();
+    for place in 0..plain_count(case.sizes) {
+        texts.push(plain_text(bytes, place));
+    }
+    texts
+}
+
+fn transposed_texts_of(case: &Case<'_>, bytes: &[u8]) -> Texts {
+    let mut texts = Texts::new();
+    for place in 0..plain_count(case.sizes) {
+        texts.push(plain_text(bytes, plain_origin(case, place)));
+    }
+    texts
+}
+
+/// What a codec is told of a chunk.
+#[derive(Drop)]
+struct ChunkForm {
+    shape: ChunkShape,
+    data_type: DataType,
+    fill_value: FillValue,
+}
+
+fn form_of(alloc: Global, sizes: &[u64], data_type: DataType) -> Result<ChunkForm, CodecError> {
+    let shape = ChunkShape::new(sizes.to_vec(alloc)?).ok_or(CodecError::OutOfBounds)?;
+    let size = data_type.fixed_size().unwrap_or(0);
+    let fill_value = FillValue::new(vec![in alloc; 0; size]?);
+    Ok(ChunkForm {
+        shape,
+        data_type,
+        fill_value,
+    })
+}
+
+fn encoded<'a>(
+    alloc: Global,
+    codec: &TransposeCodec,
+    form: &ChunkForm,
+    chunk: ArrayBytes<'a>,
+) -> Result<ArrayBytes<'a>, CodecError> {
+    codec.encode(
+        alloc,
+        chunk,
+        &form.shape,
+        &form.data_type,
+        &form.fill_value,
+    )
+}
+
+fn decoded<'a>(
+    alloc: Global,
+    codec: &TransposeCodec,
+    form: &ChunkForm,
+    chunk: ArrayBytes<'a>,
+) -> Result<ArrayBytes<'a>, CodecError> {
+    codec.decode(
+        alloc,
+        chunk,
+        &form.shape,
+        &form.data_type,
+        &form.fill_value,
+    )
+}
+
+fn lent(bytes: &[u8]) -> ArrayBytes<'_> {
+    ArrayBytes::new_flen(CowSlice::Borrowed(bytes))
+}
+
+fn lent_texts(alloc: Global, texts: &Texts) -> Result<ArrayBytes<'_>, CodecError> {
+    let offsets = ArrayBytesOffsets::new(texts.offsets().to_vec(alloc)?)?;
+    ArrayBytes::new_vlen(CowSlice::Borrowed(texts.bytes()), offsets)
+}
+
+fn has_bytes(
+    rt: &impl Abort,
+    about: &str,
+    case: &Case<'_>,
+    came: &ArrayBytes<'_>,
+    wanted: &[u8],
+) -> Result<(), CodecError> {
+    are(rt, about, case, came.as_fixed()?, wanted);
+    Ok(())
+}
+
+fn has_texts(
+    rt: &impl Abort,
+    about: &str,
+    case: &Case<'_>,
+    came: &ArrayBytes<'_>,
+    wanted: &Texts,
+) -> Result<(), CodecError> {
+    let (bytes, offsets) = came.as_variable()?;
+    are(rt, about, case, bytes, wanted.bytes());
+    are(rt, about, case, offsets.as_slice(), wanted.offsets());
+    Ok(())
+}
+
+fn moves_bytes(
+    rt: &impl Abort,
+    alloc: Global,
+    codec: &TransposeCodec,
+    case: &Case<'_>,
+    elements: &[u8],
+    moved: &[u8],
+) -> Result<(), CodecError> {
+    let form = form_of(
+        alloc,
+        case.sizes,
+        DataType::components(case.element.wrapping_mul(8), 1, false)?,
+    )?;
+    let came = encoded(alloc, codec, &form, lent(elements))?;
+    has_bytes(rt, "encoded", case, &came, moved)?;
+    let came = decoded(alloc, codec, &form, lent(moved))?;
+    has_bytes(rt, "decoded", case, &came, elements)
+}
+
+fn moves_texts(
+    rt: &impl Abort,
+    alloc: Global,
+    codec: &TransposeCodec,
+    case: &Case<'_>,
+    texts: &Texts,
+    moved: &Texts,
+) -> Result<(), CodecError> {
+    let form = form_of(alloc, case.sizes, DataType::string())?;
+    let came = encoded(alloc, codec, &form, lent_texts(alloc, texts)?)?;
+    has_texts(rt, "encoded texts", case, &came, moved)?;
+    let came = decoded(alloc, codec, &form, lent_texts(alloc, moved)?)?;
+    has_texts(rt, "decoded texts", case, &came, texts)
+}
+
+/// The codec does to elements of one size what the plain body does.
+fn bytes_are_alike(
+    rt: &impl Abort,
+    alloc: Global,
+    codec: &TransposeCodec,
+    case: &Case<'_>,
+    bytes: &[u8],
+) -> Result<(), CodecError> {
+    let len = plain_count(case.sizes).wrapping_mul(case.element);
+    let mut moved = [0u8; ROOM];
+    put_transposed(case, bytes, &mut moved);
+    moves_bytes(rt, alloc, codec, case, head(bytes, len), head(&moved, len))
+}
+
+/// The codec does to texts what the plain body does.
+fn texts_are_alike(
+    rt: &impl Abort,
+    alloc: Global,
+    codec: &TransposeCodec,
+    case: &Case<'_>,
+    bytes: &[u8],
+) -> Result<(), CodecError> {
+    let texts = texts_of(case, bytes);
+    let moved = transposed_texts_of(case, bytes);
+    moves_texts(rt, alloc, codec, case, &texts, &moved)
+}
+
+fn all_are_alike(
+    rt: &impl Abort,
+    alloc: Global,
+    codec: &TransposeCodec,
+    sizes: &[u64],
+    order: &[usize],
+    bytes: &[u8],
+) -> Result<(), CodecError> {
+    for element in ELEMENTS {
+        let case = Case {
+            sizes,
+            order,
+            element: *element,
+        };
+        bytes_are_alike(rt, alloc, codec, &case, bytes)?;
+    }
+    let case = Case {
+        sizes,
+        order,
+        element: 0,
+    };
+    texts_are_alike(rt, alloc, codec, &case, bytes)
+}
+
+/// All sizes of 1 to 3, of so many axes.
+fn short_axes_are_alike(
+    rt: &impl Abort,
+    alloc: Global,
+    codec: &TransposeCodec,
+    order: &[usize],
+    bytes: &[u8],
+) -> Result<(), CodecError> {
+    for number in 0..81 {
+        let sizes: [u64; 4] = [
+            number % 3 + 1,
+            number / 3 % 3 + 1,
+            number / 9 % 3 + 1,
+            number / 27 % 3 + 1,
+        ];
+        let sizes = head(&sizes, order.len() as u64);
+        all_are_alike(rt, alloc, codec, sizes, order, bytes)?;
+    }
+    Ok(())
+}
+
+fn long_axes_are_alike(
+    rt: &impl Abort,
+    alloc: Global,
+    codec: &TransposeCodec,
+    order: &[usize],
+    bytes: &[u8],
+) -> Result<(), CodecError> {
+    for sizes in LONG {
+        if sizes.len() == order.len() {
+            all_are_alike(rt, alloc, codec, sizes, order, bytes)?;
+        }
+    }
+    Ok(())
+}
+
+fn is_alike(rt: &impl Abort, alloc: Global, order: &[usize], bytes: &[u8]) -> Result<(), Fail> {
+    let codec = TransposeCodec::new(TransposeOrder::new(alloc, order)?);
+    short_axes_are_alike(rt, alloc, &codec, order, bytes)?;
+    long_axes_are_alike(rt, alloc, &codec, order, bytes)?;
+    Ok(())
+}
+
+#[test]
+fn move_elements_as_one_at_a_time(rt: HostRuntime) -> Result<(), Fail> {
+    let mut bytes = [0u8; ROOM];
+    fill_by_formula(&mut bytes);
+    for order in ORDERS {
+        is_alike(&rt, rt.alloc(), order, &bytes)?;
+    }
+    Ok(())
+}
