@@ -1,5 +1,5 @@
 -- What is written of a codec makes an equal one.
-use Rattle.std.proofs.Common.{◌≡◌, ℕ, true, List, Ok, refl, ap, subst, sym}
+use Rattle.std.proofs.Common.{◌≡◌, ℕ, true, List, Ok, refl, sym}
 use Rattle.zarrs_metadata.specs.CodecMetadata.{codec_metadata, transpose_name, transpose_made, reshape_name, reshape_made}
 use Rattle.zarrs_metadata.specs.Data.{Members}
 use Rattle.zarrs_metadata.specs.Dims.{Dim, is_reshape}
@@ -7,7 +7,7 @@ use Rattle.zarrs_metadata.specs.Orders.{is_order}
 use Rattle.zarrs_metadata.specs.ReshapeConfiguration.{write_reshape}
 use Rattle.zarrs_metadata.specs.TransposeConfiguration.{write_transpose}
 use Rattle.zarrs_metadata.proofs.MadeAgain.{transpose-made_again, reshape-made_again}
-use Rattle.zarrs_array_to_array.specs.ArrayToArrayCodec.{ArrayMapping, transpose, reshape, squeeze}
+use Rattle.zarrs_array_to_array.specs.ArrayToArrayCodec.{transpose, reshape, squeeze}
 use Rattle.zarrs_array_to_array.specs.MappingMetadata.{MappingsMadeAgain}
 
 pub order_made_again : (order : List ℕ) (members : Members) → is_order order ≡ true → write_transpose order ≡ members → transpose_made (codec_metadata transpose_name members) ≡ Ok order

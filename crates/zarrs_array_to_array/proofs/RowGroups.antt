@@ -1,7 +1,7 @@
 -- The elements of a row, group by group.
-use Rattle.std.proofs.Common.{◌≡◌, ℕ, zero, suc, ◌+◌, ◌-◌, ◌*◌, ◌<◌, ◌≤◌, List, [], ◌∷◌, ◌++◌, length, take, drop, map, arith, refl, ap, ap₂, ◌∙◌, sym, append_assoc, length-append, drop-drop, length-take-le}
-use Rattle.std.specs.List.{flat_map, range_with_len, between}
-use Rattle.std.proofs.lemmas.List.{take_at, drop_at, append-nil, length-drop}
+use Rattle.std.proofs.Common.{◌≡◌, ℕ, zero, suc, ◌+◌, ◌-◌, ◌*◌, ◌<◌, ◌≤◌, List, ◌∷◌, ◌++◌, length, take, drop, map, arith, refl, ap, ap₂, ◌∙◌, sym, append_assoc, length-append, drop-drop, length-take-le}
+use Rattle.std.specs.List.{flat_map, range_with_len}
+use Rattle.std.proofs.lemmas.List.{take_at, drop_at, length-drop}
 use Rattle.std.proofs.lemmas.List.Concat.{flat_map-append}
 use Rattle.zarrs_array_to_array.specs.Axes.{stretch}
 use Rattle.zarrs_array_to_array.specs.Strides.{row}

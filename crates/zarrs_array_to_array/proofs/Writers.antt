@@ -14,7 +14,7 @@ use Rattle.zarrs_array_bytes.specs.Update.{update}
 use Rattle.zarrs_array_bytes.specs.Validity.{data_fit}
 use Rattle.zarrs_codec.specs.ArrayWriter.{ArrayWriter}
 use Rattle.zarrs_codec.specs.ChunkEdits.{edited_chunk, with_elements}
-use Rattle.zarrs_codec.specs.CoordinateMap.{CoordinateMap, IsCoordinateMap, moved_chunk}
+use Rattle.zarrs_codec.specs.CoordinateMap.{CoordinateMap, moved_chunk}
 use Rattle.zarrs_codec.specs.MappedSelection.{IsImage, image_of}
 use Rattle.zarrs_array_to_array.specs.ArrayToArrayCodec.{ArrayMapping, IsMapping, coordinates}
 use Rattle.zarrs_array_to_array.specs.EncodedSelection.{selection_in}

@@ -1,4 +1,4 @@
-use Rattle.std.proofs.Common.{◌≡◌, ◌+◌, ◌*◌, ◌-◌, ◌++◌, drop, ℕ, List, arith, ap, ap₂, sym, ◌∙◌}
+use Rattle.std.proofs.Common.{◌≡◌, ◌+◌, ◌*◌, ◌-◌, ◌++◌, drop, ℕ, List, arith, ap₂, sym, ◌∙◌}
 use Rattle.std.specs.List.{flat_map}
 use Rattle.zarrs_array_to_array.specs.Axes.{stretch}
 use Rattle.zarrs_array_to_array.specs.Strides.{row}
