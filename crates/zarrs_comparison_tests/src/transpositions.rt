@@ -232,13 +232,7 @@ fn encoded<'a>(
     form: &ChunkForm,
     chunk: ArrayBytes<'a>,
 ) -> Result<ArrayBytes<'a>, CodecError> {
-    codec.encode(
-        alloc,
-        chunk,
-        &form.shape,
-        &form.data_type,
-        &form.fill_value,
-    )
+    codec.encode(alloc, chunk, &form.shape, &form.data_type, &form.fill_value)
 }
 
 fn decoded<'a>(
@@ -247,13 +241,7 @@ fn decoded<'a>(
     form: &ChunkForm,
     chunk: ArrayBytes<'a>,
 ) -> Result<ArrayBytes<'a>, CodecError> {
-    codec.decode(
-        alloc,
-        chunk,
-        &form.shape,
-        &form.data_type,
-        &form.fill_value,
-    )
+    codec.decode(alloc, chunk, &form.shape, &form.data_type, &form.fill_value)
 }
 
 fn lent(bytes: &[u8]) -> ArrayBytes<'_> {
