@@ -94,16 +94,20 @@ fn has_copy(
     Ok(())
 }
 
-/// The container lends what it was made of, and has this size.
-fn is_sized(rt: &impl Abort, row: &Sized, made: &ArrayBytes<'static>) -> Result<(), CodecError> {
+/// The container lends what it was made of, has this size, and its copy is equal.
+fn is_sized(
+    rt: &impl Abort,
+    alloc: Global,
+    row: &Sized,
+    made: &ArrayBytes<'static>,
+) -> Result<(), CodecError> {
     is(rt, row.name, &made.size(), &row.size);
-    holds(rt, row.name, made, &row.held)
+    holds(rt, row.name, made, &row.held)?;
+    has_copy(rt, row.name, made, &container(alloc, &row.unlike)?)
 }
 
 fn sizes(rt: &impl Abort, alloc: Global, row: &Sized) -> Result<(), CodecError> {
-    let made = container(alloc, &row.held)?;
-    is_sized(rt, row, &made)?;
-    has_copy(rt, row.name, &made, &container(alloc, &row.unlike)?)
+    is_sized(rt, alloc, row, &container(alloc, &row.held)?)
 }
 
 #[test]
@@ -241,9 +245,17 @@ fn is_filled(
     holds(rt, row.name, array, &row.held)
 }
 
+fn fills_type(
+    rt: &impl Abort,
+    alloc: Global,
+    row: &Filled,
+    data_type: &DataType,
+) -> Result<(), CodecError> {
+    is_filled(rt, row, data_type, &fill(alloc, row, data_type)?)
+}
+
 fn fills(rt: &impl Abort, alloc: Global, row: &Filled) -> Result<(), CodecError> {
-    let data_type = data_type(alloc, &row.data_type)?;
-    is_filled(rt, row, &data_type, &fill(alloc, row, &data_type)?)
+    fills_type(rt, alloc, row, &data_type(alloc, &row.data_type)?)
 }
 
 #[test]

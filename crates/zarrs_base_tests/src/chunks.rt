@@ -153,15 +153,11 @@ fn compares_with(
     Ok(())
 }
 
-fn is_subset(rt: &impl Abort, row: &Subset, made: &ArraySubset) {
+fn is_made(rt: &impl Abort, alloc: Global, row: &Subset) -> Result<(), CodecError> {
+    let made = ArraySubset::new_with_ranges(alloc, row.ranges)?;
     are(rt, row.name, made.start(), row.start);
     are(rt, row.name, made.shape(), row.shape);
     is(rt, row.name, &made.num_elements(), &row.elements);
-}
-
-fn is_made(rt: &impl Abort, alloc: Global, row: &Subset) -> Result<(), CodecError> {
-    let made = ArraySubset::new_with_ranges(alloc, row.ranges)?;
-    is_subset(rt, row, &made);
     compares_with(rt, alloc, row, &made)
 }
 

@@ -109,25 +109,13 @@ fn is_word(rt: &impl Abort, word: &FillValue, unlike: &FillValue) -> Result<(), 
     Ok(())
 }
 
-fn of_bytes(alloc: Global, bytes: [u8; 2]) -> Result<FillValue, CodecError> {
-    Ok(FillValue::new(bytes.to_vec(alloc)?))
+/// The bytes of an element that is absent inside.
+fn absent_inside(alloc: Global) -> Result<FillValue, CodecError> {
+    FillValue::new_optional_null(alloc)?.into_optional()
 }
 
 #[test]
 fn have_fill_values(rt: HostRuntime) -> Result<(), Fail> {
-    let unlike = of_bytes(rt.alloc(), [1, 0])?;
-    Ok(is_word(&rt, &of_bytes(rt.alloc(), [0, 1])?, &unlike)?)
-}
-
-/// Absent inside.
-#[test]
-fn have_fill_values_of_optional_types(rt: HostRuntime) -> Result<(), Fail> {
-    let null = FillValue::new_optional_null(rt.alloc())?;
-    are(
-        &rt,
-        "absent inside",
-        null.into_optional()?.as_ne_bytes(),
-        &[0, 1],
-    );
-    Ok(())
+    let unlike = FillValue::new([1, 0].to_vec(rt.alloc())?);
+    Ok(is_word(&rt, &absent_inside(rt.alloc())?, &unlike)?)
 }

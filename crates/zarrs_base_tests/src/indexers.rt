@@ -55,14 +55,6 @@ const ROWS: &'static [Row] = &[
         unlike: Ranges(&[0..3, 0..2]),
     },
     Row {
-        name: "whole rows",
-        sizes: &[4, 4],
-        asked: Ranges(&[1..3, 0..4]),
-        places: &[4, 5, 6, 7, 8, 9, 10, 11],
-        runs: &[(4, 8)],
-        unlike: Ranges(&[1..2, 0..4]),
-    },
-    Row {
         name: "whole rows of three axes",
         sizes: &[2, 3, 2],
         asked: Ranges(&[0..2, 1..3, 0..2]),
@@ -88,14 +80,6 @@ const ROWS: &'static [Row] = &[
         unlike: Tuples(&[]),
     },
     Row {
-        name: "an empty range in the middle",
-        sizes: &[2, 3, 4],
-        asked: Ranges(&[0..2, 1..1, 0..4]),
-        places: &[],
-        runs: &[],
-        unlike: Ranges(&[0..2, 1..1, 0..3]),
-    },
-    Row {
         name: "a list",
         sizes: &[4, 4],
         asked: Tuples(&[&[1, 0], &[3, 3], &[0, 2], &[3, 3]]),
@@ -118,14 +102,6 @@ const ROWS: &'static [Row] = &[
         places: &[4, 5, 5, 6, 0],
         runs: &[(4, 2), (5, 2), (0, 1)],
         unlike: Tuples(&[&[1, 0], &[1, 1], &[1, 2], &[0, 0]]),
-    },
-    Row {
-        name: "a list of empty tuples",
-        sizes: &[],
-        asked: Tuples(&[&[], &[]]),
-        places: &[0, 0],
-        runs: &[(0, 1), (0, 1)],
-        unlike: Tuples(&[&[]]),
     },
     Row {
         name: "an empty list",

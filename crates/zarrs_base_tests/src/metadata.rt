@@ -306,8 +306,12 @@ fn is_made(
 }
 
 #[test]
+fn is_made_of_a_name(rt: HostRuntime) -> Result<(), Fail> {
+    let metadata = MetadataV3::new(rt.alloc(), "zarrs.squeeze")?;
+    is_made(&rt, rt.alloc(), &metadata, &NAME)
+}
+
+#[test]
 fn is_made_of_a_name_and_a_configuration(rt: HostRuntime) -> Result<(), Fail> {
-    let name = MetadataV3::new(rt.alloc(), "zarrs.squeeze")?;
-    is_made(&rt, rt.alloc(), &name, &NAME)?;
     is_made(&rt, rt.alloc(), &made_packbits(rt.alloc())?, &PACKBITS)
 }

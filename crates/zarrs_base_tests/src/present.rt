@@ -54,15 +54,6 @@ const ROWS: &'static [Row] = &[
     },
     // A byte of no element stands in front of the texts.
     Row {
-        name: "all texts",
-        data_type: Type::Text,
-        mask: &[1, 1, 1, 1],
-        elements: Texts(b"xabcdef", &[1, 2, 4, 4, 7]),
-        count: 4,
-        present: Texts(b"xabcdef", &[1, 2, 4, 4, 7]),
-        put_back: MaskedTexts(&[1; 4], b"xabcdef", &[1, 2, 4, 4, 7]),
-    },
-    Row {
         name: "two of four texts",
         data_type: Type::Text,
         mask: &[1, 0, 0, 1],
@@ -114,17 +105,25 @@ fn is_put_back(
     answers(rt, row.name, answer, &row.put_back)
 }
 
-fn goes_and_comes(rt: &impl Abort, alloc: Global, row: &Row) -> Result<(), CodecError> {
+fn goes_and_comes(
+    rt: &impl Abort,
+    alloc: Global,
+    row: &Row,
+    data_type: &DataType,
+) -> Result<(), CodecError> {
     is(rt, row.name, &count_present(row.mask), &Ok(row.count));
-    let data_type = data_type(alloc, &row.data_type)?;
-    is_taken_out(rt, alloc, row, &data_type)?;
-    is_put_back(rt, alloc, row, &data_type)
+    is_taken_out(rt, alloc, row, data_type)?;
+    is_put_back(rt, alloc, row, data_type)
+}
+
+fn all_go_and_come(rt: &impl Abort, alloc: Global, rows: &[Row]) -> Result<(), CodecError> {
+    for row in rows {
+        goes_and_comes(rt, alloc, row, &data_type(alloc, &row.data_type)?)?;
+    }
+    Ok(())
 }
 
 #[test]
 fn are_taken_out_and_put_back(rt: HostRuntime) -> Result<(), Fail> {
-    for row in ROWS.iter() {
-        goes_and_comes(&rt, rt.alloc(), row)?;
-    }
-    Ok(())
+    Ok(all_go_and_come(&rt, rt.alloc(), ROWS)?)
 }

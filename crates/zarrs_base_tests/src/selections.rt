@@ -56,16 +56,6 @@ const ROWS: &'static [Row] = &[
         updated: Fixed(&[8, 2, 3, 7]),
     },
     Row {
-        name: "two bytes",
-        data_type: Type::Bytes(2),
-        chunk: NUMBERS,
-        sizes: &[2],
-        at: Tuples(&[&[1], &[1]]),
-        selected: Fixed(&[3, 4, 3, 4]),
-        new: Fixed(&[9, 8, 7, 6]),
-        updated: Fixed(&[1, 2, 7, 6]),
-    },
-    Row {
         name: "texts in the middle",
         data_type: Type::Text,
         chunk: TEXTS,
@@ -104,16 +94,6 @@ const ROWS: &'static [Row] = &[
         selected: Masked(&[1, 1, 1], &[7, 5, 7]),
         new: Masked(&[1, 0, 0], &[1, 2, 3]),
         updated: Masked(&[0, 0, 0], &[2, 9, 3]),
-    },
-    Row {
-        name: "an absent element",
-        data_type: Type::Optional(1),
-        chunk: Masked(&[1, 0, 1], &[5, 9, 7]),
-        sizes: &[3],
-        at: Tuples(&[&[1]]),
-        selected: Masked(&[0], &[9]),
-        new: Masked(&[1], &[3]),
-        updated: Masked(&[1, 1, 1], &[5, 3, 7]),
     },
     Row {
         name: "texts under a mask",
