@@ -1,71 +1,15 @@
-use crate::checks::{are, compares, is, is_refused};
-use crate::containers::{Held, container, holds};
+//! What containers are made of, how large they are, and what they give back.
+
+use crate::checks::{are, compares, is};
+use crate::containers::{Elements, Held, Type, container, data_type, holds};
 use Held::{Fixed, Masked, MaskedTexts, Nested, Texts};
 use std::alloc::Global;
+use std::borrow::CowSlice;
 use std::process::Abort;
 use std::test::Fail;
-use zarrs_array_bytes::{ArrayBytes, ArrayBytesOffsets};
+use zarrs_array_bytes::{ArrayBytes, ArrayBytesOffsets, append_copies};
 use zarrs_chunk::CodecError;
-
-/// The texts "a" and "bc", behind a byte of no element.
-const TEXTS: Held = Texts(b"xabc", &[1, 2, 4]);
-
-const BYTES: Held = Fixed(&[1, 2]);
-
-const MASKED: Held = Masked(&[1, 0], &[5, 9]);
-
-/// Parts that make no container, and why.
-struct Refusal {
-    name: &'static str,
-    held: Held,
-    cause: CodecError,
-}
-
-const REFUSED: &'static [Refusal] = &[
-    Refusal {
-        name: "falling offsets",
-        held: Texts(b"ab", &[0, 2, 1]),
-        cause: CodecError::InvalidOffsets,
-    },
-    Refusal {
-        name: "no offsets",
-        held: Texts(b"", &[]),
-        cause: CodecError::InvalidOffsets,
-    },
-    Refusal {
-        name: "offsets that end before the bytes",
-        held: Texts(b"abc", &[0, 2]),
-        cause: CodecError::InvalidOffsets,
-    },
-    Refusal {
-        name: "offsets that end behind the bytes",
-        held: Texts(b"abc", &[0, 4]),
-        cause: CodecError::InvalidOffsets,
-    },
-    Refusal {
-        name: "a mask byte of 2",
-        held: Masked(&[0, 2], &[1, 1]),
-        cause: CodecError::MaskValue,
-    },
-    Refusal {
-        name: "an outer mask byte of 255",
-        held: Nested(&[255], &[1], &[1]),
-        cause: CodecError::MaskValue,
-    },
-];
-
-#[test]
-fn is_refused_where_parts_disagree(rt: HostRuntime) -> Result<(), Fail> {
-    for row in REFUSED.iter() {
-        is_refused(
-            &rt,
-            row.name,
-            container(rt.alloc(), &row.held, false),
-            row.cause,
-        )?;
-    }
-    Ok(())
-}
+use zarrs_data_type::{DataType, FillValue};
 
 fn are_offsets(
     rt: &impl Abort,
@@ -92,13 +36,7 @@ struct Sized {
     size: usize,
     /// Another container.
     unlike: Held,
-    /// Why it lends no bytes of one size, no texts or no mask.
-    as_fixed: Option<CodecError>,
-    as_variable: Option<CodecError>,
-    as_optional: Option<CodecError>,
 }
-
-const KIND: CodecError = CodecError::ArrayBytesKind;
 
 const SIZED: &'static [Sized] = &[
     Sized {
@@ -106,85 +44,70 @@ const SIZED: &'static [Sized] = &[
         held: Fixed(&[]),
         size: 0,
         unlike: Texts(b"", &[0]),
-        as_fixed: None,
-        as_variable: Some(KIND),
-        as_optional: Some(KIND),
     },
     Sized {
         name: "bytes",
         held: Fixed(&[5, 9, 7]),
         size: 3,
         unlike: Fixed(&[5, 9, 8]),
-        as_fixed: None,
-        as_variable: Some(KIND),
-        as_optional: Some(KIND),
     },
     Sized {
         name: "no texts",
         held: Texts(b"", &[0]),
         size: 8,
         unlike: Fixed(&[]),
-        as_fixed: Some(KIND),
-        as_variable: None,
-        as_optional: Some(KIND),
     },
+    // A byte of no element stands in front.
     Sized {
         name: "texts",
         held: Texts(b"xabc", &[1, 2, 4]),
         size: 28,
         unlike: Texts(b"xabc", &[1, 3, 4]),
-        as_fixed: Some(KIND),
-        as_variable: None,
-        as_optional: Some(KIND),
     },
     Sized {
         name: "masked bytes",
         held: Masked(&[1, 0, 1], &[5, 9, 7]),
         size: 6,
         unlike: Masked(&[1, 1, 1], &[5, 9, 7]),
-        as_fixed: Some(KIND),
-        as_variable: Some(KIND),
-        as_optional: None,
     },
     Sized {
         name: "masked texts",
         held: MaskedTexts(&[1], b"ab", &[0, 2]),
         size: 19,
         unlike: Texts(b"ab", &[0, 2]),
-        as_fixed: Some(KIND),
-        as_variable: Some(KIND),
-        as_optional: None,
     },
     Sized {
         name: "two masks",
         held: Nested(&[1, 1, 0], &[1, 0, 0], &[42, 0, 0]),
         size: 9,
         unlike: Nested(&[1, 0, 0], &[1, 1, 0], &[42, 0, 0]),
-        as_fixed: Some(KIND),
-        as_variable: Some(KIND),
-        as_optional: None,
     },
 ];
 
-/// The container lends what it was made of and nothing else, has this size, and its copy is equal.
-fn is_sized(
+fn has_copy(
     rt: &impl Abort,
-    row: &Sized,
+    name: &str,
     made: &ArrayBytes<'static>,
     unlike: &ArrayBytes<'static>,
 ) -> Result<(), CodecError> {
-    holds(rt, row.name, made, &row.held)?;
-    is(rt, row.name, &made.size(), &row.size);
-    is(rt, row.name, &made.as_fixed().err(), &row.as_fixed);
-    is(rt, row.name, &made.as_variable().err(), &row.as_variable);
-    is(rt, row.name, &made.as_optional().err(), &row.as_optional);
-    compares(rt, row.name, made, &made.clone()?, unlike);
+    compares(rt, name, made, &made.clone()?, unlike);
     Ok(())
 }
 
+/// The container lends what it was made of, has this size, and its copy is equal.
+fn is_sized(
+    rt: &impl Abort,
+    alloc: Global,
+    row: &Sized,
+    made: &ArrayBytes<'static>,
+) -> Result<(), CodecError> {
+    is(rt, row.name, &made.size(), &row.size);
+    holds(rt, row.name, made, &row.held)?;
+    has_copy(rt, row.name, made, &container(alloc, &row.unlike)?)
+}
+
 fn sizes(rt: &impl Abort, alloc: Global, row: &Sized) -> Result<(), CodecError> {
-    let made = container(alloc, &row.held, false)?;
-    is_sized(rt, row, &made, &container(alloc, &row.unlike, true)?)
+    is_sized(rt, alloc, row, &container(alloc, &row.held)?)
 }
 
 #[test]
@@ -197,43 +120,157 @@ fn has_a_size_and_an_equal_copy(rt: HostRuntime) -> Result<(), Fail> {
 
 #[test]
 fn gives_its_texts_back(rt: HostRuntime) -> Result<(), Fail> {
-    let (bytes, offsets) = container(rt.alloc(), &TEXTS, false)?.into_variable()?;
+    let (bytes, offsets) = container(rt.alloc(), &Texts(b"xabc", &[1, 2, 4]))?.into_variable()?;
     are(&rt, "bytes", bytes.as_slice(), b"xabc");
     are(&rt, "offsets", offsets.as_slice(), &[1, 2, 4]);
     Ok(())
 }
 
+/// The bytes under the mask are the container's own.
 #[test]
 fn gives_its_mask_and_bytes_back(rt: HostRuntime) -> Result<(), Fail> {
-    let (inner, mask) = container(rt.alloc(), &MASKED, false)?.into_optional()?;
+    let bytes = CowSlice::Owned([5, 9].to_vec(rt.alloc())?);
+    let mask = CowSlice::Borrowed(&[1, 0]);
+    let made = ArrayBytes::new_flen(bytes).with_optional_mask(rt.alloc(), mask)?;
+    let (inner, mask) = made.into_optional()?;
     are(&rt, "mask", mask.as_slice(), &[1, 0]);
-    are(
-        &rt,
-        "inside",
-        Box::into_inner(inner).into_fixed()?.as_slice(),
-        &[5, 9],
-    );
+    let bytes = Box::into_inner(inner).into_fixed()?;
+    are(&rt, "bytes", bytes.as_slice(), &[5, 9]);
     Ok(())
 }
 
+/// A fill value, and so many elements of it. What is absent stands over zeros, empty bytes and inner
+/// masks of zero.
+struct Filled {
+    name: &'static str,
+    data_type: Type,
+    count: u64,
+    fill_value: &'static [u8],
+    held: Held,
+}
+
+const FILLED: &'static [Filled] = &[
+    Filled {
+        name: "no elements",
+        data_type: Type::Bytes(2),
+        count: 0,
+        fill_value: &[1, 2],
+        held: Fixed(&[]),
+    },
+    Filled {
+        name: "two bytes",
+        data_type: Type::Bytes(2),
+        count: 2,
+        fill_value: &[1, 2],
+        held: Fixed(&[1, 2, 1, 2]),
+    },
+    Filled {
+        name: "texts",
+        data_type: Type::Text,
+        count: 2,
+        fill_value: b"ab",
+        held: Texts(b"abab", &[0, 2, 4]),
+    },
+    Filled {
+        name: "absent bytes",
+        data_type: Type::Optional(1),
+        count: 2,
+        fill_value: &[0],
+        held: Masked(&[0, 0], &[0, 0]),
+    },
+    Filled {
+        name: "present bytes",
+        data_type: Type::Optional(1),
+        count: 2,
+        fill_value: &[42, 1],
+        held: Masked(&[1, 1], &[42, 42]),
+    },
+    Filled {
+        name: "present empty texts",
+        data_type: Type::OptionalText,
+        count: 2,
+        fill_value: &[1],
+        held: MaskedTexts(&[1, 1], b"", &[0, 0, 0]),
+    },
+    Filled {
+        name: "absent texts",
+        data_type: Type::OptionalText,
+        count: 2,
+        fill_value: &[0],
+        held: MaskedTexts(&[0, 0], b"", &[0, 0, 0]),
+    },
+    Filled {
+        name: "absent at two levels",
+        data_type: Type::Nested(1),
+        count: 2,
+        fill_value: &[0],
+        held: Nested(&[0, 0], &[0, 0], &[0, 0]),
+    },
+    Filled {
+        name: "absent inside",
+        data_type: Type::Nested(1),
+        count: 1,
+        fill_value: &[0, 1],
+        held: Nested(&[1], &[0], &[0]),
+    },
+    Filled {
+        name: "present at two levels",
+        data_type: Type::Nested(1),
+        count: 1,
+        fill_value: &[42, 1, 1],
+        held: Nested(&[1], &[1], &[42]),
+    },
+];
+
+fn fill(alloc: Global, row: &Filled, data_type: &DataType) -> Elements {
+    let fill_value = FillValue::new(row.fill_value.to_vec(alloc)?);
+    ArrayBytes::new_fill_value(alloc, data_type, row.count, &fill_value)
+}
+
+/// The container is so many elements of the type, and no more.
+fn is_filled(
+    rt: &impl Abort,
+    row: &Filled,
+    data_type: &DataType,
+    array: &ArrayBytes<'static>,
+) -> Result<(), CodecError> {
+    let count = row.count;
+    is(rt, row.name, &array.validate(count, data_type), &Ok(()));
+    is(
+        rt,
+        row.name,
+        &array.validate_data(count, data_type),
+        &Ok(()),
+    );
+    holds(rt, row.name, array, &row.held)
+}
+
+fn fills_type(
+    rt: &impl Abort,
+    alloc: Global,
+    row: &Filled,
+    data_type: &DataType,
+) -> Result<(), CodecError> {
+    is_filled(rt, row, data_type, &fill(alloc, row, data_type)?)
+}
+
+fn fills(rt: &impl Abort, alloc: Global, row: &Filled) -> Result<(), CodecError> {
+    fills_type(rt, alloc, row, &data_type(alloc, &row.data_type)?)
+}
+
 #[test]
-fn gives_no_parts_of_another_kind(rt: HostRuntime) -> Result<(), Fail> {
-    is_refused(
-        &rt,
-        "texts",
-        container(rt.alloc(), &TEXTS, false)?.into_fixed(),
-        KIND,
-    )?;
-    is_refused(
-        &rt,
-        "mask",
-        container(rt.alloc(), &MASKED, false)?.into_variable(),
-        KIND,
-    )?;
-    is_refused(
-        &rt,
-        "bytes",
-        container(rt.alloc(), &BYTES, false)?.into_optional(),
-        KIND,
-    )
+fn has_a_fill_value_everywhere(rt: HostRuntime) -> Result<(), Fail> {
+    for row in FILLED.iter() {
+        fills(&rt, rt.alloc(), row)?;
+    }
+    Ok(())
+}
+
+/// So many copies that blocks of them are made.
+#[test]
+fn is_made_of_copies(rt: HostRuntime) -> Result<(), Fail> {
+    let mut bytes = Vec::new(rt.alloc());
+    append_copies(&mut bytes, &[7, 7, 7], 65)?;
+    are(&rt, "copies", bytes.as_slice(), &[7; 195]);
+    Ok(())
 }

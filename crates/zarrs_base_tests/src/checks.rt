@@ -5,7 +5,6 @@ use std::alloc::Global;
 use std::fmt::Debug;
 use std::ops::Range;
 use std::process::Abort;
-use std::test::Fail;
 use zarrs_chunk::{ArraySubset, ChunkShape, CodecError, Indexer};
 
 /// What came is what is wanted.
@@ -22,21 +21,6 @@ pub(crate) fn are<T: PartialEq + Debug>(rt: &impl Abort, name: &str, came: &[T],
 pub(crate) fn compares<T: PartialEq>(rt: &impl Abort, name: &str, one: &T, copy: &T, unlike: &T) {
     is(rt, name, &(*one == *copy && *copy == *one), &true);
     is(rt, name, &(*one != *unlike && *unlike != *one), &true);
-}
-
-/// The answer is this refusal. A want of memory is an error of the test.
-pub(crate) fn is_refused<T: Drop>(
-    rt: &impl Abort,
-    name: &str,
-    answer: Result<T, CodecError>,
-    cause: CodecError,
-) -> Result<(), Fail> {
-    let came = answer.err();
-    if came == Some(CodecError::OutOfMemory) {
-        return Err(CodecError::OutOfMemory)?;
-    }
-    is(rt, name, &came, &Some(cause));
-    Ok(())
 }
 
 /// A shape of these sizes, none of which may be zero.

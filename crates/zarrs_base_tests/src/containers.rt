@@ -1,21 +1,23 @@
 //! Types and containers as plain data, and what is made of them.
 
-use crate::checks::{are, is_refused};
+use crate::checks::are;
 use Held::{Fixed, Masked, MaskedTexts, Nested, NestedTexts, Texts};
-use std::alloc::{AllocError, Global};
+use std::alloc::Global;
 use std::borrow::CowSlice;
 use std::process::Abort;
-use std::test::Fail;
-use zarrs_array_bytes::{ArrayBytes, ArrayBytesOffsets, ArrayBytesRaw};
+use zarrs_array_bytes::{ArrayBytes, ArrayBytesOffsets};
 use zarrs_chunk::CodecError;
 use zarrs_data_type::DataType;
 
 pub(crate) type Elements = Result<ArrayBytes<'static>, CodecError>;
 
-/// A type. A number is how many components of 8 bits an element has.
+/// A type. A number is how many components of 8 bits an element has. A pair is two components of 12
+/// bits, with a sign or without.
 pub(crate) enum Type {
     Bytes(u64),
+    Pair(bool),
     Text,
+    AnyBytes,
     Optional(u64),
     OptionalText,
     Nested(u64),
@@ -28,7 +30,9 @@ fn optional_bytes(alloc: Global, count: u64) -> Result<DataType, CodecError> {
 pub(crate) fn data_type(alloc: Global, told: &Type) -> Result<DataType, CodecError> {
     match told {
         Type::Bytes(count) => DataType::components(8, *count, false),
+        Type::Pair(sign) => DataType::components(12, 2, *sign),
         Type::Text => Ok(DataType::string()),
+        Type::AnyBytes => Ok(DataType::bytes()),
         Type::Optional(count) => optional_bytes(alloc, *count),
         Type::OptionalText => DataType::optional(alloc, DataType::string()),
         Type::Nested(count) => DataType::optional(alloc, optional_bytes(alloc, *count)?),
@@ -78,39 +82,27 @@ fn parts(held: &Held) -> HeldParts {
     }
 }
 
-/// The bytes, borrowed or owned.
-pub(crate) fn raw(
-    alloc: Global,
-    bytes: Bytes,
-    lent: bool,
-) -> Result<ArrayBytesRaw<'static>, AllocError> {
-    if lent {
-        return Ok(CowSlice::Borrowed(bytes));
-    }
-    Ok(CowSlice::Owned(bytes.to_vec(alloc)?))
-}
-
-fn unmasked(alloc: Global, bytes: Bytes, offsets: Option<Offsets>, lent: bool) -> Elements {
-    let bytes = raw(alloc, bytes, lent)?;
+fn unmasked(alloc: Global, bytes: Bytes, offsets: Option<Offsets>) -> Elements {
+    let bytes = CowSlice::Borrowed(bytes);
     match offsets {
         None => Ok(ArrayBytes::new_flen(bytes)),
         Some(told) => ArrayBytes::new_vlen(bytes, ArrayBytesOffsets::new(told.to_vec(alloc)?)?),
     }
 }
 
-fn under(alloc: Global, mask: Option<Bytes>, array: ArrayBytes<'static>, lent: bool) -> Elements {
+fn under(alloc: Global, mask: Option<Bytes>, array: ArrayBytes<'static>) -> Elements {
     match mask {
         None => Ok(array),
-        Some(mask) => array.with_optional_mask(alloc, raw(alloc, mask, lent)?),
+        Some(mask) => array.with_optional_mask(alloc, CowSlice::Borrowed(mask)),
     }
 }
 
-/// The container, with bytes that are lent to it, or with its own.
-pub(crate) fn container(alloc: Global, held: &Held, lent: bool) -> Elements {
+/// The container, over bytes that are lent to it.
+pub(crate) fn container(alloc: Global, held: &Held) -> Elements {
     let parts = parts(held);
-    let array = unmasked(alloc, parts.bytes, parts.offsets, lent)?;
-    let array = under(alloc, parts.mask, array, lent)?;
-    under(alloc, parts.outer_mask, array, lent)
+    let array = unmasked(alloc, parts.bytes, parts.offsets)?;
+    let array = under(alloc, parts.mask, array)?;
+    under(alloc, parts.outer_mask, array)
 }
 
 /// What stands under the mask, if one is wanted.
@@ -162,17 +154,12 @@ pub(crate) fn holds(
     has_bytes(rt, name, inside, parts.bytes, parts.offsets)
 }
 
-/// What is answered: a container, or the first cause that holds.
-pub(crate) type Wanted = Result<Held, CodecError>;
-
+/// The answer is this container.
 pub(crate) fn answers(
     rt: &impl Abort,
     name: &str,
     answer: Elements,
-    wanted: &Wanted,
-) -> Result<(), Fail> {
-    match wanted {
-        Ok(held) => Ok(holds(rt, name, &answer?, held)?),
-        Err(cause) => is_refused(rt, name, answer, *cause),
-    }
+    wanted: &Held,
+) -> Result<(), CodecError> {
+    holds(rt, name, &answer?, wanted)
 }

@@ -6,269 +6,221 @@ use std::test::Fail;
 use zarrs_chunk::{CodecError, CodecName, StorageError};
 use zarrs_metadata::PluginCreateError;
 
-/// An error, its name, and what its text has in it behind the name.
+/// An error and its text, which begins with its name.
 struct Row<E: 'static> {
     error: E,
-    name: &'static str,
-    part: &'static str,
+    text: &'static str,
 }
 
 const REFUSALS: &'static [Row<CodecError>] = &[
     Row {
         error: CodecError::OutOfMemory,
-        name: "OutOfMemory",
-        part: "",
+        text: "OutOfMemory",
     },
     Row {
         error: CodecError::Storage(StorageError { code: 7 }),
-        name: "Storage",
-        part: "7",
+        text: "Storage: code 7",
     },
     Row {
         error: CodecError::Storage(StorageError { code: 17 }),
-        name: "Storage",
-        part: "17",
+        text: "Storage: code 17",
     },
     Row {
         error: CodecError::UnsupportedDataType(CodecName::Transpose),
-        name: "UnsupportedDataType",
-        part: "transpose",
+        text: "UnsupportedDataType: the codec transpose",
     },
     Row {
         error: CodecError::UnsupportedDataType(CodecName::Reshape),
-        name: "UnsupportedDataType",
-        part: "reshape",
+        text: "UnsupportedDataType: the codec reshape",
     },
     Row {
         error: CodecError::UnsupportedDataType(CodecName::Squeeze),
-        name: "UnsupportedDataType",
-        part: "squeeze",
+        text: "UnsupportedDataType: the codec squeeze",
     },
     Row {
         error: CodecError::UnsupportedDataType(CodecName::Bytes),
-        name: "UnsupportedDataType",
-        part: "bytes",
+        text: "UnsupportedDataType: the codec bytes",
     },
     Row {
         error: CodecError::UnsupportedDataType(CodecName::PackBits),
-        name: "UnsupportedDataType",
-        part: "packbits",
+        text: "UnsupportedDataType: the codec packbits",
     },
     Row {
         error: CodecError::UnsupportedDataType(CodecName::Vlen),
-        name: "UnsupportedDataType",
-        part: "vlen",
+        text: "UnsupportedDataType: the codec vlen",
     },
     Row {
         error: CodecError::UnsupportedDataType(CodecName::Optional),
-        name: "UnsupportedDataType",
-        part: "optional",
+        text: "UnsupportedDataType: the codec optional",
     },
     Row {
         error: CodecError::EndiannessMissing,
-        name: "EndiannessMissing",
-        part: "",
+        text: "EndiannessMissing",
     },
     Row {
         error: CodecError::ArrayBytesKind,
-        name: "ArrayBytesKind",
-        part: "",
+        text: "ArrayBytesKind",
     },
     Row {
         error: CodecError::InvalidBytesLength {
             len: 3,
             expected: 40,
         },
-        name: "InvalidBytesLength",
-        part: "3 found, 40 expected",
+        text: "InvalidBytesLength: 3 found, 40 expected",
     },
     Row {
         error: CodecError::InvalidBytesLength {
             len: 40,
             expected: 3,
         },
-        name: "InvalidBytesLength",
-        part: "40 found, 3 expected",
+        text: "InvalidBytesLength: 40 found, 3 expected",
     },
     Row {
         error: CodecError::IncompatibleDimensionality,
-        name: "IncompatibleDimensionality",
-        part: "",
+        text: "IncompatibleDimensionality",
     },
     Row {
         error: CodecError::OutOfBounds,
-        name: "OutOfBounds",
-        part: "",
+        text: "OutOfBounds",
     },
     Row {
         error: CodecError::Overflow,
-        name: "Overflow",
-        part: "",
+        text: "Overflow",
     },
     Row {
         error: CodecError::InvalidFillValue,
-        name: "InvalidFillValue",
-        part: "",
+        text: "InvalidFillValue",
     },
     Row {
         error: CodecError::ReshapeDimension,
-        name: "ReshapeDimension",
-        part: "",
+        text: "ReshapeDimension",
     },
     Row {
         error: CodecError::ReshapeElements,
-        name: "ReshapeElements",
-        part: "",
+        text: "ReshapeElements",
     },
     Row {
         error: CodecError::BitRange,
-        name: "BitRange",
-        part: "",
+        text: "BitRange",
     },
     Row {
         error: CodecError::PaddingByte,
-        name: "PaddingByte",
-        part: "",
+        text: "PaddingByte",
     },
     Row {
         error: CodecError::IndexLength,
-        name: "IndexLength",
-        part: "",
+        text: "IndexLength",
     },
     Row {
         error: CodecError::InvalidOffsets,
-        name: "InvalidOffsets",
-        part: "",
+        text: "InvalidOffsets",
     },
     Row {
         error: CodecError::OffsetTooLarge,
-        name: "OffsetTooLarge",
-        part: "",
+        text: "OffsetTooLarge",
     },
     Row {
         error: CodecError::OffsetNotKept,
-        name: "OffsetNotKept",
-        part: "",
+        text: "OffsetNotKept",
     },
     Row {
         error: CodecError::MaskValue,
-        name: "MaskValue",
-        part: "",
+        text: "MaskValue",
     },
     Row {
         error: CodecError::HeaderOverflow,
-        name: "HeaderOverflow",
-        part: "",
+        text: "HeaderOverflow",
     },
     Row {
         error: CodecError::InvalidByteRange,
-        name: "InvalidByteRange",
-        part: "",
+        text: "InvalidByteRange",
     },
     Row {
         error: CodecError::BytesCodec(9),
-        name: "BytesCodec",
-        part: "9",
+        text: "BytesCodec: code 9",
     },
     Row {
         error: CodecError::BytesCodec(29),
-        name: "BytesCodec",
-        part: "29",
+        text: "BytesCodec: code 29",
     },
     Row {
         error: CodecError::DataMismatch,
-        name: "DataMismatch",
-        part: "",
+        text: "DataMismatch",
     },
     Row {
         error: CodecError::UnsupportedTarget,
-        name: "UnsupportedTarget",
-        part: "",
+        text: "UnsupportedTarget",
     },
     Row {
         error: CodecError::TargetMismatch,
-        name: "TargetMismatch",
-        part: "",
+        text: "TargetMismatch",
     },
     Row {
         error: CodecError::ReversedRange,
-        name: "ReversedRange",
-        part: "",
+        text: "ReversedRange",
     },
 ];
 
 const FAULTS: &'static [Row<PluginCreateError>] = &[
     Row {
         error: PluginCreateError::OutOfMemory,
-        name: "OutOfMemory",
-        part: "",
+        text: "OutOfMemory",
     },
     Row {
         error: PluginCreateError::UnknownName,
-        name: "UnknownName",
-        part: "",
+        text: "UnknownName",
     },
     Row {
         error: PluginCreateError::InvalidConfiguration,
-        name: "InvalidConfiguration",
-        part: "",
+        text: "InvalidConfiguration",
     },
     Row {
         error: PluginCreateError::MissingArrayToBytes,
-        name: "MissingArrayToBytes",
-        part: "",
+        text: "MissingArrayToBytes",
     },
     Row {
         error: PluginCreateError::MultipleArrayToBytes,
-        name: "MultipleArrayToBytes",
-        part: "",
+        text: "MultipleArrayToBytes",
     },
     Row {
         error: PluginCreateError::BitOrder,
-        name: "BitOrder",
-        part: "",
+        text: "BitOrder",
     },
     Row {
         error: PluginCreateError::MultipleAuto,
-        name: "MultipleAuto",
-        part: "",
+        text: "MultipleAuto",
     },
     Row {
         error: PluginCreateError::ZeroSize,
-        name: "ZeroSize",
-        part: "",
+        text: "ZeroSize",
     },
     Row {
         error: PluginCreateError::NotAPermutation,
-        name: "NotAPermutation",
-        part: "",
+        text: "NotAPermutation",
     },
 ];
 
-/// The error's text begins with its name, and has the part.
-fn has_text<E: Display>(rt: &impl Abort, alloc: Global, row: &Row<E>) -> Result<(), Fail> {
+/// The error has this text, which begins with its name.
+fn has_text<E: Display>(
+    rt: &impl Abort,
+    alloc: Global,
+    row: &Row<E>,
+    name: &str,
+) -> Result<(), Fail> {
     let error = &row.error;
     let text = format!(in alloc; "{error}")?;
-    let begins = text.as_bytes().starts_with(row.name.as_bytes());
-    is(rt, row.name, &begins, &true);
-    is(rt, row.name, &text.contains(row.part), &true);
+    is(rt, row.text, &text.as_str(), &row.text);
+    is(rt, row.text, &row.text.starts_with(name), &true);
     Ok(())
 }
 
 #[test]
-fn refusals_have_names_and_texts(rt: HostRuntime) -> Result<(), Fail> {
+fn have_names_and_texts(rt: HostRuntime) -> Result<(), Fail> {
     for row in REFUSALS.iter() {
-        is(&rt, row.name, &row.error.name(), &row.name);
-        has_text(&rt, rt.alloc(), row)?;
+        has_text(&rt, rt.alloc(), row, row.error.name())?;
     }
-    Ok(())
-}
-
-#[test]
-fn faults_have_names_and_texts(rt: HostRuntime) -> Result<(), Fail> {
     for row in FAULTS.iter() {
-        is(&rt, row.name, &row.error.name(), &row.name);
-        has_text(&rt, rt.alloc(), row)?;
+        has_text(&rt, rt.alloc(), row, row.error.name())?;
     }
     Ok(())
 }
@@ -277,25 +229,10 @@ fn faults_have_names_and_texts(rt: HostRuntime) -> Result<(), Fail> {
 fn are_out_of_memory_where_a_growth_was_refused(rt: HostRuntime) {
     let refusal = CodecError::OutOfMemory;
     is(&rt, "refused", &CodecError::from(AllocError), &refusal);
-    is(
-        &rt,
-        "handed back",
-        &CodecError::from(AllocFailed { value: 5u64 }),
-        &refusal,
-    );
+    let failed = AllocFailed { value: 5u64 };
+    is(&rt, "handed back", &CodecError::from(failed), &refusal);
     let fault = PluginCreateError::OutOfMemory;
     is(&rt, "refused", &PluginCreateError::from(AllocError), &fault);
-    is(
-        &rt,
-        "handed back",
-        &PluginCreateError::from(AllocFailed { value: 5u64 }),
-        &fault,
-    );
-    is(&rt, "others", &(refusal == CodecError::Overflow), &false);
-    is(
-        &rt,
-        "other faults",
-        &(fault == PluginCreateError::ZeroSize),
-        &false,
-    );
+    let failed = AllocFailed { value: 5u64 };
+    is(&rt, "handed back", &PluginCreateError::from(failed), &fault);
 }

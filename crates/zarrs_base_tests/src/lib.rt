@@ -1,9 +1,10 @@
 //! Tests of the crates below all codecs, over their public calls: `zarrs_chunk`,
 //! `zarrs_data_type`, `zarrs_metadata` and `zarrs_array_bytes`. Without tests the crate is empty.
 //!
-//! What the tool can show stands in its transcripts. Here is what it can't: runs and numbers of
-//! elements, what containers are made of, calls that it never makes, refusals that no line of it meets,
-//! copies and equality, and each public call once.
+//! What a contract says of a call, its refusals with it, is proved. Here each public call is made once
+//! at least, and what the definitions mean stands in tables with values: runs and numbers of elements,
+//! what containers are made of, what is selected, updated and written. What the tool can show stands in
+//! its transcripts.
 //!
 //! Answers are written by hand. A want of memory ends a test with that error and is never compared, so
 //! a run in which an allocation fails shows each answer that changes otherwise.
@@ -17,7 +18,7 @@ mod array_bytes;
 #[cfg(test)]
 mod checks;
 #[cfg(test)]
-mod chunk_shapes;
+mod chunks;
 #[cfg(test)]
 mod containers;
 #[cfg(test)]
@@ -25,26 +26,14 @@ mod data_types;
 #[cfg(test)]
 mod errors;
 #[cfg(test)]
-mod fill_values;
-#[cfg(test)]
-mod fills;
-#[cfg(test)]
 mod indexers;
 #[cfg(test)]
-mod many_axes;
-#[cfg(test)]
-mod numbers;
+mod metadata;
 #[cfg(test)]
 mod present;
-#[cfg(test)]
-mod runs_of_places;
 #[cfg(test)]
 mod selections;
 #[cfg(test)]
 mod settings;
-#[cfg(test)]
-mod subsets;
-#[cfg(test)]
-mod validity;
 #[cfg(test)]
 mod views;

@@ -1,0 +1,318 @@
+//! Shapes of chunks, subsets of them, and the row-major numbers of index tuples.
+
+use crate::checks::{are, compares, is, shape};
+use std::alloc::Global;
+use std::ops::Range;
+use std::process::Abort;
+use std::test::Fail;
+use zarrs_chunk::{
+    ArraySubset, ChunkShape, CodecError, ravel_indices, runs_of_places, unravel_index,
+};
+
+struct Shape {
+    name: &'static str,
+    sizes: &'static [u64],
+    elements: Result<u64, CodecError>,
+    /// Sizes of another shape.
+    unlike: &'static [u64],
+}
+
+const SHAPES: &'static [Shape] = &[
+    Shape {
+        name: "no axes",
+        sizes: &[],
+        elements: Ok(1),
+        unlike: &[1],
+    },
+    Shape {
+        name: "an axis of one",
+        sizes: &[4, 5, 1],
+        elements: Ok(20),
+        unlike: &[4, 5],
+    },
+    Shape {
+        name: "three axes",
+        sizes: &[2, 3, 4],
+        elements: Ok(24),
+        unlike: &[2, 3, 5],
+    },
+    Shape {
+        name: "64 bits",
+        sizes: &[4294967296, 4294967295],
+        elements: Ok(18446744069414584320),
+        unlike: &[4294967295, 4294967296],
+    },
+    Shape {
+        name: "65 bits",
+        sizes: &[4294967296, 4294967296],
+        elements: Err(CodecError::Overflow),
+        unlike: &[4294967296, 4294967295],
+    },
+];
+
+fn is_shape(
+    rt: &impl Abort,
+    row: &Shape,
+    made: &ChunkShape,
+    unlike: &ChunkShape,
+) -> Result<(), CodecError> {
+    are(rt, row.name, made.as_slice(), row.sizes);
+    is(rt, row.name, &made.num_elements(), &row.elements);
+    compares(rt, row.name, made, &made.clone()?, unlike);
+    Ok(())
+}
+
+#[test]
+fn count_their_elements(rt: HostRuntime) -> Result<(), Fail> {
+    for row in SHAPES.iter() {
+        let made = shape(rt.alloc(), row.sizes)?;
+        is_shape(&rt, row, &made, &shape(rt.alloc(), row.unlike)?)?;
+    }
+    Ok(())
+}
+
+/// The largest number.
+const LAST: u64 = 18446744073709551615;
+
+/// A subset by its ranges, and by its start and shape.
+struct Subset {
+    name: &'static str,
+    ranges: &'static [Range<u64>],
+    start: &'static [u64],
+    shape: &'static [u64],
+    elements: Result<u64, CodecError>,
+    /// Ranges of another subset.
+    unlike: &'static [Range<u64>],
+}
+
+const SUBSETS: &'static [Subset] = &[
+    Subset {
+        name: "no ranges",
+        ranges: &[],
+        start: &[],
+        shape: &[],
+        elements: Ok(1),
+        unlike: &[0..1],
+    },
+    Subset {
+        name: "two ranges",
+        ranges: &[1..3, 0..1],
+        start: &[1, 0],
+        shape: &[2, 1],
+        elements: Ok(2),
+        unlike: &[0..1, 1..3],
+    },
+    Subset {
+        name: "an empty range",
+        ranges: &[1..3, 0..1, 5..5],
+        start: &[1, 0, 5],
+        shape: &[2, 1, 0],
+        elements: Ok(0),
+        unlike: &[1..3, 0..1, 4..4],
+    },
+    Subset {
+        name: "a range to the end",
+        ranges: &[LAST - 1..LAST],
+        start: &[LAST - 1],
+        shape: &[1],
+        elements: Ok(1),
+        unlike: &[LAST - 1..LAST - 1],
+    },
+    Subset {
+        name: "too many elements",
+        ranges: &[0..4294967296, 0..4294967296],
+        start: &[0, 0],
+        shape: &[4294967296, 4294967296],
+        elements: Err(CodecError::Overflow),
+        unlike: &[0..4294967296],
+    },
+    Subset {
+        name: "none of too many",
+        ranges: &[0..4294967296, 0..4294967296, 0..0],
+        start: &[0, 0, 0],
+        shape: &[4294967296, 4294967296, 0],
+        elements: Ok(0),
+        unlike: &[0..4294967296, 0..4294967296],
+    },
+];
+
+/// A copy of the subset that is made of the start and the shape.
+fn starting(alloc: Global, row: &Subset) -> Result<ArraySubset, CodecError> {
+    let start = row.start.to_vec(alloc)?;
+    ArraySubset::new_with_start_shape(start, row.shape.to_vec(alloc)?)?.clone()
+}
+
+fn compares_with(
+    rt: &impl Abort,
+    alloc: Global,
+    row: &Subset,
+    made: &ArraySubset,
+) -> Result<(), CodecError> {
+    let unlike = ArraySubset::new_with_ranges(alloc, row.unlike)?;
+    compares(rt, row.name, made, &starting(alloc, row)?, &unlike);
+    Ok(())
+}
+
+fn is_made(rt: &impl Abort, alloc: Global, row: &Subset) -> Result<(), CodecError> {
+    let made = ArraySubset::new_with_ranges(alloc, row.ranges)?;
+    are(rt, row.name, made.start(), row.start);
+    are(rt, row.name, made.shape(), row.shape);
+    is(rt, row.name, &made.num_elements(), &row.elements);
+    compares_with(rt, alloc, row, &made)
+}
+
+#[test]
+fn have_subsets_by_ranges_or_by_start_and_shape(rt: HostRuntime) -> Result<(), Fail> {
+    for row in SUBSETS.iter() {
+        is_made(&rt, rt.alloc(), row)?;
+    }
+    Ok(())
+}
+
+/// A tuple and its number in a chunk of these sizes, and a tuple without a number: it lies outside, or
+/// its number has more than 64 bits.
+struct Numbered {
+    name: &'static str,
+    sizes: &'static [u64],
+    tuple: &'static [u64],
+    number: u64,
+    numberless: &'static [u64],
+}
+
+const NUMBERED: &'static [Numbered] = &[
+    Numbered {
+        name: "no axes",
+        sizes: &[],
+        tuple: &[],
+        number: 0,
+        numberless: &[0],
+    },
+    Numbered {
+        name: "a row's start",
+        sizes: &[4, 4],
+        tuple: &[1, 0],
+        number: 4,
+        numberless: &[4, 0],
+    },
+    Numbered {
+        name: "the last of a square",
+        sizes: &[4, 4],
+        tuple: &[3, 3],
+        number: 15,
+        numberless: &[0, 0, 0],
+    },
+    Numbered {
+        name: "along the middle axis",
+        sizes: &[2, 3, 4],
+        tuple: &[0, 2, 1],
+        number: 9,
+        numberless: &[0, 3, 0],
+    },
+    Numbered {
+        name: "along the first axis",
+        sizes: &[2, 3, 4],
+        tuple: &[1, 0, 2],
+        number: 14,
+        numberless: &[1, 0],
+    },
+    Numbered {
+        name: "64 bits of 2^64 elements",
+        sizes: &[4294967296, 4294967296],
+        tuple: &[4294967295, 4294967295],
+        number: LAST,
+        numberless: &[4294967296, 0],
+    },
+    Numbered {
+        name: "64 bits of 2^65 elements",
+        sizes: &[4294967296, 1, 8589934592],
+        tuple: &[2147483647, 0, 8589934591],
+        number: LAST,
+        numberless: &[4294967295, 0, 8589934591],
+    },
+];
+
+/// The number has the tuple.
+pub(crate) fn is_unravelled(
+    rt: &impl Abort,
+    alloc: Global,
+    chunk: &ChunkShape,
+    number: u64,
+    tuple: &[u64],
+) -> Result<(), CodecError> {
+    match unravel_index(alloc, number, chunk)? {
+        Some(found) => are(rt, "tuple", found.as_slice(), tuple),
+        None => is(rt, "tuples", &number, &0),
+    }
+    Ok(())
+}
+
+/// The tuple has the number, and the number the tuple.
+fn is_numbered(rt: &impl Abort, alloc: Global, row: &Numbered) -> Result<(), CodecError> {
+    let chunk = shape(alloc, row.sizes)?;
+    let number = Some(row.number);
+    is(rt, row.name, &ravel_indices(row.tuple, &chunk), &number);
+    is(rt, row.name, &ravel_indices(row.numberless, &chunk), &None);
+    is_unravelled(rt, alloc, &chunk, row.number, row.tuple)
+}
+
+#[test]
+fn number_their_tuples(rt: HostRuntime) -> Result<(), Fail> {
+    for row in NUMBERED.iter() {
+        is_numbered(&rt, rt.alloc(), row)?;
+    }
+    Ok(())
+}
+
+/// Places, and their runs, each a start and a length: neighbours that follow one another are one.
+struct Places {
+    name: &'static str,
+    places: &'static [u64],
+    runs: &'static [(u64, u64)],
+}
+
+const PLACES: &'static [Places] = &[
+    Places {
+        name: "none",
+        places: &[],
+        runs: &[],
+    },
+    Places {
+        name: "falling",
+        places: &[5, 4, 3],
+        runs: &[(5, 1), (4, 1), (3, 1)],
+    },
+    Places {
+        name: "a repeat",
+        places: &[2, 2, 3],
+        runs: &[(2, 1), (2, 2)],
+    },
+    Places {
+        name: "three stretches",
+        places: &[0, 1, 4, 5, 6, 0],
+        runs: &[(0, 2), (4, 3), (0, 1)],
+    },
+    Places {
+        name: "gaps",
+        places: &[1, 3, 5],
+        runs: &[(1, 1), (3, 1), (5, 1)],
+    },
+    Places {
+        name: "up to the last",
+        places: &[LAST - 1, LAST],
+        runs: &[(LAST - 1, 2)],
+    },
+    Places {
+        name: "the last and the first",
+        places: &[LAST, 0],
+        runs: &[(LAST, 1), (0, 1)],
+    },
+];
+
+#[test]
+fn join_neighbours(rt: HostRuntime) -> Result<(), Fail> {
+    for row in PLACES.iter() {
+        let runs = runs_of_places(rt.alloc(), row.places)?;
+        are(&rt, row.name, runs.as_slice(), row.runs);
+    }
+    Ok(())
+}
