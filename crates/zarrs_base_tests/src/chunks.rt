@@ -241,7 +241,7 @@ pub(crate) fn is_unravelled(
 ) -> Result<(), CodecError> {
     match unravel_index(alloc, number, chunk)? {
         Some(found) => are(rt, "tuple", found.as_slice(), tuple),
-        None => is(rt, "tuples", &number, &0),
+        None => is(rt, "a tuple", &false, &true),
     }
     Ok(())
 }
