@@ -1,13 +1,14 @@
 //! Transposed planes and reversed axes of sizes on both sides of a block's edge, beside a plain slow
 //! rule: the bytes of a chunk are told by where they stand, so each byte of the answer is told too.
 
-use crate::by_itself::moves;
-use crate::forms::{Chunk, Type, chunk_form, transpose};
+use crate::calls::moves;
+use crate::forms::{Chunk, Type, chunk_form};
 use std::alloc::{AllocError, Global};
 use std::process::Abort;
 use std::test::Fail;
 use zarrs_array_to_array::TransposeCodec;
 use zarrs_chunk::CodecError;
+use zarrs_metadata::TransposeOrder;
 
 /// An element: its type and a fill value of so many bytes.
 #[derive(Clone, Copy)]
@@ -231,19 +232,17 @@ fn byte_at(axes: [Axis; 4], number: u64) -> u8 {
 }
 
 /// The bytes of a chunk of these axes.
-fn bytes_of(alloc: Global, axes: [Axis; 4], count: u64) -> Result<Vec<u8>, AllocError> {
+fn bytes_of(alloc: Global, axes: [Axis; 4]) -> Result<Vec<u8>, AllocError> {
+    let [planes, rows, columns, size] = axes;
+    let elements = planes
+        .count
+        .wrapping_mul(rows.count)
+        .wrapping_mul(columns.count);
     let mut bytes = Vec::new(alloc);
-    for number in 0..count {
+    for number in 0..elements.wrapping_mul(size.count) {
         bytes.push(byte_at(axes, number))?;
     }
     Ok(bytes)
-}
-
-/// How many bytes a chunk has.
-fn count(row: &Row) -> u64 {
-    let [planes, rows, columns] = row.sizes;
-    let elements = planes.wrapping_mul(rows).wrapping_mul(columns);
-    elements.wrapping_mul(row.element.fill.len() as u64)
 }
 
 /// The chunk of these bytes is encoded to these, and decoded.
@@ -272,8 +271,8 @@ fn has_axes(
     row: &Row,
     encoded: [Axis; 4],
 ) -> Result<(), CodecError> {
-    let decoded = bytes_of(alloc, axes(row), count(row))?;
-    let encoded = bytes_of(alloc, encoded, count(row))?;
+    let decoded = bytes_of(alloc, axes(row))?;
+    let encoded = bytes_of(alloc, encoded)?;
     moves_row(
         rt,
         alloc,
@@ -286,7 +285,7 @@ fn has_axes(
 
 #[test]
 fn planes_are_turned(rt: HostRuntime) -> Result<(), Fail> {
-    let codec = transpose(rt.alloc(), &[0, 2, 1])?;
+    let codec = TransposeCodec::new(TransposeOrder::new(rt.alloc(), &[0, 2, 1])?);
     for row in PLANES.iter() {
         let [planes, rows, columns, bytes] = axes(row);
         has_axes(&rt, rt.alloc(), &codec, row, [planes, columns, rows, bytes])?;
@@ -296,7 +295,7 @@ fn planes_are_turned(rt: HostRuntime) -> Result<(), Fail> {
 
 #[test]
 fn axes_are_reversed(rt: HostRuntime) -> Result<(), Fail> {
-    let codec = transpose(rt.alloc(), &[2, 1, 0])?;
+    let codec = TransposeCodec::new(TransposeOrder::new(rt.alloc(), &[2, 1, 0])?);
     for row in REVERSALS.iter() {
         let [planes, rows, columns, bytes] = axes(row);
         has_axes(&rt, rt.alloc(), &codec, row, [columns, rows, planes, bytes])?;

@@ -5,17 +5,11 @@ use std::alloc::Global;
 use std::fmt::Debug;
 use std::ops::Range;
 use std::process::Abort;
-use zarrs_array_bytes::ArrayBytes;
 use zarrs_chunk::{ArraySubset, ChunkShape, CodecError, Indexer};
 
 /// What came is what is wanted.
 pub(crate) fn is<T: PartialEq + Debug>(rt: &impl Abort, about: &str, came: &T, wanted: &T) {
     assert_eq!(rt; *came, *wanted, "{about}");
-}
-
-/// The items that came are those that are wanted.
-pub(crate) fn are<T: PartialEq + Debug>(rt: &impl Abort, about: &str, came: &[T], wanted: &[T]) {
-    assert_eq!(rt; came, wanted, "{about}");
 }
 
 /// The answer is this one, or this refusal. A want of memory is an error of the test.
@@ -29,31 +23,6 @@ pub(crate) fn answers<T: PartialEq + Debug>(
         return Err(CodecError::OutOfMemory);
     }
     is(rt, about, came, wanted);
-    Ok(())
-}
-
-/// The refusal that came is this one, or none is due. A want of memory is an error of the test.
-pub(crate) fn is_refusal(
-    rt: &impl Abort,
-    about: &str,
-    came: Option<CodecError>,
-    wanted: Option<CodecError>,
-) -> Result<(), CodecError> {
-    if came == Some(CodecError::OutOfMemory) {
-        return Err(CodecError::OutOfMemory);
-    }
-    is(rt, about, &came, &wanted);
-    Ok(())
-}
-
-/// The container that came has these bytes, in elements of one size.
-pub(crate) fn has_bytes(
-    rt: &impl Abort,
-    about: &str,
-    came: &ArrayBytes<'_>,
-    wanted: &[u8],
-) -> Result<(), CodecError> {
-    are(rt, about, came.as_fixed()?, wanted);
     Ok(())
 }
 
@@ -71,13 +40,11 @@ pub(crate) enum Asked<'a> {
 
 pub(crate) fn indexer(alloc: Global, asked: &Asked<'_>) -> Result<Indexer, CodecError> {
     match asked {
-        Asked::Ranges(ranges) => subset(alloc, ranges),
+        Asked::Ranges(ranges) => {
+            Ok(Indexer::Subset(ArraySubset::new_with_ranges(alloc, ranges)?))
+        }
         Asked::Tuples(tuples) => list(alloc, tuples),
     }
-}
-
-fn subset(alloc: Global, ranges: &[Range<u64>]) -> Result<Indexer, CodecError> {
-    Ok(Indexer::Subset(ArraySubset::new_with_ranges(alloc, ranges)?))
 }
 
 fn list(alloc: Global, tuples: &[&[u64]]) -> Result<Indexer, CodecError> {

@@ -2,22 +2,16 @@
 
 use crate::checks::shape;
 use serde_json::Value;
-use std::alloc::{AllocError, Global};
+use std::alloc::Global;
 use std::borrow::CowSlice;
-use zarrs_array_bytes::{ArrayBytes, ArrayBytesOffsets, ArrayBytesRaw};
-use zarrs_array_to_array::{ArrayToArrayCodec, TransposeCodec};
+use zarrs_array_bytes::ArrayBytes;
+use zarrs_array_to_array::ArrayToArrayCodec;
 use zarrs_chunk::{ChunkShape, CodecError};
 use zarrs_data_type::{DataType, FillValue};
-use zarrs_metadata::{MetadataV3, PluginCreateError, ReshapeDim, ReshapeShape, TransposeOrder};
+use zarrs_metadata::{MetadataV3, PluginCreateError};
 
 /// Two axes change places.
 pub(crate) const TURN: &'static str = r#"{"name":"transpose","configuration":{"order":[1,0]}}"#;
-
-/// The same by the sizes alone: the elements stay where they are.
-pub(crate) const SWAP: &'static str = r#"{"name":"reshape","configuration":{"shape":[[1],[0]]}}"#;
-
-/// All elements along one axis.
-pub(crate) const FLAT: &'static str = r#"{"name":"reshape","configuration":{"shape":[-1]}}"#;
 
 pub(crate) const SQUEEZE: &'static str = r#""zarrs.squeeze""#;
 
@@ -31,21 +25,6 @@ pub(crate) fn metadata(alloc: Global, text: &str) -> Result<MetadataV3, PluginCr
 
 pub(crate) fn codec(alloc: Global, text: &str) -> Result<ArrayToArrayCodec, PluginCreateError> {
     ArrayToArrayCodec::create(alloc, &metadata(alloc, text)?)
-}
-
-/// The codec of an order of axes.
-pub(crate) fn transpose(
-    alloc: Global,
-    order: &[usize],
-) -> Result<TransposeCodec, PluginCreateError> {
-    Ok(TransposeCodec::new(TransposeOrder::new(alloc, order)?))
-}
-
-/// One size, for all elements.
-pub(crate) fn one_size(alloc: Global) -> Result<ReshapeShape, PluginCreateError> {
-    let mut sizes = Vec::new(alloc);
-    sizes.push(ReshapeDim::Auto)?;
-    ReshapeShape::new(sizes)
 }
 
 /// A type of elements.
@@ -95,26 +74,12 @@ pub(crate) fn chunk_form(alloc: Global, chunk: &Chunk<'_>) -> Result<ChunkForm, 
     })
 }
 
-fn raw(alloc: Global, bytes: &[u8]) -> Result<ArrayBytesRaw<'static>, AllocError> {
-    Ok(CowSlice::Owned(bytes.to_vec(alloc)?))
-}
-
 /// Elements of one size.
-pub(crate) fn fixed(alloc: Global, bytes: &[u8]) -> Result<ArrayBytes<'static>, CodecError> {
-    Ok(ArrayBytes::new_flen(raw(alloc, bytes)?))
+pub(crate) fn owned(alloc: Global, bytes: &[u8]) -> Result<ArrayBytes<'static>, CodecError> {
+    Ok(ArrayBytes::new_flen(CowSlice::Owned(bytes.to_vec(alloc)?)))
 }
 
 /// Elements of one size, lent.
 pub(crate) fn lent(bytes: &[u8]) -> ArrayBytes<'_> {
     ArrayBytes::new_flen(CowSlice::Borrowed(bytes))
-}
-
-/// Elements of any length.
-pub(crate) fn texts(
-    alloc: Global,
-    bytes: &[u8],
-    offsets: &[usize],
-) -> Result<ArrayBytes<'static>, CodecError> {
-    let offsets = ArrayBytesOffsets::new(offsets.to_vec(alloc)?)?;
-    ArrayBytes::new_vlen(raw(alloc, bytes)?, offsets)
 }

@@ -2,37 +2,34 @@
 //! tests the crate is empty.
 //!
 //! What the line tool shows of them stands in `zarrs_transcripts`: whole chunks, and parts that are read
-//! and written through a chain. Here is the rest: shapes and indexers, each codec by itself, stages over
-//! an input of `bytes`, what is refused with the input handed back, metadata, and blocks of many sizes.
-//! Answers are written by hand, from what the formats say. A want of memory ends a test with that
-//! error and is never compared, so a run in which an allocation fails shows each answer that changes
-//! otherwise.
+//! and written through a chain. Here is the rest: each codec by itself and behind the enum, with all
+//! calls of the traits, stages over an input of `bytes`, what is refused, with the input handed back,
+//! metadata, and blocks of many sizes. Answers are written by hand, from what the formats say. A want of
+//! memory ends a test with that error and is never compared, so a run in which an allocation fails shows
+//! each answer that changes otherwise.
 //!
 //! The check proves a test before it runs. So examples stand in tables of constants, which cost it
-//! nothing, and a test goes over its table by a function that takes one row.
+//! nothing, and what is done with them in functions over the traits, which are proved once for all
+//! codecs.
 #![tactic(auto)]
 
 #[cfg(test)]
 mod blocks;
 #[cfg(test)]
-mod by_itself;
+mod calls;
 #[cfg(test)]
 mod checks;
 #[cfg(test)]
+mod codecs;
+#[cfg(test)]
+mod examples;
+#[cfg(test)]
 mod forms;
-#[cfg(test)]
-mod indexers;
-#[cfg(test)]
-mod inputs;
 #[cfg(test)]
 mod metadata;
 #[cfg(test)]
 mod refusals;
 #[cfg(test)]
-mod shapes;
-#[cfg(test)]
 mod stages;
 #[cfg(test)]
-mod unmade;
-#[cfg(test)]
-mod writes;
+mod tables;

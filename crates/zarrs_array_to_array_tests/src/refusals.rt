@@ -1,14 +1,17 @@
-//! Containers that a transposition doesn't encode or decode, by its own calls.
+//! Chunks that a transposition of two axes doesn't take, by its own calls, and stages that aren't made,
+//! which hand their input back.
 
-use crate::checks::is_refusal;
-use crate::forms::{Chunk, ChunkForm, TURN, Type, chunk_form, codec, fixed, texts};
+use crate::calls::{decodes, encodes};
+use crate::checks::{Asked, answers};
+use crate::forms::{Chunk, ChunkForm, Type, chunk_form, lent, owned};
+use crate::metadata::transpose_of;
+use crate::stages::{Input, Made, input, reads};
 use std::alloc::Global;
 use std::process::Abort;
 use std::test::Fail;
-use zarrs_array_bytes::ArrayBytes;
-use zarrs_array_to_array::ArrayToArrayCodec;
+use zarrs_array_to_array::TransposeCodec;
 use zarrs_chunk::{CodecError, CodecName};
-use zarrs_codec::ArrayToArrayCodecTraits;
+use zarrs_codec::Refused;
 
 const SIX: &'static [u8] = &[0, 1, 2, 3, 4, 5];
 
@@ -16,14 +19,12 @@ const UNSUPPORTED: CodecError = CodecError::UnsupportedDataType(CodecName::Trans
 
 const AXES: CodecError = CodecError::IncompatibleDimensionality;
 
-/// A chunk, the bytes of a container, with offsets where its elements have any length, and why the order
-/// of two axes doesn't take it.
+/// A chunk, why six bytes aren't encoded to it or decoded, and whether a stage of such chunks is made.
 struct Row {
     name: &'static str,
     chunk: Chunk<'static>,
-    bytes: &'static [u8],
-    offsets: Option<&'static [usize]>,
     cause: CodecError,
+    made: Result<(), CodecError>,
 }
 
 /// A type comes before a number of axes, that before a count, and that before bytes that are none of the
@@ -36,9 +37,8 @@ const REFUSED: &'static [Row] = &[
             data_type: Type::OptionalByte,
             fill: &[0],
         },
-        bytes: SIX,
-        offsets: None,
         cause: UNSUPPORTED,
+        made: Err(UNSUPPORTED),
     },
     Row {
         name: "an optional type before the axes",
@@ -47,9 +47,8 @@ const REFUSED: &'static [Row] = &[
             data_type: Type::OptionalByte,
             fill: &[0],
         },
-        bytes: SIX,
-        offsets: None,
         cause: UNSUPPORTED,
+        made: Err(UNSUPPORTED),
     },
     Row {
         name: "one axis",
@@ -58,9 +57,8 @@ const REFUSED: &'static [Row] = &[
             data_type: Type::Byte,
             fill: &[0],
         },
-        bytes: SIX,
-        offsets: None,
         cause: AXES,
+        made: Err(AXES),
     },
     Row {
         name: "three axes before the count",
@@ -69,9 +67,8 @@ const REFUSED: &'static [Row] = &[
             data_type: Type::Byte,
             fill: &[0],
         },
-        bytes: SIX,
-        offsets: None,
         cause: AXES,
+        made: Err(AXES),
     },
     Row {
         name: "too many elements",
@@ -80,9 +77,8 @@ const REFUSED: &'static [Row] = &[
             data_type: Type::Byte,
             fill: &[0],
         },
-        bytes: SIX,
-        offsets: None,
         cause: CodecError::Overflow,
+        made: Ok(()),
     },
     Row {
         name: "six elements for eight",
@@ -91,12 +87,11 @@ const REFUSED: &'static [Row] = &[
             data_type: Type::Byte,
             fill: &[0],
         },
-        bytes: SIX,
-        offsets: None,
         cause: CodecError::InvalidBytesLength {
             len: 6,
             expected: 8,
         },
+        made: Ok(()),
     },
     Row {
         name: "elements of one size for texts",
@@ -105,68 +100,89 @@ const REFUSED: &'static [Row] = &[
             data_type: Type::Text,
             fill: &[],
         },
-        bytes: SIX,
-        offsets: None,
         cause: CodecError::ArrayBytesKind,
-    },
-    Row {
-        name: "elements of any length for bytes",
-        chunk: Chunk {
-            sizes: &[1, 2],
-            data_type: Type::Byte,
-            fill: &[0],
-        },
-        bytes: b"ab",
-        offsets: Some(&[0, 1, 2]),
-        cause: CodecError::ArrayBytesKind,
+        made: Ok(()),
     },
 ];
 
-fn container(alloc: Global, row: &Row) -> Result<ArrayBytes<'static>, CodecError> {
-    match row.offsets {
-        None => fixed(alloc, row.bytes),
-        Some(offsets) => texts(alloc, row.bytes, offsets),
+fn isnt_moved(
+    rt: &impl Abort,
+    alloc: Global,
+    codec: &TransposeCodec,
+    form: &ChunkForm,
+    row: &Row,
+) -> Result<(), CodecError> {
+    let wanted = Err(row.cause);
+    encodes(rt, alloc, row.name, codec, form, lent(SIX), &wanted)?;
+    decodes(
+        rt,
+        alloc,
+        row.name,
+        codec,
+        form,
+        owned(alloc, SIX)?,
+        &wanted,
+    )
+}
+
+const LINE: Chunk<'static> = Chunk {
+    sizes: &[3],
+    data_type: Type::Byte,
+    fill: &[0],
+};
+
+/// The cause is this one, and the input that is handed back reads the line.
+fn hands_back(
+    rt: &impl Abort,
+    alloc: Global,
+    refused: Refused<Input>,
+    row: &Row,
+) -> Result<(), CodecError> {
+    let Refused { error, mut handle } = refused;
+    answers(rt, row.name, &Err(error), &row.made)?;
+    let asked = Asked::Ranges(&[1..3]);
+    reads(rt, alloc, row.name, &mut handle, &asked, &Ok(&[1, 2]))
+}
+
+/// A stage is made, or the refusal has its input.
+fn is_made(
+    rt: &impl Abort,
+    alloc: Global,
+    made: Made<TransposeCodec>,
+    row: &Row,
+) -> Result<(), CodecError> {
+    match made {
+        Ok(_) => answers(rt, row.name, &Ok(()), &row.made),
+        Err(refused) => hands_back(rt, alloc, refused, row),
     }
 }
 
-fn isnt_encoded(
+fn makes(
     rt: &impl Abort,
     alloc: Global,
-    codec: &ArrayToArrayCodec,
+    codec: &TransposeCodec,
     form: &ChunkForm,
     row: &Row,
 ) -> Result<(), CodecError> {
-    let chunk = container(alloc, row)?;
-    let answer = codec.encode(alloc, chunk, &form.shape, &form.data_type, &form.fill_value);
-    is_refusal(rt, row.name, answer.err(), Some(row.cause))
-}
-
-fn isnt_decoded(
-    rt: &impl Abort,
-    alloc: Global,
-    codec: &ArrayToArrayCodec,
-    form: &ChunkForm,
-    row: &Row,
-) -> Result<(), CodecError> {
-    let chunk = container(alloc, row)?;
-    let answer = codec.decode(alloc, chunk, &form.shape, &form.data_type, &form.fill_value);
-    is_refusal(rt, row.name, answer.err(), Some(row.cause))
+    let line = input(alloc, &LINE, &[0, 1, 2])?;
+    let made = codec.partial_decoder(alloc, line, &form.shape, &form.data_type, &form.fill_value);
+    is_made(rt, alloc, made, row)
 }
 
 fn is_refused(
     rt: &impl Abort,
     alloc: Global,
-    codec: &ArrayToArrayCodec,
+    codec: &TransposeCodec,
     row: &Row,
 ) -> Result<(), CodecError> {
     let form = chunk_form(alloc, &row.chunk)?;
-    isnt_encoded(rt, alloc, codec, &form, row)?;
-    isnt_decoded(rt, alloc, codec, &form, row)
+    isnt_moved(rt, alloc, codec, &form, row)?;
+    makes(rt, alloc, codec, &form, row)
 }
 
 #[test]
 fn chunks_are_refused_by_the_first_cause(rt: HostRuntime) -> Result<(), Fail> {
-    let codec = codec(rt.alloc(), TURN)?;
+    let codec = transpose_of(rt.alloc(), &[1, 0])?;
     for row in REFUSED.iter() {
         is_refused(&rt, rt.alloc(), &codec, row)?;
     }
