@@ -3,7 +3,6 @@
 
 use std::fmt::Debug;
 use std::process::Abort;
-use zarrs_array_bytes::ArrayBytes;
 use zarrs_chunk::CodecError;
 
 /// What came is what is wanted.
@@ -21,22 +20,23 @@ pub(crate) fn answers(
     came: Answer<'_>,
     wanted: Answer<'_>,
 ) -> Result<(), CodecError> {
-    if came == Err(CodecError::OutOfMemory) {
+    if let Err(CodecError::OutOfMemory) = came {
         return Err(CodecError::OutOfMemory);
     }
     is(rt, name, &came, &wanted);
     Ok(())
 }
 
-/// Elements of one size that have these bytes are answered, or this refusal.
-pub(crate) fn answers_elements(
+/// A call is refused for this cause, or for none. A want of memory is an error of the test.
+pub(crate) fn refuses(
     rt: &impl Abort,
     name: &str,
-    came: Result<ArrayBytes<'_>, CodecError>,
-    wanted: Answer<'_>,
+    came: Option<CodecError>,
+    wanted: Option<CodecError>,
 ) -> Result<(), CodecError> {
-    match came {
-        Ok(elements) => answers(rt, name, elements.as_fixed(), wanted),
-        Err(cause) => answers(rt, name, Err(cause), wanted),
+    if let Some(CodecError::OutOfMemory) = came {
+        return Err(CodecError::OutOfMemory);
     }
+    is(rt, name, &came, &wanted);
+    Ok(())
 }

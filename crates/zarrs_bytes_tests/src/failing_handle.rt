@@ -4,14 +4,14 @@ ghost use Rattle.zarrs_chunk.specs.Answer.{Answers, fault, is_fault};
 ghost use Rattle.zarrs_codec.specs.StorageState.{count_if, last_failure};
 
 use crate::checks::is;
-use crate::forms::{Form, chunk_form, decoder, repeated, subset};
-use crate::parts::reads_part;
+use crate::forms::{Asked, Form, PAIR, THREE, decoder, repeated};
+use crate::parts::{planned, reads_part};
+use Asked::Ranges;
 use std::alloc::Global;
 use std::ops::Range;
 use std::process::Abort;
-use std::test::Fail;
 use zarrs_bytes::BytesCodecPartial;
-use zarrs_chunk::{CodecError, Indexer, StorageError};
+use zarrs_chunk::{CodecError, StorageError};
 use zarrs_codec::{ByteRange, BytesPartialDecoderTraits, MemoryHandle};
 
 /// A handle over memory of which one call fails: the one behind so many others.
@@ -86,94 +86,69 @@ impl BytesPartialDecoderTraits for FailingHandle {
 
 const FAILED: CodecError = CodecError::Storage(StorageError { code: 7 });
 
-/// Bytes, so many times one after another.
-struct Copies {
-    part: &'static [u8],
-    count: u64,
-}
-
-/// A chunk and its value, what is asked for twice, and the elements; how many calls of the handle pass
-/// before one fails; and whether that call is of the first read.
+/// A chunk; bytes, and how many times its value has them, where there is one at all; what is asked for twice;
+/// bytes, and how many times the elements have them; how many calls of the handle pass before one fails;
+/// and whether that call is of the first read.
 struct Row {
     name: &'static str,
     form: Form<'static>,
-    value: Option<Copies>,
+    part: &'static [u8],
+    parts: u64,
     ranges: &'static [Range<u64>],
-    elements: Copies,
+    element: &'static [u8],
+    elements: u64,
     calls_before: u64,
     fails_first: bool,
 }
 
-const WORDS: Form<'static> = Form {
-    sizes: &[3],
-    bits: 16,
-    components: 1,
-    fill: &[9, 8],
-};
-
-const ROWS_OF_BYTES: Form<'static> = Form {
+const GRID: Form<'static> = Form {
     sizes: &[1025, 17],
-    bits: 8,
-    components: 1,
-    fill: &[9],
+    ..PAIR
 };
 
 const ROWS: &'static [Row] = &[
     Row {
         name: "a read over a value",
-        form: WORDS,
-        value: Some(Copies {
-            part: &[1, 2],
-            count: 3,
-        }),
+        form: THREE,
+        part: &[1, 2],
+        parts: 3,
         ranges: &[0..1],
-        elements: Copies {
-            part: &[2, 1],
-            count: 1,
-        },
+        element: &[2, 1],
+        elements: 1,
         calls_before: 0,
         fails_first: true,
     },
     Row {
         name: "a read over nothing",
-        form: WORDS,
-        value: None,
+        form: THREE,
+        part: &[],
+        parts: 0,
         ranges: &[0..1],
-        elements: Copies {
-            part: &[9, 8],
-            count: 1,
-        },
+        element: &[9, 8],
+        elements: 1,
         calls_before: 0,
         fails_first: true,
     },
     // Ranges of 16 bytes take as much memory as their bytes, and are read by one call.
     Row {
         name: "the second read of long ranges",
-        form: ROWS_OF_BYTES,
-        value: Some(Copies {
-            part: &[5],
-            count: 17425,
-        }),
+        form: GRID,
+        part: &[5],
+        parts: 17425,
         ranges: &[0..1025, 0..16],
-        elements: Copies {
-            part: &[5],
-            count: 16400,
-        },
+        element: &[5],
+        elements: 16400,
         calls_before: 1,
         fails_first: false,
     },
     Row {
         name: "the second batch of short ranges",
-        form: ROWS_OF_BYTES,
-        value: Some(Copies {
-            part: &[5],
-            count: 17425,
-        }),
+        form: GRID,
+        part: &[5],
+        parts: 17425,
         ranges: &[0..1025, 0..15],
-        elements: Copies {
-            part: &[5],
-            count: 15375,
-        },
+        element: &[5],
+        elements: 15375,
         calls_before: 1,
         fails_first: true,
     },
@@ -181,23 +156,19 @@ const ROWS: &'static [Row] = &[
 
 type Decoder = BytesCodecPartial<FailingHandle>;
 
-fn memory(alloc: Global, value: &Option<Copies>) -> Result<MemoryHandle, CodecError> {
-    match value {
-        None => Ok(MemoryHandle::new()),
-        Some(value) => Ok(MemoryHandle::with_value(repeated(alloc, value.part, value.count)?)),
-    }
-}
-
 /// A decoder over a handle of which one call fails.
 fn failing(alloc: Global, row: &Row) -> Result<Decoder, CodecError> {
-    let form = chunk_form(alloc, &row.form)?;
+    let memory = match row.parts {
+        0 => MemoryHandle::new(),
+        parts => MemoryHandle::with_value(repeated(alloc, row.part, parts)?),
+    };
     let handle = FailingHandle {
-        memory: memory(alloc, &row.value)?,
+        memory,
         calls_before: row.calls_before,
         faults: 0,
         failure: None,
     };
-    decoder(alloc, &form, handle)
+    decoder(alloc, &row.form, handle)
 }
 
 /// Two reads, one of which fails.
@@ -207,16 +178,15 @@ fn reads_twice(
     decoder: &mut Decoder,
     row: &Row,
 ) -> Result<(), CodecError> {
-    let asked = subset(alloc, row.ranges)?;
-    let elements = repeated(alloc, row.elements.part, row.elements.count)?;
+    let elements = repeated(alloc, row.element, row.elements)?;
     let elements = Ok(elements.as_slice());
     let (first, second) = if row.fails_first {
         (Err(FAILED), elements)
     } else {
         (elements, Err(FAILED))
     };
-    reads_part(rt, row.name, alloc, decoder, &asked, first)?;
-    reads_part(rt, row.name, alloc, decoder, &asked, second)
+    reads_part(rt, row.name, alloc, decoder, Ranges(row.ranges), first)?;
+    reads_part(rt, row.name, alloc, decoder, Ranges(row.ranges), second)
 }
 
 fn fails_once(rt: &impl Abort, alloc: Global, row: &Row) -> Result<(), CodecError> {
@@ -228,7 +198,7 @@ fn fails_once(rt: &impl Abort, alloc: Global, row: &Row) -> Result<(), CodecErro
 
 // The next read is answered as ever.
 #[test]
-fn a_failing_call_refuses_its_read_alone(rt: HostRuntime) -> Result<(), Fail> {
+fn a_failing_call_refuses_its_read_alone(rt: HostRuntime) -> Result<(), CodecError> {
     for row in ROWS.iter() {
         fails_once(&rt, rt.alloc(), row)?;
     }
@@ -241,21 +211,22 @@ fn is_not_asked_in_vain(
     rt: &impl Abort,
     alloc: Global,
     decoder: &mut Decoder,
-    outside: &Indexer,
-    inside: &Indexer,
 ) -> Result<(), CodecError> {
     let refusal = Err(CodecError::OutOfBounds);
-    reads_part(rt, "outside", alloc, decoder, outside, refusal)?;
-    let planned = decoder.planned_ranges(alloc, inside)?;
-    is(rt, "planned", &planned.len(), &1);
+    reads_part(rt, "outside", alloc, decoder, Ranges(&[0..4]), refusal)?;
+    is(
+        rt,
+        "planned",
+        &planned(alloc, decoder, Ranges(&[0..1]))?.len(),
+        &1,
+    );
     is(rt, "there", &decoder.exists(), &Err(FAILED));
     is(rt, "there again", &decoder.exists(), &Ok(true));
     Ok(())
 }
 
 #[test]
-fn an_indexer_is_refused_before_the_handle_is_asked(rt: HostRuntime) -> Result<(), Fail> {
+fn an_indexer_is_refused_before_the_handle_is_asked(rt: HostRuntime) -> Result<(), CodecError> {
     let mut decoder = failing(rt.alloc(), &ROWS[0])?;
-    let (outside, inside) = (subset(rt.alloc(), &[0..4])?, subset(rt.alloc(), &[0..1])?);
-    Ok(is_not_asked_in_vain(&rt, rt.alloc(), &mut decoder, &outside, &inside)?)
+    is_not_asked_in_vain(&rt, rt.alloc(), &mut decoder)
 }

@@ -1,10 +1,10 @@
-//! Chunks, indexers and handles of plain data.
+//! Chunks, indexers, handles and coders of plain data.
 
-use std::alloc::{AllocError, Global};
+use std::alloc::Global;
 use std::ops::Range;
 use zarrs_bytes::{BytesCodec, BytesCodecPartial};
 use zarrs_chunk::{ArraySubset, ChunkShape, CodecError, Indexer};
-use zarrs_codec::{BytesPartialDecoderTraits, MemoryHandle, Refused};
+use zarrs_codec::{BytesPartialDecoderTraits, BytesPartialEncoderTraits, MemoryHandle, Refused};
 use zarrs_data_type::{DataType, Endianness, FillValue};
 
 pub(crate) const LITTLE: Option<Endianness> = Some(Endianness::Little);
@@ -20,6 +20,40 @@ pub(crate) struct Form<'a> {
     pub(crate) components: u64,
     pub(crate) fill: &'a [u8],
 }
+
+/// Two bytes.
+pub(crate) const PAIR: Form<'static> = Form {
+    sizes: &[2],
+    bits: 8,
+    components: 1,
+    fill: &[0],
+};
+
+/// Four bytes.
+pub(crate) const FOUR: Form<'static> = Form {
+    sizes: &[4],
+    ..PAIR
+};
+
+/// Two words.
+pub(crate) const WORDS: Form<'static> = Form {
+    sizes: &[2],
+    bits: 16,
+    components: 1,
+    fill: &[9, 8],
+};
+
+/// Three words.
+pub(crate) const THREE: Form<'static> = Form {
+    sizes: &[3],
+    ..WORDS
+};
+
+/// Two rows of two words.
+pub(crate) const FOUR_WORDS: Form<'static> = Form {
+    sizes: &[2, 2],
+    ..WORDS
+};
 
 /// What a codec is told of a chunk.
 #[derive(Drop)]
@@ -38,54 +72,94 @@ pub(crate) fn chunk_form(alloc: Global, form: &Form<'_>) -> Result<ChunkForm, Co
     })
 }
 
-/// A decoder of such a chunk in part, over a handle. The highest byte of a component is the first one
-/// in a value.
-pub(crate) fn decoder<H: BytesPartialDecoderTraits + Drop>(
+/// A codec's decoder of such a chunk in part, over a handle, or why there is none and the handle.
+pub(crate) fn made_decoder<H: BytesPartialDecoderTraits>(
     alloc: Global,
+    codec: BytesCodec,
     form: &ChunkForm,
     handle: H,
-) -> Result<BytesCodecPartial<H>, CodecError> {
-    let made = BytesCodec::big().partial_decoder(
+) -> Result<BytesCodecPartial<H>, Refused<H>> {
+    codec.partial_decoder(
         alloc,
         handle,
         &form.shape,
         &form.data_type,
         &form.fill_value,
-    );
-    match made {
+    )
+}
+
+/// The same of a coder that writes too.
+pub(crate) fn made_encoder<H: BytesPartialEncoderTraits>(
+    alloc: Global,
+    codec: BytesCodec,
+    form: &ChunkForm,
+    handle: H,
+) -> Result<BytesCodecPartial<H>, Refused<H>> {
+    codec.partial_encoder(
+        alloc,
+        handle,
+        &form.shape,
+        &form.data_type,
+        &form.fill_value,
+    )
+}
+
+/// A decoder for which the highest byte of a component is the first one in a value.
+pub(crate) fn decoder<H: BytesPartialDecoderTraits + Drop>(
+    alloc: Global,
+    form: &Form<'_>,
+    handle: H,
+) -> Result<BytesCodecPartial<H>, CodecError> {
+    let form = chunk_form(alloc, form)?;
+    match made_decoder(alloc, BytesCodec::big(), &form, handle) {
         Ok(decoder) => Ok(decoder),
-        Err(Refused { error, handle: _ }) => Err(error),
+        Err(refused) => Err(refused.error),
     }
 }
 
-/// Which elements are meant.
+/// The same of a coder that writes too.
+pub(crate) fn encoder<H: BytesPartialEncoderTraits + Drop>(
+    alloc: Global,
+    form: &Form<'_>,
+    handle: H,
+) -> Result<BytesCodecPartial<H>, CodecError> {
+    let form = chunk_form(alloc, form)?;
+    match made_encoder(alloc, BytesCodec::big(), &form, handle) {
+        Ok(encoder) => Ok(encoder),
+        Err(refused) => Err(refused.error),
+    }
+}
+
+/// Which elements are meant: those of ranges, those of tuples, or those with numbers on the only axis.
 #[derive(Clone, Copy)]
 pub(crate) enum Asked<'a> {
     Ranges(&'a [Range<u64>]),
     Tuples(&'a [&'a [u64]]),
+    Numbers(&'a [u64]),
 }
 
-pub(crate) fn indexer(alloc: Global, asked: &Asked<'_>) -> Result<Indexer, CodecError> {
-    match asked {
-        Asked::Ranges(ranges) => subset(alloc, ranges),
-        Asked::Tuples(tuples) => list(alloc, tuples),
-    }
-}
-
-pub(crate) fn subset(alloc: Global, ranges: &[Range<u64>]) -> Result<Indexer, CodecError> {
-    Ok(Indexer::Subset(ArraySubset::new_with_ranges(alloc, ranges)?))
-}
-
-fn list(alloc: Global, tuples: &[&[u64]]) -> Result<Indexer, CodecError> {
+pub(crate) fn indexer(alloc: Global, asked: Asked<'_>) -> Result<Indexer, CodecError> {
     let mut indices = Vec::new(alloc);
-    for tuple in tuples {
-        indices.push(tuple.to_vec(alloc)?)?;
+    match asked {
+        Asked::Ranges(ranges) => {
+            return Ok(Indexer::Subset(ArraySubset::new_with_ranges(alloc, ranges)?));
+        }
+        Asked::Tuples(tuples) => {
+            for tuple in tuples {
+                indices.push(tuple.to_vec(alloc)?)?;
+            }
+        }
+        Asked::Numbers(numbers) => {
+            for number in numbers {
+                indices.push(vec![in alloc; *number]?)?;
+            }
+        }
     }
     Ok(Indexer::Indices(indices))
 }
 
 /// A handle in memory over this value, or over none.
-pub(crate) fn stored(alloc: Global, value: Option<&[u8]>) -> Result<MemoryHandle, AllocError> {
+pub(crate) fn stored(alloc: Global, value: Option<&[u8]>) -> Result<MemoryHandle, CodecError> {
     match value {
         None => Ok(MemoryHandle::new()),
         Some(value) => Ok(MemoryHandle::with_value(value.to_vec(alloc)?)),
@@ -93,7 +167,7 @@ pub(crate) fn stored(alloc: Global, value: Option<&[u8]>) -> Result<MemoryHandle
 }
 
 /// The bytes so many times, one after another.
-pub(crate) fn repeated(alloc: Global, part: &[u8], count: u64) -> Result<Vec<u8>, AllocError> {
+pub(crate) fn repeated(alloc: Global, part: &[u8], count: u64) -> Result<Vec<u8>, CodecError> {
     let mut bytes = Vec::new(alloc);
     for _copy in 0..count {
         bytes.extend_from_slice(part)?;

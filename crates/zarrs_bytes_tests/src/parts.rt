@@ -1,16 +1,17 @@
 //! Chunks that are read in part: the ranges of bytes that a read plans, fill values, and what a decoder
 //! tells of its handle.
 
-use crate::checks::{Answer, answers, answers_elements, is};
+use crate::checks::{Answer, answers, is, refuses};
 use crate::forms::{
-    Asked, ChunkForm, Form, chunk_form, decoder, indexer, repeated, stored, subset,
+    Asked, FOUR, FOUR_WORDS, Form, PAIR, THREE, WORDS, decoder, indexer, repeated, stored,
 };
+use crate::memory_reads::byte_ranges;
 use Asked::{Ranges, Tuples};
+use CodecError::{IncompatibleDimensionality, OutOfBounds};
 use std::alloc::Global;
 use std::process::Abort;
-use std::test::Fail;
 use zarrs_bytes::BytesCodecPartial;
-use zarrs_chunk::{CodecError, Indexer};
+use zarrs_chunk::CodecError;
 use zarrs_codec::{ByteRange, BytesPartialDecoderTraits, MemoryHandle};
 use zarrs_data_type::DataType;
 
@@ -20,243 +21,171 @@ pub(crate) fn reads_part<H: BytesPartialDecoderTraits>(
     name: &str,
     alloc: Global,
     decoder: &mut BytesCodecPartial<H>,
-    asked: &Indexer,
+    asked: Asked<'_>,
     wanted: Answer<'_>,
 ) -> Result<(), CodecError> {
-    let part = decoder.partial_decode(alloc, asked);
-    answers_elements(rt, name, part, wanted)
+    let asked = indexer(alloc, asked)?;
+    match decoder.partial_decode(alloc, &asked) {
+        Ok(part) => answers(rt, name, part.as_fixed(), wanted),
+        Err(cause) => answers(rt, name, Err(cause), wanted),
+    }
+}
+
+/// The ranges of bytes that such a read asks for.
+pub(crate) fn planned<H: BytesPartialDecoderTraits>(
+    alloc: Global,
+    decoder: &BytesCodecPartial<H>,
+    asked: Asked<'_>,
+) -> Result<Vec<ByteRange>, CodecError> {
+    let asked = indexer(alloc, asked)?;
+    decoder.planned_ranges(alloc, &asked)
 }
 
 const SQUARE: Form<'static> = Form {
     sizes: &[4, 4],
-    bits: 8,
-    components: 1,
-    fill: &[99],
-};
-
-const FOUR: Form<'static> = Form {
-    sizes: &[4],
-    bits: 8,
-    components: 1,
-    fill: &[7],
-};
-
-const WORDS: Form<'static> = Form {
-    sizes: &[2, 2],
-    bits: 16,
-    components: 1,
-    fill: &[1, 2],
+    ..PAIR
 };
 
 const LONGEST: Form<'static> = Form {
     sizes: &[18446744073709551615],
-    bits: 8,
-    components: 1,
-    fill: &[42],
+    ..PAIR
 };
 
 const MOST_WORDS: Form<'static> = Form {
     sizes: &[9223372036854775807],
-    bits: 16,
-    components: 1,
-    fill: &[1, 2],
+    ..WORDS
 };
 
-/// There are ranges.
-const PLAN: Answer<'static> = Ok(&[]);
-
-const AXES: Answer<'static> = Err(CodecError::IncompatibleDimensionality);
-
-const OUTSIDE: Answer<'static> = Err(CodecError::OutOfBounds);
-
-/// What is asked for of a chunk, the ranges of bytes that a read asks for, by their starts and ends, and
-/// why none are planned, where none are.
-struct Planned {
+/// What is asked for of a chunk, and the ranges of bytes that a read asks for, by their starts and ends;
+/// or why none are planned.
+struct Row {
     name: &'static str,
     form: Form<'static>,
     asked: Asked<'static>,
-    ranges: &'static [(u64, u64)],
-    planned: Answer<'static>,
+    ranges: Result<&'static [(u64, u64)], CodecError>,
 }
 
-const PLANNED: &'static [Planned] = &[
-    Planned {
+const ROWS: &'static [Row] = &[
+    Row {
         name: "column 0 of rows 1 and 2",
         form: SQUARE,
         asked: Ranges(&[1..3, 0..1]),
-        ranges: &[(4, 5), (8, 9)],
-        planned: PLAN,
+        ranges: Ok(&[(4, 5), (8, 9)]),
     },
-    Planned {
+    Row {
         name: "the whole chunk",
         form: SQUARE,
         asked: Ranges(&[0..4, 0..4]),
-        ranges: &[(0, 16)],
-        planned: PLAN,
+        ranges: Ok(&[(0, 16)]),
     },
-    Planned {
+    Row {
         name: "two rows",
         form: SQUARE,
         asked: Ranges(&[1..3, 0..4]),
-        ranges: &[(4, 12)],
-        planned: PLAN,
+        ranges: Ok(&[(4, 12)]),
     },
-    Planned {
-        name: "the first two",
-        form: FOUR,
-        asked: Ranges(&[0..2]),
-        ranges: &[(0, 2)],
-        planned: PLAN,
-    },
-    Planned {
-        name: "the last two",
-        form: FOUR,
-        asked: Ranges(&[2..4]),
-        ranges: &[(2, 4)],
-        planned: PLAN,
-    },
-    Planned {
-        name: "an empty range inside",
-        form: FOUR,
-        asked: Ranges(&[1..1]),
-        ranges: &[],
-        planned: PLAN,
-    },
-    Planned {
+    Row {
         name: "an empty range at the end",
         form: FOUR,
         asked: Ranges(&[4..4]),
-        ranges: &[],
-        planned: PLAN,
+        ranges: Ok(&[]),
     },
-    Planned {
+    Row {
         name: "no tuples",
         form: FOUR,
         asked: Tuples(&[]),
-        ranges: &[],
-        planned: PLAN,
+        ranges: Ok(&[]),
     },
-    Planned {
+    Row {
         name: "column 1 of words",
-        form: WORDS,
+        form: FOUR_WORDS,
         asked: Ranges(&[0..2, 1..2]),
-        ranges: &[(2, 4), (6, 8)],
-        planned: PLAN,
+        ranges: Ok(&[(2, 4), (6, 8)]),
     },
-    Planned {
+    Row {
         name: "words out of order, one of them twice",
-        form: WORDS,
+        form: FOUR_WORDS,
         asked: Tuples(&[&[1, 1], &[0, 0], &[1, 1]]),
-        ranges: &[(6, 8), (0, 2), (6, 8)],
-        planned: PLAN,
+        ranges: Ok(&[(6, 8), (0, 2), (6, 8)]),
     },
-    Planned {
-        name: "the first of as many bytes as can be",
-        form: LONGEST,
-        asked: Ranges(&[0..1]),
-        ranges: &[(0, 1)],
-        planned: PLAN,
-    },
-    Planned {
+    Row {
         name: "the last of as many bytes as can be",
         form: LONGEST,
         asked: Ranges(&[18446744073709551614..18446744073709551615]),
-        ranges: &[(18446744073709551614, 18446744073709551615)],
-        planned: PLAN,
+        ranges: Ok(&[(18446744073709551614, 18446744073709551615)]),
     },
-    Planned {
+    Row {
         name: "the last of as many words as can be",
         form: MOST_WORDS,
         asked: Tuples(&[&[9223372036854775806]]),
-        ranges: &[(18446744073709551612, 18446744073709551614)],
-        planned: PLAN,
+        ranges: Ok(&[(18446744073709551612, 18446744073709551614)]),
     },
-    Planned {
-        name: "an axis too few",
-        form: SQUARE,
-        asked: Ranges(&[0..1]),
-        ranges: &[],
-        planned: AXES,
-    },
-    Planned {
+    Row {
         name: "an axis too few, and outside",
         form: SQUARE,
         asked: Ranges(&[9..10]),
-        ranges: &[],
-        planned: AXES,
+        ranges: Err(IncompatibleDimensionality),
     },
-    Planned {
-        name: "a row too many",
-        form: SQUARE,
-        asked: Ranges(&[0..5, 0..4]),
-        ranges: &[],
-        planned: OUTSIDE,
-    },
-    Planned {
+    Row {
         name: "an empty range outside",
         form: SQUARE,
         asked: Ranges(&[5..5, 0..1]),
-        ranges: &[],
-        planned: OUTSIDE,
+        ranges: Err(OutOfBounds),
     },
-    Planned {
-        name: "the second tuple has an axis too few",
-        form: SQUARE,
-        asked: Tuples(&[&[0, 0], &[0]]),
-        ranges: &[],
-        planned: AXES,
-    },
-    Planned {
+    Row {
         name: "the axes of a later tuple come first",
         form: SQUARE,
         asked: Tuples(&[&[9, 9], &[0, 0, 0]]),
-        ranges: &[],
-        planned: AXES,
+        ranges: Err(IncompatibleDimensionality),
     },
-    Planned {
+    Row {
         name: "the second tuple is outside",
         form: SQUARE,
         asked: Tuples(&[&[0, 0], &[0, 4]]),
-        ranges: &[],
-        planned: OUTSIDE,
+        ranges: Err(OutOfBounds),
     },
 ];
 
-/// The ranges that came have the row's starts and ends.
-fn have_ends(rt: &impl Abort, row: &Planned, came: &[ByteRange]) {
-    is(rt, row.name, &came.len(), &row.ranges.len());
-    for (range, (start, end)) in came.iter().zip(row.ranges) {
-        is(rt, row.name, &range.start(), start);
-        is(rt, row.name, &range.end(), end);
-    }
+/// These ranges were planned, or none for this cause.
+fn are_planned(
+    rt: &impl Abort,
+    row: &Row,
+    came: &Result<Vec<ByteRange>, CodecError>,
+    wanted: &[ByteRange],
+) -> Result<(), CodecError> {
+    let refusal = match came {
+        Ok(ranges) => {
+            is(rt, row.name, &ranges.as_slice(), &wanted);
+            None
+        }
+        Err(cause) => Some(*cause),
+    };
+    refuses(rt, row.name, refusal, row.ranges.err())
 }
 
 fn plans(
     rt: &impl Abort,
     alloc: Global,
     decoder: &BytesCodecPartial<MemoryHandle>,
-    asked: &Indexer,
-    row: &Planned,
+    row: &Row,
 ) -> Result<(), CodecError> {
-    match decoder.planned_ranges(alloc, asked) {
-        Ok(ranges) => {
-            have_ends(rt, row, ranges.as_slice());
-            answers(rt, row.name, Ok(&[]), row.planned)
-        }
-        Err(cause) => answers(rt, row.name, Err(cause), row.planned),
-    }
+    let wanted = byte_ranges(alloc, row.ranges.unwrap_or(&[]))?;
+    are_planned(
+        rt,
+        row,
+        &planned(alloc, decoder, row.asked),
+        wanted.as_slice(),
+    )
 }
 
-fn plans_row(rt: &impl Abort, alloc: Global, row: &Planned) -> Result<(), CodecError> {
-    let form = chunk_form(alloc, &row.form)?;
-    let decoder = decoder(alloc, &form, MemoryHandle::new())?;
-    let asked = indexer(alloc, &row.asked)?;
-    plans(rt, alloc, &decoder, &asked, row)
+fn plans_row(rt: &impl Abort, alloc: Global, row: &Row) -> Result<(), CodecError> {
+    let decoder = decoder(alloc, &row.form, MemoryHandle::new())?;
+    plans(rt, alloc, &decoder, row)
 }
 
 #[test]
-fn plans_the_bytes_of_the_places_alone(rt: HostRuntime) -> Result<(), Fail> {
-    for row in PLANNED.iter() {
+fn plans_the_bytes_of_the_places_alone(rt: HostRuntime) -> Result<(), CodecError> {
+    for row in ROWS.iter() {
         plans_row(&rt, rt.alloc(), row)?;
     }
     Ok(())
@@ -301,8 +230,11 @@ const COUNTS: &'static [u64] = &[
     0, 1, 15, 16, 17, 63, 64, 65, 255, 256, 257, 1023, 1024, 1040,
 ];
 
-/// The first elements of each of so many rows, of a chunk of which nothing is stored.
-fn reads_fill_of_rows(
+/// One row of three, and all of them.
+const ROW_COUNTS: &'static [u64] = &[1, 3];
+
+/// The first elements of so many rows, where nothing is stored.
+fn reads_fill_of(
     rt: &impl Abort,
     alloc: Global,
     decoder: &mut BytesCodecPartial<MemoryHandle>,
@@ -311,11 +243,17 @@ fn reads_fill_of_rows(
     count: u64,
 ) -> Result<(), CodecError> {
     let wanted = repeated(alloc, row.fill, rows.saturating_mul(count))?;
-    let asked = subset(alloc, &[0..rows, 0..count])?;
-    reads_part(rt, row.name, alloc, decoder, &asked, Ok(wanted.as_slice()))
+    let wanted = Ok(wanted.as_slice());
+    reads_part(
+        rt,
+        row.name,
+        alloc,
+        decoder,
+        Ranges(&[0..rows, 0..count]),
+        wanted,
+    )
 }
 
-/// So many elements of one row of three, and of all of them.
 fn reads_each_count(
     rt: &impl Abort,
     alloc: Global,
@@ -323,8 +261,9 @@ fn reads_each_count(
     row: &Fill,
 ) -> Result<(), CodecError> {
     for count in COUNTS.iter() {
-        reads_fill_of_rows(rt, alloc, decoder, row, 1, *count)?;
-        reads_fill_of_rows(rt, alloc, decoder, row, 3, *count)?;
+        for rows in ROW_COUNTS.iter() {
+            reads_fill_of(rt, alloc, decoder, row, *rows, *count)?;
+        }
     }
     Ok(())
 }
@@ -336,59 +275,79 @@ fn reads_fill(rt: &impl Abort, alloc: Global, row: &Fill) -> Result<(), CodecErr
         components: row.fill.len() as u64,
         fill: row.fill,
     };
-    let form = chunk_form(alloc, &form)?;
     let mut decoder = decoder(alloc, &form, MemoryHandle::new())?;
     reads_each_count(rt, alloc, &mut decoder, row)
 }
 
 #[test]
-fn reads_the_fill_value_of_each_width(rt: HostRuntime) -> Result<(), Fail> {
+fn reads_the_fill_value_of_each_width(rt: HostRuntime) -> Result<(), CodecError> {
     for row in FILLS.iter() {
         reads_fill(&rt, rt.alloc(), row)?;
     }
     Ok(())
 }
 
-const THREE: Form<'static> = Form {
-    sizes: &[3],
-    bits: 16,
-    components: 1,
-    fill: &[0, 0],
-};
+/// What a decoder of three words tells: it keeps what its handle keeps, and no more.
+fn tells<H: BytesPartialDecoderTraits>(
+    rt: &impl Abort,
+    decoder: &mut BytesCodecPartial<H>,
+    value: Option<&[u8]>,
+) {
+    let size = value.unwrap_or(&[]).len();
+    is(rt, "type", decoder.data_type(), &DataType::uint16());
+    is(rt, "in part", &decoder.supports_partial_decode(), &true);
+    is(rt, "held", &decoder.size_held(), &size);
+    is(rt, "there", &decoder.exists(), &Ok(value.is_some()));
+}
 
-/// What a decoder of three words tells: it keeps what its handle keeps, and no more. Then the last two
-/// are read, and the handle comes back.
-fn tells<H: BytesPartialDecoderTraits + Drop>(
+/// A decoder tells, and the last two words are read.
+fn answers_all<H: BytesPartialDecoderTraits>(
     rt: &impl Abort,
     alloc: Global,
-    form: &ChunkForm,
+    decoder: &mut BytesCodecPartial<H>,
+    value: Option<&[u8]>,
+    elements: &[u8],
+) -> Result<(), CodecError> {
+    tells(rt, decoder, value);
+    reads_part(rt, "part", alloc, decoder, Ranges(&[1..3]), Ok(elements))
+}
+
+/// A decoder over a handle answers, and the handle comes back.
+fn comes_back<H: BytesPartialDecoderTraits + Drop>(
+    rt: &impl Abort,
+    alloc: Global,
     handle: H,
     value: Option<&[u8]>,
     elements: &[u8],
 ) -> Result<H, CodecError> {
-    let mut decoder = decoder(alloc, form, handle)?;
-    is(rt, "type", decoder.data_type(), &DataType::uint16());
-    is(rt, "in part", &decoder.supports_partial_decode(), &true);
-    is(
-        rt,
-        "held",
-        &decoder.size_held(),
-        &value.unwrap_or(&[]).len(),
-    );
-    is(rt, "there", &decoder.exists(), &Ok(value.is_some()));
-    let asked = subset(alloc, &[1..3])?;
-    reads_part(rt, "part", alloc, &mut decoder, &asked, Ok(elements))?;
+    let mut decoder = decoder(alloc, &THREE, handle)?;
+    answers_all(rt, alloc, &mut decoder, value, elements)?;
     Ok(decoder.into_handle())
 }
 
-#[test]
-fn borrows_or_owns_its_handle(rt: HostRuntime) -> Result<(), Fail> {
-    let value: Option<&[u8]> = Some(&[1, 2, 3, 4, 5, 6]);
-    let form = chunk_form(rt.alloc(), &THREE)?;
-    let mut handle = stored(rt.alloc(), value)?;
-    tells(&rt, rt.alloc(), &form, &mut handle, value, &[4, 3, 6, 5])?;
-    let handle = tells(&rt, rt.alloc(), &form, handle, value, &[4, 3, 6, 5])?;
-    is(&rt, "kept", &handle.value(), &value);
-    tells(&rt, rt.alloc(), &form, MemoryHandle::new(), None, &[0; 4])?;
+/// A handle that is lent, and then given.
+fn reads_over(
+    rt: &impl Abort,
+    alloc: Global,
+    mut handle: MemoryHandle,
+    value: Option<&[u8]>,
+    elements: &[u8],
+) -> Result<(), CodecError> {
+    comes_back(rt, alloc, &mut handle, value, elements)?;
+    let handle = comes_back(rt, alloc, handle, value, elements)?;
+    is(rt, "kept", &handle.value(), &value);
     Ok(())
+}
+
+#[test]
+fn borrows_or_owns_its_handle(rt: HostRuntime) -> Result<(), CodecError> {
+    let value: Option<&[u8]> = Some(&[1, 2, 3, 4, 5, 6]);
+    reads_over(
+        &rt,
+        rt.alloc(),
+        stored(rt.alloc(), value)?,
+        value,
+        &[4, 3, 6, 5],
+    )?;
+    reads_over(&rt, rt.alloc(), MemoryHandle::new(), None, &[9, 8, 9, 8])
 }

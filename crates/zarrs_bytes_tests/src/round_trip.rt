@@ -5,11 +5,10 @@ ghost use Rattle.zarrs_data_type.specs.Element.{Chunk};
 ghost use Rattle.zarrs_array_bytes.specs.Validity.{Holds};
 
 use crate::checks::answers;
-use crate::forms::{ChunkForm, Form, chunk_form};
+use crate::forms::{ChunkForm, FOUR_WORDS, chunk_form};
 use std::alloc::Global;
 use std::borrow::CowSlice;
 use std::process::Abort;
-use std::test::Fail;
 use zarrs_array_bytes::ArrayBytes;
 use zarrs_bytes::BytesCodec;
 use zarrs_bytes::laws::written_stands;
@@ -33,29 +32,34 @@ fn there_and_back(
     codec.decode(alloc, value, shape, data_type, fill_value)
 }
 
-const WORDS: Form<'static> = Form {
-    sizes: &[2, 2],
-    bits: 16,
-    components: 1,
-    fill: &[0, 0],
-};
-
-fn comes_back(rt: &impl Abort, alloc: Global, form: &ChunkForm) -> Result<(), CodecError> {
-    let memory: &[u8] = &[1, 2, 3, 4, 5, 6, 7, 8];
-    let elements = ArrayBytes::new_flen(CowSlice::Borrowed(memory));
-    let back = there_and_back(
+/// The same of a chunk, by the codec that writes the highest byte first.
+fn back(
+    alloc: Global,
+    elements: ArrayBytes<'static>,
+    form: &ChunkForm,
+) -> Result<ArrayBytes<'static>, CodecError> {
+    let codec = BytesCodec::big();
+    there_and_back(
         alloc,
-        BytesCodec::big(),
+        codec,
         elements,
         &form.shape,
         &form.data_type,
         &form.fill_value,
-    )?;
-    answers(rt, "back", back.as_fixed(), Ok(memory))
+    )
+}
+
+fn comes_back(rt: &impl Abort, alloc: Global, form: &ChunkForm) -> Result<(), CodecError> {
+    let memory: &'static [u8] = &[1, 2, 3, 4, 5, 6, 7, 8];
+    let elements = ArrayBytes::new_flen(CowSlice::Borrowed(memory));
+    match back(alloc, elements, form) {
+        Ok(elements) => answers(rt, "back", elements.as_fixed(), Ok(memory)),
+        Err(cause) => Err(cause),
+    }
 }
 
 #[test]
-fn decodes_what_was_encoded(rt: HostRuntime) -> Result<(), Fail> {
-    let form = chunk_form(rt.alloc(), &WORDS)?;
-    Ok(comes_back(&rt, rt.alloc(), &form)?)
+fn decodes_what_was_encoded(rt: HostRuntime) -> Result<(), CodecError> {
+    let form = chunk_form(rt.alloc(), &FOUR_WORDS)?;
+    comes_back(&rt, rt.alloc(), &form)
 }

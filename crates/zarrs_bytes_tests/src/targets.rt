@@ -1,12 +1,11 @@
 //! Chunks that are decoded into a target.
 
-use crate::checks::{Answer, answers, is};
-use crate::forms::{ChunkForm, Form, chunk_form};
+use crate::checks::{Answer, is, refuses};
+use crate::forms::{ChunkForm, PAIR, chunk_form};
 use std::alloc::Global;
 use std::borrow::CowSlice;
 use std::ops::Range;
 use std::process::Abort;
-use std::test::Fail;
 use zarrs_array_bytes::{ArrayBytesDecodeIntoTarget, ArrayBytesFixedView};
 use zarrs_bytes::BytesCodec;
 use zarrs_chunk::{ArraySubset, ChunkShape, CodecError};
@@ -60,68 +59,71 @@ fn view<'a>(
     ArrayBytesFixedView::new(alloc, bytes, 1, &shape, subset)
 }
 
-/// The target: the view of the elements, and one of a mask of two bytes, where there is to be one.
-fn target<'a>(
+/// The view of a mask of two bytes, where there is to be one.
+fn masks<'a>(
     alloc: Global,
-    bytes: &'a mut [u8],
     flags: &'a mut [u8],
     row: &Row,
-) -> Result<ArrayBytesDecodeIntoTarget<'a>, CodecError> {
+) -> Result<Vec<ArrayBytesFixedView<'a>>, CodecError> {
     let mut masks = Vec::new(alloc);
     if row.is_masked {
-        let mask = view(alloc, flags, &[2], &[0..2])?;
-        masks.push(mask)?;
+        masks.push(view(alloc, flags, &[2], &[0..2])?)?;
     }
-    Ok(ArrayBytesDecodeIntoTarget {
-        values: view(alloc, bytes, &[2, 3], row.ranges)?,
-        masks,
-    })
+    Ok(masks)
 }
 
-/// What the elements' view has afterwards. Where the call is refused, it has zeros as before.
+/// The elements 1 and 2 are decoded into a target: why they aren't, where they aren't.
 fn decodes_into<C: ArrayToBytesCodecTraits>(
-    rt: &impl Abort,
     alloc: Global,
     codec: &C,
     form: &ChunkForm,
     target: &mut ArrayBytesDecodeIntoTarget<'_>,
-    row: &Row,
-) -> Result<(), CodecError> {
+) -> Option<CodecError> {
     let (shape, data_type, fill_value) = (&form.shape, &form.data_type, &form.fill_value);
     let value = CowSlice::Borrowed([1, 2].as_slice());
-    match codec.decode_into(alloc, value, shape, data_type, fill_value, target) {
-        Ok(()) => answers(rt, row.name, Ok(target.values.as_slice()), row.after),
-        Err(cause) => {
-            is(rt, row.name, &target.values.as_slice(), &[0; 6].as_slice());
-            answers(rt, row.name, Err(cause), row.after)
-        }
-    }
+    let answer = codec.decode_into(alloc, value, shape, data_type, fill_value, target);
+    answer.err()
 }
 
-fn decodes_row(
+/// What the elements' view has afterwards. Where the call is refused, it has zeros as before.
+fn leaves(
     rt: &impl Abort,
-    alloc: Global,
-    form: &ChunkForm,
+    view: &ArrayBytesFixedView<'_>,
+    refusal: Option<CodecError>,
     row: &Row,
 ) -> Result<(), CodecError> {
-    let mut bytes = [0u8; 6];
-    let mut flags = [0u8; 2];
-    let mut target = target(alloc, &mut bytes, &mut flags, row)?;
-    decodes_into(rt, alloc, &BytesCodec::big(), form, &mut target, row)
+    let after: Answer<'_> = match refusal {
+        None => row.after,
+        Some(_) => Ok(&[0; 6]),
+    };
+    is(rt, row.name, &Ok(view.as_slice()), &after);
+    refuses(rt, row.name, refusal, row.after.err())
 }
 
-const PAIR: Form<'static> = Form {
-    sizes: &[2],
-    bits: 8,
-    components: 1,
-    fill: &[0],
-};
+fn decodes_form(
+    rt: &impl Abort,
+    alloc: Global,
+    target: &mut ArrayBytesDecodeIntoTarget<'_>,
+    row: &Row,
+) -> Result<(), CodecError> {
+    let form = chunk_form(alloc, &PAIR)?;
+    let refusal = decodes_into(alloc, &BytesCodec::big(), &form, target);
+    leaves(rt, &target.values, refusal, row)
+}
+
+fn decodes_row(rt: &impl Abort, alloc: Global, row: &Row) -> Result<(), CodecError> {
+    let (mut bytes, mut flags) = ([0u8; 6], [0u8; 2]);
+    let mut target = ArrayBytesDecodeIntoTarget {
+        values: view(alloc, &mut bytes, &[2, 3], row.ranges)?,
+        masks: masks(alloc, &mut flags, row)?,
+    };
+    decodes_form(rt, alloc, &mut target, row)
+}
 
 #[test]
-fn decodes_into_a_target_that_fits(rt: HostRuntime) -> Result<(), Fail> {
-    let form = chunk_form(rt.alloc(), &PAIR)?;
+fn decodes_into_a_target_that_fits(rt: HostRuntime) -> Result<(), CodecError> {
     for row in ROWS.iter() {
-        decodes_row(&rt, rt.alloc(), &form, row)?;
+        decodes_row(&rt, rt.alloc(), row)?;
     }
     Ok(())
 }

@@ -1,18 +1,49 @@
 //! Whole chunks, by the calls that all codecs of chunks to bytes have.
 
-use crate::checks::{Answer, answers, answers_elements, is};
-use crate::forms::{BIG, ChunkForm, Form, LITTLE, chunk_form};
-use BytesRepresentation::FixedSize;
-use CodecError::{EndiannessMissing, InvalidBytesLength};
+use crate::checks::{Answer, answers, is};
+use crate::forms::{BIG, ChunkForm, FOUR, Form, LITTLE, PAIR, WORDS, chunk_form};
+use CodecError::{ArrayBytesKind, EndiannessMissing, InvalidBytesLength};
 use std::alloc::Global;
 use std::borrow::CowSlice;
 use std::process::Abort;
-use std::test::Fail;
 use zarrs_array_bytes::{ArrayBytes, ArrayBytesOffsets, ArrayBytesRaw};
 use zarrs_bytes::BytesCodec;
 use zarrs_chunk::CodecError;
-use zarrs_codec::{ArrayToBytesCodecTraits, BytesRepresentation};
+use zarrs_codec::ArrayToBytesCodecTraits;
 use zarrs_data_type::Endianness;
+
+/// These bytes came, or this refusal.
+pub(crate) fn is_coded(
+    rt: &impl Abort,
+    name: &str,
+    came: &Result<ArrayBytesRaw<'_>, CodecError>,
+    wanted: Answer<'_>,
+) -> Result<(), CodecError> {
+    match came {
+        Ok(bytes) => answers(rt, name, Ok(bytes.as_slice()), wanted),
+        Err(cause) => answers(rt, name, Err(*cause), wanted),
+    }
+}
+
+/// What is to come: bytes, which are lent or owned, or a refusal.
+#[derive(Clone, Copy)]
+pub(crate) struct Wanted<'a> {
+    pub(crate) answer: Answer<'a>,
+    pub(crate) is_lent: bool,
+}
+
+/// The same, where no copy is made of bytes that are lent.
+fn is_lent_or_owned(
+    rt: &impl Abort,
+    name: &str,
+    came: &Result<ArrayBytesRaw<'_>, CodecError>,
+    wanted: Wanted<'_>,
+) -> Result<(), CodecError> {
+    is_coded(rt, name, came, wanted.answer)?;
+    let is_lent = matches!(came, Ok(CowSlice::Borrowed(_)));
+    is(rt, name, &is_lent, &wanted.is_lent);
+    Ok(())
+}
 
 /// Elements have this value, or are refused.
 pub(crate) fn encodes<C: ArrayToBytesCodecTraits>(
@@ -22,13 +53,11 @@ pub(crate) fn encodes<C: ArrayToBytesCodecTraits>(
     codec: &C,
     form: &ChunkForm,
     elements: ArrayBytes<'_>,
-    wanted: Answer<'_>,
+    wanted: Wanted<'_>,
 ) -> Result<(), CodecError> {
     let (shape, data_type, fill_value) = (&form.shape, &form.data_type, &form.fill_value);
-    match codec.encode(alloc, elements, shape, data_type, fill_value) {
-        Ok(value) => answers(rt, name, Ok(value.as_slice()), wanted),
-        Err(cause) => answers(rt, name, Err(cause), wanted),
-    }
+    let came = codec.encode(alloc, elements, shape, data_type, fill_value);
+    is_lent_or_owned(rt, name, &came, wanted)
 }
 
 /// The value stands for elements with these bytes in memory, or is refused.
@@ -39,53 +68,26 @@ pub(crate) fn decodes<C: ArrayToBytesCodecTraits>(
     codec: &C,
     form: &ChunkForm,
     value: ArrayBytesRaw<'_>,
-    wanted: Answer<'_>,
+    wanted: Wanted<'_>,
 ) -> Result<(), CodecError> {
     let (shape, data_type, fill_value) = (&form.shape, &form.data_type, &form.fill_value);
-    let came = codec.decode(alloc, value, shape, data_type, fill_value);
-    answers_elements(rt, name, came, wanted)
+    let came = match codec.decode(alloc, value, shape, data_type, fill_value) {
+        Ok(elements) => elements.into_fixed(),
+        Err(cause) => Err(cause),
+    };
+    is_lent_or_owned(rt, name, &came, wanted)
 }
 
-/// The elements of a chunk, as they stand in memory, and a value; how many bytes a value has; and what
-/// the elements and the value are answered with.
+/// The elements of a chunk, as they stand in memory, and the value, or why they have none and the value
+/// stands for none; and whether all bytes stay in their places.
 struct Row {
     name: &'static str,
     order: Option<Endianness>,
     form: Form<'static>,
     memory: &'static [u8],
-    value: &'static [u8],
-    representation: Result<BytesRepresentation, CodecError>,
-    encoded: Answer<'static>,
-    decoded: Answer<'static>,
+    value: Answer<'static>,
+    stay: bool,
 }
-
-const PAIR: Form<'static> = Form {
-    sizes: &[2],
-    bits: 8,
-    components: 1,
-    fill: &[0],
-};
-
-const FOUR: Form<'static> = Form {
-    sizes: &[4],
-    bits: 8,
-    components: 1,
-    fill: &[0],
-};
-
-const WORDS: Form<'static> = Form {
-    sizes: &[2],
-    bits: 16,
-    components: 1,
-    fill: &[0, 0],
-};
-
-const INTEGERS: Form<'static> = Form {
-    sizes: &[10, 10],
-    bits: 32,
-    components: 1,
-    fill: &[0; 4],
-};
 
 const ROWS: &'static [Row] = &[
     Row {
@@ -93,128 +95,123 @@ const ROWS: &'static [Row] = &[
         order: None,
         form: PAIR,
         memory: &[1, 2],
-        value: &[1, 2],
-        representation: Ok(FixedSize(2)),
-        encoded: Ok(&[1, 2]),
-        decoded: Ok(&[1, 2]),
+        value: Ok(&[1, 2]),
+        stay: true,
+    },
+    Row {
+        name: "bytes, the highest first",
+        order: BIG,
+        form: PAIR,
+        memory: &[1, 2],
+        value: Ok(&[1, 2]),
+        stay: true,
+    },
+    Row {
+        name: "two components of 7 bits, the highest byte first",
+        order: BIG,
+        form: Form {
+            sizes: &[2],
+            bits: 7,
+            components: 2,
+            fill: &[0, 0],
+        },
+        memory: &[1, 0, 2, 1],
+        value: Ok(&[1, 0, 2, 1]),
+        stay: true,
     },
     Row {
         name: "words, the lowest byte first",
         order: LITTLE,
         form: WORDS,
         memory: &[1, 0, 2, 1],
-        value: &[1, 0, 2, 1],
-        representation: Ok(FixedSize(4)),
-        encoded: Ok(&[1, 0, 2, 1]),
-        decoded: Ok(&[1, 0, 2, 1]),
+        value: Ok(&[1, 0, 2, 1]),
+        stay: true,
     },
     Row {
         name: "words, the highest byte first",
         order: BIG,
         form: WORDS,
         memory: &[1, 0, 2, 1],
-        value: &[0, 1, 1, 2],
-        representation: Ok(FixedSize(4)),
-        encoded: Ok(&[0, 1, 1, 2]),
-        decoded: Ok(&[1, 0, 2, 1]),
+        value: Ok(&[0, 1, 1, 2]),
+        stay: false,
     },
     Row {
-        name: "32 bits without an order",
+        name: "words without an order",
         order: None,
-        form: INTEGERS,
-        memory: &[0; 400],
-        value: &[0; 400],
-        representation: Err(EndiannessMissing),
-        encoded: Err(EndiannessMissing),
-        decoded: Err(EndiannessMissing),
+        form: WORDS,
+        memory: &[1, 0, 2, 1],
+        value: Err(EndiannessMissing),
+        stay: false,
     },
     Row {
         name: "three bytes for four",
         order: None,
         form: FOUR,
         memory: &[10, 11, 12],
-        value: &[10, 11, 12],
-        representation: Ok(FixedSize(4)),
-        encoded: Err(InvalidBytesLength {
+        value: Err(InvalidBytesLength {
             len: 3,
             expected: 4,
         }),
-        decoded: Err(InvalidBytesLength {
-            len: 3,
-            expected: 4,
-        }),
-    },
-    Row {
-        name: "no byte for two words",
-        order: BIG,
-        form: WORDS,
-        memory: &[],
-        value: &[],
-        representation: Ok(FixedSize(4)),
-        encoded: Err(InvalidBytesLength {
-            len: 0,
-            expected: 4,
-        }),
-        decoded: Err(InvalidBytesLength {
-            len: 0,
-            expected: 4,
-        }),
+        stay: false,
     },
     Row {
         name: "five bytes for two words",
         order: BIG,
         form: WORDS,
         memory: &[1, 2, 3, 4, 5],
-        value: &[1, 2, 3, 4, 5],
-        representation: Ok(FixedSize(4)),
-        encoded: Err(InvalidBytesLength {
+        value: Err(InvalidBytesLength {
             len: 5,
             expected: 4,
         }),
-        decoded: Err(InvalidBytesLength {
-            len: 5,
-            expected: 4,
-        }),
+        stay: false,
     },
 ];
 
-/// How many bytes the value has, and that no fewer would do; or why it has none.
-fn represents<C: ArrayToBytesCodecTraits>(
+/// Bytes that are lent. What has no value stands for no elements either.
+fn codes(
     rt: &impl Abort,
     alloc: Global,
-    codec: &C,
+    codec: &BytesCodec,
     form: &ChunkForm,
     row: &Row,
-) {
-    let (shape, data_type, fill_value) = (&form.shape, &form.data_type, &form.fill_value);
-    let came = codec.encoded_representation(alloc, shape, data_type, fill_value);
-    is(rt, row.name, &came, &row.representation);
-    let lent = CowSlice::Borrowed(row.value);
-    match codec.compact(alloc, lent, shape, data_type, fill_value) {
-        Ok(shorter) => is(
-            rt,
-            row.name,
-            &shorter.is_none(),
-            &row.representation.is_ok(),
-        ),
-        Err(cause) => is(rt, row.name, &Err(cause), &row.representation),
-    }
+) -> Result<(), CodecError> {
+    let is_lent = row.stay;
+    let answer = row.value;
+    let elements = ArrayBytes::new_flen(CowSlice::Borrowed(row.memory));
+    encodes(
+        rt,
+        row.name,
+        alloc,
+        codec,
+        form,
+        elements,
+        Wanted { answer, is_lent },
+    )?;
+    let (value, answer) = match row.value {
+        Ok(value) => (value, Ok(row.memory)),
+        Err(cause) => (row.memory, Err(cause)),
+    };
+    let value = CowSlice::Borrowed(value);
+    decodes(
+        rt,
+        row.name,
+        alloc,
+        codec,
+        form,
+        value,
+        Wanted { answer, is_lent },
+    )
 }
 
-fn codes(rt: &impl Abort, alloc: Global, row: &Row) -> Result<(), CodecError> {
-    let codec = BytesCodec::new(row.order);
+fn codes_row(rt: &impl Abort, alloc: Global, row: &Row) -> Result<(), CodecError> {
     let form = chunk_form(alloc, &row.form)?;
-    represents(rt, alloc, &codec, &form, row);
-    let elements = ArrayBytes::new_flen(CowSlice::Borrowed(row.memory));
-    encodes(rt, row.name, alloc, &codec, &form, elements, row.encoded)?;
-    let value = CowSlice::Borrowed(row.value);
-    decodes(rt, row.name, alloc, &codec, &form, value, row.decoded)
+    codes(rt, alloc, &BytesCodec::new(row.order), &form, row)
 }
 
 #[test]
-fn encodes_and_decodes_chunks(rt: HostRuntime) -> Result<(), Fail> {
+fn encodes_and_decodes_chunks(rt: HostRuntime) -> Result<(), CodecError> {
     for row in ROWS.iter() {
-        codes(&rt, rt.alloc(), row)?;
+        codes_row(&rt, rt.alloc(), row)?;
     }
     Ok(())
 }
@@ -229,28 +226,16 @@ struct OtherKind {
 
 const OTHER_KINDS: &'static [OtherKind] = &[
     OtherKind {
-        name: "for bytes",
-        order: LITTLE,
-        form: PAIR,
-        cause: CodecError::ArrayBytesKind,
-    },
-    OtherKind {
         name: "for words",
         order: BIG,
         form: WORDS,
-        cause: CodecError::ArrayBytesKind,
-    },
-    OtherKind {
-        name: "for bytes without an order",
-        order: None,
-        form: PAIR,
-        cause: CodecError::ArrayBytesKind,
+        cause: ArrayBytesKind,
     },
     OtherKind {
         name: "the missing order comes first",
         order: None,
         form: WORDS,
-        cause: CodecError::EndiannessMissing,
+        cause: EndiannessMissing,
     },
 ];
 
@@ -267,18 +252,26 @@ fn masked(alloc: Global) -> Result<ArrayBytes<'static>, CodecError> {
     inner.with_optional_mask(alloc, CowSlice::Borrowed(&[1, 1]))
 }
 
-fn refuses_kinds(rt: &impl Abort, alloc: Global, row: &OtherKind) -> Result<(), CodecError> {
-    let codec = BytesCodec::new(row.order);
+fn refuses_kind(
+    rt: &impl Abort,
+    alloc: Global,
+    elements: ArrayBytes<'_>,
+    row: &OtherKind,
+) -> Result<(), CodecError> {
     let form = chunk_form(alloc, &row.form)?;
-    let wanted = Err(row.cause);
-    encodes(rt, row.name, alloc, &codec, &form, texts(alloc)?, wanted)?;
-    encodes(rt, row.name, alloc, &codec, &form, masked(alloc)?, wanted)
+    let wanted = Wanted {
+        answer: Err(row.cause),
+        is_lent: false,
+    };
+    let codec = BytesCodec::new(row.order);
+    encodes(rt, row.name, alloc, &codec, &form, elements, wanted)
 }
 
 #[test]
-fn takes_elements_of_the_kind(rt: HostRuntime) -> Result<(), Fail> {
+fn takes_elements_of_the_kind(rt: HostRuntime) -> Result<(), CodecError> {
     for row in OTHER_KINDS.iter() {
-        refuses_kinds(&rt, rt.alloc(), row)?;
+        refuses_kind(&rt, rt.alloc(), texts(rt.alloc())?, row)?;
+        refuses_kind(&rt, rt.alloc(), masked(rt.alloc())?, row)?;
     }
     Ok(())
 }

@@ -1,343 +1,256 @@
 //! Chunks that are written in part: what is left, by how many writing calls of the handle.
 
-use crate::checks::{Answer, answers, is};
-use crate::forms::{Asked, ChunkForm, Form, chunk_form, indexer, stored, subset};
+use crate::checks::{Answer, answers, is, refuses};
+use crate::forms::{
+    Asked, ChunkForm, FOUR, Form, THREE, chunk_form, encoder, indexer, made_decoder, made_encoder,
+    stored,
+};
 use crate::whole::texts;
 use Asked::{Ranges, Tuples};
+use CodecError::{
+    ArrayBytesKind, DataMismatch, EndiannessMissing, IncompatibleDimensionality, OutOfBounds,
+};
 use std::alloc::Global;
 use std::borrow::CowSlice;
 use std::process::Abort;
-use std::test::Fail;
 use zarrs_array_bytes::ArrayBytes;
 use zarrs_bytes::{BytesCodec, BytesCodecPartial};
-use zarrs_chunk::{CodecError, Indexer};
-use zarrs_codec::{
-    ArrayPartialEncoderTraits, BytesPartialDecoderTraits, BytesPartialEncoderTraits, MemoryHandle,
-    Refused,
-};
+use zarrs_chunk::CodecError;
+use zarrs_codec::{ArrayPartialEncoderTraits, BytesPartialEncoderTraits, MemoryHandle, Refused};
 use zarrs_data_type::DataType;
 
-type Encoder = BytesCodecPartial<MemoryHandle>;
-
-/// A coder that writes too, over a handle. The highest byte of a component is the first one in a value.
-fn encoder(alloc: Global, form: &ChunkForm, handle: MemoryHandle) -> Result<Encoder, CodecError> {
-    let made = BytesCodec::big().partial_encoder(
-        alloc,
-        handle,
-        &form.shape,
-        &form.data_type,
-        &form.fill_value,
-    );
-    match made {
-        Ok(encoder) => Ok(encoder),
-        Err(Refused { error, handle: _ }) => Err(error),
-    }
-}
-
-const FOUR: Form<'static> = Form {
-    sizes: &[4],
-    bits: 8,
-    components: 1,
-    fill: &[0],
-};
-
-const WORDS: Form<'static> = Form {
-    sizes: &[3],
-    bits: 16,
-    components: 1,
-    fill: &[9, 8],
-};
-
-const AXES: Answer<'static> = Err(CodecError::IncompatibleDimensionality);
-
-const OUTSIDE: Answer<'static> = Err(CodecError::OutOfBounds);
-
-const MISMATCH: Answer<'static> = Err(CodecError::DataMismatch);
-
-const KIND: Answer<'static> = Err(CodecError::ArrayBytesKind);
-
-const NO_ORDER: Answer<'static> = Err(CodecError::EndiannessMissing);
-
 /// What is stored, where new elements are written, their bytes as they stand in memory, and what is
-/// stored afterwards; or why nothing is written.
+/// stored afterwards, or why nothing is written: over each of the values alike.
 struct Row {
     name: &'static str,
     form: Form<'static>,
-    value: Option<&'static [u8]>,
+    values: &'static [Option<&'static [u8]>],
     asked: Asked<'static>,
     bytes: &'static [u8],
     after: Answer<'static>,
 }
 
+const VALUE: Option<&'static [u8]> = Some(&[1, 2, 3, 4, 5, 6]);
+
 const ROWS: &'static [Row] = &[
     Row {
         name: "behind the end of a short value",
         form: FOUR,
-        value: Some(&[10]),
+        values: &[Some(&[10])],
         asked: Ranges(&[3..4]),
         bytes: &[13],
         after: Ok(&[10, 0, 0, 13]),
     },
     Row {
-        name: "no element over nothing",
-        form: FOUR,
-        value: None,
-        asked: Ranges(&[1..1]),
-        bytes: &[],
-        after: Ok(&[0, 0, 0, 0]),
-    },
-    Row {
         name: "no element over a short value",
         form: FOUR,
-        value: Some(&[1]),
+        values: &[Some(&[1])],
         asked: Ranges(&[4..4]),
         bytes: &[],
         after: Ok(&[1]),
     },
     Row {
         name: "a word over nothing",
-        form: WORDS,
-        value: None,
+        form: THREE,
+        values: &[None],
         asked: Ranges(&[0..1]),
         bytes: &[1, 2],
         after: Ok(&[2, 1, 8, 9, 8, 9]),
     },
     Row {
         name: "a word of a list over a value",
-        form: WORDS,
-        value: Some(&[8, 9, 4, 3, 8, 9]),
+        form: THREE,
+        values: &[VALUE],
         asked: Tuples(&[&[0]]),
         bytes: &[5, 6],
-        after: Ok(&[6, 5, 4, 3, 8, 9]),
+        after: Ok(&[6, 5, 3, 4, 5, 6]),
     },
     Row {
-        name: "an axis too many, over nothing",
-        form: WORDS,
-        value: None,
+        name: "an axis too many",
+        form: THREE,
+        values: &[VALUE, None],
         asked: Ranges(&[0..1, 0..1]),
         bytes: &[],
-        after: AXES,
+        after: Err(IncompatibleDimensionality),
     },
     Row {
-        name: "a range outside, over nothing",
-        form: WORDS,
-        value: None,
+        name: "a range outside",
+        form: THREE,
+        values: &[VALUE, None],
         asked: Ranges(&[2..4]),
         bytes: &[],
-        after: OUTSIDE,
+        after: Err(OutOfBounds),
     },
     Row {
-        name: "a tuple outside, over nothing",
-        form: WORDS,
-        value: None,
-        asked: Tuples(&[&[3]]),
-        bytes: &[1, 2],
-        after: OUTSIDE,
-    },
-    Row {
-        name: "a word for two places, over nothing",
-        form: WORDS,
-        value: None,
+        name: "a word for two places",
+        form: THREE,
+        values: &[VALUE, None],
         asked: Tuples(&[&[0], &[1]]),
         bytes: &[1, 2],
-        after: MISMATCH,
+        after: Err(DataMismatch),
     },
     Row {
-        name: "a word for no place, over nothing",
-        form: WORDS,
-        value: None,
-        asked: Ranges(&[1..1]),
-        bytes: &[1, 2],
-        after: MISMATCH,
-    },
-    Row {
-        name: "half a word, over nothing",
-        form: WORDS,
-        value: None,
+        name: "half a word",
+        form: THREE,
+        values: &[VALUE, None],
         asked: Ranges(&[0..1]),
         bytes: &[1],
-        after: MISMATCH,
-    },
-    Row {
-        name: "an axis too many, over a value",
-        form: WORDS,
-        value: Some(&[1, 2, 3, 4, 5, 6]),
-        asked: Ranges(&[0..1, 0..1]),
-        bytes: &[],
-        after: AXES,
-    },
-    Row {
-        name: "a range outside, over a value",
-        form: WORDS,
-        value: Some(&[1, 2, 3, 4, 5, 6]),
-        asked: Ranges(&[2..4]),
-        bytes: &[],
-        after: OUTSIDE,
-    },
-    Row {
-        name: "a tuple outside, over a value",
-        form: WORDS,
-        value: Some(&[1, 2, 3, 4, 5, 6]),
-        asked: Tuples(&[&[3]]),
-        bytes: &[1, 2],
-        after: OUTSIDE,
-    },
-    Row {
-        name: "a word for two places, over a value",
-        form: WORDS,
-        value: Some(&[1, 2, 3, 4, 5, 6]),
-        asked: Tuples(&[&[0], &[1]]),
-        bytes: &[1, 2],
-        after: MISMATCH,
-    },
-    Row {
-        name: "a word for no place, over a value",
-        form: WORDS,
-        value: Some(&[1, 2, 3, 4, 5, 6]),
-        asked: Ranges(&[1..1]),
-        bytes: &[1, 2],
-        after: MISMATCH,
-    },
-    Row {
-        name: "half a word, over a value",
-        form: WORDS,
-        value: Some(&[1, 2, 3, 4, 5, 6]),
-        asked: Ranges(&[0..1]),
-        bytes: &[1],
-        after: MISMATCH,
+        after: Err(DataMismatch),
     },
 ];
 
-/// What a write that was answered so leaves: the new value by one writing call, or the old one without
-/// any.
-fn leaves(
-    rt: &impl Abort,
+/// Writes the row's elements, by the coder's own call: why it is refused, where it is.
+fn write<H: BytesPartialEncoderTraits>(
+    alloc: Global,
+    encoder: &mut BytesCodecPartial<H>,
     row: &Row,
-    handle: &MemoryHandle,
-    answer: Result<(), CodecError>,
 ) -> Result<(), CodecError> {
-    match answer {
-        Ok(()) => {
-            is(rt, row.name, &handle.write_calls(), &1);
-            answers(rt, row.name, Ok(handle.value().unwrap_or(&[])), row.after)
-        }
-        Err(cause) => {
-            is(rt, row.name, &handle.value(), &row.value);
-            answers(rt, row.name, Err(cause), row.after)?;
-            is(rt, row.name, &handle.write_calls(), &0);
-            Ok(())
-        }
-    }
+    let asked = indexer(alloc, row.asked)?;
+    let elements = ArrayBytes::new_flen(CowSlice::Borrowed(row.bytes));
+    encoder.partial_encode(alloc, &asked, &elements)
 }
 
-fn writes(rt: &impl Abort, alloc: Global, row: &Row) -> Result<(), CodecError> {
-    let form = chunk_form(alloc, &row.form)?;
-    let mut encoder = encoder(alloc, &form, stored(alloc, row.value)?)?;
-    let asked = indexer(alloc, &row.asked)?;
-    let elements = ArrayBytes::new_flen(CowSlice::Borrowed(row.bytes));
-    let answer = encoder.partial_encode(alloc, &asked, &elements);
-    leaves(rt, row, &encoder.into_handle(), answer)
+/// What a write over an old value leaves: the new value by one writing call, or the old one, without any
+/// but for want of memory.
+fn leaves(
+    rt: &impl Abort,
+    handle: &MemoryHandle,
+    old: Option<&[u8]>,
+    refusal: Option<CodecError>,
+    row: &Row,
+) -> Result<(), CodecError> {
+    let (value, calls) = match refusal {
+        None => (row.after.ok(), 1),
+        Some(_) => (old, 0),
+    };
+    is(rt, row.name, &handle.value(), &value);
+    refuses(rt, row.name, refusal, row.after.err())?;
+    is(rt, row.name, &handle.write_calls(), &calls);
+    Ok(())
+}
+
+fn writes(rt: &impl Abort, alloc: Global, old: Option<&[u8]>, row: &Row) -> Result<(), CodecError> {
+    let mut encoder = encoder(alloc, &row.form, stored(alloc, old)?)?;
+    let answer = write(alloc, &mut encoder, row);
+    leaves(rt, &encoder.into_handle(), old, answer.err(), row)
 }
 
 #[test]
-fn a_write_is_one_call_and_a_refused_one_none(rt: HostRuntime) -> Result<(), Fail> {
+fn a_write_is_one_call_and_a_refused_one_none(rt: HostRuntime) -> Result<(), CodecError> {
     for row in ROWS.iter() {
-        writes(&rt, rt.alloc(), row)?;
+        for value in row.values {
+            writes(&rt, rt.alloc(), *value, row)?;
+        }
     }
     Ok(())
 }
 
-/// What a coder of three words, the last two of them 3 and 4 and 5 and 6, answers as any coder of parts
-/// does. Two texts are refused, a part is written, and the chunk is erased.
-fn edits<E: ArrayPartialEncoderTraits>(
+/// Elements are written to the last two words as any coder of parts does, or refused for this cause.
+fn writes_part<E: ArrayPartialEncoderTraits>(
     rt: &impl Abort,
     alloc: Global,
     encoder: &mut E,
-    asked: &Indexer,
+    elements: ArrayBytes<'_>,
+    cause: Option<CodecError>,
 ) -> Result<(), CodecError> {
+    let asked = indexer(alloc, Ranges(&[1..3]))?;
+    let answer = encoder.partial_encode(alloc, &asked, &elements);
+    refuses(rt, "written", answer.err(), cause)
+}
+
+/// The last two words are read.
+fn reads<E: ArrayPartialEncoderTraits>(
+    rt: &impl Abort,
+    alloc: Global,
+    encoder: &mut E,
+) -> Result<(), CodecError> {
+    let asked = indexer(alloc, Ranges(&[1..3]))?;
+    match encoder.partial_decode(alloc, &asked) {
+        Ok(part) => answers(rt, "read", part.as_fixed(), Ok(&[4, 3, 6, 5])),
+        Err(cause) => Err(cause),
+    }
+}
+
+/// What a coder of three words tells, and that the chunk is erased.
+fn erases<E: ArrayPartialEncoderTraits>(rt: &impl Abort, encoder: &mut E) {
     is(rt, "type", encoder.data_type(), &DataType::uint16());
     is(rt, "held", &encoder.size_held(), &6);
     is(rt, "reads", &encoder.supports_partial_decode(), &true);
     is(rt, "writes", &encoder.supports_partial_encode(), &true);
-    let part = encoder.partial_decode(alloc, asked)?;
-    answers(rt, "read", part.as_fixed(), Ok(&[4, 3, 6, 5]))?;
-    encoder.partial_encode(alloc, asked, &part)?;
     is(rt, "erased", &encoder.erase(), &Ok(()));
     is(rt, "there", &encoder.exists(), &Ok(false));
+}
+
+/// Two texts are refused, words are read and written, and the chunk is erased.
+fn edits<E: ArrayPartialEncoderTraits>(
+    rt: &impl Abort,
+    alloc: Global,
+    encoder: &mut E,
+) -> Result<(), CodecError> {
+    writes_part(rt, alloc, encoder, texts(alloc)?, Some(ArrayBytesKind))?;
+    reads(rt, alloc, encoder)?;
+    let words = ArrayBytes::new_flen(CowSlice::Borrowed(&[1, 2, 3, 4]));
+    writes_part(rt, alloc, encoder, words, None)?;
+    erases(rt, encoder);
     Ok(())
 }
 
-/// Elements of another kind.
-fn refuses_texts(
+fn edits_over(rt: &impl Abort, alloc: Global, handle: &mut MemoryHandle) -> Result<(), CodecError> {
+    let mut encoder = encoder(alloc, &THREE, handle)?;
+    edits(rt, alloc, &mut encoder)
+}
+
+#[test]
+fn a_coder_is_any_coder_of_parts(rt: HostRuntime) -> Result<(), CodecError> {
+    let mut handle = stored(rt.alloc(), VALUE)?;
+    edits_over(&rt, rt.alloc(), &mut handle)?;
+    is(&rt, "calls", &handle.write_calls(), &2);
+    Ok(())
+}
+
+/// A coder without a byte order was not made over words, and what was given comes back.
+fn comes_back<H: Drop>(
     rt: &impl Abort,
-    alloc: Global,
-    encoder: &mut Encoder,
-    asked: &Indexer,
-) -> Result<(), CodecError> {
-    let texts = texts(alloc)?;
-    match encoder.partial_encode(alloc, asked, &texts) {
-        Ok(()) => answers(rt, "texts", Ok(&[]), KIND),
-        Err(cause) => answers(rt, "texts", Err(cause), KIND),
+    name: &str,
+    made: Result<BytesCodecPartial<H>, Refused<H>>,
+) -> Result<H, CodecError> {
+    match made {
+        Ok(_) => Err(CodecError::DataMismatch),
+        Err(refused) => {
+            refuses(rt, name, Some(refused.error), Some(EndiannessMissing))?;
+            Ok(refused.handle)
+        }
     }
 }
 
-#[test]
-fn a_coder_is_any_coder_of_parts(rt: HostRuntime) -> Result<(), Fail> {
-    let form = chunk_form(rt.alloc(), &WORDS)?;
-    let handle = stored(rt.alloc(), Some(&[1, 2, 3, 4, 5, 6]))?;
-    let mut encoder = encoder(rt.alloc(), &form, handle)?;
-    let asked = subset(rt.alloc(), &[1..3])?;
-    refuses_texts(&rt, rt.alloc(), &mut encoder, &asked)?;
-    edits(&rt, rt.alloc(), &mut encoder, &asked)?;
-    is(&rt, "calls", &encoder.into_handle().write_calls(), &2);
-    Ok(())
-}
-
-/// Without a byte order no coder of words is made, and what was given comes back.
-fn no_encoder<H: BytesPartialEncoderTraits + Drop>(
+/// A decoder and then a coder that writes.
+fn no_coder<H: BytesPartialEncoderTraits + Drop>(
     rt: &impl Abort,
     alloc: Global,
     form: &ChunkForm,
     handle: H,
-) -> Result<H, Fail> {
-    let made = BytesCodec::new(None).partial_encoder(
-        alloc,
-        handle,
-        &form.shape,
-        &form.data_type,
-        &form.fill_value,
-    );
-    let refused = made.err().ok_or("an encoder was made")?;
-    answers(rt, "encoder", Err(refused.error), NO_ORDER)?;
-    Ok(refused.handle)
+) -> Result<H, CodecError> {
+    let made = made_decoder(alloc, BytesCodec::new(None), form, handle);
+    let handle = comes_back(rt, "decoder", made)?;
+    let made = made_encoder(alloc, BytesCodec::new(None), form, handle);
+    comes_back(rt, "encoder", made)
 }
 
-/// The same of a decoder.
-fn no_decoder<H: BytesPartialDecoderTraits + Drop>(
+/// Over a handle that is lent, and then owned.
+fn refuses_over(
     rt: &impl Abort,
     alloc: Global,
     form: &ChunkForm,
-    handle: H,
-) -> Result<H, Fail> {
-    let made = BytesCodec::new(None).partial_decoder(
-        alloc,
-        handle,
-        &form.shape,
-        &form.data_type,
-        &form.fill_value,
-    );
-    let refused = made.err().ok_or("a decoder was made")?;
-    answers(rt, "decoder", Err(refused.error), NO_ORDER)?;
-    Ok(refused.handle)
+    mut handle: MemoryHandle,
+) -> Result<(), CodecError> {
+    no_coder(rt, alloc, form, &mut handle)?;
+    let handle = no_coder(rt, alloc, form, handle)?;
+    is(rt, "handed back", &handle.value(), &VALUE);
+    Ok(())
 }
 
 #[test]
-fn hands_back_a_handle_that_is_owned_or_lent(rt: HostRuntime) -> Result<(), Fail> {
-    let value: Option<&[u8]> = Some(&[1, 2]);
-    let form = chunk_form(rt.alloc(), &WORDS)?;
-    let mut handle = stored(rt.alloc(), value)?;
-    no_decoder(&rt, rt.alloc(), &form, &mut handle)?;
-    let handle = no_encoder(&rt, rt.alloc(), &form, handle)?;
-    is(&rt, "handed back", &handle.value(), &value);
-    Ok(())
+fn hands_back_a_handle_that_is_owned_or_lent(rt: HostRuntime) -> Result<(), CodecError> {
+    let form = chunk_form(rt.alloc(), &THREE)?;
+    refuses_over(&rt, rt.alloc(), &form, stored(rt.alloc(), VALUE)?)
 }

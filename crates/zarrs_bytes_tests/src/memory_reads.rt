@@ -1,0 +1,150 @@
+//! The handle in memory, and one that is lent, in reading.
+
+use crate::checks::is;
+use crate::forms::stored;
+use std::alloc::Global;
+use std::process::Abort;
+use zarrs_chunk::CodecError;
+use zarrs_codec::{ByteRange, BytesPartialDecoderTraits};
+
+const LAST: u64 = 18446744073709551615;
+
+/// Bytes, or none, or a refusal.
+type Answer<'a> = Result<Option<&'a [u8]>, CodecError>;
+
+/// This is answered. A want of memory is an error of the test.
+pub(crate) fn answers_value(
+    rt: &impl Abort,
+    name: &str,
+    came: &Result<Option<Vec<u8>>, CodecError>,
+    wanted: Answer<'_>,
+) -> Result<(), CodecError> {
+    let came = match came {
+        Ok(value) => Ok(value.as_deref()),
+        Err(CodecError::OutOfMemory) => return Err(CodecError::OutOfMemory),
+        Err(cause) => Err(*cause),
+    };
+    is(rt, name, &came, &wanted);
+    Ok(())
+}
+
+/// A value, or none; ranges, by their starts and ends; and what comes of them.
+struct Row {
+    name: &'static str,
+    value: Option<&'static [u8]>,
+    ranges: &'static [(u64, u64)],
+    bytes: Answer<'static>,
+}
+
+const TWENTY: Option<&'static [u8]> = Some(&[
+    10, 11, 12, 13, 14, 15, 16, 17, 18, 19, 20, 21, 22, 23, 24, 25, 26, 27, 28, 29,
+]);
+
+const PAST: Answer<'static> = Err(CodecError::InvalidByteRange);
+
+const ROWS: &'static [Row] = &[
+    // Where nothing is stored, ranges are not looked at.
+    Row {
+        name: "the longest range of nothing",
+        value: None,
+        ranges: &[(0, 1), (0, LAST)],
+        bytes: Ok(None),
+    },
+    Row {
+        name: "no range of an empty value",
+        value: Some(&[]),
+        ranges: &[],
+        bytes: Ok(Some(&[])),
+    },
+    Row {
+        name: "in any order, and twice",
+        value: TWENTY,
+        ranges: &[(2, 3), (0, 1), (2, 3)],
+        bytes: Ok(Some(&[12, 10, 12])),
+    },
+    Row {
+        name: "empty ranges at the end and between others",
+        value: TWENTY,
+        ranges: &[(20, 20), (4, 6), (1, 1), (18, 20)],
+        bytes: Ok(Some(&[14, 15, 28, 29])),
+    },
+    Row {
+        name: "four bytes, eight and three",
+        value: TWENTY,
+        ranges: &[(4, 8), (12, 20), (0, 3)],
+        bytes: Ok(Some(&[14, 15, 16, 17, 22, 23, 24, 25, 26, 27, 28, 29, 10, 11, 12])),
+    },
+    Row {
+        name: "the second range ends past the value",
+        value: TWENTY,
+        ranges: &[(0, 1), (20, 21)],
+        bytes: PAST,
+    },
+    Row {
+        name: "ends as far as can be",
+        value: TWENTY,
+        ranges: &[(2, LAST)],
+        bytes: PAST,
+    },
+];
+
+/// The ranges with these starts and ends.
+pub(crate) fn byte_ranges(
+    alloc: Global,
+    ends: &[(u64, u64)],
+) -> Result<Vec<ByteRange>, CodecError> {
+    let mut ranges = Vec::new(alloc);
+    for (start, end) in ends {
+        let range = ByteRange::new(*start..*end).ok_or(CodecError::InvalidByteRange)?;
+        ranges.push(range)?;
+    }
+    Ok(ranges)
+}
+
+/// What a handle over the row's value tells.
+fn tells<H: BytesPartialDecoderTraits>(rt: &impl Abort, handle: &mut H, row: &Row) {
+    let size = row.value.unwrap_or(&[]).len();
+    is(rt, row.name, &handle.exists(), &Ok(row.value.is_some()));
+    is(rt, row.name, &handle.size_held(), &size);
+    is(rt, row.name, &handle.supports_partial_decode(), &true);
+}
+
+/// What a handle over the row's value answers.
+fn asks<H: BytesPartialDecoderTraits>(
+    rt: &impl Abort,
+    alloc: Global,
+    handle: &mut H,
+    ranges: &[ByteRange],
+    row: &Row,
+) -> Result<(), CodecError> {
+    tells(rt, handle, row);
+    answers_value(rt, row.name, &handle.decode(alloc), Ok(row.value))?;
+    let part = handle.partial_decode_many(alloc, ranges);
+    answers_value(rt, row.name, &part, row.bytes)
+}
+
+/// The handle is lent to the calls, and keeps its value.
+fn reads(
+    rt: &impl Abort,
+    alloc: Global,
+    ranges: &[ByteRange],
+    row: &Row,
+) -> Result<(), CodecError> {
+    let mut handle = stored(alloc, row.value)?;
+    asks(rt, alloc, &mut &mut handle, ranges, row)?;
+    is(rt, row.name, &handle.into_value().as_deref(), &row.value);
+    Ok(())
+}
+
+fn reads_row(rt: &impl Abort, alloc: Global, row: &Row) -> Result<(), CodecError> {
+    let ranges = byte_ranges(alloc, row.ranges)?;
+    reads(rt, alloc, ranges.as_slice(), row)
+}
+
+#[test]
+fn a_handle_in_memory_answers_its_value(rt: HostRuntime) -> Result<(), CodecError> {
+    for row in ROWS.iter() {
+        reads_row(&rt, rt.alloc(), row)?;
+    }
+    Ok(())
+}
