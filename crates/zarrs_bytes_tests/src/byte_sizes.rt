@@ -90,6 +90,12 @@ const SIZES: &'static [Size] = &[
         is_four: false,
     },
     Size {
+        name: "at most nine",
+        representation: BoundedSize(9),
+        size: Some(9),
+        is_four: false,
+    },
+    Size {
         name: "any number",
         representation: UnboundedSize,
         size: None,

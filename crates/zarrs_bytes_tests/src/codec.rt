@@ -92,6 +92,72 @@ const LENGTHS: &'static [Length] = &[
         bytes: Ok(FixedSize(42)),
     },
     Length {
+        name: "32 bits",
+        order: BIG,
+        form: Form {
+            sizes: &[10, 10],
+            bits: 32,
+            components: 1,
+            fill: &[0; 4],
+        },
+        bytes: Ok(FixedSize(400)),
+    },
+    Length {
+        name: "three components of 12 bits",
+        order: LITTLE,
+        form: Form {
+            sizes: &[2, 3],
+            bits: 12,
+            components: 3,
+            fill: &[0; 6],
+        },
+        bytes: Ok(FixedSize(36)),
+    },
+    Length {
+        name: "24 bits",
+        order: BIG,
+        form: Form {
+            sizes: &[33],
+            bits: 24,
+            components: 1,
+            fill: &[0; 3],
+        },
+        bytes: Ok(FixedSize(99)),
+    },
+    Length {
+        name: "40 bits",
+        order: LITTLE,
+        form: Form {
+            sizes: &[17],
+            bits: 40,
+            components: 1,
+            fill: &[0; 5],
+        },
+        bytes: Ok(FixedSize(85)),
+    },
+    Length {
+        name: "64 bits",
+        order: BIG,
+        form: Form {
+            sizes: &[16],
+            bits: 64,
+            components: 1,
+            fill: &[0; 8],
+        },
+        bytes: Ok(FixedSize(128)),
+    },
+    Length {
+        name: "65 bits",
+        order: LITTLE,
+        form: Form {
+            sizes: &[3],
+            bits: 65,
+            components: 1,
+            fill: &[0; 9],
+        },
+        bytes: Ok(FixedSize(27)),
+    },
+    Length {
         name: "three components of 128 bits",
         order: BIG,
         form: Form {

@@ -85,6 +85,48 @@ const ROWS: &'static [Row] = &[
         ranges: Ok(&[(4, 12)]),
     },
     Row {
+        name: "the first two",
+        form: FOUR,
+        asked: Ranges(&[0..2]),
+        ranges: Ok(&[(0, 2)]),
+    },
+    Row {
+        name: "the last two",
+        form: FOUR,
+        asked: Ranges(&[2..4]),
+        ranges: Ok(&[(2, 4)]),
+    },
+    Row {
+        name: "an empty range inside",
+        form: FOUR,
+        asked: Ranges(&[1..1]),
+        ranges: Ok(&[]),
+    },
+    Row {
+        name: "the first of as many bytes as can be",
+        form: LONGEST,
+        asked: Ranges(&[0..1]),
+        ranges: Ok(&[(0, 1)]),
+    },
+    Row {
+        name: "an axis too few",
+        form: SQUARE,
+        asked: Ranges(&[0..1]),
+        ranges: Err(IncompatibleDimensionality),
+    },
+    Row {
+        name: "a row too many",
+        form: SQUARE,
+        asked: Ranges(&[0..5, 0..4]),
+        ranges: Err(OutOfBounds),
+    },
+    Row {
+        name: "the second tuple has an axis too few",
+        form: SQUARE,
+        asked: Tuples(&[&[0, 0], &[0]]),
+        ranges: Err(IncompatibleDimensionality),
+    },
+    Row {
         name: "an empty range at the end",
         form: FOUR,
         asked: Ranges(&[4..4]),

@@ -107,6 +107,18 @@ const REPRESENTED: &'static [Represented] = &[
         encoded: FixedSize(18446744073709551615),
     },
     Represented {
+        name: "reversed bytes are as many at most",
+        codec: Reverse,
+        bytes: BoundedSize(0),
+        encoded: BoundedSize(0),
+    },
+    Represented {
+        name: "reversed bytes without a bound",
+        codec: Reverse,
+        bytes: UnboundedSize,
+        encoded: UnboundedSize,
+    },
+    Represented {
         name: "a length is 8 bytes",
         codec: Length,
         bytes: FixedSize(18446744073709551607),
