@@ -5,7 +5,7 @@ use crate::checks::{is, is_cause, is_plan};
 use crate::chunks::{Chunk, Part, chunk_of, part_of};
 use crate::coders::{Coder, Made, coder_of, handle_of, planned};
 use crate::failing_handle::{FAILED, FailingHandle, over};
-use crate::rows::{ROWS, Row};
+use crate::rows::{ENCODERS, FAILING, NEVER_MADE, OF_VLEN, Row, WITH_CACHE, WITHOUT_CACHE};
 use std::alloc::Global;
 use std::process::Abort;
 use std::test::Fail;
@@ -162,10 +162,39 @@ fn reads_row(rt: &impl Abort, alloc: Global, row: &Row) -> Result<(), Fail> {
     reads_of(rt, alloc, &chunk, &part, row)
 }
 
-#[test]
-fn coders_read_plan_and_tell(rt: HostRuntime) -> Result<(), Fail> {
-    for row in ROWS.iter() {
-        reads_row(&rt, rt.alloc(), row)?;
+fn reads_rows(rt: &impl Abort, alloc: Global, rows: &[Row]) -> Result<(), Fail> {
+    for row in rows.iter() {
+        reads_row(rt, alloc, row)?;
     }
     Ok(())
+}
+
+#[test]
+fn decoders_without_a_cache(rt: HostRuntime) -> Result<(), Fail> {
+    reads_rows(&rt, rt.alloc(), WITHOUT_CACHE)
+}
+
+#[test]
+fn decoders_with_a_cache(rt: HostRuntime) -> Result<(), Fail> {
+    reads_rows(&rt, rt.alloc(), WITH_CACHE)
+}
+
+#[test]
+fn encoders(rt: HostRuntime) -> Result<(), Fail> {
+    reads_rows(&rt, rt.alloc(), ENCODERS)
+}
+
+#[test]
+fn decoders_of_vlen_codecs(rt: HostRuntime) -> Result<(), Fail> {
+    reads_rows(&rt, rt.alloc(), OF_VLEN)
+}
+
+#[test]
+fn over_handles_that_fail(rt: HostRuntime) -> Result<(), Fail> {
+    reads_rows(&rt, rt.alloc(), FAILING)
+}
+
+#[test]
+fn that_are_never_made(rt: HostRuntime) -> Result<(), Fail> {
+    reads_rows(&rt, rt.alloc(), NEVER_MADE)
 }

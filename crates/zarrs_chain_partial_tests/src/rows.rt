@@ -30,11 +30,8 @@ pub(crate) struct Row {
 
 const NONE: [Option<CodecError>; 3] = [None, None, None];
 
-/// A decoder without a cache keeps what its handle does, as an encoder and the decoder of a `vlen`
-/// codec do. A cache keeps the decoded bytes: of texts 8 for each offset too, where there is one more
-/// than texts, and of optional elements one for each at each level.
-pub(crate) const ROWS: &'static [Row] = &[
-    // Decoders without a cache.
+/// Decoders without a cache keep what their handles do.
+pub(crate) const WITHOUT_CACHE: &'static [Row] = &[
     Row {
         name: "a decoder of bytes",
         coder: Kind::Decoder,
@@ -160,7 +157,11 @@ pub(crate) const ROWS: &'static [Row] = &[
         planned: Some(&[(1, 3)]),
         size_held: 0,
     },
-    // Decoders with a cache.
+];
+
+/// A cache keeps the decoded bytes: of texts 8 for each offset too, where there is one more than
+/// texts, and of optional elements one for each at each level.
+pub(crate) const WITH_CACHE: &'static [Row] = &[
     Row {
         name: "under a length",
         coder: Kind::Decoder,
@@ -332,7 +333,10 @@ pub(crate) const ROWS: &'static [Row] = &[
         planned: None,
         size_held: 0,
     },
-    // Encoders.
+];
+
+/// Encoders keep what their handles do.
+pub(crate) const ENCODERS: &'static [Row] = &[
     Row {
         name: "an encoder of bytes",
         coder: Kind::Encoder,
@@ -377,7 +381,10 @@ pub(crate) const ROWS: &'static [Row] = &[
         planned: Some(&[(0, 1)]),
         size_held: 0,
     },
-    // The decoder of a `vlen` codec reads the whole value each time, once it has looked at the places.
+];
+
+/// The decoder of a `vlen` codec reads the whole value each time, once it has looked at the places.
+pub(crate) const OF_VLEN: &'static [Row] = &[
     Row {
         name: "one of two texts",
         coder: Kind::OfVlen,
@@ -478,7 +485,11 @@ pub(crate) const ROWS: &'static [Row] = &[
         planned: None,
         size_held: 8,
     },
-    // A decoder without a cache asks its handle at each read, and one with a cache never again once it is made.
+];
+
+/// A decoder without a cache asks its handle at each read, and one with a cache never again once it
+/// is made.
+pub(crate) const FAILING: &'static [Row] = &[
     Row {
         name: "bytes, where the first call fails",
         coder: Kind::Decoder,
@@ -523,7 +534,10 @@ pub(crate) const ROWS: &'static [Row] = &[
         planned: None,
         size_held: 0,
     },
-    // Coders that are never made.
+];
+
+/// Coders that are never made.
+pub(crate) const NEVER_MADE: &'static [Row] = &[
     Row {
         name: "an encoder of words without an order",
         coder: Kind::Encoder,
