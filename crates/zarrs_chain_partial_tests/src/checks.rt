@@ -1,11 +1,7 @@
 //! Checks, which take references, since an assert beside owned values is dear to prove.
 
-use crate::chunks::{Chunk, elements};
-use std::alloc::Global;
 use std::fmt::Debug;
 use std::process::Abort;
-use zarrs_array_bytes::ArrayBytes;
-use zarrs_chain_json::Refusal;
 use zarrs_chunk::CodecError;
 use zarrs_codec::ByteRange;
 
@@ -52,18 +48,4 @@ pub(crate) fn is_plan(
 ) {
     is(rt, row, "planned", &came.is_some(), &wanted.is_some());
     are_ranges(rt, row, came.unwrap_or(&[]), wanted.unwrap_or(&[]));
-}
-
-/// The elements of the chunk that came are those of the list.
-pub(crate) fn are_elements(
-    rt: &impl Abort,
-    alloc: Global,
-    row: &str,
-    chunk: &Chunk,
-    came: &ArrayBytes<'static>,
-    wanted: &str,
-) -> Result<(), Refusal> {
-    let wanted = elements(alloc, chunk, wanted)?;
-    is(rt, row, "elements", came, &wanted);
-    Ok(())
 }

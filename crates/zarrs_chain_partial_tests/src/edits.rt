@@ -1,14 +1,15 @@
 //! Lists of edits, over a handle that fails in the middle of them, or not at all.
 
 use crate::checks::{is, is_cause};
-use crate::chunks::{BYTES, Chunk, Encoder, WITH_LENGTH, chunk_of, edit, encoder, stored};
-use crate::failing_handle::{FAILED, FailingHandle};
+use crate::chunks::{BYTES, Chunk, WITH_LENGTH, chunk_of, part_of};
+use crate::coders::{encoder, made};
+use crate::failing_handle::{FAILED, FailingHandle, over};
 use std::alloc::Global;
 use std::process::Abort;
 use std::test::Fail;
+use zarrs_chain_json::Refusal;
 use zarrs_chain_partial::{Edit, EditOutcome, run_edits};
 use zarrs_chunk::CodecError;
-use zarrs_codec::MemoryHandle;
 
 /// Where elements are written and which, or nothing where all is erased. The fourth edit has an element
 /// too many.
@@ -25,52 +26,55 @@ const LIST: &'static [Option<&'static str>] = &[
 struct Row {
     name: &'static str,
     chunk: &'static str,
-    after: &'static [Option<&'static str>],
+    after: &'static [Option<&'static [u8]>],
 }
 
 const ROWS: &'static [Row] = &[
     Row {
         name: "bytes",
         chunk: BYTES,
-        after: &[None, Some("01020000"), None, Some("00000009")],
+        after: &[None, Some(b"\x01\x02\0\0"), None, Some(b"\0\0\0\x09")],
     },
     Row {
         name: "bytes under a length",
         chunk: WITH_LENGTH,
         after: &[
             None,
-            Some("040000000000000001020000"),
+            Some(b"\x04\0\0\0\0\0\0\0\x01\x02\0\0"),
             None,
-            Some("040000000000000000000009"),
+            Some(b"\x04\0\0\0\0\0\0\0\0\0\0\x09"),
         ],
     },
 ];
 
-fn made(alloc: Global, chunk: &Chunk, text: &Option<&str>) -> Result<Edit<'static>, Fail> {
+fn edit(alloc: Global, chunk: &Chunk, text: &Option<&str>) -> Result<Edit<'static>, Refusal> {
     match text {
         None => Ok(Edit::Erase),
         Some(text) => {
-            let edit = edit(alloc, chunk, text)?;
-            Ok(Edit::Encode(edit.indexer, edit.elements))
+            let part = part_of(alloc, chunk, text)?;
+            Ok(Edit::Encode(part.indexer, part.elements))
         }
     }
 }
 
-fn edits(alloc: Global, chunk: &Chunk) -> Result<Vec<Edit<'static>>, Fail> {
+fn edits(alloc: Global, chunk: &Chunk) -> Result<Vec<Edit<'static>>, Refusal> {
     let mut all = Vec::new(alloc);
     for text in LIST.iter() {
-        all.push(made(alloc, chunk, text)?)?;
+        all.push(edit(alloc, chunk, text)?)?;
     }
     Ok(all)
 }
 
+/// What the edits come to over a handle, and what is left of it.
 fn run(
     alloc: Global,
     chunk: &Chunk,
-    encoder: &mut Encoder<'_, FailingHandle>,
-) -> Result<EditOutcome, Fail> {
-    let edits = edits(alloc, chunk)?;
-    Ok(run_edits(alloc, encoder, edits.as_slice()))
+    edits: &[Edit<'static>],
+    handle: FailingHandle,
+) -> Result<(EditOutcome, FailingHandle), CodecError> {
+    let mut encoder = made(encoder(alloc, chunk, handle))?;
+    let outcome = run_edits(alloc, &mut encoder, edits);
+    Ok((outcome, encoder.into_handle()))
 }
 
 /// The refusal is the handle's where one of its calls failed. Else the first three edits are accepted,
@@ -92,34 +96,20 @@ fn is_refused(
 }
 
 /// Each accepted edit made one writing call; the refused one made none, or the one that failed, which
-/// the memory didn't count. So no more edits are accepted than calls passed: behind none, none is.
-fn has_written(rt: &impl Abort, row: &Row, done: u64, handle: &FailingHandle, calls_before: u64) {
+/// the memory didn't count. So no more edits are accepted than calls passed: behind none, none is. The
+/// handle keeps what so many edits leave.
+fn is_left(rt: &impl Abort, row: &Row, done: usize, handle: &FailingHandle, calls_before: u64) {
     let passed = handle.memory.write_calls();
-    let failed = handle.writes.wrapping_sub(done);
-    is(rt, row.name, "writes that passed", &passed, &done);
-    is(
-        rt,
-        row.name,
-        "writes that failed",
-        &(failed <= handle.faults),
-        &true,
+    let failed = handle.writes.wrapping_sub(passed);
+    let came = (
+        passed,
+        failed <= handle.faults,
+        passed <= calls_before,
+        handle.memory.value(),
     );
-    is(rt, row.name, "done in time", &(done <= calls_before), &true);
-}
-
-/// The handle keeps what so many edits leave.
-fn keeps(
-    rt: &impl Abort,
-    alloc: Global,
-    row: &Row,
-    done: usize,
-    handle: &FailingHandle,
-) -> Result<(), Fail> {
     let left = row.after.get(done).copied().flatten();
-    let wanted = stored(alloc, left)?;
-    let came = handle.memory.value();
-    is(rt, row.name, "value", &came, &wanted.value());
-    Ok(())
+    let wanted = (done as u64, true, true, left);
+    is(rt, row.name, "writes and value", &came, &wanted);
 }
 
 /// Runs the edits over a handle that keeps nothing yet, and fails behind so many calls. The answer is
@@ -128,24 +118,28 @@ fn fails_behind(
     rt: &impl Abort,
     alloc: Global,
     chunk: &Chunk,
+    edits: &[Edit<'static>],
     row: &Row,
     calls_before: u64,
 ) -> Result<u64, Fail> {
-    let handle = FailingHandle::new(MemoryHandle::new(), calls_before);
-    let mut encoder = encoder(alloc, chunk, handle)?;
-    let outcome = run(alloc, chunk, &mut encoder)?;
-    let handle = encoder.into_handle();
+    let handle = over(alloc, None, calls_before)?;
+    let (outcome, handle) = run(alloc, chunk, edits, handle)?;
     is_refused(rt, row, &outcome, handle.faults == 1)?;
-    has_written(rt, row, outcome.done as u64, &handle, calls_before);
-    keeps(rt, alloc, row, outcome.done, &handle)?;
+    is_left(rt, row, outcome.done, &handle, calls_before);
     Ok(handle.faults)
 }
 
 /// Runs the edits with the first call failing, the next one, and so on, until none is left to fail.
-fn fails_at_each(rt: &impl Abort, alloc: Global, chunk: &Chunk, row: &Row) -> Result<(), Fail> {
+fn fails_at_each(
+    rt: &impl Abort,
+    alloc: Global,
+    chunk: &Chunk,
+    edits: &[Edit<'static>],
+    row: &Row,
+) -> Result<(), Fail> {
     let mut faults = 1;
     for calls_before in 0..8 {
-        faults = fails_behind(rt, alloc, chunk, row, calls_before)?;
+        faults = fails_behind(rt, alloc, chunk, edits, row, calls_before)?;
     }
     is(rt, row.name, "faults of the last run", &faults, &0);
     Ok(())
@@ -153,7 +147,8 @@ fn fails_at_each(rt: &impl Abort, alloc: Global, chunk: &Chunk, row: &Row) -> Re
 
 fn fails_row(rt: &impl Abort, alloc: Global, row: &Row) -> Result<(), Fail> {
     let chunk = chunk_of(alloc, row.chunk)?;
-    fails_at_each(rt, alloc, &chunk, row)
+    let edits = edits(alloc, &chunk)?;
+    fails_at_each(rt, alloc, &chunk, edits.as_slice(), row)
 }
 
 #[test]

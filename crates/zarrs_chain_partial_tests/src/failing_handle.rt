@@ -4,6 +4,7 @@ ghost use Rattle.zarrs_chunk.specs.Answer.{Answers, fault, is_fault};
 ghost use Rattle.zarrs_codec.specs.StorageState.{count_if, last_failure};
 
 use std::alloc::Global;
+use std::test::Fail;
 use zarrs_chunk::{CodecError, StorageError};
 use zarrs_codec::{ByteRange, BytesPartialDecoderTraits, BytesPartialEncoderTraits, MemoryHandle};
 
@@ -21,18 +22,29 @@ pub(crate) struct FailingHandle {
 /// What the call that fails answers.
 pub(crate) const FAILED: CodecError = CodecError::Storage(StorageError { code: 7 });
 
-impl FailingHandle {
-    /// The handle over this memory.
-    pub(crate) fn new(memory: MemoryHandle, calls_before: u64) -> FailingHandle {
-        FailingHandle {
-            memory,
-            calls_before,
-            faults: 0,
-            failure: None,
-            writes: 0,
-        }
-    }
+/// How many calls come before the one that fails, where none is to fail.
+pub(crate) const NEVER: u64 = u64::MAX;
 
+/// A handle that keeps these bytes, or nothing, and fails behind so many calls.
+pub(crate) fn over(
+    alloc: Global,
+    value: Option<&str>,
+    calls_before: u64,
+) -> Result<FailingHandle, Fail> {
+    let memory = match value {
+        None => MemoryHandle::new(),
+        Some(text) => MemoryHandle::with_value(hex::decode(alloc, text)?),
+    };
+    Ok(FailingHandle {
+        memory,
+        calls_before,
+        faults: 0,
+        failure: None,
+        writes: 0,
+    })
+}
+
+impl FailingHandle {
     /// Counts a call, and refuses it where it is the one that fails.
     fn pass(&mut self) -> Result<(), CodecError>
         ensures memory { self.new.memory ≡ self.old.memory }
@@ -43,7 +55,7 @@ impl FailingHandle {
     {
         if self.calls_before == 0 {
             let failure = StorageError { code: 7 };
-            self.calls_before = u64::MAX;
+            self.calls_before = NEVER;
             self.faults = self.faults.wrapping_add(1);
             self.failure = Some(failure);
             return Err(CodecError::Storage(failure));

@@ -21,10 +21,8 @@ mod edits;
 #[cfg(test)]
 mod failing_handle;
 #[cfg(test)]
-mod failing_reads;
+mod reads;
 #[cfg(test)]
-mod makings;
-#[cfg(test)]
-mod plans;
+mod rows;
 #[cfg(test)]
 mod writes;

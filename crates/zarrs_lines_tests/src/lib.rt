@@ -5,8 +5,6 @@
 #![tactic(auto)]
 
 #[cfg(test)]
-mod checks;
-#[cfg(test)]
-mod readers;
+mod sent;
 #[cfg(test)]
 mod writers;

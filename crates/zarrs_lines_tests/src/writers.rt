@@ -1,11 +1,17 @@
-//! Writers that fail in a write or in the flush, and what is flushed.
-use crate::checks::is;
+//! What is answered, and writers that fail in a write or in the flush.
+use crate::sent::{SENT, Sent, run_over};
 use std::alloc::Global;
+use std::fmt::Debug;
 use std::io;
 use std::io::{BufWriter, ErrorKind, Write};
 use std::process::Abort;
 use std::test::Fail;
-use zarrs_chain_lines::run::{RunEnd, run};
+use zarrs_chain_lines::run::RunEnd;
+
+/// What came is what is wanted.
+fn is<T: PartialEq + Debug>(rt: &impl Abort, about: &str, came: &T, wanted: &T) {
+    assert_eq!(rt; *came, *wanted, "{about}");
+}
 
 /// Takes so many writes and then fails, and may fail when it is flushed. It counts the bytes that it
 /// took since it was flushed.
@@ -14,16 +20,6 @@ struct FakeWriter {
     writes_left: usize,
     can_flush: bool,
     unflushed: usize,
-}
-
-impl FakeWriter {
-    fn new(writes: usize, can_flush: bool) -> FakeWriter {
-        FakeWriter {
-            writes_left: writes,
-            can_flush,
-            unflushed: 0,
-        }
-    }
 }
 
 impl Write for FakeWriter {
@@ -45,83 +41,93 @@ impl Write for FakeWriter {
     }
 }
 
-/// What is sent, and how the run ends where all is written.
-struct Sent {
-    name: &'static str,
-    lines: &'static [u8],
-    end: RunEnd,
+fn is_answered(rt: &impl Abort, alloc: Global, row: &Sent) -> Result<(), Fail> {
+    let mut written = Vec::new(alloc);
+    let end = run_over(alloc, row, &mut written)?;
+    is(
+        rt,
+        row.name,
+        &(end, written.as_slice()),
+        &(row.end, row.answers),
+    );
+    Ok(())
 }
 
-/// A good header and three commands, the second of which is refused.
-const COMMANDS: &'static [u8] =
-    b"{\"shape\":[1],\"data_type\":\"uint8\",\"fill_value\":\"00\",\"codecs\":[\"bytes\"]}\nvalue\nsing\nvalue\n";
-
-const SENT: &'static [Sent] = &[
-    Sent {
-        name: "an answer, a refusal and an answer again",
-        lines: COMMANDS,
-        end: RunEnd::Done,
-    },
-    Sent {
-        name: "a bad header",
-        lines: b"sing\n",
-        end: RunEnd::BadHeader,
-    },
-    Sent {
-        name: "no line",
-        lines: b"",
-        end: RunEnd::Done,
-    },
-];
+#[test]
+fn that_take_all(rt: HostRuntime) -> Result<(), Fail> {
+    for row in SENT.iter() {
+        is_answered(&rt, rt.alloc(), row)?;
+    }
+    Ok(())
+}
 
 /// More writes than a run of the table needs.
 const MANY: usize = 100;
 
-fn run_over(alloc: Global, row: &Sent, writer: &mut FakeWriter) -> RunEnd {
-    let mut reader = row.lines;
-    run(alloc, &mut reader, writer)
+/// The run ends so over a writer that takes so many writes, and where all is written, all is flushed.
+/// The answer is how many writes are left.
+fn ends(
+    rt: &impl Abort,
+    alloc: Global,
+    row: &Sent,
+    writes: usize,
+    can_flush: bool,
+    end: RunEnd,
+) -> Result<usize, Fail> {
+    let mut writer = FakeWriter {
+        writes_left: writes,
+        can_flush,
+        unflushed: 0,
+    };
+    let came = run_over(alloc, row, &mut writer)?;
+    is(rt, row.name, &came, &end);
+    is(rt, row.name, &(can_flush && writer.unflushed > 0), &false);
+    Ok(writer.writes_left)
 }
 
-/// A run over a writer that takes so many writes.
-fn end_after(alloc: Global, row: &Sent, writes: usize) -> RunEnd {
-    run_over(alloc, row, &mut FakeWriter::new(writes, true))
-}
-
-/// Where all is written, all is flushed, and where the flush fails, the run ends as a fault: the disk
-/// may be full when the last bytes go out.
-fn flushes(rt: &impl Abort, alloc: Global, row: &Sent) -> usize {
-    let end = run_over(alloc, row, &mut FakeWriter::new(MANY, false));
-    is(rt, row.name, &end, &RunEnd::Fault);
-    let mut writer = FakeWriter::new(MANY, true);
-    let end = run_over(alloc, row, &mut writer);
-    is(rt, row.name, &end, &row.end);
-    is(rt, row.name, &writer.unflushed, &0);
-    MANY.saturating_sub(writer.writes_left)
-}
-
-/// With fewer writes than a run needs it ends as a fault.
-fn needs_each_write(rt: &impl Abort, alloc: Global, row: &Sent) {
-    let needed = flushes(rt, alloc, row);
+/// With fewer writes than a run needs it ends as a fault, and so where the flush fails: the disk may
+/// be full when the last bytes go out.
+fn needs_each_write(rt: &impl Abort, alloc: Global, row: &Sent) -> Result<(), Fail> {
+    ends(rt, alloc, row, MANY, false, RunEnd::Fault)?;
+    let left = ends(rt, alloc, row, MANY, true, row.end)?;
+    let needed = MANY.saturating_sub(left);
     for writes in 0..needed {
-        let end = end_after(alloc, row, writes);
-        is(rt, row.name, &end, &RunEnd::Fault);
+        ends(rt, alloc, row, writes, true, RunEnd::Fault)?;
     }
-    is(rt, row.name, &end_after(alloc, row, needed), &row.end);
+    ends(rt, alloc, row, needed, true, row.end)?;
+    Ok(())
 }
 
 #[test]
-fn that_fail_in_a_write_or_in_the_flush(rt: HostRuntime) {
+fn that_fail_in_a_write_or_in_the_flush(rt: HostRuntime) -> Result<(), Fail> {
     for row in SENT.iter() {
-        needs_each_write(&rt, rt.alloc(), row);
+        needs_each_write(&rt, rt.alloc(), row)?;
     }
+    Ok(())
 }
 
-/// The program's own writer holds all answers back, up to the flush.
+/// The program's own writer holds all answers back, up to the flush, which fails where there are some.
+fn holds_back(rt: &impl Abort, alloc: Global, row: &Sent) -> Result<(), Fail> {
+    let full = FakeWriter {
+        writes_left: 0,
+        can_flush: true,
+        unflushed: 0,
+    };
+    let mut writer = BufWriter::new(alloc, full)?;
+    let came = run_over(alloc, row, &mut writer)?;
+    let end = if row.answers.is_empty() {
+        row.end
+    } else {
+        RunEnd::Fault
+    };
+    is(rt, row.name, &came, &end);
+    Ok(())
+}
+
 #[test]
 fn that_hold_answers_back(rt: HostRuntime) -> Result<(), Fail> {
-    let mut reader = COMMANDS;
-    let mut writer = BufWriter::new(rt.alloc(), FakeWriter::new(0, true))?;
-    let end = run(rt.alloc(), &mut reader, &mut writer);
-    is(&rt, "a full disk", &end, &RunEnd::Fault);
+    for row in SENT.iter() {
+        holds_back(&rt, rt.alloc(), row)?;
+    }
     Ok(())
 }

@@ -1,25 +1,27 @@
-//! Lines that are no text, and readers that fail: such a run ends as a fault, and the lines that came
-//! whole are answered.
-use crate::checks::{HEADER, is};
+//! Lines, some of which are no text, and readers that fail: such a run ends as a fault, and the lines
+//! that came whole are answered.
 use std::alloc::Global;
 use std::io;
-use std::io::{BufReader, ErrorKind, Read};
-use std::process::Abort;
-use std::test::Fail;
+use std::io::{BufReader, ErrorKind, Read, Write};
 use zarrs_chain_lines::run::{RunEnd, run};
 
+/// A header of one element that is good, as a line.
+const HEADER: &'static [u8] =
+    b"{\"shape\":[1],\"data_type\":\"uint8\",\"fill_value\":\"00\",\"codecs\":[\"bytes\"]}\n";
+
 /// What is sent, what is answered, and how the run ends.
-struct Sent {
-    name: &'static str,
-    header: &'static [u8],
-    lines: &'static [u8],
+pub(crate) struct Sent {
+    pub(crate) name: &'static str,
+    pub(crate) header: &'static [u8],
+    pub(crate) lines: &'static [u8],
     /// Whether the reader fails behind the lines, in place of their end.
-    fails: bool,
-    answers: &'static [u8],
-    end: RunEnd,
+    pub(crate) fails: bool,
+    pub(crate) answers: &'static [u8],
+    pub(crate) end: RunEnd,
 }
 
-const SENT: &'static [Sent] = &[
+/// Bytes that are no text, and lines whose answers a writer takes.
+pub(crate) const SENT: &'static [Sent] = &[
     Sent {
         name: "commands that are no UTF-8",
         header: HEADER,
@@ -76,6 +78,30 @@ const SENT: &'static [Sent] = &[
         answers: b"",
         end: RunEnd::Fault,
     },
+    Sent {
+        name: "an answer, a refusal and an answer again",
+        header: HEADER,
+        lines: b"value\nsing\nvalue\n",
+        fails: false,
+        answers: b"ok none\nerror Syntax\nok none\n",
+        end: RunEnd::Done,
+    },
+    Sent {
+        name: "a bad header",
+        header: b"sing\n",
+        lines: b"",
+        fails: false,
+        answers: b"error Syntax\n",
+        end: RunEnd::BadHeader,
+    },
+    Sent {
+        name: "no line",
+        header: b"",
+        lines: b"",
+        fails: false,
+        answers: b"",
+        end: RunEnd::Done,
+    },
 ];
 
 /// Gives the bytes of the header, then those of the lines, and then may fail.
@@ -107,19 +133,8 @@ fn reader(alloc: Global, row: &Sent) -> io::Result<BufReader<FakeReader>> {
     BufReader::new(alloc, reader)
 }
 
-fn is_answered(rt: &impl Abort, alloc: Global, row: &Sent) -> Result<(), Fail> {
+/// Runs what is sent, and writes the answers.
+pub(crate) fn run_over<W: Write>(alloc: Global, row: &Sent, writer: &mut W) -> io::Result<RunEnd> {
     let mut reader = reader(alloc, row)?;
-    let mut written = Vec::new(alloc);
-    let end = run(alloc, &mut reader, &mut written);
-    is(rt, row.name, &end, &row.end);
-    is(rt, row.name, &written.as_slice(), &row.answers);
-    Ok(())
-}
-
-#[test]
-fn that_fail_and_bytes_that_are_no_text(rt: HostRuntime) -> Result<(), Fail> {
-    for row in SENT.iter() {
-        is_answered(&rt, rt.alloc(), row)?;
-    }
-    Ok(())
+    Ok(run(alloc, &mut reader, writer))
 }
