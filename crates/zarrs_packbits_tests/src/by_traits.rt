@@ -5,7 +5,6 @@ use crate::forms::{Chunk, ChunkForm, FLAGS, PADDED_FIRST, WORDS, chunk_form, cod
 use std::alloc::Global;
 use std::borrow::CowSlice;
 use std::process::Abort;
-use std::test::Fail;
 use zarrs_array_bytes::{ArrayBytes, ArrayBytesDecodeIntoTarget, ArrayBytesFixedView};
 use zarrs_chunk::{ArraySubset, ChunkShape, CodecError};
 use zarrs_codec::{
@@ -99,6 +98,21 @@ fn column<'a>(
     })
 }
 
+fn decodes_into_column<C: ArrayToBytesCodecTraits>(
+    rt: &impl Abort,
+    alloc: Global,
+    codec: &C,
+    form: &ChunkForm,
+    target: &mut ArrayBytesDecodeIntoTarget<'_>,
+    row: &Coded,
+) -> Result<(), CodecError> {
+    let (shape, data_type, fill_value) = (&form.shape, &form.data_type, &form.fill_value);
+    let value = CowSlice::Borrowed(row.value);
+    codec.decode_into(alloc, value, shape, data_type, fill_value, target)?;
+    are(rt, row.name, target.values.as_slice(), row.decoded_into);
+    Ok(())
+}
+
 fn decodes_into<C: ArrayToBytesCodecTraits>(
     rt: &impl Abort,
     alloc: Global,
@@ -107,20 +121,9 @@ fn decodes_into<C: ArrayToBytesCodecTraits>(
     row: &Coded,
 ) -> Result<(), CodecError> {
     let mut room = [0u8; 12];
-    let bytes = room
-        .get_mut(..row.decoded_into.len())
-        .ok_or(CodecError::OutOfBounds)?;
-    let mut target = column(alloc, bytes)?;
-    codec.decode_into(
-        alloc,
-        CowSlice::Borrowed(row.value),
-        &form.shape,
-        &form.data_type,
-        &form.fill_value,
-        &mut target,
-    )?;
-    are(rt, row.name, target.values.as_slice(), row.decoded_into);
-    Ok(())
+    let bytes = room.get_mut(..row.decoded_into.len());
+    let mut target = column(alloc, bytes.ok_or(CodecError::OutOfBounds)?)?;
+    decodes_into_column(rt, alloc, codec, form, &mut target, row)
 }
 
 /// No value is made shorter.
@@ -171,13 +174,13 @@ fn does_all<C: ArrayToBytesCodecTraits + ArrayCodecTraits>(
     is_decoded_whole(rt, alloc, codec, form, row)
 }
 
-fn does_all_to(rt: &impl Abort, alloc: Global, row: &Coded) -> Result<(), Fail> {
-    let codec = codec(&PADDED_FIRST)?;
-    Ok(does_all(rt, alloc, &codec, &chunk_form(alloc, &row.chunk)?, row)?)
+fn does_all_to(rt: &impl Abort, alloc: Global, row: &Coded) -> Result<(), CodecError> {
+    let form = chunk_form(alloc, &row.chunk)?;
+    does_all(rt, alloc, &codec(&PADDED_FIRST)?, &form, row)
 }
 
 #[test]
-fn is_a_codec_of_chunks_to_bytes(rt: HostRuntime) -> Result<(), Fail> {
+fn is_a_codec_of_chunks_to_bytes(rt: HostRuntime) -> Result<(), CodecError> {
     for row in CODED.iter() {
         does_all_to(&rt, rt.alloc(), row)?;
     }
@@ -198,7 +201,7 @@ fn works_in_part<C: CodecTraits>(rt: &impl Abort, codec: &C) {
 }
 
 #[test]
-fn reads_in_part_and_writes_whole(rt: HostRuntime) -> Result<(), Fail> {
+fn reads_in_part_and_writes_whole(rt: HostRuntime) -> Result<(), CodecError> {
     works_in_part(&rt, &codec(&PADDED_FIRST)?);
     Ok(())
 }

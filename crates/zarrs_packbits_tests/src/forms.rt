@@ -5,7 +5,7 @@ use std::ops::Range;
 use zarrs_chunk::{ArraySubset, ChunkShape, CodecError, Indexer};
 use zarrs_codec::{MemoryHandle, Refused};
 use zarrs_data_type::{DataType, FillValue};
-use zarrs_metadata::{PackBitsPaddingEncoding, PluginCreateError};
+use zarrs_metadata::PackBitsPaddingEncoding;
 use zarrs_packbits::{PackBitsCodec, PackBitsPartialDecoder};
 
 /// The settings of a codec.
@@ -36,9 +36,12 @@ pub(crate) const PADDED_LAST: Settings = Settings {
     last_bit: None,
 };
 
-/// The codec of these settings.
-pub(crate) fn codec(settings: &Settings) -> Result<PackBitsCodec, PluginCreateError> {
-    PackBitsCodec::new(settings.padding, settings.first_bit, settings.last_bit)
+/// The codec of these settings, of which there is one.
+pub(crate) fn codec(settings: &Settings) -> Result<PackBitsCodec, CodecError> {
+    match PackBitsCodec::new(settings.padding, settings.first_bit, settings.last_bit) {
+        Ok(codec) => Ok(codec),
+        Err(_) => Err(CodecError::BitRange),
+    }
 }
 
 /// A chunk: its sizes, the components of its elements, and its fill value.
@@ -93,23 +96,33 @@ pub(crate) fn chunk_form(alloc: Global, chunk: &Chunk) -> Result<ChunkForm, Code
     })
 }
 
-/// A decoder of such a chunk in part, over a handle.
-pub(crate) fn decoder(
+/// A codec's decoder of such a chunk in part, over a handle, or why there is none.
+fn made_decoder(
     alloc: Global,
     codec: PackBitsCodec,
     form: &ChunkForm,
     handle: MemoryHandle,
-) -> Result<PackBitsPartialDecoder<MemoryHandle>, CodecError> {
-    let made = codec.partial_decoder(
+) -> Result<PackBitsPartialDecoder<MemoryHandle>, Refused<MemoryHandle>> {
+    codec.partial_decoder(
         alloc,
         handle,
         &form.shape,
         &form.data_type,
         &form.fill_value,
-    );
-    match made {
+    )
+}
+
+/// A decoder of a chunk in part, over a handle.
+pub(crate) fn decoder(
+    alloc: Global,
+    codec: PackBitsCodec,
+    chunk: &Chunk,
+    handle: MemoryHandle,
+) -> Result<PackBitsPartialDecoder<MemoryHandle>, CodecError> {
+    let form = chunk_form(alloc, chunk)?;
+    match made_decoder(alloc, codec, &form, handle) {
         Ok(decoder) => Ok(decoder),
-        Err(Refused { error, handle: _ }) => Err(error),
+        Err(refused) => Err(refused.error),
     }
 }
 

@@ -1,4 +1,5 @@
-//! The codecs `bytes` and `packbits` made from metadata, and written as it again.
+//! The codecs `bytes` and `packbits` and the sample codecs of bytes made from metadata, and written as it
+//! again.
 //!
 //! Metadata is given and compared as JSON text, written by hand. Configurations that are refused
 //! stand in `zarrs_transcripts`.
@@ -6,9 +7,10 @@ use crate::checks::is;
 use serde_json::Value;
 use std::alloc::Global;
 use std::process::Abort;
-use std::test::Fail;
 use zarrs_bytes::BytesCodec;
-use zarrs_codec::CodecTraits;
+use zarrs_codec::{
+    BytesCodecMaker, BytesToBytesCodecTraits, CodecTraits, SampleBytesCodec, SampleMaker,
+};
 use zarrs_data_type::Endianness;
 use zarrs_metadata::{
     BytesCodecConfiguration, BytesCodecConfigurationV1, MetadataV3, PluginCreateError,
@@ -19,6 +21,7 @@ use zarrs_packbits::PackBitsCodec;
 enum Asked {
     Bytes,
     PackBits,
+    Sample,
 }
 
 /// Metadata, and what is written of the codec that it makes; or why it makes none.
@@ -102,6 +105,21 @@ const ROWS: &'static [Row] = &[
         metadata: r#""bytes""#,
         answer: Err(PluginCreateError::UnknownName),
     },
+    Row {
+        asked: Asked::Sample,
+        metadata: r#""sample.reverse""#,
+        answer: Ok(r#""sample.reverse""#),
+    },
+    Row {
+        asked: Asked::Sample,
+        metadata: r#""sample.length""#,
+        answer: Ok(r#""sample.length""#),
+    },
+    Row {
+        asked: Asked::Sample,
+        metadata: r#""sample.reversed""#,
+        answer: Err(PluginCreateError::UnknownName),
+    },
 ];
 
 /// The metadata of a text that reads.
@@ -112,6 +130,12 @@ fn metadata(alloc: Global, text: &str) -> Result<MetadataV3, PluginCreateError> 
     }
 }
 
+/// The text of a metadata.
+fn text(alloc: Global, metadata: &MetadataV3) -> Result<String, PluginCreateError> {
+    let tree = metadata.to_value(alloc)?;
+    Ok(tree.to_string(alloc)?)
+}
+
 /// The text of a codec's name and configuration, as one metadata.
 fn written<C: CodecTraits>(alloc: Global, codec: &C) -> Result<String, PluginCreateError> {
     let name = codec.name_v3().ok_or(PluginCreateError::UnknownName)?;
@@ -119,15 +143,43 @@ fn written<C: CodecTraits>(alloc: Global, codec: &C) -> Result<String, PluginCre
         .configuration(alloc)?
         .ok_or(PluginCreateError::InvalidConfiguration)?;
     let metadata = MetadataV3::new_with_configuration(alloc, name, configuration)?;
-    Ok(metadata.to_value(alloc)?.to_string(alloc)?)
+    text(alloc, &metadata)
+}
+
+/// The codec that a maker makes, where it knows the name.
+fn made<M: BytesCodecMaker<SampleBytesCodec>>(
+    alloc: Global,
+    maker: &M,
+    metadata: &MetadataV3,
+) -> Result<SampleBytesCodec, PluginCreateError> {
+    let made = maker.make(alloc, metadata)?;
+    made.ok_or(PluginCreateError::UnknownName)
+}
+
+/// The text of a codec of bytes, as metadata.
+fn written_sample<C: BytesToBytesCodecTraits>(
+    alloc: Global,
+    codec: &C,
+) -> Result<String, PluginCreateError> {
+    text(alloc, &codec.metadata(alloc)?)
+}
+
+/// The text of the codec that the metadata makes.
+fn written_as(
+    alloc: Global,
+    asked: &Asked,
+    metadata: &MetadataV3,
+) -> Result<String, PluginCreateError> {
+    match asked {
+        Asked::Bytes => written(alloc, &BytesCodec::create(metadata)?),
+        Asked::PackBits => written(alloc, &PackBitsCodec::create(metadata)?),
+        Asked::Sample => written_sample(alloc, &made(alloc, &SampleMaker, metadata)?),
+    }
 }
 
 fn written_again(alloc: Global, row: &Row) -> Result<String, PluginCreateError> {
     let metadata = metadata(alloc, row.metadata)?;
-    match row.asked {
-        Asked::Bytes => written(alloc, &BytesCodec::create(&metadata)?),
-        Asked::PackBits => written(alloc, &PackBitsCodec::create(&metadata)?),
-    }
+    written_as(alloc, &row.asked, &metadata)
 }
 
 /// The answer is the one of the row. A want of memory is an error of the test.
@@ -148,7 +200,7 @@ fn is_answer(
 }
 
 #[test]
-fn is_written_again(rt: HostRuntime) -> Result<(), Fail> {
+fn is_written_again(rt: HostRuntime) -> Result<(), PluginCreateError> {
     for row in ROWS.iter() {
         is_answer(&rt, row, &written_again(rt.alloc(), row))?;
     }
@@ -156,7 +208,7 @@ fn is_written_again(rt: HostRuntime) -> Result<(), Fail> {
 }
 
 #[test]
-fn makes_bytes_of_a_configuration(rt: HostRuntime) -> Result<(), Fail> {
+fn makes_bytes_of_a_configuration(rt: HostRuntime) -> Result<(), PluginCreateError> {
     let endian = Some(Endianness::Big);
     let configuration = BytesCodecConfiguration::V1(BytesCodecConfigurationV1 { endian });
     let codec = BytesCodec::new_with_configuration(&configuration)?;
