@@ -46,6 +46,10 @@ pub(crate) const THREE_LEVELS: &'static str =
 pub(crate) const FOUR_BITS: &'static str =
     r#"{"shape":[1],"data_type":"int4","fill_value":"0f","codecs":["packbits"]}"#;
 
+/// Two bytes.
+pub(crate) const TWO_BYTES: &'static str =
+    r#"{"shape":[2],"data_type":"uint8","fill_value":"00","codecs":["bytes"]}"#;
+
 /// Words whose axes are turned twice.
 pub(crate) const TURNED_TWICE: &'static str =
     r#"{"shape":[2,2,2],"data_type":"uint32","fill_value":"00000000","codecs":[{"name":"transpose","configuration":{"order":[0,2,1]}},{"name":"transpose","configuration":{"order":[2,0,1]}},{"name":"bytes","configuration":{"endian":"big"}}]}"#;

@@ -2,7 +2,7 @@
 
 use crate::chunks::{
     A_AND_BC, BYTES, FOUR_BITS, HALF_BYTES, OPTIONAL, ORDERLESS, TEXTS, THREE_LEVELS, TURNED_TEXTS,
-    TURNED_TWICE, TWO_BYTES_WITH_LENGTH, WITH_LENGTH,
+    TURNED_TWICE, TWO_BYTES, TWO_BYTES_WITH_LENGTH, WITH_LENGTH,
 };
 use crate::coders::Kind;
 use crate::failing_handle::{FAILED, NEVER};
@@ -33,15 +33,15 @@ const NONE: [Option<CodecError>; 3] = [None, None, None];
 /// Decoders without a cache keep what their handles do.
 pub(crate) const WITHOUT_CACHE: &'static [Row] = &[
     Row {
-        name: "a decoder of bytes",
+        name: "bytes",
         coder: Kind::Decoder,
-        chunk: BYTES,
-        value: Some("0a0b0c0d"),
+        chunk: TWO_BYTES,
+        value: Some("0102"),
         fails_behind: NEVER,
-        part: r#"{"at":{"ranges":[[1,2]]},"data":["0b"]}"#,
+        part: r#"{"at":{"ranges":[[1,2]]},"data":["02"]}"#,
         refusals: NONE,
         planned: Some(&[(1, 2)]),
-        size_held: 4,
+        size_held: 2,
     },
     Row {
         name: "a column",
