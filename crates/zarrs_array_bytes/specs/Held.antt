@@ -15,6 +15,10 @@ abbrev pub raw_of : CowSlice ℕ Global → Raw
 raw_of (cow.Borrowed r) = record { items = r.now; is_owned = false }
 raw_of (cow.Owned v) = record { items = v.items; is_owned = true }
 
+-- the bytes
+abbrev pub items_of : CowSlice ℕ Global → List ℕ
+items_of value = (raw_of value).items
+
 -- bytes that the container owns
 abbrev pub owned_bytes : List ℕ → Raw
 owned_bytes items = record { items = items; is_owned = true }

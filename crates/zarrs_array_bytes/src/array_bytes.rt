@@ -1,6 +1,6 @@
 ghost use Rattle.std.specs.Prelude.{◌≡◌, ◌<◌, ◌^◌, ℕ, List, Ok, IfOk, true, false, min, length};
 ghost use Rattle.std.specs.Cmp.{partial_equiv_from_equiv};
-ghost use Rattle.zarrs_chunk.specs.Answer.{Answers, memory, seen, is_fault};
+ghost use Rattle.zarrs_chunk.specs.Answer.{Answers, memory, seen, is_fault, Gives};
 ghost use Rattle.zarrs_array_bytes.specs.Held.{Held, flen, vlen, masked, owned_bytes, raw_of, byte_count, mask_levels};
 ghost use Rattle.zarrs_array_bytes.specs.Offsets.{is_offsets, last_of};
 ghost use Rattle.zarrs_array_bytes.specs.Extracted.{IsSmall};
@@ -124,8 +124,7 @@ impl<'a> ArrayBytes<'a> {
     ) -> Result<ArrayBytes<'a>, CodecError>
         requires { list_all (λ byte. nat_lt byte 2) mask.items ≡ true }
         ensures small { IfOk result (λ array. IsSmall inner.entry → IsSmall array) }
-        ensures exact { Answers memory (λ array. array) result (Ok (masked inner.entry (owned_bytes mask.items))) }
-        ensures no_fault { is_fault result ≡ false }
+        ensures exact { Gives (λ array. array) result (Ok (masked inner.entry (owned_bytes mask.items))) }
     {
         Ok(ArrayBytes {
             parts: Parts::Optional(Box::new(alloc, inner)?, CowSlice::Owned(mask)),

@@ -1,5 +1,5 @@
 ghost use Rattle.std.specs.Prelude.{◌≡◌, Ok, false};
-ghost use Rattle.zarrs_chunk.specs.Answer.{Answers, memory, is_fault};
+ghost use Rattle.zarrs_chunk.specs.Answer.{Answers, memory, is_fault, Gives};
 ghost use Rattle.zarrs_array_bytes.specs.Held.{raw_of};
 
 use std::alloc::Global;
@@ -21,8 +21,7 @@ pub(crate) fn clone_raw<'a>(raw: &ArrayBytesRaw<'a>) -> Result<ArrayBytesRaw<'a>
 
 /// The bytes as owned ones. Owned bytes are taken as they are.
 pub(crate) fn owned_bytes(alloc: Global, raw: ArrayBytesRaw<'_>) -> Result<Vec<u8>, CodecError>
-    ensures exact { Answers memory (λ v. v.items) result (Ok (raw_of raw.entry).items) }
-    ensures no_fault { is_fault result ≡ false }
+    ensures exact { Gives (λ v. v.items) result (Ok (raw_of raw.entry).items) }
 {
     match raw {
         CowSlice::Borrowed(bytes) => Ok(bytes.to_vec(alloc)?),

@@ -1,6 +1,6 @@
 ghost use Rattle.std.specs.Prelude.{◌≡◌, ◌+◌, ◌≤◌, Ok, IfOk, All, false};
 ghost use Rattle.zarrs_chunk.specs.declared.codec_error.CodecError.TheVariants.{InvalidBytesLength};
-ghost use Rattle.zarrs_chunk.specs.Answer.{Answers, AnswersBy, memory, is_fault};
+ghost use Rattle.zarrs_chunk.specs.Answer.{Answers, AnswersBy, memory, is_fault, Gives, GivesBy};
 ghost use Rattle.zarrs_chunk.specs.Indexer.{selection_of};
 ghost use Rattle.zarrs_chunk.specs.Runs.{joined_runs};
 ghost use Rattle.zarrs_array_bytes.specs.Validity.{Holds, levels_fit};
@@ -26,8 +26,7 @@ impl<'a> ArrayBytes<'a> {
         shape: &ChunkShape,
         data_type: &DataType,
     ) -> Result<ArrayBytes<'static>, CodecError>
-        ensures exact { AnswersBy memory (Holds data_type.now) result (selected_chunk data_type.now shape.now (selection_of indexer.now) self.now) }
-        ensures no_fault { is_fault result ≡ false }
+        ensures exact { GivesBy (Holds data_type.now) result (selected_chunk data_type.now shape.now (selection_of indexer.now) self.now) }
     {
         let runs = indexer.runs(alloc, shape)?;
         let count = shape.num_elements()?;
@@ -45,8 +44,7 @@ impl<'a> ArrayBytes<'a> {
         data_type: &DataType,
     ) -> Result<ArrayBytes<'b>, CodecError>
         requires inside { All (λ run. run.0 + run.1 ≤ count) runs.now }
-        ensures answer { AnswersBy memory (Holds data_type.now) result (chunk_at data_type.now count (joined_runs runs.now) self.now) }
-        ensures no_fault { is_fault result ≡ false }
+        ensures answer { GivesBy (Holds data_type.now) result (chunk_at data_type.now count (joined_runs runs.now) self.now) }
     {
         self.validate(count, data_type)?;
         self.at_runs(alloc, runs, count, data_type)
@@ -63,8 +61,7 @@ impl<'a> ArrayBytes<'a> {
         requires valid { levels_fit InvalidBytesLength data_type.now count self.now ≡ Ok tt }
         requires inside { All (λ run. run.0 + run.1 ≤ count) runs.now }
         ensures small { IfOk result IsSmall }
-        ensures exact { Answers memory (λ array. array) result (Ok (container_selection data_type.now self.now (joined_runs runs.now))) }
-        ensures no_fault { is_fault result ≡ false }
+        ensures exact { Gives (λ array. array) result (Ok (container_selection data_type.now self.now (joined_runs runs.now))) }
     {
         match &self.parts {
             Parts::Fixed(bytes) => {

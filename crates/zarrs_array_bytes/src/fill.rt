@@ -1,5 +1,5 @@
 ghost use Rattle.std.specs.Prelude.{◌≡◌, Ok, IfOk, false};
-ghost use Rattle.zarrs_chunk.specs.Answer.{Answers, AnswersBy, memory, is_fault};
+ghost use Rattle.zarrs_chunk.specs.Answer.{Answers, AnswersBy, memory, is_fault, Gives, GivesBy};
 ghost use Rattle.zarrs_array_bytes.specs.Validity.{Holds, sizes_fit};
 ghost use Rattle.zarrs_array_bytes.specs.Extracted.{IsSmall};
 ghost use Rattle.zarrs_array_bytes.specs.Filled.{blank_elements as blank_of, container_fill};
@@ -23,9 +23,8 @@ impl<'a> ArrayBytes<'a> {
         count: u64,
         fill_value: &FillValue,
     ) -> Result<ArrayBytes<'a>, CodecError>
-        ensures exact { AnswersBy memory (Holds data_type.now) result (fill_chunk data_type.now count fill_value.now) }
+        ensures exact { GivesBy (Holds data_type.now) result (fill_chunk data_type.now count fill_value.now) }
         ensures held { IfOk result (λ array. array ≡ container_fill data_type.now count fill_value.now) }
-        ensures no_fault { is_fault result ≡ false }
     {
         if !fill_value.fits(data_type) {
             return Err(CodecError::InvalidFillValue);
@@ -44,8 +43,7 @@ pub(crate) fn blank_elements<'a>(
 ) -> Result<ArrayBytes<'a>, CodecError>
     requires { sizes_fit data_type.now count ≡ Ok tt }
     ensures small { IfOk result IsSmall }
-    ensures exact { Answers memory (λ array. array) result (Ok (blank_of data_type.now count)) }
-    ensures no_fault { is_fault result ≡ false }
+    ensures exact { Gives (λ array. array) result (Ok (blank_of data_type.now count)) }
 {
     if let Some(inner) = data_type.as_optional() {
         let inner = blank_elements(alloc, inner, count)?;
@@ -70,8 +68,7 @@ fn fill_elements<'a>(
 ) -> Result<ArrayBytes<'a>, CodecError>
     requires { sizes_fit data_type.now count ≡ Ok tt }
     ensures small { IfOk result IsSmall }
-    ensures exact { Answers memory (λ array. array) result (Ok (container_fill data_type.now count fill.now)) }
-    ensures no_fault { is_fault result ≡ false }
+    ensures exact { Gives (λ array. array) result (Ok (container_fill data_type.now count fill.now)) }
 {
     if let Some(inner) = data_type.as_optional() {
         if let [0] = fill {

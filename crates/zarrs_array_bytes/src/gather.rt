@@ -1,6 +1,6 @@
 ghost use Rattle.std.specs.Prelude.{◌≡◌, ◌+◌, ◌-◌, ◌*◌, ◌<◌, ◌^◌, ◌≤◌, ◌++◌, All, Ok, IfOk, OnOk, length, map, slice_index, true, false};
 ghost use Rattle.std.specs.List.{flat_map, range_with_len};
-ghost use Rattle.zarrs_chunk.specs.Answer.{Answers, memory, is_fault};
+ghost use Rattle.zarrs_chunk.specs.Answer.{Answers, memory, is_fault, Gives};
 ghost use Rattle.zarrs_chunk.specs.Runs.{joined_runs};
 ghost use Rattle.zarrs_array_bytes.specs.Elements.{piece, cut};
 ghost use Rattle.zarrs_array_bytes.specs.Offsets.{is_offsets, last_of};
@@ -19,8 +19,7 @@ pub(crate) fn gather_pieces(
 ) -> Result<Vec<u8>, CodecError>
     requires { All (λ run. (run.0 + run.1) * size ≤ length bytes.now) runs.now }
     ensures small { IfOk result (λ v. length v.items < 2 ^ 64) }
-    ensures exact { Answers memory (λ v. v.items) result (Ok (flat_map (piece size bytes.now) (joined_runs runs.now))) }
-    ensures no_fault { is_fault result ≡ false }
+    ensures exact { Gives (λ v. v.items) result (Ok (flat_map (piece size bytes.now) (joined_runs runs.now))) }
 {
     let mut out = Vec::with_capacity(alloc, bytes_of_runs(runs, size))?;
     for run in runs {
@@ -38,8 +37,7 @@ pub(crate) fn gather_flags(
     runs: &[(u64, u64)],
 ) -> Result<Vec<u8>, CodecError>
     requires { All (λ run. run.0 + run.1 ≤ length flags.now) runs.now }
-    ensures exact { Answers memory (λ v. v.items) result (Ok (map (slice_index flags.now) (joined_runs runs.now))) }
-    ensures no_fault { is_fault result ≡ false }
+    ensures exact { Gives (λ v. v.items) result (Ok (map (slice_index flags.now) (joined_runs runs.now))) }
 {
     gather_pieces(alloc, flags, 1, runs)
 }
@@ -56,8 +54,7 @@ pub(crate) fn gather_cuts(
     requires ending { last_of offsets.now ≡ length bytes.now }
     requires inside { All (λ run. run.0 + run.1 < length offsets.now) runs.now }
     ensures small { IfOk result (λ parts. length parts.1.items < 2 ^ 64) }
-    ensures exact { Answers memory (λ parts. (parts.0.items, parts.1.items)) result (Ok (bytes_with_offsets (cut offsets.now bytes.now) (joined_runs runs.now))) }
-    ensures no_fault { is_fault result ≡ false }
+    ensures exact { Gives (λ parts. (parts.0.items, parts.1.items)) result (Ok (bytes_with_offsets (cut offsets.now bytes.now) (joined_runs runs.now))) }
 {
     let mut out = Vec::with_capacity(alloc, bytes_of_cuts(runs, offsets))?;
     let mut ends = Vec::with_capacity(alloc, bytes_of_runs(runs, 1).saturating_add(1))?;

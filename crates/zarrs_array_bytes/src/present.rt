@@ -1,6 +1,6 @@
 ghost use Rattle.std.specs.Prelude.{◌≡◌, ◌+◌, ◌-◌, ◌≤◌, ◌++◌, Bool, true, false, All, Ok, IfOk, OnOk, length};
 ghost use Rattle.std.specs.List.{range_with_len};
-ghost use Rattle.zarrs_chunk.specs.Answer.{Answers, AnswersBy, memory, seen, is_fault};
+ghost use Rattle.zarrs_chunk.specs.Answer.{Answers, AnswersBy, memory, seen, is_fault, Gives, GivesBy};
 ghost use Rattle.zarrs_chunk.specs.Runs.{joined_runs};
 ghost use Rattle.zarrs_data_type.specs.ElementType.{optional};
 ghost use Rattle.zarrs_array_bytes.specs.Held.{masked, raw_of};
@@ -70,9 +70,8 @@ fn push_run(runs: &mut Vec<(u64, u64)>, start: usize, end: usize) -> Result<(), 
 
 /// The places at which a mask byte isn't 0, in runs of a start and a length.
 fn runs_of_mask(alloc: Global, mask: &[u8]) -> Result<Vec<(u64, u64)>, CodecError>
-    ensures places { Answers memory (λ runs. joined_runs runs.items) result (Ok (present_places mask.now)) }
+    ensures places { Gives (λ runs. joined_runs runs.items) result (Ok (present_places mask.now)) }
     ensures inside { IfOk result (λ runs. All (λ run. run.0 + run.1 ≤ length mask.now) runs.items) }
-    ensures no_fault { is_fault result ≡ false }
 {
     let mut runs = Vec::with_capacity(alloc, count_runs(mask))?;
     let mut start = 0;
@@ -98,9 +97,8 @@ impl<'a> ArrayBytes<'a> {
         mask: &[u8],
         data_type: &DataType,
     ) -> Result<ArrayBytes<'a>, CodecError>
-        ensures answer { AnswersBy memory (Holds data_type.now) result (present_chunk data_type.now self.entry mask.now) }
+        ensures answer { GivesBy (Holds data_type.now) result (present_chunk data_type.now self.entry mask.now) }
         ensures kept { are_all_present mask.now ≡ true → result ≡ seen (λ _. self.entry) (validity data_type.now (length mask.now) self.entry) }
-        ensures no_fault { is_fault result ≡ false }
     {
         self.validate(mask.len() as u64, data_type)?;
         if count_set(mask) == mask.len() {
@@ -122,9 +120,8 @@ impl<'a> ArrayBytes<'a> {
         mask: ArrayBytesRaw<'a>,
         data_type: &DataType,
     ) -> Result<ArrayBytes<'a>, CodecError>
-        ensures answer { AnswersBy memory (Holds (optional data_type.now)) result (expanded_chunk data_type.now self.entry (raw_of mask.entry).items) }
+        ensures answer { GivesBy (Holds (optional data_type.now)) result (expanded_chunk data_type.now self.entry (raw_of mask.entry).items) }
         ensures held { IfOk result (λ array. array ≡ masked (container_expansion data_type.now self.entry (raw_of mask.entry).items) (raw_of mask.entry)) }
-        ensures no_fault { is_fault result ≡ false }
     {
         let inner = self.expanded(alloc, mask.as_slice(), data_type)?;
         inner.with_optional_mask(alloc, mask)
@@ -137,8 +134,7 @@ impl<'a> ArrayBytes<'a> {
         mask: &[u8],
         data_type: &DataType,
     ) -> Result<ArrayBytes<'a>, CodecError>
-        ensures exact { Answers memory (λ array. array) result (expansion_of data_type.now self.entry mask.now) }
-        ensures no_fault { is_fault result ≡ false }
+        ensures exact { Gives (λ array. array) result (expansion_of data_type.now self.entry mask.now) }
     {
         let count = count_present(mask)?;
         self.validate(count, data_type)?;
@@ -159,8 +155,7 @@ fn spread<'a>(
 ) -> Result<ArrayBytes<'a>, CodecError>
     requires valid { levels_fit InvalidBytesLength data_type.now (length (present_places mask.now)) array.now ≡ Ok tt }
     requires sizes { sizes_fit data_type.now (length mask.now) ≡ Ok tt }
-    ensures exact { Answers memory (λ array. array) result (Ok (container_spread data_type.now array.now mask.now)) }
-    ensures no_fault { is_fault result ≡ false }
+    ensures exact { Gives (λ array. array) result (Ok (container_spread data_type.now array.now mask.now)) }
 {
     let count = mask.len() as u64;
     let runs = runs_of_mask(alloc, mask)?;

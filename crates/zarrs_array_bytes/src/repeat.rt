@@ -1,6 +1,6 @@
 ghost use Rattle.std.specs.Prelude.{◌≡◌, ◌+◌, ◌*◌, ◌^◌, ◌<◌, ◌++◌, Ok, IfOk, OnOk, length, map, replicate, false};
 ghost use Rattle.std.specs.List.{range_with_len};
-ghost use Rattle.zarrs_chunk.specs.Answer.{Answers, memory, is_fault};
+ghost use Rattle.zarrs_chunk.specs.Answer.{Answers, memory, is_fault, Gives};
 ghost use Rattle.zarrs_array_bytes.specs.Filled.{copies};
 ghost use Rattle.zarrs_array_bytes.specs.Pieces.{bytes_with_offsets};
 
@@ -57,8 +57,7 @@ fn append_each(out: &mut Vec<u8>, bytes: &[u8], count: u64) -> Result<(), AllocE
 /// The bytes, `count` times.
 pub(crate) fn repeat_bytes(alloc: Global, bytes: &[u8], count: u64) -> Result<Vec<u8>, CodecError>
     ensures small { IfOk result (λ v. length v.items < 2 ^ 64) }
-    ensures exact { Answers memory (λ v. v.items) result (Ok (copies bytes.now count)) }
-    ensures no_fault { is_fault result ≡ false }
+    ensures exact { Gives (λ v. v.items) result (Ok (copies bytes.now count)) }
 {
     let mut out = Vec::with_capacity(alloc, bytes.len().saturating_mul(count as usize))?;
     append_copies(&mut out, bytes, count)?;
@@ -72,8 +71,7 @@ pub(crate) fn repeat_cuts(
     count: u64,
 ) -> Result<(Vec<u8>, Vec<usize>), CodecError>
     ensures small { IfOk result (λ parts. length parts.1.items < 2 ^ 64) }
-    ensures exact { Answers memory (λ parts. (parts.0.items, parts.1.items)) result (Ok (bytes_with_offsets (λ part. part) (replicate count bytes.now))) }
-    ensures no_fault { is_fault result ≡ false }
+    ensures exact { Gives (λ parts. (parts.0.items, parts.1.items)) result (Ok (bytes_with_offsets (λ part. part) (replicate count bytes.now))) }
 {
     let out = repeat_bytes(alloc, bytes, count)?;
     let mut ends = Vec::with_capacity(alloc, (count as usize).saturating_add(1))?;
@@ -93,8 +91,7 @@ fn append_ends(ends: &mut Vec<usize>, size: usize, count: usize) -> Result<(), A
 /// `count` such bytes.
 pub(crate) fn same_bytes(alloc: Global, byte: u8, count: u64) -> Result<Vec<u8>, CodecError>
     ensures small { IfOk result (λ v. length v.items < 2 ^ 64) }
-    ensures exact { Answers memory (λ v. v.items) result (Ok (replicate count byte)) }
-    ensures no_fault { is_fault result ≡ false }
+    ensures exact { Gives (λ v. v.items) result (Ok (replicate count byte)) }
 {
     Ok(vec![in alloc; byte; count as usize]?)
 }
@@ -102,8 +99,7 @@ pub(crate) fn same_bytes(alloc: Global, byte: u8, count: u64) -> Result<Vec<u8>,
 /// `count` zeros.
 pub(crate) fn zero_offsets(alloc: Global, count: u64) -> Result<Vec<usize>, CodecError>
     ensures small { IfOk result (λ v. length v.items < 2 ^ 64) }
-    ensures exact { Answers memory (λ v. v.items) result (Ok (replicate count 0)) }
-    ensures no_fault { is_fault result ≡ false }
+    ensures exact { Gives (λ v. v.items) result (Ok (replicate count 0)) }
 {
     Ok(vec![in alloc; 0usize; count as usize]?)
 }

@@ -1,5 +1,5 @@
 ghost use Rattle.std.specs.Prelude.{◌≡◌, ◌+◌, ◌≤◌, ◌-◌, ◌<◌, ◌^◌, All, Ok, IfOk, length, true, false};
-ghost use Rattle.zarrs_chunk.specs.Answer.{Answers, memory, is_fault};
+ghost use Rattle.zarrs_chunk.specs.Answer.{Answers, memory, is_fault, Gives};
 ghost use Rattle.zarrs_chunk.specs.Runs.{joined_runs};
 ghost use Rattle.zarrs_array_bytes.specs.Elements.{cut};
 ghost use Rattle.zarrs_array_bytes.specs.Offsets.{is_offsets, last_of};
@@ -52,8 +52,7 @@ pub(crate) fn written_cuts(
 /// For each of `count` places, where its element comes from after writes at these places.
 fn sources_of(alloc: Global, count: usize, places: &[u64]) -> Result<Vec<Source>, CodecError>
     requires inside { All (λ place. place < count) places.now }
-    ensures exact { Answers memory (λ v. v.items) result (Ok (sources count places.now)) }
-    ensures no_fault { is_fault result ≡ false }
+    ensures exact { Gives (λ v. v.items) result (Ok (sources count places.now)) }
 {
     let mut from = Vec::with_capacity(alloc, count)?;
     for place in 0..count {

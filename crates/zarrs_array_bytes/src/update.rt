@@ -1,10 +1,10 @@
 ghost use Rattle.std.specs.Prelude.{◌≡◌, ◌+◌, ◌*◌, ◌-◌, ◌≤◌, ◌<◌, Ok, IsOk, All, length, nat_lt, true, false};
 ghost use Rattle.std.specs.List.{list_all};
 ghost use Rattle.zarrs_chunk.specs.declared.codec_error.CodecError.TheVariants.{InvalidBytesLength};
-ghost use Rattle.zarrs_chunk.specs.Answer.{Answers, AnswersBy, memory, is_fault};
+ghost use Rattle.zarrs_chunk.specs.Answer.{Answers, AnswersBy, memory, is_fault, Gives, GivesBy};
 ghost use Rattle.zarrs_chunk.specs.Indexer.{selection_of};
 ghost use Rattle.zarrs_chunk.specs.Runs.{joined_runs};
-ghost use Rattle.zarrs_array_bytes.specs.Held.{flen, masked, owned_bytes, mask_levels, raw_of};
+ghost use Rattle.zarrs_array_bytes.specs.Held.{items_of, flen, masked, owned_bytes, mask_levels, raw_of};
 ghost use Rattle.zarrs_array_bytes.specs.Offsets.{is_offsets, last_of};
 ghost use Rattle.zarrs_array_bytes.specs.Parts.{fixed_part, variable_part, optional_part, bytes_in, offsets_in, inner_in};
 ghost use Rattle.zarrs_array_bytes.specs.Pieces.{variable_of};
@@ -39,8 +39,7 @@ pub fn update_array_bytes(
     new: &ArrayBytes<'_>,
     data_type: &DataType,
 ) -> Result<ArrayBytes<'static>, CodecError>
-    ensures exact { AnswersBy memory (Holds data_type.now) result (chunk_update data_type.now shape.now (selection_of indexer.now) array.entry new.now) }
-    ensures no_fault { is_fault result ≡ false }
+    ensures exact { GivesBy (Holds data_type.now) result (chunk_update data_type.now shape.now (selection_of indexer.now) array.entry new.now) }
 {
     let runs = indexer.runs(alloc, shape)?;
     let count = shape.num_elements()?;
@@ -61,8 +60,7 @@ pub fn update_runs(
     data_type: &DataType,
 ) -> Result<ArrayBytes<'static>, CodecError>
     requires inside { All (λ run. run.0 + run.1 ≤ count) runs.now }
-    ensures answer { AnswersBy memory (Holds data_type.now) result (update_at_places data_type.now count (joined_runs runs.now) array.entry new.now) }
-    ensures no_fault { is_fault result ≡ false }
+    ensures answer { GivesBy (Holds data_type.now) result (update_at_places data_type.now count (joined_runs runs.now) array.entry new.now) }
 {
     check_update(&array, count, runs, new, data_type)?;
     write_elements(alloc, array, count, new, runs, data_type)
@@ -137,10 +135,9 @@ fn write_fixed<'b>(
     runs: &[(u64, u64)],
 ) -> Result<ArrayBytes<'b>, CodecError>
     requires kind { IsOk (fixed_part new.now) }
-    requires inside { All (λ run. (run.0 + run.1) * size ≤ length (raw_of old).items) runs.now }
+    requires inside { All (λ run. (run.0 + run.1) * size ≤ length (items_of old)) runs.now }
     requires enough { length (joined_runs runs.now) * size ≤ length (bytes_in new.now) }
-    ensures exact { Answers memory (λ array. array) result (Ok (flen (owned_bytes (with_runs size (raw_of old.entry).items runs.now (bytes_in new.now))))) }
-    ensures no_fault { is_fault result ≡ false }
+    ensures exact { Gives (λ array. array) result (Ok (flen (owned_bytes (with_runs size (raw_of old.entry).items runs.now (bytes_in new.now))))) }
 {
     let bytes = written_elements(alloc, old, new.fixed_bytes(), size, runs)?;
     Ok(ArrayBytes::new_flen(CowSlice::Owned(bytes)))
@@ -156,7 +153,7 @@ fn write_variable<'b>(
     runs: &[(u64, u64)],
 ) -> Result<ArrayBytes<'b>, CodecError>
     requires kind { IsOk (variable_part new.now) }
-    requires ending { last_of offsets ≡ length (raw_of old).items }
+    requires ending { last_of offsets ≡ length (items_of old) }
     requires inside { All (λ run. run.0 + run.1 ≤ length offsets - 1) runs.now }
     requires enough { length (offsets_in new.now) ≡ length (joined_runs runs.now) + 1 }
     ensures exact { Answers memory (λ array. array) result
@@ -184,12 +181,11 @@ fn write_mask<'b>(
     new_mask: &[u8],
     runs: &[(u64, u64)],
 ) -> Result<ArrayBytes<'b>, CodecError>
-    requires old_flags { list_all (λ byte. nat_lt byte 2) (raw_of mask).items ≡ true }
+    requires old_flags { list_all (λ byte. nat_lt byte 2) (items_of mask) ≡ true }
     requires new_flags { list_all (λ byte. nat_lt byte 2) new_mask.now ≡ true }
-    requires inside { All (λ run. run.0 + run.1 ≤ length (raw_of mask).items) runs.now }
+    requires inside { All (λ run. run.0 + run.1 ≤ length (items_of mask)) runs.now }
     requires enough { length new_mask.now ≡ length (joined_runs runs.now) }
-    ensures exact { Answers memory (λ array. array) result (Ok (masked inner.entry (owned_bytes (update (raw_of mask.entry).items (joined_runs runs.now) new_mask.now)))) }
-    ensures no_fault { is_fault result ≡ false }
+    ensures exact { Gives (λ array. array) result (Ok (masked inner.entry (owned_bytes (update (raw_of mask.entry).items (joined_runs runs.now) new_mask.now)))) }
 {
     let mask = written_flags(alloc, mask, new_mask, runs)?;
     ArrayBytes::of_masked(alloc, inner, mask)

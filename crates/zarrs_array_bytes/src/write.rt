@@ -1,8 +1,8 @@
 ghost use Rattle.std.specs.Prelude.{◌≡◌, ◌+◌, ◌*◌, ◌≤◌, All, Ok, false, length};
 ghost use Rattle.std.specs.List.{concat};
-ghost use Rattle.zarrs_chunk.specs.Answer.{Answers, memory, is_fault};
+ghost use Rattle.zarrs_chunk.specs.Answer.{Answers, memory, is_fault, Gives};
 ghost use Rattle.zarrs_chunk.specs.Runs.{joined_runs};
-ghost use Rattle.zarrs_array_bytes.specs.Held.{raw_of};
+ghost use Rattle.zarrs_array_bytes.specs.Held.{items_of, raw_of};
 ghost use Rattle.zarrs_array_bytes.specs.Pieces.{pieces};
 ghost use Rattle.zarrs_array_bytes.specs.Update.{with_items_at, with_runs, update};
 
@@ -19,10 +19,9 @@ pub(crate) fn written_elements(
     size: usize,
     runs: &[(u64, u64)],
 ) -> Result<Vec<u8>, CodecError>
-    requires inside { All (λ run. (run.0 + run.1) * size ≤ length (raw_of raw).items) runs.now }
+    requires inside { All (λ run. (run.0 + run.1) * size ≤ length (items_of raw)) runs.now }
     requires enough { length (joined_runs runs.now) * size ≤ length new.now }
-    ensures exact { Answers memory (λ v. v.items) result (Ok (with_runs size (raw_of raw.entry).items runs.now new.now)) }
-    ensures no_fault { is_fault result ≡ false }
+    ensures exact { Gives (λ v. v.items) result (Ok (with_runs size (raw_of raw.entry).items runs.now new.now)) }
 {
     let mut bytes = owned_bytes(alloc, raw)?;
     write_runs(&mut bytes, new, size, runs);
@@ -36,10 +35,9 @@ pub(crate) fn written_flags(
     new: &[u8],
     runs: &[(u64, u64)],
 ) -> Result<Vec<u8>, CodecError>
-    requires inside { All (λ run. run.0 + run.1 ≤ length (raw_of raw).items) runs.now }
+    requires inside { All (λ run. run.0 + run.1 ≤ length (items_of raw)) runs.now }
     requires enough { length new.now ≡ length (joined_runs runs.now) }
-    ensures exact { Answers memory (λ v. v.items) result (Ok (update (raw_of raw.entry).items (joined_runs runs.now) new.now)) }
-    ensures no_fault { is_fault result ≡ false }
+    ensures exact { Gives (λ v. v.items) result (Ok (update (raw_of raw.entry).items (joined_runs runs.now) new.now)) }
 {
     written_elements(alloc, raw, new, 1, runs)
 }

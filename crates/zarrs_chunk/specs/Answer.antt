@@ -65,3 +65,13 @@ Answers excuse view (Err e) expected = Excused (excuse e) (expected ≡ Err e)
 abbrev pub AnswersBy : {E T V : Type 0} → (E → Bool) → (T → V → Type 0) → Result T E → Result V E → Type 0
 AnswersBy excuse R (Ok x) expected = IsOkAnd expected (R x)
 AnswersBy excuse R (Err e) expected = Excused (excuse e) (expected ≡ Err e)
+
+-- What is given by a call that takes memory and asks no handle: the expected value, read by `view`, or its first refusal. `OutOfMemory` may come at any time, and `Storage` never comes.
+pub record Gives {T V : Type 0} (view : T → V) (result : Result T CodecError) (expected : Result V CodecError) : Type 0 where
+  pub is : Answers memory view result expected
+  pub no_fault : is_fault result ≡ false
+
+-- the same, where a relation alone is promised of the value
+pub record GivesBy {T V : Type 0} (R : T → V → Type 0) (result : Result T CodecError) (expected : Result V CodecError) : Type 0 where
+  pub is : AnswersBy memory R result expected
+  pub no_fault : is_fault result ≡ false

@@ -1,7 +1,7 @@
 //! Places and runs of a list of index tuples.
 ghost use Rattle.std.specs.Prelude.{◌≡◌, ◌==◌, ◌<◌, ◌≤◌, ◌+◌, ◌++◌, ◌∷◌, [], ◌^◌, length, map, true, false, IfOk, OnOk, All, MatchResult};
 ghost use Rattle.std.specs.List.{list_all};
-ghost use Rattle.zarrs_chunk.specs.Answer.{Answers, Excused, memory, is_fault};
+ghost use Rattle.zarrs_chunk.specs.Answer.{Answers, Excused, memory, is_fault, Gives};
 ghost use Rattle.zarrs_chunk.specs.ChunkShape.{product};
 ghost use Rattle.zarrs_chunk.specs.Runs.{joined_runs, AreApart};
 ghost use Rattle.zarrs_chunk.specs.Selection.{indices as indices_of, bounds_of, places_of};
@@ -134,10 +134,9 @@ pub fn indices_places(
     shape: &ChunkShape,
     tuples: &[ArrayIndices],
 ) -> Result<Vec<u64>, CodecError>
-    ensures places { Answers memory (λ v. v.items) result (places_of (indices_of (map (λ tuple. tuple.items) tuples.now)) shape.now) }
+    ensures places { Gives (λ v. v.items) result (places_of (indices_of (map (λ tuple. tuple.items) tuples.now)) shape.now) }
     ensures below { IfOk result (λ v. All (λ place. place < product shape.now) v.items) }
     ensures count { IfOk result (λ v. length v.items < 2 ^ 64) }
-    ensures no_fault { is_fault result ≡ false }
 {
     let sizes = shape.as_slice();
     check_countable(sizes, tuples)?;
@@ -151,12 +150,11 @@ pub fn indices_runs(
     shape: &ChunkShape,
     tuples: &[ArrayIndices],
 ) -> Result<Vec<(u64, u64)>, CodecError>
-    ensures places { Answers memory (λ v. joined_runs v.items) result (places_of (indices_of (map (λ tuple. tuple.items) tuples.now)) shape.now) }
+    ensures places { Gives (λ v. joined_runs v.items) result (places_of (indices_of (map (λ tuple. tuple.items) tuples.now)) shape.now) }
     ensures filled { IfOk result (λ v. All (λ run. 0 < run.1) v.items) }
     ensures below { IfOk result (λ v. All (λ run. run.0 + run.1 ≤ product shape.now) v.items) }
     ensures count { IfOk result (λ v. length (joined_runs v.items) < 2 ^ 64) }
     ensures apart { IfOk result (λ v. AreApart v.items) }
-    ensures no_fault { is_fault result ≡ false }
 {
     let sizes = shape.as_slice();
     check_countable(sizes, tuples)?;

@@ -1,5 +1,5 @@
 ghost use Rattle.std.specs.Prelude.{◌≡◌, ◌<◌, ◌≤◌, ◌+◌, ◌^◌, length, false, IfOk, Ok, All};
-ghost use Rattle.zarrs_chunk.specs.Answer.{Answers, memory, is_fault};
+ghost use Rattle.zarrs_chunk.specs.Answer.{Answers, memory, is_fault, Gives};
 ghost use Rattle.zarrs_chunk.specs.ChunkShape.{product};
 ghost use Rattle.zarrs_chunk.specs.Indexer.{selection_of};
 ghost use Rattle.zarrs_chunk.specs.Runs.{joined_runs, AreApart};
@@ -41,10 +41,9 @@ fn subset_places(
     shape: &ChunkShape,
     subset: &ArraySubset,
 ) -> Result<Vec<u64>, CodecError>
-    ensures places { Answers memory (λ v. v.items) result (places_of (subset_of subset.now) shape.now) }
+    ensures places { Gives (λ v. v.items) result (places_of (subset_of subset.now) shape.now) }
     ensures below { IfOk result (λ v. All (λ place. place < product shape.now) v.items) }
     ensures count { IfOk result (λ v. length v.items < 2 ^ 64) }
-    ensures no_fault { is_fault result ≡ false }
 {
     let sizes = shape.as_slice();
     check_subset(sizes, subset)?;
@@ -58,12 +57,11 @@ fn subset_runs(
     shape: &ChunkShape,
     subset: &ArraySubset,
 ) -> Result<Vec<(u64, u64)>, CodecError>
-    ensures places { Answers memory (λ v. joined_runs v.items) result (places_of (subset_of subset.now) shape.now) }
+    ensures places { Gives (λ v. joined_runs v.items) result (places_of (subset_of subset.now) shape.now) }
     ensures filled { IfOk result (λ v. All (λ run. 0 < run.1) v.items) }
     ensures below { IfOk result (λ v. All (λ run. run.0 + run.1 ≤ product shape.now) v.items) }
     ensures count { IfOk result (λ v. length (joined_runs v.items) < 2 ^ 64) }
     ensures apart { IfOk result (λ v. AreApart v.items) }
-    ensures no_fault { is_fault result ≡ false }
 {
     let sizes = shape.as_slice();
     check_subset(sizes, subset)?;
@@ -99,10 +97,9 @@ impl Indexer {
     /// aside: `IncompatibleDimensionality`, `OutOfBounds`, `Overflow` where the shape has `2^64`
     /// elements or more.
     pub fn places(&self, alloc: Global, shape: &ChunkShape) -> Result<Vec<u64>, CodecError>
-        ensures places { Answers memory (λ v. v.items) result (places_of (selection_of self.now) shape.now) }
+        ensures places { Gives (λ v. v.items) result (places_of (selection_of self.now) shape.now) }
         ensures below { IfOk result (λ v. All (λ place. place < product shape.now) v.items) }
         ensures count { IfOk result (λ v. length v.items < 2 ^ 64) }
-        ensures no_fault { is_fault result ≡ false }
     {
         match self {
             Indexer::Subset(subset) => subset_places(alloc, shape, subset),
@@ -113,12 +110,11 @@ impl Indexer {
     /// The places in order, as runs of a start and a length: consecutive numbers, none of the runs
     /// empty, and none starting where the one before it ends. Refusals as `places`.
     pub fn runs(&self, alloc: Global, shape: &ChunkShape) -> Result<Vec<(u64, u64)>, CodecError>
-        ensures places { Answers memory (λ v. joined_runs v.items) result (places_of (selection_of self.now) shape.now) }
+        ensures places { Gives (λ v. joined_runs v.items) result (places_of (selection_of self.now) shape.now) }
         ensures filled { IfOk result (λ v. All (λ run. 0 < run.1) v.items) }
         ensures below { IfOk result (λ v. All (λ run. run.0 + run.1 ≤ product shape.now) v.items) }
         ensures count { IfOk result (λ v. length (joined_runs v.items) < 2 ^ 64) }
         ensures apart { IfOk result (λ v. AreApart v.items) }
-        ensures no_fault { is_fault result ≡ false }
     {
         match self {
             Indexer::Subset(subset) => subset_runs(alloc, shape, subset),

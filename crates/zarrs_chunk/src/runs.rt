@@ -1,7 +1,7 @@
 //! Runs of consecutive places.
 ghost use Rattle.std.specs.Prelude.{◌≡◌, ◌≢◌, ◌<◌, ◌≤◌, ◌+◌, ◌-◌, ◌^◌, ◌++◌, ◌∷◌, [], ℕ, length, take, slice_index, true, false, IfOk, OnOk, Ok, All, ◌↔◌};
 ghost use Rattle.std.specs.List.{range_with_len};
-ghost use Rattle.zarrs_chunk.specs.Answer.{Answers, memory, is_fault};
+ghost use Rattle.zarrs_chunk.specs.Answer.{Answers, memory, is_fault, Gives};
 ghost use Rattle.zarrs_chunk.specs.Runs.{joined_runs, AreApart};
 
 use crate::codec_error::CodecError;
@@ -67,12 +67,11 @@ pub fn append_place(runs: &mut Vec<(u64, u64)>, place: u64) -> Result<(), AllocE
 /// are one run, so there are no more runs than places, none is empty, and none starts where the one
 /// before it ends. Refusals: `OutOfMemory`.
 pub fn runs_of_places(alloc: Global, places: &[u64]) -> Result<Vec<(u64, u64)>, CodecError>
-    ensures places { Answers memory (λ v. joined_runs v.items) result (Ok places.now) }
+    ensures places { Gives (λ v. joined_runs v.items) result (Ok places.now) }
     ensures filled { IfOk result (λ v. All (λ run. 0 < run.1) v.items) }
     ensures below { (limit : ℕ) → All (λ place. place < limit) places.now → IfOk result (λ v. All (λ run. run.0 + run.1 ≤ limit) v.items) }
     ensures count { IfOk result (λ v. length v.items ≤ length places.now) }
     ensures apart { IfOk result (λ v. AreApart v.items) }
-    ensures no_fault { is_fault result ≡ false }
 {
     let mut runs = Vec::with_capacity(alloc, count_runs(places))?;
     let mut at = 0;

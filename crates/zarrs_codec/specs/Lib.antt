@@ -6,6 +6,8 @@ pub mod ByteSpan
 pub mod BytesRepresentation
 pub mod BytesToBytesCodec
 pub mod ChunkEdits
+pub mod CodersOverHandles
+pub mod Grammar
 pub mod SampleBytesCodec
 pub mod SampleLaws
 pub mod SampleMetadata

@@ -1,5 +1,5 @@
 ghost use Rattle.std.specs.Prelude.{◌≡◌, ℕ, List, Option, Result, Ok, false, IfOk};
-ghost use Rattle.zarrs_chunk.specs.Answer.{Answers, AnswersBy, memory, is_fault, seen};
+ghost use Rattle.zarrs_chunk.specs.Answer.{Answers, AnswersBy, memory, is_fault, seen, Gives};
 ghost use Rattle.zarrs_chunk.specs.Indexer.{selection_of};
 ghost use Rattle.zarrs_chunk.specs.Selection.{Selection};
 ghost use Rattle.zarrs_chunk.specs.declared.codec_error.CodecError.{CodecError};
@@ -58,9 +58,8 @@ pub trait ArrayToArrayCodecTraits: ArrayCodecTraits {
         alloc: Global,
         decoded_shape: &ChunkShape,
     ) -> Result<ChunkShape, CodecError>
-        ensures answer { Answers memory (λ shape. shape) result (seen (λ m. m.encoded) (coordinates self.now decoded_shape.now)) }
-        ensures map { IfOk result (λ encoded. IsMapTo (coordinates self.now decoded_shape.now) decoded_shape.now encoded) }
-        ensures no_fault { is_fault result ≡ false };
+        ensures answer { Gives (λ shape. shape) result (seen (λ m. m.encoded) (coordinates self.now decoded_shape.now)) }
+        ensures map { IfOk result (λ encoded. IsMapTo (coordinates self.now decoded_shape.now) decoded_shape.now encoded) };
 
     /// The shape of the decoded chunk, or `None` where that of the encoded one doesn't tell it.
     /// Refusals: those of a shape that the codec doesn't make; `OutOfMemory`.
@@ -124,7 +123,6 @@ pub trait ArrayToArrayCodecTraits: ArrayCodecTraits {
         indexer: &Indexer,
         decoded_shape: &ChunkShape,
     ) -> Result<Indexer, CodecError>
-        ensures answer { Answers memory selection_of result (image_of (coordinates self.now decoded_shape.now) (asked self.now decoded_shape.now) decoded_shape.now (selection_of indexer.now)) }
-        ensures places { IfOk result (λ encoded. IsImageBy (coordinates self.now decoded_shape.now) decoded_shape.now (selection_of indexer.now) (selection_of encoded)) }
-        ensures no_fault { is_fault result ≡ false };
+        ensures answer { Gives selection_of result (image_of (coordinates self.now decoded_shape.now) (asked self.now decoded_shape.now) decoded_shape.now (selection_of indexer.now)) }
+        ensures places { IfOk result (λ encoded. IsImageBy (coordinates self.now decoded_shape.now) decoded_shape.now (selection_of indexer.now) (selection_of encoded)) };
 }

@@ -1,12 +1,12 @@
 ghost use Rattle.std.specs.Prelude.{◌≡◌, ℕ, List, Result, Ok, None, IfOk, OnErr, option_map, false};
-ghost use Rattle.zarrs_chunk.specs.Answer.{Answers, AnswersBy, memory, is_fault, seen};
+ghost use Rattle.zarrs_chunk.specs.Answer.{Answers, AnswersBy, memory, is_fault, seen, Gives, GivesBy};
 ghost use Rattle.zarrs_chunk.specs.ChunkShape.{product};
 ghost use Rattle.zarrs_chunk.specs.declared.codec_error.CodecError.{CodecError};
 ghost use Rattle.zarrs_data_type.specs.Element.{Chunk};
-ghost use Rattle.zarrs_data_type.specs.ElementType.{ElementType};
+ghost use Rattle.zarrs_data_type.specs.Form.{Form, form_of};
 ghost use Rattle.zarrs_array_bytes.specs.ArrayBytesDecodeIntoTarget.{target_of, target_names};
 ghost use Rattle.zarrs_array_bytes.specs.DecodeTarget.{target_fit, TargetHolds};
-ghost use Rattle.zarrs_array_bytes.specs.Held.{Held, raw_of};
+ghost use Rattle.zarrs_array_bytes.specs.Held.{Held, items_of, raw_of};
 ghost use Rattle.zarrs_array_bytes.specs.Validity.{Holds, validity};
 ghost use Rattle.zarrs_codec.specs.DecodeInto.{decoded_into};
 ghost use Rattle.zarrs_codec.specs.declared.bytes_representation.BytesRepresentation.{BytesRepresentation};
@@ -22,16 +22,16 @@ use zarrs_data_type::{DataType, FillValue};
 /// What it computes is a function of the chunk's shape, type and fill value, and of what is given.
 pub trait ArrayToBytesCodecTraits {
     // How many bytes a value has, or the first cause why the codec doesn't take such chunks.
-    ghost represented: { Self → List ℕ → ElementType → List ℕ → Result BytesRepresentation CodecError };
+    ghost represented: { Self → Form → Result BytesRepresentation CodecError };
 
     // The value of the chunk that a container holds, or the first refusal.
-    ghost encoded: { Self → List ℕ → ElementType → List ℕ → Held → Result (List ℕ) CodecError };
+    ghost encoded: { Self → Form → Held → Result (List ℕ) CodecError };
 
     // The chunk that a value stands for, or the first refusal.
-    ghost decoded: { Self → List ℕ → ElementType → List ℕ → List ℕ → Result Chunk CodecError };
+    ghost decoded: { Self → Form → List ℕ → Result Chunk CodecError };
 
     // That the codec takes such chunks and the bytes codecs, where it has some, decode a value, or the first refusal.
-    ghost opened: { Self → List ℕ → ElementType → List ℕ → List ℕ → Result (Unit {0}) CodecError };
+    ghost opened: { Self → Form → List ℕ → Result (Unit {0}) CodecError };
 
     /// How many bytes the value of such a chunk has. Refusals: those of chunks that the codec doesn't
     /// take; `OutOfMemory`.
@@ -42,8 +42,7 @@ pub trait ArrayToBytesCodecTraits {
         data_type: &DataType,
         fill_value: &FillValue,
     ) -> Result<BytesRepresentation, CodecError>
-        ensures answer { Answers memory (λ representation. representation) result (represented self.now shape.now data_type.now fill_value.now) }
-        ensures no_fault { is_fault result ≡ false };
+        ensures answer { Gives (λ representation. representation) result (represented self.now (form_of shape.now data_type.now fill_value.now)) };
 
     /// The value of the chunk that `elements` hold. Refusals, the first that holds, `OutOfMemory`
     /// aside: those of `encoded_representation`; those of `ArrayBytes::validate`; the codec's own.
@@ -55,8 +54,7 @@ pub trait ArrayToBytesCodecTraits {
         data_type: &DataType,
         fill_value: &FillValue,
     ) -> Result<ArrayBytesRaw<'a>, CodecError>
-        ensures answer { Answers memory (λ value. (raw_of value).items) result (encoded self.now shape.now data_type.now fill_value.now elements.entry) }
-        ensures no_fault { is_fault result ≡ false };
+        ensures answer { Gives items_of result (encoded self.now (form_of shape.now data_type.now fill_value.now) elements.entry) };
 
     /// The chunk that a value stands for. Refusals, the first that holds, `OutOfMemory` aside: those
     /// of `encoded_representation`; the codec's own.
@@ -68,9 +66,8 @@ pub trait ArrayToBytesCodecTraits {
         data_type: &DataType,
         fill_value: &FillValue,
     ) -> Result<ArrayBytes<'a>, CodecError>
-        ensures answer { AnswersBy memory (Holds data_type.now) result (decoded self.now shape.now data_type.now fill_value.now (raw_of value.entry).items) }
-        ensures valid { IfOk result (λ elements. validity data_type.now (product shape.now) elements ≡ Ok tt) }
-        ensures no_fault { is_fault result ≡ false };
+        ensures answer { GivesBy (Holds data_type.now) result (decoded self.now (form_of shape.now data_type.now fill_value.now) (items_of value.entry)) }
+        ensures valid { IfOk result (λ elements. validity data_type.now (product shape.now) elements ≡ Ok tt) };
 
     /// Writes the chunk that a value stands for at the target's places, in row-major order; all other
     /// bytes of the target stay. It takes no memory for the elements beyond that of `decode`. Refusals,
@@ -88,7 +85,7 @@ pub trait ArrayToBytesCodecTraits {
         target: &mut ArrayBytesDecodeIntoTarget<'_>,
     ) -> Result<(), CodecError>
         ensures answer { AnswersBy memory (λ _ chunk. TargetHolds data_type.now (target_of target.old) (target_of target.new) chunk) result
-            (decoded_into (represented self.now shape.now data_type.now fill_value.now) (target_fit data_type.now (product shape.now) (target_of target.old)) (decoded self.now shape.now data_type.now fill_value.now (raw_of value.entry).items)) }
+            (decoded_into (represented self.now (form_of shape.now data_type.now fill_value.now)) (target_fit data_type.now (product shape.now) (target_of target.old)) (decoded self.now (form_of shape.now data_type.now fill_value.now) (items_of value.entry))) }
         ensures kept { OnErr result (target_of target.new ≡ target_of target.old) }
         ensures same_reference { target_names target.new ≡ target_names target.old }
         ensures no_fault { is_fault result ≡ false }
@@ -111,6 +108,5 @@ pub trait ArrayToBytesCodecTraits {
         data_type: &DataType,
         fill_value: &FillValue,
     ) -> Result<Option<ArrayBytesRaw<'a>>, CodecError>
-        ensures answer { Answers memory (option_map raw_of) result (seen (λ _. None) (opened self.now shape.now data_type.now fill_value.now (raw_of value.entry).items)) }
-        ensures no_fault { is_fault result ≡ false };
+        ensures answer { Gives (option_map raw_of) result (seen (λ _. None) (opened self.now (form_of shape.now data_type.now fill_value.now) (items_of value.entry))) };
 }

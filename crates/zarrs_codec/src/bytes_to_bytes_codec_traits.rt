@@ -1,6 +1,6 @@
 ghost use Rattle.std.specs.Prelude.{◌≡◌, Ok, false};
-ghost use Rattle.zarrs_chunk.specs.Answer.{Answers, memory, is_fault};
-ghost use Rattle.zarrs_array_bytes.specs.Held.{raw_of};
+ghost use Rattle.zarrs_chunk.specs.Answer.{Answers, memory, is_fault, Gives};
+ghost use Rattle.zarrs_array_bytes.specs.Held.{items_of, raw_of};
 ghost use Rattle.zarrs_metadata.specs.Metadata.{Metadata};
 ghost use Rattle.zarrs_metadata.specs.MetadataV3.{metadata_seen};
 ghost use Rattle.zarrs_metadata.specs.PluginCreateError.{plugin_memory};
@@ -39,8 +39,7 @@ pub trait BytesToBytesCodecTraits {
         alloc: Global,
         bytes: ArrayBytesRaw<'a>,
     ) -> Result<ArrayBytesRaw<'a>, CodecError>
-        ensures answer { Answers memory (λ encoded. (raw_of encoded).items) result (Ok (functions.encoded_bytes self.now (raw_of bytes.entry).items)) }
-        ensures no_fault { is_fault result ≡ false };
+        ensures answer { Gives items_of result (Ok (functions.encoded_bytes self.now (items_of bytes.entry))) };
 
     /// The bytes of this representation that encoded ones stand for. Refusals: `BytesCodec` with a
     /// number of the codec's own, where they stand for none; `OutOfMemory`.
@@ -50,8 +49,7 @@ pub trait BytesToBytesCodecTraits {
         encoded: ArrayBytesRaw<'a>,
         decoded_representation: &BytesRepresentation,
     ) -> Result<ArrayBytesRaw<'a>, CodecError>
-        ensures answer { Answers memory (λ bytes. (raw_of bytes).items) result (functions.decoded_bytes self.now decoded_representation.now (raw_of encoded.entry).items) }
-        ensures no_fault { is_fault result ≡ false };
+        ensures answer { Gives items_of result (functions.decoded_bytes self.now decoded_representation.now (items_of encoded.entry)) };
 
     /// How many encoded bytes there are, by how many bytes there are.
     fn encoded_representation(

@@ -1,7 +1,7 @@
 ghost use Rattle.std.specs.Prelude.{◌≡◌, ◌++◌, IfOk, IfErr, OnErr, OnOk, Ok, true, false, Some, None, length, nat_le};
 ghost use Rattle.std.specs.List.{between};
 ghost use Rattle.std.specs.Option.{option_map};
-ghost use Rattle.zarrs_chunk.specs.Answer.{Answers, memory, is_fault};
+ghost use Rattle.zarrs_chunk.specs.Answer.{Answers, memory, is_fault, Gives};
 ghost use Rattle.zarrs_codec.specs.BytePieces.{pieces_fit, with_pieces};
 ghost use Rattle.zarrs_codec.specs.ByteRanges.{read_value};
 
@@ -57,8 +57,7 @@ fn piece_of<'a>(value: &'a [u8], range: &ByteRange) -> Result<&'a [u8], CodecErr
 
 /// The ranges' bytes of a value, joined in order.
 fn gather(alloc: Global, value: &[u8], ranges: &[ByteRange]) -> Result<Vec<u8>, CodecError>
-    ensures answer { Answers memory (λ bytes. bytes.items) result (read_value value.now ranges.now) }
-    ensures no_fault { is_fault result ≡ false }
+    ensures answer { Gives (λ bytes. bytes.items) result (read_value value.now ranges.now) }
 {
     let mut bytes = Vec::with_capacity(alloc, room_for(value.len(), ranges))?;
     for range in ranges {

@@ -1,6 +1,6 @@
 ghost use Rattle.std.specs.Prelude.{◌≡◌, ◌++◌, ◌≤◌, Ok, Some, IfOk, false, reverse, length, drop};
-ghost use Rattle.zarrs_chunk.specs.Answer.{Answers, memory, is_fault, seen};
-ghost use Rattle.zarrs_array_bytes.specs.Held.{raw_of};
+ghost use Rattle.zarrs_chunk.specs.Answer.{Answers, memory, is_fault, seen, Gives};
+ghost use Rattle.zarrs_array_bytes.specs.Held.{items_of, raw_of};
 ghost use Rattle.zarrs_metadata.specs.MetadataV3.{metadata_seen};
 ghost use Rattle.zarrs_metadata.specs.PluginCreateError.{plugin_memory};
 ghost use Rattle.zarrs_codec.specs.SampleMetadata.{sample_name, sample_metadata, sample_made};
@@ -39,8 +39,7 @@ fn name_of(codec: SampleBytesCodec) -> &'static str
 
 /// The bytes in reverse. Owned bytes are turned round in place.
 fn reversed(alloc: Global, bytes: ArrayBytesRaw<'_>) -> Result<Vec<u8>, CodecError>
-    ensures answer { Answers memory (λ reversed. reversed.items) result (Ok (reverse (raw_of bytes.entry).items)) }
-    ensures no_fault { is_fault result ≡ false }
+    ensures answer { Gives (λ reversed. reversed.items) result (Ok (reverse (items_of bytes.entry))) }
 {
     let mut reversed = match bytes {
         CowSlice::Borrowed(bytes) => bytes.to_vec(alloc)?,
@@ -53,8 +52,7 @@ fn reversed(alloc: Global, bytes: ArrayBytesRaw<'_>) -> Result<Vec<u8>, CodecErr
 /// The bytes behind their length.
 #[tactic(auto, unfolding(crate::specs::SampleBytesCodec::length_bytes))]
 fn with_length(alloc: Global, bytes: &[u8]) -> Result<Vec<u8>, CodecError>
-    ensures answer { Answers memory (λ encoded. encoded.items) result (Ok (length_bytes bytes.now ++ bytes.now)) }
-    ensures no_fault { is_fault result ≡ false }
+    ensures answer { Gives (λ encoded. encoded.items) result (Ok (length_bytes bytes.now ++ bytes.now)) }
 {
     let mut encoded = Vec::with_capacity(alloc, bytes.len().saturating_add(LENGTH_SIZE))?;
     encoded.extend_from_slice(&(bytes.len() as u64).to_le_bytes())?;
@@ -90,7 +88,7 @@ fn check_length(encoded: &[u8]) -> Result<(), CodecError>
 
 /// The bytes behind their length. Borrowed bytes are lent on, owned ones are moved to the front.
 fn behind_length(encoded: ArrayBytesRaw<'_>) -> Result<ArrayBytesRaw<'_>, CodecError>
-    ensures answer { seen (λ bytes. (raw_of bytes).items) result ≡ behind_length_of (raw_of encoded.entry).items }
+    ensures answer { seen items_of result ≡ behind_length_of (items_of encoded.entry) }
 {
     match encoded {
         CowSlice::Borrowed(bytes) => {

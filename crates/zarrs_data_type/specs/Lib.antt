@@ -5,4 +5,5 @@ pub mod SameType
 pub mod SameTypeLaws
 pub mod FillValue
 pub mod Element
+pub mod Form
 pub use Rattle.zarrs_chunk.specs.Answer

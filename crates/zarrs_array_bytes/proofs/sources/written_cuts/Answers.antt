@@ -14,7 +14,7 @@ use Rattle.zarrs_array_bytes.proofs.sources.written_cuts.Goals as goal
 pub sources_of-requires : goal.sources_of-requires
 sources_of-requires c =
     let n = length c.args.old_offsets.now - 1 in
-    let places : joined_runs c.args.runs.now ≡ c.in_ok-places.places.items = cc (c.in_ok-places.ensures.exact) in
+    let places : joined_runs c.args.runs.now ≡ c.in_ok-places.places.items = cc (c.in_ok-places.ensures.exact.is) in
     let items : joined_runs c.args.runs.now ≡ c.as_slice.result.now = places ∙ sym c.as_slice.ensures.value in
     record { inside = subst (λ xs. All (λ place. place < n) xs) items (places_below n c.args.runs.now c.requires.inside) }
 
@@ -22,9 +22,9 @@ pub gather_sources-requires-clause-known : goal.gather_sources-requires-clause-k
 gather_sources-requires-clause-known c =
     let n = length c.args.old_offsets.now - 1 in
     let ps = joined_runs c.args.runs.now in
-    let places : ps ≡ c.in_ok-places.places.items = cc (c.in_ok-places.ensures.exact) in
+    let places : ps ≡ c.in_ok-places.places.items = cc (c.in_ok-places.ensures.exact.is) in
     let listed : c.as_slice.result.now ≡ ps = c.as_slice.ensures.value ∙ sym places in
-    let are : sources n c.as_slice.result.now ≡ c.in_ok-from.from.items = cc (c.in_ok-from.ensures.exact) in
+    let are : sources n c.as_slice.result.now ≡ c.in_ok-from.from.items = cc (c.in_ok-from.ensures.exact.is) in
     let from : sources n ps ≡ c.as_slice-2.result.now = rw listed at are ∙ sym c.as_slice-2.ensures.value in
     let count : length ps ≡ length c.args.new_offsets.now - 1 = omega (arith, c.requires.enough) in
     subst (λ m. All (IsSourceOf n m) c.as_slice-2.result.now) count (subst (λ (xs : List Source). All (IsSourceOf n (length ps)) xs) from (sources_known n ps))
@@ -33,9 +33,9 @@ pub returns-clause-exact : goal.returns-clause-exact
 returns-clause-exact c =
     let n = length c.args.old_offsets.now - 1 in
     let ps = joined_runs c.args.runs.now in
-    let places : ps ≡ c.in_ok-places.places.items = cc (c.in_ok-places.ensures.exact) in
+    let places : ps ≡ c.in_ok-places.places.items = cc (c.in_ok-places.ensures.exact.is) in
     let listed : c.as_slice.result.now ≡ ps = c.as_slice.ensures.value ∙ sym places in
-    let are : sources n c.as_slice.result.now ≡ c.in_ok-from.from.items = cc (c.in_ok-from.ensures.exact) in
+    let are : sources n c.as_slice.result.now ≡ c.in_ok-from.from.items = cc (c.in_ok-from.ensures.exact.is) in
     let from : c.as_slice-2.result.now ≡ sources n ps = c.as_slice-2.ensures.value ∙ sym (rw listed at are) in
     let bytes_of = source_bytes (cut c.args.old_offsets.now c.args.old.now) (cut c.args.new_offsets.now c.args.new.now) in
     let all : bytes_with_offsets bytes_of c.as_slice-2.result.now ≡ cuts_update c.args.old_offsets.now c.args.old.now c.args.new_offsets.now c.args.new.now ps =

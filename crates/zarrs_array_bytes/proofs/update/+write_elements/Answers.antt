@@ -36,7 +36,7 @@ returns-in-Fixed-clause-exact t c =
     let are : flen (owned_bytes (with_runs c.unwrap-size.result old.items runs (bytes_in new))) ≡ container_update type c.args.count c.args.array (length (joined_runs runs)) new (joined_runs runs) =
     sym (ap (λ h. container_update type c.args.count h (length (joined_runs runs)) new (joined_runs runs)) seen
     ∙ written_fixed InvalidBytesLength data_mismatch type c.args.count old new runs c.unwrap-size.result (rw seen at c.requires.valid) c.requires.data_valid size c.requires.inside) in
-    subst (λ (h : Held). Answers memory (λ (a : Held). a) c.write_fixed.result (Ok h)) (ap (λ b. flen (owned_bytes (with_runs c.unwrap-size.result (raw_of b).items runs (bytes_in new)))) c.in-Fixed.old-is ∙ are) c.write_fixed.ensures.exact
+    subst (λ (h : Held). Answers memory (λ (a : Held). a) c.write_fixed.result (Ok h)) (ap (λ b. flen (owned_bytes (with_runs c.unwrap-size.result (raw_of b).items runs (bytes_in new)))) c.in-Fixed.old-is ∙ are) c.write_fixed.ensures.exact.is
 
 pub returns-in-Variable-clause-exact : goal.returns-in-Variable-clause-exact
 returns-in-Variable-clause-exact t c =

@@ -1,4 +1,4 @@
-use Rattle.std.proofs.Common.{◌≡◌, ◌+◌, ◌≤◌, List, ℕ, Ok, sym, subst}
+use Rattle.std.proofs.Common.{rules, ◌≡◌, ◌+◌, ◌≤◌, List, ℕ, Ok, sym, subst}
 use Rattle.std.specs.List.{All}
 use Rattle.zarrs_chunk.specs.Answer.{AnswersBy, memory}
 use Rattle.zarrs_chunk.specs.ChunkShape.{product}
@@ -20,17 +20,17 @@ update_runs-requires c =
           (subst (λ (rs : List (ℕ × ℕ)). All (λ run. run.0 + run.1 ≤ total) rs) (sym c.as_slice.ensures.value) below);
     }
 
-pub returns-clause-exact : goal.returns-clause-exact
-returns-clause-exact c =
+pub returns : goal.returns
+returns c =
     let type = c.args.data_type.now in
     let total = product c.args.shape.now in
     let runs = c.in_ok-runs.runs.items in
     let old = c.args.array in
     let new = c.args.new.now in
-    let places : places_of (selection_of c.args.indexer.now) c.args.shape.now ≡ Ok (joined_runs runs) = (c.in_ok-runs.ensures {u = tt}).places in
+    let places : places_of (selection_of c.args.indexer.now) c.args.shape.now ≡ Ok (joined_runs runs) = (c.in_ok-runs.ensures {u = tt}).places.is in
     let count : total ≡ c.in_ok-count.count = checked_is total c.in_ok-count.count (sym (c.in_ok-count.ensures {u = tt}).answer) in
     let listed : AnswersBy memory (Holds type) c.update_runs.result (update_at_places type c.in_ok-count.count (joined_runs runs) old new) =
-    subst (λ rs. AnswersBy memory (Holds type) c.update_runs.result (update_at_places type c.in_ok-count.count (joined_runs rs) old new)) c.as_slice.ensures.value c.update_runs.ensures.answer in
+    subst (λ rs. AnswersBy memory (Holds type) c.update_runs.result (update_at_places type c.in_ok-count.count (joined_runs rs) old new)) c.as_slice.ensures.value c.update_runs.ensures.answer.is in
     let gives : AnswersBy memory (Holds type) c.update_runs.result (update_at_places type total (joined_runs runs) old new) =
     subst (λ n. AnswersBy memory (Holds type) c.update_runs.result (update_at_places type n (joined_runs runs) old new)) (sym count) listed in
-    update_answers type c.args.shape.now (selection_of c.args.indexer.now) old new (joined_runs runs) c.update_runs.result places gives
+    record { exact = record { is = update_answers type c.args.shape.now (selection_of c.args.indexer.now) old new (joined_runs runs) c.update_runs.result places gives; no_fault = search rules } }

@@ -1,4 +1,4 @@
-use Rattle.std.proofs.Common.{sym}
+use Rattle.std.proofs.Common.{rules, sym}
 use Rattle.zarrs_chunk.specs.Runs.{joined_runs}
 use Rattle.zarrs_array_bytes.proofs.AnswerLemmas.{update_fits, runs_answers}
 use Rattle.zarrs_array_bytes.proofs.update.update_runs.Goals as goal
@@ -11,6 +11,6 @@ pub write_elements-requires-clause-data_valid : goal.write_elements-requires-cla
 write_elements-requires-clause-data_valid c =
     (update_fits c.args.data_type.now c.args.count c.args.array c.args.new.now (joined_runs c.args.runs.now) (sym (c.in_ok-check_update.ensures {u = tt}).exact)).new_valid
 
-pub returns-clause-answer : goal.returns-clause-answer
-returns-clause-answer c =
-    runs_answers c.args.data_type.now c.args.count c.args.array c.args.new.now (joined_runs c.args.runs.now) c.write_elements.result (sym (c.in_ok-check_update.ensures {u = tt}).exact) c.write_elements.ensures.exact
+pub returns : goal.returns
+returns c =
+    record { answer = record { is = runs_answers c.args.data_type.now c.args.count c.args.array c.args.new.now (joined_runs c.args.runs.now) c.write_elements.result (sym (c.in_ok-check_update.ensures {u = tt}).exact) c.write_elements.ensures.exact; no_fault = search rules } }

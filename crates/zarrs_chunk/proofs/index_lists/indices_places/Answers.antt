@@ -14,5 +14,5 @@ returns-clause-places c = simp (list_all-map, map-map) (search rules)
 pub returns-clause-below : goal.returns-clause-below
 returns-clause-below c =
     let tuples : List (List ℕ) = map (λ tuple. tuple.items) c.args.tuples.now in
-    let is : places_of (indices tuples) c.args.shape.now ≡ Ok c.in_ok-places.places.items = returns-clause-places c in
+    let is : places_of (indices tuples) c.args.shape.now ≡ Ok c.in_ok-places.places.items = (returns-clause-places c).is in
     known_below (indices tuples) c.args.shape.now c.in_ok-places.places.items is

@@ -1,4 +1,4 @@
-use Rattle.std.proofs.Common.{◌≡◌, List, ℕ, Ok, subst, ◌∙◌}
+use Rattle.std.proofs.Common.{rules, ◌≡◌, List, ℕ, Ok, subst, ◌∙◌}
 use Rattle.zarrs_array_bytes.specs.Held.{raw_of}
 use Rattle.zarrs_array_bytes.specs.Present.{expansion_of}
 use Rattle.zarrs_array_bytes.proofs.ValidLemmas.{raw_items}
@@ -9,6 +9,9 @@ pub returns-clause-answer : goal.returns-clause-answer
 returns-clause-answer c =
     let type = c.args.data_type.now in
     let bytes : c.as_slice.result.now ≡ (raw_of c.args.mask).items = c.as_slice.ensures.value ∙ raw_items c.args.mask in
-    let is : expansion_of type c.args.self c.as_slice.result.now ≡ Ok c.in_ok-inner.inner = cc (c.in_ok-inner.ensures.exact) in
-    expanded_answers type c.args.self c.in_ok-inner.inner (raw_of c.args.mask) c.with_optional_mask.result
-    (subst (λ (xs : List ℕ). expansion_of type c.args.self xs ≡ Ok c.in_ok-inner.inner) bytes is) c.with_optional_mask.ensures.answer
+    let is : expansion_of type c.args.self c.as_slice.result.now ≡ Ok c.in_ok-inner.inner = cc (c.in_ok-inner.ensures.exact.is) in
+    record {
+      is = expanded_answers type c.args.self c.in_ok-inner.inner (raw_of c.args.mask) c.with_optional_mask.result
+          (subst (λ (xs : List ℕ). expansion_of type c.args.self xs ≡ Ok c.in_ok-inner.inner) bytes is) c.with_optional_mask.ensures.answer;
+      no_fault = search rules;
+    }

@@ -1,4 +1,4 @@
-use Rattle.std.proofs.Common.{◌≡◌, ◌<◌, All, length, Ok, sym, ap, ◌∙◌, subst}
+use Rattle.std.proofs.Common.{rules, ◌≡◌, ◌<◌, All, length, Ok, sym, ap, ◌∙◌, subst}
 use Rattle.zarrs_chunk.specs.Answer.{Answers, memory}
 use Rattle.zarrs_chunk.specs.Runs.{joined_runs}
 use Rattle.zarrs_array_bytes.specs.Held.{Held}
@@ -14,7 +14,7 @@ returns-then-count_set-mask-clause-answer c =
     let mask = c.args.mask.now in
     let valid : validity c.args.data_type.now (length mask) c.args.self ≡ Ok tt = sym (c.in_ok-validate.ensures {u = tt}).exact in
     let all : length (present_places mask) ≡ length mask = sym c.count_set.ensures ∙ c.if-count_set-mask.true in
-    whole_answers c.args.data_type.now c.args.self mask valid all
+    record { is = whole_answers c.args.data_type.now c.args.self mask valid all; no_fault = search rules }
 
 pub returns-clause-answer : goal.returns-clause-answer
 returns-clause-answer c =
@@ -22,8 +22,11 @@ returns-clause-answer c =
     let mask = c.args.mask.now in
     let runs = c.in_ok-runs.runs.items in
     let valid : validity type (length mask) c.args.self ≡ Ok tt = sym (c.in_ok-validate.ensures {u = tt}).exact in
-    let places : present_places mask ≡ joined_runs runs = cc (c.in_ok-runs.ensures.places) in
+    let places : present_places mask ≡ joined_runs runs = cc (c.in_ok-runs.ensures.places.is) in
     let same : joined_runs c.as_slice.result.now ≡ present_places mask = ap joined_runs c.as_slice.ensures.value ∙ sym places in
     let inside : All (λ p. p < length mask) (present_places mask) = subst (λ ps. All (λ p. p < length mask) ps) (sym places) (places_below (length mask) runs c.in_ok-runs.ensures.inside) in
-    present_answers type c.args.self mask c.at_runs.result valid inside c.at_runs.ensures.small
-    (subst (λ ps. Answers memory (λ (a : Held). a) c.at_runs.result (Ok (container_selection type c.args.self ps))) same c.at_runs.ensures.exact)
+    record {
+      is = present_answers type c.args.self mask c.at_runs.result valid inside c.at_runs.ensures.small
+          (subst (λ ps. Answers memory (λ (a : Held). a) c.at_runs.result (Ok (container_selection type c.args.self ps))) same c.at_runs.ensures.exact.is);
+      no_fault = search rules;
+    }

@@ -11,10 +11,10 @@ pub returns-clause-exact : goal.returns-clause-exact
 returns-clause-exact c =
     let fit : fill_fits c.args.data_type.now c.args.fill_value.now ≡ true = search rules in
     let sizes : sizes_fit c.args.data_type.now c.args.count ≡ Ok tt = sym (c.in_ok-check_sizes.ensures {u = tt}).exact in
-    let gives : Answers memory (λ (a : Held). a) c.fill_elements.result (Ok (container_fill c.args.data_type.now c.args.count c.args.fill_value.now)) = rw c.as_ne_bytes.ensures.value at c.fill_elements.ensures.exact in
-    fill_answers _ _ _ c.fill_elements.result fit sizes gives
+    let gives : Answers memory (λ (a : Held). a) c.fill_elements.result (Ok (container_fill c.args.data_type.now c.args.count c.args.fill_value.now)) = rw c.as_ne_bytes.ensures.value at c.fill_elements.ensures.exact.is in
+    record { is = fill_answers _ _ _ c.fill_elements.result fit sizes gives; no_fault = search rules }
 
 pub returns-clause-held : goal.returns-clause-held
 returns-clause-held c =
-    let gives : Answers memory (λ (a : Held). a) c.fill_elements.result (Ok (container_fill c.args.data_type.now c.args.count c.args.fill_value.now)) = rw c.as_ne_bytes.ensures.value at c.fill_elements.ensures.exact in
+    let gives : Answers memory (λ (a : Held). a) c.fill_elements.result (Ok (container_fill c.args.data_type.now c.args.count c.args.fill_value.now)) = rw c.as_ne_bytes.ensures.value at c.fill_elements.ensures.exact.is in
     held_is _ c.fill_elements.result gives
