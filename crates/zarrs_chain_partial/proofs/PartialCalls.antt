@@ -1,4 +1,5 @@
 -- The calls of reads in part.
+use Rattle.zarrs_data_type.specs.Form.{form_of}
 use Rattle.std.proofs.Common.{◌≡◌, ℕ, ◌-◌, ◌*◌, ◌<◌, ◌^◌, nat_lt, Bool, true, false, if◌then◌else◌, Option, List, [], ◌∷◌, length, map, replicate, Result, Ok, Err, IfOk, arith, refl, ap, sym, ◌∙◌, subst}
 use Rattle.std.specs.Prelude.{is_ok, IsOkAnd}
 use Rattle.std.specs.List.{sum_by}
@@ -69,19 +70,19 @@ seen_is_ok : {A C : Type 0} (g : A → C) (r : Result A CodecError) → is_ok (s
 seen_is_ok g (Ok x) e = refl
 seen_is_ok g (Err x) e = absurd cc
 
-pub bytes_is_ok : {B : Type 0} (f : BytesCodecs B) (order : Option Endianness) (sizes : List ℕ) (type : ElementType) (fill : List ℕ) → is_ok (codec_representation f (bytes_codec order) sizes type fill) ≡ true → is_ok (bytes_length order sizes type fill) ≡ true
+pub bytes_is_ok : {B : Type 0} (f : BytesCodecs B) (order : Option Endianness) (sizes : List ℕ) (type : ElementType) (fill : List ℕ) → is_ok (codec_representation f (bytes_codec order) sizes type fill) ≡ true → is_ok (bytes_length order (form_of sizes type fill)) ≡ true
 unfolding codec_representation
-bytes_is_ok f order sizes type fill e = seen_is_ok FixedSize (bytes_length order sizes type fill) e
+bytes_is_ok f order sizes type fill e = seen_is_ok FixedSize (bytes_length order (form_of sizes type fill)) e
 
-packed_is_ok : {B : Type 0} (f : BytesCodecs B) (settings : PackBitsSettings) (sizes : List ℕ) (type : ElementType) (fill : List ℕ) → is_ok (codec_representation f (packbits_codec settings) sizes type fill) ≡ true → is_ok (packed_layout settings sizes type fill) ≡ true
+packed_is_ok : {B : Type 0} (f : BytesCodecs B) (settings : PackBitsSettings) (sizes : List ℕ) (type : ElementType) (fill : List ℕ) → is_ok (codec_representation f (packbits_codec settings) sizes type fill) ≡ true → is_ok (packed_layout settings (form_of sizes type fill)) ≡ true
 unfolding codec_representation
-packed_is_ok f settings sizes type fill e = seen_is_ok value_len (packed_layout settings sizes type fill) (seen_is_ok FixedSize (packbits_length settings sizes type fill) e)
+packed_is_ok f settings sizes type fill e = seen_is_ok value_len (packed_layout settings (form_of sizes type fill)) (seen_is_ok FixedSize (packbits_length settings (form_of sizes type fill)) e)
 
-pub bytes_taken : {B : Type 0} (f : BytesCodecs B) (codec : ArrayToBytesCodec B) (order : Option Endianness) (sizes : List ℕ) (type : ElementType) (fill : List ℕ) → codec ≡ Bytes order → is_ok (codec_representation f (plain_codec codec) sizes type fill) ≡ true → is_ok (bytes_length order sizes type fill) ≡ true
+pub bytes_taken : {B : Type 0} (f : BytesCodecs B) (codec : ArrayToBytesCodec B) (order : Option Endianness) (sizes : List ℕ) (type : ElementType) (fill : List ℕ) → codec ≡ Bytes order → is_ok (codec_representation f (plain_codec codec) sizes type fill) ≡ true → is_ok (bytes_length order (form_of sizes type fill)) ≡ true
 unfolding plain_codec
 bytes_taken f codec order sizes type fill is e = bytes_is_ok f order sizes type fill (subst (λ x. is_ok (codec_representation f (plain_codec x) sizes type fill) ≡ true) is e)
 
-pub packed_taken : {B : Type 0} (f : BytesCodecs B) (codec : ArrayToBytesCodec B) (settings : PackBitsSettings) (sizes : List ℕ) (type : ElementType) (fill : List ℕ) → codec ≡ PackBits settings → is_ok (codec_representation f (plain_codec codec) sizes type fill) ≡ true → is_ok (packed_layout settings sizes type fill) ≡ true
+pub packed_taken : {B : Type 0} (f : BytesCodecs B) (codec : ArrayToBytesCodec B) (settings : PackBitsSettings) (sizes : List ℕ) (type : ElementType) (fill : List ℕ) → codec ≡ PackBits settings → is_ok (codec_representation f (plain_codec codec) sizes type fill) ≡ true → is_ok (packed_layout settings (form_of sizes type fill)) ≡ true
 unfolding plain_codec
 packed_taken f codec settings sizes type fill is e = packed_is_ok f settings sizes type fill (subst (λ x. is_ok (codec_representation f (plain_codec x) sizes type fill) ≡ true) is e)
 
@@ -91,7 +92,7 @@ variable_fits text fill e = refl
 variable_fits bytes fill e = refl
 variable_fits (optional type) fill e = absurd cc
 
-packed_fits : (settings : PackBitsSettings) (sizes : List ℕ) (type : ElementType) (fill : List ℕ) (l : _) → packed_layout settings sizes type fill ≡ Ok l → fill_fits type fill ≡ true
+packed_fits : (settings : PackBitsSettings) (sizes : List ℕ) (type : ElementType) (fill : List ℕ) (l : _) → packed_layout settings (form_of sizes type fill) ≡ Ok l → fill_fits type fill ≡ true
 packed_fits settings sizes (fixed width components sign) fill l e =
     let a = bind_ok (demand (fill_fits (fixed width components sign) fill) InvalidFillValue) _ l e in
     demand_ok (fill_fits (fixed width components sign) fill) InvalidFillValue a.1
@@ -102,9 +103,9 @@ packed_fits settings sizes (optional type) fill l e = absurd cc
 -- the fill value of a chunk that a codec to bytes takes fits the type
 codec_fits : {B : Type 0} (f : BytesCodecs B) (codec : PlainCodec B) (sizes : List ℕ) (type : ElementType) (fill : List ℕ) (r : BytesRepresentation) → codec_representation f codec sizes type fill ≡ Ok r → fill_fits type fill ≡ true
 unfolding codec_representation
-codec_fits f (bytes_codec order) sizes type fill r e = taken_fill order sizes type fill (seen_is_ok FixedSize (bytes_length order sizes type fill) (is_ok_of _ r e))
+codec_fits f (bytes_codec order) sizes type fill r e = taken_fill order sizes type fill (seen_is_ok FixedSize (bytes_length order (form_of sizes type fill)) (is_ok_of _ r e))
 codec_fits f (packbits_codec settings) sizes type fill r e =
-    let l = from_ok (packed_layout settings sizes type fill) (seen_is_ok value_len (packed_layout settings sizes type fill) (seen_is_ok FixedSize (packbits_length settings sizes type fill) (is_ok_of _ r e))) in
+    let l = from_ok (packed_layout settings (form_of sizes type fill)) (seen_is_ok value_len (packed_layout settings (form_of sizes type fill)) (seen_is_ok FixedSize (packbits_length settings (form_of sizes type fill)) (is_ok_of _ r e))) in
     packed_fits settings sizes type fill l.0 l.1
 codec_fits f (vlen_codec ia ix ib da dx db wide at_end) sizes type fill r e =
     let a = bind_ok (demand (is_variable type) (UnsupportedDataType codec.Vlen)) _ r e in
@@ -153,12 +154,12 @@ bytes_planned B view (Ok x) codec order sizes type fill places is h sum = subst 
 bytes_planned B view (Err e) codec order sizes type fill places is h sum = λ ne. let never : ⊥ = cc (h ne) in absurd never
 
 pub packed_planned : (B : Type 0) {A : Type 0} (view : A → List ByteSpan) (r : Result A CodecError) (codec : ArrayToBytesCodec B) (settings : PackBitsSettings) (sizes : List ℕ) (type : ElementType) (fill places : List ℕ) → codec ≡ PackBits settings
-    → is_ok (packed_layout settings sizes type fill) ≡ true → AnswersBy memory (λ x layout. IsPlan layout places (view x)) r (packed_layout settings sizes type fill)
+    → is_ok (packed_layout settings (form_of sizes type fill)) ≡ true → AnswersBy memory (λ x layout. IsPlan layout places (view x)) r (packed_layout settings (form_of sizes type fill))
     → AnswersBy memory (λ x (_ : Unit {0}). IsCodecPlan {B = B} (plain_codec codec) sizes type fill places (view x)) r no_refusal
 unfolding plain_codec
 packed_planned B view (Ok x) codec settings sizes type fill places is taken h = subst (λ k. IsCodecPlan {B = B} (plain_codec k) sizes type fill places (view x)) (sym is) h
 packed_planned B view (Err e) codec settings sizes type fill places is taken h = λ ne.
-    let l = from_ok (packed_layout settings sizes type fill) taken in
+    let l = from_ok (packed_layout settings (form_of sizes type fill)) taken in
     let never : ⊥ = cc (sym l.1 ∙ h ne) in
     absurd never
 

@@ -1,4 +1,5 @@
 -- Reads in part through a chain.
+use Rattle.zarrs_data_type.specs.Form.{form_of}
 use Rattle.std.proofs.Common.{◌≡◌, ℕ, suc, ◌<◌, true, Option, Some, None, List, [], ◌∷◌, ◌++◌, length, map, take, drop, get_or, Result, Ok, Err, IfOk, arith, refl, ap, sym, ◌∙◌, subst}
 use Rattle.std.specs.Prelude.{is_ok, is_some}
 use Rattle.std.specs.List.{All, range_with_len}
@@ -72,11 +73,11 @@ places_through type arrays sizes selection m e = rw (e, chained_of type arrays s
 
 -- ---- codecs to bytes
 
-layout_of : (settings : PackBitsSettings) (sizes : List ℕ) (type : ElementType) (fill : List ℕ) (r : BytesRepresentation) → seen FixedSize (packbits_length settings sizes type fill) ≡ Ok r → is_ok (packed_layout settings sizes type fill) ≡ true
+layout_of : (settings : PackBitsSettings) (sizes : List ℕ) (type : ElementType) (fill : List ℕ) (r : BytesRepresentation) → seen FixedSize (packbits_length settings (form_of sizes type fill)) ≡ Ok r → is_ok (packed_layout settings (form_of sizes type fill)) ≡ true
 layout_of settings sizes type fill r e =
-    let a = seen_ok FixedSize (packbits_length settings sizes type fill) r e in
-    let b = seen_ok value_len (packed_layout settings sizes type fill) a.0 a.1 in
-    is_ok_of (packed_layout settings sizes type fill) b.0 b.1
+    let a = seen_ok FixedSize (packbits_length settings (form_of sizes type fill)) r e in
+    let b = seen_ok value_len (packed_layout settings (form_of sizes type fill)) a.0 a.1 in
+    is_ok_of (packed_layout settings (form_of sizes type fill)) b.0 b.1
 
 filled_if : {A : Type 0} (r : Result A CodecError) (chunk : Chunk) → is_ok r ≡ true → (r >>= λ _. ok chunk) ≡ Ok chunk
 filled_if (Ok x) chunk h = refl
@@ -86,7 +87,7 @@ filled_if (Err e) chunk h = absurd cc
 pub codec_fills : {B : Type 0} (f : BytesCodecs B) (codec : PlainCodec B) (sizes : List ℕ) (type : ElementType) (fill : List ℕ) (r : BytesRepresentation) (places : List ℕ) → codec_representation f codec sizes type fill ≡ Ok r → codec_read f codec sizes type fill None places ≡ Ok (map (λ _. fill_element type fill) places)
 unfolding codec_representation
 codec_fills f (bytes_codec order) sizes type fill r places e = refl
-codec_fills f (packbits_codec settings) sizes type fill r places e = filled_if (packed_layout settings sizes type fill) (map (λ _. fill_element type fill) places) (layout_of settings sizes type fill r e)
+codec_fills f (packbits_codec settings) sizes type fill r places e = filled_if (packed_layout settings (form_of sizes type fill)) (map (λ _. fill_element type fill) places) (layout_of settings sizes type fill r e)
 codec_fills f (vlen_codec ia ix ib da dx db wide at_end) sizes type fill r places e = refl
 codec_fills f (optional_codec ma mx mb da dx db) sizes type fill r places e = refl
 

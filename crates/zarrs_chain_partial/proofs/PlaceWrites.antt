@@ -1,4 +1,5 @@
 -- What a write in place leaves through array codecs and `bytes`, and edits of chunks through any chain.
+use Rattle.zarrs_data_type.specs.Form.{form_of}
 use Rattle.std.proofs.Common.{◌≡◌, ℕ, ◌*◌, ◌<◌, ◌^◌, ◌||◌, nat_lt, Bool, true, false, Option, Some, None, List, [], ◌∷◌, length, map, replicate, get_or, Result, Ok, Err, arith, refl, ap, ap₂, sym, ◌∙◌, subst}
 use Rattle.std.specs.List.{All}
 use Rattle.std.specs.Prelude.{is_ok, IfOk, IsOkAnd, OnOk}
@@ -59,7 +60,7 @@ bytes_alone [] (optional_codec ma mx mb da dx db) order e = absurd cc
 bytes_alone (first ∷ rest) codec order e = absurd cc
 
 -- it takes such chunks
-pub in_place_taken : {B : Type 0} (f : BytesCodecs B) (outer : List B) (codec : PlainCodec B) (order : Option Endianness) (sizes : List ℕ) (type : ElementType) (fill : List ℕ) → order_in_place outer codec ≡ Some order → is_ok (codec_representation f codec sizes type fill) ≡ true → is_ok (bytes_length order sizes type fill) ≡ true
+pub in_place_taken : {B : Type 0} (f : BytesCodecs B) (outer : List B) (codec : PlainCodec B) (order : Option Endianness) (sizes : List ℕ) (type : ElementType) (fill : List ℕ) → order_in_place outer codec ≡ Some order → is_ok (codec_representation f codec sizes type fill) ≡ true → is_ok (bytes_length order (form_of sizes type fill)) ≡ true
 in_place_taken f outer codec order sizes type fill alone e =
     bytes_is_ok f order sizes type fill (subst (λ x. is_ok (codec_representation f x sizes type fill) ≡ true) (bytes_alone outer codec order alone).1 e)
 
@@ -67,9 +68,9 @@ ok_length : (r : Result ℕ CodecError) → is_ok r ≡ true → (n : ℕ) × (r
 ok_length (Ok n) h = (n, refl)
 ok_length (Err e) h = absurd cc
 
-bytes_countable : (order : Option Endianness) (sizes : List ℕ) (type : ElementType) (fill : List ℕ) → is_ok (bytes_length order sizes type fill) ≡ true → sizes_fit type (product sizes) ≡ Ok tt
+bytes_countable : (order : Option Endianness) (sizes : List ℕ) (type : ElementType) (fill : List ℕ) → is_ok (bytes_length order (form_of sizes type fill)) ≡ true → sizes_fit type (product sizes) ≡ Ok tt
 bytes_countable order sizes (fixed width components sign) fill t =
-    let n = ok_length (bytes_length order sizes (fixed width components sign) fill) t in
+    let n = ok_length (bytes_length order (form_of sizes (fixed width components sign) fill)) t in
     let k = bytes_coding.taken order sizes width components sign fill n.0 n.1 in
     let small : product sizes * element_size width components < 2 ^ 64 = omega (arith, k.len_is, k.small) in
     let test : nat_lt (product sizes * element_size width components) (2 ^ 64) ≡ true = grind (arith, nat_tests, small) in
@@ -78,11 +79,11 @@ bytes_countable order sizes text fill t = absurd cc
 bytes_countable order sizes bytes fill t = absurd cc
 bytes_countable order sizes (optional type) fill t = absurd cc
 
-codec_written : {B : Type 0} (f : BytesCodecs B) (codec : PlainCodec B) (order : Option Endianness) (sizes : List ℕ) (type : ElementType) (fill value : List ℕ) (chunk : Chunk) → codec ≡ bytes_codec order → BytesWritten order sizes type fill value chunk → CodecWritten f codec sizes type fill value chunk
+codec_written : {B : Type 0} (f : BytesCodecs B) (codec : PlainCodec B) (order : Option Endianness) (sizes : List ℕ) (type : ElementType) (fill value : List ℕ) (chunk : Chunk) → codec ≡ bytes_codec order → BytesWritten order (form_of sizes type fill) value chunk → CodecWritten f codec sizes type fill value chunk
 unfolding CodecWritten
 codec_written f codec order sizes type fill value chunk is w = subst (λ x. CodecWritten f x sizes type fill value chunk) (sym is) w
 
-codec_stands : {B : Type 0} (f : BytesCodecs B) (codec : PlainCodec B) (order : Option Endianness) (sizes : List ℕ) (type : ElementType) (fill value : List ℕ) (chunk : Chunk) → codec ≡ bytes_codec order → CodecStands f codec sizes type fill value chunk → BytesStands order sizes type fill value chunk
+codec_stands : {B : Type 0} (f : BytesCodecs B) (codec : PlainCodec B) (order : Option Endianness) (sizes : List ℕ) (type : ElementType) (fill value : List ℕ) (chunk : Chunk) → codec ≡ bytes_codec order → CodecStands f codec sizes type fill value chunk → BytesStands order (form_of sizes type fill) value chunk
 unfolding CodecStands
 codec_stands f codec order sizes type fill value chunk is s = subst (λ x. CodecStands f x sizes type fill value chunk) is s
 
@@ -213,12 +214,12 @@ memory_too e h = first_false (memory e) (fault e) h
 -- ---- a chain of array codecs and `bytes`
 
 module _ {B : Type 0} (f : BytesCodecs B) (form : ChunkForm B) (encoded : List ℕ) (r : BytesRepresentation) (h : IsReadable f form.chain form.sizes form.type form.fill encoded r) (order : Option Endianness) (alone : order_in_place form.chain.outer form.chain.codec ≡ Some order) where
-  at_bytes : is_ok (bytes_length order h.map_is.encoded form.type form.fill) ≡ true
-  at_bytes = subst (λ (s : List ℕ). is_ok (bytes_length order s form.type form.fill) ≡ true) (sym h.encoded_is)
+  at_bytes : is_ok (bytes_length order (form_of h.map_is.encoded form.type form.fill)) ≡ true
+  at_bytes = subst (λ (s : List ℕ). is_ok (bytes_length order (form_of s form.type form.fill)) ≡ true) (sym h.encoded_is)
       (in_place_taken f form.chain.outer form.chain.codec order encoded form.type form.fill alone (is_ok_of (codec_representation f form.chain.codec encoded form.type form.fill) r h.measured))
 
   -- what `bytes` writes of the moved chunk the chain writes of the chunk
-  written_through : (value : List ℕ) (chunk : Chunk) → IsChunk form.type (product form.sizes) chunk → BytesWritten order h.map_is.encoded form.type form.fill value (moved_chunk h.map_is chunk) → ChainWritten f form.chain form.sizes form.type form.fill value chunk
+  written_through : (value : List ℕ) (chunk : Chunk) → IsChunk form.type (product form.sizes) chunk → BytesWritten order (form_of h.map_is.encoded form.type form.fill) value (moved_chunk h.map_is chunk) → ChainWritten f form.chain form.sizes form.type form.fill value chunk
   written_through value chunk is w =
       let alone' = bytes_alone form.chain.outer form.chain.codec order alone in
       let around : OuterWritten f [] value value = (w.small, refl) in
@@ -235,29 +236,29 @@ module _ {B : Type 0} (f : BytesCodecs B) (form : ChunkForm B) (encoded : List �
       }
 
   -- what is left where a write starts from the moved chunk
-  left_through : (stored : Option (List ℕ)) (chunk : Chunk) (places : List ℕ) (new : Held) → IsChunk form.type (product form.sizes) chunk → StartsFrom order h.map_is.encoded form.type form.fill stored (moved_chunk h.map_is chunk) → All (λ place. place < product form.sizes) places → data_fit form.type (length places) new ≡ Ok tt
-      → ChainWritten f form.chain form.sizes form.type form.fill (bytes_left order h.map_is.encoded form.type form.fill stored (map h.map_is.to places) new) (with_elements form.type chunk places new)
+  left_through : (stored : Option (List ℕ)) (chunk : Chunk) (places : List ℕ) (new : Held) → IsChunk form.type (product form.sizes) chunk → StartsFrom order (form_of h.map_is.encoded form.type form.fill) stored (moved_chunk h.map_is chunk) → All (λ place. place < product form.sizes) places → data_fit form.type (length places) new ≡ Ok tt
+      → ChainWritten f form.chain form.sizes form.type form.fill (bytes_left order (form_of h.map_is.encoded form.type form.fill) stored (map h.map_is.to places) new) (with_elements form.type chunk places new)
   left_through stored chunk places new is starts inside fit =
       let m = h.map_is in
       let there = map m.to places in
       let fit_there : data_fit form.type (length there) new ≡ Ok tt = ap (λ (n : ℕ). data_fit form.type n new) (length-map places m.to) ∙ fit in
       let w = write_updates order m.encoded form.type form.fill stored (moved_chunk m chunk) there new at_bytes starts (moved_inside form.sizes m places h.is_map inside) fit_there in
-      written_through (bytes_left order m.encoded form.type form.fill stored there new) (with_elements form.type chunk places new) (edited_is form.sizes form.type chunk places new is fit)
-      (subst (λ (c : Chunk). BytesWritten order m.encoded form.type form.fill (bytes_left order m.encoded form.type form.fill stored there new) c) (with_moved form.sizes m form.type chunk places new h.is_map is.count_is inside) w)
+      written_through (bytes_left order (form_of m.encoded form.type form.fill) stored there new) (with_elements form.type chunk places new) (edited_is form.sizes form.type chunk places new is fit)
+      (subst (λ (c : Chunk). BytesWritten order (form_of m.encoded form.type form.fill) (bytes_left order (form_of m.encoded form.type form.fill) stored there new) c) (with_moved form.sizes m form.type chunk places new h.is_map is.count_is inside) w)
 
   -- what a write in place leaves at these places
   places_left : (stored : Option (List ℕ)) (places : List ℕ) (new : Held) → fill_fits form.type form.fill ≡ true → All (λ place. place < product form.sizes) places → data_fit form.type (length places) new ≡ Ok tt
-      → value_left f form (Some order) stored places new ≡ Ok (bytes_left order h.map_is.encoded form.type form.fill stored (map h.map_is.to places) new)
+      → value_left f form (Some order) stored places new ≡ Ok (bytes_left order (form_of h.map_is.encoded form.type form.fill) stored (map h.map_is.to places) new)
   places_left (Some value) places new fits inside fit =
       rw (h.mapped, length-map places h.map_is.to) refl
   places_left None places new fits inside fit =
       let chunk = filled_chunk form.sizes form.type form.fill in
-      chain_value_only f form.chain form.sizes form.type form.fill (bytes_left order h.map_is.encoded form.type form.fill None (map h.map_is.to places) new) (with_elements form.type chunk places new)
+      chain_value_only f form.chain form.sizes form.type form.fill (bytes_left order (form_of h.map_is.encoded form.type form.fill) None (map h.map_is.to places) new) (with_elements form.type chunk places new)
       (left_through None chunk places new (filled_is form.sizes form.type form.fill fits) (moved_filled form.sizes h.map_is (fill_element form.type form.fill) h.is_map) inside fit)
 
   -- and at a selection
   pub selection_in_place : (stored : Option (List ℕ)) (selection : Selection) (new : Held) (there : List ℕ) → fill_fits form.type form.fill ≡ true → written_places form.type form.chain.arrays form.sizes selection new ≡ Ok there
-      → selection_left f form (Some order) stored selection new ≡ Ok (bytes_left order encoded form.type form.fill stored there new)
+      → selection_left f form (Some order) stored selection new ≡ Ok (bytes_left order (form_of encoded form.type form.fill) stored there new)
   selection_in_place stored selection new there fits e =
       let a = bind_ok (data_places form.sizes form.type selection new) _ there e in
       let b = bind_ok (arrays_map form.type form.chain.arrays form.sizes) _ there a.2 in
@@ -266,7 +267,7 @@ module _ {B : Type 0} (f : BytesCodecs B) (form : ChunkForm B) (encoded : List �
       let inside = data_inside form.sizes form.type selection new a.0 a.1 in
       ap (λ (x : Result (List ℕ) CodecError). x >>= λ places. value_left f form (Some order) stored places new) a.1
       ∙ places_left stored a.0 new fits inside.0 inside.1
-      ∙ ap₂ (λ (s ps : List ℕ). ok (bytes_left order s form.type form.fill stored ps new)) h.encoded_is is
+      ∙ ap₂ (λ (s ps : List ℕ). ok (bytes_left order (form_of s form.type form.fill) stored ps new)) h.encoded_is is
 
 -- ---- edits of chunks through any chain
 
@@ -280,14 +281,14 @@ module _ {B : Type 0} (f : BytesCodecs B) (form : ChunkForm B) (encoded : List �
 
   -- a write in place starts from the moved chunk
   starts_moved : (order : Option Endianness) → order_in_place form.chain.outer form.chain.codec ≡ Some order → (value : List ℕ) (chunk : Chunk) → ChainStands f form.chain form.sizes form.type form.fill value chunk
-      → StartsFrom order h.map_is.encoded form.type form.fill (Some value) (moved_chunk h.map_is chunk)
+      → StartsFrom order (form_of h.map_is.encoded form.type form.fill) (Some value) (moved_chunk h.map_is chunk)
   starts_moved order alone value chunk s =
       let a = bytes_alone form.chain.outer form.chain.codec order alone in
       let same : s.map_is ≡ h.map_is = ok_is s.map_is h.map_is (sym s.mapped ∙ h.mapped) in
       let below : s.below ≡ value = outer_none f form.chain.outer s.size value s.below a.0 s.opened in
       let b = codec_stands f form.chain.codec order s.map_is.encoded form.type form.fill s.below (moved_chunk s.map_is chunk) a.1 s.stands in
-      subst (λ (m : CoordinateMap). BytesStands order m.encoded form.type form.fill value (moved_chunk m chunk)) same
-      (subst (λ (v : List ℕ). BytesStands order s.map_is.encoded form.type form.fill v (moved_chunk s.map_is chunk)) below b)
+      subst (λ (m : CoordinateMap). BytesStands order (form_of m.encoded form.type form.fill) value (moved_chunk m chunk)) same
+      (subst (λ (v : List ℕ). BytesStands order (form_of s.map_is.encoded form.type form.fill) v (moved_chunk s.map_is chunk)) below b)
 
   -- what is left, if anything is, is what is written for the chunk with the new elements; and what is written for it is left
   pub left_by : (by : Option (Option Endianness)) → order_in_place form.chain.outer form.chain.codec ≡ by → (stored : Option (List ℕ)) (chunk : Chunk) (places : List ℕ) (new : Held) → EditStarts f form stored chunk → All (λ place. place < product form.sizes) places → data_fit form.type (length places) new ≡ Ok tt

@@ -1,7 +1,11 @@
 -- What a read in part answers through a chain.
-use Rattle.std.specs.Prelude.{◌≡◌, ℕ, ◌-◌, ◌*◌, Bool, true, false, if◌then◌else◌, Option, Some, None, IfSome, IfOk, IsOkAnd, List, [], ◌∷◌, length, map, sum_by, Result, Ok}
-use Rattle.zarrs_chunk.specs.Answer.{◌>>=◌, seen}
-use Rattle.zarrs_chunk.specs.Selection.{Selection, places_of}
+use Rattle.zarrs_chain_parts.specs.Stands.{ChainStands}
+use Rattle.zarrs_array_bytes.specs.Validity.{Holds}
+use Rattle.zarrs_array_bytes.specs.Held.{Held}
+use Rattle.zarrs_data_type.specs.Form.{form_of}
+use Rattle.std.specs.Prelude.{◌≡◌, ℕ, ◌-◌, ◌*◌, Bool, true, false, if◌then◌else◌, Option, Some, None, IfSome, IfOk, IsOkAnd, List, [], ◌∷◌, length, map, sum_by, Result, Ok, Err, IfErr}
+use Rattle.zarrs_chunk.specs.Answer.{◌>>=◌, seen, AnswersBy, memory, memory_or_fault, is_fault}
+use Rattle.zarrs_chunk.specs.Selection.{Selection, places_of, bounds_of}
 use Rattle.zarrs_chunk.specs.declared.codec_error.CodecError.{CodecError}
 use Rattle.zarrs_data_type.specs.Element.{Chunk, fill_element}
 use Rattle.zarrs_data_type.specs.ElementType.{ElementType}
@@ -9,7 +13,7 @@ use Rattle.zarrs_array_bytes.specs.Elements.{select}
 use Rattle.zarrs_codec.specs.ByteRanges.{range_indices}
 use Rattle.zarrs_codec.specs.ByteSpan.{ByteSpan}
 use Rattle.zarrs_codec.specs.BytesToBytesCodec.{BytesCodecs}
-use Rattle.zarrs_codec.specs.StorageState.{are_sure}
+use Rattle.zarrs_codec.specs.StorageState.{are_sure, StorageState}
 use Rattle.zarrs_codec.specs.declared.bytes_representation.BytesRepresentation.{BytesRepresentation}
 use Rattle.zarrs_array_to_array.specs.ArrayToArrayCodec.{ArrayMapping}
 use Rattle.zarrs_bytes.specs.PartialRead.{place_bytes, place_size, read_places}
@@ -45,7 +49,7 @@ whole_read decode sizes type fill (Some value) places = do
 -- the elements at these places of a chunk that a codec to bytes gets: of `bytes` and `packbits` by the places' bytes alone, of those with chains inside by the whole chunk
 abbrev pub codec_read : {B : Type 0} → BytesCodecs B → PlainCodec B → PlaceReader
 codec_read f (bytes_codec order) sizes type fill stored places = read_places order type fill stored places
-codec_read f (packbits_codec settings) sizes type fill stored places = read_places_of settings sizes type fill stored places
+codec_read f (packbits_codec settings) sizes type fill stored places = read_places_of settings (form_of sizes type fill) stored places
 codec_read f (vlen_codec ia ix ib da dx db wide at_end) sizes type fill stored places =
     whole_read (codec_chunk f (vlen_codec ia ix ib da dx db wide at_end)) sizes type fill stored places
 codec_read f (optional_codec ma mx mb da dx db) sizes type fill stored places =
@@ -88,7 +92,7 @@ planned_places form selection =
 -- the numbers of the bytes that hold the elements at these places; none of a codec with chains inside
 abbrev pub codec_place_bytes : {B : Type 0} → PlainCodec B → List ℕ → ElementType → List ℕ → List ℕ → Result (List ℕ) CodecError
 codec_place_bytes (bytes_codec order) sizes type fill places = Ok (place_bytes (place_size type) places)
-codec_place_bytes (packbits_codec settings) sizes type fill places = bytes_of_places settings sizes type fill places
+codec_place_bytes (packbits_codec settings) sizes type fill places = bytes_of_places settings (form_of sizes type fill) places
 codec_place_bytes (vlen_codec ia ix ib da dx db wide at_end) sizes type fill places = Ok []
 codec_place_bytes (optional_codec ma mx mb da dx db) sizes type fill places = Ok []
 
@@ -96,7 +100,7 @@ codec_place_bytes (optional_codec ma mx mb da dx db) sizes type fill places = Ok
 abbrev pub IsCodecPlan : {B : Type 0} → PlainCodec B → List ℕ → ElementType → List ℕ → List ℕ → List ByteSpan → Type 0
 IsCodecPlan (bytes_codec order) sizes type fill places ranges =
     (range_indices ranges ≡ place_bytes (place_size type) places) × (sum_by (λ range. range.end - range.start) ranges ≡ length places * place_size type)
-IsCodecPlan (packbits_codec settings) sizes type fill places ranges = IsOkAnd (packed_layout settings sizes type fill) (λ layout. IsPlan layout places ranges)
+IsCodecPlan (packbits_codec settings) sizes type fill places ranges = IsOkAnd (packed_layout settings (form_of sizes type fill)) (λ layout. IsPlan layout places ranges)
 IsCodecPlan (vlen_codec ia ix ib da dx db wide at_end) sizes type fill places ranges = ⊥
 IsCodecPlan (optional_codec ma mx mb da dx db) sizes type fill places ranges = ⊥
 
@@ -118,3 +122,15 @@ planned_bytes f form selection = do
 -- P, where a read asks for the bytes of its places alone and these are sure
 abbrev pub WhereSure : {B : Type 0} → BytesCodecs B → ChunkForm B → Selection → Option (ℕ → Bool) → Type 0 → Type 0
 WhereSure f form selection sure P = IfOk (planned_bytes f form selection) (λ plan. IfSome plan (λ numbers. are_sure sure numbers ≡ true → P))
+
+-- ---- what a read gives
+
+-- The answer is a container of the elements at the selected places, of the chunk that the stored value stands for, or of fill elements where nothing is stored; or the first refusal. Only a want of memory or a failure of the handle may come in its place, a failure behind the refusals of the selection, and never where the read asks for the bytes of its places alone and these are sure.
+pub record ReadsChunk {B : Type 0} (f : BytesCodecs B) (form : ChunkForm B) (before : StorageState) (selection : Selection) (result : Result Held CodecError) : Type 0 where
+  pub selected : (value : List ℕ) (chunk : Chunk) → before.value ≡ Some value → ChainStands f form.chain form.sizes form.type form.fill value chunk
+      → AnswersBy memory_or_fault (Holds form.type) result (seen (select chunk) (places_of selection form.sizes))
+  pub unstored : before.value ≡ None
+      → AnswersBy memory_or_fault (Holds form.type) result (seen (map (λ _. fill_element form.type form.fill)) (places_of selection form.sizes))
+  pub exact : AnswersBy memory_or_fault (Holds form.type) result (stored_read f form before.value selection)
+  pub indexer_first : IfErr (bounds_of selection form.sizes) (λ cause. AnswersBy memory (Holds form.type) result (Err cause))
+  pub sure : WhereSure f form selection before.sure (is_fault result ≡ false)

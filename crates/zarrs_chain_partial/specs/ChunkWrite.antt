@@ -1,8 +1,9 @@
 -- What a write in part leaves through a chain.
-use Rattle.std.specs.Prelude.{◌≡◌, ℕ, Bool, Option, Some, None, List, [], ◌∷◌, length, map, Result, Ok}
-use Rattle.zarrs_chunk.specs.Answer.{◌>>=◌}
+use Rattle.zarrs_codec.specs.StorageState.{StorageState}
+use Rattle.std.specs.Prelude.{◌≡◌, ℕ, Bool, Option, Some, None, List, [], ◌∷◌, length, map, Result, Ok, Err, IfErr, OnOk, IsOkAnd}
+use Rattle.zarrs_chunk.specs.Answer.{◌>>=◌, Answers, memory, memory_or_fault, seen}
 use Rattle.zarrs_chunk.specs.ChunkShape.{product}
-use Rattle.zarrs_chunk.specs.Selection.{Selection}
+use Rattle.zarrs_chunk.specs.Selection.{Selection, bounds_of}
 use Rattle.zarrs_chunk.specs.declared.codec_error.CodecError.{CodecError}
 use Rattle.zarrs_data_type.specs.Element.{Chunk}
 use Rattle.zarrs_data_type.specs.declared.endianness.Endianness.{Endianness}
@@ -12,7 +13,7 @@ use Rattle.zarrs_array_bytes.specs.Elements.{elements}
 use Rattle.zarrs_array_bytes.specs.Held.{Held}
 use Rattle.zarrs_codec.specs.ArrayWriter.{ArrayWriter}
 use Rattle.zarrs_codec.specs.BytesToBytesCodec.{BytesCodecs}
-use Rattle.zarrs_codec.specs.ChunkEdits.{data_checked, data_places, with_elements}
+use Rattle.zarrs_codec.specs.ChunkEdits.{data_checked, data_places, with_elements, edited_chunk}
 use Rattle.zarrs_array_to_array.specs.ArrayToArrayCodec.{ArrayMapping}
 use Rattle.zarrs_bytes.specs.BytesCodec.{spelling}
 use Rattle.zarrs_bytes.specs.PartialRead.{place_size}
@@ -90,3 +91,13 @@ EditStarts f form (Some value) chunk = ChainStands f form.chain form.sizes form.
 abbrev pub StoresChunk : {B : Type 0} → BytesCodecs B → ChunkForm B → Option (List ℕ) → Chunk → Type 0
 StoresChunk f form None chunk = ⊥
 StoresChunk f form (Some value) chunk = ChainWritten f form.chain form.sizes form.type form.fill value chunk
+
+-- Where an edit of what is stored starts from a chunk, it is accepted exactly where the selection is in bounds, the new elements fit it and a value is written for the chunk with these; the value afterwards is that one, the last write of a place standing. Else the first refusal is answered. Only a want of memory or a failure of the handle may come in its place, a failure behind the refusals of the selection and of the elements, which leave the handle as it was.
+pub record EditsChunk {B : Type 0} (f : BytesCodecs B) (form : ChunkForm B) (before after : StorageState) (selection : Selection) (new : Held) (result : Result (Unit {0}) CodecError) : Type 0 where
+  pub found : OnOk result ((chunk : Chunk) → EditStarts f form before.value chunk → IsOkAnd (edited_chunk form.sizes form.type chunk selection new) (StoresChunk f form after.value))
+  pub only : (chunk : Chunk) (value : List ℕ) → EditStarts f form before.value chunk → IsOkAnd (edited_chunk form.sizes form.type chunk selection new) (ChainWritten f form.chain form.sizes form.type form.fill value)
+      → Answers memory_or_fault (λ _. after.value) result (Ok (Some value))
+  pub exact : Answers memory_or_fault (λ _. after.value) result (seen Some (stored_written f form before.value selection new))
+  pub indexer_first : IfErr (bounds_of selection form.sizes) (λ cause. Answers memory (λ done. done) result (Err cause))
+  pub checked_first : IfErr (data_checked form.sizes form.type selection new) (λ cause. Answers memory (λ done. done) result (Err cause))
+  pub untouched : IfErr (data_checked form.sizes form.type selection new) (λ _. after ≡ before)

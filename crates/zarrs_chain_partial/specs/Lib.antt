@@ -17,6 +17,7 @@ pub use Rattle.zarrs_array_bytes.specs.Validity
 pub use Rattle.zarrs_codec.specs.ArrayWriter
 pub use Rattle.zarrs_codec.specs.BytesToBytesCodec
 pub use Rattle.zarrs_codec.specs.ChunkEdits
+pub use Rattle.zarrs_codec.specs.CodersOverHandles
 pub use Rattle.zarrs_codec.specs.Refused
 pub use Rattle.zarrs_codec.specs.StorageState
 pub use Rattle.zarrs_chain_parts.specs.Chain

@@ -1,8 +1,9 @@
 -- What a partial decoder of a chain is made of.
-use Rattle.std.specs.Prelude.{ℕ, Bool, Option, is_some, List, Result, Ok, Err}
+use Rattle.std.specs.Prelude.{◌≡◌, ℕ, Bool, Option, is_some, List, Result, Ok, Err}
 use Rattle.zarrs_chunk.specs.declared.codec_error.CodecError.{CodecError}
 use Rattle.zarrs_codec.specs.ArrayReader.{ArrayReader}
 use Rattle.zarrs_codec.specs.BytesToBytesCodec.{BytesCodecs}
+use Rattle.zarrs_codec.specs.StorageState.{StorageState, after_reading}
 use Rattle.zarrs_codec.specs.declared.refused.Refused.{Refused}
 use Rattle.zarrs_chain_partial.specs.ChunkReader.{reader_form, reader_source}
 use Rattle.zarrs_chain_partial.specs.ChunkRead.{ChunkForm, stored_read}
@@ -43,3 +44,15 @@ chunk_reader f form stored in_part = record {
   answer = stored_read f form stored;
   in_part = in_part;
 }
+
+-- A reading call of a decoder answered so: of the handle's state all is as it was, but for the failure that is answered; the reference that is lent, the chunk's form and whether there is a cache are the same.
+pub record LeavesAll {C T L F : Type 0} (state : C → StorageState) (lent : C → L) (form : C → F) (cached : C → Bool) (before after : C) (result : Result T CodecError) : Type 0 where
+  pub left : state after ≡ after_reading result (state before)
+  pub same_reference : lent after ≡ lent before
+  pub form_kept : form after ≡ form before
+  pub cache_kept : cached after ≡ cached before
+
+-- that a call of a decoder changes nothing (`state` says what a handle keeps)
+abbrev pub DecoderLeaves : {H B T L : Type 0} {h : _} {b : _} → (H → StorageState) → (H → L) → ArrayPartialDecoder H B h b → ArrayPartialDecoder H B h b → Result T CodecError → Type 0
+DecoderLeaves state lent before after result =
+    LeavesAll (λ decoder. state (handle_of decoder)) (λ decoder. lent (handle_of decoder)) form_of is_cached before after result

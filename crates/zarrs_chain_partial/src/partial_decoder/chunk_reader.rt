@@ -1,23 +1,22 @@
 //! Reading a chunk in part through a chain, over a handle that the caller keeps.
-ghost use Rattle.std.specs.Prelude.{◌≡◌, ◌<◌, ◌≤◌, ◌+◌, ◌^◌, ℕ, List, All, Ok, Err, IfOk, IfErr, Some, None, length, map, option_map, is_ok, is_some, true, false};
-ghost use Rattle.zarrs_chunk.specs.Answer.{Answers, AnswersBy, fault, memory, memory_or_fault, is_fault, seen};
+ghost use Rattle.std.specs.Prelude.{◌≡◌, ◌<◌, ◌≤◌, ◌+◌, ◌^◌, All, Ok, Err, IfOk, IfErr, Some, None, length, option_map, is_ok, is_some, true, false};
+ghost use Rattle.zarrs_chunk.specs.Answer.{Answers, AnswersBy, fault, memory, memory_or_fault, is_fault, seen, Gives, GivesBy};
 ghost use Rattle.zarrs_chunk.specs.ChunkShape.{product};
 ghost use Rattle.zarrs_chunk.specs.Indexer.{selection_of};
 ghost use Rattle.zarrs_chunk.specs.Runs.{joined_runs, AreApart};
-ghost use Rattle.zarrs_chunk.specs.Selection.{bounds_of, places_of};
-ghost use Rattle.zarrs_data_type.specs.Element.{Chunk, fill_element};
+ghost use Rattle.zarrs_chunk.specs.Selection.{bounds_of};
+ghost use Rattle.zarrs_data_type.specs.Element.{Chunk};
 ghost use Rattle.zarrs_data_type.specs.FillValue.{fill_fits};
 ghost use Rattle.zarrs_array_bytes.specs.Elements.{elements, select};
-ghost use Rattle.zarrs_array_bytes.specs.Held.{raw_of};
+ghost use Rattle.zarrs_array_bytes.specs.Held.{items_of};
 ghost use Rattle.zarrs_array_bytes.specs.Validity.{Holds};
 ghost use Rattle.zarrs_codec.specs.StorageState.{after_reading, are_sure};
 ghost use Rattle.zarrs_chain_parts.specs.Chain.{chain_reads, codec_reads as codec_reads_of, taken_form as taken_form_of};
 ghost use Rattle.zarrs_codec_chain.specs.ChainView.{plain_chain};
-ghost use Rattle.zarrs_chain_partial.specs.ChunkRead.{codec_place_bytes, encoded_places, IsReadPlan, planned_places, reads_places, stored_read, WhereSure};
+ghost use Rattle.zarrs_chain_partial.specs.ChunkRead.{codec_place_bytes, encoded_places, IsReadPlan, planned_places, reads_places, WhereSure, ReadsChunk};
 ghost use Rattle.zarrs_chain_partial.specs.ChunkSource.{bytes_above, cache_fits, cache_stage as cache_stage_of, chunk_below, has_cache, held_by, is_kept, is_there, opened_chunk, source_made, source_places, source_read};
 ghost use Rattle.zarrs_chain_parts.specs.Laws.{IsChainOfMappings};
 ghost use Rattle.zarrs_chain_parts.specs.Representation.{codec_representation};
-ghost use Rattle.zarrs_chain_parts.specs.Stands.{ChainStands};
 
 use crate::partial_decoder::cache::{Cache, CacheStage};
 use crate::partial_decoder::codec_read::{planned_runs, read_runs, read_runs_of_bytes};
@@ -67,10 +66,9 @@ impl<'a, B: BytesToBytesCodecTraits> ChunkReader<'a, B> {
         data_type: &DataType,
         fill_value: &FillValue,
     ) -> Result<ChunkReader<'a, B>, CodecError>
-        ensures answer { Answers memory (λ reader. (reader.encoded, reader.representation)) result (taken_form_of B.functions (plain_chain chain.now) shape.now data_type.now fill_value.now) }
+        ensures answer { Gives (λ reader. (reader.encoded, reader.representation)) result (taken_form_of B.functions (plain_chain chain.now) shape.now data_type.now fill_value.now) }
         ensures form { IfOk result (λ reader. reader_form reader ≡ record { chain = plain_chain chain.now; sizes = shape.now; type = data_type.now; fill = fill_value.now }) }
         ensures uncached { IfOk result (λ reader. reader_is_cached reader ≡ false) }
-        ensures no_fault { is_fault result ≡ false }
     {
         let shape = shape.clone()?;
         let data_type = data_type.clone()?;
@@ -161,12 +159,11 @@ impl<'a, B: BytesToBytesCodecTraits> ChunkReader<'a, B> {
         alloc: Global,
         indexer: &Indexer,
     ) -> Result<Vec<(u64, u64)>, CodecError>
-        ensures answer { Answers memory (λ runs. joined_runs runs.items) result (encoded_places self.now.data_type (plain_chain self.now.chain.now).arrays self.now.shape (selection_of indexer.now)) }
+        ensures answer { Gives (λ runs. joined_runs runs.items) result (encoded_places self.now.data_type (plain_chain self.now.chain.now).arrays self.now.shape (selection_of indexer.now)) }
         ensures filled { IfOk result (λ runs. All (λ run. 0 < run.1) runs.items) }
         ensures inside { IfOk result (λ runs. All (λ run. run.0 + run.1 ≤ product self.now.encoded) runs.items) }
         ensures count { IfOk result (λ runs. length (joined_runs runs.items) < 2 ^ 64) }
         ensures apart { IfOk result (λ runs. AreApart runs.items) }
-        ensures no_fault { is_fault result ≡ false }
     {
         self.is_sound();
         encoded_runs(
@@ -191,8 +188,7 @@ impl<'a, B: BytesToBytesCodecTraits> ChunkReader<'a, B> {
         requires known { below ≤ length (plain_chain self.now.chain.now).outer }
         requires filled { All (λ run. 0 < run.1) runs.now }
         requires inside { All (λ run. run.0 + run.1 ≤ product self.now.encoded) runs.now }
-        ensures answer { AnswersBy memory (Holds self.now.data_type) result (source_places B.functions (plain_chain self.now.chain.now) self.now.encoded self.now.data_type self.now.fill_value self.now.representation (bytes_above below (option_map (λ bytes. (raw_of bytes).items) value.entry)) (joined_runs runs.now)) }
-        ensures no_fault { is_fault result ≡ false }
+        ensures answer { GivesBy (Holds self.now.data_type) result (source_places B.functions (plain_chain self.now.chain.now) self.now.encoded self.now.data_type self.now.fill_value self.now.representation (bytes_above below (option_map (λ bytes. (items_of bytes)) value.entry)) (joined_runs runs.now)) }
     {
         match value {
             None => read_runs_of_bytes::<B>(
@@ -283,8 +279,7 @@ impl<'a, B: BytesToBytesCodecTraits> ChunkReader<'a, B> {
         runs: &[(u64, u64)],
     ) -> Result<ArrayBytes<'static>, CodecError>
         requires inside { All (λ run. run.0 + run.1 ≤ product self.now.encoded) runs.now }
-        ensures answer { AnswersBy memory (Holds self.now.data_type) result (seen (λ chunk. select chunk (joined_runs runs.now)) (opened_chunk B.functions (plain_chain self.now.chain.now) self.now.encoded self.now.data_type self.now.fill_value self.now.representation value.items)) }
-        ensures no_fault { is_fault result ≡ false }
+        ensures answer { GivesBy (Holds self.now.data_type) result (seen (λ chunk. select chunk (joined_runs runs.now)) (opened_chunk B.functions (plain_chain self.now.chain.now) self.now.encoded self.now.data_type self.now.fill_value self.now.representation value.items)) }
     {
         let held = chunk_of_value(
             alloc,
@@ -309,8 +304,7 @@ impl<'a, B: BytesToBytesCodecTraits> ChunkReader<'a, B> {
         requires fits { cache_fits (codec_reads_of (plain_chain self.now.chain.now).codec) self.now.data_type (product self.now.encoded) (length (plain_chain self.now.chain.now).outer) (Cache.Chunk chunk.now) ≡ true }
         requires inside { All (λ run. run.0 + run.1 ≤ product self.now.encoded) runs.now }
         requires count { length (joined_runs runs.now) < 2 ^ 64 }
-        ensures answer { AnswersBy memory (Holds self.now.data_type) result (source_places B.functions (plain_chain self.now.chain.now) self.now.encoded self.now.data_type self.now.fill_value self.now.representation (chunk_below (option_map (elements self.now.data_type (product self.now.encoded)) chunk.now)) (joined_runs runs.now)) }
-        ensures no_fault { is_fault result ≡ false }
+        ensures answer { GivesBy (Holds self.now.data_type) result (source_places B.functions (plain_chain self.now.chain.now) self.now.encoded self.now.data_type self.now.fill_value self.now.representation (chunk_below (option_map (elements self.now.data_type (product self.now.encoded)) chunk.now)) (joined_runs runs.now)) }
     {
         match chunk {
             None => fill_runs(alloc, &self.data_type, &self.fill_value, runs),
@@ -380,11 +374,7 @@ impl<'a, B: BytesToBytesCodecTraits> ChunkReader<'a, B> {
         indexer: &Indexer,
     ) -> Result<ArrayBytes<'static>, CodecError>
         requires filled { IsFilledFrom B.functions self.now (H.state handle.old).value }
-        ensures selected { let form = reader_form self.now in (value : List ℕ) (chunk : Chunk) → (H.state handle.old).value ≡ Some value → ChainStands B.functions form.chain form.sizes form.type form.fill value chunk → AnswersBy memory_or_fault (Holds form.type) result (seen (select chunk) (places_of (selection_of indexer.now) form.sizes)) }
-        ensures unstored { let form = reader_form self.now in (H.state handle.old).value ≡ None → AnswersBy memory_or_fault (Holds form.type) result (seen (map (λ _. fill_element form.type form.fill)) (places_of (selection_of indexer.now) form.sizes)) }
-        ensures answer { AnswersBy memory_or_fault (Holds (reader_form self.now).type) result (stored_read B.functions (reader_form self.now) (H.state handle.old).value (selection_of indexer.now)) }
-        ensures indexer_first { IfErr (bounds_of (selection_of indexer.now) (reader_form self.now).sizes) (λ cause. AnswersBy memory (Holds (reader_form self.now).type) result (Err cause)) }
-        ensures sure { WhereSure B.functions (reader_form self.now) (selection_of indexer.now) (H.state handle.old).sure (is_fault result ≡ false) }
+        ensures reads { ReadsChunk B.functions (reader_form self.now) (H.state handle.old) (selection_of indexer.now) result }
         ensures calm { reader_is_cached self.now ≡ true → is_fault result ≡ false }
         ensures left { H.state handle.new ≡ after_reading result (H.state handle.old) }
         ensures same_reference { H.lent handle.new ≡ H.lent handle.old }
@@ -431,8 +421,7 @@ impl<'a, B: BytesToBytesCodecTraits> ChunkReader<'a, B> {
         alloc: Global,
         indexer: &Indexer,
     ) -> Result<Option<Vec<ByteRange>>, CodecError>
-        ensures plan { AnswersBy memory (λ ranges places. IsReadPlan B.functions (reader_form self.now) (option_map (λ v. v.items) ranges) places) result (planned_places (reader_form self.now) (selection_of indexer.now)) }
-        ensures no_fault { is_fault result ≡ false }
+        ensures plan { GivesBy (λ ranges places. IsReadPlan B.functions (reader_form self.now) (option_map (λ v. v.items) ranges) places) result (planned_places (reader_form self.now) (selection_of indexer.now)) }
     {
         let runs = self.runs(alloc, indexer)?;
         if !asks_for_places(self.chain) {
@@ -462,7 +451,7 @@ fn asks_for_places<B: BytesToBytesCodecTraits>(chain: &CodecChain<B>) -> bool
 
 /// The bytes that are kept, lent.
 fn lent_bytes(value: &Option<Vec<u8>>) -> Option<ArrayBytesRaw<'_>>
-    ensures value { option_map (λ bytes. (raw_of bytes).items) result ≡ option_map (λ items. items.items) value.now }
+    ensures value { option_map (λ bytes. (items_of bytes)) result ≡ option_map (λ items. items.items) value.now }
 {
     match value {
         None => None,

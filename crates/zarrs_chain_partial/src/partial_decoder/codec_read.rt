@@ -1,6 +1,6 @@
 //! Reading runs of places through a codec to bytes, of a handle or of bytes in memory.
 ghost use Rattle.std.specs.Prelude.{◌≡◌, ◌<◌, ◌≤◌, ◌+◌, IfOk, All, is_ok, option_map, true, false};
-ghost use Rattle.zarrs_chunk.specs.Answer.{AnswersBy, memory, memory_or_fault, is_fault, no_refusal};
+ghost use Rattle.zarrs_chunk.specs.Answer.{AnswersBy, memory, memory_or_fault, is_fault, no_refusal, GivesBy};
 ghost use Rattle.zarrs_chunk.specs.ChunkShape.{product};
 ghost use Rattle.zarrs_chunk.specs.Runs.{joined_runs};
 ghost use Rattle.zarrs_array_bytes.specs.Validity.{Holds};
@@ -65,8 +65,7 @@ pub(crate) fn read_runs_of_bytes<B: BytesToBytesCodecTraits>(
     requires in_part { (codec_reads_of (plain_codec codec.now)).partial_decode ≡ true }
     requires filled { All (λ run. 0 < run.1) runs.now }
     requires below { All (λ run. run.0 + run.1 ≤ product shape.now) runs.now }
-    ensures answer { AnswersBy memory (Holds data_type.now) result (codec_read B.functions (plain_codec codec.now) shape.now data_type.now fill_value.now (option_map (λ items. items.now) bytes.entry) (joined_runs runs.now)) }
-    ensures no_fault { is_fault result ≡ false }
+    ensures answer { GivesBy (Holds data_type.now) result (codec_read B.functions (plain_codec codec.now) shape.now data_type.now fill_value.now (option_map (λ items. items.now) bytes.entry) (joined_runs runs.now)) }
 {
     let mut lent = SliceHandle::new(bytes);
     read_runs::<SliceHandle<'_>, B>(alloc, codec, &mut lent, shape, data_type, fill_value, runs)
@@ -86,9 +85,8 @@ pub(crate) fn planned_runs<B: BytesToBytesCodecTraits>(
     requires in_part { (codec_reads_of (plain_codec codec.now)).partial_decode ≡ true }
     requires filled { All (λ run. 0 < run.1) runs.now }
     requires below { All (λ run. run.0 + run.1 ≤ product shape.now) runs.now }
-    ensures plan { AnswersBy memory (λ ranges _. IsCodecPlan (plain_codec codec.now) shape.now data_type.now fill_value.now (joined_runs runs.now) ranges.items) result no_refusal }
+    ensures plan { GivesBy (λ ranges _. IsCodecPlan (plain_codec codec.now) shape.now data_type.now fill_value.now (joined_runs runs.now) ranges.items) result no_refusal }
     ensures filled { IfOk result (λ ranges. All (λ range. range.start < range.end) ranges.items) }
-    ensures no_fault { is_fault result ≡ false }
 {
     match codec {
         ArrayToBytesCodec::Bytes(codec) => codec.planned_runs(alloc, data_type, fill_value, runs),

@@ -1,6 +1,6 @@
 //! Where an indexer's places go through the array codecs of a chain.
-ghost use Rattle.std.specs.Prelude.{◌≡◌, ◌<◌, ◌≤◌, ◌+◌, ◌^◌, IfOk, All, length, map, false};
-ghost use Rattle.zarrs_chunk.specs.Answer.{Answers, memory, is_fault};
+ghost use Rattle.std.specs.Prelude.{◌≡◌, ◌<◌, ◌≤◌, ◌+◌, ◌^◌, IfOk, All, length, map};
+ghost use Rattle.zarrs_chunk.specs.Answer.{Gives};
 ghost use Rattle.zarrs_chunk.specs.ChunkShape.{product};
 ghost use Rattle.zarrs_chunk.specs.Indexer.{selection_of};
 ghost use Rattle.zarrs_chunk.specs.Runs.{joined_runs, AreApart};
@@ -20,12 +20,11 @@ pub(crate) fn encoded_runs(
     shape: &ChunkShape,
     indexer: &Indexer,
 ) -> Result<Vec<(u64, u64)>, CodecError>
-    ensures answer { Answers memory (λ runs. joined_runs runs.items) result (chained_places (map mapping_of codecs.now) (selection_of indexer.now) shape.now) }
+    ensures answer { Gives (λ runs. joined_runs runs.items) result (chained_places (map mapping_of codecs.now) (selection_of indexer.now) shape.now) }
     ensures filled { IfOk result (λ runs. All (λ run. 0 < run.1) runs.items) }
     ensures below { IfOk result (λ runs. All (λ run. run.0 + run.1 ≤ product shape.now) runs.items) }
     ensures count { IfOk result (λ runs. length (joined_runs runs.items) < 2 ^ 64) }
     ensures apart { IfOk result (λ runs. AreApart runs.items) }
-    ensures no_fault { is_fault result ≡ false }
 {
     if codecs.is_empty() {
         return indexer.runs(alloc, shape);

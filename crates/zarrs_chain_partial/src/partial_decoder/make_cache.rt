@@ -1,8 +1,8 @@
 //! What a partial decoder keeps of the stored value when it is made.
 ghost use Rattle.std.specs.Prelude.{◌≡◌, ◌≤◌, ℕ, IfOk, Ok, Some, is_ok, length, map, take, drop, true, false};
-ghost use Rattle.zarrs_chunk.specs.Answer.{Answers, AnswersBy, memory, memory_or_fault, is_fault};
+ghost use Rattle.zarrs_chunk.specs.Answer.{Answers, memory_or_fault, is_fault, Gives, GivesBy};
 ghost use Rattle.zarrs_chunk.specs.ChunkShape.{product};
-ghost use Rattle.zarrs_array_bytes.specs.Held.{raw_of};
+ghost use Rattle.zarrs_array_bytes.specs.Held.{items_of};
 ghost use Rattle.zarrs_array_bytes.specs.Validity.{Holds};
 ghost use Rattle.zarrs_codec.specs.StorageState.{after_reading};
 ghost use Rattle.zarrs_chain_parts.specs.BytesStages.{outer_bytes, outer_representation as outer_representation_of};
@@ -84,8 +84,7 @@ pub(crate) fn cache_stage<B: BytesToBytesCodecTraits>(chain: &CodecChain<B>) -> 
 
 /// The bytes as a vector.
 fn into_vec(alloc: Global, bytes: ArrayBytesRaw<'_>) -> Result<Vec<u8>, CodecError>
-    ensures answer { Answers memory (λ items. items.items) result (Ok (raw_of bytes.entry).items) }
-    ensures no_fault { is_fault result ≡ false }
+    ensures answer { Gives (λ items. items.items) result (Ok (items_of bytes.entry)) }
 {
     match bytes {
         CowSlice::Borrowed(bytes) => Ok(Vec::from_slice(alloc, bytes)?),
@@ -103,8 +102,7 @@ fn bytes_above<B: BytesToBytesCodecTraits>(
     value: Vec<u8>,
 ) -> Result<Vec<u8>, CodecError>
     requires known { below ≤ length codecs.now }
-    ensures answer { Answers memory (λ items. items.items) result (outer_bytes B.functions (drop below codecs.now) (outer_representation_of B.functions (take below codecs.now) representation) value.items) }
-    ensures no_fault { is_fault result ≡ false }
+    ensures answer { Gives (λ items. items.items) result (outer_bytes B.functions (drop below codecs.now) (outer_representation_of B.functions (take below codecs.now) representation) value.items) }
 {
     let above = outer_representation(&codecs[..below], representation);
     let bytes = decode_bytes(alloc, &codecs[below..], &above, CowSlice::Owned(value))?;
@@ -123,8 +121,7 @@ pub(crate) fn chunk_below<B: BytesToBytesCodecTraits>(
     value: Vec<u8>,
 ) -> Result<ArrayBytes<'static>, CodecError>
     requires taken { is_ok (codec_representation B.functions (plain_chain chain.now).codec encoded.now data_type.now fill_value.now) ≡ true }
-    ensures answer { AnswersBy memory (Holds data_type.now) result (opened_chunk B.functions (plain_chain chain.now) encoded.now data_type.now fill_value.now representation.now value.items) }
-    ensures no_fault { is_fault result ≡ false }
+    ensures answer { GivesBy (Holds data_type.now) result (opened_chunk B.functions (plain_chain chain.now) encoded.now data_type.now fill_value.now representation.now value.items) }
 {
     let bytes = decode_bytes(
         alloc,

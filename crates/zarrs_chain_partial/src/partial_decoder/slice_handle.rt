@@ -1,7 +1,7 @@
 //! Bytes in memory as a handle.
 ghost use Rattle.std.specs.Prelude.{◌≡◌, ◌++◌, IfOk, IfErr, Some, None, true, false, length, nat_le, option_map};
 ghost use Rattle.std.specs.List.{between};
-ghost use Rattle.zarrs_chunk.specs.Answer.{Answers, memory, is_fault};
+ghost use Rattle.zarrs_chunk.specs.Answer.{memory, Gives};
 ghost use Rattle.zarrs_codec.specs.ByteRanges.{read_value};
 
 use std::alloc::Global;
@@ -42,8 +42,7 @@ fn room_for(len: usize, ranges: &[ByteRange]) -> usize {
 
 /// The ranges' bytes of a value, joined in order.
 fn gather(alloc: Global, value: &[u8], ranges: &[ByteRange]) -> Result<Vec<u8>, CodecError>
-    ensures answer { Answers memory (λ bytes. bytes.items) result (read_value value.now ranges.now) }
-    ensures no_fault { is_fault result ≡ false }
+    ensures answer { Gives (λ bytes. bytes.items) result (read_value value.now ranges.now) }
 {
     let mut bytes = Vec::with_capacity(alloc, room_for(value.len(), ranges))?;
     for range in ranges {

@@ -1,5 +1,5 @@
 ghost use Rattle.std.specs.Prelude.{◌≡◌, ◌<◌, ◌≤◌, ◌+◌, ◌^◌, ◌&&◌, ℕ, List, Ok, Err, IfOk, IfErr, All, Some, None, is_ok, is_some, length, map, option_map, true, false};
-ghost use Rattle.zarrs_chunk.specs.Answer.{Answers, AnswersBy, fault, memory, memory_or_fault, is_fault, seen};
+ghost use Rattle.zarrs_chunk.specs.Answer.{Answers, AnswersBy, fault, memory, memory_or_fault, is_fault, seen, Gives, GivesBy};
 ghost use Rattle.zarrs_chunk.specs.ChunkShape.{product};
 ghost use Rattle.zarrs_chunk.specs.Indexer.{selection_of};
 ghost use Rattle.zarrs_chunk.specs.Runs.{joined_runs};
@@ -57,9 +57,8 @@ fn decoded<B: BytesToBytesCodecTraits>(
     fill_value: &FillValue,
 ) -> Result<ArrayBytes<'static>, CodecError>
     requires taken { is_ok (codec_representation B.functions (plain_vlen codec.now) shape.now data_type.now fill_value.now) ≡ true }
-    ensures answer { Answers memory (elements data_type.now (product shape.now)) result (codec_chunk B.functions (plain_vlen codec.now) shape.now data_type.now fill_value.now value.items) }
+    ensures answer { Gives (elements data_type.now (product shape.now)) result (codec_chunk B.functions (plain_vlen codec.now) shape.now data_type.now fill_value.now value.items) }
     ensures valid { IfOk result (λ held. validity data_type.now (product shape.now) held ≡ Ok tt) }
-    ensures no_fault { is_fault result ≡ false }
 {
     vlen_decode(
         alloc,
@@ -88,8 +87,7 @@ fn read_runs<B: BytesToBytesCodecTraits>(
     requires counted { product shape.now < 2 ^ 64 }
     requires inside { All (λ run. run.0 + run.1 ≤ product shape.now) runs.now }
     requires count { length (joined_runs runs.now) < 2 ^ 64 }
-    ensures answer { AnswersBy memory (Holds data_type.now) result (codec_read B.functions (plain_vlen codec.now) shape.now data_type.now fill_value.now (option_map (λ items. items.items) value) (joined_runs runs.now)) }
-    ensures no_fault { is_fault result ≡ false }
+    ensures answer { GivesBy (Holds data_type.now) result (codec_read B.functions (plain_vlen codec.now) shape.now data_type.now fill_value.now (option_map (λ items. items.items) value) (joined_runs runs.now)) }
 {
     match value {
         None => fill_runs(alloc, data_type, fill_value, runs),
@@ -109,11 +107,10 @@ fn parts_of_decoder<B: BytesToBytesCodecTraits>(
     data_type: &DataType,
     fill_value: &FillValue,
 ) -> Result<(ChunkShape, DataType, FillValue), CodecError>
-    ensures answer { Answers memory (λ parts. parts) result (seen (λ _. (shape.now, data_type.now, fill_value.now)) (codec_representation B.functions (plain_vlen codec.now) shape.now data_type.now fill_value.now)) }
+    ensures answer { Gives (λ parts. parts) result (seen (λ _. (shape.now, data_type.now, fill_value.now)) (codec_representation B.functions (plain_vlen codec.now) shape.now data_type.now fill_value.now)) }
     ensures taken { IfOk result (λ parts. is_ok (codec_representation B.functions (plain_vlen codec.now) parts.0 parts.1 parts.2) ≡ true) }
     ensures filling { IfOk result (λ parts. fill_fits parts.1 parts.2 ≡ true) }
     ensures counted { IfOk result (λ parts. product parts.0 < 2 ^ 64) }
-    ensures no_fault { is_fault result ≡ false }
 {
     codec.encoded_representation(shape, data_type, fill_value)?;
     let shape = shape.clone()?;
@@ -149,11 +146,10 @@ impl<B: BytesToBytesCodecTraits> VlenCodecPartialTraits<B> for VlenCodec<B> {
         data_type: &DataType,
         fill_value: &FillValue,
     ) -> Result<VlenPartialDecoder<'a, H, B>, Refused<H>>
-        ensures answer { Answers memory (λ made. made) (outcome result) (seen (λ _. tt) (codec_representation B.functions (plain_vlen self.now) shape.now data_type.now fill_value.now)) }
+        ensures answer { Gives (λ made. made) (outcome result) (seen (λ _. tt) (codec_representation B.functions (plain_vlen self.now) shape.now data_type.now fill_value.now)) }
         ensures form { IfOk result (λ decoder. vlen_form_of decoder ≡ record { codec = plain_vlen self.now; sizes = shape.now; type = data_type.now; fill = fill_value.now }) }
         ensures over { IfOk result (λ decoder. vlen_handle_of decoder ≡ handle) }
         ensures handed_back { IfErr result (λ refused. refused.handle ≡ handle) }
-        ensures no_fault { is_fault (outcome result) ≡ false }
     {
         match parts_of_decoder(self, shape, data_type, fill_value) {
             Ok((shape, data_type, fill_value)) => Ok(VlenPartialDecoder {

@@ -1,23 +1,12 @@
-ghost use Rattle.std.specs.Prelude.{◌≡◌, ◌<◌, ◌&&◌, ℕ, List, All, Ok, Err, IfOk, IfErr, IsOkAnd, OnOk, OnErr, Some, None, map, option_map, is_some, true, false};
-ghost use Rattle.zarrs_chunk.specs.Answer.{Answers, AnswersBy, fault, memory, memory_or_fault, is_fault, seen};
+ghost use Rattle.std.specs.Prelude.{◌≡◌, ◌<◌, ◌&&◌, All, Ok, OnErr, None, option_map, is_some, true, false};
+ghost use Rattle.zarrs_chunk.specs.Answer.{Answers, fault, memory, is_fault, GivesBy};
 ghost use Rattle.zarrs_chunk.specs.Indexer.{selection_of};
-ghost use Rattle.zarrs_chunk.specs.Selection.{bounds_of, places_of};
-ghost use Rattle.zarrs_data_type.specs.Element.{Chunk, fill_element};
-ghost use Rattle.zarrs_array_bytes.specs.Elements.{select};
-ghost use Rattle.zarrs_array_bytes.specs.Validity.{Holds};
-ghost use Rattle.zarrs_codec.specs.ArrayWriter.{IsRefusedWrite};
-ghost use Rattle.zarrs_codec.specs.ChunkEdits.{data_checked, edited_chunk};
-ghost use Rattle.zarrs_codec.specs.Refused.{outcome};
-ghost use Rattle.zarrs_codec.specs.StorageState.{after_reading, after_writing, apart_from_value};
+ghost use Rattle.zarrs_codec.specs.StorageState.{after_writing, apart_from_value};
 ghost use Rattle.zarrs_chain_parts.specs.Chain.{chain_reads, chain_writes};
-ghost use Rattle.zarrs_codec_chain.specs.ChainView.{plain_chain};
-ghost use Rattle.zarrs_chain_partial.specs.ChunkRead.{IsReadPlan, planned_places, stored_read, WhereSure};
+ghost use Rattle.zarrs_chain_partial.specs.ChunkWrite.{EditsChunk};
+ghost use Rattle.zarrs_chain_partial.specs.ChunkRead.{IsReadPlan, planned_places, ReadsChunk};
 ghost use Rattle.zarrs_chain_partial.specs.ChunkReader.{reader_is_cached};
-ghost use Rattle.zarrs_chain_partial.specs.ChunkWrite.{EditStarts, stored_written, StoresChunk};
 ghost use Rattle.zarrs_chain_parts.specs.Laws.{IsChainOfMappings};
-ghost use Rattle.zarrs_chain_parts.specs.Representation.{chain_representation as chain_representation_of};
-ghost use Rattle.zarrs_chain_parts.specs.Stands.{ChainStands};
-ghost use Rattle.zarrs_chain_parts.specs.Written.{ChainWritten};
 
 use crate::partial_decoder::array_partial_decoder::ArrayPartialDecoder;
 use crate::partial_decoder::chunk_reader::ChunkReader;
@@ -47,7 +36,7 @@ pub struct ArrayPartialEncoder<'a, H: BytesPartialEncoderTraits, B: BytesToBytes
 
 impl<'a, H: BytesPartialEncoderTraits, B: BytesToBytesCodecTraits> ArrayPartialEncoder<'a, H, B> {
     ghost use Rattle.zarrs_chain_partial.specs.PartialDecoder.{form_of, handle_of, is_cached};
-    ghost use Rattle.zarrs_chain_partial.specs.PartialEncoder.{encoder_form, encoder_handle};
+    ghost use Rattle.zarrs_chain_partial.specs.PartialEncoder.{encoder_form, encoder_handle, EncoderReads, EncoderWrites};
 
     /// What the chain and the shape are made of holds.
     pub(crate) fn is_sound(&self)
@@ -77,14 +66,8 @@ impl<'a, H: BytesPartialEncoderTraits, B: BytesToBytesCodecTraits> ArrayPartialE
         alloc: Global,
         indexer: &Indexer,
     ) -> Result<ArrayBytes<'static>, CodecError>
-        ensures selected { let form = encoder_form self.old in (value : List ℕ) (chunk : Chunk) → (H.state (encoder_handle self.old)).value ≡ Some value → ChainStands B.functions form.chain form.sizes form.type form.fill value chunk → AnswersBy memory_or_fault (Holds form.type) result (seen (select chunk) (places_of (selection_of indexer.now) form.sizes)) }
-        ensures unstored { let form = encoder_form self.old in (H.state (encoder_handle self.old)).value ≡ None → AnswersBy memory_or_fault (Holds form.type) result (seen (map (λ _. fill_element form.type form.fill)) (places_of (selection_of indexer.now) form.sizes)) }
-        ensures answer { AnswersBy memory_or_fault (Holds (encoder_form self.old).type) result (stored_read B.functions (encoder_form self.old) (H.state (encoder_handle self.old)).value (selection_of indexer.now)) }
-        ensures indexer_first { IfErr (bounds_of (selection_of indexer.now) (encoder_form self.old).sizes) (λ cause. AnswersBy memory (Holds (encoder_form self.old).type) result (Err cause)) }
-        ensures sure { WhereSure B.functions (encoder_form self.old) (selection_of indexer.now) (H.state (encoder_handle self.old)).sure (is_fault result ≡ false) }
-        ensures left { H.state (encoder_handle self.new) ≡ after_reading result (H.state (encoder_handle self.old)) }
-        ensures same_reference { H.lent (encoder_handle self.new) ≡ H.lent (encoder_handle self.old) }
-        ensures form_kept { encoder_form self.new ≡ encoder_form self.old }
+        ensures reads { ReadsChunk B.functions (encoder_form self.old) (H.state (encoder_handle self.old)) (selection_of indexer.now) result }
+        ensures left { EncoderReads H.state H.lent self.old self.new result }
     {
         self.reader.read_chunk(alloc, &mut self.handle, indexer)
     }
@@ -93,9 +76,7 @@ impl<'a, H: BytesPartialEncoderTraits, B: BytesToBytesCodecTraits> ArrayPartialE
     pub fn exists(&mut self) -> Result<bool, CodecError>
         ensures answer { Answers fault (λ there. there) result (Ok (is_some (H.state (encoder_handle self.old)).value)) }
         ensures sure { is_some (H.state (encoder_handle self.old)).sure ≡ true → is_fault result ≡ false }
-        ensures left { H.state (encoder_handle self.new) ≡ after_reading result (H.state (encoder_handle self.old)) }
-        ensures same_reference { H.lent (encoder_handle self.new) ≡ H.lent (encoder_handle self.old) }
-        ensures form_kept { encoder_form self.new ≡ encoder_form self.old }
+        ensures left { EncoderReads H.state H.lent self.old self.new result }
     {
         self.handle.exists()
     }
@@ -115,8 +96,7 @@ impl<'a, H: BytesPartialEncoderTraits, B: BytesToBytesCodecTraits> ArrayPartialE
         alloc: Global,
         indexer: &Indexer,
     ) -> Result<Option<Vec<ByteRange>>, CodecError>
-        ensures plan { AnswersBy memory (λ ranges places. IsReadPlan B.functions (encoder_form self.now) (option_map (λ v. v.items) ranges) places) result (planned_places (encoder_form self.now) (selection_of indexer.now)) }
-        ensures no_fault { is_fault result ≡ false }
+        ensures plan { GivesBy (λ ranges places. IsReadPlan B.functions (encoder_form self.now) (option_map (λ v. v.items) ranges) places) result (planned_places (encoder_form self.now) (selection_of indexer.now)) }
     {
         self.reader.planned_ranges(alloc, indexer)
     }
@@ -150,17 +130,8 @@ impl<'a, H: BytesPartialEncoderTraits, B: BytesToBytesCodecTraits> ArrayPartialE
         indexer: &Indexer,
         elements: &ArrayBytes<'_>,
     ) -> Result<(), CodecError>
-        ensures found { OnOk result ((chunk : Chunk) → EditStarts B.functions (encoder_form self.old) (H.state (encoder_handle self.old)).value chunk → IsOkAnd (edited_chunk (encoder_form self.old).sizes (encoder_form self.old).type chunk (selection_of indexer.now) elements.now) (StoresChunk B.functions (encoder_form self.old) (H.state (encoder_handle self.new)).value)) }
-        ensures only { let form = encoder_form self.old in (chunk : Chunk) (value : List ℕ) → EditStarts B.functions form (H.state (encoder_handle self.old)).value chunk → IsOkAnd (edited_chunk form.sizes form.type chunk (selection_of indexer.now) elements.now) (ChainWritten B.functions form.chain form.sizes form.type form.fill value) → Answers memory_or_fault (λ _. (H.state (encoder_handle self.new)).value) result (Ok (Some value)) }
-        ensures answer { Answers memory_or_fault (λ _. (H.state (encoder_handle self.new)).value) result (seen Some (stored_written B.functions (encoder_form self.old) (H.state (encoder_handle self.old)).value (selection_of indexer.now) elements.now)) }
-        ensures indexer_first { IfErr (bounds_of (selection_of indexer.now) (encoder_form self.old).sizes) (λ cause. Answers memory (λ done. done) result (Err cause)) }
-        ensures checked_first { IfErr (data_checked (encoder_form self.old).sizes (encoder_form self.old).type (selection_of indexer.now) elements.now) (λ cause. Answers memory (λ done. done) result (Err cause)) }
-        ensures untouched { IfErr (data_checked (encoder_form self.old).sizes (encoder_form self.old).type (selection_of indexer.now) elements.now) (λ _. H.state (encoder_handle self.new) ≡ H.state (encoder_handle self.old)) }
-        ensures one_write { OnOk result (apart_from_value (H.state (encoder_handle self.new)) ≡ after_writing result (H.state (encoder_handle self.old))) }
-        ensures refused { OnErr result (IsRefusedWrite result (H.state (encoder_handle self.old)) (H.state (encoder_handle self.new))) }
-        ensures kept_if_atomic { OnErr result (H.atomic ≡ true → (H.state (encoder_handle self.new)).value ≡ (H.state (encoder_handle self.old)).value) }
-        ensures same_reference { H.lent (encoder_handle self.new) ≡ H.lent (encoder_handle self.old) }
-        ensures form_kept { encoder_form self.new ≡ encoder_form self.old }
+        ensures edits { EditsChunk B.functions (encoder_form self.old) (H.state (encoder_handle self.old)) (H.state (encoder_handle self.new)) (selection_of indexer.now) elements.now result }
+        ensures left { EncoderWrites H.state H.lent H.atomic self.old self.new result }
     {
         self.reader.is_sound();
         self.reader

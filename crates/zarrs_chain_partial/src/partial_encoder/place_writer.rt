@@ -1,6 +1,6 @@
 //! Writing a chunk in part in place: over `bytes` without bytes codecs.
-ghost use Rattle.std.specs.Prelude.{◌≡◌, ◌<◌, ◌≤◌, ◌+◌, [], IfErr, IfOk, All, OnErr, OnOk, Ok, Err, Some, option_map, length, true, false};
-ghost use Rattle.zarrs_chunk.specs.Answer.{Answers, is_fault, memory, memory_or_fault, seen};
+ghost use Rattle.std.specs.Prelude.{◌≡◌, ◌<◌, ◌≤◌, ◌+◌, [], IfErr, IfOk, All, OnErr, OnOk, Ok, Err, Some, option_map, length, true};
+ghost use Rattle.zarrs_chunk.specs.Answer.{Answers, memory, memory_or_fault, seen, Gives};
 ghost use Rattle.zarrs_chunk.specs.ChunkShape.{product};
 ghost use Rattle.zarrs_chunk.specs.Indexer.{selection_of};
 ghost use Rattle.zarrs_chunk.specs.Runs.{joined_runs};
@@ -56,12 +56,11 @@ impl<'a, B: BytesToBytesCodecTraits> ChunkReader<'a, B> {
         indexer: &Indexer,
         elements: &ArrayBytes<'_>,
     ) -> Result<Vec<(u64, u64)>, CodecError>
-        ensures answer { Answers memory (λ runs. joined_runs runs.items) result (written_places (reader_form self.now).type (reader_form self.now).chain.arrays (reader_form self.now).sizes (selection_of indexer.now) elements.now) }
+        ensures answer { Gives (λ runs. joined_runs runs.items) result (written_places (reader_form self.now).type (reader_form self.now).chain.arrays (reader_form self.now).sizes (selection_of indexer.now) elements.now) }
         ensures checked { Answers memory (λ _. tt) result (data_checked (reader_form self.now).sizes (reader_form self.now).type (selection_of indexer.now) elements.now) }
         ensures filled { IfOk result (λ runs. All (λ run. 0 < run.1) runs.items) }
         ensures inside { IfOk result (λ runs. All (λ run. run.0 + run.1 ≤ product self.now.encoded) runs.items) }
         ensures fit { IfOk result (λ runs. data_fit (reader_form self.now).type (length (joined_runs runs.items)) elements.now ≡ Ok tt) }
-        ensures no_fault { is_fault result ≡ false }
     {
         let runs = self.runs(alloc, indexer)?;
         check_data(elements, runs.as_slice(), &self.data_type)?;

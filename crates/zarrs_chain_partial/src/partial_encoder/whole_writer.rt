@@ -1,12 +1,12 @@
 //! Writing a chunk in part by its whole value.
 ghost use Rattle.std.specs.Prelude.{◌≡◌, ◌<◌, ◌≤◌, ◌+◌, ◌^◌, IfErr, IfOk, All, None, OnErr, OnOk, Ok, Err, true, false, length};
-ghost use Rattle.zarrs_chunk.specs.Answer.{Answers, AnswersBy, is_fault, memory, memory_or_fault, seen};
+ghost use Rattle.zarrs_chunk.specs.Answer.{Answers, AnswersBy, is_fault, memory, memory_or_fault, seen, Gives};
 ghost use Rattle.zarrs_chunk.specs.ChunkShape.{product};
 ghost use Rattle.zarrs_chunk.specs.Indexer.{selection_of};
 ghost use Rattle.zarrs_chunk.specs.Runs.{joined_runs};
 ghost use Rattle.zarrs_chunk.specs.Selection.{bounds_of};
 ghost use Rattle.zarrs_array_bytes.specs.Elements.{elements as elements_of};
-ghost use Rattle.zarrs_array_bytes.specs.Held.{raw_of};
+ghost use Rattle.zarrs_array_bytes.specs.Held.{items_of};
 ghost use Rattle.zarrs_array_bytes.specs.Validity.{Holds, data_fit, validity};
 ghost use Rattle.zarrs_codec.specs.ArrayWriter.{IsRefusedWrite};
 ghost use Rattle.zarrs_codec.specs.ChunkEdits.{data_checked, data_places};
@@ -46,10 +46,9 @@ fn checked_runs(
     data_type: &DataType,
     elements: &ArrayBytes<'_>,
 ) -> Result<Vec<(u64, u64)>, CodecError>
-    ensures answer { Answers memory (λ runs. joined_runs runs.items) result (data_places shape.now data_type.now (selection_of indexer.now) elements.now) }
+    ensures answer { Gives (λ runs. joined_runs runs.items) result (data_places shape.now data_type.now (selection_of indexer.now) elements.now) }
     ensures below { IfOk result (λ runs. All (λ run. run.0 + run.1 ≤ product shape.now) runs.items) }
     ensures fit { IfOk result (λ runs. data_fit data_type.now (length (joined_runs runs.items)) elements.now ≡ Ok tt) }
-    ensures no_fault { is_fault result ≡ false }
 {
     let runs = indexer.runs(alloc, shape)?;
     check_data(elements, runs.as_slice(), data_type)?;
@@ -98,8 +97,7 @@ impl<'a, B: BytesToBytesCodecTraits> ChunkReader<'a, B> {
         requires valid { validity (reader_form self.now).type (product (reader_form self.now).sizes) chunk ≡ Ok tt }
         requires below { All (λ run. run.0 + run.1 ≤ product (reader_form self.now).sizes) runs.now }
         requires fit { data_fit (reader_form self.now).type (length (joined_runs runs.now)) elements.now ≡ Ok tt }
-        ensures answer { let form = reader_form self.now in Answers memory (λ value. (raw_of value).items) result (edited_value B.functions form (elements_of form.type (product form.sizes) chunk.entry) (joined_runs runs.now) elements.now) }
-        ensures no_fault { is_fault result ≡ false }
+        ensures answer { let form = reader_form self.now in Gives items_of result (edited_value B.functions form (elements_of form.type (product form.sizes) chunk.entry) (joined_runs runs.now) elements.now) }
     {
         let count = self.shape.num_elements()?;
         let edited = update_runs(alloc, chunk, count, runs, elements, &self.data_type)?;
@@ -123,7 +121,7 @@ impl<'a, B: BytesToBytesCodecTraits> ChunkReader<'a, B> {
     ) -> Result<ArrayBytesRaw<'static>, CodecError>
         requires below { All (λ run. run.0 + run.1 ≤ product (reader_form self.now).sizes) runs.now }
         requires fit { data_fit (reader_form self.now).type (length (joined_runs runs.now)) elements.now ≡ Ok tt }
-        ensures answer { Answers memory_or_fault (λ value. (raw_of value).items) result (value_left B.functions (reader_form self.now) None (H.state handle.old).value (joined_runs runs.now) elements.now) }
+        ensures answer { Answers memory_or_fault items_of result (value_left B.functions (reader_form self.now) None (H.state handle.old).value (joined_runs runs.now) elements.now) }
         ensures left { H.state handle.new ≡ after_reading result (H.state handle.old) }
         ensures same_reference { H.lent handle.new ≡ H.lent handle.old }
     {

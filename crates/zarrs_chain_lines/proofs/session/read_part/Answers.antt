@@ -17,4 +17,4 @@ returns-in-Ok-clause-answer c =
     let over : handle_value (handle_of c.in-Ok.decoder).now ≡ handle_value c.args.handle.now = ap (λ s. s.value) c.in-Ok.ensures.over in
     part_read (record { chain = plain_chain c.args.chain.now; sizes = c.args.shape.now; type = c.args.data_type.now; fill = c.args.fill_value.now }) (form_of c.in-Ok.decoder) (handle_value c.args.handle.now) (handle_value (handle_of c.in-Ok.decoder).now)
     (selection_of c.args.indexer.now) c.partial_decode-elements.result (decoder_source c.in-Ok.decoder (handle_value c.args.handle.now)) c.in-Ok.ensures.form over c.in-Ok.ensures.answer
-    (no_fault (is_fault c.partial_decode-elements.result) (ap (λ s. s.faults) c.partial_decode-elements.ensures.left)) c.partial_decode-elements.ensures.answer
+    (no_fault (is_fault c.partial_decode-elements.result) (ap (λ s. s.faults) c.partial_decode-elements.ensures.left.left)) c.partial_decode-elements.ensures.reads.exact

@@ -1,4 +1,4 @@
-use Rattle.std.proofs.Common.{subst}
+use Rattle.std.proofs.Common.{rules, subst}
 use Rattle.zarrs_chunk.specs.Answer.{AnswersBy, memory}
 use Rattle.zarrs_chunk.specs.ChunkShape.{product}
 use Rattle.zarrs_chunk.specs.Runs.{joined_runs}
@@ -6,10 +6,10 @@ use Rattle.zarrs_array_bytes.specs.Validity.{Holds}
 use Rattle.zarrs_chain_partial.proofs.VlenReads.{count_is, vlen_chosen}
 use Rattle.zarrs_chain_partial.proofs.partial_decoder.vlen_partial_decoder.read_runs.Goals as goal
 
-pub returns-in_ok-count-in-Some-clause-answer : goal.returns-in_ok-count-in-Some-clause-answer
-returns-in_ok-count-in-Some-clause-answer g c =
+pub returns-in_ok-count-in-Some : goal.returns-in_ok-count-in-Some
+returns-in_ok-count-in-Some g c =
     let type = c.args.data_type.now in
     let sizes = c.args.shape.now in
     let count = count_is (product sizes) c.in_ok-count-in-Some.count c.in_ok-count-in-Some.ensures.answer in
-    let same = vlen_chosen g.B.BytesToBytesCodecTraits.functions c.args.codec.now sizes type c.args.fill_value.now c.in-Some.value.items (joined_runs c.args.runs.now) c.in_ok-chunk-in-Some.chunk c.in_ok-count-in-Some.count count c.in_ok-chunk-in-Some.ensures.answer c.in_ok-chunk-in-Some.ensures.valid in
-    rw c.in-Some.is (subst (λ e. AnswersBy memory (Holds type) c.extract_runs.result e) same c.extract_runs.ensures.answer)
+    let same = vlen_chosen g.B.BytesToBytesCodecTraits.functions c.args.codec.now sizes type c.args.fill_value.now c.in-Some.value.items (joined_runs c.args.runs.now) c.in_ok-chunk-in-Some.chunk c.in_ok-count-in-Some.count count c.in_ok-chunk-in-Some.ensures.answer.is c.in_ok-chunk-in-Some.ensures.valid in
+    record { answer = record { is = rw c.in-Some.is (subst (λ e. AnswersBy memory (Holds type) c.extract_runs.result e) same c.extract_runs.ensures.answer.is); no_fault = search rules } }

@@ -18,4 +18,4 @@ returns-clause-answer g c =
     let form = reader_form k in
     let stored = (g.H.BytesPartialDecoderTraits.state c.args.handle.now).value in
     let started = started_held f form stored c.in_ok-chunk.chunk c.is_sound.ensures.mappings c.is_sound.ensures.positive c.in_ok-chunk.ensures.answer in
-    left_answer (λ value. (raw_of value).items) c.value_with.result f form stored (elements form.type (product form.sizes) c.in_ok-chunk.chunk) (joined_runs c.args.runs.now) c.args.elements.now started.0 c.value_with.ensures.answer
+    left_answer (λ value. (raw_of value).items) c.value_with.result f form stored (elements form.type (product form.sizes) c.in_ok-chunk.chunk) (joined_runs c.args.runs.now) c.args.elements.now started.0 c.value_with.ensures.answer.is

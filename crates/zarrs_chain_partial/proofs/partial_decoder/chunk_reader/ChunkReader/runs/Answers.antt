@@ -1,4 +1,4 @@
-use Rattle.std.proofs.Common.{map}
+use Rattle.std.proofs.Common.{rules, map}
 use Rattle.zarrs_chunk.specs.Indexer.{selection_of}
 use Rattle.zarrs_chunk.specs.Runs.{joined_runs}
 use Rattle.zarrs_array_to_array.specs.Mapping.{mapping_of}
@@ -12,7 +12,7 @@ returns-clause-answer g c =
     let k = c.args.self.now in
     let chain = plain_chain k.chain.now in
     let h = is_readable g.B.BytesToBytesCodecTraits.functions chain k.shape k.data_type k.fill_value k.encoded k.representation c.is_sound.ensures.mappings.mappings c.is_sound.ensures.positive k.taken in
-    runs_answer (λ runs. joined_runs runs.items) c.encoded_runs.result k.data_type chain.arrays (map mapping_of c.array_to_array_codecs.result.now) k.shape (selection_of c.args.indexer.now) h.map_is c.array_to_array_codecs.ensures.value h.mapped c.encoded_runs.ensures.answer
+    record { is = runs_answer (λ runs. joined_runs runs.items) c.encoded_runs.result k.data_type chain.arrays (map mapping_of c.array_to_array_codecs.result.now) k.shape (selection_of c.args.indexer.now) h.map_is c.array_to_array_codecs.ensures.value h.mapped c.encoded_runs.ensures.answer.is; no_fault = search rules }
 
 pub returns-clause-inside : goal.returns-clause-inside
 returns-clause-inside g c =

@@ -29,5 +29,5 @@ returns-clause-answer g c =
     let form = reader_form k in
     let stored = (g.H.BytesPartialDecoderTraits.state c.args.handle.now).value in
     let h = is_readable f form.chain form.sizes form.type form.fill k.encoded k.representation c.is_sound.ensures.mappings.mappings c.is_sound.ensures.positive k.taken in
-    answer_by _ _ c.write_runs.result _ _ (ap (seen (λ value. Some value)) (selection_in_place f form k.encoded k.representation h c.args.codec.now c.requires.in_place stored (selection_of c.args.indexer.now) c.args.elements.now (joined_runs c.in_ok-runs.runs.items) k.filling c.in_ok-runs.ensures.answer))
+    answer_by _ _ c.write_runs.result _ _ (ap (seen (λ value. Some value)) (selection_in_place f form k.encoded k.representation h c.args.codec.now c.requires.in_place stored (selection_of c.args.indexer.now) c.args.elements.now (joined_runs c.in_ok-runs.runs.items) k.filling c.in_ok-runs.ensures.answer.is))
     c.write_runs.ensures.answer

@@ -4,24 +4,21 @@ use Rattle.zarrs_chain_partial.proofs.PartialReads.{is_readable}
 use Rattle.zarrs_chain_partial.proofs.PlaceWrites.{edit_found, edit_only}
 use Rattle.zarrs_chain_partial.proofs.partial_encoder.array_partial_encoder.ArrayPartialEncoder.partial_encode.Goals as goal
 
-pub returns-clause-found : goal.returns-clause-found
-returns-clause-found g c =
+pub returns-clause-edits : goal.returns-clause-edits
+returns-clause-edits g c =
     let f = g.B.BytesToBytesCodecTraits.functions in
     let d = c.args.self.now in
     let k = d.reader in
     let form = reader_form k in
+    let selection = selection_of c.args.indexer.now in
     let mappings = c.is_sound.ensures.mappings in
     let positive = c.is_sound.ensures.positive in
     let h = is_readable f form.chain form.sizes form.type form.fill k.encoded k.representation mappings.mappings positive k.taken in
-    edit_found f form k.encoded k.representation h mappings positive k.filling c.write.result (g.H.BytesPartialDecoderTraits.state d.handle).value _ (selection_of c.args.indexer.now) c.args.elements.now c.write.ensures.answer
-
-pub returns-clause-only : goal.returns-clause-only
-returns-clause-only g c chunk value starts written =
-    let f = g.B.BytesToBytesCodecTraits.functions in
-    let d = c.args.self.now in
-    let k = d.reader in
-    let form = reader_form k in
-    let mappings = c.is_sound.ensures.mappings in
-    let positive = c.is_sound.ensures.positive in
-    let h = is_readable f form.chain form.sizes form.type form.fill k.encoded k.representation mappings.mappings positive k.taken in
-    edit_only f form k.encoded k.representation h mappings positive k.filling c.write.result (g.H.BytesPartialDecoderTraits.state d.handle).value _ (selection_of c.args.indexer.now) c.args.elements.now c.write.ensures.answer chunk value starts written
+    record {
+      found = edit_found f form k.encoded k.representation h mappings positive k.filling c.write.result (g.H.BytesPartialDecoderTraits.state d.handle).value _ selection c.args.elements.now c.write.ensures.answer;
+      only = edit_only f form k.encoded k.representation h mappings positive k.filling c.write.result (g.H.BytesPartialDecoderTraits.state d.handle).value _ selection c.args.elements.now c.write.ensures.answer;
+      exact = c.write.ensures.answer;
+      indexer_first = c.write.ensures.indexer_first;
+      checked_first = c.write.ensures.checked_first;
+      untouched = c.write.ensures.untouched;
+    }
