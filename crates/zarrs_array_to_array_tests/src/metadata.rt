@@ -10,7 +10,8 @@ use zarrs_array_to_array::{ReshapeCodec, SqueezeCodec, TransposeCodec};
 use zarrs_codec::CodecTraits;
 use zarrs_metadata::{
     PluginCreateError, ReshapeCodecConfiguration, ReshapeCodecConfigurationV1, ReshapeDim,
-    ReshapeShape, TransposeCodecConfiguration, TransposeCodecConfigurationV1, TransposeOrder,
+    ReshapeShape, SqueezeCodecConfiguration, SqueezeCodecConfigurationV0,
+    TransposeCodecConfiguration, TransposeCodecConfigurationV1, TransposeOrder,
 };
 
 /// A metadata, and that of its codec.
@@ -67,24 +68,31 @@ pub(crate) fn is_written<C: CodecTraits>(
     Ok(())
 }
 
+/// The codec of the row is copied, and written.
+fn is_made(rt: &impl Abort, alloc: Global, row: &Row) -> Result<(), Fail> {
+    let codec = codec(alloc, row.metadata)?.clone()?;
+    Ok(is_written(rt, alloc, row.name, &codec, row.written)?)
+}
+
 /// A codec is made of its metadata alone, and what is written of it is its metadata again.
 #[test]
 fn codecs_are_made_and_written(rt: HostRuntime) -> Result<(), Fail> {
     for row in ROWS.iter() {
-        let codec = codec(rt.alloc(), row.metadata)?;
-        is_written(&rt, rt.alloc(), row.name, &codec, row.written)?;
+        is_made(&rt, rt.alloc(), row)?;
     }
     Ok(())
 }
 
 /// The codec of an order, by its configuration.
-pub(crate) fn transpose_of(
-    alloc: Global,
-    order: &[usize],
-) -> Result<TransposeCodec, PluginCreateError> {
+fn transpose_of(alloc: Global, order: &[usize]) -> Result<TransposeCodec, PluginCreateError> {
     let order = TransposeOrder::new(alloc, order)?;
     let fields = TransposeCodecConfiguration::V1(TransposeCodecConfigurationV1 { order });
     TransposeCodec::new_with_configuration(alloc, &fields)
+}
+
+/// A copy of that codec.
+pub(crate) fn copied_transpose_of(alloc: Global, order: &[usize]) -> Result<TransposeCodec, Fail> {
+    Ok(transpose_of(alloc, order)?.clone()?)
 }
 
 /// One size, for all elements.
@@ -94,28 +102,41 @@ fn one_size(alloc: Global) -> Result<ReshapeShape, PluginCreateError> {
     ReshapeShape::new(sizes)
 }
 
-pub(crate) fn reshape_of(alloc: Global) -> Result<ReshapeCodec, PluginCreateError> {
+fn reshape_of(alloc: Global) -> Result<ReshapeCodec, PluginCreateError> {
     let shape = one_size(alloc)?;
     let fields = ReshapeCodecConfiguration::V1(ReshapeCodecConfigurationV1 { shape });
     ReshapeCodec::new_with_configuration(alloc, &fields)
 }
 
+/// A reshaping codec, by its configuration and copied.
+fn copy_is_written(rt: &impl Abort, alloc: Global) -> Result<(), Fail> {
+    let codec = reshape_of(alloc)?.clone()?;
+    Ok(is_written(rt, alloc, "a copy", &codec, ONE_SIZE)?)
+}
+
+/// A reshaping codec, by its sizes.
+fn sizes_are_written(rt: &impl Abort, alloc: Global) -> Result<(), PluginCreateError> {
+    let codec = ReshapeCodec::new(one_size(alloc)?);
+    is_written(rt, alloc, "sizes", &codec, ONE_SIZE)
+}
+
+fn squeeze_is_written(
+    rt: &impl Abort,
+    alloc: Global,
+    about: &str,
+    codec: &SqueezeCodec,
+) -> Result<(), PluginCreateError> {
+    is_written(rt, alloc, about, codec, SQUEEZE_WRITTEN)
+}
+
 #[test]
 fn codecs_without_metadata_are_written(rt: HostRuntime) -> Result<(), Fail> {
-    let reshape = ReshapeCodec::new(one_size(rt.alloc())?);
-    is_written(&rt, rt.alloc(), "sizes", &reshape, ONE_SIZE)?;
-    is_written(
-        &rt,
-        rt.alloc(),
-        "new",
-        &SqueezeCodec::new(),
-        SQUEEZE_WRITTEN,
-    )?;
-    Ok(is_written(
-        &rt,
-        rt.alloc(),
-        "default",
-        &SqueezeCodec::default(),
-        SQUEEZE_WRITTEN,
-    )?)
+    let alloc = rt.alloc();
+    copy_is_written(&rt, alloc)?;
+    sizes_are_written(&rt, alloc)?;
+    squeeze_is_written(&rt, alloc, "new", &SqueezeCodec::new())?;
+    squeeze_is_written(&rt, alloc, "default", &SqueezeCodec::default())?;
+    let fields = SqueezeCodecConfiguration::V0(SqueezeCodecConfigurationV0 {});
+    let codec = SqueezeCodec::new_with_configuration(&fields)?;
+    Ok(squeeze_is_written(&rt, alloc, "configured", &codec)?)
 }

@@ -4,7 +4,7 @@
 use crate::calls::{decodes, encodes};
 use crate::checks::{Asked, answers};
 use crate::forms::{Chunk, ChunkForm, Type, chunk_form, lent, owned};
-use crate::metadata::transpose_of;
+use crate::metadata::copied_transpose_of;
 use crate::stages::{Input, Made, input, reads};
 use std::alloc::Global;
 use std::process::Abort;
@@ -131,6 +131,8 @@ const LINE: Chunk<'static> = Chunk {
     fill: &[0],
 };
 
+const PART: Asked<'static> = Asked::Ranges(&[1..3]);
+
 /// The cause is this one, and the input that is handed back reads the line.
 fn hands_back(
     rt: &impl Abort,
@@ -140,8 +142,7 @@ fn hands_back(
 ) -> Result<(), CodecError> {
     let Refused { error, mut handle } = refused;
     answers(rt, row.name, &Err(error), &row.made)?;
-    let asked = Asked::Ranges(&[1..3]);
-    reads(rt, alloc, row.name, &mut handle, &asked, &Ok(&[1, 2]))
+    reads(rt, alloc, row.name, &mut handle, &PART, &Ok(&[1, 2]))
 }
 
 /// A stage is made, or the refusal has its input.
@@ -180,11 +181,20 @@ fn is_refused(
     makes(rt, alloc, codec, &form, row)
 }
 
-#[test]
-fn chunks_are_refused_by_the_first_cause(rt: HostRuntime) -> Result<(), Fail> {
-    let codec = transpose_of(rt.alloc(), &[1, 0])?;
-    for row in REFUSED.iter() {
-        is_refused(&rt, rt.alloc(), &codec, row)?;
+fn are_refused(
+    rt: &impl Abort,
+    alloc: Global,
+    codec: &TransposeCodec,
+    rows: &[Row],
+) -> Result<(), CodecError> {
+    for row in rows.iter() {
+        is_refused(rt, alloc, codec, row)?;
     }
     Ok(())
+}
+
+#[test]
+fn chunks_are_refused_by_the_first_cause(rt: HostRuntime) -> Result<(), Fail> {
+    let codec = copied_transpose_of(rt.alloc(), &[1, 0])?;
+    Ok(are_refused(&rt, rt.alloc(), &codec, REFUSED)?)
 }
