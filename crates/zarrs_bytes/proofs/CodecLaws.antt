@@ -1,4 +1,5 @@
 -- The laws of the codec.
+use Rattle.zarrs_data_type.specs.Form.{form_of}
 use Rattle.std.proofs.Common.{◌≡◌, ◌==◌, ◌↔◌, ℕ, suc, ◌+◌, ◌*◌, ◌<◌, ◌≤◌, Bool, true, nat_le, Option, Some, Ok, List, [], ◌∷◌, length, map, get_or, arith, refl, ap, sym, ◌∙◌, subst}
 use Rattle.std.specs.List.{All, list_all, range_with_len}
 use Rattle.std.proofs.Math.Nat.{mul-le-mul_right}
@@ -18,7 +19,7 @@ use Rattle.zarrs_bytes.specs.PartialRead.{has_place, place_size, read_places}
 use Rattle.zarrs_bytes.proofs.Coding.{bind_ok, ok, taken}
 use Rattle.zarrs_bytes.proofs.Exact.{decoded_only, stands_length}
 
-pub written_stands : (order : Option Endianness) (sizes : List ℕ) (type : ElementType) (fill value : List ℕ) (chunk : Chunk) → BytesWritten order sizes type fill value chunk → BytesStands order sizes type fill value chunk
+pub written_stands : (order : Option Endianness) (sizes : List ℕ) (type : ElementType) (fill value : List ℕ) (chunk : Chunk) → BytesWritten order (form_of sizes type fill) value chunk → BytesStands order (form_of sizes type fill) value chunk
 written_stands order sizes type fill value chunk written = record {
   len = written.len;
   length_is = written.length_is;
@@ -29,20 +30,20 @@ written_stands order sizes type fill value chunk written = record {
 chunk_is : (x y : Chunk) → ok x ≡ ok y → x ≡ y
 chunk_is x y e = cc
 
-pub stands_for_one : (order : Option Endianness) (sizes : List ℕ) (type : ElementType) (fill value : List ℕ) (chunk other : Chunk) → BytesStands order sizes type fill value chunk → BytesStands order sizes type fill value other → chunk ≡ other
+pub stands_for_one : (order : Option Endianness) (sizes : List ℕ) (type : ElementType) (fill value : List ℕ) (chunk other : Chunk) → BytesStands order (form_of sizes type fill) value chunk → BytesStands order (form_of sizes type fill) value other → chunk ≡ other
 stands_for_one order sizes type fill value chunk other one two =
     chunk_is chunk other (sym (decoded_only order sizes type fill value chunk one) ∙ decoded_only order sizes type fill value other two)
 
-written_same : (order : Option Endianness) (sizes : List ℕ) (type : ElementType) (fill value other_value : List ℕ) (chunk other : Chunk) → BytesWritten order sizes type fill value chunk → BytesWritten order sizes type fill other_value other → chunk ≡ other → value ≡ other_value
+written_same : (order : Option Endianness) (sizes : List ℕ) (type : ElementType) (fill value other_value : List ℕ) (chunk other : Chunk) → BytesWritten order (form_of sizes type fill) value chunk → BytesWritten order (form_of sizes type fill) other_value other → chunk ≡ other → value ≡ other_value
 written_same order sizes type fill value other_value chunk other one two e = one.value_is ∙ ap (spelling order type) e ∙ sym two.value_is
 
-pub written_alike : (order : Option Endianness) (sizes : List ℕ) (type : ElementType) (fill value other_value : List ℕ) (chunk other : Chunk) → BytesWritten order sizes type fill value chunk → BytesWritten order sizes type fill other_value other → (value ≡ other_value) ↔ (chunk ≡ other)
+pub written_alike : (order : Option Endianness) (sizes : List ℕ) (type : ElementType) (fill value other_value : List ℕ) (chunk other : Chunk) → BytesWritten order (form_of sizes type fill) value chunk → BytesWritten order (form_of sizes type fill) other_value other → (value ≡ other_value) ↔ (chunk ≡ other)
 written_alike order sizes type fill value other_value chunk other one two = (
-  λ e. stands_for_one order sizes type fill value chunk other (written_stands order sizes type fill value chunk one) (subst (λ (v : List ℕ). BytesStands order sizes type fill v other) (sym e) (written_stands order sizes type fill other_value other two)),
+  λ e. stands_for_one order sizes type fill value chunk other (written_stands order sizes type fill value chunk one) (subst (λ (v : List ℕ). BytesStands order (form_of sizes type fill) v other) (sym e) (written_stands order sizes type fill other_value other two)),
   λ e. written_same order sizes type fill value other_value chunk other one two e,
 )
 
-pub has_represented_length : (order : Option Endianness) (sizes : List ℕ) (type : ElementType) (fill value : List ℕ) (chunk : Chunk) (len : ℕ) → BytesWritten order sizes type fill value chunk → bytes_length order sizes type fill ≡ Ok len → length value ≡ len
+pub has_represented_length : (order : Option Endianness) (sizes : List ℕ) (type : ElementType) (fill value : List ℕ) (chunk : Chunk) (len : ℕ) → BytesWritten order (form_of sizes type fill) value chunk → bytes_length order (form_of sizes type fill) ≡ Ok len → length value ≡ len
 has_represented_length order sizes type fill value chunk len written e =
     stands_length order sizes type fill value chunk len (written_stands order sizes type fill value chunk written) e
 
@@ -67,14 +68,14 @@ read_each f count (place ∷ places) h =
     λ i. one i ∷ read_each f count places (λ k d l. h (suc k) d (omega arith)) i
 
 -- the chunk that a value stands for is read place by place
-stands_read : (order : Option Endianness) (sizes : List ℕ) (width components : ℕ) (sign : Bool) (fill value : List ℕ) (chunk : Chunk) → BytesStands order sizes (fixed width components sign) fill value chunk → map (bytes_element order (fixed width components sign) value) (range_with_len 0 (product sizes)) ≡ chunk
+stands_read : (order : Option Endianness) (sizes : List ℕ) (width components : ℕ) (sign : Bool) (fill value : List ℕ) (chunk : Chunk) → BytesStands order (form_of sizes (fixed width components sign) fill) value chunk → map (bytes_element order (fixed width components sign) value) (range_with_len 0 (product sizes)) ≡ chunk
 stands_read order sizes width components sign fill value chunk stands =
     let type = fixed width components sign in
-    let a = bind_ok (bytes_length order sizes type fill) _ chunk (decoded_only order sizes type fill value chunk stands) in
+    let a = bind_ok (bytes_length order (form_of sizes type fill)) _ chunk (decoded_only order sizes type fill value chunk stands) in
     let b = bind_ok (demand (length value == a.0) (InvalidBytesLength (length value) a.0)) _ chunk a.2 in
     chunk_is (map (bytes_element order type value) (range_with_len 0 (product sizes))) chunk b.2
 
-pub read_selects : (order : Option Endianness) (sizes : List ℕ) (type : ElementType) (fill value : List ℕ) (chunk : Chunk) (places : List ℕ) → BytesStands order sizes type fill value chunk → All (λ place. place < length chunk) places → read_places order type fill (Some value) places ≡ Ok (select chunk places)
+pub read_selects : (order : Option Endianness) (sizes : List ℕ) (type : ElementType) (fill value : List ℕ) (chunk : Chunk) (places : List ℕ) → BytesStands order (form_of sizes type fill) value chunk → All (λ place. place < length chunk) places → read_places order type fill (Some value) places ≡ Ok (select chunk places)
 read_selects order sizes (fixed width components sign) fill value chunk places stands h =
     let type = fixed width components sign in
     let n = product sizes in

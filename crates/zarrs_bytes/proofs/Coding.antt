@@ -1,4 +1,5 @@
 -- What the codec computes is what its definitions say.
+use Rattle.zarrs_data_type.specs.Form.{form_of}
 use Rattle.std.proofs.Common.{◌≡◌, ℕ, ◌*◌, ◌<◌, ◌^◌, ◌==◌, ◌&&◌, Bool, true, false, nat_lt, cond, not, Option, Some, None, Result, Ok, Err, List, length, map, arith, refl, ap, sym, ◌∙◌, subst}
 use Rattle.std.specs.List.{range_with_len}
 use Rattle.std.specs.Prelude.{IsOk, IsOkAnd, is_some}
@@ -53,7 +54,7 @@ pub record IsTaken (order : Option Endianness) (sizes : List ℕ) (width compone
 number_is : (n m : ℕ) → ok n ≡ ok m → n ≡ m
 number_is n m e = cc
 
-pub taken : (order : Option Endianness) (sizes : List ℕ) (width components : ℕ) (sign : Bool) (fill : List ℕ) (len : ℕ) → bytes_length order sizes (fixed width components sign) fill ≡ Ok len → IsTaken order sizes width components sign fill len
+pub taken : (order : Option Endianness) (sizes : List ℕ) (width components : ℕ) (sign : Bool) (fill : List ℕ) (len : ℕ) → bytes_length order (form_of sizes (fixed width components sign) fill) ≡ Ok len → IsTaken order sizes width components sign fill len
 taken order sizes width components sign fill len e =
     let a = bind_ok (demand (fill_fits (fixed width components sign) fill) InvalidFillValue) _ len e in
     let b = bind_ok (checked_u64 (product sizes)) _ len a.2 in
@@ -80,8 +81,8 @@ two_steps (Err d) s x y z e f = absurd cc
 part_is : (r s : Raw) → ok r ≡ ok s → r ≡ s
 part_is r s e = cc
 
-fixed_encoded : (order : Option Endianness) (sizes : List ℕ) (width components : ℕ) (sign : Bool) (fill : List ℕ) (raw : Raw) (len : ℕ) → bytes_length order sizes (fixed width components sign) fill ≡ Ok len → validity (fixed width components sign) (product sizes) (flen raw) ≡ Ok tt
-    → bytes_value order sizes (fixed width components sign) fill (flen raw) ≡ Ok (turned_bytes (turn_size order (fixed width components sign)) raw.items)
+fixed_encoded : (order : Option Endianness) (sizes : List ℕ) (width components : ℕ) (sign : Bool) (fill : List ℕ) (raw : Raw) (len : ℕ) → bytes_length order (form_of sizes (fixed width components sign) fill) ≡ Ok len → validity (fixed width components sign) (product sizes) (flen raw) ≡ Ok tt
+    → bytes_value order (form_of sizes (fixed width components sign) fill) (flen raw) ≡ Ok (turned_bytes (turn_size order (fixed width components sign)) raw.items)
 fixed_encoded order sizes width components sign fill raw len e valid =
     let n = product sizes in
     let a = bind_ok (demand (nat_lt (n * element_size width components) (2 ^ 64)) Overflow) _ tt valid in
@@ -91,12 +92,12 @@ fixed_encoded order sizes width components sign fill raw len e valid =
     = ap (spelled_chunk order width components) (elements-pieces width components sign n raw)
     ∙ spelled_chunk-plain order width components (pieces (element_size width components) n raw.items)
     ∙ sym (turned_is order width components sign n raw.items is) in
-    two_steps (bytes_length order sizes (fixed width components sign) fill) (validity (fixed width components sign) n (flen raw)) len tt (spelled_chunk order width components (elements (fixed width components sign) n (flen raw))) e valid
+    two_steps (bytes_length order (form_of sizes (fixed width components sign) fill)) (validity (fixed width components sign) n (flen raw)) len tt (spelled_chunk order width components (elements (fixed width components sign) n (flen raw))) e valid
     ∙ ap ok same
 
 -- what is made of a container that fits is its chunk's value
-pub encoded_is : (order : Option Endianness) (sizes : List ℕ) (type : ElementType) (fill : List ℕ) (held : Held) (raw : Raw) (len : ℕ) → bytes_length order sizes type fill ≡ Ok len → validity type (product sizes) held ≡ Ok tt → fixed_part held ≡ Ok raw
-    → bytes_value order sizes type fill held ≡ Ok (turned_bytes (turn_size order type) raw.items)
+pub encoded_is : (order : Option Endianness) (sizes : List ℕ) (type : ElementType) (fill : List ℕ) (held : Held) (raw : Raw) (len : ℕ) → bytes_length order (form_of sizes type fill) ≡ Ok len → validity type (product sizes) held ≡ Ok tt → fixed_part held ≡ Ok raw
+    → bytes_value order (form_of sizes type fill) held ≡ Ok (turned_bytes (turn_size order type) raw.items)
 encoded_is order sizes (fixed width components sign) fill (flen own) raw len e valid part =
     fixed_encoded order sizes width components sign fill own len e valid ∙ ap (λ (r : Raw). ok (turned_bytes (turn_size order (fixed width components sign)) r.items)) (part_is own raw part)
 encoded_is order sizes (fixed width components sign) fill (vlen own offsets) raw len e valid part = absurd cc
@@ -115,8 +116,8 @@ found_chunk (Ok n) test cause chunk P len e t p =
 found_chunk (Err d) test cause chunk P len e t p = absurd cc
 
 -- what is made of a value of the right length is its chunk
-pub decoded_holds : (order : Option Endianness) (sizes : List ℕ) (type : ElementType) (fill value : List ℕ) (raw : Raw) (len : ℕ) → bytes_length order sizes type fill ≡ Ok len → length value ≡ len → raw.items ≡ turned_bytes (turn_size order type) value
-    → IsOkAnd (bytes_chunk order sizes type fill value) (Holds type (flen raw))
+pub decoded_holds : (order : Option Endianness) (sizes : List ℕ) (type : ElementType) (fill value : List ℕ) (raw : Raw) (len : ℕ) → bytes_length order (form_of sizes type fill) ≡ Ok len → length value ≡ len → raw.items ≡ turned_bytes (turn_size order type) value
+    → IsOkAnd (bytes_chunk order (form_of sizes type fill) value) (Holds type (flen raw))
 decoded_holds order sizes (fixed width components sign) fill value raw len e long is =
     let t = taken order sizes width components sign fill len e in
     let n = product sizes in
@@ -129,7 +130,7 @@ decoded_holds order sizes (fixed width components sign) fill value raw len e lon
     let holds = Holds-pieces order width components sign raw parts sized turned_so small in
     let read = read_pieces (λ piece. plain (bytes_in_order order width components piece)) size n value in
     let passed : (length value == len) ≡ true = grind (arith, nat_tests) in
-    found_chunk (bytes_length order sizes (fixed width components sign) fill) (λ l. length value == l) (λ l. InvalidBytesLength (length value) l) (map (bytes_element order (fixed width components sign) value) (range_with_len 0 n)) (Holds (fixed width components sign) (flen raw)) len e passed
+    found_chunk (bytes_length order (form_of sizes (fixed width components sign) fill)) (λ l. length value == l) (λ l. InvalidBytesLength (length value) l) (map (bytes_element order (fixed width components sign) value) (range_with_len 0 n)) (Holds (fixed width components sign) (flen raw)) len e passed
     (subst (Holds (fixed width components sign) (flen raw)) (sym read) holds)
 decoded_holds order sizes text fill value raw len e long is = absurd cc
 decoded_holds order sizes bytes fill value raw len e long is = absurd cc

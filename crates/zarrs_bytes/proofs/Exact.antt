@@ -1,4 +1,5 @@
 -- Values are written and read exactly where the grammar says.
+use Rattle.zarrs_data_type.specs.Form.{form_of}
 use Rattle.std.proofs.Common.{◌≡◌, ℕ, suc, ◌*◌, ◌^◌, ◌==◌, Bool, true, Option, Result, Ok, Err, List, [], ◌∷◌, length, map, nat_lt, arith, refl, ap, sym, ◌∙◌, subst}
 use Rattle.std.specs.List.{concat, range_with_len}
 use Rattle.std.specs.Prelude.{IsOkAnd}
@@ -54,13 +55,13 @@ ordered_back order width components (piece ∷ parts) h = λ i. ordered_twice or
 
 -- ---- encoding
 
-pub encoded_only : (order : Option Endianness) (sizes : List ℕ) (type : ElementType) (fill value : List ℕ) (held : Held) (chunk : Chunk) → Holds type held chunk → BytesWritten order sizes type fill value chunk → bytes_value order sizes type fill held ≡ Ok value
+pub encoded_only : (order : Option Endianness) (sizes : List ℕ) (type : ElementType) (fill value : List ℕ) (held : Held) (chunk : Chunk) → Holds type held chunk → BytesWritten order (form_of sizes type fill) value chunk → bytes_value order (form_of sizes type fill) held ≡ Ok value
 encoded_only order sizes (fixed width components sign) fill value held chunk holds written =
     let type = fixed width components sign in
     let count = written.elements.count_is in
     let valid : validity type (product sizes) held ≡ Ok tt = ap (λ n. validity type n held) (sym count) ∙ holds.valid in
     let same : elements type (product sizes) held ≡ chunk = ap (λ n. elements type n held) (sym count) ∙ holds.elements_are in
-    two_steps (bytes_length order sizes type fill) (validity type (product sizes) held) written.len tt (spelling order type (elements type (product sizes) held)) written.length_is valid
+    two_steps (bytes_length order (form_of sizes type fill)) (validity type (product sizes) held) written.len tt (spelling order type (elements type (product sizes) held)) written.length_is valid
     ∙ ap (λ (c : Chunk). ok (spelled_chunk order width components c)) same
     ∙ ap ok (sym written.value_is)
 encoded_only order sizes text fill value held chunk holds written = absurd cc
@@ -70,12 +71,12 @@ encoded_only order sizes (optional type) fill value held chunk holds written = a
 bytes_are : (x y : List ℕ) → ok x ≡ ok y → y ≡ x
 bytes_are x y e = cc
 
-pub encoded_found : (order : Option Endianness) (sizes : List ℕ) (type : ElementType) (fill value : List ℕ) (held : Held) → bytes_value order sizes type fill held ≡ Ok value → (chunk : Chunk) × Holds type held chunk × BytesWritten order sizes type fill value chunk
+pub encoded_found : (order : Option Endianness) (sizes : List ℕ) (type : ElementType) (fill value : List ℕ) (held : Held) → bytes_value order (form_of sizes type fill) held ≡ Ok value → (chunk : Chunk) × Holds type held chunk × BytesWritten order (form_of sizes type fill) value chunk
 encoded_found order sizes (fixed width components sign) fill value (flen raw) e =
     let type = fixed width components sign in
     let size = element_size width components in
     let n = product sizes in
-    let a = bind_ok (bytes_length order sizes type fill) _ value e in
+    let a = bind_ok (bytes_length order (form_of sizes type fill)) _ value e in
     let b = bind_ok (validity type n (flen raw)) _ value a.2 in
     let t = taken order sizes width components sign fill a.0 a.1 in
     let v = bind_ok (demand (nat_lt (n * size) (2 ^ 64)) Overflow) _ tt b.1 in
@@ -107,12 +108,12 @@ encoded_found order sizes (fixed width components sign) fill value (flen raw) e 
       },
     )
 encoded_found order sizes (fixed width components sign) fill value (vlen raw offsets) e =
-    let a = bind_ok (bytes_length order sizes (fixed width components sign) fill) _ value e in
+    let a = bind_ok (bytes_length order (form_of sizes (fixed width components sign) fill)) _ value e in
     let b = bind_ok (validity (fixed width components sign) (product sizes) (vlen raw offsets)) _ value a.2 in
     let v = bind_ok (demand (nat_lt (product sizes * element_size width components) (2 ^ 64)) Overflow) _ tt b.1 in
     absurd (let w = v.2 in cc)
 encoded_found order sizes (fixed width components sign) fill value (masked inner mask) e =
-    let a = bind_ok (bytes_length order sizes (fixed width components sign) fill) _ value e in
+    let a = bind_ok (bytes_length order (form_of sizes (fixed width components sign) fill)) _ value e in
     let b = bind_ok (validity (fixed width components sign) (product sizes) (masked inner mask)) _ value a.2 in
     let v = bind_ok (demand (nat_lt (product sizes * element_size width components) (2 ^ 64)) Overflow) _ tt b.1 in
     absurd (let w = v.2 in cc)
@@ -125,12 +126,12 @@ encoded_found order sizes (optional type) fill value held e = absurd cc
 chunk_are : (x y : Chunk) → ok x ≡ ok y → y ≡ x
 chunk_are x y e = cc
 
-pub decoded_found : (order : Option Endianness) (sizes : List ℕ) (type : ElementType) (fill value : List ℕ) (chunk : Chunk) → bytes_chunk order sizes type fill value ≡ Ok chunk → BytesStands order sizes type fill value chunk
+pub decoded_found : (order : Option Endianness) (sizes : List ℕ) (type : ElementType) (fill value : List ℕ) (chunk : Chunk) → bytes_chunk order (form_of sizes type fill) value ≡ Ok chunk → BytesStands order (form_of sizes type fill) value chunk
 decoded_found order sizes (fixed width components sign) fill value chunk e =
     let type = fixed width components sign in
     let size = element_size width components in
     let n = product sizes in
-    let a = bind_ok (bytes_length order sizes type fill) _ chunk e in
+    let a = bind_ok (bytes_length order (form_of sizes type fill)) _ chunk e in
     let b = bind_ok (demand (length value == a.0) (InvalidBytesLength (length value) a.0)) _ chunk a.2 in
     let t = taken order sizes width components sign fill a.0 a.1 in
     let long_test = demand_ok (length value == a.0) (InvalidBytesLength (length value) a.0) b.0 b.1 in
@@ -169,7 +170,7 @@ two_tests (Ok n) test cause x len e t =
     number_is n m e = cc
 two_tests (Err d) test cause x len e t = absurd cc
 
-pub decoded_only : (order : Option Endianness) (sizes : List ℕ) (type : ElementType) (fill value : List ℕ) (chunk : Chunk) → BytesStands order sizes type fill value chunk → bytes_chunk order sizes type fill value ≡ Ok chunk
+pub decoded_only : (order : Option Endianness) (sizes : List ℕ) (type : ElementType) (fill value : List ℕ) (chunk : Chunk) → BytesStands order (form_of sizes type fill) value chunk → bytes_chunk order (form_of sizes type fill) value ≡ Ok chunk
 decoded_only order sizes (fixed width components sign) fill value chunk stands =
     let type = fixed width components sign in
     let size = element_size width components in
@@ -191,7 +192,7 @@ decoded_only order sizes (fixed width components sign) fill value chunk stands =
     ∙ sym (map-map plain (bytes_in_order order width components) turned_pieces)
     ∙ ap (map plain) (ordered_back order width components p.parts p.sized)
     ∙ sym p.are in
-    two_tests (bytes_length order sizes type fill) (λ l. length value == l) (λ l. InvalidBytesLength (length value) l) (map (bytes_element order type value) (range_with_len 0 n)) stands.len stands.length_is passed
+    two_tests (bytes_length order (form_of sizes type fill)) (λ l. length value == l) (λ l. InvalidBytesLength (length value) l) (map (bytes_element order type value) (range_with_len 0 n)) stands.len stands.length_is passed
     ∙ ap ok read
 decoded_only order sizes text fill value chunk stands = absurd cc
 decoded_only order sizes bytes fill value chunk stands = absurd cc
@@ -200,9 +201,9 @@ decoded_only order sizes (optional type) fill value chunk stands = absurd cc
 -- ---- at the calls
 
 -- a value that stands for a chunk has the chunk's length
-pub stands_length : (order : Option Endianness) (sizes : List ℕ) (type : ElementType) (fill value : List ℕ) (chunk : Chunk) (len : ℕ) → BytesStands order sizes type fill value chunk → bytes_length order sizes type fill ≡ Ok len → length value ≡ len
+pub stands_length : (order : Option Endianness) (sizes : List ℕ) (type : ElementType) (fill value : List ℕ) (chunk : Chunk) (len : ℕ) → BytesStands order (form_of sizes type fill) value chunk → bytes_length order (form_of sizes type fill) ≡ Ok len → length value ≡ len
 stands_length order sizes type fill value chunk len stands e =
-    let a = bind_ok (bytes_length order sizes type fill) _ chunk (decoded_only order sizes type fill value chunk stands) in
+    let a = bind_ok (bytes_length order (form_of sizes type fill)) _ chunk (decoded_only order sizes type fill value chunk stands) in
     let b = bind_ok (demand (length value == a.0) (InvalidBytesLength (length value) a.0)) _ chunk a.2 in
     let long_test = demand_ok (length value == a.0) (InvalidBytesLength (length value) a.0) b.0 b.1 in
     let long : length value ≡ a.0 = grind (arith, nat_tests) in
@@ -213,13 +214,13 @@ stands_length order sizes type fill value chunk len stands e =
     ok_number n m e = cc
 
 -- a container that holds what the value was decoded to
-pub holds_stands : (order : Option Endianness) (sizes : List ℕ) (type : ElementType) (fill value : List ℕ) (held : Held) → IsOkAnd (bytes_chunk order sizes type fill value) (Holds type held) → (chunk : Chunk) × Holds type held chunk × BytesStands order sizes type fill value chunk
-holds_stands order sizes type fill value held h = by_answer (bytes_chunk order sizes type fill value) refl h
+pub holds_stands : (order : Option Endianness) (sizes : List ℕ) (type : ElementType) (fill value : List ℕ) (held : Held) → IsOkAnd (bytes_chunk order (form_of sizes type fill) value) (Holds type held) → (chunk : Chunk) × Holds type held chunk × BytesStands order (form_of sizes type fill) value chunk
+holds_stands order sizes type fill value held h = by_answer (bytes_chunk order (form_of sizes type fill) value) refl h
   where
-    by_answer : (r : Result Chunk CodecError) → bytes_chunk order sizes type fill value ≡ r → IsOkAnd r (Holds type held) → (chunk : Chunk) × Holds type held chunk × BytesStands order sizes type fill value chunk
+    by_answer : (r : Result Chunk CodecError) → bytes_chunk order (form_of sizes type fill) value ≡ r → IsOkAnd r (Holds type held) → (chunk : Chunk) × Holds type held chunk × BytesStands order (form_of sizes type fill) value chunk
     by_answer (Ok chunk) e h = (chunk, h, decoded_found order sizes type fill value chunk e)
     by_answer (Err d) e h = absurd h
 
-pub holds_only : (order : Option Endianness) (sizes : List ℕ) (type : ElementType) (fill value : List ℕ) (held : Held) (chunk : Chunk) → IsOkAnd (bytes_chunk order sizes type fill value) (Holds type held) → BytesStands order sizes type fill value chunk → Holds type held chunk
+pub holds_only : (order : Option Endianness) (sizes : List ℕ) (type : ElementType) (fill value : List ℕ) (held : Held) (chunk : Chunk) → IsOkAnd (bytes_chunk order (form_of sizes type fill) value) (Holds type held) → BytesStands order (form_of sizes type fill) value chunk → Holds type held chunk
 holds_only order sizes type fill value held chunk h stands =
     subst (λ (r : Result Chunk CodecError). IsOkAnd r (Holds type held)) (decoded_only order sizes type fill value chunk stands) h

@@ -5,6 +5,7 @@ pub mod Coding
 pub mod ReversedPieces
 pub mod ByteRuns
 pub mod Exact
+pub mod ByGrammar
 pub mod InPlace
 pub mod Turned
 pub mod TurnedParts

@@ -1,4 +1,5 @@
 -- What a read in part answers of a value that stands for a chunk, and where none is stored.
+use Rattle.zarrs_data_type.specs.Form.{form_of}
 use Rattle.std.proofs.Common.{◌≡◌, ℕ, suc, ◌+◌, ◌<◌, ◌≤◌, Option, Some, None, Result, Ok, List, [], ◌∷◌, length, map, arith, sym, refl, subst}
 use Rattle.std.specs.List.{All, range_with_len}
 use Rattle.std.proofs.lemmas.List.Elements.{All-nil, All-append}
@@ -28,7 +29,7 @@ runs_below limit (run ∷ runs) h =
     (runs_below limit runs (λ k d l. h (suc k) d (omega arith)))
 
 -- what is read of runs inside the shape is the chunk's selection
-pub runs_select : (order : Option Endianness) (sizes : List ℕ) (type : ElementType) (fill given : List ℕ) (stored : Option (List ℕ)) (runs slice : List (ℕ × ℕ)) (places : Result (List ℕ) CodecError) → given ≡ fill → slice ≡ runs → All (λ run. run.0 + run.1 ≤ product sizes) runs → places ≡ Ok (joined_runs runs) → (value : List ℕ) (chunk : Chunk) → stored ≡ Some value → BytesStands order sizes type fill value chunk → read_places order type given stored (joined_runs slice) ≡ seen (select chunk) places
+pub runs_select : (order : Option Endianness) (sizes : List ℕ) (type : ElementType) (fill given : List ℕ) (stored : Option (List ℕ)) (runs slice : List (ℕ × ℕ)) (places : Result (List ℕ) CodecError) → given ≡ fill → slice ≡ runs → All (λ run. run.0 + run.1 ≤ product sizes) runs → places ≡ Ok (joined_runs runs) → (value : List ℕ) (chunk : Chunk) → stored ≡ Some value → BytesStands order (form_of sizes type fill) value chunk → read_places order type given stored (joined_runs slice) ≡ seen (select chunk) places
 runs_select order sizes type fill given stored runs slice places same view below is value chunk here stands =
     let count = stands.elements.count_is in
     let inside : All (λ place. place < length chunk) (joined_runs runs) = subst (λ k. All (λ place. place < k) (joined_runs runs)) (sym count) (runs_below (product sizes) runs below) in

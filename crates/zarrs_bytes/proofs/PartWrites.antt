@@ -1,4 +1,5 @@
 -- What is written in part is what the definitions say.
+use Rattle.zarrs_data_type.specs.Form.{form_of}
 use Rattle.std.proofs.Common.{◌≡◌, ℕ, zero, suc, ◌*◌, ◌<◌, ◌^◌, ◌==◌, ◌||◌, Bool, true, false, nat_lt, Option, Some, None, Result, Ok, Err, List, [], ◌∷◌, length, map, replicate, get_or, arith, refl, ap, ap₂, sym, ◌∙◌, subst}
 use Rattle.std.specs.List.{All, concat}
 use Rattle.std.specs.Prelude.{IsOk, IsOkAnd, OnOk, is_ok, is_some}
@@ -55,7 +56,7 @@ new_pieces width components count sign (vlen raw offsets) fit = absurd cc
 new_pieces width components count sign (masked inner mask) fit = absurd cc
 
 -- new elements of a type that the codec takes are of one size
-pub fits_kind : (order : Option Endianness) (sizes : List ℕ) (type : ElementType) (fill : List ℕ) (count : ℕ) (new : Held) → is_ok (bytes_length order sizes type fill) ≡ true → data_fit type count new ≡ Ok tt → IsOk (fixed_part new)
+pub fits_kind : (order : Option Endianness) (sizes : List ℕ) (type : ElementType) (fill : List ℕ) (count : ℕ) (new : Held) → is_ok (bytes_length order (form_of sizes type fill)) ≡ true → data_fit type count new ≡ Ok tt → IsOk (fixed_part new)
 fits_kind order sizes (fixed width components sign) fill count (flen raw) t fit = refl
 fits_kind order sizes (fixed width components sign) fill count (vlen raw offsets) t fit = absurd cc
 fits_kind order sizes (fixed width components sign) fill count (masked inner mask) t fit = absurd cc
@@ -64,7 +65,7 @@ fits_kind order sizes bytes fill count new t fit = absurd cc
 fits_kind order sizes (optional type) fill count new t fit = absurd cc
 
 -- their bytes, turned round, are what they are spelled as
-pub turned_spelling : (order : Option Endianness) (sizes : List ℕ) (type : ElementType) (fill : List ℕ) (count : ℕ) (new : Held) → is_ok (bytes_length order sizes type fill) ≡ true → data_fit type count new ≡ Ok tt → turned_bytes (turn_size order type) (bytes_in new) ≡ spelling order type (elements type count new)
+pub turned_spelling : (order : Option Endianness) (sizes : List ℕ) (type : ElementType) (fill : List ℕ) (count : ℕ) (new : Held) → is_ok (bytes_length order (form_of sizes type fill)) ≡ true → data_fit type count new ≡ Ok tt → turned_bytes (turn_size order type) (bytes_in new) ≡ spelling order type (elements type count new)
 turned_spelling order sizes (fixed width components sign) fill count (flen raw) t fit =
     let size = element_size width components in
     let long : length raw.items ≡ count * size = length_found data_mismatch _ _ fit in
@@ -78,7 +79,7 @@ turned_spelling order sizes bytes fill count new t fit = absurd cc
 turned_spelling order sizes (optional type) fill count new t fit = absurd cc
 
 -- and as many as their places have
-pub spelling_length : (order : Option Endianness) (sizes : List ℕ) (type : ElementType) (fill : List ℕ) (count : ℕ) (new : Held) → is_ok (bytes_length order sizes type fill) ≡ true → data_fit type count new ≡ Ok tt → length (spelling order type (elements type count new)) ≡ count * place_size type
+pub spelling_length : (order : Option Endianness) (sizes : List ℕ) (type : ElementType) (fill : List ℕ) (count : ℕ) (new : Held) → is_ok (bytes_length order (form_of sizes type fill)) ≡ true → data_fit type count new ≡ Ok tt → length (spelling order type (elements type count new)) ≡ count * place_size type
 spelling_length order sizes (fixed width components sign) fill count new t fit =
     let p = new_pieces width components count sign new fit in
     let size = element_size width components in
@@ -109,10 +110,10 @@ sized_elements width components sign (part ∷ parts) h = λ k d.
       | suc j ↦ (λ l. sized_elements width components sign parts h.1 j d (omega arith))
     ]
 
-module _ (order : Option Endianness) (sizes : List ℕ) (width components : ℕ) (sign : Bool) (fill : List ℕ) (len : ℕ) (length_is : bytes_length order sizes (fixed width components sign) fill ≡ Ok len) where
+module _ (order : Option Endianness) (sizes : List ℕ) (width components : ℕ) (sign : Bool) (fill : List ℕ) (len : ℕ) (length_is : bytes_length order (form_of sizes (fixed width components sign) fill) ≡ Ok len) where
   -- the updated chunk of pieces, and a value that is its spelling
   pieces_edited : (chunk : Chunk) (parts : List (List ℕ)) (places : List ℕ) (new : Held) (value : List ℕ) → chunk ≡ map plain parts → AllSized (element_size width components) parts → length parts ≡ product sizes → data_fit (fixed width components sign) (length places) new ≡ Ok tt
-      → value ≡ spelled_chunk order width components (with_elements (fixed width components sign) chunk places new) → BytesWritten order sizes (fixed width components sign) fill value (with_elements (fixed width components sign) chunk places new)
+      → value ≡ spelled_chunk order width components (with_elements (fixed width components sign) chunk places new) → BytesWritten order (form_of sizes (fixed width components sign) fill) value (with_elements (fixed width components sign) chunk places new)
   pieces_edited chunk parts places new value are sized number fit is =
       let type = fixed width components sign in
       let size = element_size width components in
@@ -148,18 +149,18 @@ module _ (order : Option Endianness) (sizes : List ℕ) (width components : ℕ)
   fill_sized (suc count) e = (e, fill_sized count e)
 
   fill_edited : (chunk : Chunk) (places : List ℕ) (new : Held) → chunk ≡ filled_chunk sizes (fixed width components sign) fill → data_fit (fixed width components sign) (length places) new ≡ Ok tt
-      → BytesWritten order sizes (fixed width components sign) fill (bytes_left order sizes (fixed width components sign) fill None places new) (with_elements (fixed width components sign) chunk places new)
+      → BytesWritten order (form_of sizes (fixed width components sign) fill) (bytes_left order (form_of sizes (fixed width components sign) fill) None places new) (with_elements (fixed width components sign) chunk places new)
   fill_edited chunk places new is fit =
       let type = fixed width components sign in
       let t = taken order sizes width components sign fill len length_is in
       let fits : (length fill == element_size width components) ≡ true = t.filled in
       let long : length fill ≡ element_size width components = grind (arith, nat_tests) in
       let count : ℕ = product sizes in
-      pieces_edited chunk (replicate count fill) places new (bytes_left order sizes type fill None places new) (is ∙ fill_pieces count) (fill_sized count long) (length-replicate count fill) fit
+      pieces_edited chunk (replicate count fill) places new (bytes_left order (form_of sizes type fill) None places new) (is ∙ fill_pieces count) (fill_sized count long) (length-replicate count fill) fit
       (ap (λ (c : Chunk). spelled_chunk order width components (with_elements type c places new)) (sym is))
 
-  stored_edited : (value : List ℕ) (chunk : Chunk) (places : List ℕ) (new : Held) → BytesStands order sizes (fixed width components sign) fill value chunk → All (λ place. place < product sizes) places → data_fit (fixed width components sign) (length places) new ≡ Ok tt
-      → BytesWritten order sizes (fixed width components sign) fill (bytes_left order sizes (fixed width components sign) fill (Some value) places new) (with_elements (fixed width components sign) chunk places new)
+  stored_edited : (value : List ℕ) (chunk : Chunk) (places : List ℕ) (new : Held) → BytesStands order (form_of sizes (fixed width components sign) fill) value chunk → All (λ place. place < product sizes) places → data_fit (fixed width components sign) (length places) new ≡ Ok tt
+      → BytesWritten order (form_of sizes (fixed width components sign) fill) (bytes_left order (form_of sizes (fixed width components sign) fill) (Some value) places new) (with_elements (fixed width components sign) chunk places new)
   stored_edited value chunk places new stands below fit =
       let type = fixed width components sign in
       let size = element_size width components in
@@ -174,7 +175,7 @@ module _ (order : Option Endianness) (sizes : List ℕ) (width components : ℕ)
       let lens : length places ≡ length (map turned p.parts) = sym (length-map p.parts turned ∙ p.number) in
       let edited : with_elements type chunk places new ≡ map plain (update o.parts places p.parts)
       = ap₂ (λ xs ys. update xs places ys) o.are p.are ∙ sym (map-update plain o.parts places p.parts) in
-      pieces_edited chunk o.parts places new (bytes_left order sizes type fill (Some value) places new) o.are o.sized number fit
+      pieces_edited chunk o.parts places new (bytes_left order (form_of sizes type fill) (Some value) places new) o.are o.sized number fit
       (ap₂ (λ old bs. with_place_bytes size old places bs) (stands.value_is ∙ spelled_pieces order width components chunk o.parts o.are) (spelled_pieces order width components (elements type (length places) new) p.parts p.are)
       ∙ pieces_written size (map turned o.parts) places (map turned p.parts) old_sized new_sized lens inside
       ∙ ap concat (sym (map-update turned o.parts places p.parts))
@@ -182,13 +183,13 @@ module _ (order : Option Endianness) (sizes : List ℕ) (width components : ℕ)
 
 -- what is left is what is written for the chunk with the new elements
 pub write_updates : (order : Option Endianness) (sizes : List ℕ) (type : ElementType) (fill : List ℕ) (stored : Option (List ℕ)) (chunk : Chunk) (places : List ℕ) (new : Held)
-    → is_ok (bytes_length order sizes type fill) ≡ true → StartsFrom order sizes type fill stored chunk → All (λ place. place < product sizes) places → data_fit type (length places) new ≡ Ok tt
-    → BytesWritten order sizes type fill (bytes_left order sizes type fill stored places new) (with_elements type chunk places new)
+    → is_ok (bytes_length order (form_of sizes type fill)) ≡ true → StartsFrom order (form_of sizes type fill) stored chunk → All (λ place. place < product sizes) places → data_fit type (length places) new ≡ Ok tt
+    → BytesWritten order (form_of sizes type fill) (bytes_left order (form_of sizes type fill) stored places new) (with_elements type chunk places new)
 write_updates order sizes (fixed width components sign) fill None chunk places new t starts below fit =
-    let n = ok_length (bytes_length order sizes (fixed width components sign) fill) t in
+    let n = ok_length (bytes_length order (form_of sizes (fixed width components sign) fill)) t in
     fill_edited order sizes width components sign fill n.0 n.1 chunk places new starts fit
 write_updates order sizes (fixed width components sign) fill (Some value) chunk places new t starts below fit =
-    let n = ok_length (bytes_length order sizes (fixed width components sign) fill) t in
+    let n = ok_length (bytes_length order (form_of sizes (fixed width components sign) fill)) t in
     stored_edited order sizes width components sign fill n.0 n.1 value chunk places new starts below fit
 write_updates order sizes text fill stored chunk places new t starts below fit = absurd cc
 write_updates order sizes bytes fill stored chunk places new t starts below fit = absurd cc
@@ -197,9 +198,9 @@ write_updates order sizes (optional type) fill stored chunk places new t starts 
 -- ---- where nothing is stored
 
 -- fill elements can be made
-pub fills_made : (order : Option Endianness) (sizes : List ℕ) (type : ElementType) (fill : List ℕ) → is_ok (bytes_length order sizes type fill) ≡ true → fill_chunk type (product sizes) fill ≡ Ok (filled_chunk sizes type fill)
+pub fills_made : (order : Option Endianness) (sizes : List ℕ) (type : ElementType) (fill : List ℕ) → is_ok (bytes_length order (form_of sizes type fill)) ≡ true → fill_chunk type (product sizes) fill ≡ Ok (filled_chunk sizes type fill)
 fills_made order sizes (fixed width components sign) fill t =
-    let n = ok_length (bytes_length order sizes (fixed width components sign) fill) t in
+    let n = ok_length (bytes_length order (form_of sizes (fixed width components sign) fill)) t in
     let k = taken order sizes width components sign fill n.0 n.1 in
     let small : nat_lt (product sizes * element_size width components) (2 ^ 64) ≡ true = grind (arith, nat_tests, k.len_is, k.small) in
     rw (k.filled, small) refl
@@ -208,9 +209,9 @@ fills_made order sizes bytes fill t = absurd cc
 fills_made order sizes (optional type) fill t = absurd cc
 
 -- and counted
-pub counted : (order : Option Endianness) (sizes : List ℕ) (type : ElementType) (fill : List ℕ) → is_ok (bytes_length order sizes type fill) ≡ true → checked_u64 (product sizes) ≡ Ok (product sizes)
+pub counted : (order : Option Endianness) (sizes : List ℕ) (type : ElementType) (fill : List ℕ) → is_ok (bytes_length order (form_of sizes type fill)) ≡ true → checked_u64 (product sizes) ≡ Ok (product sizes)
 counted order sizes (fixed width components sign) fill t =
-    let n = ok_length (bytes_length order sizes (fixed width components sign) fill) t in
+    let n = ok_length (bytes_length order (form_of sizes (fixed width components sign) fill)) t in
     let k = taken order sizes width components sign fill n.0 n.1 in
     let small : nat_lt (product sizes) (2 ^ 64) ≡ true = grind (arith, nat_tests, k.countable) in
     rw small refl
@@ -236,7 +237,7 @@ held_at type count held chunk e h = record {
   elements_are = ap (λ n. elements type n held) (sym e) ∙ h.elements_are;
 }
 
-module _ (order : Option Endianness) (sizes : List ℕ) (type : ElementType) (fill : List ℕ) (t : is_ok (bytes_length order sizes type fill) ≡ true) (places : List ℕ) (new : Held) (fit : data_fit type (length places) new ≡ Ok tt) where
+module _ (order : Option Endianness) (sizes : List ℕ) (type : ElementType) (fill : List ℕ) (t : is_ok (bytes_length order (form_of sizes type fill)) ≡ true) (places : List ℕ) (new : Held) (fit : data_fit type (length places) new ≡ Ok tt) where
   filled_held : (filled : Held) → IsOkAnd (fill_chunk type (product sizes) fill) (Holds type filled) → HeldAt type (product sizes) filled (filled_chunk sizes type fill)
   filled_held filled h =
       held_at type (product sizes) filled (filled_chunk sizes type fill) (length-replicate (product sizes) (fill_element type fill)) (found (fill_chunk type (product sizes) fill) (filled_chunk sizes type fill) (Holds type filled) (fills_made order sizes type fill t) h)
@@ -248,10 +249,10 @@ module _ (order : Option Endianness) (sizes : List ℕ) (type : ElementType) (fi
       rw (held.valid, fit, held.elements_are) refl
 
   -- and what the updated ones are encoded as is the value
-  pub fills_encoded : (filled edited : Held) → IsOkAnd (fill_chunk type (product sizes) fill) (Holds type filled) → IsOkAnd (update_at_places type (product sizes) places filled new) (Holds type edited) → bytes_value order sizes type fill edited ≡ Ok (bytes_left order sizes type fill None places new)
+  pub fills_encoded : (filled edited : Held) → IsOkAnd (fill_chunk type (product sizes) fill) (Holds type filled) → IsOkAnd (update_at_places type (product sizes) places filled new) (Holds type edited) → bytes_value order (form_of sizes type fill) edited ≡ Ok (bytes_left order (form_of sizes type fill) None places new)
   fills_encoded filled edited h g =
       let chunk = with_elements type (filled_chunk sizes type fill) places new in
-      let n = ok_length (bytes_length order sizes type fill) t in
+      let n = ok_length (bytes_length order (form_of sizes type fill)) t in
       let long : length chunk ≡ product sizes = length-update (filled_chunk sizes type fill) places (elements type (length places) new) ∙ length-replicate (product sizes) (fill_element type fill) in
       let held = held_at type (product sizes) edited chunk long (found (update_at_places type (product sizes) places filled new) chunk (Holds type edited) (fills_updated filled h) g) in
       rw (n.1, held.valid, held.elements_are) refl
@@ -270,17 +271,17 @@ same_bytes stored value e = cc
 
 -- what is left is what is written for the chunk with the new elements, where an edit starts from a chunk
 pub edit_answer : {T : Type 0} (order : Option Endianness) (sizes : List ℕ) (type : ElementType) (fill : List ℕ) (stored after : Option (List ℕ)) (chunk : Chunk) (selection : Selection) (new : Held) (places : List ℕ) (result : Result T CodecError)
-    → is_ok (bytes_length order sizes type fill) ≡ true → StartsFrom order sizes type fill stored chunk → All (λ place. place < product sizes) places → data_places sizes type selection new ≡ Ok places → data_fit type (length places) new ≡ Ok tt
-    → Answers memory_or_fault (λ _. after) result (some_bytes (bytes_left order sizes type fill stored places new)) → AnswersBy memory_or_fault (λ _ edited. StoresChunk order sizes type fill after edited) result (edited_chunk sizes type chunk selection new)
+    → is_ok (bytes_length order (form_of sizes type fill)) ≡ true → StartsFrom order (form_of sizes type fill) stored chunk → All (λ place. place < product sizes) places → data_places sizes type selection new ≡ Ok places → data_fit type (length places) new ≡ Ok tt
+    → Answers memory_or_fault (λ _. after) result (some_bytes (bytes_left order (form_of sizes type fill) stored places new)) → AnswersBy memory_or_fault (λ _ edited. StoresChunk order (form_of sizes type fill) after edited) result (edited_chunk sizes type chunk selection new)
 edit_answer order sizes type fill stored after chunk selection new places (Ok x) t starts below at fit answer =
-    let left : after ≡ Some (bytes_left order sizes type fill stored places new) = same_bytes after (bytes_left order sizes type fill stored places new) answer in
+    let left : after ≡ Some (bytes_left order (form_of sizes type fill) stored places new) = same_bytes after (bytes_left order (form_of sizes type fill) stored places new) answer in
     rw (at, left) (write_updates order sizes type fill stored chunk places new t starts below fit)
 edit_answer order sizes type fill stored after chunk selection new places (Err e) t starts below at fit answer =
-    λ m. absurd (let bad : some_bytes (bytes_left order sizes type fill stored places new) ≡ Err e = answer m in cc)
+    λ m. absurd (let bad : some_bytes (bytes_left order (form_of sizes type fill) stored places new) ≡ Err e = answer m in cc)
 
 -- a refusal of the data is that of the write
 pub edit_refused : (T : Type 0) (order : Option Endianness) (sizes : List ℕ) (type : ElementType) (fill : List ℕ) (after : Option (List ℕ)) (chunk : Chunk) (selection : Selection) (new : Held) (e : CodecError) → (memory e ≡ false → data_places sizes type selection new ≡ Err e)
-    → AnswersBy {T = T} memory_or_fault (λ _ edited. StoresChunk order sizes type fill after edited) (Err e) (edited_chunk sizes type chunk selection new)
+    → AnswersBy {T = T} memory_or_fault (λ _ edited. StoresChunk order (form_of sizes type fill) after edited) (Err e) (edited_chunk sizes type chunk selection new)
 edit_refused T order sizes type fill after chunk selection new e refused = λ m. rw (refused (first_false (memory e) (fault e) m)) refl
   where
     first_false : (a b : Bool) → (a || b) ≡ false → a ≡ false
@@ -292,7 +293,7 @@ pub number_is : (expected found' : ℕ) → ◌≡◌ {A = Result ℕ CodecError
 number_is expected found' e = cc
 
 -- new elements of a type that the codec takes have as many bytes as their places
-pub fits_length : (order : Option Endianness) (sizes : List ℕ) (type : ElementType) (fill : List ℕ) (count : ℕ) (new : Held) → is_ok (bytes_length order sizes type fill) ≡ true → data_fit type count new ≡ Ok tt → length (bytes_in new) ≡ count * place_size type
+pub fits_length : (order : Option Endianness) (sizes : List ℕ) (type : ElementType) (fill : List ℕ) (count : ℕ) (new : Held) → is_ok (bytes_length order (form_of sizes type fill)) ≡ true → data_fit type count new ≡ Ok tt → length (bytes_in new) ≡ count * place_size type
 fits_length order sizes (fixed width components sign) fill count (flen raw) t fit = length_found data_mismatch _ _ fit
 fits_length order sizes (fixed width components sign) fill count (vlen raw offsets) t fit = absurd cc
 fits_length order sizes (fixed width components sign) fill count (masked inner mask) t fit = absurd cc
@@ -301,9 +302,9 @@ fits_length order sizes bytes fill count new t fit = absurd cc
 fits_length order sizes (optional type) fill count new t fit = absurd cc
 
 -- what is written over a stored value is what is left of it
-pub stored_left : (order : Option Endianness) (sizes : List ℕ) (type : ElementType) (fill : List ℕ) (stored here after : Option (List ℕ)) (size : ℕ) (places : List ℕ) (new : Held) (result : Result (Unit {0}) CodecError) → is_ok (bytes_length order sizes type fill) ≡ true → data_fit type (length places) new ≡ Ok tt
+pub stored_left : (order : Option Endianness) (sizes : List ℕ) (type : ElementType) (fill : List ℕ) (stored here after : Option (List ℕ)) (size : ℕ) (places : List ℕ) (new : Held) (result : Result (Unit {0}) CodecError) → is_ok (bytes_length order (form_of sizes type fill)) ≡ true → data_fit type (length places) new ≡ Ok tt
     → is_some stored ≡ true → here ≡ stored → size ≡ place_size type → Answers memory_or_fault (λ done. done) result (Ok tt) → OnOk result (after ≡ Some (with_place_bytes size (value_or_empty here) places (turned_bytes (turn_size order type) (bytes_in new))))
-    → Answers memory_or_fault (λ _. after) result (some_bytes (bytes_left order sizes type fill stored places new))
+    → Answers memory_or_fault (λ _. after) result (some_bytes (bytes_left order (form_of sizes type fill) stored places new))
 stored_left order sizes type fill None here after size places new result t fit there same sized answer written = absurd cc
 stored_left order sizes type fill (Some value) here after size places new (Ok x) t fit there same sized answer written =
     let is : after ≡ Some (with_place_bytes (place_size type) value places (spelling order type (elements type (length places) new)))

@@ -1,4 +1,5 @@
 -- What is known of chunks that the codec takes.
+use Rattle.zarrs_data_type.specs.Form.{form_of}
 use Rattle.std.proofs.Common.{◌≡◌, ℕ, ◌*◌, ◌<◌, ◌^◌, true, Option, Result, Ok, Err, List, arith, refl}
 use Rattle.std.specs.Prelude.{is_ok, is_some}
 use Rattle.zarrs_chunk.specs.ChunkShape.{product}
@@ -15,25 +16,25 @@ ok_is (Ok n) h = (n, refl)
 ok_is (Err e) h = absurd cc
 
 -- its type is fixed
-pub taken_fixed : (order : Option Endianness) (sizes : List ℕ) (type : ElementType) (fill : List ℕ) → is_ok (bytes_length order sizes type fill) ≡ true → is_some (fixed_size_of type) ≡ true
+pub taken_fixed : (order : Option Endianness) (sizes : List ℕ) (type : ElementType) (fill : List ℕ) → is_ok (bytes_length order (form_of sizes type fill)) ≡ true → is_some (fixed_size_of type) ≡ true
 taken_fixed order sizes (fixed width components sign) fill h = refl
 taken_fixed order sizes text fill h = absurd cc
 taken_fixed order sizes bytes fill h = absurd cc
 taken_fixed order sizes (optional type) fill h = absurd cc
 
 -- its fill value fits the type
-pub taken_fill : (order : Option Endianness) (sizes : List ℕ) (type : ElementType) (fill : List ℕ) → is_ok (bytes_length order sizes type fill) ≡ true → fill_fits type fill ≡ true
+pub taken_fill : (order : Option Endianness) (sizes : List ℕ) (type : ElementType) (fill : List ℕ) → is_ok (bytes_length order (form_of sizes type fill)) ≡ true → fill_fits type fill ≡ true
 taken_fill order sizes (fixed width components sign) fill h =
-    let n = ok_is (bytes_length order sizes (fixed width components sign) fill) h in
+    let n = ok_is (bytes_length order (form_of sizes (fixed width components sign) fill)) h in
     (taken order sizes width components sign fill n.0 n.1).filled
 taken_fill order sizes text fill h = absurd cc
 taken_fill order sizes bytes fill h = absurd cc
 taken_fill order sizes (optional type) fill h = absurd cc
 
 -- 64 bits count its bytes
-pub taken_small : (order : Option Endianness) (sizes : List ℕ) (type : ElementType) (fill : List ℕ) → is_ok (bytes_length order sizes type fill) ≡ true → product sizes * place_size type < 2 ^ 64
+pub taken_small : (order : Option Endianness) (sizes : List ℕ) (type : ElementType) (fill : List ℕ) → is_ok (bytes_length order (form_of sizes type fill)) ≡ true → product sizes * place_size type < 2 ^ 64
 taken_small order sizes (fixed width components sign) fill h =
-    let n = ok_is (bytes_length order sizes (fixed width components sign) fill) h in
+    let n = ok_is (bytes_length order (form_of sizes (fixed width components sign) fill)) h in
     let t = taken order sizes width components sign fill n.0 n.1 in
     omega (arith, t.len_is, t.small)
 taken_small order sizes text fill h = absurd cc

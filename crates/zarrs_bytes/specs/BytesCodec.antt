@@ -14,21 +14,26 @@ use Rattle.zarrs_data_type.specs.declared.endianness.Endianness.TheVariants.{Big
 use Rattle.zarrs_array_bytes.specs.Elements.{piece, elements}
 use Rattle.zarrs_array_bytes.specs.Held.{Held, flen}
 use Rattle.zarrs_array_bytes.specs.Validity.{validity}
+use Rattle.zarrs_data_type.specs.Form.{Form}
 use Rattle.zarrs_bytes.specs.ByteOrder.{bytes_in_order, has_order, spelled_chunk}
 
 -- ---- which chunks it takes
 
--- how many bytes the value of such a chunk has, or the first cause why the codec doesn't take such chunks
-abbrev pub bytes_length : Option Endianness → List ℕ → ElementType → List ℕ → Result ℕ CodecError
-bytes_length order sizes (fixed width components sign) fill = do
+-- the same by its parts
+abbrev pub length_by : Option Endianness → List ℕ → ElementType → List ℕ → Result ℕ CodecError
+length_by order sizes (fixed width components sign) fill = do
   _ ← demand (fill_fits (fixed width components sign) fill) InvalidFillValue
   count ← checked_u64 (product sizes)
   len ← checked_u64 (count * element_size width components)
   _ ← demand (has_order order width) EndiannessMissing
   Ok len
-bytes_length order sizes text fill = Err (UnsupportedDataType codec.Bytes)
-bytes_length order sizes bytes fill = Err (UnsupportedDataType codec.Bytes)
-bytes_length order sizes (optional type) fill = Err (UnsupportedDataType codec.Bytes)
+length_by order sizes text fill = Err (UnsupportedDataType codec.Bytes)
+length_by order sizes bytes fill = Err (UnsupportedDataType codec.Bytes)
+length_by order sizes (optional type) fill = Err (UnsupportedDataType codec.Bytes)
+
+-- how many bytes the value of such a chunk has, or the first cause why the codec doesn't take such chunks
+abbrev pub bytes_length : Option Endianness → Form → Result ℕ CodecError
+bytes_length order form = length_by order form.sizes form.type form.fill
 
 -- ---- its grammar: the elements of the chunk in order, each component in the byte order
 
@@ -43,18 +48,18 @@ spelling order (fixed width components sign) chunk = spelled_chunk order width c
 spelling order type chunk = []
 
 -- The value stands for the chunk: the codec takes such chunks, and the value is the bytes of the chunk's elements.
-pub record BytesStands (order : Option Endianness) (sizes : List ℕ) (type : ElementType) (fill value : List ℕ) (chunk : Chunk) : Type 0 where
+pub record BytesStands (order : Option Endianness) (form : Form) (value : List ℕ) (chunk : Chunk) : Type 0 where
   pub len : ℕ
-  pub length_is : bytes_length order sizes type fill ≡ Ok len
-  pub elements : IsChunk type (product sizes) chunk
-  pub value_is : value ≡ spelling order type chunk
+  pub length_is : bytes_length order form ≡ Ok len
+  pub elements : IsChunk form.type (product form.sizes) chunk
+  pub value_is : value ≡ spelling order form.type chunk
 
 -- The value is written for the chunk: the codec takes such chunks, the value is the bytes of the chunk's elements, and 64 bits count them.
-pub record BytesWritten (order : Option Endianness) (sizes : List ℕ) (type : ElementType) (fill value : List ℕ) (chunk : Chunk) : Type 0 where
+pub record BytesWritten (order : Option Endianness) (form : Form) (value : List ℕ) (chunk : Chunk) : Type 0 where
   pub len : ℕ
-  pub length_is : bytes_length order sizes type fill ≡ Ok len
-  pub elements : IsChunk type (product sizes) chunk
-  pub value_is : value ≡ spelling order type chunk
+  pub length_is : bytes_length order form ≡ Ok len
+  pub elements : IsChunk form.type (product form.sizes) chunk
+  pub value_is : value ≡ spelling order form.type chunk
   pub small : length value < 2 ^ 64
 
 -- ---- what its calls answer
@@ -66,18 +71,18 @@ bytes_element order (fixed width components sign) value place =
 bytes_element order type value place = absent
 
 -- the value of the chunk that a container holds, or the first refusal
-abbrev pub bytes_value : Option Endianness → List ℕ → ElementType → List ℕ → Held → Result (List ℕ) CodecError
-bytes_value order sizes type fill held = do
-  _ ← bytes_length order sizes type fill
-  _ ← validity type (product sizes) held
-  Ok (spelling order type (elements type (product sizes) held))
+abbrev pub bytes_value : Option Endianness → Form → Held → Result (List ℕ) CodecError
+bytes_value order form held = do
+  _ ← bytes_length order form
+  _ ← validity form.type (product form.sizes) held
+  Ok (spelling order form.type (elements form.type (product form.sizes) held))
 
 -- the chunk that a value stands for, or the first refusal
-abbrev pub bytes_chunk : Option Endianness → List ℕ → ElementType → List ℕ → List ℕ → Result Chunk CodecError
-bytes_chunk order sizes type fill value = do
-  len ← bytes_length order sizes type fill
+abbrev pub bytes_chunk : Option Endianness → Form → List ℕ → Result Chunk CodecError
+bytes_chunk order form value = do
+  len ← bytes_length order form
   _ ← demand (length value == len) (InvalidBytesLength (length value) len)
-  Ok (map (bytes_element order type value) (range_with_len 0 (product sizes)))
+  Ok (map (bytes_element order form.type value) (range_with_len 0 (product form.sizes)))
 
 -- how many bytes the components have that the order turns round; none, where it leaves all bytes in their places
 abbrev pub turn_size : Option Endianness → ElementType → Option ℕ

@@ -1,4 +1,5 @@
 -- Laws of the codec `bytes`.
+use Rattle.zarrs_data_type.specs.Form.{form_of}
 use Rattle.std.specs.Prelude.{◌≡◌, ◌<◌, ◌↔◌, ℕ, Option, Some, List, length, true, is_ok, Ok}
 use Rattle.std.specs.List.{All}
 use Rattle.zarrs_data_type.specs.Element.{Chunk}
@@ -18,31 +19,31 @@ use Rattle.zarrs_bytes.specs.PartialWrite.{bytes_left, StartsFrom}
 abbrev pub WrittenStands : Type 0
 WrittenStands =
     (order : Option Endianness) (sizes : List ℕ) (type : ElementType) (fill value : List ℕ) (chunk : Chunk)
-    → BytesWritten order sizes type fill value chunk → BytesStands order sizes type fill value chunk
+    → BytesWritten order (form_of sizes type fill) value chunk → BytesStands order (form_of sizes type fill) value chunk
 
 -- A value stands for at most one chunk.
 abbrev pub StandsForOne : Type 0
 StandsForOne =
     (order : Option Endianness) (sizes : List ℕ) (type : ElementType) (fill value : List ℕ) (chunk other : Chunk)
-    → BytesStands order sizes type fill value chunk → BytesStands order sizes type fill value other → chunk ≡ other
+    → BytesStands order (form_of sizes type fill) value chunk → BytesStands order (form_of sizes type fill) value other → chunk ≡ other
 
 -- Two chunks are written alike exactly if they are equal.
 abbrev pub WrittenAlike : Type 0
 WrittenAlike =
     (order : Option Endianness) (sizes : List ℕ) (type : ElementType) (fill value other_value : List ℕ) (chunk other : Chunk)
-    → BytesWritten order sizes type fill value chunk → BytesWritten order sizes type fill other_value other → (value ≡ other_value) ↔ (chunk ≡ other)
+    → BytesWritten order (form_of sizes type fill) value chunk → BytesWritten order (form_of sizes type fill) other_value other → (value ≡ other_value) ↔ (chunk ≡ other)
 
 -- A written value has the length that the representation says.
 abbrev pub HasRepresentedLength : Type 0
 HasRepresentedLength =
     (order : Option Endianness) (sizes : List ℕ) (type : ElementType) (fill value : List ℕ) (chunk : Chunk) (len : ℕ)
-    → BytesWritten order sizes type fill value chunk → bytes_length order sizes type fill ≡ Ok len → length value ≡ len
+    → BytesWritten order (form_of sizes type fill) value chunk → bytes_length order (form_of sizes type fill) ≡ Ok len → length value ≡ len
 
 -- Of a value that stands for a chunk, a read of places inside selects the chunk's elements.
 abbrev pub ReadSelects : Type 0
 ReadSelects =
     (order : Option Endianness) (sizes : List ℕ) (type : ElementType) (fill value : List ℕ) (chunk : Chunk) (places : List ℕ)
-    → BytesStands order sizes type fill value chunk → All (λ place. place < length chunk) places
+    → BytesStands order (form_of sizes type fill) value chunk → All (λ place. place < length chunk) places
     → read_places order type fill (Some value) places ≡ Ok (select chunk places)
 
 -- Two values that both have all bytes of these places, and the same ones there, are read alike at these places.
@@ -56,5 +57,5 @@ ReadsAlike =
 abbrev pub WriteUpdates : Type 0
 WriteUpdates =
     (order : Option Endianness) (sizes : List ℕ) (type : ElementType) (fill : List ℕ) (stored : Option (List ℕ)) (chunk : Chunk) (places : List ℕ) (new : Held)
-    → is_ok (bytes_length order sizes type fill) ≡ true → StartsFrom order sizes type fill stored chunk → All (λ place. place < product sizes) places → data_fit type (length places) new ≡ Ok tt
-    → BytesWritten order sizes type fill (bytes_left order sizes type fill stored places new) (with_elements type chunk places new)
+    → is_ok (bytes_length order (form_of sizes type fill)) ≡ true → StartsFrom order (form_of sizes type fill) stored chunk → All (λ place. place < product sizes) places → data_fit type (length places) new ≡ Ok tt
+    → BytesWritten order (form_of sizes type fill) (bytes_left order (form_of sizes type fill) stored places new) (with_elements type chunk places new)

@@ -1,6 +1,7 @@
 pub mod ByteOrder
 pub mod BytesCodec
 pub mod BytesCodecPartial
+pub mod BytesGrammar
 pub mod Laws
 pub mod PartialRead
 pub mod PartialWrite
@@ -12,6 +13,7 @@ pub use Rattle.zarrs_chunk.specs.Selection
 pub use Rattle.zarrs_data_type.specs.Element
 pub use Rattle.zarrs_data_type.specs.ElementType
 pub use Rattle.zarrs_data_type.specs.FillValue
+pub use Rattle.zarrs_data_type.specs.Form
 pub use Rattle.zarrs_array_bytes.specs.Elements
 pub use Rattle.zarrs_array_bytes.specs.Held
 pub use Rattle.zarrs_array_bytes.specs.Validity
@@ -19,5 +21,7 @@ pub use Rattle.zarrs_codec.specs.ArrayReader
 pub use Rattle.zarrs_codec.specs.ArrayWriter
 pub use Rattle.zarrs_codec.specs.ByteRanges
 pub use Rattle.zarrs_codec.specs.ChunkEdits
+pub use Rattle.zarrs_codec.specs.CodersOverHandles
+pub use Rattle.zarrs_codec.specs.Grammar
 pub use Rattle.zarrs_codec.specs.Refused
 pub use Rattle.zarrs_codec.specs.StorageState

@@ -9,6 +9,7 @@ use Rattle.zarrs_data_type.specs.Element.{Chunk, fill_element}
 use Rattle.zarrs_data_type.specs.ElementType.{ElementType, fixed, text, bytes, optional, element_size}
 use Rattle.zarrs_data_type.specs.declared.endianness.Endianness.{Endianness}
 use Rattle.zarrs_array_bytes.specs.Elements.{piece}
+use Rattle.zarrs_data_type.specs.Form.{Form}
 use Rattle.zarrs_bytes.specs.BytesCodec.{bytes_element}
 
 -- the numbers of the bytes of elements of one size at these places, in order
@@ -49,10 +50,10 @@ read_places order type fill (Some value) places = do
   Ok (map (bytes_element order type value) places)
 
 -- the elements that a selection means, of what is stored, or the first refusal
-abbrev pub bytes_read : Option Endianness → List ℕ → ElementType → List ℕ → Option (List ℕ) → Selection → Result Chunk CodecError
-bytes_read order sizes type fill stored selection = do
-  places ← places_of selection sizes
-  read_places order type fill stored places
+abbrev pub bytes_read : Option Endianness → Form → Option (List ℕ) → Selection → Result Chunk CodecError
+bytes_read order form stored selection = do
+  places ← places_of selection form.sizes
+  read_places order form.type form.fill stored places
 
 -- the numbers of the bytes that such a read asks for, or the first refusal
 abbrev pub bytes_plan : List ℕ → ElementType → Selection → Result (List ℕ) CodecError

@@ -12,7 +12,10 @@ use Rattle.zarrs_array_bytes.specs.Held.{Held}
 use Rattle.zarrs_array_bytes.specs.Update.{update}
 use Rattle.zarrs_codec.specs.BytePieces.{with_zeros}
 use Rattle.zarrs_codec.specs.ChunkEdits.{data_places, with_elements}
-use Rattle.zarrs_bytes.specs.BytesCodec.{spelling, BytesStands, BytesWritten}
+use Rattle.zarrs_bytes.specs.BytesGrammar.{bytes_grammar}
+use Rattle.zarrs_codec.specs.CodersOverHandles.{EditsFrom, Stores}
+use Rattle.zarrs_data_type.specs.Form.{Form}
+use Rattle.zarrs_bytes.specs.BytesCodec.{spelling}
 use Rattle.zarrs_bytes.specs.PartialRead.{place_bytes, place_size}
 
 -- ---- bytes
@@ -38,26 +41,24 @@ abbrev pub filled_chunk : List ℕ → ElementType → List ℕ → Chunk
 filled_chunk sizes type fill = replicate (product sizes) (fill_element type fill)
 
 -- the value after new elements are written at these places: where none is stored, that of the whole chunk, which begins as fill elements; else the stored one with the places' bytes replaced
-abbrev pub bytes_left : Option Endianness → List ℕ → ElementType → List ℕ → Option (List ℕ) → List ℕ → Held → List ℕ
-bytes_left order sizes type fill None places new =
-    spelling order type (with_elements type (filled_chunk sizes type fill) places new)
-bytes_left order sizes type fill (Some value) places new =
-    with_place_bytes (place_size type) value places (spelling order type (elements type (length places) new))
+abbrev pub bytes_left : Option Endianness → Form → Option (List ℕ) → List ℕ → Held → List ℕ
+bytes_left order form None places new =
+    spelling order form.type (with_elements form.type (filled_chunk form.sizes form.type form.fill) places new)
+bytes_left order form (Some value) places new =
+    with_place_bytes (place_size form.type) value places (spelling order form.type (elements form.type (length places) new))
 
 -- the value after new elements are written at a selection, or the first refusal
-abbrev pub bytes_written : Option Endianness → List ℕ → ElementType → List ℕ → Option (List ℕ) → Selection → Held → Result (List ℕ) CodecError
-bytes_written order sizes type fill stored selection new = do
-  places ← data_places sizes type selection new
-  Ok (bytes_left order sizes type fill stored places new)
+abbrev pub bytes_written : Option Endianness → Form → Option (List ℕ) → Selection → Held → Result (List ℕ) CodecError
+bytes_written order form stored selection new = do
+  places ← data_places form.sizes form.type selection new
+  Ok (bytes_left order form stored places new)
 
 -- ---- edits of a chunk
 
 -- an edit of what is stored starts from this chunk: the one that the value stands for; where there is none, one of fill elements
-abbrev pub StartsFrom : Option Endianness → List ℕ → ElementType → List ℕ → Option (List ℕ) → Chunk → Type 0
-StartsFrom order sizes type fill None chunk = chunk ≡ filled_chunk sizes type fill
-StartsFrom order sizes type fill (Some value) chunk = BytesStands order sizes type fill value chunk
+abbrev pub StartsFrom : Option Endianness → Form → Option (List ℕ) → Chunk → Type 0
+StartsFrom order = EditsFrom (bytes_grammar order)
 
 -- what is stored is the value that is written for this chunk
-abbrev pub StoresChunk : Option Endianness → List ℕ → ElementType → List ℕ → Option (List ℕ) → Chunk → Type 0
-StoresChunk order sizes type fill None chunk = ⊥
-StoresChunk order sizes type fill (Some value) chunk = BytesWritten order sizes type fill value chunk
+abbrev pub StoresChunk : Option Endianness → Form → Option (List ℕ) → Chunk → Type 0
+StoresChunk order = Stores (bytes_grammar order)

@@ -11,13 +11,13 @@ impl ArrayToBytesCodecTraits for BytesCodec {
     ghost use Rattle.zarrs_codec.specs.declared.bytes_representation.BytesRepresentation.TheVariants.{FixedSize};
     ghost use Rattle.zarrs_bytes.specs.BytesCodec.{bytes_length, bytes_value, bytes_chunk};
 
-    ghost represented = { λ order sizes type fill. seen FixedSize (bytes_length order sizes type fill) };
+    ghost represented = { λ order form. seen FixedSize (bytes_length order form) };
 
-    ghost encoded = { λ order sizes type fill held. bytes_value order sizes type fill held };
+    ghost encoded = { λ order form held. bytes_value order form held };
 
-    ghost decoded = { λ order sizes type fill value. bytes_chunk order sizes type fill value };
+    ghost decoded = { λ order form value. bytes_chunk order form value };
 
-    ghost opened = { λ order sizes type fill _. seen (λ _. tt) (bytes_length order sizes type fill) };
+    ghost opened = { λ order form _. seen (λ _. tt) (bytes_length order form) };
 
     fn encoded_representation(
         &self,

@@ -2,9 +2,9 @@
 //!
 //! A loop of single swaps would be built byte by byte, so the bytes are turned in groups whose
 //! swaps are all constants, which compile to one shuffle of a register.
-ghost use Rattle.std.specs.Prelude.{◌≡◌, ◌<◌, ◌*◌, ◌/◌, ◌++◌, length, IfOk, OnOk, Ok, Some, None, IsOk, reverse, true, false};
-ghost use Rattle.zarrs_chunk.specs.Answer.{Answers, memory, is_fault, seen};
-ghost use Rattle.zarrs_array_bytes.specs.Held.{raw_of};
+ghost use Rattle.std.specs.Prelude.{◌≡◌, ◌<◌, ◌*◌, ◌/◌, ◌++◌, length, IfOk, OnOk, Ok, Some, None, IsOk, reverse, true};
+ghost use Rattle.zarrs_chunk.specs.Answer.{Gives, memory, seen};
+ghost use Rattle.zarrs_array_bytes.specs.Held.{items_of, raw_of};
 ghost use Rattle.zarrs_bytes.specs.ByteOrder.{turned_bytes};
 
 use std::alloc::{AllocError, Global};
@@ -176,10 +176,9 @@ pub fn turn<'a>(
     size: Option<usize>,
 ) -> Result<ArrayBytesRaw<'a>, CodecError>
     requires positive { size ≡ Some 0 → ⊥ }
-    ensures exact { Answers memory (λ value. (raw_of value).items) result (Ok (turned_bytes size (raw_of raw.entry).items)) }
+    ensures exact { Gives items_of result (Ok (turned_bytes size (raw_of raw.entry).items)) }
     ensures owned { (raw_of raw.entry).is_owned ≡ true → IsOk result }
     ensures kept { size ≡ None → seen raw_of result ≡ Ok (raw_of raw.entry) }
-    ensures no_fault { is_fault result ≡ false }
 {
     let Some(size) = size else {
         return Ok(raw);

@@ -1,11 +1,13 @@
-ghost use Rattle.std.specs.Prelude.{◌≡◌, ◌<◌, ℕ, List, Ok, Some, None, IfOk, IfSome, false};
-ghost use Rattle.zarrs_chunk.specs.Answer.{Answers, AnswersBy, is_fault, memory, never, seen};
+ghost use Rattle.std.specs.Prelude.{◌≡◌, ◌<◌, Ok, Some, None, IfOk, IfSome, false};
+ghost use Rattle.zarrs_chunk.specs.Answer.{AnswersBy, is_fault, memory, never, seen};
 ghost use Rattle.zarrs_chunk.specs.ChunkShape.{product};
-ghost use Rattle.zarrs_data_type.specs.Element.{Chunk};
-ghost use Rattle.zarrs_array_bytes.specs.Held.{flen, raw_of};
+ghost use Rattle.zarrs_array_bytes.specs.Held.{flen, raw_of, items_of};
 ghost use Rattle.zarrs_array_bytes.specs.Validity.{Holds};
 ghost use Rattle.zarrs_bytes.specs.ByteOrder.{has_order};
-ghost use Rattle.zarrs_bytes.specs.BytesCodec.{bytes_length, bytes_value, bytes_chunk, turn_size as turn_size_of, needs_memory, BytesStands, BytesWritten};
+ghost use Rattle.zarrs_data_type.specs.Form.{form_of};
+ghost use Rattle.zarrs_bytes.specs.BytesGrammar.{bytes_grammar};
+ghost use Rattle.zarrs_codec.specs.Grammar.{Encodes, Decodes};
+ghost use Rattle.zarrs_bytes.specs.BytesCodec.{bytes_length, bytes_value, bytes_chunk, turn_size as turn_size_of, needs_memory};
 
 use crate::byte_order::turn;
 use std::alloc::Global;
@@ -95,7 +97,7 @@ impl BytesCodec {
         data_type: &DataType,
         fill_value: &FillValue,
     ) -> Result<ChunkLengths, CodecError>
-        ensures answer { seen (λ lengths. lengths.bytes) result ≡ bytes_length self.now shape.now data_type.now fill_value.now }
+        ensures answer { seen (λ lengths. lengths.bytes) result ≡ bytes_length self.now (form_of shape.now data_type.now fill_value.now) }
         ensures elements { IfOk result (λ lengths. lengths.elements ≡ product shape.now) }
         ensures no_fault { is_fault result ≡ false }
     {
@@ -126,7 +128,7 @@ impl BytesCodec {
         data_type: &DataType,
         fill_value: &FillValue,
     ) -> Result<BytesRepresentation, CodecError>
-        ensures answer { result ≡ seen BytesRepresentation.FixedSize (bytes_length self.now shape.now data_type.now fill_value.now) }
+        ensures answer { result ≡ seen BytesRepresentation.FixedSize (bytes_length self.now (form_of shape.now data_type.now fill_value.now)) }
     {
         let lengths = self.lengths(shape, data_type, fill_value)?;
         Ok(BytesRepresentation::FixedSize(lengths.bytes))
@@ -145,12 +147,9 @@ impl BytesCodec {
         data_type: &DataType,
         fill_value: &FillValue,
     ) -> Result<ArrayBytesRaw<'a>, CodecError>
-        ensures found { IfOk result (λ value. (chunk : Chunk) × Holds data_type.now elements.entry chunk × BytesWritten self.now shape.now data_type.now fill_value.now (raw_of value).items chunk) }
-        ensures only { (chunk : Chunk) (value : List ℕ) → Holds data_type.now elements.entry chunk → BytesWritten self.now shape.now data_type.now fill_value.now value chunk → Answers memory (λ bytes. (raw_of bytes).items) result (Ok value) }
-        ensures exact { Answers memory (λ value. (raw_of value).items) result (bytes_value self.now shape.now data_type.now fill_value.now elements.entry) }
-        ensures in_place { needs_memory self.now data_type.now elements.entry ≡ false → seen (λ value. (raw_of value).items) result ≡ bytes_value self.now shape.now data_type.now fill_value.now elements.entry }
+        ensures encodes { Encodes (bytes_grammar self.now) (form_of shape.now data_type.now fill_value.now) elements.entry result }
+        ensures in_place { needs_memory self.now data_type.now elements.entry ≡ false → seen items_of result ≡ bytes_value self.now (form_of shape.now data_type.now fill_value.now) elements.entry }
         ensures kept { turn_size_of self.now data_type.now ≡ None → IfOk result (λ value. elements.entry ≡ flen (raw_of value)) }
-        ensures no_fault { is_fault result ≡ false }
     {
         let lengths = self.lengths(shape, data_type, fill_value)?;
         elements.validate(lengths.elements, data_type)?;
@@ -172,12 +171,9 @@ impl BytesCodec {
         data_type: &DataType,
         fill_value: &FillValue,
     ) -> Result<ArrayBytes<'a>, CodecError>
-        ensures found { IfOk result (λ elements. (chunk : Chunk) × Holds data_type.now elements chunk × BytesStands self.now shape.now data_type.now fill_value.now (raw_of value.entry).items chunk) }
-        ensures only { (chunk : Chunk) → BytesStands self.now shape.now data_type.now fill_value.now (raw_of value.entry).items chunk → AnswersBy memory (Holds data_type.now) result (Ok chunk) }
-        ensures exact { AnswersBy memory (Holds data_type.now) result (bytes_chunk self.now shape.now data_type.now fill_value.now (raw_of value.entry).items) }
-        ensures in_place { needs_memory self.now data_type.now (flen (raw_of value.entry)) ≡ false → AnswersBy never (Holds data_type.now) result (bytes_chunk self.now shape.now data_type.now fill_value.now (raw_of value.entry).items) }
+        ensures decodes { Decodes (bytes_grammar self.now) (form_of shape.now data_type.now fill_value.now) (items_of value.entry) result }
+        ensures in_place { needs_memory self.now data_type.now (flen (raw_of value.entry)) ≡ false → AnswersBy never (Holds data_type.now) result (bytes_chunk self.now (form_of shape.now data_type.now fill_value.now) (items_of value.entry)) }
         ensures kept { turn_size_of self.now data_type.now ≡ None → IfOk result (λ elements. elements ≡ flen (raw_of value.entry)) }
-        ensures no_fault { is_fault result ≡ false }
     {
         let lengths = self.lengths(shape, data_type, fill_value)?;
         let found = value.len() as u64;

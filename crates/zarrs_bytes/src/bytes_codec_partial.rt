@@ -1,21 +1,20 @@
-ghost use Rattle.std.specs.Prelude.{◌≡◌, ◌<◌, ◌≤◌, ◌+◌, ◌*◌, ◌-◌, ◌^◌, true, false, Some, None, Ok, Err, IfOk, IfErr, All, OnOk, OnErr, is_some, is_ok, sum_by, length};
+ghost use Rattle.zarrs_data_type.specs.Form.{form_of};
+ghost use Rattle.std.specs.Prelude.{◌≡◌, ◌<◌, ◌≤◌, ◌+◌, ◌*◌, ◌-◌, ◌^◌, true, false, Some, None, Ok, Err, IfOk, IfErr, All, OnErr, is_some, is_ok, sum_by, length};
 ghost use Rattle.std.specs.List.{flat_map};
-ghost use Rattle.zarrs_chunk.specs.Answer.{Answers, AnswersBy, fault, is_fault, memory, memory_or_fault, seen};
+ghost use Rattle.zarrs_chunk.specs.Answer.{Answers, AnswersBy, fault, is_fault, memory, memory_or_fault, seen, Gives};
 ghost use Rattle.zarrs_chunk.specs.Indexer.{selection_of};
 ghost use Rattle.zarrs_chunk.specs.Runs.{joined_runs};
-ghost use Rattle.zarrs_chunk.specs.Selection.{bounds_of, places_of};
+ghost use Rattle.zarrs_chunk.specs.Selection.{places_of};
 ghost use Rattle.zarrs_data_type.specs.ElementType.{fixed_size_of};
 ghost use Rattle.zarrs_data_type.specs.FillValue.{fill_fits};
 ghost use Rattle.zarrs_array_bytes.specs.Validity.{Holds, data_fit};
 ghost use Rattle.zarrs_chunk.specs.ChunkShape.{product};
-ghost use Rattle.zarrs_codec.specs.ArrayWriter.{IsRefusedWrite};
 ghost use Rattle.zarrs_codec.specs.ByteRanges.{range_indices};
 ghost use Rattle.zarrs_codec.specs.Refused.{outcome};
 ghost use Rattle.zarrs_codec.specs.StorageState.{after_reading, after_writing, apart_from_value, are_sure};
 ghost use Rattle.zarrs_bytes.specs.BytesCodec.{bytes_length};
-ghost use Rattle.zarrs_bytes.specs.PartialRead.{place_bytes, bytes_plan, bytes_read, read_places, place_size, IsFilledType};
-ghost use Rattle.zarrs_bytes.specs.PartialWrite.{bytes_written};
-ghost use Rattle.zarrs_codec.specs.ChunkEdits.{data_checked, data_places};
+ghost use Rattle.zarrs_bytes.specs.PartialRead.{place_bytes, bytes_plan, read_places, place_size, IsFilledType};
+ghost use Rattle.zarrs_codec.specs.ChunkEdits.{data_places};
 
 use crate::batches::{count_of, read_bytes, run_ranges};
 use crate::byte_order::turn;
@@ -40,7 +39,7 @@ pub struct BytesCodecPartial<H> {
     shape: ChunkShape,
     data_type: DataType,
     fill_value: FillValue,
-    ghost taken: { is_ok (bytes_length codec shape data_type fill_value) ≡ true },
+    ghost taken: { is_ok (bytes_length codec (form_of shape data_type fill_value)) ≡ true },
 }
 
 /// How many bytes an element of a fixed type has.
@@ -118,9 +117,8 @@ impl BytesCodec {
         data_type: &DataType,
         fill_value: &FillValue,
     ) -> Result<(ChunkShape, DataType, FillValue), CodecError>
-        ensures answer { Answers memory (λ parts. parts) result (seen (λ _. (shape.now, data_type.now, fill_value.now)) (bytes_length self.now shape.now data_type.now fill_value.now)) }
-        ensures taken { IfOk result (λ parts. is_ok (bytes_length self.now parts.0 parts.1 parts.2) ≡ true) }
-        ensures no_fault { is_fault result ≡ false }
+        ensures answer { Gives (λ parts. parts) result (seen (λ _. (shape.now, data_type.now, fill_value.now)) (bytes_length self.now (form_of shape.now data_type.now fill_value.now))) }
+        ensures taken { IfOk result (λ parts. is_ok (bytes_length self.now (form_of parts.0 parts.1 parts.2)) ≡ true) }
     {
         self.encoded_representation(shape, data_type, fill_value)?;
         let shape = shape.clone()?;
@@ -139,11 +137,10 @@ impl BytesCodec {
         data_type: &DataType,
         fill_value: &FillValue,
     ) -> Result<BytesCodecPartial<H>, Refused<H>>
-        ensures answer { Answers memory (λ made. made) (outcome result) (seen (λ _. tt) (bytes_length self.now shape.now data_type.now fill_value.now)) }
+        ensures answer { Gives (λ made. made) (outcome result) (seen (λ _. tt) (bytes_length self.now (form_of shape.now data_type.now fill_value.now))) }
         ensures form { IfOk result (λ decoder. bytes_form_of decoder ≡ record { order = self.now; sizes = shape.now; type = data_type.now; fill = fill_value.now }) }
         ensures over { IfOk result (λ decoder. bytes_handle_of decoder ≡ handle) }
         ensures handed_back { IfErr result (λ refused. refused.handle ≡ handle) }
-        ensures no_fault { is_fault (outcome result) ≡ false }
     {
         match self.parts_of_decoder(shape, data_type, fill_value) {
             Ok((shape, data_type, fill_value)) => Ok(BytesCodecPartial {
@@ -167,11 +164,10 @@ impl BytesCodec {
         data_type: &DataType,
         fill_value: &FillValue,
     ) -> Result<BytesCodecPartial<H>, Refused<H>>
-        ensures answer { Answers memory (λ made. made) (outcome result) (seen (λ _. tt) (bytes_length self.now shape.now data_type.now fill_value.now)) }
+        ensures answer { Gives (λ made. made) (outcome result) (seen (λ _. tt) (bytes_length self.now (form_of shape.now data_type.now fill_value.now))) }
         ensures form { IfOk result (λ encoder. bytes_form_of encoder ≡ record { order = self.now; sizes = shape.now; type = data_type.now; fill = fill_value.now }) }
         ensures over { IfOk result (λ encoder. bytes_handle_of encoder ≡ handle) }
         ensures handed_back { IfErr result (λ refused. refused.handle ≡ handle) }
-        ensures no_fault { is_fault (outcome result) ≡ false }
     {
         self.partial_decoder(alloc, handle, shape, data_type, fill_value)
     }
@@ -187,11 +183,10 @@ fn runs_for(
     data_type: &DataType,
     elements: &ArrayBytes<'_>,
 ) -> Result<Vec<(u64, u64)>, CodecError>
-    ensures answer { Answers memory (λ runs. joined_runs runs.items) result (data_places shape.now data_type.now (selection_of indexer.now) elements.now) }
+    ensures answer { Gives (λ runs. joined_runs runs.items) result (data_places shape.now data_type.now (selection_of indexer.now) elements.now) }
     ensures filled { IfOk result (λ runs. All (λ run. 0 < run.1) runs.items) }
     ensures below { IfOk result (λ runs. All (λ run. run.0 + run.1 ≤ product shape.now) runs.items) }
     ensures fit { IfOk result (λ runs. data_fit data_type.now (length (joined_runs runs.items)) elements.now ≡ Ok tt) }
-    ensures no_fault { is_fault result ≡ false }
 {
     let runs = indexer.runs(alloc, shape)?;
     elements.validate_data(count_of(runs.as_slice()), data_type)?;
@@ -199,7 +194,7 @@ fn runs_for(
 }
 
 impl<H: BytesPartialDecoderTraits> BytesCodecPartial<H> {
-    ghost use Rattle.zarrs_bytes.specs.BytesCodecPartial.{bytes_form_of, bytes_handle_of, SelectsStored, FillsUnstored};
+    ghost use Rattle.zarrs_bytes.specs.BytesCodecPartial.{bytes_form_of, bytes_handle_of, Reads, Leaves};
 
     /// The type of the elements.
     pub fn data_type(&self) -> &DataType
@@ -218,14 +213,8 @@ impl<H: BytesPartialDecoderTraits> BytesCodecPartial<H> {
         alloc: Global,
         indexer: &Indexer,
     ) -> Result<ArrayBytes<'static>, CodecError>
-        ensures selected { SelectsStored H.state self.old indexer.now result }
-        ensures unstored { FillsUnstored H.state self.old indexer.now result }
-        ensures answer { let form = bytes_form_of self.old in AnswersBy memory_or_fault (Holds form.type) result (bytes_read form.order form.sizes form.type form.fill (H.state (bytes_handle_of self.old)).value (selection_of indexer.now)) }
-        ensures indexer_first { is_ok (places_of (selection_of indexer.now) (bytes_form_of self.old).sizes) ≡ false → is_fault result ≡ false }
-        ensures sure { let form = bytes_form_of self.old in IfOk (bytes_plan form.sizes form.type (selection_of indexer.now)) (λ numbers. are_sure (H.state (bytes_handle_of self.old)).sure numbers ≡ true → is_fault result ≡ false) }
-        ensures left { H.state (bytes_handle_of self.new) ≡ after_reading result (H.state (bytes_handle_of self.old)) }
-        ensures same_reference { H.lent (bytes_handle_of self.new) ≡ H.lent (bytes_handle_of self.old) }
-        ensures form_kept { bytes_form_of self.new ≡ bytes_form_of self.old }
+        ensures reads { Reads H.state self.old indexer.now result }
+        ensures left { Leaves H.state H.lent self.old self.new result }
     {
         let runs = indexer.runs(alloc, &self.shape)?;
         self.codec.read_runs(
@@ -245,10 +234,9 @@ impl<H: BytesPartialDecoderTraits> BytesCodecPartial<H> {
         alloc: Global,
         indexer: &Indexer,
     ) -> Result<Vec<ByteRange>, CodecError>
-        ensures bytes { let form = bytes_form_of self.now in Answers memory (λ ranges. range_indices ranges.items) result (bytes_plan form.sizes form.type (selection_of indexer.now)) }
+        ensures bytes { let form = bytes_form_of self.now in Gives (λ ranges. range_indices ranges.items) result (bytes_plan form.sizes form.type (selection_of indexer.now)) }
         ensures filled { IfOk result (λ ranges. All (λ range. range.start < range.end) ranges.items) }
         ensures sum { let form = bytes_form_of self.now in IfOk result (λ ranges. IfOk (places_of (selection_of indexer.now) form.sizes) (λ places. sum_by (λ range. range.end - range.start) ranges.items ≡ length places * place_size form.type)) }
-        ensures no_fault { is_fault result ≡ false }
     {
         let asked = indexer.runs(alloc, &self.shape)?;
         let size = element_size(&self.data_type, &self.fill_value);
@@ -260,9 +248,7 @@ impl<H: BytesPartialDecoderTraits> BytesCodecPartial<H> {
     pub fn exists(&mut self) -> Result<bool, CodecError>
         ensures answer { Answers fault (λ there. there) result (Ok (is_some (H.state (bytes_handle_of self.old)).value)) }
         ensures sure { is_some (H.state (bytes_handle_of self.old)).sure ≡ true → is_fault result ≡ false }
-        ensures left { H.state (bytes_handle_of self.new) ≡ after_reading result (H.state (bytes_handle_of self.old)) }
-        ensures same_reference { H.lent (bytes_handle_of self.new) ≡ H.lent (bytes_handle_of self.old) }
-        ensures form_kept { bytes_form_of self.new ≡ bytes_form_of self.old }
+        ensures left { Leaves H.state H.lent self.old self.new result }
     {
         self.handle.exists()
     }
@@ -283,7 +269,7 @@ impl<H: BytesPartialDecoderTraits> BytesCodecPartial<H> {
 }
 
 impl<H: BytesPartialEncoderTraits> BytesCodecPartial<H> {
-    ghost use Rattle.zarrs_bytes.specs.BytesCodecPartial.{bytes_form_of, bytes_handle_of, WritesEdit};
+    ghost use Rattle.zarrs_bytes.specs.BytesCodecPartial.{bytes_form_of, bytes_handle_of, Edits, WritesAtMostOnce};
 
     /// Writes these elements at the places that the indexer means, in its order: where a place comes
     /// twice, the last one stands. Of a stored value the places' bytes alone are replaced, and it
@@ -301,16 +287,8 @@ impl<H: BytesPartialEncoderTraits> BytesCodecPartial<H> {
         indexer: &Indexer,
         elements: &ArrayBytes<'_>,
     ) -> Result<(), CodecError>
-        ensures edited { WritesEdit H.state self.old self.new indexer.now elements.now result }
-        ensures answer { let form = bytes_form_of self.old in Answers memory_or_fault (λ _. (H.state (bytes_handle_of self.new)).value) result (seen Some (bytes_written form.order form.sizes form.type form.fill (H.state (bytes_handle_of self.old)).value (selection_of indexer.now) elements.now)) }
-        ensures indexer_first { IfErr (bounds_of (selection_of indexer.now) (bytes_form_of self.old).sizes) (λ cause. Answers memory (λ done. done) result (Err cause)) }
-        ensures checked_first { IfErr (data_checked (bytes_form_of self.old).sizes (bytes_form_of self.old).type (selection_of indexer.now) elements.now) (λ cause. Answers memory (λ done. done) result (Err cause)) }
-        ensures untouched { IfErr (data_checked (bytes_form_of self.old).sizes (bytes_form_of self.old).type (selection_of indexer.now) elements.now) (λ _. H.state (bytes_handle_of self.new) ≡ H.state (bytes_handle_of self.old)) }
-        ensures one_write { OnOk result (apart_from_value (H.state (bytes_handle_of self.new)) ≡ after_writing result (H.state (bytes_handle_of self.old))) }
-        ensures refused { OnErr result (IsRefusedWrite result (H.state (bytes_handle_of self.old)) (H.state (bytes_handle_of self.new))) }
-        ensures kept_if_atomic { OnErr result (H.atomic ≡ true → (H.state (bytes_handle_of self.new)).value ≡ (H.state (bytes_handle_of self.old)).value) }
-        ensures same_reference { H.lent (bytes_handle_of self.new) ≡ H.lent (bytes_handle_of self.old) }
-        ensures form_kept { bytes_form_of self.new ≡ bytes_form_of self.old }
+        ensures edits { Edits H.state self.old self.new indexer.now elements.now result }
+        ensures left { WritesAtMostOnce H.state H.lent H.atomic self.old self.new result }
     {
         let runs = runs_for(alloc, indexer, &self.shape, &self.data_type, elements)?;
         self.codec.write_runs(

@@ -1,5 +1,5 @@
-ghost use Rattle.std.specs.Prelude.{◌≡◌, ◌<◌, ◌+◌, ◌*◌, ◌-◌, ◌^◌, true, false, Ok, IfOk, All, is_some, sum_by, length};
-ghost use Rattle.zarrs_chunk.specs.Answer.{Answers, is_fault, memory};
+ghost use Rattle.std.specs.Prelude.{◌≡◌, ◌<◌, ◌+◌, ◌*◌, ◌-◌, ◌^◌, true, Ok, IfOk, All, is_some, sum_by, length};
+ghost use Rattle.zarrs_chunk.specs.Answer.{Gives};
 ghost use Rattle.zarrs_chunk.specs.Runs.{joined_runs};
 ghost use Rattle.zarrs_data_type.specs.ElementType.{fixed_size_of};
 ghost use Rattle.zarrs_data_type.specs.FillValue.{fill_fits};
@@ -30,10 +30,9 @@ impl BytesCodec {
         requires fits { fill_fits data_type.now fill_value.now ≡ true }
         requires filled { All (λ run. 0 < run.1) runs.now }
         requires ends { All (λ run. (run.0 + run.1) * place_size data_type.now < 2 ^ 64) runs.now }
-        ensures bytes { Answers memory (λ ranges. range_indices ranges.items) result (Ok (place_bytes (place_size data_type.now) (joined_runs runs.now))) }
+        ensures bytes { Gives (λ ranges. range_indices ranges.items) result (Ok (place_bytes (place_size data_type.now) (joined_runs runs.now))) }
         ensures filled { IfOk result (λ ranges. All (λ range. range.start < range.end) ranges.items) }
         ensures sum { IfOk result (λ ranges. sum_by (λ range. range.end - range.start) ranges.items ≡ length (joined_runs runs.now) * place_size data_type.now) }
-        ensures no_fault { is_fault result ≡ false }
     {
         let size = element_size(data_type, fill_value);
         let ranges = run_ranges(alloc, size as u64, runs)?;

@@ -1,9 +1,10 @@
 //! New elements written at runs of places, over a handle that keeps a chunk's value.
-ghost use Rattle.std.specs.Prelude.{◌≡◌, ◌<◌, ◌≤◌, ◌+◌, ◌*◌, ◌^◌, true, false, Ok, Some, None, All, IsOk, OnOk, OnErr, is_ok, is_some, length};
-ghost use Rattle.zarrs_chunk.specs.Answer.{Answers, is_fault, memory, memory_or_fault};
+ghost use Rattle.zarrs_data_type.specs.Form.{form_of};
+ghost use Rattle.std.specs.Prelude.{◌≡◌, ◌<◌, ◌≤◌, ◌+◌, ◌*◌, ◌^◌, true, Ok, Some, None, All, IsOk, OnOk, OnErr, is_ok, length};
+ghost use Rattle.zarrs_chunk.specs.Answer.{Gives, Answers, memory_or_fault};
+ghost use Rattle.zarrs_array_bytes.specs.Held.{items_of};
 ghost use Rattle.zarrs_chunk.specs.ChunkShape.{product};
 ghost use Rattle.zarrs_chunk.specs.Runs.{joined_runs};
-ghost use Rattle.zarrs_array_bytes.specs.Held.{raw_of};
 ghost use Rattle.zarrs_array_bytes.specs.Parts.{fixed_part, bytes_in};
 ghost use Rattle.zarrs_array_bytes.specs.Validity.{data_fit};
 ghost use Rattle.zarrs_codec.specs.ArrayWriter.{IsRefusedWrite};
@@ -66,8 +67,7 @@ impl BytesCodec {
         data_type: &DataType,
     ) -> Result<ArrayBytesRaw<'b>, CodecError>
         requires kind { IsOk (fixed_part elements.now) }
-        ensures answer { Answers memory (λ raw. (raw_of raw).items) result (Ok (turned_bytes (turn_size_of self.now data_type.now) (bytes_in elements.now))) }
-        ensures no_fault { is_fault result ≡ false }
+        ensures answer { Gives items_of result (Ok (turned_bytes (turn_size_of self.now data_type.now) (bytes_in elements.now))) }
     {
         let bytes = elements.as_fixed()?;
         turn(alloc, CowSlice::Borrowed(bytes), self.turn_size(data_type))
@@ -109,11 +109,10 @@ impl BytesCodec {
         runs: &[(u64, u64)],
         elements: &ArrayBytes<'_>,
     ) -> Result<ArrayBytesRaw<'static>, CodecError>
-        requires taken { is_ok (bytes_length self.now shape.now data_type.now fill_value.now) ≡ true }
+        requires taken { is_ok (bytes_length self.now (form_of shape.now data_type.now fill_value.now)) ≡ true }
         requires below { All (λ run. run.0 + run.1 ≤ product shape.now) runs.now }
         requires fit { data_fit data_type.now (length (joined_runs runs.now)) elements.now ≡ Ok tt }
-        ensures answer { Answers memory (λ raw. (raw_of raw).items) result (Ok (bytes_left self.now shape.now data_type.now fill_value.now None (joined_runs runs.now) elements.now)) }
-        ensures no_fault { is_fault result ≡ false }
+        ensures answer { Gives items_of result (Ok (bytes_left self.now (form_of shape.now data_type.now fill_value.now) None (joined_runs runs.now) elements.now)) }
     {
         let count = shape.num_elements()?;
         let filled = ArrayBytes::new_fill_value(alloc, data_type, count, fill_value)?;
@@ -140,11 +139,11 @@ impl BytesCodec {
         runs: Vec<(u64, u64)>,
         elements: &ArrayBytes<'_>,
     ) -> Result<(), CodecError>
-        requires taken { is_ok (bytes_length self.now shape.now data_type.now fill_value.now) ≡ true }
+        requires taken { is_ok (bytes_length self.now (form_of shape.now data_type.now fill_value.now)) ≡ true }
         requires filled { All (λ run. 0 < run.1) runs.items }
         requires below { All (λ run. run.0 + run.1 ≤ product shape.now) runs.items }
         requires fit { data_fit data_type.now (length (joined_runs runs.items)) elements.now ≡ Ok tt }
-        ensures answer { Answers memory_or_fault (λ _. (H.state handle.new).value) result (Ok (Some (bytes_left self.now shape.now data_type.now fill_value.now (H.state handle.old).value (joined_runs runs.items) elements.now))) }
+        ensures answer { Answers memory_or_fault (λ _. (H.state handle.new).value) result (Ok (Some (bytes_left self.now (form_of shape.now data_type.now fill_value.now) (H.state handle.old).value (joined_runs runs.items) elements.now))) }
         ensures one_write { OnOk result (apart_from_value (H.state handle.new) ≡ after_writing result (H.state handle.old)) }
         ensures refused { OnErr result (IsRefusedWrite result (H.state handle.old) (H.state handle.new)) }
         ensures kept_if_atomic { OnErr result (H.atomic ≡ true → (H.state handle.new).value ≡ (H.state handle.old).value) }

@@ -41,6 +41,6 @@ returns-in_ok-elements-in-Some-clause-answer g c =
     let read = rw c.in-Some.is at c.in_ok-read_bytes.ensures.answer in
     let raw = raw_of c.in_ok-elements-in-Some.elements in
     let is : raw.items ≡ turned_bytes (turn_size c.args.self.now c.args.data_type.now) c.in-Some.bytes.items
-    = items_are _ _ c.in_ok-elements-in-Some.ensures.exact ∙ ap (λ s. turned_bytes s c.in-Some.bytes.items) c.turn_size-turn_size.ensures.size in
+    = items_are _ _ c.in_ok-elements-in-Some.ensures.exact.is ∙ ap (λ s. turned_bytes s c.in-Some.bytes.items) c.turn_size-turn_size.ensures.size in
     let small : length c.in-Some.bytes.items < 2 ^ 64 = omega (arith, c.in-Some.bytes.ok, c.in-Some.bytes.small) in
     rw c.new_flen-in-Some.ensures.made (at_some c.args.self.now c.args.data_type.now c.args.fill_value.now places c.in-Some.bytes.items stored raw c.element_size-size.ensures.filled (ap (λ n. bytes_at n stored places) (sym c.element_size-size.ensures.size) ∙ read) is small)

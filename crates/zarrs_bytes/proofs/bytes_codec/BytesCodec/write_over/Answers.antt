@@ -15,5 +15,5 @@ pub put_runs-requires-clause-enough : goal.put_runs-requires-clause-enough
 put_runs-requires-clause-enough g c =
     let size = turn_size c.args.self.now c.args.data_type.now in
     let new = bytes_in c.args.elements.now in
-    let is = items_are (turned_bytes size new) (raw_of c.in_ok-bytes.bytes).items c.in_ok-bytes.ensures.answer in
+    let is = items_are (turned_bytes size new) (raw_of c.in_ok-bytes.bytes).items c.in_ok-bytes.ensures.answer.is in
     ap length (c.as_slice.ensures.value ∙ raw_items c.in_ok-bytes.bytes ∙ is) ∙ length-turned_bytes size new ∙ c.requires.enough

@@ -20,4 +20,4 @@ returns-clause-sum g c =
     let size = place_size c.args.self.now.data_type in
     let places = joined_runs c.in_ok-asked.asked.items in
     let sum = ranges_sum size places c.in_ok-ranges.ranges.items (c.in_ok-ranges.ensures.bytes ∙ (λ i. place_bytes (c.element_size-size.ensures.size i) (joined_runs (c.as_slice.ensures.value i)))) in
-    subst (λ (r : Result (List ℕ) CodecError). IfOk r (λ ps. sum_by (λ range. range.end - range.start) c.in_ok-ranges.ranges.items ≡ length ps * size)) (sym c.in_ok-asked.ensures.places) sum
+    subst (λ (r : Result (List ℕ) CodecError). IfOk r (λ ps. sum_by (λ range. range.end - range.start) c.in_ok-ranges.ranges.items ≡ length ps * size)) (sym c.in_ok-asked.ensures.places.is) sum
