@@ -3,15 +3,15 @@
 
 use crate::calls::{does_chunk, maps};
 use crate::examples::{Example, RESHAPED, SQUEEZED, TURNED};
-use crate::forms::{ChunkForm, chunk_form, codec, metadata};
+use crate::forms::{ChunkForm, chunk_form, metadata};
 use crate::metadata::is_written;
-use crate::stages::{Input, Made, Staged, reads_and_writes};
+use crate::stages::{Input, Made, Staged, read_and_write};
 use std::alloc::Global;
 use std::process::Abort;
 use std::test::Fail;
 use zarrs_array_to_array::{ArrayToArrayCodec, ReshapeCodec, SqueezeCodec, TransposeCodec};
 use zarrs_chunk::CodecError;
-use zarrs_metadata::PluginCreateError;
+use zarrs_metadata::MetadataV3;
 
 impl Staged for TransposeCodec {
     fn reader(&self, alloc: Global, below: Input, form: &ChunkForm) -> Made<TransposeCodec> {
@@ -61,70 +61,84 @@ fn does_calls<C: Staged>(
 ) -> Result<(), CodecError> {
     let form = chunk_form(alloc, &example.chunk)?;
     does_chunk(rt, alloc, codec, &form, example)?;
-    reads_and_writes(rt, alloc, codec, &form, example)
+    read_and_write(rt, alloc, codec, &form, example)
 }
 
+/// All calls of the codec of this metadata.
 fn does_all<C: Staged>(
     rt: &impl Abort,
     alloc: Global,
     codec: &C,
+    metadata: &MetadataV3,
     example: &Example,
 ) -> Result<(), Fail> {
-    is_written(rt, alloc, example.name, codec, example.metadata)?;
+    is_written(rt, alloc, example.name, codec, metadata)?;
     does_calls(rt, alloc, codec, example)?;
     Ok(maps(rt, alloc, example.name, codec, &example.mapped)?)
 }
 
-fn transpose(alloc: Global, text: &str) -> Result<TransposeCodec, PluginCreateError> {
-    TransposeCodec::create(alloc, &metadata(alloc, text)?)
+/// A copy of the codec behind the enum.
+fn any_does(
+    rt: &impl Abort,
+    alloc: Global,
+    metadata: &MetadataV3,
+    example: &Example,
+) -> Result<(), Fail> {
+    let codec = ArrayToArrayCodec::create(alloc, metadata)?.clone()?;
+    does_all(rt, alloc, &codec, metadata, example)
 }
 
-fn reshape(alloc: Global, text: &str) -> Result<ReshapeCodec, PluginCreateError> {
-    ReshapeCodec::create(alloc, &metadata(alloc, text)?)
+fn transpose_does(
+    rt: &impl Abort,
+    alloc: Global,
+    metadata: &MetadataV3,
+    example: &Example,
+) -> Result<(), Fail> {
+    let codec = TransposeCodec::create(alloc, metadata)?;
+    does_all(rt, alloc, &codec, metadata, example)
 }
 
-fn squeeze(alloc: Global, text: &str) -> Result<SqueezeCodec, PluginCreateError> {
-    SqueezeCodec::create(&metadata(alloc, text)?)
+/// A copy of the codec.
+fn reshape_does(
+    rt: &impl Abort,
+    alloc: Global,
+    metadata: &MetadataV3,
+    example: &Example,
+) -> Result<(), Fail> {
+    let codec = ReshapeCodec::create(alloc, metadata)?.clone()?;
+    does_all(rt, alloc, &codec, metadata, example)
 }
 
-/// The codec behind the enum.
-fn any_does(rt: &impl Abort, alloc: Global, example: &Example) -> Result<(), Fail> {
-    let codec = codec(alloc, example.metadata)?;
-    does_all(rt, alloc, &codec, example)
-}
-
-fn transpose_does(rt: &impl Abort, alloc: Global, example: &Example) -> Result<(), Fail> {
-    let codec = transpose(alloc, example.metadata)?;
-    does_all(rt, alloc, &codec, example)
-}
-
-fn reshape_does(rt: &impl Abort, alloc: Global, example: &Example) -> Result<(), Fail> {
-    let codec = reshape(alloc, example.metadata)?;
-    does_all(rt, alloc, &codec, example)
-}
-
-fn squeeze_does(rt: &impl Abort, alloc: Global, example: &Example) -> Result<(), Fail> {
-    let codec = squeeze(alloc, example.metadata)?;
-    does_all(rt, alloc, &codec, example)
+fn squeeze_does(
+    rt: &impl Abort,
+    alloc: Global,
+    metadata: &MetadataV3,
+    example: &Example,
+) -> Result<(), Fail> {
+    let codec = SqueezeCodec::create(metadata)?;
+    does_all(rt, alloc, &codec, metadata, example)
 }
 
 #[test]
 fn an_order_turns_the_axes(rt: HostRuntime) -> Result<(), Fail> {
     let example = TURNED;
-    transpose_does(&rt, rt.alloc(), example)?;
-    any_does(&rt, rt.alloc(), example)
+    let metadata = metadata(rt.alloc(), example.metadata)?;
+    transpose_does(&rt, rt.alloc(), &metadata, example)?;
+    any_does(&rt, rt.alloc(), &metadata, example)
 }
 
 #[test]
 fn sizes_give_other_axes(rt: HostRuntime) -> Result<(), Fail> {
     let example = RESHAPED;
-    reshape_does(&rt, rt.alloc(), example)?;
-    any_does(&rt, rt.alloc(), example)
+    let metadata = metadata(rt.alloc(), example.metadata)?;
+    reshape_does(&rt, rt.alloc(), &metadata, example)?;
+    any_does(&rt, rt.alloc(), &metadata, example)
 }
 
 #[test]
 fn a_squeezing_codec_leaves_an_axis_out(rt: HostRuntime) -> Result<(), Fail> {
     let example = SQUEEZED;
-    squeeze_does(&rt, rt.alloc(), example)?;
-    any_does(&rt, rt.alloc(), example)
+    let metadata = metadata(rt.alloc(), example.metadata)?;
+    squeeze_does(&rt, rt.alloc(), &metadata, example)?;
+    any_does(&rt, rt.alloc(), &metadata, example)
 }

@@ -137,12 +137,13 @@ const PART: Asked<'static> = Asked::Ranges(&[1..3]);
 fn hands_back(
     rt: &impl Abort,
     alloc: Global,
-    refused: Refused<Input>,
+    mut refused: Refused<Input>,
     row: &Row,
 ) -> Result<(), CodecError> {
-    let Refused { error, mut handle } = refused;
-    answers(rt, row.name, &Err(error), &row.made)?;
-    reads(rt, alloc, row.name, &mut handle, &PART, &Ok(&[1, 2]))
+    let handle = &mut refused.handle;
+    let read = reads(rt, alloc, row.name, handle, &PART, &Ok(&[1, 2]));
+    answers(rt, row.name, &Err(refused.error), &row.made)?;
+    read
 }
 
 /// A stage is made, or the refusal has its input.
@@ -163,10 +164,11 @@ fn makes(
     alloc: Global,
     codec: &TransposeCodec,
     form: &ChunkForm,
+    line: &ChunkForm,
     row: &Row,
 ) -> Result<(), CodecError> {
-    let line = input(alloc, &LINE, &[0, 1, 2])?;
-    let made = codec.partial_decoder(alloc, line, &form.shape, &form.data_type, &form.fill_value);
+    let below = input(alloc, line, &[0, 1, 2])?;
+    let made = codec.partial_decoder(alloc, below, &form.shape, &form.data_type, &form.fill_value);
     is_made(rt, alloc, made, row)
 }
 
@@ -174,11 +176,12 @@ fn is_refused(
     rt: &impl Abort,
     alloc: Global,
     codec: &TransposeCodec,
+    line: &ChunkForm,
     row: &Row,
 ) -> Result<(), CodecError> {
     let form = chunk_form(alloc, &row.chunk)?;
     isnt_moved(rt, alloc, codec, &form, row)?;
-    makes(rt, alloc, codec, &form, row)
+    makes(rt, alloc, codec, &form, line, row)
 }
 
 fn are_refused(
@@ -187,8 +190,9 @@ fn are_refused(
     codec: &TransposeCodec,
     rows: &[Row],
 ) -> Result<(), CodecError> {
+    let line = chunk_form(alloc, &LINE)?;
     for row in rows.iter() {
-        is_refused(rt, alloc, codec, row)?;
+        is_refused(rt, alloc, codec, &line, row)?;
     }
     Ok(())
 }

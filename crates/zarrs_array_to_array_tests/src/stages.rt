@@ -1,10 +1,10 @@
 //! Stages of the codecs over an input of `bytes` in memory, which reads and writes: what they tell, read
 //! and write, each by the call of the traits.
 
-use crate::calls::bytes_of;
+use crate::calls::has_bytes;
 use crate::checks::{Asked, answers, indexer, is};
 use crate::examples::{Example, Step};
-use crate::forms::{Chunk, ChunkForm, chunk_form, lent};
+use crate::forms::{ChunkForm, chunk_form, lent};
 use std::alloc::Global;
 use std::process::Abort;
 use zarrs_array_to_array::ArrayToArrayCodecPartial;
@@ -31,8 +31,7 @@ pub(crate) trait Staged: ArrayToArrayCodecTraits + Drop {
 }
 
 /// The coder of such encoded chunks in part, the highest byte of an element first, over this value.
-pub(crate) fn input(alloc: Global, encoded: &Chunk<'_>, value: &[u8]) -> Result<Input, CodecError> {
-    let form = chunk_form(alloc, encoded)?;
+pub(crate) fn input(alloc: Global, form: &ChunkForm, value: &[u8]) -> Result<Input, CodecError> {
     let handle = MemoryHandle::with_value(value.to_vec(alloc)?);
     match BytesCodec::big().partial_encoder(
         alloc,
@@ -55,8 +54,8 @@ pub(crate) fn reads<D: ArrayPartialDecoderTraits>(
     asked: &Asked<'_>,
     wanted: &Result<&[u8], CodecError>,
 ) -> Result<(), CodecError> {
-    let came = decoder.partial_decode(alloc, &indexer(alloc, asked)?);
-    answers(rt, about, &bytes_of(&came), wanted)
+    let asked = indexer(alloc, asked)?;
+    has_bytes(rt, about, decoder.partial_decode(alloc, &asked), wanted)
 }
 
 /// A write of these elements has this answer.
@@ -69,7 +68,8 @@ fn writes<E: ArrayPartialEncoderTraits>(
     elements: &[u8],
     wanted: &Result<(), CodecError>,
 ) -> Result<(), CodecError> {
-    let came = encoder.partial_encode(alloc, &indexer(alloc, at)?, &lent(elements));
+    let at = indexer(alloc, at)?;
+    let came = encoder.partial_encode(alloc, &at, &lent(elements));
     answers(rt, about, &came, wanted)
 }
 
@@ -173,15 +173,28 @@ fn works<C: ArrayToArrayCodecTraits + Drop>(
 }
 
 /// The stages of the codec do what the example says, each over an input of its own.
-pub(crate) fn reads_and_writes<C: Staged>(
+fn do_both<C: Staged>(
+    rt: &impl Abort,
+    alloc: Global,
+    codec: &C,
+    form: &ChunkForm,
+    encoded: &ChunkForm,
+    example: &Example,
+) -> Result<(), CodecError> {
+    let below = input(alloc, encoded, example.value)?;
+    works(rt, alloc, codec.reader(alloc, below, form), example)?;
+    let below = input(alloc, encoded, example.value)?;
+    works(rt, alloc, codec.writer(alloc, below, form), example)
+}
+
+/// The codec's stages read and write.
+pub(crate) fn read_and_write<C: Staged>(
     rt: &impl Abort,
     alloc: Global,
     codec: &C,
     form: &ChunkForm,
     example: &Example,
 ) -> Result<(), CodecError> {
-    let below = input(alloc, &example.encoded, example.value)?;
-    works(rt, alloc, codec.reader(alloc, below, form), example)?;
-    let below = input(alloc, &example.encoded, example.value)?;
-    works(rt, alloc, codec.writer(alloc, below, form), example)
+    let encoded = chunk_form(alloc, &example.encoded)?;
+    do_both(rt, alloc, codec, form, &encoded, example)
 }
