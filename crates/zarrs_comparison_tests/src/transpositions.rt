@@ -57,8 +57,8 @@ const ORDERS: &'static [&'static [usize]] = &[
     &[3, 2, 1, 0],
 ];
 
-/// Sizes on both sides of those in which the codec moves elements together: blocks of 128 bytes, of 64
-/// words, of 32 longs and of 16 rows.
+/// Sizes on both sides of those in which the codec moves elements together: of 16 rows, and of 128 bytes
+/// as elements of 1, 2 and 4 bytes.
 const LONG: &'static [&'static [u64]] = &[
     &[129],
     &[17, 5],
