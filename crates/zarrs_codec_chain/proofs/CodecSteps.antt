@@ -1,4 +1,5 @@
 -- One codec to bytes.
+use Rattle.zarrs_data_type.specs.Form.{form_of}
 use Rattle.std.proofs.Common.{◌≡◌, ◌&&◌, ℕ, ◌^◌, nat_lt, Bool, true, false, if◌then◌else◌, List, [], Option, Result, Ok, Err, refl, sym}
 use Rattle.zarrs_chunk.specs.Answer.{◌>>=◌, Answers, memory, demand, checked_u64, seen, fault, is_fault}
 use Rattle.zarrs_chunk.specs.declared.codec_error.CodecError.{CodecError}
@@ -31,19 +32,19 @@ seen_then : {A : Type 0} (r : Result ℕ CodecError) (f : Result A CodecError) �
 seen_then (Ok n) f = refl
 seen_then (Err e) f = refl
 
-pub bytes_held_value : {B : Type 0} (f : BytesCodecs B) (order : Option Endianness) (sizes : List ℕ) (type : ElementType) (fill : List ℕ) (held : Held) → codec_held_value f (bytes_codec order) sizes type fill held ≡ bytes_value order sizes type fill held
+pub bytes_held_value : {B : Type 0} (f : BytesCodecs B) (order : Option Endianness) (sizes : List ℕ) (type : ElementType) (fill : List ℕ) (held : Held) → codec_held_value f (bytes_codec order) sizes type fill held ≡ bytes_value order (form_of sizes type fill) held
 unfolding codec_representation codec_value
 bytes_held_value f order sizes type fill held =
-    seen_then (bytes_length order sizes type fill) (validity type (product sizes) held >>= (λ _. Ok (spelling order type (elements type (product sizes) held))))
+    seen_then (bytes_length order (form_of sizes type fill)) (validity type (product sizes) held >>= (λ _. Ok (spelling order type (elements type (product sizes) held))))
 
 layout_then : {L : Type 0} (r : Result L CodecError) (size : L → ℕ) (v : Result (Unit {0}) CodecError) (f : L → List ℕ) → seen FixedSize (seen size r) >>= (λ _. v >>= (λ _. r >>= (λ l. Ok (f l)))) ≡ r >>= (λ l. v >>= (λ _. Ok (f l)))
 layout_then (Ok l) size v f = refl
 layout_then (Err e) size v f = refl
 
-pub packbits_held_value : {B : Type 0} (f : BytesCodecs B) (settings : PackBitsSettings) (sizes : List ℕ) (type : ElementType) (fill : List ℕ) (held : Held) → codec_held_value f (packbits_codec settings) sizes type fill held ≡ packbits_value settings sizes type fill held
+pub packbits_held_value : {B : Type 0} (f : BytesCodecs B) (settings : PackBitsSettings) (sizes : List ℕ) (type : ElementType) (fill : List ℕ) (held : Held) → codec_held_value f (packbits_codec settings) sizes type fill held ≡ packbits_value settings (form_of sizes type fill) held
 unfolding codec_representation codec_value
 packbits_held_value f settings sizes type fill held =
-    layout_then (packed_layout settings sizes type fill) value_len (validity type (product sizes) held) (λ l. value_with l (chunk_stream l (elements type (product sizes) held)))
+    layout_then (packed_layout settings (form_of sizes type fill)) value_len (validity type (product sizes) held) (λ l. value_with l (chunk_stream l (elements type (product sizes) held)))
 
 -- ---- refusals of a representation are no faults of a handle
 
@@ -60,7 +61,7 @@ count_no_fault : (test : Bool) (n : ℕ) → is_fault {T = ℕ} (if test then Ok
 count_no_fault true n = refl
 count_no_fault false n = refl
 
-layout_no_fault : (settings : PackBitsSettings) (sizes : List ℕ) (type : ElementType) (fill : List ℕ) → is_fault (packed_layout settings sizes type fill) ≡ false
+layout_no_fault : (settings : PackBitsSettings) (sizes : List ℕ) (type : ElementType) (fill : List ℕ) → is_fault (packed_layout settings (form_of sizes type fill)) ≡ false
 layout_no_fault settings sizes (fixed width components sign) fill =
     then_no_fault (demand (fill_fits (fixed width components sign) fill) InvalidFillValue) _ (demand_no_fault (fill_fits (fixed width components sign) fill) InvalidFillValue refl)
     (λ _. then_no_fault (demand (has_bits settings width && nat_lt 0 components) BitRange) _ (demand_no_fault (has_bits settings width && nat_lt 0 components) BitRange refl)
@@ -74,9 +75,9 @@ seen_no_fault : {X Y : Type 0} (view : X → Y) (r : Result X CodecError) → is
 seen_no_fault view (Ok x) e = refl
 seen_no_fault view (Err cause) e = e
 
-pub packbits_no_fault : (settings : PackBitsSettings) (sizes : List ℕ) (type : ElementType) (fill : List ℕ) → is_fault (seen FixedSize (packbits_length settings sizes type fill)) ≡ false
+pub packbits_no_fault : (settings : PackBitsSettings) (sizes : List ℕ) (type : ElementType) (fill : List ℕ) → is_fault (seen FixedSize (packbits_length settings (form_of sizes type fill))) ≡ false
 packbits_no_fault settings sizes type fill =
-    seen_no_fault FixedSize (packbits_length settings sizes type fill) (seen_no_fault value_len (packed_layout settings sizes type fill) (layout_no_fault settings sizes type fill))
+    seen_no_fault FixedSize (packbits_length settings (form_of sizes type fill)) (seen_no_fault value_len (packed_layout settings (form_of sizes type fill)) (layout_no_fault settings sizes type fill))
 
 -- ---- one level of a codec's answers, as the code sees it
 
@@ -84,13 +85,13 @@ same_answer : (r expected : Result BytesRepresentation CodecError) → r ≡ exp
 same_answer (Ok x) expected e = sym e
 same_answer (Err cause) expected e = λ _. sym e
 
-pub bytes_measured : {B : Type 0} (f : BytesCodecs B) (order : Option Endianness) (sizes : List ℕ) (type : ElementType) (fill : List ℕ) (r : Result BytesRepresentation CodecError) → r ≡ seen FixedSize (bytes_length order sizes type fill) → Answers memory (λ x. x) r (codec_representation f (bytes_codec order) sizes type fill)
+pub bytes_measured : {B : Type 0} (f : BytesCodecs B) (order : Option Endianness) (sizes : List ℕ) (type : ElementType) (fill : List ℕ) (r : Result BytesRepresentation CodecError) → r ≡ seen FixedSize (bytes_length order (form_of sizes type fill)) → Answers memory (λ x. x) r (codec_representation f (bytes_codec order) sizes type fill)
 unfolding codec_representation
-bytes_measured f order sizes type fill r e = same_answer r (seen FixedSize (bytes_length order sizes type fill)) e
+bytes_measured f order sizes type fill r e = same_answer r (seen FixedSize (bytes_length order (form_of sizes type fill))) e
 
-pub packbits_measured : {B : Type 0} (f : BytesCodecs B) (settings : PackBitsSettings) (sizes : List ℕ) (type : ElementType) (fill : List ℕ) (r : Result BytesRepresentation CodecError) → r ≡ seen FixedSize (packbits_length settings sizes type fill) → Answers memory (λ x. x) r (codec_representation f (packbits_codec settings) sizes type fill)
+pub packbits_measured : {B : Type 0} (f : BytesCodecs B) (settings : PackBitsSettings) (sizes : List ℕ) (type : ElementType) (fill : List ℕ) (r : Result BytesRepresentation CodecError) → r ≡ seen FixedSize (packbits_length settings (form_of sizes type fill)) → Answers memory (λ x. x) r (codec_representation f (packbits_codec settings) sizes type fill)
 unfolding codec_representation
-packbits_measured f settings sizes type fill r e = same_answer r (seen FixedSize (packbits_length settings sizes type fill)) e
+packbits_measured f settings sizes type fill r e = same_answer r (seen FixedSize (packbits_length settings (form_of sizes type fill))) e
 
 pub vlen_measured : {B : Type 0} (f : BytesCodecs B) (codec : VlenCodec B) (sizes : List ℕ) (type : ElementType) (fill : List ℕ) (r : Result BytesRepresentation CodecError) → r ≡ vlen_representation sizes type [] → Answers memory (λ x. x) r (codec_representation f (plain_vlen codec) sizes type fill)
 unfolding codec_representation
@@ -100,10 +101,10 @@ pub vlen_measured_exactly : {B : Type 0} (f : BytesCodecs B) (codec : VlenCodec 
 unfolding codec_representation
 vlen_measured_exactly f codec sizes type fill r e = rw (plain_vlen_at codec) e
 
-pub bytes_chunk_at : {B : Type 0} (f : BytesCodecs B) (order : Option Endianness) (sizes : List ℕ) (type : ElementType) (fill value : List ℕ) → codec_chunk f (bytes_codec order) sizes type fill value ≡ bytes_chunk order sizes type fill value
+pub bytes_chunk_at : {B : Type 0} (f : BytesCodecs B) (order : Option Endianness) (sizes : List ℕ) (type : ElementType) (fill value : List ℕ) → codec_chunk f (bytes_codec order) sizes type fill value ≡ bytes_chunk order (form_of sizes type fill) value
 unfolding codec_chunk
 bytes_chunk_at f order sizes type fill value = refl
 
-pub packbits_chunk_at : {B : Type 0} (f : BytesCodecs B) (settings : PackBitsSettings) (sizes : List ℕ) (type : ElementType) (fill value : List ℕ) → codec_chunk f (packbits_codec settings) sizes type fill value ≡ packbits_chunk settings sizes type fill value
+pub packbits_chunk_at : {B : Type 0} (f : BytesCodecs B) (settings : PackBitsSettings) (sizes : List ℕ) (type : ElementType) (fill value : List ℕ) → codec_chunk f (packbits_codec settings) sizes type fill value ≡ packbits_chunk settings (form_of sizes type fill) value
 unfolding codec_chunk
 packbits_chunk_at f settings sizes type fill value = refl

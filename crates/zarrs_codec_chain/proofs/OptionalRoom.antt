@@ -1,4 +1,5 @@
 -- 64 bits count the bytes of chunks that a codec takes, where memory has their elements.
+use Rattle.zarrs_data_type.specs.Form.{form_of}
 use Rattle.std.proofs.Common.{◌≡◌, ℕ, ◌+◌, ◌*◌, ◌<◌, ◌^◌, ◌&&◌, nat_lt, Bool, true, false, if◌then◌else◌, List, [], ◌∷◌, length, Option, Result, Ok, Err, IsOk, arith, refl, ap, sym, subst, ◌∙◌}
 use Rattle.std.specs.List.{All}
 use Rattle.std.proofs.Math.Nat.{mul_assoc}
@@ -47,7 +48,7 @@ fits_in false n m e = absurd cc
 checked_fits : (n m : ℕ) → checked_u64 n ≡ Ok m → (demand {E = CodecError} (nat_lt n (2 ^ 64)) Overflow ≡ Ok tt) × (n ≡ m)
 checked_fits n m e = fits_in (nat_lt n (2 ^ 64)) n m e
 
-bytes_room : (order : Option Endianness) (sizes : List ℕ) (type : ElementType) (fill : List ℕ) (len : ℕ) → bytes_length order sizes type fill ≡ Ok len → sizes_fit type (product sizes) ≡ Ok tt
+bytes_room : (order : Option Endianness) (sizes : List ℕ) (type : ElementType) (fill : List ℕ) (len : ℕ) → bytes_length order (form_of sizes type fill) ≡ Ok len → sizes_fit type (product sizes) ≡ Ok tt
 bytes_room order sizes (fixed width components sign) fill len e =
     let a = bind_ok (demand (fill_fits (fixed width components sign) fill) InvalidFillValue) _ len e in
     let b = bind_ok (checked_u64 (product sizes)) _ len a.2 in
@@ -62,7 +63,7 @@ first_test : (a b : Bool) (r : Unit {0}) → demand {E = CodecError} (a && b) Ov
 first_test true b r e = refl
 first_test false b r e = absurd cc
 
-packed_room : (settings : PackBitsSettings) (sizes : List ℕ) (type : ElementType) (fill : List ℕ) (l : _) → packed_layout settings sizes type fill ≡ Ok l → sizes_fit type (product sizes) ≡ Ok tt
+packed_room : (settings : PackBitsSettings) (sizes : List ℕ) (type : ElementType) (fill : List ℕ) (l : _) → packed_layout settings (form_of sizes type fill) ≡ Ok l → sizes_fit type (product sizes) ≡ Ok tt
 packed_room settings sizes (fixed width components sign) fill l e =
     let a = bind_ok (demand (fill_fits (fixed width components sign) fill) InvalidFillValue) _ l e in
     let b = bind_ok (demand (has_bits settings width && nat_lt 0 components) BitRange) _ l a.2 in
@@ -90,11 +91,11 @@ around_room f arrays measure outer mappings room sizes type fill r positive smal
 codec_room : {B : Type 0} (f : BytesCodecs B) (codec : PlainCodec B) → HasMappings codec → HasRoom (codec_representation f codec)
 unfolding codec_representation
 codec_room f (bytes_codec order) has sizes type fill r positive small e =
-    let a = seen_ok FixedSize (bytes_length order sizes type fill) r e in
+    let a = seen_ok FixedSize (bytes_length order (form_of sizes type fill)) r e in
     bytes_room order sizes type fill a.0 a.1
 codec_room f (packbits_codec settings) has sizes type fill r positive small e =
-    let a = seen_ok FixedSize (packbits_length settings sizes type fill) r e in
-    let l = seen_ok value_len (packed_layout settings sizes type fill) a.0 a.1 in
+    let a = seen_ok FixedSize (packbits_length settings (form_of sizes type fill)) r e in
+    let l = seen_ok value_len (packed_layout settings (form_of sizes type fill)) a.0 a.1 in
     packed_room settings sizes type fill l.0 l.1
 codec_room f (vlen_codec ia ix ib da dx db wide at_end) has sizes (fixed width components sign) fill r positive small e = absurd cc
 codec_room f (vlen_codec ia ix ib da dx db wide at_end) has sizes text fill r positive small e = row_room (product sizes) small

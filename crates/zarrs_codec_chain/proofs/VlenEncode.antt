@@ -1,4 +1,5 @@
 -- What a codec `vlen` writes, step by step.
+use Rattle.zarrs_data_type.specs.Form.{form_of}
 use Rattle.std.proofs.Common.{◌≡◌, ℕ, suc, ◌+◌, ◌-◌, ◌<◌, ◌≤◌, ◌^◌, nat_lt, ◌&&◌, Bool, true, false, if◌then◌else◌, List, [], ◌∷◌, length, map, take, drop, slice_index, None, Result, Ok, Err, IsOk, arith, refl, ap, sym, subst, ◌∙◌, add-zero}
 use Rattle.std.specs.Prelude.{IsOkAnd}
 use Rattle.std.specs.List.{All, concat, range_with_len}
@@ -286,7 +287,7 @@ abbrev layout_taken : PackBitsSettings → ℕ → ℕ → Bool → List ℕ →
 layout_taken settings width components sign fill number =
     IsOk (demand (fill_fits (fixed width components sign) fill) InvalidFillValue >>= λ _. demand (has_bits settings width && nat_lt 0 components) BitRange >>= λ _. checked_u64 number >>= λ count. demand (is_in_reach (layout_for settings count width components sign)) Overflow >>= λ _. ok (layout_for settings count width components sign))
 
-same_layout : (settings : PackBitsSettings) (width components : ℕ) (sign : Bool) (fill sizes others : List ℕ) → product sizes ≡ product others → IsOk (packed_layout settings sizes (fixed width components sign) fill) → IsOk (packed_layout settings others (fixed width components sign) fill)
+same_layout : (settings : PackBitsSettings) (width components : ℕ) (sign : Bool) (fill sizes others : List ℕ) → product sizes ≡ product others → IsOk (packed_layout settings (form_of sizes (fixed width components sign) fill)) → IsOk (packed_layout settings (form_of others (fixed width components sign) fill))
 same_layout settings width components sign fill sizes others e h = subst (layout_taken settings width components sign fill) e h
 
 is_ok : {A : Type 0} (r : Result A CodecError) (x : A) → r ≡ Ok x → IsOk r
@@ -301,11 +302,11 @@ takes_codec f arrays (packbits_codec settings) outer wide count r mappings some 
     let type = offset_type wide in
     let fill = offset_bytes wide 0 in
     let m = bind_ok (arrays_map type arrays (count ∷ [])) _ r e in
-    let size = bind_ok (seen FixedSize (packbits_length settings m.0.encoded type fill)) _ r m.2 in
-    let n = seen_ok FixedSize (packbits_length settings m.0.encoded type fill) size.0 size.1 in
-    let l = seen_ok value_len (packed_layout settings m.0.encoded type fill) n.0 n.1 in
+    let size = bind_ok (seen FixedSize (packbits_length settings (form_of m.0.encoded type fill))) _ r m.2 in
+    let n = seen_ok FixedSize (packbits_length settings (form_of m.0.encoded type fill)) size.0 size.1 in
+    let l = seen_ok value_len (packed_layout settings (form_of m.0.encoded type fill)) n.0 n.1 in
     let h : IsCoordinateMap (count ∷ []) m.0 = arrays_are_map arrays (count ∷ []) type m.0 mappings (row_positive count some) m.1 in
-    same_layout settings (if wide then 64 else 32) 1 false fill m.0.encoded (count ∷ []) h.count (is_ok (packed_layout settings m.0.encoded type fill) l.0 l.1)
+    same_layout settings (if wide then 64 else 32) 1 false fill m.0.encoded (count ∷ []) h.count (is_ok (packed_layout settings (form_of m.0.encoded type fill)) l.0 l.1)
 takes_codec f arrays (vlen_codec ia ix ib da dx db w at_end) outer wide count r mappings some e = tt
 takes_codec f arrays (optional_codec ma mx mb da dx db) outer wide count r mappings some e = tt
 

@@ -1,4 +1,5 @@
 -- Whether a codec `packbits` gives elements back unchanged.
+use Rattle.zarrs_data_type.specs.Form.{form_of}
 use Rattle.std.proofs.Common.{◌≡◌, ℕ, zero, suc, ◌+◌, ◌*◌, ◌<◌, ◌^◌, nat_eq, ◌&&◌, Bool, true, false, List, [], ◌∷◌, ◌++◌, length, map, take, drop, Option, Some, Result, Ok, Err, IsOk, arith, refl, ap, sym, subst, ◌∙◌}
 use Rattle.std.specs.Cmp.Lexicographic.{pointwise}
 use Rattle.std.proofs.lemmas.Bool.{eq-eqb}
@@ -87,8 +88,8 @@ held_once type held chunk other h k e = sym h.elements_are ∙ ap (λ n. element
 
 -- what is read of the value that was written for a chunk is its normal form
 pub kept_of : (settings : PackBitsSettings) (sizes : List ℕ) (type : ElementType) (fill : List ℕ) (held : Held) (value : List ℕ) (r : Result Held CodecError) (chunk : Chunk) → Holds type held chunk → length chunk ≡ product sizes
-    → (other : Chunk) × Holds type held other × PackBitsWritten settings sizes type fill value other
-    → ((c : Chunk) → PackBitsStands settings sizes type fill value c → AnswersBy memory (Holds type) r (Ok c))
+    → (other : Chunk) × Holds type held other × PackBitsWritten settings (form_of sizes type fill) value other
+    → ((c : Chunk) → PackBitsStands settings (form_of sizes type fill) value c → AnswersBy memory (Holds type) r (Ok c))
     → AnswersBy memory (Holds type) r (Ok (normal_chunk settings type chunk))
 kept_of settings sizes type fill held value r chunk holds long found only =
     let same : found.0 ≡ chunk = held_once type held found.0 chunk found.1 holds (found.2.elements.count_is ∙ sym long) in
@@ -163,7 +164,7 @@ pub packed_keeps : {B : Type 0} (codec : ArrayToBytesCodec B) (settings : PackBi
 unfolding plain_codec normal_element
 packed_keeps codec settings wide offsets e = ap (λ c. keeps_offsets (plain_codec c) wide offsets) e
 
-pub packed_takes : {B : Type 0} (codec : ArrayToBytesCodec B) (settings : PackBitsSettings) (wide : Bool) (count : ℕ) → codec ≡ PackBits settings → TakesOffsets (plain_codec codec) wide count → IsOk (packed_layout settings (count ∷ []) (offset_type wide) (offset_bytes wide 0))
+pub packed_takes : {B : Type 0} (codec : ArrayToBytesCodec B) (settings : PackBitsSettings) (wide : Bool) (count : ℕ) → codec ≡ PackBits settings → TakesOffsets (plain_codec codec) wide count → IsOk (packed_layout settings (form_of (count ∷ []) (offset_type wide) (offset_bytes wide 0)))
 unfolding plain_codec
 packed_takes codec settings wide count e h = subst (λ c. TakesOffsets (plain_codec c) wide count) e h
 

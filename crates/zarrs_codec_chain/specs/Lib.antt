@@ -1,3 +1,4 @@
+pub mod ChainGrammar
 pub mod Compact
 pub mod ChainView
 pub mod DefaultVlen

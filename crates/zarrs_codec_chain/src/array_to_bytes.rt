@@ -20,13 +20,13 @@ impl<B: BytesToBytesCodecTraits> ArrayToBytesCodecTraits for CodecChain<B> {
     ghost use Rattle.zarrs_chain_parts.specs.Decode.{chain_chunk};
     ghost use Rattle.zarrs_chain_parts.specs.Representation.{chain_representation};
 
-    ghost represented = { λ chain sizes type fill. chain_representation B.functions (plain_chain chain) sizes type fill };
+    ghost represented = { λ chain form. chain_representation B.functions (plain_chain chain) form.sizes form.type form.fill };
 
-    ghost encoded = { λ chain sizes type fill held. held_value B.functions (plain_chain chain) sizes type fill held };
+    ghost encoded = { λ chain form held. held_value B.functions (plain_chain chain) form.sizes form.type form.fill held };
 
-    ghost decoded = { λ chain sizes type fill value. chain_chunk B.functions (plain_chain chain) sizes type fill value };
+    ghost decoded = { λ chain form value. chain_chunk B.functions (plain_chain chain) form.sizes form.type form.fill value };
 
-    ghost opened = { λ chain sizes type fill value. chain_opened B.functions (plain_chain chain) sizes type fill value };
+    ghost opened = { λ chain form value. chain_opened B.functions (plain_chain chain) form.sizes form.type form.fill value };
 
     fn encoded_representation(
         &self,
@@ -81,13 +81,13 @@ impl<B: BytesToBytesCodecTraits> ArrayToBytesCodecTraits for ArrayToBytesCodec<B
     ghost use Rattle.zarrs_codec_chain.specs.Compact.{codec_opened};
     ghost use Rattle.zarrs_chain_parts.specs.Representation.{codec_representation};
 
-    ghost represented = { λ codec sizes type fill. codec_representation B.functions (plain_codec codec) sizes type fill };
+    ghost represented = { λ codec form. codec_representation B.functions (plain_codec codec) form.sizes form.type form.fill };
 
-    ghost encoded = { λ codec sizes type fill held. codec_held_value B.functions (plain_codec codec) sizes type fill held };
+    ghost encoded = { λ codec form held. codec_held_value B.functions (plain_codec codec) form.sizes form.type form.fill held };
 
-    ghost decoded = { λ codec sizes type fill value. taken_chunk B.functions (plain_codec codec) sizes type fill value };
+    ghost decoded = { λ codec form value. taken_chunk B.functions (plain_codec codec) form.sizes form.type form.fill value };
 
-    ghost opened = { λ codec sizes type fill _. codec_opened B.functions (plain_codec codec) sizes type fill };
+    ghost opened = { λ codec form _. codec_opened B.functions (plain_codec codec) form.sizes form.type form.fill };
 
     fn encoded_representation(
         &self,
@@ -142,13 +142,13 @@ impl<B: BytesToBytesCodecTraits> ArrayToBytesCodecTraits for VlenCodec<B> {
     ghost use Rattle.zarrs_codec_chain.specs.Compact.{codec_opened};
     ghost use Rattle.zarrs_chain_parts.specs.Representation.{codec_representation};
 
-    ghost represented = { λ codec sizes type fill. codec_representation B.functions (plain_vlen codec) sizes type fill };
+    ghost represented = { λ codec form. codec_representation B.functions (plain_vlen codec) form.sizes form.type form.fill };
 
-    ghost encoded = { λ codec sizes type fill held. codec_held_value B.functions (plain_vlen codec) sizes type fill held };
+    ghost encoded = { λ codec form held. codec_held_value B.functions (plain_vlen codec) form.sizes form.type form.fill held };
 
-    ghost decoded = { λ codec sizes type fill value. taken_chunk B.functions (plain_vlen codec) sizes type fill value };
+    ghost decoded = { λ codec form value. taken_chunk B.functions (plain_vlen codec) form.sizes form.type form.fill value };
 
-    ghost opened = { λ codec sizes type fill _. codec_opened B.functions (plain_vlen codec) sizes type fill };
+    ghost opened = { λ codec form _. codec_opened B.functions (plain_vlen codec) form.sizes form.type form.fill };
 
     fn encoded_representation(
         &self,
@@ -202,13 +202,13 @@ impl<B: BytesToBytesCodecTraits> ArrayToBytesCodecTraits for OptionalCodec<B> {
     ghost use Rattle.zarrs_codec_chain.specs.Compact.{codec_opened};
     ghost use Rattle.zarrs_chain_parts.specs.Representation.{codec_representation};
 
-    ghost represented = { λ codec sizes type fill. codec_representation B.functions (plain_optional codec) sizes type fill };
+    ghost represented = { λ codec form. codec_representation B.functions (plain_optional codec) form.sizes form.type form.fill };
 
-    ghost encoded = { λ codec sizes type fill held. codec_held_value B.functions (plain_optional codec) sizes type fill held };
+    ghost encoded = { λ codec form held. codec_held_value B.functions (plain_optional codec) form.sizes form.type form.fill held };
 
-    ghost decoded = { λ codec sizes type fill value. taken_chunk B.functions (plain_optional codec) sizes type fill value };
+    ghost decoded = { λ codec form value. taken_chunk B.functions (plain_optional codec) form.sizes form.type form.fill value };
 
-    ghost opened = { λ codec sizes type fill _. codec_opened B.functions (plain_optional codec) sizes type fill };
+    ghost opened = { λ codec form _. codec_opened B.functions (plain_optional codec) form.sizes form.type form.fill };
 
     fn encoded_representation(
         &self,

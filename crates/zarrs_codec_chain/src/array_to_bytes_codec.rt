@@ -1,6 +1,6 @@
+ghost use Rattle.zarrs_chunk.specs.Answer.{Gives, GivesBy};
+ghost use Rattle.zarrs_array_bytes.specs.Held.{items_of};
 ghost use Rattle.std.specs.Prelude.{◌≡◌, IsOk, false};
-ghost use Rattle.zarrs_chunk.specs.Answer.{Answers, AnswersBy, memory, is_fault};
-ghost use Rattle.zarrs_array_bytes.specs.Held.{raw_of};
 ghost use Rattle.zarrs_array_bytes.specs.Validity.{Holds};
 ghost use Rattle.zarrs_chain_parts.specs.Chain.{codec_held_value, codec_reads as codec_reads_of, codec_writes as codec_writes_of};
 ghost use Rattle.zarrs_codec_chain.specs.ChainView.{plain_codec};
@@ -79,8 +79,7 @@ pub(crate) fn codec_representation<B: BytesToBytesCodecTraits>(
     data_type: &DataType,
     fill_value: &FillValue,
 ) -> Result<BytesRepresentation, CodecError>
-    ensures answer { Answers memory (λ representation. representation) result (codec_representation_of B.functions (plain_codec codec.now) shape.now data_type.now fill_value.now) }
-    ensures no_fault { is_fault result ≡ false }
+    ensures answer { Gives (λ representation. representation) result (codec_representation_of B.functions (plain_codec codec.now) shape.now data_type.now fill_value.now) }
 {
     match codec {
         ArrayToBytesCodec::Bytes(codec) => {
@@ -107,8 +106,7 @@ pub(crate) fn codec_encode<'a, B: BytesToBytesCodecTraits>(
     data_type: &DataType,
     fill_value: &FillValue,
 ) -> Result<ArrayBytesRaw<'a>, CodecError>
-    ensures answer { Answers memory (λ value. (raw_of value).items) result (codec_held_value B.functions (plain_codec codec.now) shape.now data_type.now fill_value.now elements.entry) }
-    ensures no_fault { is_fault result ≡ false }
+    ensures answer { Gives items_of result (codec_held_value B.functions (plain_codec codec.now) shape.now data_type.now fill_value.now elements.entry) }
 {
     match codec {
         ArrayToBytesCodec::Bytes(codec) => {
@@ -138,8 +136,7 @@ pub fn codec_decode<'a, B: BytesToBytesCodecTraits>(
     fill_value: &FillValue,
 ) -> Result<ArrayBytes<'a>, CodecError>
     requires taken { IsOk (codec_representation_of B.functions (plain_codec codec.now) shape.now data_type.now fill_value.now) }
-    ensures answer { AnswersBy memory (Holds data_type.now) result (codec_chunk B.functions (plain_codec codec.now) shape.now data_type.now fill_value.now (raw_of value.entry).items) }
-    ensures no_fault { is_fault result ≡ false }
+    ensures answer { GivesBy (Holds data_type.now) result (codec_chunk B.functions (plain_codec codec.now) shape.now data_type.now fill_value.now (items_of value.entry)) }
 {
     match codec {
         ArrayToBytesCodec::Bytes(codec) => codec.decode(alloc, value, shape, data_type, fill_value),

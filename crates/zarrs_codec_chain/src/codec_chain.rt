@@ -1,19 +1,17 @@
-ghost use Rattle.std.specs.Prelude.{◌≡◌, ℕ, List, IfOk, Ok, None, All, map, false};
+ghost use Rattle.std.specs.Prelude.{◌≡◌, Ok, None, All, map};
 ghost use Rattle.std.specs.List.{list_all};
-ghost use Rattle.zarrs_chunk.specs.Answer.{Answers, AnswersBy, memory, is_fault};
-ghost use Rattle.zarrs_data_type.specs.Element.{Chunk};
-ghost use Rattle.zarrs_array_bytes.specs.Held.{raw_of};
-ghost use Rattle.zarrs_array_bytes.specs.Validity.{Holds};
+ghost use Rattle.zarrs_chunk.specs.Answer.{Gives};
+ghost use Rattle.zarrs_array_bytes.specs.Held.{items_of};
+ghost use Rattle.zarrs_data_type.specs.Form.{form_of};
+ghost use Rattle.zarrs_codec.specs.Grammar.{Encodes, Decodes};
+ghost use Rattle.zarrs_codec_chain.specs.ChainGrammar.{chain_grammar};
 ghost use Rattle.zarrs_array_to_array.specs.ArrayToArrayCodec.{IsMapping};
 ghost use Rattle.zarrs_array_to_array.specs.Mapping.{mapping_of};
-ghost use Rattle.zarrs_chain_parts.specs.Chain.{held_value, outer_reads as outer_reads_of};
+ghost use Rattle.zarrs_chain_parts.specs.Chain.{outer_reads as outer_reads_of};
 ghost use Rattle.zarrs_codec_chain.specs.ChainView.{plain_chain, plain_codec};
-ghost use Rattle.zarrs_chain_parts.specs.Decode.{chain_chunk};
 ghost use Rattle.zarrs_chain_parts.specs.Laws.{IsChainOfMappings};
 ghost use Rattle.zarrs_chain_parts.specs.MadeAgain.{HasRanges};
 ghost use Rattle.zarrs_chain_parts.specs.Representation.{chain_representation as chain_representation_of};
-ghost use Rattle.zarrs_chain_parts.specs.Stands.{ChainStands};
-ghost use Rattle.zarrs_chain_parts.specs.Written.{ChainWritten};
 
 use crate::array_to_bytes_codec::{
     ArrayToBytesCodec, codec_has_ranges, codec_is_sound, codec_reads, codec_writes,
@@ -121,8 +119,7 @@ impl<B: BytesToBytesCodecTraits> CodecChain<B> {
         data_type: &DataType,
         fill_value: &FillValue,
     ) -> Result<BytesRepresentation, CodecError>
-        ensures answer { Answers memory (λ representation. representation) result (chain_representation_of B.functions (plain_chain self.now) shape.now data_type.now fill_value.now) }
-        ensures no_fault { is_fault result ≡ false }
+        ensures answer { Gives (λ representation. representation) result (chain_representation_of B.functions (plain_chain self.now) shape.now data_type.now fill_value.now) }
     {
         chain_representation(alloc, self, shape, data_type, fill_value)
     }
@@ -139,10 +136,7 @@ impl<B: BytesToBytesCodecTraits> CodecChain<B> {
         data_type: &DataType,
         fill_value: &FillValue,
     ) -> Result<ArrayBytesRaw<'a>, CodecError>
-        ensures found { IfOk result (λ value. (chunk : Chunk) × Holds data_type.now elements.entry chunk × ChainWritten B.functions (plain_chain self.now) shape.now data_type.now fill_value.now (raw_of value).items chunk) }
-        ensures only { (chunk : Chunk) (value : List ℕ) → Holds data_type.now elements.entry chunk → ChainWritten B.functions (plain_chain self.now) shape.now data_type.now fill_value.now value chunk → Answers memory (λ bytes. (raw_of bytes).items) result (Ok value) }
-        ensures exact { Answers memory (λ value. (raw_of value).items) result (held_value B.functions (plain_chain self.now) shape.now data_type.now fill_value.now elements.entry) }
-        ensures no_fault { is_fault result ≡ false }
+        ensures encodes { Encodes (chain_grammar B.functions (plain_chain self.now)) (form_of shape.now data_type.now fill_value.now) elements.entry result }
     {
         chain_is_sound(self);
         shape.as_slice();
@@ -163,10 +157,7 @@ impl<B: BytesToBytesCodecTraits> CodecChain<B> {
         data_type: &DataType,
         fill_value: &FillValue,
     ) -> Result<ArrayBytes<'a>, CodecError>
-        ensures found { IfOk result (λ elements. (chunk : Chunk) × Holds data_type.now elements chunk × ChainStands B.functions (plain_chain self.now) shape.now data_type.now fill_value.now (raw_of value.entry).items chunk) }
-        ensures only { (chunk : Chunk) → ChainStands B.functions (plain_chain self.now) shape.now data_type.now fill_value.now (raw_of value.entry).items chunk → AnswersBy memory (Holds data_type.now) result (Ok chunk) }
-        ensures exact { AnswersBy memory (Holds data_type.now) result (chain_chunk B.functions (plain_chain self.now) shape.now data_type.now fill_value.now (raw_of value.entry).items) }
-        ensures no_fault { is_fault result ≡ false }
+        ensures decodes { Decodes (chain_grammar B.functions (plain_chain self.now)) (form_of shape.now data_type.now fill_value.now) (items_of value.entry) result }
     {
         chain_is_sound(self);
         shape.as_slice();

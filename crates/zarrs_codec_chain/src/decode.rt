@@ -1,7 +1,7 @@
 //! The chunk that a value stands for, through a chain.
-ghost use Rattle.std.specs.Prelude.{◌≡◌, true, false};
-ghost use Rattle.zarrs_chunk.specs.Answer.{AnswersBy, memory, is_fault};
-ghost use Rattle.zarrs_array_bytes.specs.Held.{raw_of};
+ghost use Rattle.zarrs_chunk.specs.Answer.{GivesBy};
+ghost use Rattle.zarrs_array_bytes.specs.Held.{items_of};
+ghost use Rattle.std.specs.Prelude.{◌≡◌, true};
 ghost use Rattle.zarrs_array_bytes.specs.Validity.{Holds};
 ghost use Rattle.zarrs_codec_chain.specs.ChainView.{plain_chain};
 ghost use Rattle.zarrs_chain_parts.specs.Decode.{chain_chunk, part_chunk};
@@ -29,8 +29,7 @@ pub(crate) fn chain_decode<'a, B: BytesToBytesCodecTraits>(
     data_type: &DataType,
     fill_value: &FillValue,
 ) -> Result<ArrayBytes<'a>, CodecError>
-    ensures exact { AnswersBy memory (Holds data_type.now) result (chain_chunk B.functions (plain_chain chain.now) shape.now data_type.now fill_value.now (raw_of value.entry).items) }
-    ensures no_fault { is_fault result ≡ false }
+    ensures exact { GivesBy (Holds data_type.now) result (chain_chunk B.functions (plain_chain chain.now) shape.now data_type.now fill_value.now (items_of value.entry)) }
 {
     let taken = taken_form(alloc, chain, shape, data_type, fill_value)?;
     let below = decode_bytes(alloc, &chain.bytes_to_bytes, &taken.representation, value)?;
@@ -64,8 +63,7 @@ pub(crate) fn part_decode<'a, B: BytesToBytesCodecTraits>(
     fill_value: &FillValue,
 ) -> Result<ArrayBytes<'a>, CodecError>
     requires fits { fill_fits data_type.now fill_value.now ≡ true }
-    ensures exact { AnswersBy memory (Holds data_type.now) result (part_chunk (chain_chunk B.functions (plain_chain chain.now)) data_type.now fill_value.now count (raw_of part.entry).items) }
-    ensures no_fault { is_fault result ≡ false }
+    ensures exact { GivesBy (Holds data_type.now) result (part_chunk (chain_chunk B.functions (plain_chain chain.now)) data_type.now fill_value.now count (items_of part.entry)) }
 {
     match row_of(alloc, count)? {
         Some(row) => chain_decode(alloc, chain, part, &row, data_type, fill_value),

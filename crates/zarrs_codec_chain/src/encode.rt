@@ -1,8 +1,8 @@
 //! The value of a chunk, through a chain.
-ghost use Rattle.std.specs.Prelude.{◌≡◌, IfOk, Ok, false};
-ghost use Rattle.zarrs_chunk.specs.Answer.{Answers, memory, is_fault, checked_u64};
+ghost use Rattle.zarrs_chunk.specs.Answer.{Gives, is_fault, checked_u64};
+ghost use Rattle.zarrs_array_bytes.specs.Held.{items_of};
+ghost use Rattle.std.specs.Prelude.{◌≡◌, Ok, false};
 ghost use Rattle.zarrs_chunk.specs.ChunkShape.{product};
-ghost use Rattle.zarrs_array_bytes.specs.Held.{raw_of};
 ghost use Rattle.zarrs_array_bytes.specs.Validity.{validity};
 ghost use Rattle.zarrs_chain_parts.specs.Chain.{held_value, held_part, row_sizes};
 ghost use Rattle.zarrs_codec_chain.specs.ChainView.{plain_chain};
@@ -45,8 +45,7 @@ pub(crate) fn chain_encode<'a, B: BytesToBytesCodecTraits>(
     data_type: &DataType,
     fill_value: &FillValue,
 ) -> Result<ArrayBytesRaw<'a>, CodecError>
-    ensures exact { Answers memory (λ value. (raw_of value).items) result (held_value B.functions (plain_chain chain.now) shape.now data_type.now fill_value.now elements.entry) }
-    ensures no_fault { is_fault result ≡ false }
+    ensures exact { Gives items_of result (held_value B.functions (plain_chain chain.now) shape.now data_type.now fill_value.now elements.entry) }
 {
     let taken = taken_form(alloc, chain, shape, data_type, fill_value)?;
     check_elements(&elements, shape, data_type)?;
@@ -80,8 +79,7 @@ pub(crate) fn part_encode<'a, B: BytesToBytesCodecTraits>(
     data_type: &DataType,
     fill_value: &FillValue,
 ) -> Result<ArrayBytesRaw<'a>, CodecError>
-    ensures exact { Answers memory (λ value. (raw_of value).items) result (held_part B.functions (plain_chain chain.now) count data_type.now fill_value.now elements.entry) }
-    ensures no_fault { is_fault result ≡ false }
+    ensures exact { Gives items_of result (held_part B.functions (plain_chain chain.now) count data_type.now fill_value.now elements.entry) }
 {
     match row_of(alloc, count)? {
         Some(row) => chain_encode(alloc, chain, elements, &row, data_type, fill_value),
@@ -92,8 +90,7 @@ pub(crate) fn part_encode<'a, B: BytesToBytesCodecTraits>(
 /// The shape of a row of so many elements, if there are any.
 #[tactic(auto, using(zarrs_chain_parts::proofs::PartSteps::row_shape))]
 pub(crate) fn row_of(alloc: Global, count: u64) -> Result<Option<ChunkShape>, CodecError>
-    ensures answer { Answers memory (λ row. row) result (Ok (row_sizes count)) }
-    ensures no_fault { is_fault result ≡ false }
+    ensures answer { Gives (λ row. row) result (Ok (row_sizes count)) }
 {
     let mut sizes = Vec::with_capacity(alloc, 1)?;
     sizes.push(count)?;

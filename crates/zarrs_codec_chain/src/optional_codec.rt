@@ -1,14 +1,16 @@
-ghost use Rattle.std.specs.Prelude.{◌≡◌, ◌+◌, ◌<◌, ◌^◌, ℕ, List, [], ◌∷◌, length, Ok, IfOk, IsOk, false};
-ghost use Rattle.zarrs_chunk.specs.Answer.{Answers, AnswersBy, memory, is_fault, checked_u64};
+ghost use Rattle.zarrs_chunk.specs.Answer.{Gives, GivesBy, Answers, checked_u64};
+ghost use Rattle.zarrs_array_bytes.specs.Held.{items_of};
+ghost use Rattle.std.specs.Prelude.{◌≡◌, ◌+◌, ◌<◌, ◌^◌, [], ◌∷◌, length, Ok, IsOk};
 ghost use Rattle.zarrs_chunk.specs.ChunkShape.{product};
-ghost use Rattle.zarrs_data_type.specs.Element.{Chunk};
 ghost use Rattle.zarrs_data_type.specs.ElementType.{optional};
 ghost use Rattle.zarrs_array_bytes.specs.Elements.{elements as elements_of};
-ghost use Rattle.zarrs_array_bytes.specs.Held.{raw_of};
 ghost use Rattle.zarrs_array_bytes.specs.Validity.{Holds, sizes_fit, validity};
 ghost use Rattle.zarrs_metadata.specs.MetadataV3.{configuration_seen};
 ghost use Rattle.zarrs_metadata.specs.PluginCreateError.{plugin_memory};
 ghost use Rattle.zarrs_chain_parts.specs.Chain.{codec_held_value, held_part, taken_chunk};
+ghost use Rattle.zarrs_data_type.specs.Form.{form_of};
+ghost use Rattle.zarrs_codec.specs.Grammar.{Encodes, Decodes};
+ghost use Rattle.zarrs_codec_chain.specs.ChainGrammar.{codec_grammar};
 ghost use Rattle.zarrs_codec_chain.specs.ChainView.{plain_chain, plain_optional};
 ghost use Rattle.zarrs_chain_parts.specs.Decode.{codec_chunk, chain_chunk};
 ghost use Rattle.zarrs_chain_parts.specs.Encode.{byte_elements, chain_value, codec_value};
@@ -17,8 +19,6 @@ ghost use Rattle.zarrs_chain_parts.specs.MadeAgain.{HasRanges};
 ghost use Rattle.zarrs_chain_parts.specs.OptionalParts.{optional_inner, present_part};
 ghost use Rattle.zarrs_chain_parts.specs.PlainChain.{optional_codec_of};
 ghost use Rattle.zarrs_chain_parts.specs.Representation.{codec_representation, flag_type, blank_fill as blank_fill_of};
-ghost use Rattle.zarrs_chain_parts.specs.Stands.{CodecStands};
-ghost use Rattle.zarrs_chain_parts.specs.Written.{CodecWritten};
 ghost use Rattle.zarrs_chain_parts.specs.WrittenMetadata.{codec_configuration};
 
 use crate::codec_chain::{CodecChain, chain_has_ranges, chain_is_sound};
@@ -108,8 +108,7 @@ pub(crate) fn optional_representation<B: BytesToBytesCodecTraits>(
     data_type: &DataType,
     fill_value: &FillValue,
 ) -> Result<BytesRepresentation, CodecError>
-    ensures answer { Answers memory (λ representation. representation) result (codec_representation B.functions (plain_optional codec.now) shape.now data_type.now fill_value.now) }
-    ensures no_fault { is_fault result ≡ false }
+    ensures answer { Gives (λ representation. representation) result (codec_representation B.functions (plain_optional codec.now) shape.now data_type.now fill_value.now) }
 {
     let inner = inner_type(data_type)?;
     if !fill_value.fits(data_type) {
@@ -133,10 +132,9 @@ fn mask_encode<'a, B: BytesToBytesCodecTraits>(
     mask: ArrayBytesRaw<'a>,
     shape: &ChunkShape,
 ) -> Result<ArrayBytesRaw<'a>, CodecError>
-    requires long { length (raw_of mask).items ≡ product shape.now }
+    requires long { length (items_of mask) ≡ product shape.now }
     requires counted { checked_u64 (product shape.now) ≡ Ok (product shape.now) }
-    ensures answer { Answers memory (λ value. (raw_of value).items) result (chain_value B.functions (plain_chain chain.now) shape.now flag_type (0 ∷ []) (byte_elements (raw_of mask.entry).items)) }
-    ensures no_fault { is_fault result ≡ false }
+    ensures answer { Gives items_of result (chain_value B.functions (plain_chain chain.now) shape.now flag_type (0 ∷ []) (byte_elements (items_of mask.entry))) }
 {
     let flag = DataType::bool();
     let zero = blank_fill(alloc, &flag)?;
@@ -159,8 +157,7 @@ fn present_encode<'a, B: BytesToBytesCodecTraits>(
     count: u64,
     data_type: &DataType,
 ) -> Result<ArrayBytesRaw<'a>, CodecError>
-    ensures exact { Answers memory (λ value. (raw_of value).items) result (held_part B.functions (plain_chain chain.now) count data_type.now (blank_fill_of data_type.now) present.entry) }
-    ensures no_fault { is_fault result ≡ false }
+    ensures exact { Gives items_of result (held_part B.functions (plain_chain chain.now) count data_type.now (blank_fill_of data_type.now) present.entry) }
 {
     let blank = blank_fill(alloc, data_type)?;
     part_encode(alloc, chain, present, count, data_type, &blank)
@@ -179,8 +176,7 @@ fn content_encode<'a, B: BytesToBytesCodecTraits>(
 ) -> Result<ArrayBytesRaw<'a>, CodecError>
     requires valid { validity (optional inner.now) (product shape.now) elements ≡ Ok tt }
     requires counted { checked_u64 (product shape.now) ≡ Ok (product shape.now) }
-    ensures answer { Answers memory (λ value. (raw_of value).items) result (codec_value B.functions (plain_optional codec.now) shape.now (optional inner.now) [] (elements_of (optional inner.now) (product shape.now) elements.entry)) }
-    ensures no_fault { is_fault result ≡ false }
+    ensures answer { Gives items_of result (codec_value B.functions (plain_optional codec.now) shape.now (optional inner.now) [] (elements_of (optional inner.now) (product shape.now) elements.entry)) }
 {
     let (inside, mask, count) = masked_parts(elements)?;
     let present = inside.extract_present(alloc, lent(&mask), inner)?;
@@ -200,8 +196,7 @@ pub(crate) fn optional_encode<'a, B: BytesToBytesCodecTraits>(
     data_type: &DataType,
     fill_value: &FillValue,
 ) -> Result<ArrayBytesRaw<'a>, CodecError>
-    ensures answer { Answers memory (λ value. (raw_of value).items) result (codec_held_value B.functions (plain_optional codec.now) shape.now data_type.now fill_value.now elements.entry) }
-    ensures no_fault { is_fault result ≡ false }
+    ensures answer { Gives items_of result (codec_held_value B.functions (plain_optional codec.now) shape.now data_type.now fill_value.now elements.entry) }
 {
     let inner = inner_type(data_type)?;
     optional_representation(alloc, codec, shape, data_type, fill_value)?;
@@ -218,8 +213,7 @@ fn mask_decode<'a, B: BytesToBytesCodecTraits>(
     part: ArrayBytesRaw<'a>,
     shape: &ChunkShape,
 ) -> Result<ArrayBytesRaw<'a>, CodecError>
-    ensures answer { Answers memory (λ mask. byte_elements (raw_of mask).items) result (chain_chunk B.functions (plain_chain chain.now) shape.now flag_type (0 ∷ []) (raw_of part.entry).items) }
-    ensures no_fault { is_fault result ≡ false }
+    ensures answer { Gives (λ mask. byte_elements (items_of mask)) result (chain_chunk B.functions (plain_chain chain.now) shape.now flag_type (0 ∷ []) (items_of part.entry)) }
 {
     let flag = DataType::bool();
     let zero = blank_fill(alloc, &flag)?;
@@ -238,9 +232,8 @@ fn present_decode<'a, B: BytesToBytesCodecTraits>(
     part: ArrayBytesRaw<'a>,
     data_type: &DataType,
 ) -> Result<ArrayBytes<'a>, CodecError>
-    requires room { length (raw_of mask).items + 1 < 2 ^ 64 → sizes_fit data_type.now (length (raw_of mask).items) ≡ Ok tt }
-    ensures answer { AnswersBy memory (Holds (optional data_type.now)) result (present_part (chain_chunk B.functions (plain_chain chain.now)) data_type.now (byte_elements (raw_of mask.entry).items) (raw_of part.entry).items) }
-    ensures no_fault { is_fault result ≡ false }
+    requires room { length (items_of mask) + 1 < 2 ^ 64 → sizes_fit data_type.now (length (items_of mask)) ≡ Ok tt }
+    ensures answer { GivesBy (Holds (optional data_type.now)) result (present_part (chain_chunk B.functions (plain_chain chain.now)) data_type.now (byte_elements (items_of mask.entry)) (items_of part.entry)) }
 {
     let count = count_present(lent(&mask))?;
     let blank = blank_fill(alloc, data_type)?;
@@ -260,8 +253,8 @@ fn has_room<B: BytesToBytesCodecTraits>(
 )
     requires taken { IsOk (codec_representation B.functions (plain_optional codec.now) shape.now data_type.now fill_value.now) }
     requires inside { optional_inner data_type.now ≡ Ok inner.now }
-    requires long { length (raw_of mask.now).items ≡ product shape.now }
-    ensures room { length (raw_of mask.now).items + 1 < 2 ^ 64 → sizes_fit inner.now (length (raw_of mask.now).items) ≡ Ok tt }
+    requires long { length (items_of mask.now) ≡ product shape.now }
+    ensures room { length (items_of mask.now) + 1 < 2 ^ 64 → sizes_fit inner.now (length (items_of mask.now)) ≡ Ok tt }
 {
     optional_is_sound(codec);
     shape.as_slice();
@@ -279,8 +272,7 @@ pub(crate) fn optional_decode<'a, B: BytesToBytesCodecTraits>(
     fill_value: &FillValue,
 ) -> Result<ArrayBytes<'a>, CodecError>
     requires taken { IsOk (codec_representation B.functions (plain_optional codec.now) shape.now data_type.now fill_value.now) }
-    ensures answer { AnswersBy memory (Holds data_type.now) result (codec_chunk B.functions (plain_optional codec.now) shape.now data_type.now fill_value.now (raw_of value.entry).items) }
-    ensures no_fault { is_fault result ≡ false }
+    ensures answer { GivesBy (Holds data_type.now) result (codec_chunk B.functions (plain_optional codec.now) shape.now data_type.now fill_value.now (items_of value.entry)) }
 {
     let inner = inner_type(data_type)?;
     let (mask_part, data_part) = split_value(alloc, value)?;
@@ -299,8 +291,7 @@ fn optional_taken_decode<'a, B: BytesToBytesCodecTraits>(
     data_type: &DataType,
     fill_value: &FillValue,
 ) -> Result<ArrayBytes<'a>, CodecError>
-    ensures exact { AnswersBy memory (Holds data_type.now) result (taken_chunk B.functions (plain_optional codec.now) shape.now data_type.now fill_value.now (raw_of value.entry).items) }
-    ensures no_fault { is_fault result ≡ false }
+    ensures exact { GivesBy (Holds data_type.now) result (taken_chunk B.functions (plain_optional codec.now) shape.now data_type.now fill_value.now (items_of value.entry)) }
 {
     optional_representation(alloc, codec, shape, data_type, fill_value)?;
     optional_decode(alloc, codec, value, shape, data_type, fill_value)
@@ -319,8 +310,7 @@ impl<B: BytesToBytesCodecTraits> OptionalCodec<B> {
         data_type: &DataType,
         fill_value: &FillValue,
     ) -> Result<BytesRepresentation, CodecError>
-        ensures answer { Answers memory (λ representation. representation) result (codec_representation B.functions (plain_optional self.now) shape.now data_type.now fill_value.now) }
-        ensures no_fault { is_fault result ≡ false }
+        ensures answer { Gives (λ representation. representation) result (codec_representation B.functions (plain_optional self.now) shape.now data_type.now fill_value.now) }
     {
         optional_representation(alloc, self, shape, data_type, fill_value)
     }
@@ -336,10 +326,7 @@ impl<B: BytesToBytesCodecTraits> OptionalCodec<B> {
         data_type: &DataType,
         fill_value: &FillValue,
     ) -> Result<ArrayBytesRaw<'a>, CodecError>
-        ensures found { IfOk result (λ value. (chunk : Chunk) × Holds data_type.now elements.entry chunk × CodecWritten B.functions (plain_optional self.now) shape.now data_type.now fill_value.now (raw_of value).items chunk) }
-        ensures only { IsOk (codec_representation B.functions (plain_optional self.now) shape.now data_type.now fill_value.now) → (chunk : Chunk) (value : List ℕ) → Holds data_type.now elements.entry chunk → length chunk ≡ product shape.now → CodecWritten B.functions (plain_optional self.now) shape.now data_type.now fill_value.now value chunk → Answers memory (λ bytes. (raw_of bytes).items) result (Ok value) }
-        ensures exact { Answers memory (λ value. (raw_of value).items) result (codec_held_value B.functions (plain_optional self.now) shape.now data_type.now fill_value.now elements.entry) }
-        ensures no_fault { is_fault result ≡ false }
+        ensures encodes { Encodes (codec_grammar B.functions (plain_optional self.now)) (form_of shape.now data_type.now fill_value.now) elements.entry result }
     {
         optional_is_sound(self);
         shape.as_slice();
@@ -358,10 +345,7 @@ impl<B: BytesToBytesCodecTraits> OptionalCodec<B> {
         data_type: &DataType,
         fill_value: &FillValue,
     ) -> Result<ArrayBytes<'a>, CodecError>
-        ensures found { IfOk result (λ elements. (chunk : Chunk) × Holds data_type.now elements chunk × CodecStands B.functions (plain_optional self.now) shape.now data_type.now fill_value.now (raw_of value.entry).items chunk) }
-        ensures only { IsOk (codec_representation B.functions (plain_optional self.now) shape.now data_type.now fill_value.now) → (chunk : Chunk) → CodecStands B.functions (plain_optional self.now) shape.now data_type.now fill_value.now (raw_of value.entry).items chunk → AnswersBy memory (Holds data_type.now) result (Ok chunk) }
-        ensures exact { AnswersBy memory (Holds data_type.now) result (taken_chunk B.functions (plain_optional self.now) shape.now data_type.now fill_value.now (raw_of value.entry).items) }
-        ensures no_fault { is_fault result ≡ false }
+        ensures decodes { Decodes (codec_grammar B.functions (plain_optional self.now)) (form_of shape.now data_type.now fill_value.now) (items_of value.entry) result }
     {
         optional_is_sound(self);
         shape.as_slice();

@@ -1,6 +1,6 @@
 //! How many bytes the value of a chunk has, through a chain.
-ghost use Rattle.std.specs.Prelude.{◌≡◌, IfOk, Ok, false};
-ghost use Rattle.zarrs_chunk.specs.Answer.{Answers, memory, is_fault, checked_u64};
+ghost use Rattle.zarrs_chunk.specs.Answer.{Gives, checked_u64};
+ghost use Rattle.std.specs.Prelude.{◌≡◌, IfOk, Ok};
 ghost use Rattle.zarrs_chunk.specs.ChunkShape.{product};
 ghost use Rattle.zarrs_chain_parts.specs.ArrayStages.{IsMapWhere};
 ghost use Rattle.zarrs_chain_parts.specs.Chain.{taken_form as taken_form_of};
@@ -33,10 +33,9 @@ pub(crate) fn taken_form<B: BytesToBytesCodecTraits>(
     data_type: &DataType,
     fill_value: &FillValue,
 ) -> Result<TakenForm, CodecError>
-    ensures answer { Answers memory (λ taken. (taken.shape, taken.representation)) result (taken_form_of B.functions (plain_chain chain.now) shape.now data_type.now fill_value.now) }
+    ensures answer { Gives (λ taken. (taken.shape, taken.representation)) result (taken_form_of B.functions (plain_chain chain.now) shape.now data_type.now fill_value.now) }
     ensures map { IfOk result (λ _. IsMapWhere data_type.now (plain_chain chain.now).arrays shape.now) }
     ensures counted { IfOk result (λ _. checked_u64 (product shape.now) ≡ Ok (product shape.now)) }
-    ensures no_fault { is_fault result ≡ false }
 {
     let encoded = shape_through(alloc, &chain.array_to_array, shape, data_type)?;
     let representation = codec_representation(
@@ -62,8 +61,7 @@ pub(crate) fn chain_representation<B: BytesToBytesCodecTraits>(
     data_type: &DataType,
     fill_value: &FillValue,
 ) -> Result<BytesRepresentation, CodecError>
-    ensures answer { Answers memory (λ representation. representation) result (chain_representation_of B.functions (plain_chain chain.now) shape.now data_type.now fill_value.now) }
-    ensures no_fault { is_fault result ≡ false }
+    ensures answer { Gives (λ representation. representation) result (chain_representation_of B.functions (plain_chain chain.now) shape.now data_type.now fill_value.now) }
 {
     let taken = taken_form(alloc, chain, shape, data_type, fill_value)?;
     Ok(outer_representation(&chain.bytes_to_bytes, taken.representation))

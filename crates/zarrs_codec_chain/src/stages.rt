@@ -1,8 +1,8 @@
 //! The steps of which a chain is made: what its codec to bytes gets, what the bytes codecs and the codec
 //! to bytes make of a value, and what holds of the codecs. A reader of a part of a chunk takes some of
 //! them and leaves others.
-ghost use Rattle.std.specs.Prelude.{◌≡◌, IfOk, Ok, false};
-ghost use Rattle.zarrs_chunk.specs.Answer.{Answers, memory, is_fault, checked_u64};
+ghost use Rattle.zarrs_chunk.specs.Answer.{Gives, checked_u64};
+ghost use Rattle.std.specs.Prelude.{◌≡◌, IfOk, Ok};
 ghost use Rattle.zarrs_chunk.specs.ChunkShape.{product};
 ghost use Rattle.zarrs_chain_parts.specs.ArrayStages.{IsMapWhere};
 ghost use Rattle.zarrs_chain_parts.specs.Chain.{taken_form as taken_form_of};
@@ -28,10 +28,9 @@ pub fn taken_form<B: BytesToBytesCodecTraits>(
     data_type: &DataType,
     fill_value: &FillValue,
 ) -> Result<(ChunkShape, BytesRepresentation), CodecError>
-    ensures answer { Answers memory (λ taken. taken) result (taken_form_of B.functions (plain_chain chain.now) shape.now data_type.now fill_value.now) }
+    ensures answer { Gives (λ taken. taken) result (taken_form_of B.functions (plain_chain chain.now) shape.now data_type.now fill_value.now) }
     ensures map { IfOk result (λ _. IsMapWhere data_type.now (plain_chain chain.now).arrays shape.now) }
     ensures counted { IfOk result (λ _. checked_u64 (product shape.now) ≡ Ok (product shape.now)) }
-    ensures no_fault { is_fault result ≡ false }
 {
     let taken = taken_by(alloc, chain, shape, data_type, fill_value)?;
     Ok((taken.shape, taken.representation))

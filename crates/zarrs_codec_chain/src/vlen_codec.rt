@@ -1,13 +1,15 @@
-ghost use Rattle.std.specs.Prelude.{◌≡◌, ◌<◌, ◌+◌, ℕ, List, [], Ok, IfOk, IsOk, false, length, true};
-ghost use Rattle.zarrs_chunk.specs.Answer.{Answers, AnswersBy, memory, is_fault, checked_u64};
+ghost use Rattle.zarrs_chunk.specs.Answer.{Gives, GivesBy, Answers, memory, is_fault, checked_u64};
+ghost use Rattle.zarrs_array_bytes.specs.Held.{items_of};
+ghost use Rattle.std.specs.Prelude.{◌≡◌, ◌<◌, ◌+◌, [], Ok, IfOk, IsOk, false, length, true};
 ghost use Rattle.zarrs_chunk.specs.ChunkShape.{product};
-ghost use Rattle.zarrs_data_type.specs.Element.{Chunk};
-ghost use Rattle.zarrs_array_bytes.specs.Held.{raw_of};
 ghost use Rattle.zarrs_array_bytes.specs.Offsets.{is_offsets, last_of};
 ghost use Rattle.zarrs_array_bytes.specs.Validity.{Holds};
 ghost use Rattle.zarrs_metadata.specs.MetadataV3.{configuration_seen};
 ghost use Rattle.zarrs_metadata.specs.PluginCreateError.{plugin_memory};
 ghost use Rattle.zarrs_chain_parts.specs.Chain.{codec_held_value, taken_chunk};
+ghost use Rattle.zarrs_data_type.specs.Form.{form_of};
+ghost use Rattle.zarrs_codec.specs.Grammar.{Encodes, Decodes};
+ghost use Rattle.zarrs_codec_chain.specs.ChainGrammar.{codec_grammar};
 ghost use Rattle.zarrs_codec_chain.specs.ChainView.{plain_chain, plain_vlen};
 ghost use Rattle.zarrs_chain_parts.specs.VlenSettings.{is_wide, is_at_end};
 ghost use Rattle.zarrs_chain_parts.specs.Decode.{codec_chunk};
@@ -16,9 +18,7 @@ ghost use Rattle.zarrs_chain_parts.specs.Laws.{HasMappings};
 ghost use Rattle.zarrs_chain_parts.specs.MadeAgain.{HasRanges};
 ghost use Rattle.zarrs_chain_parts.specs.PlainChain.{vlen_codec_of, with_location};
 ghost use Rattle.zarrs_chain_parts.specs.Representation.{codec_representation, vlen_representation as vlen_representation_of};
-ghost use Rattle.zarrs_chain_parts.specs.Stands.{CodecStands};
 ghost use Rattle.zarrs_chain_parts.specs.VlenSteps.{index_part, content_part, index_offsets, content_bytes};
-ghost use Rattle.zarrs_chain_parts.specs.Written.{CodecWritten};
 ghost use Rattle.zarrs_chain_parts.specs.WrittenMetadata.{codec_configuration};
 
 use crate::array_to_bytes_codec::ArrayToBytesCodec;
@@ -183,8 +183,7 @@ fn index_encode<'a, B: BytesToBytesCodecTraits>(
     data_type: VlenIndexDataType,
 ) -> Result<ArrayBytesRaw<'a>, CodecError>
     requires rising { is_offsets offsets.now ≡ true }
-    ensures answer { Answers memory (λ part. (raw_of part).items) result (index_part B.functions (plain_chain chain.now) (is_wide data_type) offsets.now) }
-    ensures no_fault { is_fault result ≡ false }
+    ensures answer { Gives items_of result (index_part B.functions (plain_chain chain.now) (is_wide data_type) offsets.now) }
 {
     chain_is_sound(chain);
     let rows = index_elements(alloc, offsets, data_type)?;
@@ -209,8 +208,7 @@ fn content_encode<'a, B: BytesToBytesCodecTraits>(
     chain: &CodecChain<B>,
     bytes: ArrayBytesRaw<'a>,
 ) -> Result<ArrayBytesRaw<'a>, CodecError>
-    ensures answer { Answers memory (λ part. (raw_of part).items) result (content_part B.functions (plain_chain chain.now) (raw_of bytes.entry).items) }
-    ensures no_fault { is_fault result ≡ false }
+    ensures answer { Gives items_of result (content_part B.functions (plain_chain chain.now) (items_of bytes.entry)) }
 {
     let fill_value = FillValue::new_optional_null(alloc)?;
     let count = bytes.len() as u64;
@@ -236,8 +234,7 @@ pub(crate) fn vlen_encode<'a, B: BytesToBytesCodecTraits>(
     data_type: &DataType,
     fill_value: &FillValue,
 ) -> Result<ArrayBytesRaw<'a>, CodecError>
-    ensures answer { Answers memory (λ value. (raw_of value).items) result (codec_held_value B.functions (plain_vlen codec.now) shape.now data_type.now fill_value.now elements.entry) }
-    ensures no_fault { is_fault result ≡ false }
+    ensures answer { Gives items_of result (codec_held_value B.functions (plain_vlen codec.now) shape.now data_type.now fill_value.now elements.entry) }
 {
     vlen_representation(shape, data_type)?;
     check_elements(&elements, shape, data_type)?;
@@ -266,8 +263,7 @@ fn index_decode<B: BytesToBytesCodecTraits>(
     data_type: VlenIndexDataType,
 ) -> Result<ArrayBytesOffsets, CodecError>
     requires some { 0 < count }
-    ensures answer { Answers memory (λ offsets. offsets) result (index_offsets B.functions (plain_chain chain.now) (is_wide data_type) count part.now) }
-    ensures no_fault { is_fault result ≡ false }
+    ensures answer { Gives (λ offsets. offsets) result (index_offsets B.functions (plain_chain chain.now) (is_wide data_type) count part.now) }
 {
     let fill_value = offset_fill(alloc, data_type)?;
     let part = CowSlice::Borrowed(part);
@@ -291,9 +287,8 @@ fn content_decode<'a, B: BytesToBytesCodecTraits>(
     part: ArrayBytesRaw<'a>,
     count: u64,
 ) -> Result<ArrayBytesRaw<'a>, CodecError>
-    ensures answer { Answers memory (λ bytes. (raw_of bytes).items) result (content_bytes B.functions (plain_chain chain.now) count (raw_of part.entry).items) }
-    ensures long { IfOk result (λ bytes. length (raw_of bytes).items ≡ count) }
-    ensures no_fault { is_fault result ≡ false }
+    ensures answer { Gives items_of result (content_bytes B.functions (plain_chain chain.now) count (items_of part.entry)) }
+    ensures long { IfOk result (λ bytes. length (items_of bytes) ≡ count) }
 {
     let fill_value = FillValue::new_optional_null(alloc)?;
     let bytes = part_decode(alloc, chain, part, count, &DataType::uint8(), &fill_value)?;
@@ -312,8 +307,7 @@ pub fn vlen_decode<'a, B: BytesToBytesCodecTraits>(
     fill_value: &FillValue,
 ) -> Result<ArrayBytes<'a>, CodecError>
     requires taken { IsOk (codec_representation B.functions (plain_vlen codec.now) shape.now data_type.now fill_value.now) }
-    ensures answer { AnswersBy memory (Holds data_type.now) result (codec_chunk B.functions (plain_vlen codec.now) shape.now data_type.now fill_value.now (raw_of value.entry).items) }
-    ensures no_fault { is_fault result ≡ false }
+    ensures answer { GivesBy (Holds data_type.now) result (codec_chunk B.functions (plain_vlen codec.now) shape.now data_type.now fill_value.now (items_of value.entry)) }
 {
     let (index, _) = split(value.as_slice(), codec.index_location)?;
     let size = index.len();
@@ -357,9 +351,8 @@ fn vlen_measure<B: BytesToBytesCodecTraits>(
     data_type: &DataType,
     fill_value: &FillValue,
 ) -> Result<BytesRepresentation, CodecError>
-    ensures answer { Answers memory (λ representation. representation) result (codec_representation B.functions (plain_vlen codec.now) shape.now data_type.now fill_value.now) }
+    ensures answer { Gives (λ representation. representation) result (codec_representation B.functions (plain_vlen codec.now) shape.now data_type.now fill_value.now) }
     ensures in_place { result ≡ codec_representation B.functions (plain_vlen codec.now) shape.now data_type.now fill_value.now }
-    ensures no_fault { is_fault result ≡ false }
 {
     vlen_representation(shape, data_type)
 }
@@ -374,8 +367,7 @@ fn vlen_taken_decode<'a, B: BytesToBytesCodecTraits>(
     data_type: &DataType,
     fill_value: &FillValue,
 ) -> Result<ArrayBytes<'a>, CodecError>
-    ensures exact { AnswersBy memory (Holds data_type.now) result (taken_chunk B.functions (plain_vlen codec.now) shape.now data_type.now fill_value.now (raw_of value.entry).items) }
-    ensures no_fault { is_fault result ≡ false }
+    ensures exact { GivesBy (Holds data_type.now) result (taken_chunk B.functions (plain_vlen codec.now) shape.now data_type.now fill_value.now (items_of value.entry)) }
 {
     vlen_measure(codec, shape, data_type, fill_value)?;
     vlen_decode(alloc, codec, value, shape, data_type, fill_value)
@@ -391,9 +383,8 @@ impl<B: BytesToBytesCodecTraits> VlenCodec<B> {
         data_type: &DataType,
         fill_value: &FillValue,
     ) -> Result<BytesRepresentation, CodecError>
-        ensures answer { Answers memory (λ representation. representation) result (codec_representation B.functions (plain_vlen self.now) shape.now data_type.now fill_value.now) }
+        ensures answer { Gives (λ representation. representation) result (codec_representation B.functions (plain_vlen self.now) shape.now data_type.now fill_value.now) }
         ensures in_place { result ≡ codec_representation B.functions (plain_vlen self.now) shape.now data_type.now fill_value.now }
-        ensures no_fault { is_fault result ≡ false }
     {
         vlen_measure(self, shape, data_type, fill_value)
     }
@@ -411,10 +402,7 @@ impl<B: BytesToBytesCodecTraits> VlenCodec<B> {
         data_type: &DataType,
         fill_value: &FillValue,
     ) -> Result<ArrayBytesRaw<'a>, CodecError>
-        ensures found { IfOk result (λ value. (chunk : Chunk) × Holds data_type.now elements.entry chunk × CodecWritten B.functions (plain_vlen self.now) shape.now data_type.now fill_value.now (raw_of value).items chunk) }
-        ensures only { IsOk (codec_representation B.functions (plain_vlen self.now) shape.now data_type.now fill_value.now) → (chunk : Chunk) (value : List ℕ) → Holds data_type.now elements.entry chunk → length chunk ≡ product shape.now → CodecWritten B.functions (plain_vlen self.now) shape.now data_type.now fill_value.now value chunk → Answers memory (λ bytes. (raw_of bytes).items) result (Ok value) }
-        ensures exact { Answers memory (λ value. (raw_of value).items) result (codec_held_value B.functions (plain_vlen self.now) shape.now data_type.now fill_value.now elements.entry) }
-        ensures no_fault { is_fault result ≡ false }
+        ensures encodes { Encodes (codec_grammar B.functions (plain_vlen self.now)) (form_of shape.now data_type.now fill_value.now) elements.entry result }
     {
         vlen_is_sound(self);
         shape.as_slice();
@@ -434,10 +422,7 @@ impl<B: BytesToBytesCodecTraits> VlenCodec<B> {
         data_type: &DataType,
         fill_value: &FillValue,
     ) -> Result<ArrayBytes<'a>, CodecError>
-        ensures found { IfOk result (λ elements. (chunk : Chunk) × Holds data_type.now elements chunk × CodecStands B.functions (plain_vlen self.now) shape.now data_type.now fill_value.now (raw_of value.entry).items chunk) }
-        ensures only { IsOk (codec_representation B.functions (plain_vlen self.now) shape.now data_type.now fill_value.now) → (chunk : Chunk) → CodecStands B.functions (plain_vlen self.now) shape.now data_type.now fill_value.now (raw_of value.entry).items chunk → AnswersBy memory (Holds data_type.now) result (Ok chunk) }
-        ensures exact { AnswersBy memory (Holds data_type.now) result (taken_chunk B.functions (plain_vlen self.now) shape.now data_type.now fill_value.now (raw_of value.entry).items) }
-        ensures no_fault { is_fault result ≡ false }
+        ensures decodes { Decodes (codec_grammar B.functions (plain_vlen self.now)) (form_of shape.now data_type.now fill_value.now) (items_of value.entry) result }
     {
         vlen_is_sound(self);
         shape.as_slice();

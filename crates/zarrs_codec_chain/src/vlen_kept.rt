@@ -1,12 +1,13 @@
 //! Whether the codec of an index gives its offsets back unchanged.
+ghost use Rattle.zarrs_chunk.specs.Answer.{Gives, Answers, demand, memory, is_fault, seen};
+ghost use Rattle.zarrs_array_bytes.specs.Held.{flen};
+ghost use Rattle.zarrs_data_type.specs.Form.{form_of};
 ghost use Rattle.std.specs.Prelude.{◌≡◌, ◌∷◌, [], IsOk, Ok, ℕ, false, length, true};
 ghost use Rattle.std.specs.Bool.{nat_eq};
 ghost use Rattle.std.specs.Cmp.Lexicographic.{pointwise};
-ghost use Rattle.zarrs_chunk.specs.Answer.{Answers, demand, memory, is_fault, seen};
 ghost use Rattle.zarrs_chunk.specs.ChunkShape.{product};
 ghost use Rattle.zarrs_chunk.specs.declared.codec_error.CodecError.TheVariants.{OffsetNotKept};
 ghost use Rattle.zarrs_data_type.specs.Element.{Chunk};
-ghost use Rattle.zarrs_array_bytes.specs.Held.{flen};
 ghost use Rattle.zarrs_array_bytes.specs.Offsets.{is_offsets};
 ghost use Rattle.zarrs_array_bytes.specs.Parts.{fixed_part};
 ghost use Rattle.zarrs_array_bytes.specs.Validity.{Holds};
@@ -39,7 +40,7 @@ fn keeps_items(
     data_type: &DataType,
     fill_value: &FillValue,
 ) -> Result<bool, CodecError>
-    requires taken { IsOk (packed_layout codec.now shape.now data_type.now fill_value.now) }
+    requires taken { IsOk (packed_layout codec.now (form_of shape.now data_type.now fill_value.now)) }
     ensures answer { (chunk : Chunk) → Holds data_type.now (flen (lent_bytes items.now)) chunk → length chunk ≡ product shape.now → Answers memory (λ kept. kept) result (Ok (is_same_bytes (normal_chunk codec.now data_type.now chunk) chunk)) }
     ensures no_fault { is_fault result ≡ false }
 {
@@ -66,9 +67,8 @@ fn packs_offsets(
 ) -> Result<bool, CodecError>
     requires rising { is_offsets offsets.now ≡ true }
     requires fits { offsets_fit (is_wide data_type) offsets.now ≡ true }
-    requires taken { IsOk (packed_layout codec.now (length offsets.now ∷ []) (offset_type_of (is_wide data_type)) (offset_bytes (is_wide data_type) 0)) }
-    ensures answer { Answers memory (λ kept. kept) result (Ok (keeps_offsets {B = ℕ} (packbits_codec codec.now) (is_wide data_type) offsets.now)) }
-    ensures no_fault { is_fault result ≡ false }
+    requires taken { IsOk (packed_layout codec.now (form_of (length offsets.now ∷ []) (offset_type_of (is_wide data_type)) (offset_bytes (is_wide data_type) 0))) }
+    ensures answer { Gives (λ kept. kept) result (Ok (keeps_offsets {B = ℕ} (packbits_codec codec.now) (is_wide data_type) offsets.now)) }
 {
     let items = offset_items(alloc, offsets, data_type)?;
     let fill_value = offset_fill(alloc, data_type)?;
@@ -97,8 +97,7 @@ fn is_kept<B>(
     requires rising { is_offsets offsets.now ≡ true }
     requires fits { offsets_fit (is_wide data_type) offsets.now ≡ true }
     requires taken { TakesOffsets (plain_codec codec.now) (is_wide data_type) (length offsets.now) }
-    ensures answer { Answers memory (λ kept. kept) result (Ok (keeps_offsets (plain_codec codec.now) (is_wide data_type) offsets.now)) }
-    ensures no_fault { is_fault result ≡ false }
+    ensures answer { Gives (λ kept. kept) result (Ok (keeps_offsets (plain_codec codec.now) (is_wide data_type) offsets.now)) }
 {
     match codec {
         ArrayToBytesCodec::Bytes(_) => Ok(true),
@@ -119,8 +118,7 @@ pub(crate) fn check_kept<B>(
     requires rising { is_offsets offsets.now ≡ true }
     requires fits { offsets_fit (is_wide data_type) offsets.now ≡ true }
     requires taken { TakesOffsets (plain_codec codec.now) (is_wide data_type) (length offsets.now) }
-    ensures answer { Answers memory (λ done. done) result (demand (keeps_offsets (plain_codec codec.now) (is_wide data_type) offsets.now) OffsetNotKept) }
-    ensures no_fault { is_fault result ≡ false }
+    ensures answer { Gives (λ done. done) result (demand (keeps_offsets (plain_codec codec.now) (is_wide data_type) offsets.now) OffsetNotKept) }
 {
     if is_kept(alloc, codec, offsets, data_type)? {
         Ok(())

@@ -76,16 +76,16 @@ layout_for settings elements width components sign =
 -- How a chunk is packed, or the first cause why the codec doesn't take such chunks. An element has a component at least.
 abbrev pub packed_layout : PackBitsSettings → Form → Result PackedLayout CodecError
 packed_layout settings form = elim form.type [
-    fixed width components sign ↦ do
-      _ ← demand (fill_fits (fixed width components sign) form.fill) InvalidFillValue
-      _ ← demand (has_bits settings width && nat_lt 0 components) BitRange
-      count ← checked_u64 (product form.sizes)
-      _ ← demand (is_in_reach (layout_for settings count width components sign)) Overflow
-      Ok (layout_for settings count width components sign)
+  | fixed width components sign ↦ do
+    _ ← demand (fill_fits (fixed width components sign) form.fill) InvalidFillValue
+    _ ← demand (has_bits settings width && nat_lt 0 components) BitRange
+    count ← checked_u64 (product form.sizes)
+    _ ← demand (is_in_reach (layout_for settings count width components sign)) Overflow
+    Ok (layout_for settings count width components sign)
   | text ↦ Err (UnsupportedDataType codec.PackBits)
   | bytes ↦ Err (UnsupportedDataType codec.PackBits)
   | optional type ↦ Err (UnsupportedDataType codec.PackBits)
-  ]
+]
 
 -- how many bytes the value of such a chunk has, or the first cause why the codec doesn't take such chunks
 abbrev pub packbits_length : PackBitsSettings → Form → Result ℕ CodecError

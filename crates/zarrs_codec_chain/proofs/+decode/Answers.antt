@@ -29,139 +29,197 @@ use Rattle.zarrs_codec_chain.specs.declared.optional_codec.OptionalCodec.{out-Op
 use Rattle.zarrs_codec_chain.proofs.OptionalRoom.{mask_long}
 use Rattle.zarrs_codec_chain.proofs.+decode.Goals as goal
 
-pub decode::chain_decode-returns-clause-exact : goal.decode::chain_decode-returns-clause-exact
-decode::chain_decode-returns-clause-exact g t c =
-    let f = g.B.BytesToBytesCodecTraits.functions in
-    let chain = plain_chain c.args.chain.now in
-    let sizes = c.args.shape.now in
-    let type = c.args.data_type.now in
-    let fill = c.args.fill_value.now in
-    let taken = c.in_ok-taken.taken in
-    let opened = subst (λ bs. outer_bytes f bs taken.representation (raw_of c.args.value).items ≡ Ok (raw_of c.in_ok-below.below).items) c.deref.ensures.value c.in_ok-below.ensures.answer in
-    let found = subst (λ (cs : List ArrayToArrayCodec). IfOk (decoded_chunk (Ok tt) (arrays_map type (map mapping_of cs) sizes) type sizes c.in_ok-chunk.chunk) (λ chunk. AnswersBy memory (Holds type) c.decode_arrays.result (Ok chunk))) c.deref-2.ensures.value c.decode_arrays.ensures.found in
-    chunk_back f chain.arrays chain.codec chain.outer sizes type fill (taken.shape, taken.representation) (raw_of c.args.value).items (raw_of c.in_ok-below.below).items c.in_ok-chunk.chunk c.decode_arrays.result c.in_ok-taken.ensures.map c.in_ok-taken.ensures.answer opened c.in_ok-chunk.ensures.answer found
+pub decode::chain_decode-returns : goal.decode::chain_decode-returns
+decode::chain_decode-returns g t c =
+    record {
+      exact = record {
+        is =
+            let f = g.B.BytesToBytesCodecTraits.functions in
+            let chain = plain_chain c.args.chain.now in
+            let sizes = c.args.shape.now in
+            let type = c.args.data_type.now in
+            let fill = c.args.fill_value.now in
+            let taken = c.in_ok-taken.taken in
+            let opened = subst (λ bs. outer_bytes f bs taken.representation (raw_of c.args.value).items ≡ Ok (raw_of c.in_ok-below.below).items) c.deref.ensures.value c.in_ok-below.ensures.answer.is in
+            let found = subst (λ (cs : List ArrayToArrayCodec). IfOk (decoded_chunk (Ok tt) (arrays_map type (map mapping_of cs) sizes) type sizes c.in_ok-chunk.chunk) (λ chunk. AnswersBy memory (Holds type) c.decode_arrays.result (Ok chunk))) c.deref-2.ensures.value c.decode_arrays.ensures.found in
+            chunk_back f chain.arrays chain.codec chain.outer sizes type fill (taken.shape, taken.representation) (raw_of c.args.value).items (raw_of c.in_ok-below.below).items c.in_ok-chunk.chunk c.decode_arrays.result c.in_ok-taken.ensures.map c.in_ok-taken.ensures.answer.is opened c.in_ok-chunk.ensures.answer.is found;
+        no_fault = search rules;
+      };
+    }
 
-pub decode::part_decode-returns-clause-exact : goal.decode::part_decode-returns-clause-exact
-decode::part_decode-returns-clause-exact g t c =
-    chunk_of_none c.new_fill_value.result (chain_chunk g.B.BytesToBytesCodecTraits.functions (plain_chain c.args.chain.now)) c.args.count c.args.data_type.now c.args.fill_value.now (raw_of c.args.part).items (subst (λ row. ok (row_sizes c.args.count) ≡ ok row) c.in-None.is c.in_ok-row.ensures.answer) c.requires.fits c.new_fill_value.ensures.exact
+pub decode::part_decode-returns : goal.decode::part_decode-returns
+decode::part_decode-returns g t c =
+    record {
+      exact = record {
+        is =
+            chunk_of_none c.new_fill_value.result (chain_chunk g.B.BytesToBytesCodecTraits.functions (plain_chain c.args.chain.now)) c.args.count c.args.data_type.now c.args.fill_value.now (raw_of c.args.part).items (subst (λ row. ok (row_sizes c.args.count) ≡ ok row) c.in-None.is c.in_ok-row.ensures.answer.is) c.requires.fits c.new_fill_value.ensures.exact.is;
+        no_fault = search rules;
+      };
+    }
 
 pub vlen_codec::content_decode-returns-clause-answer : goal.vlen_codec::content_decode-returns-clause-answer
 vlen_codec::content_decode-returns-clause-answer g t c =
-    let read = rw c.uint8.ensures.made at c.in_ok-bytes.ensures.exact in
-    content_answered raw_of c.into_fixed.result g.B.BytesToBytesCodecTraits.functions (plain_chain c.args.chain.now) c.args.count (raw_of c.args.part).items c.in_ok-bytes.bytes c.in_ok-fill_value.fill_value c.in_ok-fill_value.ensures.answer read c.into_fixed.ensures.answer
+    record {
+      is =
+          let read = rw c.uint8.ensures.made at c.in_ok-bytes.ensures.exact.is in
+          content_answered raw_of c.into_fixed.result g.B.BytesToBytesCodecTraits.functions (plain_chain c.args.chain.now) c.args.count (raw_of c.args.part).items c.in_ok-bytes.bytes c.in_ok-fill_value.fill_value c.in_ok-fill_value.ensures.answer read c.into_fixed.ensures.answer;
+      no_fault = search rules;
+    }
 
 pub vlen_codec::content_decode-returns-clause-long : goal.vlen_codec::content_decode-returns-clause-long
 vlen_codec::content_decode-returns-clause-long g t c =
-    let read = rw c.uint8.ensures.made at c.in_ok-bytes.ensures.exact in
+    let read = rw c.uint8.ensures.made at c.in_ok-bytes.ensures.exact.is in
     content_counted raw_of c.into_fixed.result g.B.BytesToBytesCodecTraits.functions (plain_chain c.args.chain.now) c.args.count (raw_of c.args.part).items c.in_ok-bytes.bytes c.in_ok-fill_value.fill_value c.in_ok-fill_value.ensures.answer read c.into_fixed.ensures.answer
 
-pub vlen_codec::index_decode-returns-clause-answer : goal.vlen_codec::index_decode-returns-clause-answer
-vlen_codec::index_decode-returns-clause-answer g t c =
-    offsets_answered c.new.result g.B.BytesToBytesCodecTraits.functions (plain_chain c.args.chain.now) (is_wide c.args.data_type) c.args.count c.args.part.now c.in_ok-rows.rows c.offset_type.result c.in_ok-fill_value.fill_value c.in_ok-as_fixed.field-0.now c.in_ok-numbers.numbers.items c.requires.some c.offset_type.ensures.value c.in_ok-fill_value.ensures.answer c.in_ok-rows.ensures.exact c.in_ok-as_fixed.ensures.answer c.in_ok-numbers.ensures.exact c.new.ensures.answer
+pub vlen_codec::index_decode-returns : goal.vlen_codec::index_decode-returns
+vlen_codec::index_decode-returns g t c =
+    record {
+      answer = record {
+        is =
+            offsets_answered c.new.result g.B.BytesToBytesCodecTraits.functions (plain_chain c.args.chain.now) (is_wide c.args.data_type) c.args.count c.args.part.now c.in_ok-rows.rows c.offset_type.result c.in_ok-fill_value.fill_value c.in_ok-as_fixed.field-0.now c.in_ok-numbers.numbers.items c.requires.some c.offset_type.ensures.value c.in_ok-fill_value.ensures.answer.is c.in_ok-rows.ensures.exact.is c.in_ok-as_fixed.ensures.answer c.in_ok-numbers.ensures.exact.is c.new.ensures.answer;
+        no_fault = search rules;
+      };
+    }
 
-pub optional_codec::present_decode-returns-in_err-count-clause-answer : goal.optional_codec::present_decode-returns-in_err-count-clause-answer
-optional_codec::present_decode-returns-in_err-count-clause-answer g t c =
-    let decode = chain_chunk g.B.BytesToBytesCodecTraits.functions (plain_chain c.args.chain.now) in
-    let p = err_from_is_err_and c.from_residual.result c.from_residual.ensures.1 in
-    let e : present_count (raw_of c.args.mask).items ≡ Err c.in_err-count.field-0.0 = search rules in
-    rw (p.1, p.2) (λ ne. mask_refused decode c.args.data_type.now (raw_of c.args.mask).items (raw_of c.args.part).items c.in_err-count.field-0.0 e)
+pub optional_codec::present_decode-returns-in_err-count : goal.optional_codec::present_decode-returns-in_err-count
+optional_codec::present_decode-returns-in_err-count g t c =
+    record {
+      answer = record {
+        is =
+            let decode = chain_chunk g.B.BytesToBytesCodecTraits.functions (plain_chain c.args.chain.now) in
+            let p = err_from_is_err_and c.from_residual.result c.from_residual.ensures.1 in
+            let e : present_count (raw_of c.args.mask).items ≡ Err c.in_err-count.field-0.0 = search rules in
+            rw (p.1, p.2) (λ ne. mask_refused decode c.args.data_type.now (raw_of c.args.mask).items (raw_of c.args.part).items c.in_err-count.field-0.0 e);
+        no_fault = search rules;
+      };
+    }
 
-pub optional_codec::present_decode-returns-in_err-present-clause-answer : goal.optional_codec::present_decode-returns-in_err-present-clause-answer
-optional_codec::present_decode-returns-in_err-present-clause-answer g t c =
-    let decode = chain_chunk g.B.BytesToBytesCodecTraits.functions (plain_chain c.args.chain.now) in
-    let type = c.args.data_type.now in
-    let part = (raw_of c.args.part).items in
-    let p = err_from_is_err_and c.from_residual-in_err-present.result c.from_residual-in_err-present.ensures.1 in
-    let e : present_count (raw_of c.args.mask).items ≡ Ok c.in_ok-count.count = search rules in
-    rw (p.1, p.2) (λ ne.
-    let h : part_chunk decode type (blank_fill type) c.in_ok-count.count part ≡ Err c.in_err-present.field-0.0 = search rules in
-    part_refused decode type (raw_of c.args.mask).items c.in_ok-count.count part c.in_err-present.field-0.0 e h)
+pub optional_codec::present_decode-returns-in_err-present : goal.optional_codec::present_decode-returns-in_err-present
+optional_codec::present_decode-returns-in_err-present g t c =
+    record {
+      answer = record {
+        is =
+            let decode = chain_chunk g.B.BytesToBytesCodecTraits.functions (plain_chain c.args.chain.now) in
+            let type = c.args.data_type.now in
+            let part = (raw_of c.args.part).items in
+            let p = err_from_is_err_and c.from_residual-in_err-present.result c.from_residual-in_err-present.ensures.1 in
+            let e : present_count (raw_of c.args.mask).items ≡ Ok c.in_ok-count.count = search rules in
+            rw (p.1, p.2) (λ ne.
+            let h : part_chunk decode type (blank_fill type) c.in_ok-count.count part ≡ Err c.in_err-present.field-0.0 = search rules in
+            part_refused decode type (raw_of c.args.mask).items c.in_ok-count.count part c.in_err-present.field-0.0 e h);
+        no_fault = search rules;
+      };
+    }
 
-pub optional_codec::present_decode-returns-clause-answer : goal.optional_codec::present_decode-returns-clause-answer
-optional_codec::present_decode-returns-clause-answer g t c =
-    let f = g.B.BytesToBytesCodecTraits.functions in
-    let chain = plain_chain c.args.chain.now in
-    let type = c.args.data_type.now in
-    let mask = (raw_of c.args.mask).items in
-    let part = (raw_of c.args.part).items in
-    let e : present_count mask ≡ Ok c.in_ok-count.count = search rules in
-    let small : length mask + 1 < 2 ^ 64 = search rules in
-    let fits : sizes_fit type (length mask) ≡ Ok tt = c.requires.room small in
-    let read : AnswersBy {E = CodecError} memory (Holds type) (Ok c.in_ok-present.present) (part_chunk (chain_chunk f chain) type (blank_fill type) c.in_ok-count.count part) = search rules in
-    part_expanded c.expand_present.result f chain type c.in_ok-present.present mask c.in_ok-count.count part e fits read c.expand_present.ensures.answer
+pub optional_codec::present_decode-returns : goal.optional_codec::present_decode-returns
+optional_codec::present_decode-returns g t c =
+    record {
+      answer = record {
+        is =
+            let f = g.B.BytesToBytesCodecTraits.functions in
+            let chain = plain_chain c.args.chain.now in
+            let type = c.args.data_type.now in
+            let mask = (raw_of c.args.mask).items in
+            let part = (raw_of c.args.part).items in
+            let e : present_count mask ≡ Ok c.in_ok-count.count = search rules in
+            let small : length mask + 1 < 2 ^ 64 = search rules in
+            let fits : sizes_fit type (length mask) ≡ Ok tt = c.requires.room small in
+            let read : AnswersBy {E = CodecError} memory (Holds type) (Ok c.in_ok-present.present) (part_chunk (chain_chunk f chain) type (blank_fill type) c.in_ok-count.count part) = search rules in
+            part_expanded c.expand_present.result f chain type c.in_ok-present.present mask c.in_ok-count.count part e fits read c.expand_present.ensures.answer.is;
+        no_fault = search rules;
+      };
+    }
 
-pub vlen_codec::vlen_decode-returns-in_err-offsets-clause-answer : goal.vlen_codec::vlen_decode-returns-in_err-offsets-clause-answer
-vlen_codec::vlen_decode-returns-in_err-offsets-clause-answer g t c =
-    let f = g.B.BytesToBytesCodecTraits.functions in
-    let codec = c.args.codec.now in
-    let o = out-VlenCodec _ codec in
-    let index = plain_chain o.index_codecs.value in
-    let content = plain_chain o.data_codecs.value in
-    let wide = is_wide o.index_data_type in
-    let at_end = is_at_end o.index_location in
-    let sizes = c.args.shape.now in
-    let type = c.args.data_type.now in
-    let fill = c.args.fill_value.now in
-    let value = (raw_of c.args.value).items in
-    let i = c.in_ok-index.index.now in
-    let d = c.in_ok-index.field-0-1.now in
-    let count = c.in_ok-count.count in
-    let parts : ok (i, d) ≡ vlen_parts at_end value = search rules in
-    let counted : ok count ≡ checked_u64 (product sizes + 1) = search rules in
-    let p = err_from_is_err_and c.from_residual-in_err-offsets.result c.from_residual-in_err-offsets.ensures.1 in
-    rw (p.1, p.2) (λ ne.
-    let h : index_offsets f index wide count i ≡ Err c.in_err-offsets.field-0.0 = search rules in
-    index_refused_by f codec sizes type fill value i d count c.in_err-offsets.field-0.0 parts counted h)
+pub vlen_codec::vlen_decode-returns-in_err-offsets : goal.vlen_codec::vlen_decode-returns-in_err-offsets
+vlen_codec::vlen_decode-returns-in_err-offsets g t c =
+    record {
+      answer = record {
+        is =
+            let f = g.B.BytesToBytesCodecTraits.functions in
+            let codec = c.args.codec.now in
+            let o = out-VlenCodec _ codec in
+            let index = plain_chain o.index_codecs.value in
+            let content = plain_chain o.data_codecs.value in
+            let wide = is_wide o.index_data_type in
+            let at_end = is_at_end o.index_location in
+            let sizes = c.args.shape.now in
+            let type = c.args.data_type.now in
+            let fill = c.args.fill_value.now in
+            let value = (raw_of c.args.value).items in
+            let i = c.in_ok-index.index.now in
+            let d = c.in_ok-index.field-0-1.now in
+            let count = c.in_ok-count.count in
+            let parts : ok (i, d) ≡ vlen_parts at_end value = search rules in
+            let counted : ok count ≡ checked_u64 (product sizes + 1) = search rules in
+            let p = err_from_is_err_and c.from_residual-in_err-offsets.result c.from_residual-in_err-offsets.ensures.1 in
+            rw (p.1, p.2) (λ ne.
+            let h : index_offsets f index wide count i ≡ Err c.in_err-offsets.field-0.0 = search rules in
+            index_refused_by f codec sizes type fill value i d count c.in_err-offsets.field-0.0 parts counted h);
+        no_fault = search rules;
+      };
+    }
 
-pub vlen_codec::vlen_decode-returns-in_err-bytes-clause-answer : goal.vlen_codec::vlen_decode-returns-in_err-bytes-clause-answer
-vlen_codec::vlen_decode-returns-in_err-bytes-clause-answer g t c =
-    let f = g.B.BytesToBytesCodecTraits.functions in
-    let codec = c.args.codec.now in
-    let o = out-VlenCodec _ codec in
-    let index = plain_chain o.index_codecs.value in
-    let content = plain_chain o.data_codecs.value in
-    let wide = is_wide o.index_data_type in
-    let at_end = is_at_end o.index_location in
-    let sizes = c.args.shape.now in
-    let type = c.args.data_type.now in
-    let fill = c.args.fill_value.now in
-    let value = (raw_of c.args.value).items in
-    let i = c.in_ok-index.index.now in
-    let d = c.in_ok-index.field-0-1.now in
-    let count = c.in_ok-count.count in
-    let parts : ok (i, d) ≡ vlen_parts at_end value = search rules in
-    let counted : ok count ≡ checked_u64 (product sizes + 1) = search rules in
-    let offsets = c.in_ok-offsets.offsets in
-    let p = err_from_is_err_and c.from_residual-in_err-bytes.result c.from_residual-in_err-bytes.ensures.1 in
-    let first : index_offsets f index wide count i ≡ Ok offsets = search rules in
-    rw (p.1, p.2) (λ ne.
-    let h : content_bytes f content (last_of offsets) (data_part at_end (length i) value) ≡ Err c.in_err-bytes.field-0.0 = search rules in
-    content_refused_by f codec sizes type fill value i d offsets count c.in_err-bytes.field-0.0 parts counted first h)
+pub vlen_codec::vlen_decode-returns-in_err-bytes : goal.vlen_codec::vlen_decode-returns-in_err-bytes
+vlen_codec::vlen_decode-returns-in_err-bytes g t c =
+    record {
+      answer = record {
+        is =
+            let f = g.B.BytesToBytesCodecTraits.functions in
+            let codec = c.args.codec.now in
+            let o = out-VlenCodec _ codec in
+            let index = plain_chain o.index_codecs.value in
+            let content = plain_chain o.data_codecs.value in
+            let wide = is_wide o.index_data_type in
+            let at_end = is_at_end o.index_location in
+            let sizes = c.args.shape.now in
+            let type = c.args.data_type.now in
+            let fill = c.args.fill_value.now in
+            let value = (raw_of c.args.value).items in
+            let i = c.in_ok-index.index.now in
+            let d = c.in_ok-index.field-0-1.now in
+            let count = c.in_ok-count.count in
+            let parts : ok (i, d) ≡ vlen_parts at_end value = search rules in
+            let counted : ok count ≡ checked_u64 (product sizes + 1) = search rules in
+            let offsets = c.in_ok-offsets.offsets in
+            let p = err_from_is_err_and c.from_residual-in_err-bytes.result c.from_residual-in_err-bytes.ensures.1 in
+            let first : index_offsets f index wide count i ≡ Ok offsets = search rules in
+            rw (p.1, p.2) (λ ne.
+            let h : content_bytes f content (last_of offsets) (data_part at_end (length i) value) ≡ Err c.in_err-bytes.field-0.0 = search rules in
+            content_refused_by f codec sizes type fill value i d offsets count c.in_err-bytes.field-0.0 parts counted first h);
+        no_fault = search rules;
+      };
+    }
 
-pub vlen_codec::vlen_decode-returns-clause-answer : goal.vlen_codec::vlen_decode-returns-clause-answer
-vlen_codec::vlen_decode-returns-clause-answer g t c =
-    let f = g.B.BytesToBytesCodecTraits.functions in
-    let codec = c.args.codec.now in
-    let o = out-VlenCodec _ codec in
-    let index = plain_chain o.index_codecs.value in
-    let content = plain_chain o.data_codecs.value in
-    let wide = is_wide o.index_data_type in
-    let at_end = is_at_end o.index_location in
-    let sizes = c.args.shape.now in
-    let type = c.args.data_type.now in
-    let fill = c.args.fill_value.now in
-    let value = (raw_of c.args.value).items in
-    let i = c.in_ok-index.index.now in
-    let d = c.in_ok-index.field-0-1.now in
-    let count = c.in_ok-count.count in
-    let parts : ok (i, d) ≡ vlen_parts at_end value = search rules in
-    let counted : ok count ≡ checked_u64 (product sizes + 1) = search rules in
-    let offsets = c.in_ok-offsets.offsets in
-    let raw = raw_of c.in_ok-bytes.bytes in
-    let first : index_offsets f index wide count i ≡ Ok offsets = search rules in
-    let second : content_bytes f content (last_of offsets) (data_part at_end (length i) value) ≡ Ok raw.items = search rules in
-    let long : length raw.items ≡ last_of offsets = search rules in
-    vlen_answered f codec sizes type fill value c.new_vlen.result i d offsets raw count c.requires.taken parts counted first second long c.new_vlen.ensures.answer
+pub vlen_codec::vlen_decode-returns : goal.vlen_codec::vlen_decode-returns
+vlen_codec::vlen_decode-returns g t c =
+    record {
+      answer = record {
+        is =
+            let f = g.B.BytesToBytesCodecTraits.functions in
+            let codec = c.args.codec.now in
+            let o = out-VlenCodec _ codec in
+            let index = plain_chain o.index_codecs.value in
+            let content = plain_chain o.data_codecs.value in
+            let wide = is_wide o.index_data_type in
+            let at_end = is_at_end o.index_location in
+            let sizes = c.args.shape.now in
+            let type = c.args.data_type.now in
+            let fill = c.args.fill_value.now in
+            let value = (raw_of c.args.value).items in
+            let i = c.in_ok-index.index.now in
+            let d = c.in_ok-index.field-0-1.now in
+            let count = c.in_ok-count.count in
+            let parts : ok (i, d) ≡ vlen_parts at_end value = search rules in
+            let counted : ok count ≡ checked_u64 (product sizes + 1) = search rules in
+            let offsets = c.in_ok-offsets.offsets in
+            let raw = raw_of c.in_ok-bytes.bytes in
+            let first : index_offsets f index wide count i ≡ Ok offsets = search rules in
+            let second : content_bytes f content (last_of offsets) (data_part at_end (length i) value) ≡ Ok raw.items = search rules in
+            let long : length raw.items ≡ last_of offsets = search rules in
+            vlen_answered f codec sizes type fill value c.new_vlen.result i d offsets raw count c.requires.taken parts counted first second long c.new_vlen.ensures.answer;
+        no_fault = search rules;
+      };
+    }
 
 pub optional_codec::optional_decode-has_room-requires-clause-long : goal.optional_codec::optional_decode-has_room-requires-clause-long
 optional_codec::optional_decode-has_room-requires-clause-long g t c =

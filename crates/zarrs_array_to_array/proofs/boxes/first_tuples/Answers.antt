@@ -25,7 +25,12 @@ returns c =
     let starts = c.args.starts.now in
     let lengths = c.args.lengths.now in
     let all : c.loop-number.number ≡ c.args.count = omega arith in
-    record { answer = record { is = ap (λ tuples. Ok tuples)
-    (box_ordered order starts lengths c.args.count (sym c.requires.axes) c.requires.known
-    ∙ ap (λ n. map (λ number. permuted order (box_tuple starts lengths number)) (range_with_len 0 n)) (sym all)
-    ∙ sym c.loop-number.invariant); no_fault = search rules } }
+    record {
+      answer = record {
+        is = ap (λ tuples. Ok tuples)
+            (box_ordered order starts lengths c.args.count (sym c.requires.axes) c.requires.known
+            ∙ ap (λ n. map (λ number. permuted order (box_tuple starts lengths number)) (range_with_len 0 n)) (sym all)
+            ∙ sym c.loop-number.invariant);
+        no_fault = search rules;
+      };
+    }

@@ -30,5 +30,10 @@ pub returns-in_ok-tuples-in-Indices : goal.returns-in_ok-tuples-in-Indices
 returns-in_ok-tuples-in-Indices c =
     let order = c.args.order.now in
     let made = c.in_ok-tuples-in-Indices.ensures {u = tt} ∙ ap (map (λ tuple. permuted order tuple.items)) c.as_slice.ensures.value in
-    record { answer = record { is = ap (λ s. Ok (indices (map (permuted order) (tuples_of (selection_of s))))) c.in-Indices.is
-    ∙ ap (λ s. Ok s) (ordered_list order c.in-Indices.tuples.items c.in_ok-tuples-in-Indices.tuples.items made); no_fault = search rules } }
+    record {
+      answer = record {
+        is = ap (λ s. Ok (indices (map (permuted order) (tuples_of (selection_of s))))) c.in-Indices.is
+            ∙ ap (λ s. Ok s) (ordered_list order c.in-Indices.tuples.items c.in_ok-tuples-in-Indices.tuples.items made);
+        no_fault = search rules;
+      };
+    }

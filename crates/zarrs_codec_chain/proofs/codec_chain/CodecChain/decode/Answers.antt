@@ -5,10 +5,14 @@ use Rattle.zarrs_codec_chain.specs.ChainView.{plain_chain}
 use Rattle.zarrs_chain_parts.proofs.ChainRelations.{chunk_found, chunk_only}
 use Rattle.zarrs_codec_chain.proofs.codec_chain.CodecChain.decode.Goals as goal
 
-pub returns-clause-found : goal.returns-clause-found
-returns-clause-found g c =
-    chunk_found c.chain_decode.result g.B.BytesToBytesCodecTraits.functions (plain_chain c.args.self.now) c.args.shape.now c.args.data_type.now c.args.fill_value.now (raw_of c.args.value).items c.chain_is_sound.ensures.mappings (subst (All (λ size. 0 < size)) c.as_slice.ensures.sizes c.as_slice.ensures.positive) c.chain_decode.ensures.exact
-
-pub returns-clause-only : goal.returns-clause-only
-returns-clause-only g c =
-    chunk_only c.chain_decode.result g.B.BytesToBytesCodecTraits.functions (plain_chain c.args.self.now) c.args.shape.now c.args.data_type.now c.args.fill_value.now (raw_of c.args.value).items c.chain_is_sound.ensures.mappings (subst (All (λ size. 0 < size)) c.as_slice.ensures.sizes c.as_slice.ensures.positive) c.chain_decode.ensures.exact
+pub returns : goal.returns
+returns g c = record {
+  decodes = record {
+    found =
+        chunk_found c.chain_decode.result g.B.BytesToBytesCodecTraits.functions (plain_chain c.args.self.now) c.args.shape.now c.args.data_type.now c.args.fill_value.now (raw_of c.args.value).items c.chain_is_sound.ensures.mappings (subst (All (λ size. 0 < size)) c.as_slice.ensures.sizes c.as_slice.ensures.positive) c.chain_decode.ensures.exact.is;
+    only =
+        chunk_only c.chain_decode.result g.B.BytesToBytesCodecTraits.functions (plain_chain c.args.self.now) c.args.shape.now c.args.data_type.now c.args.fill_value.now (raw_of c.args.value).items c.chain_is_sound.ensures.mappings (subst (All (λ size. 0 < size)) c.as_slice.ensures.sizes c.as_slice.ensures.positive) c.chain_decode.ensures.exact.is;
+    exact = c.chain_decode.ensures.exact.is;
+    no_fault = c.chain_decode.ensures.exact.no_fault;
+  };
+}

@@ -17,8 +17,11 @@ returns-clause-answer c =
     let encoded = c.in_ok-encoded.encoded in
     let inside = sym ((c.in_ok-check.ensures {u = tt}).answer) in
     let made : map (tuple_of_number encoded) c.in_ok-places.places.items ≡ map (λ tuple. tuple.items) c.in_ok-tuples.tuples.items = ap (map (tuple_of_number encoded)) (sym c.as_slice.ensures.value) ∙ (cc ((c.in_ok-tuples.ensures {u = tt}).answer.is)) in
-    record { is = reshaped_asked c.args.self.now c.args.decoded_shape.now encoded c.in_ok-places.places.items (selection_of c.args.indexer.now) inside (c.in_ok-encoded.ensures {u = tt}).answer.is (c.in_ok-places.ensures {u = tt}).places.is c.in_ok-len.field-0 (sym ((c.in_ok-len.ensures {u = tt}).answer))
-    ∙ ap (λ ts. Ok (indices ts)) made; no_fault = search rules }
+    record {
+      is = reshaped_asked c.args.self.now c.args.decoded_shape.now encoded c.in_ok-places.places.items (selection_of c.args.indexer.now) inside (c.in_ok-encoded.ensures {u = tt}).answer.is (c.in_ok-places.ensures {u = tt}).places.is c.in_ok-len.field-0 (sym ((c.in_ok-len.ensures {u = tt}).answer))
+          ∙ ap (λ ts. Ok (indices ts)) made;
+      no_fault = search rules;
+    }
 
 pub returns-clause-places : goal.returns-clause-places
 returns-clause-places c =
