@@ -11,13 +11,21 @@ use zarrs_codec::{ArrayToArrayCodecTraits, PartialDecoderCapability, PartialEnco
 use zarrs_data_type::{DataType, FillValue};
 
 /// A container's bytes or a refusal, as plain data.
-pub(crate) fn bytes_of<'a>(
-    came: &'a Result<ArrayBytes<'_>, CodecError>,
-) -> Result<&'a [u8], CodecError> {
+fn bytes_of<'a>(came: &'a Result<ArrayBytes<'_>, CodecError>) -> Result<&'a [u8], CodecError> {
     match came {
         Ok(elements) => elements.as_fixed(),
         Err(cause) => Err(*cause),
     }
+}
+
+/// The container has these bytes, or this is the refusal.
+pub(crate) fn has_bytes(
+    rt: &impl Abort,
+    about: &str,
+    came: Result<ArrayBytes<'_>, CodecError>,
+    wanted: &Result<&[u8], CodecError>,
+) -> Result<(), CodecError> {
+    answers(rt, about, &bytes_of(&came), wanted)
 }
 
 pub(crate) fn encodes<C: ArrayToArrayCodecTraits>(
@@ -30,7 +38,7 @@ pub(crate) fn encodes<C: ArrayToArrayCodecTraits>(
     wanted: &Result<&[u8], CodecError>,
 ) -> Result<(), CodecError> {
     let came = codec.encode(alloc, chunk, &form.shape, &form.data_type, &form.fill_value);
-    answers(rt, about, &bytes_of(&came), wanted)
+    has_bytes(rt, about, came, wanted)
 }
 
 pub(crate) fn decodes<C: ArrayToArrayCodecTraits>(
@@ -43,11 +51,11 @@ pub(crate) fn decodes<C: ArrayToArrayCodecTraits>(
     wanted: &Result<&[u8], CodecError>,
 ) -> Result<(), CodecError> {
     let came = codec.decode(alloc, chunk, &form.shape, &form.data_type, &form.fill_value);
-    answers(rt, about, &bytes_of(&came), wanted)
+    has_bytes(rt, about, came, wanted)
 }
 
 /// The chunk is encoded to these bytes, and they are decoded to the chunk: owned bytes and lent ones.
-pub(crate) fn moves<C: ArrayToArrayCodecTraits>(
+fn moves<C: ArrayToArrayCodecTraits>(
     rt: &impl Abort,
     alloc: Global,
     about: &str,
@@ -167,6 +175,16 @@ fn shapes<C: ArrayToArrayCodecTraits>(
     answers(rt, about, &came, &mapped.decoded)
 }
 
+fn are_places(
+    rt: &impl Abort,
+    about: &str,
+    came: Result<Vec<u64>, CodecError>,
+    mapped: &Mapped,
+) -> Result<(), CodecError> {
+    let places = came?;
+    answers(rt, about, &Ok(places.as_slice()), &mapped.places)
+}
+
 /// The places in the encoded chunk that the indexer of it means.
 fn has_places(
     rt: &impl Abort,
@@ -176,8 +194,7 @@ fn has_places(
     mapped: &Mapped,
 ) -> Result<(), CodecError> {
     let encoded = shape(alloc, mapped.encoded?)?;
-    let places = indexer.places(alloc, &encoded)?;
-    answers(rt, about, &Ok(places.as_slice()), &mapped.places)
+    are_places(rt, about, indexer.places(alloc, &encoded), mapped)
 }
 
 /// What is asked of a chunk of this shape has these places in the encoded one.

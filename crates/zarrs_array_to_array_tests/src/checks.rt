@@ -32,7 +32,6 @@ pub(crate) fn shape(alloc: Global, sizes: &[u64]) -> Result<ChunkShape, CodecErr
 }
 
 /// Which elements are meant, as plain data.
-#[derive(Clone, Copy)]
 pub(crate) enum Asked<'a> {
     Ranges(&'a [Range<u64>]),
     Tuples(&'a [&'a [u64]]),

@@ -28,7 +28,6 @@ pub(crate) fn codec(alloc: Global, text: &str) -> Result<ArrayToArrayCodec, Plug
 }
 
 /// A type of elements.
-#[derive(Clone, Copy)]
 pub(crate) enum Type {
     Byte,
     Word,
@@ -37,7 +36,7 @@ pub(crate) enum Type {
     OptionalByte,
 }
 
-fn data_type(alloc: Global, told: Type) -> Result<DataType, CodecError> {
+fn data_type(alloc: Global, told: &Type) -> Result<DataType, CodecError> {
     match told {
         Type::Byte => Ok(DataType::uint8()),
         Type::Word => Ok(DataType::uint16()),
@@ -48,7 +47,6 @@ fn data_type(alloc: Global, told: Type) -> Result<DataType, CodecError> {
 }
 
 /// A chunk: its sizes, the type of its elements, and its fill value.
-#[derive(Clone, Copy)]
 pub(crate) struct Chunk<'a> {
     pub(crate) sizes: &'a [u64],
     pub(crate) data_type: Type,
@@ -65,7 +63,7 @@ pub(crate) struct ChunkForm {
 
 pub(crate) fn chunk_form(alloc: Global, chunk: &Chunk<'_>) -> Result<ChunkForm, CodecError> {
     let shape = shape(alloc, chunk.sizes)?;
-    let data_type = data_type(alloc, chunk.data_type)?;
+    let data_type = data_type(alloc, &chunk.data_type)?;
     let fill_value = FillValue::new(chunk.fill.to_vec(alloc)?);
     Ok(ChunkForm {
         shape,

@@ -4,7 +4,7 @@
 use crate::calls::{decodes, encodes};
 use crate::checks::{Asked, answers};
 use crate::forms::{Chunk, ChunkForm, Type, chunk_form, lent, owned};
-use crate::metadata::transpose_of;
+use crate::metadata::copied_transpose_of;
 use crate::stages::{Input, Made, input, reads};
 use std::alloc::Global;
 use std::process::Abort;
@@ -131,17 +131,19 @@ const LINE: Chunk<'static> = Chunk {
     fill: &[0],
 };
 
+const PART: Asked<'static> = Asked::Ranges(&[1..3]);
+
 /// The cause is this one, and the input that is handed back reads the line.
 fn hands_back(
     rt: &impl Abort,
     alloc: Global,
-    refused: Refused<Input>,
+    mut refused: Refused<Input>,
     row: &Row,
 ) -> Result<(), CodecError> {
-    let Refused { error, mut handle } = refused;
-    answers(rt, row.name, &Err(error), &row.made)?;
-    let asked = Asked::Ranges(&[1..3]);
-    reads(rt, alloc, row.name, &mut handle, &asked, &Ok(&[1, 2]))
+    let handle = &mut refused.handle;
+    let read = reads(rt, alloc, row.name, handle, &PART, &Ok(&[1, 2]));
+    answers(rt, row.name, &Err(refused.error), &row.made)?;
+    read
 }
 
 /// A stage is made, or the refusal has its input.
@@ -162,10 +164,11 @@ fn makes(
     alloc: Global,
     codec: &TransposeCodec,
     form: &ChunkForm,
+    line: &ChunkForm,
     row: &Row,
 ) -> Result<(), CodecError> {
-    let line = input(alloc, &LINE, &[0, 1, 2])?;
-    let made = codec.partial_decoder(alloc, line, &form.shape, &form.data_type, &form.fill_value);
+    let below = input(alloc, line, &[0, 1, 2])?;
+    let made = codec.partial_decoder(alloc, below, &form.shape, &form.data_type, &form.fill_value);
     is_made(rt, alloc, made, row)
 }
 
@@ -173,18 +176,29 @@ fn is_refused(
     rt: &impl Abort,
     alloc: Global,
     codec: &TransposeCodec,
+    line: &ChunkForm,
     row: &Row,
 ) -> Result<(), CodecError> {
     let form = chunk_form(alloc, &row.chunk)?;
     isnt_moved(rt, alloc, codec, &form, row)?;
-    makes(rt, alloc, codec, &form, row)
+    makes(rt, alloc, codec, &form, line, row)
+}
+
+fn are_refused(
+    rt: &impl Abort,
+    alloc: Global,
+    codec: &TransposeCodec,
+    rows: &[Row],
+) -> Result<(), CodecError> {
+    let line = chunk_form(alloc, &LINE)?;
+    for row in rows.iter() {
+        is_refused(rt, alloc, codec, &line, row)?;
+    }
+    Ok(())
 }
 
 #[test]
 fn chunks_are_refused_by_the_first_cause(rt: HostRuntime) -> Result<(), Fail> {
-    let codec = transpose_of(rt.alloc(), &[1, 0])?;
-    for row in REFUSED.iter() {
-        is_refused(&rt, rt.alloc(), &codec, row)?;
-    }
-    Ok(())
+    let codec = copied_transpose_of(rt.alloc(), &[1, 0])?;
+    Ok(are_refused(&rt, rt.alloc(), &codec, REFUSED)?)
 }

@@ -1,10 +1,10 @@
 //! Stages of the codecs over an input of `bytes` in memory, which reads and writes: what they tell, read
 //! and write, each by the call of the traits.
 
-use crate::calls::bytes_of;
+use crate::calls::has_bytes;
 use crate::checks::{Asked, answers, indexer, is};
 use crate::examples::{Example, Step};
-use crate::forms::{Chunk, chunk_form, lent};
+use crate::forms::{ChunkForm, chunk_form, lent};
 use std::alloc::Global;
 use std::process::Abort;
 use zarrs_array_to_array::ArrayToArrayCodecPartial;
@@ -21,9 +21,17 @@ pub(crate) type Input = BytesCodecPartial<MemoryHandle>;
 /// The stage of a codec, or why it wasn't made, with the input.
 pub(crate) type Made<C> = Result<ArrayToArrayCodecPartial<C, Input>, Refused<Input>>;
 
+/// A codec that has stages.
+pub(crate) trait Staged: ArrayToArrayCodecTraits + Drop {
+    /// The stage that is made to read.
+    fn reader(&self, alloc: Global, below: Input, form: &ChunkForm) -> Made<Self>;
+
+    /// The stage that is made to write too.
+    fn writer(&self, alloc: Global, below: Input, form: &ChunkForm) -> Made<Self>;
+}
+
 /// The coder of such encoded chunks in part, the highest byte of an element first, over this value.
-pub(crate) fn input(alloc: Global, encoded: &Chunk<'_>, value: &[u8]) -> Result<Input, CodecError> {
-    let form = chunk_form(alloc, encoded)?;
+pub(crate) fn input(alloc: Global, form: &ChunkForm, value: &[u8]) -> Result<Input, CodecError> {
     let handle = MemoryHandle::with_value(value.to_vec(alloc)?);
     match BytesCodec::big().partial_encoder(
         alloc,
@@ -46,8 +54,8 @@ pub(crate) fn reads<D: ArrayPartialDecoderTraits>(
     asked: &Asked<'_>,
     wanted: &Result<&[u8], CodecError>,
 ) -> Result<(), CodecError> {
-    let came = decoder.partial_decode(alloc, &indexer(alloc, asked)?);
-    answers(rt, about, &bytes_of(&came), wanted)
+    let asked = indexer(alloc, asked)?;
+    has_bytes(rt, about, decoder.partial_decode(alloc, &asked), wanted)
 }
 
 /// A write of these elements has this answer.
@@ -60,7 +68,8 @@ fn writes<E: ArrayPartialEncoderTraits>(
     elements: &[u8],
     wanted: &Result<(), CodecError>,
 ) -> Result<(), CodecError> {
-    let came = encoder.partial_encode(alloc, &indexer(alloc, at)?, &lent(elements));
+    let at = indexer(alloc, at)?;
+    let came = encoder.partial_encode(alloc, &at, &lent(elements));
     answers(rt, about, &came, wanted)
 }
 
@@ -72,10 +81,14 @@ fn tells<E: ArrayPartialEncoderTraits>(
 ) -> Result<(), CodecError> {
     let size = stage.data_type().fixed_size();
     is(rt, example.name, &size, &Some(example.chunk.fill.len()));
-    is(rt, example.name, &stage.size_held(), &example.value.len());
-    is(rt, example.name, &stage.supports_partial_decode(), &true);
-    is(rt, example.name, &stage.supports_partial_encode(), &true);
-    is(rt, example.name, &stage.exists()?, &true);
+    let told = (
+        stage.size_held(),
+        stage.supports_partial_decode(),
+        stage.supports_partial_encode(),
+        stage.exists()?,
+    );
+    let wanted = (example.value.len(), true, true, true);
+    is(rt, example.name, &told, &wanted);
     Ok(())
 }
 
@@ -114,16 +127,25 @@ fn does_steps<E: ArrayPartialEncoderTraits>(
     Ok(())
 }
 
-/// The handle under the input has the value that is left.
-fn is_left(rt: &impl Abort, input: Input, example: &Example) {
+/// The handle has the value that is left.
+fn has_left(rt: &impl Abort, handle: &MemoryHandle, example: &Example) {
+    let came = (handle.value(), handle.write_calls());
+    let wanted = (Some(example.left), example.writing_calls);
+    is(rt, example.name, &came, &wanted);
+}
+
+/// What is left under the input, once all is done.
+fn is_left(
+    rt: &impl Abort,
+    done: Result<(), CodecError>,
+    input: Input,
+    example: &Example,
+) -> Result<(), CodecError> {
     let handle = input.into_handle();
-    is(rt, example.name, &handle.value(), &Some(example.left));
-    is(
-        rt,
-        example.name,
-        &handle.write_calls(),
-        &example.writing_calls,
-    );
+    if done.is_ok() {
+        has_left(rt, &handle, example);
+    }
+    done
 }
 
 /// The stage does what the example says.
@@ -133,13 +155,12 @@ fn finishes<C: ArrayToArrayCodecTraits + Drop>(
     mut stage: ArrayToArrayCodecPartial<C, Input>,
     example: &Example,
 ) -> Result<(), CodecError> {
-    does_steps(rt, alloc, &mut stage, example)?;
-    is_left(rt, stage.into_input(), example);
-    Ok(())
+    let done = does_steps(rt, alloc, &mut stage, example);
+    is_left(rt, done, stage.into_input(), example)
 }
 
 /// The stage is made and does what the example says.
-pub(crate) fn works<C: ArrayToArrayCodecTraits + Drop>(
+fn works<C: ArrayToArrayCodecTraits + Drop>(
     rt: &impl Abort,
     alloc: Global,
     made: Made<C>,
@@ -149,4 +170,31 @@ pub(crate) fn works<C: ArrayToArrayCodecTraits + Drop>(
         Ok(stage) => finishes(rt, alloc, stage, example),
         Err(refused) => Err(refused.error),
     }
+}
+
+/// The stages of the codec do what the example says, each over an input of its own.
+fn do_both<C: Staged>(
+    rt: &impl Abort,
+    alloc: Global,
+    codec: &C,
+    form: &ChunkForm,
+    encoded: &ChunkForm,
+    example: &Example,
+) -> Result<(), CodecError> {
+    let below = input(alloc, encoded, example.value)?;
+    works(rt, alloc, codec.reader(alloc, below, form), example)?;
+    let below = input(alloc, encoded, example.value)?;
+    works(rt, alloc, codec.writer(alloc, below, form), example)
+}
+
+/// The codec's stages read and write.
+pub(crate) fn read_and_write<C: Staged>(
+    rt: &impl Abort,
+    alloc: Global,
+    codec: &C,
+    form: &ChunkForm,
+    example: &Example,
+) -> Result<(), CodecError> {
+    let encoded = chunk_form(alloc, &example.encoded)?;
+    do_both(rt, alloc, codec, form, &encoded, example)
 }

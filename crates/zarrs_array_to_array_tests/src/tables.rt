@@ -1,21 +1,25 @@
-//! Shapes and indexers of encoded chunks, through the enum of the codecs, where they are of another kind
-//! than in the examples.
+//! Codecs of metadata, through the enum of the codecs: what is written of them, and shapes and indexers
+//! of encoded chunks, where they are of another kind than in the examples.
 
 use crate::calls::maps;
 use crate::checks::Asked;
 use crate::examples::Mapped;
-use crate::forms::{SQUEEZE, TURN, codec};
+use crate::forms::{SQUEEZE, TURN, codec, metadata};
+use crate::metadata::{SQUEEZE_WRITTEN, is_written};
 use std::alloc::Global;
 use std::process::Abort;
 use std::test::Fail;
+use zarrs_array_to_array::ArrayToArrayCodec;
 use zarrs_chunk::CodecError;
+use zarrs_metadata::PluginCreateError;
 
 const AXES: CodecError = CodecError::IncompatibleDimensionality;
 
-/// A codec by its metadata, and what it maps.
+/// A codec by its metadata, what is written of it where that is another text, and what it maps.
 struct Row {
     name: &'static str,
     codec: &'static str,
+    written: Option<&'static str>,
     mapped: Mapped,
 }
 
@@ -23,6 +27,7 @@ const ROWS: &'static [Row] = &[
     Row {
         name: "the last axis comes first",
         codec: r#"{"name":"transpose","configuration":{"order":[2,0,1]}}"#,
+        written: None,
         mapped: Mapped {
             sizes: &[2, 3, 4],
             encoded: Ok(&[4, 2, 3]),
@@ -32,8 +37,9 @@ const ROWS: &'static [Row] = &[
         },
     },
     Row {
-        name: "no axes",
-        codec: r#"{"name":"transpose","configuration":{"order":[]}}"#,
+        name: "no axes, and what is passed over",
+        codec: r#"{"name":"transpose","configuration":{"order":[],"x":"C"},"must_understand":false}"#,
+        written: Some(r#"{"configuration":{"order":[]},"name":"transpose"}"#),
         mapped: Mapped {
             sizes: &[],
             encoded: Ok(&[]),
@@ -45,6 +51,7 @@ const ROWS: &'static [Row] = &[
     Row {
         name: "an empty region is turned",
         codec: TURN,
+        written: Some(r#"{"configuration":{"order":[1,0]},"name":"transpose"}"#),
         mapped: Mapped {
             sizes: &[2, 3],
             encoded: Ok(&[3, 2]),
@@ -56,6 +63,7 @@ const ROWS: &'static [Row] = &[
     Row {
         name: "an order of fewer axes",
         codec: TURN,
+        written: None,
         mapped: Mapped {
             sizes: &[2, 3, 4],
             encoded: Err(AXES),
@@ -67,6 +75,7 @@ const ROWS: &'static [Row] = &[
     Row {
         name: "the region comes before the order, which has two axes",
         codec: TURN,
+        written: None,
         mapped: Mapped {
             sizes: &[2],
             encoded: Err(AXES),
@@ -78,6 +87,7 @@ const ROWS: &'static [Row] = &[
     Row {
         name: "the last axis before the others",
         codec: r#"{"name":"reshape","configuration":{"shape":[[2],[0,1]]}}"#,
+        written: None,
         mapped: Mapped {
             sizes: &[2, 3, 4],
             encoded: Ok(&[4, 6]),
@@ -87,19 +97,21 @@ const ROWS: &'static [Row] = &[
         },
     },
     Row {
-        name: "what is left between two axes, and a tuple that comes twice",
-        codec: r#"{"name":"reshape","configuration":{"shape":[[0],-1,[3]]}}"#,
+        name: "all forms of a size, and a tuple that comes twice",
+        codec: r#"{"name":"reshape","configuration":{"shape":[[0,1],-1,[3],10]}}"#,
+        written: Some(r#"{"configuration":{"shape":[[0,1],-1,[3],10]},"name":"reshape"}"#),
         mapped: Mapped {
-            sizes: &[5, 4, 4, 3],
-            encoded: Ok(&[5, 16, 3]),
+            sizes: &[2, 3, 20, 4],
+            encoded: Ok(&[6, 2, 4, 10]),
             decoded: Ok(None),
-            asked: Asked::Tuples(&[&[4, 3, 3, 2], &[0, 0, 0, 1], &[4, 3, 3, 2]]),
-            places: Ok(&[239, 1, 239]),
+            asked: Asked::Tuples(&[&[1, 2, 19, 3], &[0, 0, 0, 1], &[1, 2, 19, 3]]),
+            places: Ok(&[479, 1, 479]),
         },
     },
     Row {
         name: "the product of no axes",
         codec: r#"{"name":"reshape","configuration":{"shape":[[],[0]]}}"#,
+        written: None,
         mapped: Mapped {
             sizes: &[4],
             encoded: Ok(&[1, 4]),
@@ -111,6 +123,7 @@ const ROWS: &'static [Row] = &[
     Row {
         name: "no axis 4",
         codec: r#"{"name":"reshape","configuration":{"shape":[-1,2,2,[4]]}}"#,
+        written: None,
         mapped: Mapped {
             sizes: &[5, 4, 4, 3],
             encoded: Err(CodecError::ReshapeDimension),
@@ -122,6 +135,7 @@ const ROWS: &'static [Row] = &[
     Row {
         name: "the region comes before the sizes, as 240 elements aren't 8",
         codec: r#"{"name":"reshape","configuration":{"shape":[2,2,2]}}"#,
+        written: None,
         mapped: Mapped {
             sizes: &[5, 4, 4, 3],
             encoded: Err(CodecError::ReshapeElements),
@@ -133,6 +147,7 @@ const ROWS: &'static [Row] = &[
     Row {
         name: "a region of two axes among three of one",
         codec: SQUEEZE,
+        written: Some(SQUEEZE_WRITTEN),
         mapped: Mapped {
             sizes: &[1, 4, 1, 4, 1],
             encoded: Ok(&[4, 4]),
@@ -142,8 +157,9 @@ const ROWS: &'static [Row] = &[
         },
     },
     Row {
-        name: "a squeezed tuple outside",
-        codec: SQUEEZE,
+        name: "squeeze by its other name, and a tuple outside",
+        codec: r#"{"name":"https://codec.zarrs.dev/array_to_array/squeeze","configuration":{"x":1}}"#,
+        written: Some(SQUEEZE_WRITTEN),
         mapped: Mapped {
             sizes: &[1, 3],
             encoded: Ok(&[3]),
@@ -155,6 +171,7 @@ const ROWS: &'static [Row] = &[
     Row {
         name: "an empty range along the axis that is left out",
         codec: SQUEEZE,
+        written: Some(SQUEEZE_WRITTEN),
         mapped: Mapped {
             sizes: &[1, 3],
             encoded: Ok(&[3]),
@@ -166,6 +183,7 @@ const ROWS: &'static [Row] = &[
     Row {
         name: "the same where no other axis is, so that one stays",
         codec: SQUEEZE,
+        written: Some(SQUEEZE_WRITTEN),
         mapped: Mapped {
             sizes: &[1, 1],
             encoded: Ok(&[1]),
@@ -177,6 +195,7 @@ const ROWS: &'static [Row] = &[
     Row {
         name: "a range outside along that axis",
         codec: SQUEEZE,
+        written: Some(SQUEEZE_WRITTEN),
         mapped: Mapped {
             sizes: &[1, 1],
             encoded: Ok(&[1]),
@@ -187,13 +206,24 @@ const ROWS: &'static [Row] = &[
     },
 ];
 
+fn is_row_written(
+    rt: &impl Abort,
+    alloc: Global,
+    codec: &ArrayToArrayCodec,
+    row: &Row,
+) -> Result<(), PluginCreateError> {
+    let wanted = metadata(alloc, row.written.unwrap_or(row.codec))?;
+    is_written(rt, alloc, row.name, codec, &wanted)
+}
+
 fn is_mapped(rt: &impl Abort, alloc: Global, row: &Row) -> Result<(), Fail> {
     let codec = codec(alloc, row.codec)?;
+    is_row_written(rt, alloc, &codec, row)?;
     Ok(maps(rt, alloc, row.name, &codec, &row.mapped)?)
 }
 
 #[test]
-fn shapes_and_indexers_are_mapped(rt: HostRuntime) -> Result<(), Fail> {
+fn codecs_are_written_and_map(rt: HostRuntime) -> Result<(), Fail> {
     for row in ROWS.iter() {
         is_mapped(&rt, rt.alloc(), row)?;
     }

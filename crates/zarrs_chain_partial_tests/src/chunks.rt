@@ -26,8 +26,8 @@ pub(crate) const TEXTS: &'static str =
     r#"{"shape":[2],"data_type":"string","fill_value":"","codecs":[{"name":"zarrs.vlen","configuration":{"index_codecs":[{"name":"bytes","configuration":{"endian":"little"}}],"data_codecs":["bytes"],"index_data_type":"uint64"}}]}"#;
 
 /// The texts "a" and "bc", as they are stored.
-pub(crate) const A_AND_BC: &'static str =
-    "1800000000000000000000000000000001000000000000000300000000000000616263";
+pub(crate) const A_AND_BC: &'static [u8] =
+    b"\x18\0\0\0\0\0\0\0\0\0\0\0\0\0\0\0\x01\0\0\0\0\0\0\0\x03\0\0\0\0\0\0\0abc";
 
 /// Two texts, of whose bytes the four low bits are kept.
 pub(crate) const HALF_BYTES: &'static str =
@@ -103,11 +103,16 @@ fn form_among(alloc: Global, header: &Value) -> Result<Form, Refusal> {
     })
 }
 
+/// Puts the metadata of a codec behind those of a list.
+fn add_metadata(alloc: Global, list: &mut Vec<MetadataV3>, item: &Value) -> Result<(), Refusal> {
+    Ok(list.push(MetadataV3::from_value(alloc, item)?)?)
+}
+
 fn metadatas(alloc: Global, codecs: &Value) -> Result<Vec<MetadataV3>, Refusal> {
     let mut list = Vec::new(alloc);
     if let Value::Array(items) = codecs {
         for item in items {
-            list.push(MetadataV3::from_value(alloc, item)?)?;
+            add_metadata(alloc, &mut list, item)?;
         }
     }
     Ok(list)

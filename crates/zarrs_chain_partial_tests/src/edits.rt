@@ -2,7 +2,7 @@
 
 use crate::checks::{is, is_cause};
 use crate::chunks::{BYTES, Chunk, WITH_LENGTH, chunk_of, part_of};
-use crate::coders::{encoder, made};
+use crate::coders::{Encoder, encoder};
 use crate::failing_handle::{FAILED, FailingHandle, over};
 use std::alloc::Global;
 use std::process::Abort;
@@ -57,24 +57,22 @@ fn edit(alloc: Global, chunk: &Chunk, text: &Option<&str>) -> Result<Edit<'stati
     }
 }
 
+/// Puts an edit behind those of a list.
+fn add(
+    alloc: Global,
+    chunk: &Chunk,
+    all: &mut Vec<Edit<'static>>,
+    text: &Option<&str>,
+) -> Result<(), Refusal> {
+    Ok(all.push(edit(alloc, chunk, text)?)?)
+}
+
 fn edits(alloc: Global, chunk: &Chunk) -> Result<Vec<Edit<'static>>, Refusal> {
     let mut all = Vec::new(alloc);
     for text in LIST.iter() {
-        all.push(edit(alloc, chunk, text)?)?;
+        add(alloc, chunk, &mut all, text)?;
     }
     Ok(all)
-}
-
-/// What the edits come to over a handle, and what is left of it.
-fn run(
-    alloc: Global,
-    chunk: &Chunk,
-    edits: &[Edit<'static>],
-    handle: FailingHandle,
-) -> Result<(EditOutcome, FailingHandle), CodecError> {
-    let mut encoder = made(encoder(alloc, chunk, handle))?;
-    let outcome = run_edits(alloc, &mut encoder, edits);
-    Ok((outcome, encoder.into_handle()))
 }
 
 /// The refusal is the handle's where one of its calls failed. Else the first three edits are accepted,
@@ -112,6 +110,31 @@ fn is_left(rt: &impl Abort, row: &Row, done: usize, handle: &FailingHandle, call
     is(rt, row.name, "writes and value", &came, &wanted);
 }
 
+/// What is left of the edits, and how often the handle failed.
+fn ends(
+    rt: &impl Abort,
+    row: &Row,
+    outcome: &EditOutcome,
+    handle: &FailingHandle,
+    calls_before: u64,
+) -> Result<u64, CodecError> {
+    is_refused(rt, row, outcome, handle.faults == 1)?;
+    is_left(rt, row, outcome.done, handle, calls_before);
+    Ok(handle.faults)
+}
+
+fn runs(
+    rt: &impl Abort,
+    alloc: Global,
+    mut encoder: Encoder<'_>,
+    edits: &[Edit<'static>],
+    row: &Row,
+    calls_before: u64,
+) -> Result<u64, CodecError> {
+    let outcome = run_edits(alloc, &mut encoder, edits);
+    ends(rt, row, &outcome, &encoder.into_handle(), calls_before)
+}
+
 /// Runs the edits over a handle that keeps nothing yet, and fails behind so many calls. The answer is
 /// how often it failed.
 fn fails_behind(
@@ -121,12 +144,12 @@ fn fails_behind(
     edits: &[Edit<'static>],
     row: &Row,
     calls_before: u64,
-) -> Result<u64, Fail> {
+) -> Result<u64, CodecError> {
     let handle = over(alloc, None, calls_before)?;
-    let (outcome, handle) = run(alloc, chunk, edits, handle)?;
-    is_refused(rt, row, &outcome, handle.faults == 1)?;
-    is_left(rt, row, outcome.done, &handle, calls_before);
-    Ok(handle.faults)
+    match encoder(alloc, chunk, handle) {
+        Ok(encoder) => runs(rt, alloc, encoder, edits, row, calls_before),
+        Err(refused) => Err(refused.error),
+    }
 }
 
 /// Runs the edits with the first call failing, the next one, and so on, until none is left to fail.
@@ -136,7 +159,7 @@ fn fails_at_each(
     chunk: &Chunk,
     edits: &[Edit<'static>],
     row: &Row,
-) -> Result<(), Fail> {
+) -> Result<(), CodecError> {
     let mut faults = 1;
     for calls_before in 0..8 {
         faults = fails_behind(rt, alloc, chunk, edits, row, calls_before)?;
@@ -145,10 +168,10 @@ fn fails_at_each(
     Ok(())
 }
 
-fn fails_row(rt: &impl Abort, alloc: Global, row: &Row) -> Result<(), Fail> {
+fn fails_row(rt: &impl Abort, alloc: Global, row: &Row) -> Result<(), Refusal> {
     let chunk = chunk_of(alloc, row.chunk)?;
     let edits = edits(alloc, &chunk)?;
-    fails_at_each(rt, alloc, &chunk, edits.as_slice(), row)
+    Ok(fails_at_each(rt, alloc, &chunk, edits.as_slice(), row)?)
 }
 
 #[test]

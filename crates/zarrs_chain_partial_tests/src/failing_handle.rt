@@ -4,7 +4,6 @@ ghost use Rattle.zarrs_chunk.specs.Answer.{Answers, fault, is_fault};
 ghost use Rattle.zarrs_codec.specs.StorageState.{count_if, last_failure};
 
 use std::alloc::Global;
-use std::test::Fail;
 use zarrs_chunk::{CodecError, StorageError};
 use zarrs_codec::{ByteRange, BytesPartialDecoderTraits, BytesPartialEncoderTraits, MemoryHandle};
 
@@ -28,12 +27,12 @@ pub(crate) const NEVER: u64 = u64::MAX;
 /// A handle that keeps these bytes, or nothing, and fails behind so many calls.
 pub(crate) fn over(
     alloc: Global,
-    value: Option<&str>,
+    value: Option<&[u8]>,
     calls_before: u64,
-) -> Result<FailingHandle, Fail> {
+) -> Result<FailingHandle, CodecError> {
     let memory = match value {
         None => MemoryHandle::new(),
-        Some(text) => MemoryHandle::with_value(hex::decode(alloc, text)?),
+        Some(bytes) => MemoryHandle::with_value(bytes.to_vec(alloc)?),
     };
     Ok(FailingHandle {
         memory,

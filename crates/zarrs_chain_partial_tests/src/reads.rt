@@ -3,15 +3,17 @@
 
 use crate::checks::{is, is_cause, is_plan};
 use crate::chunks::{Chunk, Part, chunk_of, part_of};
-use crate::coders::{Coder, Made, coder_of, handle_of, planned};
+use crate::coders::{Decoder, Encoder, Kind, VlenDecoder, decoder, encoder, vlen_decoder};
 use crate::failing_handle::{FAILED, FailingHandle, over};
 use crate::rows::{ENCODERS, FAILING, NEVER_MADE, OF_VLEN, Row, WITH_CACHE, WITHOUT_CACHE};
 use std::alloc::Global;
 use std::process::Abort;
 use std::test::Fail;
 use zarrs_array_bytes::ArrayBytes;
+use zarrs_chain_json::Refusal;
 use zarrs_chunk::CodecError;
-use zarrs_codec::ArrayPartialDecoderTraits;
+use zarrs_codec::{ArrayPartialDecoderTraits, ByteRange, Refused, SampleBytesCodec};
+use zarrs_codec_chain::{ArrayToBytesCodec, VlenCodec};
 
 /// What was read is what is wanted.
 fn is_read(
@@ -68,7 +70,7 @@ fn tells<D: ArrayPartialDecoderTraits>(
     Ok(())
 }
 
-/// Reads the part twice, and asks the coder for the rest.
+/// The coder should be made. Reads the part twice, and asks the coder for the rest.
 fn answers<D: ArrayPartialDecoderTraits>(
     rt: &impl Abort,
     alloc: Global,
@@ -77,70 +79,168 @@ fn answers<D: ArrayPartialDecoderTraits>(
     part: &Part,
     row: &Row,
 ) -> Result<(), CodecError> {
-    let [_, first, second] = &row.refusals;
+    let [making, first, second] = &row.refusals;
+    is(rt, row.name, "refusal", &None, making);
     reads(rt, alloc, coder, part, row.name, first)?;
     reads(rt, alloc, coder, part, row.name, second)?;
     tells(rt, coder, chunk, row)
 }
 
-fn answers_by_its_trait(
-    rt: &impl Abort,
-    alloc: Global,
-    coder: &mut Coder<'_>,
-    chunk: &Chunk,
-    part: &Part,
-    row: &Row,
-) -> Result<(), CodecError> {
-    match coder {
-        Coder::Decoder(decoder) => answers(rt, alloc, decoder, chunk, part, row),
-        Coder::Encoder(encoder) => answers(rt, alloc, encoder, chunk, part, row),
-        Coder::OfVlen(decoder) => answers(rt, alloc, decoder, chunk, part, row),
-    }
-}
-
+/// What came of planning is what is wanted.
 fn plans(
     rt: &impl Abort,
-    alloc: Global,
-    coder: &Coder<'_>,
-    part: &Part,
+    planned: Result<Option<Vec<ByteRange>>, CodecError>,
     row: &Row,
 ) -> Result<(), CodecError> {
-    let planned = planned(alloc, coder, &part.indexer)?;
+    let planned = planned?;
     is_plan(rt, row.name, planned.as_deref(), row.planned);
     Ok(())
 }
 
-/// The handle keeps the value, wasn't written, and failed where a refusal says so.
-fn is_kept(rt: &impl Abort, handle: &FailingHandle, row: &Row) {
+/// Once the row is done, the handle keeps the value, wasn't written, and failed where a refusal says
+/// so.
+fn is_kept(
+    rt: &impl Abort,
+    done: Result<(), CodecError>,
+    handle: &FailingHandle,
+    row: &Row,
+) -> Result<(), CodecError> {
     let length = handle.memory.value().unwrap_or(&[]).len();
     let came = (length, handle.memory.write_calls(), handle.faults == 1);
     let has_failed = row.refusals.contains(&Some(FAILED));
-    let wanted = (row.value.unwrap_or("").len() / 2, 0, has_failed);
-    is(rt, row.name, "kept, written, failed", &came, &wanted);
+    let wanted = (row.value.unwrap_or(&[]).len(), 0, has_failed);
+    if done.is_ok() {
+        is(rt, row.name, "kept, written, failed", &came, &wanted);
+    }
+    done
 }
 
-/// The coder is made, or the handle comes back.
-fn is_made(
+/// The coder isn't made for this cause, and the handle comes back.
+fn is_refused(
+    rt: &impl Abort,
+    refused: Refused<FailingHandle>,
+    row: &Row,
+) -> Result<(), CodecError> {
+    let [making, _, _] = &row.refusals;
+    let done = is_cause(rt, row.name, Some(refused.error), making);
+    is_kept(rt, done, &refused.handle, row)
+}
+
+fn asks_decoder(
     rt: &impl Abort,
     alloc: Global,
-    made: Made<Coder<'_>>,
+    decoder: &mut Decoder<'_>,
     chunk: &Chunk,
     part: &Part,
     row: &Row,
 ) -> Result<(), CodecError> {
-    let [making, _, _] = &row.refusals;
-    match made {
-        Ok(mut coder) => {
-            is(rt, row.name, "refusal", &None, making);
-            answers_by_its_trait(rt, alloc, &mut coder, chunk, part, row)?;
-            plans(rt, alloc, &coder, part, row)?;
-            is_kept(rt, &handle_of(coder), row);
-            Ok(())
-        }
-        Err(refused) => {
-            is_kept(rt, &refused.handle, row);
-            is_cause(rt, row.name, Some(refused.error), making)
-        }
+    answers(rt, alloc, decoder, chunk, part, row)?;
+    plans(rt, decoder.planned_ranges(alloc, &part.indexer), row)
+}
+
+fn decodes(
+    rt: &impl Abort,
+    alloc: Global,
+    mut decoder: Decoder<'_>,
+    chunk: &Chunk,
+    part: &Part,
+    row: &Row,
+) -> Result<(), CodecError> {
+    let done = asks_decoder(rt, alloc, &mut decoder, chunk, part, row);
+    is_kept(rt, done, &decoder.into_handle(), row)
+}
+
+fn by_decoder(
+    rt: &impl Abort,
+    alloc: Global,
+    chunk: &Chunk,
+    part: &Part,
+    row: &Row,
+) -> Result<(), CodecError> {
+    let handle = over(alloc, row.value, row.fails_behind)?;
+    match decoder(alloc, chunk, handle) {
+        Ok(decoder) => decodes(rt, alloc, decoder, chunk, part, row),
+        Err(refused) => is_refused(rt, refused, row),
+    }
+}
+
+fn asks_encoder(
+    rt: &impl Abort,
+    alloc: Global,
+    encoder: &mut Encoder<'_>,
+    chunk: &Chunk,
+    part: &Part,
+    row: &Row,
+) -> Result<(), CodecError> {
+    answers(rt, alloc, encoder, chunk, part, row)?;
+    plans(rt, encoder.planned_ranges(alloc, &part.indexer), row)
+}
+
+fn decodes_by_encoder(
+    rt: &impl Abort,
+    alloc: Global,
+    mut encoder: Encoder<'_>,
+    chunk: &Chunk,
+    part: &Part,
+    row: &Row,
+) -> Result<(), CodecError> {
+    let done = asks_encoder(rt, alloc, &mut encoder, chunk, part, row);
+    is_kept(rt, done, &encoder.into_decoder().into_handle(), row)
+}
+
+fn by_encoder(
+    rt: &impl Abort,
+    alloc: Global,
+    chunk: &Chunk,
+    part: &Part,
+    row: &Row,
+) -> Result<(), CodecError> {
+    let handle = over(alloc, row.value, row.fails_behind)?;
+    match encoder(alloc, chunk, handle) {
+        Ok(encoder) => decodes_by_encoder(rt, alloc, encoder, chunk, part, row),
+        Err(refused) => is_refused(rt, refused, row),
+    }
+}
+
+/// The decoder of a `vlen` codec has no plans.
+fn decodes_by_vlen(
+    rt: &impl Abort,
+    alloc: Global,
+    mut decoder: VlenDecoder<'_>,
+    chunk: &Chunk,
+    part: &Part,
+    row: &Row,
+) -> Result<(), CodecError> {
+    let done = answers(rt, alloc, &mut decoder, chunk, part, row);
+    is_kept(rt, done, &decoder.into_handle(), row)
+}
+
+fn by_vlen(
+    rt: &impl Abort,
+    alloc: Global,
+    codec: &VlenCodec<SampleBytesCodec>,
+    chunk: &Chunk,
+    part: &Part,
+    row: &Row,
+) -> Result<(), CodecError> {
+    let handle = over(alloc, row.value, row.fails_behind)?;
+    match vlen_decoder(alloc, codec, &chunk.form, handle) {
+        Ok(decoder) => decodes_by_vlen(rt, alloc, decoder, chunk, part, row),
+        Err(refused) => is_refused(rt, refused, row),
+    }
+}
+
+/// The chain's codec to bytes has to be `vlen`.
+fn by_codec(
+    rt: &impl Abort,
+    alloc: Global,
+    chunk: &Chunk,
+    part: &Part,
+    row: &Row,
+) -> Result<(), CodecError> {
+    match chunk.chain.array_to_bytes_codec() {
+        ArrayToBytesCodec::Vlen(codec) => by_vlen(rt, alloc, codec, chunk, part, row),
+        _ => Err(CodecError::DataMismatch),
     }
 }
 
@@ -150,19 +250,21 @@ fn reads_of(
     chunk: &Chunk,
     part: &Part,
     row: &Row,
-) -> Result<(), Fail> {
-    let handle = over(alloc, row.value, row.fails_behind)?;
-    let made = coder_of(alloc, row.coder, chunk, handle);
-    Ok(is_made(rt, alloc, made, chunk, part, row)?)
+) -> Result<(), CodecError> {
+    match &row.coder {
+        Kind::Decoder => by_decoder(rt, alloc, chunk, part, row),
+        Kind::Encoder => by_encoder(rt, alloc, chunk, part, row),
+        Kind::OfVlen => by_codec(rt, alloc, chunk, part, row),
+    }
 }
 
-fn reads_row(rt: &impl Abort, alloc: Global, row: &Row) -> Result<(), Fail> {
+fn reads_row(rt: &impl Abort, alloc: Global, row: &Row) -> Result<(), Refusal> {
     let chunk = chunk_of(alloc, row.chunk)?;
     let part = part_of(alloc, &chunk, row.part)?;
-    reads_of(rt, alloc, &chunk, &part, row)
+    Ok(reads_of(rt, alloc, &chunk, &part, row)?)
 }
 
-fn reads_rows(rt: &impl Abort, alloc: Global, rows: &[Row]) -> Result<(), Fail> {
+fn reads_rows(rt: &impl Abort, alloc: Global, rows: &[Row]) -> Result<(), Refusal> {
     for row in rows.iter() {
         reads_row(rt, alloc, row)?;
     }
@@ -171,30 +273,30 @@ fn reads_rows(rt: &impl Abort, alloc: Global, rows: &[Row]) -> Result<(), Fail> 
 
 #[test]
 fn decoders_without_a_cache(rt: HostRuntime) -> Result<(), Fail> {
-    reads_rows(&rt, rt.alloc(), WITHOUT_CACHE)
+    Ok(reads_rows(&rt, rt.alloc(), WITHOUT_CACHE)?)
 }
 
 #[test]
 fn decoders_with_a_cache(rt: HostRuntime) -> Result<(), Fail> {
-    reads_rows(&rt, rt.alloc(), WITH_CACHE)
+    Ok(reads_rows(&rt, rt.alloc(), WITH_CACHE)?)
 }
 
 #[test]
 fn encoders(rt: HostRuntime) -> Result<(), Fail> {
-    reads_rows(&rt, rt.alloc(), ENCODERS)
+    Ok(reads_rows(&rt, rt.alloc(), ENCODERS)?)
 }
 
 #[test]
 fn decoders_of_vlen_codecs(rt: HostRuntime) -> Result<(), Fail> {
-    reads_rows(&rt, rt.alloc(), OF_VLEN)
+    Ok(reads_rows(&rt, rt.alloc(), OF_VLEN)?)
 }
 
 #[test]
 fn over_handles_that_fail(rt: HostRuntime) -> Result<(), Fail> {
-    reads_rows(&rt, rt.alloc(), FAILING)
+    Ok(reads_rows(&rt, rt.alloc(), FAILING)?)
 }
 
 #[test]
 fn that_are_never_made(rt: HostRuntime) -> Result<(), Fail> {
-    reads_rows(&rt, rt.alloc(), NEVER_MADE)
+    Ok(reads_rows(&rt, rt.alloc(), NEVER_MADE)?)
 }

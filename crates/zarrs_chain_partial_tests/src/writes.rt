@@ -5,11 +5,12 @@ use crate::checks::{is, is_cause};
 use crate::chunks::{
     A_AND_BC, BYTES, Chunk, FOUR_BITS, Part, TEXTS, TURNED_TWICE, WITH_LENGTH, chunk_of, part_of,
 };
-use crate::coders::{Encoder, encoder, made};
+use crate::coders::{Encoder, encoder};
 use crate::failing_handle::{FailingHandle, NEVER, over};
 use std::alloc::Global;
 use std::process::Abort;
 use std::test::Fail;
+use zarrs_chain_json::Refusal;
 use zarrs_chunk::CodecError;
 use zarrs_codec::ArrayPartialEncoderTraits;
 
@@ -19,7 +20,7 @@ use zarrs_codec::ArrayPartialEncoderTraits;
 struct Row {
     name: &'static str,
     chunk: &'static str,
-    value: Option<&'static str>,
+    value: Option<&'static [u8]>,
     part: &'static str,
     refusal: Option<CodecError>,
     in_part: bool,
@@ -32,7 +33,9 @@ const ROWS: &'static [Row] = &[
     Row {
         name: "words of axes that are turned twice",
         chunk: TURNED_TWICE,
-        value: Some("0000000000000001000000040000000500000002000000030000000600000007"),
+        value: Some(
+            b"\0\0\0\0\0\0\0\x01\0\0\0\x04\0\0\0\x05\0\0\0\x02\0\0\0\x03\0\0\0\x06\0\0\0\x07",
+        ),
         part: r#"{"at":{"ranges":[[0,2],[1,2],[0,1]]},"data":["14000000","3c000000"]}"#,
         refusal: None,
         in_part: true,
@@ -42,7 +45,7 @@ const ROWS: &'static [Row] = &[
     Row {
         name: "behind the end of what is stored",
         chunk: BYTES,
-        value: Some("0a"),
+        value: Some(b"\x0a"),
         part: r#"{"at":{"ranges":[[3,4]]},"data":["0d"]}"#,
         refusal: None,
         in_part: true,
@@ -62,7 +65,7 @@ const ROWS: &'static [Row] = &[
     Row {
         name: "one place twice",
         chunk: BYTES,
-        value: Some("0909"),
+        value: Some(b"\x09\x09"),
         part: r#"{"at":{"indices":[[0],[0]]},"data":["01","02"]}"#,
         refusal: None,
         in_part: true,
@@ -72,7 +75,7 @@ const ROWS: &'static [Row] = &[
     Row {
         name: "two places with one element",
         chunk: BYTES,
-        value: Some("0909"),
+        value: Some(b"\x09\x09"),
         part: r#"{"at":{"indices":[[0],[1]]},"data":["01"]}"#,
         refusal: Some(CodecError::DataMismatch),
         in_part: true,
@@ -82,7 +85,7 @@ const ROWS: &'static [Row] = &[
     Row {
         name: "half a byte twice",
         chunk: r#"{"shape":[2],"data_type":"uint4","fill_value":"00","codecs":["packbits"]}"#,
-        value: Some("99"),
+        value: Some(b"\x99"),
         part: r#"{"at":{"indices":[[0],[0]]},"data":["01","02"]}"#,
         refusal: None,
         in_part: false,
@@ -149,37 +152,61 @@ fn erases<E: ArrayPartialEncoderTraits>(
     Ok(())
 }
 
-/// What is left of the handle. Erasing is a writing call too.
-fn is_left(rt: &impl Abort, handle: &FailingHandle, row: &Row) {
-    let came = (handle.memory.write_calls(), handle.writes);
-    let calls = row.calls.wrapping_add(1);
-    is(rt, row.name, "calls", &came, &(calls, calls));
-}
-
-fn writes_and_erases(
+fn writes_and_erases<E: ArrayPartialEncoderTraits>(
     rt: &impl Abort,
     alloc: Global,
-    encoder: Encoder<'_>,
+    encoder: &mut E,
     part: &Part,
     row: &Row,
 ) -> Result<(), CodecError> {
-    let mut encoder = encoder;
-    writes(rt, alloc, &mut encoder, part, row)?;
-    erases(rt, &mut encoder, row)?;
-    is_left(rt, &encoder.into_handle(), row);
-    Ok(())
+    writes(rt, alloc, encoder, part, row)?;
+    erases(rt, encoder, row)
 }
 
-fn writes_of(rt: &impl Abort, alloc: Global, chunk: &Chunk, row: &Row) -> Result<(), Fail> {
-    let part = part_of(alloc, chunk, row.part)?;
+/// What is left of the handle once all is done. Erasing is a writing call too.
+fn is_left(
+    rt: &impl Abort,
+    done: Result<(), CodecError>,
+    handle: &FailingHandle,
+    row: &Row,
+) -> Result<(), CodecError> {
+    let came = (handle.memory.write_calls(), handle.writes);
+    let calls = row.calls.wrapping_add(1);
+    if done.is_ok() {
+        is(rt, row.name, "calls", &came, &(calls, calls));
+    }
+    done
+}
+
+fn encodes(
+    rt: &impl Abort,
+    alloc: Global,
+    mut encoder: Encoder<'_>,
+    part: &Part,
+    row: &Row,
+) -> Result<(), CodecError> {
+    let done = writes_and_erases(rt, alloc, &mut encoder, part, row);
+    is_left(rt, done, &encoder.into_handle(), row)
+}
+
+fn by_encoder(
+    rt: &impl Abort,
+    alloc: Global,
+    chunk: &Chunk,
+    part: &Part,
+    row: &Row,
+) -> Result<(), CodecError> {
     let handle = over(alloc, row.value, NEVER)?;
-    let encoder = made(encoder(alloc, chunk, handle))?;
-    Ok(writes_and_erases(rt, alloc, encoder, &part, row)?)
+    match encoder(alloc, chunk, handle) {
+        Ok(encoder) => encodes(rt, alloc, encoder, part, row),
+        Err(refused) => Err(refused.error),
+    }
 }
 
-fn writes_row(rt: &impl Abort, alloc: Global, row: &Row) -> Result<(), Fail> {
+fn writes_row(rt: &impl Abort, alloc: Global, row: &Row) -> Result<(), Refusal> {
     let chunk = chunk_of(alloc, row.chunk)?;
-    writes_of(rt, alloc, &chunk, row)
+    let part = part_of(alloc, &chunk, row.part)?;
+    Ok(by_encoder(rt, alloc, &chunk, &part, row)?)
 }
 
 #[test]

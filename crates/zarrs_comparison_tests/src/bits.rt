@@ -2,15 +2,15 @@
 //! component up to 70 bits, all first and last bits, all paddings and both signs, whole and in part.
 //! Chunks of narrow components are long enough for the blocks in which the codec moves them.
 
-use crate::checks::{are, head, part};
+use crate::checks::{ChunkForm, are, fill_by_formula, form_of, has_bytes, head, part};
 use std::alloc::Global;
 use std::borrow::CowSlice;
 use std::process::Abort;
 use std::test::Fail;
 use zarrs_array_bytes::ArrayBytes;
-use zarrs_chunk::{ArraySubset, ChunkShape, CodecError, Indexer};
+use zarrs_chunk::{ArraySubset, CodecError, Indexer};
 use zarrs_codec::{MemoryHandle, Refused};
-use zarrs_data_type::{DataType, FillValue};
+use zarrs_data_type::DataType;
 use zarrs_metadata::PackBitsPaddingEncoding;
 use zarrs_packbits::{PackBitsCodec, PackBitsPartialDecoder};
 
@@ -23,17 +23,16 @@ const NARROW: u64 = 8;
 /// Room for the elements of a chunk, and for its value.
 const ROOM: usize = 256;
 
-/// A fill value, of which a component's bytes are taken.
-const FILL: [u8; ROOM] = [0; ROOM];
-
 /// How many elements of one component a chunk has, the width of a component, the bits of it that are
-/// kept, and how they are packed.
-#[derive(Clone, Copy, Debug, PartialEq)]
+/// kept, and how they are packed. Where a case is shown, it is by its width, its first and its last bit
+/// and its turn, which tells how it is packed.
+#[derive(Drop)]
 struct Case {
     elements: u64,
     bits: u64,
     first: u64,
     last: u64,
+    shown: [u64; 4],
     signed: bool,
     padding: PackBitsPaddingEncoding,
 }
@@ -150,40 +149,13 @@ fn unpack_plain_bits(case: &Case, value: &[u8], elements: &mut [u8]) {
     }
 }
 
-/// Some bytes, by a formula.
-fn fill_by_formula(case: &Case, bytes: &mut [u8]) {
-    let mut state = case
-        .bits
+/// What tells the bytes of a case's elements.
+fn seed_of(case: &Case) -> u64 {
+    case.bits
         .wrapping_mul(128)
         .wrapping_add(case.first)
         .wrapping_mul(128)
-        .wrapping_add(case.last);
-    for byte in bytes.iter_mut() {
-        state = state
-            .wrapping_mul(6364136223846793005)
-            .wrapping_add(1442695040888963407);
-        *byte = (state / 1099511627776 % 256) as u8;
-    }
-}
-
-/// What a codec is told of a chunk.
-#[derive(Drop)]
-struct ChunkForm {
-    shape: ChunkShape,
-    data_type: DataType,
-    fill_value: FillValue,
-}
-
-fn chunk_form(alloc: Global, case: &Case) -> Result<ChunkForm, CodecError> {
-    let sizes: &[u64] = &[case.elements];
-    let shape = ChunkShape::new(sizes.to_vec(alloc)?).ok_or(CodecError::OutOfBounds)?;
-    let data_type = DataType::components(case.bits, 1, case.signed)?;
-    let fill_value = FillValue::new(head(&FILL, bytes_for(case.bits)).to_vec(alloc)?);
-    Ok(ChunkForm {
-        shape,
-        data_type,
-        fill_value,
-    })
+        .wrapping_add(case.last)
 }
 
 fn encodes(
@@ -202,7 +174,7 @@ fn encodes(
         &form.data_type,
         &form.fill_value,
     )?;
-    are(rt, "encoded", case, &encoded, value);
+    are(rt, "encoded", &case.shown, &encoded, value);
     Ok(())
 }
 
@@ -221,9 +193,8 @@ fn decodes(
         &form.shape,
         &form.data_type,
         &form.fill_value,
-    )?;
-    are(rt, "decoded", case, came.as_fixed()?, decoded);
-    Ok(())
+    );
+    has_bytes(rt, "decoded", &case.shown, came, decoded)
 }
 
 type Decoder = PackBitsPartialDecoder<MemoryHandle>;
@@ -248,16 +219,6 @@ fn decoder(
     }
 }
 
-fn read(
-    alloc: Global,
-    decoder: &mut Decoder,
-    start: u64,
-    end: u64,
-) -> Result<ArrayBytes<'static>, CodecError> {
-    let subset = ArraySubset::new_with_ranges(alloc, &[start..end])?;
-    decoder.partial_decode(alloc, &Indexer::Subset(subset))
-}
-
 /// The places from the start up to the end are read as the plain body has them.
 fn reads_run(
     rt: &impl Abort,
@@ -268,11 +229,11 @@ fn reads_run(
     end: u64,
     decoded: &[u8],
 ) -> Result<(), CodecError> {
-    let came = read(alloc, decoder, start, end)?;
     let size = bytes_for(case.bits);
     let wanted = part(decoded, size.wrapping_mul(start), size.wrapping_mul(end));
-    are(rt, "read", case, came.as_fixed()?, wanted);
-    Ok(())
+    let asked = Indexer::Subset(ArraySubset::new_with_ranges(alloc, &[start..end])?);
+    let came = decoder.partial_decode(alloc, &asked);
+    has_bytes(rt, "read", &case.shown, came, wanted)
 }
 
 /// All places but the first and the last, and the last.
@@ -317,21 +278,32 @@ fn does_all(
     Ok(())
 }
 
+fn does_case(
+    rt: &impl Abort,
+    alloc: Global,
+    case: &Case,
+    elements: &[u8],
+    value: &[u8],
+    decoded: &[u8],
+) -> Result<(), Fail> {
+    let data_type = DataType::components(case.bits, 1, case.signed)?;
+    let form = form_of(alloc, &[case.elements], data_type)?;
+    does_all(rt, alloc, &form, case, elements, value, decoded)
+}
+
 /// The codec does what the plain body does.
 fn is_alike(rt: &impl Abort, alloc: Global, case: &Case) -> Result<(), Fail> {
     let mut elements = [0u8; ROOM];
-    fill_by_formula(case, &mut elements);
+    fill_by_formula(seed_of(case), &mut elements);
     let mut value = [0u8; ROOM];
     pack_plain_bits(case, &elements, &mut value);
     let value_len = put_plain_padding(case, &mut value);
     let mut decoded = [0u8; ROOM];
     unpack_plain_bits(case, &value, &mut decoded);
     let len = bytes_for(case.bits).wrapping_mul(case.elements);
-    let form = chunk_form(alloc, case)?;
-    does_all(
+    does_case(
         rt,
         alloc,
-        &form,
         case,
         head(&elements, len),
         head(&value, value_len),
@@ -339,28 +311,22 @@ fn is_alike(rt: &impl Abort, alloc: Global, case: &Case) -> Result<(), Fail> {
     )
 }
 
-/// Of narrow components so many that the codec moves them in blocks, with some before and behind.
-fn elements_of(bits: u64) -> u64 {
-    if bits <= NARROW { 141 } else { 5 }
-}
-
-fn padding_at(turn: u64) -> PackBitsPaddingEncoding {
-    match turn % 3 {
-        0 => PackBitsPaddingEncoding::None,
-        1 => PackBitsPaddingEncoding::FirstByte,
-        _ => PackBitsPaddingEncoding::LastByte,
-    }
-}
-
 fn are_alike(rt: &impl Abort, alloc: Global, bits: u64, first: u64, last: u64) -> Result<(), Fail> {
     for turn in 0..6 {
         let case = Case {
-            elements: elements_of(bits),
+            // Of narrow components so many that the codec moves them in blocks, with some before and
+            // behind.
+            elements: if bits <= NARROW { 141 } else { 5 },
             bits,
             first,
             last,
+            shown: [bits, first, last, turn],
             signed: turn % 2 == 1,
-            padding: padding_at(turn),
+            padding: match turn % 3 {
+                0 => PackBitsPaddingEncoding::None,
+                1 => PackBitsPaddingEncoding::FirstByte,
+                _ => PackBitsPaddingEncoding::LastByte,
+            },
         };
         is_alike(rt, alloc, &case)?;
     }

@@ -2,23 +2,23 @@
 //! to four axes whose sizes are 1 to 3, and for all orders of some longer axes, of elements of 1, 2, 3,
 //! 4, 8 and 16 bytes and of texts.
 
-use crate::checks::{are, head, part};
+use crate::checks::{ChunkForm, are, fill_by_formula, form_of, has_bytes, head, part};
 use std::alloc::Global;
 use std::borrow::CowSlice;
 use std::process::Abort;
 use std::test::Fail;
 use zarrs_array_bytes::{ArrayBytes, ArrayBytesOffsets};
 use zarrs_array_to_array::TransposeCodec;
-use zarrs_chunk::{ChunkShape, CodecError};
+use zarrs_chunk::CodecError;
 use zarrs_codec::ArrayToArrayCodecTraits;
-use zarrs_data_type::{DataType, FillValue};
+use zarrs_data_type::DataType;
 use zarrs_metadata::TransposeOrder;
 
 /// Room for the bytes of a chunk.
-const ROOM: usize = 6400;
+const ROOM: usize = 19200;
 
 /// Room for where each text of a chunk starts, and where the last one ends.
-const PLACES: usize = 400;
+const PLACES: usize = 1201;
 
 /// All orders of up to four axes.
 const ORDERS: &'static [&'static [usize]] = &[
@@ -57,7 +57,8 @@ const ORDERS: &'static [&'static [usize]] = &[
     &[3, 2, 1, 0],
 ];
 
-/// Sizes on both sides of those in which the codec moves elements together.
+/// Sizes on both sides of those in which the codec moves elements together: of 16 rows, and of 128 bytes
+/// as elements of 1, 2 and 4 bytes.
 const LONG: &'static [&'static [u64]] = &[
     &[129],
     &[17, 5],
@@ -66,6 +67,29 @@ const LONG: &'static [&'static [u64]] = &[
     &[33, 1, 10],
     &[3, 33, 2],
     &[2, 3, 65],
+    &[2, 5, 3],
+    &[1, 3, 127],
+    &[1, 2, 128],
+    &[2, 1, 129],
+    &[1, 17, 4],
+    &[1, 3, 63],
+    &[1, 3, 64],
+    &[1, 3, 65],
+    &[2, 15, 17],
+    &[1, 16, 16],
+    &[1, 17, 15],
+    &[1, 2, 31],
+    &[2, 3, 32],
+    &[1, 2, 33],
+    &[5, 6, 40],
+    &[2, 3, 127],
+    &[2, 3, 128],
+    &[3, 2, 129],
+    &[17, 1, 5],
+    &[2, 3, 33],
+    &[15, 2, 17],
+    &[16, 2, 16],
+    &[17, 2, 15],
     &[16, 2, 1, 11],
     &[2, 17, 3, 3],
 ];
@@ -74,7 +98,7 @@ const LONG: &'static [&'static [u64]] = &[
 const ELEMENTS: &'static [u64] = &[1, 2, 3, 4, 8, 16];
 
 /// The sizes of a chunk, the order of its axes, and the bytes of an element, which are none for texts.
-#[derive(Clone, Copy, Debug, PartialEq)]
+#[derive(Drop)]
 struct Case<'a> {
     sizes: &'a [u64],
     order: &'a [usize],
@@ -137,17 +161,6 @@ fn put_transposed(case: &Case<'_>, elements: &[u8], moved: &mut [u8]) {
     }
 }
 
-/// Some bytes, by a formula.
-fn fill_by_formula(bytes: &mut [u8]) {
-    let mut state: u64 = 1;
-    for byte in bytes.iter_mut() {
-        state = state
-            .wrapping_mul(6364136223846793005)
-            .wrapping_add(1442695040888963407);
-        *byte = (state / 1099511627776 % 256) as u8;
-    }
-}
-
 /// Texts one behind another, and where each of them starts.
 #[derive(Drop)]
 struct Texts {
@@ -191,39 +204,18 @@ fn plain_text(bytes: &[u8], place: u64) -> &[u8] {
     part(bytes, start, start.wrapping_add(place % 4))
 }
 
-fn texts_of(case: &Case<'_>, bytes: &[u8]) -> Texts {
+/// The texts of the chunk, or of the transposed one.
+fn texts_of(case: &Case<'_>, bytes: &[u8], is_transposed: bool) -> Texts {
     let mut texts = Texts::new();
     for place in 0..plain_count(case.sizes) {
-        texts.push(plain_text(bytes, place));
+        let origin = if is_transposed {
+            plain_origin(case, place)
+        } else {
+            place
+        };
+        texts.push(plain_text(bytes, origin));
     }
     texts
-}
-
-fn transposed_texts_of(case: &Case<'_>, bytes: &[u8]) -> Texts {
-    let mut texts = Texts::new();
-    for place in 0..plain_count(case.sizes) {
-        texts.push(plain_text(bytes, plain_origin(case, place)));
-    }
-    texts
-}
-
-/// What a codec is told of a chunk.
-#[derive(Drop)]
-struct ChunkForm {
-    shape: ChunkShape,
-    data_type: DataType,
-    fill_value: FillValue,
-}
-
-fn form_of(alloc: Global, sizes: &[u64], data_type: DataType) -> Result<ChunkForm, CodecError> {
-    let shape = ChunkShape::new(sizes.to_vec(alloc)?).ok_or(CodecError::OutOfBounds)?;
-    let size = data_type.fixed_size().unwrap_or(0);
-    let fill_value = FillValue::new(vec![in alloc; 0; size]?);
-    Ok(ChunkForm {
-        shape,
-        data_type,
-        fill_value,
-    })
 }
 
 fn encoded<'a>(
@@ -253,28 +245,48 @@ fn lent_texts(alloc: Global, texts: &Texts) -> Result<ArrayBytes<'_>, CodecError
     ArrayBytes::new_vlen(CowSlice::Borrowed(texts.bytes()), offsets)
 }
 
-fn has_bytes(
-    rt: &impl Abort,
-    about: &str,
-    case: &Case<'_>,
-    came: &ArrayBytes<'_>,
-    wanted: &[u8],
-) -> Result<(), CodecError> {
-    are(rt, about, case, came.as_fixed()?, wanted);
-    Ok(())
-}
-
-fn has_texts(
+fn are_texts(
     rt: &impl Abort,
     about: &str,
     case: &Case<'_>,
     came: &ArrayBytes<'_>,
     wanted: &Texts,
 ) -> Result<(), CodecError> {
+    let shown = (case.sizes, case.order);
     let (bytes, offsets) = came.as_variable()?;
-    are(rt, about, case, bytes, wanted.bytes());
-    are(rt, about, case, offsets.as_slice(), wanted.offsets());
+    are(rt, about, &shown, bytes, wanted.bytes());
+    are(rt, about, &shown, offsets.as_slice(), wanted.offsets());
     Ok(())
+}
+
+/// The container that came, if it came, has these texts.
+fn has_texts(
+    rt: &impl Abort,
+    about: &str,
+    case: &Case<'_>,
+    came: Result<ArrayBytes<'_>, CodecError>,
+    wanted: &Texts,
+) -> Result<(), CodecError> {
+    match &came {
+        Ok(texts) => are_texts(rt, about, case, texts, wanted),
+        Err(cause) => Err(*cause),
+    }
+}
+
+fn move_bytes(
+    rt: &impl Abort,
+    alloc: Global,
+    codec: &TransposeCodec,
+    form: &ChunkForm,
+    case: &Case<'_>,
+    elements: &[u8],
+    moved: &[u8],
+) -> Result<(), CodecError> {
+    let shown = (case.sizes, case.order, case.element);
+    let came = encoded(alloc, codec, form, lent(elements));
+    has_bytes(rt, "encoded", &shown, came, moved)?;
+    let came = decoded(alloc, codec, form, lent(moved));
+    has_bytes(rt, "decoded", &shown, came, elements)
 }
 
 fn moves_bytes(
@@ -285,15 +297,24 @@ fn moves_bytes(
     elements: &[u8],
     moved: &[u8],
 ) -> Result<(), CodecError> {
-    let form = form_of(
-        alloc,
-        case.sizes,
-        DataType::components(case.element.wrapping_mul(8), 1, false)?,
-    )?;
-    let came = encoded(alloc, codec, &form, lent(elements))?;
-    has_bytes(rt, "encoded", case, &came, moved)?;
-    let came = decoded(alloc, codec, &form, lent(moved))?;
-    has_bytes(rt, "decoded", case, &came, elements)
+    let data_type = DataType::components(case.element.wrapping_mul(8), 1, false)?;
+    let form = form_of(alloc, case.sizes, data_type)?;
+    move_bytes(rt, alloc, codec, &form, case, elements, moved)
+}
+
+fn move_texts(
+    rt: &impl Abort,
+    alloc: Global,
+    codec: &TransposeCodec,
+    form: &ChunkForm,
+    case: &Case<'_>,
+    texts: &Texts,
+    moved: &Texts,
+) -> Result<(), CodecError> {
+    let came = encoded(alloc, codec, form, lent_texts(alloc, texts)?);
+    has_texts(rt, "encoded texts", case, came, moved)?;
+    let came = decoded(alloc, codec, form, lent_texts(alloc, moved)?);
+    has_texts(rt, "decoded texts", case, came, texts)
 }
 
 fn moves_texts(
@@ -305,10 +326,7 @@ fn moves_texts(
     moved: &Texts,
 ) -> Result<(), CodecError> {
     let form = form_of(alloc, case.sizes, DataType::string())?;
-    let came = encoded(alloc, codec, &form, lent_texts(alloc, texts)?)?;
-    has_texts(rt, "encoded texts", case, &came, moved)?;
-    let came = decoded(alloc, codec, &form, lent_texts(alloc, moved)?)?;
-    has_texts(rt, "decoded texts", case, &came, texts)
+    move_texts(rt, alloc, codec, &form, case, texts, moved)
 }
 
 /// The codec does to elements of one size what the plain body does.
@@ -333,8 +351,8 @@ fn texts_are_alike(
     case: &Case<'_>,
     bytes: &[u8],
 ) -> Result<(), CodecError> {
-    let texts = texts_of(case, bytes);
-    let moved = transposed_texts_of(case, bytes);
+    let texts = texts_of(case, bytes, false);
+    let moved = texts_of(case, bytes, true);
     moves_texts(rt, alloc, codec, case, &texts, &moved)
 }
 
@@ -408,7 +426,7 @@ fn is_alike(rt: &impl Abort, alloc: Global, order: &[usize], bytes: &[u8]) -> Re
 #[test]
 fn move_elements_as_one_at_a_time(rt: HostRuntime) -> Result<(), Fail> {
     let mut bytes = [0u8; ROOM];
-    fill_by_formula(&mut bytes);
+    fill_by_formula(1, &mut bytes);
     for order in ORDERS {
         is_alike(&rt, rt.alloc(), order, &bytes)?;
     }
