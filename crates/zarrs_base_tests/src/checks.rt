@@ -14,13 +14,7 @@ pub(crate) fn is<T: PartialEq + Debug>(rt: &impl Abort, name: &str, came: &T, wa
 
 /// The items that came are those that are wanted.
 pub(crate) fn are<T: PartialEq + Debug>(rt: &impl Abort, name: &str, came: &[T], wanted: &[T]) {
-    assert_eq!(rt; came, wanted, "{name}");
-}
-
-/// A value is equal to its copy and to no value that is unlike it, both ways.
-pub(crate) fn compares<T: PartialEq>(rt: &impl Abort, name: &str, one: &T, copy: &T, unlike: &T) {
-    is(rt, name, &(*one == *copy && *copy == *one), &true);
-    is(rt, name, &(*one != *unlike && *unlike != *one), &true);
+    is(rt, name, &came, &wanted);
 }
 
 /// A shape of these sizes, none of which may be zero.
