@@ -1,5 +1,5 @@
-ghost use Rattle.std.specs.Prelude.{◌≡◌, ◌&&◌, ℕ, List, Option, Ok, Err, IfOk, IfErr, true, false};
-ghost use Rattle.zarrs_chunk.specs.Answer.{Answers, memory, is_fault, seen};
+ghost use Rattle.std.specs.Prelude.{◌≡◌, ◌&&◌, ℕ, List, Ok, Err, IfOk, IfErr};
+ghost use Rattle.zarrs_chunk.specs.Answer.{Answers, memory, seen, Gives};
 ghost use Rattle.zarrs_codec.specs.ArrayReader.{mapped_reader};
 ghost use Rattle.zarrs_codec.specs.ArrayWriter.{mapped_writer};
 ghost use Rattle.zarrs_array_to_array.specs.ArrayToArrayCodecPartial.{codec_of, input_of, sizes_of};
@@ -165,8 +165,7 @@ impl ArrayToArrayCodec {
         data_type: &DataType,
         fill_value: &FillValue,
     ) -> Result<ArrayToArrayCodecPartial<ArrayToArrayCodec, I>, Refused<I>>
-        ensures answer { Answers memory (λ made. made) (outcome result) (seen (λ _. tt) (encoded_form (type_taken (mapping_of self.now) data_type.now) (coordinates_of (mapping_of self.now) shape.now) data_type.now fill_value.now)) }
-        ensures no_fault { is_fault (outcome result) ≡ false }
+        ensures answer { Gives (λ made. made) (outcome result) (seen (λ _. tt) (encoded_form (type_taken (mapping_of self.now) data_type.now) (coordinates_of (mapping_of self.now) shape.now) data_type.now fill_value.now)) }
         ensures form { IfOk result (λ stage. (mapping_of (codec_of stage) ≡ mapping_of self.now) × (sizes_of stage ≡ shape.now)) }
         ensures over { IfOk result (λ stage. input_of stage ≡ input) }
         ensures handed_back { IfErr result (λ refused. refused.handle ≡ input) }
@@ -186,8 +185,7 @@ impl ArrayToArrayCodec {
         data_type: &DataType,
         fill_value: &FillValue,
     ) -> Result<ArrayToArrayCodecPartial<ArrayToArrayCodec, I>, Refused<I>>
-        ensures answer { Answers memory (λ made. made) (outcome result) (seen (λ _. tt) (encoded_form (type_taken (mapping_of self.now) data_type.now) (coordinates_of (mapping_of self.now) shape.now) data_type.now fill_value.now)) }
-        ensures no_fault { is_fault (outcome result) ≡ false }
+        ensures answer { Gives (λ made. made) (outcome result) (seen (λ _. tt) (encoded_form (type_taken (mapping_of self.now) data_type.now) (coordinates_of (mapping_of self.now) shape.now) data_type.now fill_value.now)) }
         ensures form { IfOk result (λ stage. (mapping_of (codec_of stage) ≡ mapping_of self.now) × (sizes_of stage ≡ shape.now)) }
         ensures over { IfOk result (λ stage. input_of stage ≡ input) }
         ensures handed_back { IfErr result (λ refused. refused.handle ≡ input) }

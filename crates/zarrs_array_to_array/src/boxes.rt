@@ -1,5 +1,5 @@
-ghost use Rattle.std.specs.Prelude.{◌≡◌, ◌<◌, ◌^◌, ◌+◌, ℕ, Ok, false, length, map, All, IfOk, slice_index};
-ghost use Rattle.zarrs_chunk.specs.Answer.{Answers, memory, is_fault};
+ghost use Rattle.std.specs.Prelude.{◌≡◌, ◌<◌, ◌^◌, ◌+◌, Ok, length, map, All, IfOk};
+ghost use Rattle.zarrs_chunk.specs.Answer.{Gives};
 ghost use Rattle.zarrs_chunk.specs.ChunkShape.{product};
 ghost use Rattle.zarrs_chunk.specs.Tuples.{box_tuples};
 ghost use Rattle.zarrs_chunk.specs.Indices.{indices_behind as indices_behind_of, box_tuple as box_tuple_of, tuple_of_number};
@@ -12,8 +12,7 @@ use zarrs_chunk::{ArrayIndices, ArraySubset, ChunkShape, CodecError, unravel_ind
 /// The tuple that has this row-major number in a chunk.
 fn tuple_at(alloc: Global, number: u64, shape: &ChunkShape) -> Result<ArrayIndices, CodecError>
     requires { number < product shape.now }
-    ensures answer { Answers memory (λ tuple. tuple.items) result (Ok (tuple_of_number shape.now number)) }
-    ensures no_fault { is_fault result ≡ false }
+    ensures answer { Gives (λ tuple. tuple.items) result (Ok (tuple_of_number shape.now number)) }
 {
     match unravel_index(alloc, number, shape)? {
         None => unreachable!(),
@@ -28,8 +27,7 @@ pub(crate) fn tuples_at(
     shape: &ChunkShape,
 ) -> Result<Vec<ArrayIndices>, CodecError>
     requires { All (λ number. number < product shape.now) numbers.now }
-    ensures answer { Answers memory (λ v. map (λ tuple. tuple.items) v.items) result (Ok (map (tuple_of_number shape.now) numbers.now)) }
-    ensures no_fault { is_fault result ≡ false }
+    ensures answer { Gives (λ v. map (λ tuple. tuple.items) v.items) result (Ok (map (tuple_of_number shape.now) numbers.now)) }
 {
     let mut tuples = Vec::with_capacity(alloc, numbers.len())?;
     for number in numbers {
@@ -69,8 +67,7 @@ fn box_tuple(
     requires axes { length lengths.now ≡ length starts.now }
     requires fits { EndsFit starts.now lengths.now }
     requires known { number < product lengths.now }
-    ensures answer { Answers memory (λ tuple. tuple.items) result (Ok (permuted_of order.now (box_tuple_of starts.now lengths.now number))) }
-    ensures no_fault { is_fault result ≡ false }
+    ensures answer { Gives (λ tuple. tuple.items) result (Ok (permuted_of order.now (box_tuple_of starts.now lengths.now number))) }
 {
     let tuple = tuple_at(alloc, number, lengths)?;
     let indices = indices_behind(alloc, order, starts, tuple.as_slice())?;
@@ -89,8 +86,7 @@ fn first_tuples(
     requires axes { length lengths.now ≡ length starts.now }
     requires fits { EndsFit starts.now lengths.now }
     requires known { product lengths.now ≡ count }
-    ensures answer { Answers memory (λ v. map (λ tuple. tuple.items) v.items) result (Ok (map (permuted_of order.now) (box_tuples starts.now lengths.now))) }
-    ensures no_fault { is_fault result ≡ false }
+    ensures answer { Gives (λ v. map (λ tuple. tuple.items) v.items) result (Ok (map (permuted_of order.now) (box_tuples starts.now lengths.now))) }
 {
     let mut tuples = Vec::with_capacity(alloc, count as usize)?;
     for number in 0..count {
@@ -109,8 +105,7 @@ pub(crate) fn ordered_box(
     requires order { All (λ axis. axis < length subset.now.starts) order.now }
     requires fits { EndsFit subset.now.starts subset.now.lengths }
     requires known { product subset.now.lengths ≡ count }
-    ensures answer { Answers memory (λ v. map (λ tuple. tuple.items) v.items) result (Ok (map (permuted_of order.now) (box_tuples subset.now.starts subset.now.lengths))) }
-    ensures no_fault { is_fault result ≡ false }
+    ensures answer { Gives (λ v. map (λ tuple. tuple.items) v.items) result (Ok (map (permuted_of order.now) (box_tuples subset.now.starts subset.now.lengths))) }
 {
     let lengths = subset.shape();
     if count == 0 {

@@ -1,5 +1,6 @@
 -- The steps of a chain's calls.
-use Rattle.std.proofs.Common.{◌≡◌, ◌&&◌, ℕ, suc, ◌+◌, nat_lt, Bool, true, false, List, [], ◌∷◌, length, Result, Ok, Err, IfOk, Option, refl, ap, sym, subst, ◌∙◌}
+use Rattle.zarrs_data_type.specs.Form.{form_of}
+use Rattle.std.proofs.Common.{◌≡◌, ◌&&◌, ℕ, suc, ◌+◌, nat_lt, Bool, false, List, [], ◌∷◌, length, Result, Ok, Err, IfOk, Option, refl, ap, sym, subst, ◌∙◌}
 use Rattle.std.proofs.lemmas.List.FromFn.{length-map-range_with_len}
 use Rattle.zarrs_chunk.specs.Answer.{◌>>=◌, demand, seen, checked_u64, Answers, AnswersBy, memory}
 use Rattle.zarrs_chunk.specs.ChunkShape.{product}
@@ -75,19 +76,19 @@ measured_so : (s : List ℕ) (r : Result BytesRepresentation CodecError) (error 
 measured_so s (Err cause) error e X g = ap err (cause_is cause error e)
 measured_so s (Ok x) error e X g = absurd cc
 
-form_of : (a : Result CoordinateMap CodecError) (measure : List ℕ → Result BytesRepresentation CodecError) (error : CodecError)
+form_refused : (a : Result CoordinateMap CodecError) (measure : List ℕ → Result BytesRepresentation CodecError) (error : CodecError)
     → seen (λ (m : CoordinateMap). m.encoded) a >>= (λ s. measure s >>= (λ r. form_ok s r)) ≡ err error
     → (X : Type 0) (g : CoordinateMap → BytesRepresentation → Result X CodecError) → a >>= (λ m. measure m.encoded >>= g m) ≡ err error
-form_of (Err cause) measure error e X g = ap err (cause_is cause error e)
-form_of (Ok m) measure error e X g = measured_so m.encoded (measure m.encoded) error e X (g m)
+form_refused (Err cause) measure error e X g = ap err (cause_is cause error e)
+form_refused (Ok m) measure error e X g = measured_so m.encoded (measure m.encoded) error e X (g m)
 
 pub refused_representation : {B : Type 0} (f : BytesCodecs B) (chain : PlainChain B) (sizes : List ℕ) (type : ElementType) (fill : List ℕ) (error : CodecError) → taken_form f chain sizes type fill ≡ Err error → chain_representation f chain sizes type fill ≡ Err error
 refused_representation f chain sizes type fill error e =
-    form_of (arrays_map type chain.arrays sizes) (λ s. codec_representation f chain.codec s type fill) error e BytesRepresentation (λ m r. Ok (outer_representation f chain.outer r))
+    form_refused (arrays_map type chain.arrays sizes) (λ s. codec_representation f chain.codec s type fill) error e BytesRepresentation (λ m r. Ok (outer_representation f chain.outer r))
 
 pub refused_chunk : {B : Type 0} (f : BytesCodecs B) (chain : PlainChain B) (sizes : List ℕ) (type : ElementType) (fill value : List ℕ) (error : CodecError) → taken_form f chain sizes type fill ≡ Err error → chain_chunk f chain sizes type fill value ≡ Err error
 refused_chunk f chain sizes type fill value error e =
-    form_of (arrays_map type chain.arrays sizes) (λ s. codec_representation f chain.codec s type fill) error e Chunk
+    form_refused (arrays_map type chain.arrays sizes) (λ s. codec_representation f chain.codec s type fill) error e Chunk
     (λ m r. outer_bytes f chain.outer r value >>= (λ below. codec_chunk f chain.codec m.encoded type fill below >>= (λ chunk. Ok (moved_chunk (inverse_map sizes m) chunk))))
 
 pub refused_value : {B : Type 0} (f : BytesCodecs B) (chain : PlainChain B) (sizes : List ℕ) (type : ElementType) (fill : List ℕ) (held : Held) (error : CodecError) → taken_form f chain sizes type fill ≡ Err error → held_value f chain sizes type fill held ≡ Err error
@@ -100,7 +101,7 @@ form_representation f chain sizes type fill form e =
 
 -- ---- counts
 
-counted_bytes : (order : Option Endianness) (sizes : List ℕ) (type : ElementType) (fill : List ℕ) (len : ℕ) → bytes_length order sizes type fill ≡ Ok len → checked_u64 (product sizes) ≡ Ok (product sizes)
+counted_bytes : (order : Option Endianness) (sizes : List ℕ) (type : ElementType) (fill : List ℕ) (len : ℕ) → bytes_length order (form_of sizes type fill) ≡ Ok len → checked_u64 (product sizes) ≡ Ok (product sizes)
 counted_bytes order sizes (fixed width components sign) fill len e =
     let a = bind_ok (demand (fill_fits (fixed width components sign) fill) InvalidFillValue) _ len e in
     let b = bind_ok (checked_u64 (product sizes)) _ len a.2 in
@@ -109,9 +110,9 @@ counted_bytes order sizes text fill len e = absurd cc
 counted_bytes order sizes bytes fill len e = absurd cc
 counted_bytes order sizes (optional type) fill len e = absurd cc
 
-counted_packed : (settings : PackBitsSettings) (sizes : List ℕ) (type : ElementType) (fill : List ℕ) (len : ℕ) → packbits_length settings sizes type fill ≡ Ok len → checked_u64 (product sizes) ≡ Ok (product sizes)
+counted_packed : (settings : PackBitsSettings) (sizes : List ℕ) (type : ElementType) (fill : List ℕ) (len : ℕ) → packbits_length settings (form_of sizes type fill) ≡ Ok len → checked_u64 (product sizes) ≡ Ok (product sizes)
 counted_packed settings sizes (fixed width components sign) fill len e =
-    let l = seen_ok value_len (packed_layout settings sizes (fixed width components sign) fill) len e in
+    let l = seen_ok value_len (packed_layout settings (form_of sizes (fixed width components sign) fill)) len e in
     let a = bind_ok (demand (fill_fits (fixed width components sign) fill) InvalidFillValue) _ l.0 l.1 in
     let b = bind_ok (demand (has_bits settings width && nat_lt 0 components) BitRange) _ l.0 a.2 in
     let c = bind_ok (checked_u64 (product sizes)) _ l.0 b.2 in
@@ -124,10 +125,10 @@ counted_packed settings sizes (optional type) fill len e = absurd cc
 codec_counted : {B : Type 0} (f : BytesCodecs B) (codec : PlainCodec B) (sizes : List ℕ) (type : ElementType) (fill : List ℕ) (r : BytesRepresentation) → codec_representation f codec sizes type fill ≡ Ok r → checked_u64 (product sizes) ≡ Ok (product sizes)
 unfolding codec_representation
 codec_counted f (bytes_codec order) sizes type fill r e =
-    let a = seen_ok FixedSize (bytes_length order sizes type fill) r e in
+    let a = seen_ok FixedSize (bytes_length order (form_of sizes type fill)) r e in
     counted_bytes order sizes type fill a.0 a.1
 codec_counted f (packbits_codec settings) sizes type fill r e =
-    let a = seen_ok FixedSize (packbits_length settings sizes type fill) r e in
+    let a = seen_ok FixedSize (packbits_length settings (form_of sizes type fill)) r e in
     counted_packed settings sizes type fill a.0 a.1
 codec_counted f (vlen_codec ia ix ib da dx db wide at_end) sizes type fill r e =
     let a = bind_ok (demand (is_variable type) (UnsupportedDataType name.Vlen)) _ r e in

@@ -1,4 +1,5 @@
 -- What is written for a chunk is what is written for its normal form, by chains with chains inside too.
+use Rattle.zarrs_data_type.specs.Form.{form_of}
 use Rattle.std.proofs.Common.{◌≡◌, ◌↔◌, ℕ, zero, suc, ◌+◌, ◌<◌, ◌^◌, Bool, true, List, [], ◌∷◌, ◌++◌, length, get_or, map, arith, refl, ap, sym, subst, ◌∙◌}
 use Rattle.std.proofs.lemmas.List.{length-map, map-id, map-append}
 use Rattle.std.proofs.lemmas.List.Elements.{All-nil, All-cons, All-head, All-tail}
@@ -214,7 +215,7 @@ kept_optional mask content keep law sizes (optional type) value chunk places eac
 
 -- ---- packbits
 
-kept_packed : (settings : PackBitsSettings) (sizes : List ℕ) (type : ElementType) (fill value : List ℕ) (chunk : Chunk) → AreElements type chunk → PackBitsWritten settings sizes type fill value (normal_chunk settings type chunk) → PackBitsWritten settings sizes type fill value chunk
+kept_packed : (settings : PackBitsSettings) (sizes : List ℕ) (type : ElementType) (fill value : List ℕ) (chunk : Chunk) → AreElements type chunk → PackBitsWritten settings (form_of sizes type fill) value (normal_chunk settings type chunk) → PackBitsWritten settings (form_of sizes type fill) value chunk
 kept_packed settings sizes type fill value chunk each written =
     let l = written.layout in
     let own = value_with l (chunk_stream l chunk) in
@@ -258,7 +259,7 @@ kept_through f arrays measure content outer codec law sizes type fill value chun
 
 codec_kept : {B : Type 0} (f : BytesCodecs B) (codec : PlainCodec B) → WrittenKept (CodecWritten f codec) (normal_element codec)
 unfolding CodecWritten normal_element
-codec_kept f (bytes_codec order) sizes type fill value chunk w = subst (BytesWritten order sizes type fill value) (sym (map-id chunk)) w
+codec_kept f (bytes_codec order) sizes type fill value chunk w = subst (BytesWritten order (form_of sizes type fill) value) (sym (map-id chunk)) w
 codec_kept f (packbits_codec settings) sizes type fill value chunk w = packbits.normal_written settings sizes type fill value chunk w
 codec_kept f (vlen_codec ia ix ib da dx db wide at_end) sizes type fill value chunk w =
     vlen_kept wide at_end (normal_element ix) (normal_element dx) _ _ (kept_is dx) (through_kept f da (codec_representation f dx) (CodecWritten f dx) db dx (codec_kept f dx)) type value chunk w
@@ -267,7 +268,7 @@ codec_kept f (optional_codec ma mx mb da dx db) sizes type fill value chunk w =
 
 kept_codec : {B : Type 0} (f : BytesCodecs B) (codec : PlainCodec B) → KeptSelected (CodecWritten f codec) (normal_element codec)
 unfolding CodecWritten normal_element
-kept_codec f (bytes_codec order) sizes type fill value chunk places each w = subst (BytesWritten order sizes type fill value) (map-id (select chunk places)) w
+kept_codec f (bytes_codec order) sizes type fill value chunk places each w = subst (BytesWritten order (form_of sizes type fill) value) (map-id (select chunk places)) w
 kept_codec f (packbits_codec settings) sizes type fill value chunk places each w = kept_packed settings sizes type fill value (select chunk places) (selected_are settings type chunk places each w.elements.each) w
 kept_codec f (vlen_codec ia ix ib da dx db wide at_end) sizes type fill value chunk places each w =
     kept_vlen wide at_end (normal_element ix) (normal_element dx) _ _ (kept_is dx) (kept_through f da (codec_representation f dx) (CodecWritten f dx) db dx (kept_codec f dx)) type value (select chunk places) w

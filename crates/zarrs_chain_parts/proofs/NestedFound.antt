@@ -1,4 +1,5 @@
 -- What codecs to bytes answer of chunks that they take is written, with chains inside too.
+use Rattle.zarrs_data_type.specs.Form.{form_of}
 use Rattle.std.proofs.Common.{◌≡◌, ℕ, suc, ◌<◌, ◌^◌, nat_eq, nat_lt, if◌then◌else◌, Bool, true, false, List, [], ◌∷◌, length, map, Ok, arith, refl, ap, sym, subst, ◌∙◌}
 use Rattle.std.specs.Cmp.Lexicographic.{pointwise}
 use Rattle.std.specs.List.{All}
@@ -223,10 +224,10 @@ through_found f arrays measure write encode outer mappings law sizes type fill v
 pub value_found : {B : Type 0} (f : BytesCodecs B) (codec : PlainCodec B) → HasMappings codec → FoundsTaken (CodecWritten f codec) (codec_value f codec) (codec_representation f codec)
 unfolding codec_representation codec_value CodecWritten
 value_found f (bytes_codec order) has sizes type fill value chunk r positive is e small h =
-    let a = seen_ok FixedSize (bytes_length order sizes type fill) r e in
+    let a = seen_ok FixedSize (bytes_length order (form_of sizes type fill)) r e in
     record { len = a.0; length_is = a.1; elements = is; value_is = sym (ok_is (spelling order type chunk) value h); small = small }
 value_found f (packbits_codec settings) has sizes type fill value chunk r positive is e small h =
-    let a = bind_ok (packed_layout settings sizes type fill) _ value h in
+    let a = bind_ok (packed_layout settings (form_of sizes type fill)) _ value h in
     record { layout = a.0; taken = a.1; elements = is; spelt = sym (ok_is (value_with a.0 (chunk_stream a.0 chunk)) value a.2) }
 value_found f (vlen_codec ia ix ib da dx db wide at_end) has sizes type fill value chunk r positive is e small h =
     vlen_found wide at_end (normal_element ix) _ _ _ _ (kept_is ix) (through_found f ia (codec_representation f ix) (CodecWritten f ix) (codec_value f ix) ib has.0 (value_found f ix has.1)) (through_found f da (codec_representation f dx) (CodecWritten f dx) (codec_value f dx) db has.2 (value_found f dx has.3))

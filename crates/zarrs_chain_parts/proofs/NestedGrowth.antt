@@ -1,4 +1,5 @@
 -- Of more elements, a representation is no smaller.
+use Rattle.zarrs_data_type.specs.Form.{form_of}
 use Rattle.std.proofs.Common.{◌≡◌, ℕ, ◌+◌, ◌*◌, ◌<◌, ◌≤◌, ◌^◌, nat_lt, if◌then◌else◌, Bool, true, false, Option, Some, None, List, [], ◌∷◌, Ok, arith, refl, ap, sym, subst, ◌∙◌}
 use Rattle.std.specs.List.{All}
 use Rattle.std.proofs.Math.Nat.{mul-le-mul_right}
@@ -44,10 +45,10 @@ size_of n = FixedSize n
 fixed_grows : (m n : ℕ) (r s : BytesRepresentation) → size_of m ≡ r → size_of n ≡ s → m ≤ n → IsAtMost r s
 fixed_grows m n r s a b h = subst (λ (x : BytesRepresentation). IsAtMost r x) b (subst (λ (x : BytesRepresentation). IsAtMost x (FixedSize n)) a h)
 
-bytes_len : (order : Option Endianness) (sizes : List ℕ) (width components : ℕ) (sign : Bool) (fill : List ℕ) (len : ℕ) → bytes_length order sizes (fixed width components sign) fill ≡ Ok len → len ≡ product sizes * element_size width components
+bytes_len : (order : Option Endianness) (sizes : List ℕ) (width components : ℕ) (sign : Bool) (fill : List ℕ) (len : ℕ) → bytes_length order (form_of sizes (fixed width components sign) fill) ≡ Ok len → len ≡ product sizes * element_size width components
 bytes_len order sizes width components sign fill len e = (coding.taken order sizes width components sign fill len e).len_is
 
-bytes_grows : (order : Option Endianness) (sizes others : List ℕ) (type : ElementType) (fill : List ℕ) (m n : ℕ) → product sizes ≤ product others → bytes_length order sizes type fill ≡ Ok m → bytes_length order others type fill ≡ Ok n → m ≤ n
+bytes_grows : (order : Option Endianness) (sizes others : List ℕ) (type : ElementType) (fill : List ℕ) (m n : ℕ) → product sizes ≤ product others → bytes_length order (form_of sizes type fill) ≡ Ok m → bytes_length order (form_of others type fill) ≡ Ok n → m ≤ n
 bytes_grows order sizes others (fixed width components sign) fill m n h a b =
     let one = bytes_len order sizes width components sign fill m a in
     let two = bytes_len order others width components sign fill n b in
@@ -64,10 +65,10 @@ packed_more settings n k width components sign h =
     let bits : n * components * l.count ≤ k * components * l.count = mul-le-mul_right l.count row in
     omega arith
 
-packed_grows : (settings : PackBitsSettings) (sizes others : List ℕ) (type : ElementType) (fill : List ℕ) (m n : ℕ) → product sizes ≤ product others → packbits_length settings sizes type fill ≡ Ok m → packbits_length settings others type fill ≡ Ok n → m ≤ n
+packed_grows : (settings : PackBitsSettings) (sizes others : List ℕ) (type : ElementType) (fill : List ℕ) (m n : ℕ) → product sizes ≤ product others → packbits_length settings (form_of sizes type fill) ≡ Ok m → packbits_length settings (form_of others type fill) ≡ Ok n → m ≤ n
 packed_grows settings sizes others (fixed width components sign) fill m n h a b =
-    let one = seen_ok value_len (packed_layout settings sizes (fixed width components sign) fill) m a in
-    let two = seen_ok value_len (packed_layout settings others (fixed width components sign) fill) n b in
+    let one = seen_ok value_len (packed_layout settings (form_of sizes (fixed width components sign) fill)) m a in
+    let two = seen_ok value_len (packed_layout settings (form_of others (fixed width components sign) fill)) n b in
     let first = packbits.taken settings sizes width components sign fill one.0 one.1 in
     let second = packbits.taken settings others width components sign fill two.0 two.1 in
     let left : value_len (layout_for settings (product sizes) width components sign) ≡ m = sym (ap value_len first.is) ∙ one.2 in
@@ -200,12 +201,12 @@ around_grows f lawful arrays measure outer mappings grows sizes others type fill
 codec_grows : {B : Type 0} (f : BytesCodecs B) → IsLawful f → (codec : PlainCodec B) → HasMappings codec → Grows (codec_representation f codec)
 unfolding codec_representation
 codec_grows f lawful (bytes_codec order) has sizes others type fill r s p q h a b =
-    let one = seen_ok FixedSize (bytes_length order sizes type fill) r a in
-    let two = seen_ok FixedSize (bytes_length order others type fill) s b in
+    let one = seen_ok FixedSize (bytes_length order (form_of sizes type fill)) r a in
+    let two = seen_ok FixedSize (bytes_length order (form_of others type fill)) s b in
     fixed_grows one.0 two.0 r s one.2 two.2 (bytes_grows order sizes others type fill one.0 two.0 h one.1 two.1)
 codec_grows f lawful (packbits_codec settings) has sizes others type fill r s p q h a b =
-    let one = seen_ok FixedSize (packbits_length settings sizes type fill) r a in
-    let two = seen_ok FixedSize (packbits_length settings others type fill) s b in
+    let one = seen_ok FixedSize (packbits_length settings (form_of sizes type fill)) r a in
+    let two = seen_ok FixedSize (packbits_length settings (form_of others type fill)) s b in
     fixed_grows one.0 two.0 r s one.2 two.2 (packed_grows settings sizes others type fill one.0 two.0 h one.1 two.1)
 codec_grows f lawful (vlen_codec ia ix ib da dx db wide at_end) has sizes others type fill r s p q h a b = subst (λ (x : BytesRepresentation). IsAtMost r x) (vlen_unbounded others type fill s b) (unbounded_most r)
 codec_grows f lawful (optional_codec ma mx mb da dx db) has sizes others type fill r s p q h a b =

@@ -1,4 +1,5 @@
 -- Written values are bytes, as many as was said, by chains with chains inside too.
+use Rattle.zarrs_data_type.specs.Form.{form_of}
 use Rattle.std.proofs.Common.{◌≡◌, ℕ, zero, suc, ◌+◌, ◌/◌, ◌<◌, ◌≤◌, ◌^◌, nat_lt, if◌then◌else◌, Bool, true, false, List, [], ◌∷◌, ◌++◌, length, map, Result, Ok, Err, arith, refl, ap, sym, subst, ◌∙◌}
 use Rattle.std.specs.Int.{byte_at, bytes_low_first}
 use Rattle.std.specs.List.{All}
@@ -252,11 +253,11 @@ pub codec_keeps : {B : Type 0} (f : BytesCodecs B) → IsLawful f → (codec : P
 unfolding CodecWritten codec_representation
 codec_keeps f lawful (bytes_codec order) has sizes type fill value chunk r positive long each w e = record {
   each = subst AreBytes (sym w.value_is) (spelling_bytes order type chunk each);
-  keeps = fixed_kept (bytes_length order sizes type fill) r value e (λ len l. has_represented_length order sizes type fill value chunk len w l);
+  keeps = fixed_kept (bytes_length order (form_of sizes type fill)) r value e (λ len l. has_represented_length order sizes type fill value chunk len w l);
 }
 codec_keeps f lawful (packbits_codec settings) has sizes type fill value chunk r positive long each w e = record {
   each = packed_bytes settings sizes type fill value chunk w;
-  keeps = fixed_kept (packbits_length settings sizes type fill) r value e (λ len l. packbits.has_represented_length settings sizes type fill value chunk len w l);
+  keeps = fixed_kept (packbits_length settings (form_of sizes type fill)) r value e (λ len l. packbits.has_represented_length settings sizes type fill value chunk len w l);
 }
 codec_keeps f lawful (vlen_codec ia ix ib da dx db wide at_end) has sizes type fill value chunk r positive long each w e = record {
   each = vlen_are wide at_end (normal_element ix) _ _ _ _

@@ -1,4 +1,5 @@
 -- For a chunk at most one value is written, by chains with chains inside too.
+use Rattle.zarrs_data_type.specs.Form.{form_of}
 use Rattle.std.proofs.Common.{◌≡◌, ℕ, Bool, List, [], ◌∷◌, length, map, ap, sym, subst, ◌∙◌}
 use Rattle.zarrs_data_type.specs.ElementType.{ElementType, fixed, text, bytes, optional}
 use Rattle.zarrs_data_type.specs.Element.{Chunk}
@@ -26,7 +27,7 @@ WritesOnce write =
     (sizes : List ℕ) (type : ElementType) (fill value other : List ℕ) (chunk : Chunk)
     → write sizes type fill value chunk → write sizes type fill other chunk → value ≡ other
 
-packed_once : (settings : PackBitsSettings) → WritesOnce (PackBitsWritten settings)
+packed_once : (settings : PackBitsSettings) → WritesOnce (λ sizes type fill. PackBitsWritten settings (form_of sizes type fill))
 packed_once settings sizes type fill value other chunk one two =
     let same : one.layout ≡ two.layout = ok_is one.layout two.layout (sym one.taken ∙ two.taken) in
     one.spelt ∙ ap (λ l. value_with l (chunk_stream l chunk)) same ∙ sym two.spelt

@@ -1,4 +1,5 @@
 -- What is written for a chunk stands for its normal form, through chains inside too.
+use Rattle.zarrs_data_type.specs.Form.{form_of}
 use Rattle.std.proofs.Common.{◌≡◌, ◌↔◌, ℕ, zero, suc, ◌+◌, ◌<◌, ◌^◌, nat_lt, Bool, true, List, [], ◌∷◌, ◌++◌, length, get_or, map, Ok, arith, refl, ap, sym, subst, ◌∙◌}
 use Rattle.std.specs.List.{All}
 use Rattle.std.proofs.lemmas.List.{length-append, length-map, map-id}
@@ -191,7 +192,7 @@ inner_stands f lawful arrays codec outer mappings has law = through_stands f law
 
 codec_stands : {B : Type 0} (f : BytesCodecs B) → IsLawful f → (codec : PlainCodec B) → HasMappings codec → StandsTaken (CodecWritten f codec) (CodecStands f codec) (codec_representation f codec) (normal_element codec)
 unfolding CodecWritten CodecStands codec_representation normal_element
-codec_stands f lawful (bytes_codec order) has sizes type fill value chunk r positive each h room e w = subst (BytesStands order sizes type fill value) (sym (map-id chunk)) (written_stands order sizes type fill value chunk w)
+codec_stands f lawful (bytes_codec order) has sizes type fill value chunk r positive each h room e w = subst (BytesStands order (form_of sizes type fill) value) (sym (map-id chunk)) (written_stands order sizes type fill value chunk w)
 codec_stands f lawful (packbits_codec settings) has sizes type fill value chunk r positive each h room e w = packbits.written_stands settings sizes type fill value chunk w
 codec_stands f lawful (vlen_codec ia ix ib da dx db wide at_end) has sizes type fill value chunk r positive each h room e w =
     vlen_stands wide at_end (normal_element ix) (normal_element dx) _ _ _ _ (inner_stands f lawful ia ix ib has.0 has.1 (codec_stands f lawful ix has.1)) (inner_stands f lawful da dx db has.2 has.3 (codec_stands f lawful dx has.3)) (kept_is dx) (vlen_is (normal_element dx))

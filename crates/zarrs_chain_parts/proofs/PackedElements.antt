@@ -1,4 +1,5 @@
 -- Elements of which some bits are kept, and the bytes of packed chunks.
+use Rattle.zarrs_data_type.specs.Form.{form_of}
 use Rattle.std.proofs.Common.{◌≡◌, ℕ, zero, suc, ◌+◌, ◌-◌, ◌*◌, ◌/◌, ◌<◌, ◌≤◌, nat_lt, nat_le, Bool, true, false, List, [], ◌∷◌, ◌++◌, length, take, drop, replicate, get_or, if◌then◌else◌, arith, refl, ap, sym, subst, ◌∙◌}
 use Rattle.std.specs.List.{flat_map, range_with_len}
 use Rattle.std.proofs.Math.Nat.{mul-le-mul_right}
@@ -187,7 +188,7 @@ value_bytes padding spare bits h are =
     All-append is_byte (bytes_before padding spare) (packing bits ++ bytes_behind padding spare) (before_bytes padding spare h) (All-append is_byte (packing bits) (bytes_behind padding spare) packed (behind_bytes padding spare h))
 
 -- what is written for a chunk is bytes
-pub packed_bytes : (settings : PackBitsSettings) (sizes : List ℕ) (type : ElementType) (fill value : List ℕ) (chunk : Chunk) → PackBitsWritten settings sizes type fill value chunk → AreBytes value
+pub packed_bytes : (settings : PackBitsSettings) (sizes : List ℕ) (type : ElementType) (fill value : List ℕ) (chunk : Chunk) → PackBitsWritten settings (form_of sizes type fill) value chunk → AreBytes value
 packed_bytes settings sizes (fixed width components sign) fill value chunk w =
     let l = layout_for settings (product sizes) width components sign in
     let t = taken settings sizes width components sign fill w.layout w.taken in

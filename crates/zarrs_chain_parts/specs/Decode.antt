@@ -1,4 +1,5 @@
 -- The chunk that a value stands for, by recursion on the chain.
+use Rattle.zarrs_data_type.specs.Form.{form_of}
 use Rattle.std.specs.Prelude.{ℕ, zero, suc, ◌+◌, ◌-◌, ◌^◌, ◌==◌, Bool, true, false, nat_le, nat_lt, if◌then◌else◌, List, [], ◌∷◌, length, map, take, drop, Result, Ok, Err}
 use Rattle.std.specs.Int.{w32, w64, from_le_bytes}
 use Rattle.std.specs.List.{range_with_len}
@@ -134,8 +135,8 @@ around_chunk f arrays measure content outer sizes type fill value = do
   Ok (moved_chunk (inverse_map sizes m) chunk)
 
 unfoldable pub codec_chunk : {B : Type 0} → BytesCodecs B → PlainCodec B → Decoder
-codec_chunk f (bytes_codec order) sizes type fill value = bytes_chunk order sizes type fill value
-codec_chunk f (packbits_codec settings) sizes type fill value = packbits_chunk settings sizes type fill value
+codec_chunk f (bytes_codec order) sizes type fill value = bytes_chunk order (form_of sizes type fill) value
+codec_chunk f (packbits_codec settings) sizes type fill value = packbits_chunk settings (form_of sizes type fill) value
 codec_chunk f (vlen_codec ia ix ib da dx db wide at_end) sizes type fill value =
     vlen_chunk wide at_end (around_chunk f ia (codec_representation f ix) (codec_chunk f ix) ib) (around_chunk f da (codec_representation f dx) (codec_chunk f dx) db) (product sizes) value
 codec_chunk f (optional_codec ma mx mb da dx db) sizes type fill value =

@@ -1,4 +1,5 @@
 -- The value of a chunk, by recursion on the chain.
+use Rattle.zarrs_data_type.specs.Form.{form_of}
 use Rattle.std.specs.Prelude.{◌&&◌, ℕ, ◌^◌, Bool, true, false, nat_eq, nat_lt, if◌then◌else◌, List, [], ◌∷◌, ◌++◌, length, map, Result, Ok}
 use Rattle.std.specs.Cmp.Lexicographic.{pointwise}
 use Rattle.std.specs.Int.{w32, w64, to_le_bytes}
@@ -39,7 +40,7 @@ part_value encode type fill (element ∷ chunk) = encode (length (element ∷ ch
 -- the kept bits of the components, packed
 abbrev pub packed_value : PackBitsSettings → Encoder
 packed_value settings sizes type fill chunk = do
-  l ← packed_layout settings sizes type fill
+  l ← packed_layout settings (form_of sizes type fill)
   Ok (value_with l (chunk_stream l chunk))
 
 -- ---- vlen

@@ -1,4 +1,5 @@
 -- Which chunks a chain takes, and how many bytes they have.
+use Rattle.zarrs_data_type.specs.Form.{form_of}
 use Rattle.std.specs.Prelude.{ℕ, ◌+◌, ◌^◌, Bool, true, false, nat_lt, if◌then◌else◌, List, [], ◌∷◌, replicate, Result, Ok, Err}
 use Rattle.zarrs_chunk.specs.Answer.{◌>>=◌, demand, checked_u64, seen}
 use Rattle.zarrs_chunk.specs.ChunkShape.{product}
@@ -89,8 +90,8 @@ around_representation f arrays measure outer sizes type fill = do
   Ok (outer_representation f outer r)
 
 unfoldable pub codec_representation : {B : Type 0} → BytesCodecs B → PlainCodec B → Measure
-codec_representation f (bytes_codec order) sizes type fill = seen FixedSize (bytes_length order sizes type fill)
-codec_representation f (packbits_codec settings) sizes type fill = seen FixedSize (packbits_length settings sizes type fill)
+codec_representation f (bytes_codec order) sizes type fill = seen FixedSize (bytes_length order (form_of sizes type fill))
+codec_representation f (packbits_codec settings) sizes type fill = seen FixedSize (packbits_length settings (form_of sizes type fill))
 codec_representation f (vlen_codec ia ix ib da dx db wide at_end) sizes type fill = vlen_representation sizes type fill
 codec_representation f (optional_codec ma mx mb da dx db) sizes type fill =
     optional_representation (around_representation f ma (codec_representation f mx) mb) (around_representation f da (codec_representation f dx) db) sizes type fill

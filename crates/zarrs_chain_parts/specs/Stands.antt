@@ -1,4 +1,5 @@
 -- For which chunk a value stands.
+use Rattle.zarrs_data_type.specs.Form.{form_of}
 use Rattle.std.specs.Prelude.{◌≡◌, ℕ, ◌+◌, ◌<◌, ◌^◌, Bool, true, false, List, [], ◌∷◌, ◌++◌, length, map, Ok}
 use Rattle.zarrs_chunk.specs.ChunkShape.{product}
 use Rattle.zarrs_data_type.specs.ElementType.{ElementType, optional}
@@ -80,8 +81,8 @@ pub record StandsThrough {B : Type 0} (f : BytesCodecs B) (arrays : List ArrayMa
   pub stands : content map_is.encoded type fill below (moved_chunk map_is chunk)
 
 unfoldable pub CodecStands : {B : Type 0} → BytesCodecs B → PlainCodec B → Standing
-CodecStands f (bytes_codec order) sizes type fill value chunk = BytesStands order sizes type fill value chunk
-CodecStands f (packbits_codec settings) sizes type fill value chunk = PackBitsStands settings sizes type fill value chunk
+CodecStands f (bytes_codec order) sizes type fill value chunk = BytesStands order (form_of sizes type fill) value chunk
+CodecStands f (packbits_codec settings) sizes type fill value chunk = PackBitsStands settings (form_of sizes type fill) value chunk
 CodecStands f (vlen_codec ia ix ib da dx db wide at_end) sizes type fill value chunk =
     VlenStands wide at_end (StandsThrough f ia (codec_representation f ix) (CodecStands f ix) ib) (StandsThrough f da (codec_representation f dx) (CodecStands f dx) db) (product sizes) value chunk
 CodecStands f (optional_codec ma mx mb da dx db) sizes type fill value chunk =

@@ -1,4 +1,5 @@
 -- The steps of a codec `vlen`, each by what its calls are given.
+use Rattle.zarrs_data_type.specs.Form.{form_of}
 use Rattle.std.specs.Prelude.{◌≡◌, ℕ, ◌+◌, ◌-◌, ◌/◌, Bool, true, false, nat_le, if◌then◌else◌, List, [], ◌∷◌, length, map, take, drop, slice_index, Result, Ok, IsOk}
 use Rattle.std.specs.List.{flat_map}
 use Rattle.zarrs_chunk.specs.Answer.{◌>>=◌, demand}
@@ -77,7 +78,7 @@ keeps_offsets codec wide offsets =
 -- a codec `packbits` takes a row of so many offsets; any other may take it or not
 abbrev pub TakesOffsets : {B : Type 0} → PlainCodec B → Bool → ℕ → Type 0
 TakesOffsets (bytes_codec order) wide count = Unit {0}
-TakesOffsets (packbits_codec settings) wide count = IsOk (packed_layout settings (count ∷ []) (offset_type wide) (offset_bytes wide 0))
+TakesOffsets (packbits_codec settings) wide count = IsOk (packed_layout settings (form_of (count ∷ []) (offset_type wide) (offset_bytes wide 0)))
 TakesOffsets (vlen_codec ia ix ib da dx db wide' at_end) wide count = Unit {0}
 TakesOffsets (optional_codec ma mx mb da dx db) wide count = Unit {0}
 

@@ -1,4 +1,5 @@
 -- Which value is written for a chunk.
+use Rattle.zarrs_data_type.specs.Form.{form_of}
 use Rattle.std.specs.Prelude.{◌≡◌, ℕ, ◌<◌, ◌^◌, Bool, true, List, [], ◌∷◌, length, map, Ok}
 use Rattle.zarrs_chunk.specs.ChunkShape.{product}
 use Rattle.zarrs_data_type.specs.ElementType.{ElementType, optional}
@@ -61,8 +62,8 @@ pub record WrittenThrough {B : Type 0} (f : BytesCodecs B) (arrays : List ArrayM
   pub around : OuterWritten f outer below value
 
 unfoldable pub CodecWritten : {B : Type 0} → BytesCodecs B → PlainCodec B → Standing
-CodecWritten f (bytes_codec order) sizes type fill value chunk = BytesWritten order sizes type fill value chunk
-CodecWritten f (packbits_codec settings) sizes type fill value chunk = PackBitsWritten settings sizes type fill value chunk
+CodecWritten f (bytes_codec order) sizes type fill value chunk = BytesWritten order (form_of sizes type fill) value chunk
+CodecWritten f (packbits_codec settings) sizes type fill value chunk = PackBitsWritten settings (form_of sizes type fill) value chunk
 CodecWritten f (vlen_codec ia ix ib da dx db wide at_end) sizes type fill value chunk =
     VlenWritten wide at_end (normal_element ix) (WrittenThrough f ia (codec_representation f ix) (CodecWritten f ix) ib) (WrittenThrough f da (codec_representation f dx) (CodecWritten f dx) db) value chunk
 CodecWritten f (optional_codec ma mx mb da dx db) sizes type fill value chunk =

@@ -1,6 +1,6 @@
 //! The array codecs of a chain, one after another.
 ghost use Rattle.std.specs.Prelude.{◌≡◌, Ok, IfOk, map, false};
-ghost use Rattle.zarrs_chunk.specs.Answer.{Answers, AnswersBy, memory, is_fault, seen};
+ghost use Rattle.zarrs_chunk.specs.Answer.{AnswersBy, memory, is_fault, seen, Gives};
 ghost use Rattle.zarrs_array_bytes.specs.Validity.{Holds};
 ghost use Rattle.zarrs_codec.specs.CoordinateMap.{IsMapTo};
 ghost use Rattle.zarrs_codec.specs.MappedChunk.{encoded_chunk, decoded_chunk};
@@ -24,9 +24,8 @@ fn next_shape(
     shape: &ChunkShape,
     data_type: &DataType,
 ) -> Result<ChunkShape, CodecError>
-    ensures answer { Answers memory (λ shape. shape) result (seen (λ m. m.encoded) (codec_map data_type.now (mapping_of codec.now) shape.now)) }
+    ensures answer { Gives (λ shape. shape) result (seen (λ m. m.encoded) (codec_map data_type.now (mapping_of codec.now) shape.now)) }
     ensures map { IfOk result (λ next. IsMapTo (coordinates (mapping_of codec.now) shape.now) shape.now next) }
-    ensures no_fault { is_fault result ≡ false }
 {
     codec.encoded_data_type(alloc, data_type)?;
     codec.encoded_shape(alloc, shape)
@@ -40,9 +39,8 @@ pub fn shape_through(
     shape: &ChunkShape,
     data_type: &DataType,
 ) -> Result<ChunkShape, CodecError>
-    ensures answer { Answers memory (λ shape. shape) result (seen (λ m. m.encoded) (arrays_map data_type.now (map mapping_of codecs.now) shape.now)) }
+    ensures answer { Gives (λ shape. shape) result (seen (λ m. m.encoded) (arrays_map data_type.now (map mapping_of codecs.now) shape.now)) }
     ensures map { IfOk result (λ _. IsMapWhere data_type.now (map mapping_of codecs.now) shape.now) }
-    ensures no_fault { is_fault result ≡ false }
 {
     match codecs {
         [] => shape.clone(),

@@ -1,7 +1,7 @@
 //! The bytes codecs of a chain, one after another.
-ghost use Rattle.std.specs.Prelude.{◌≡◌, false};
-ghost use Rattle.zarrs_chunk.specs.Answer.{Answers, memory, is_fault};
-ghost use Rattle.zarrs_array_bytes.specs.Held.{raw_of};
+ghost use Rattle.std.specs.Prelude.{◌≡◌};
+ghost use Rattle.zarrs_chunk.specs.Answer.{Gives};
+ghost use Rattle.zarrs_array_bytes.specs.Held.{items_of};
 ghost use Rattle.zarrs_chain_parts.specs.BytesStages.{outer_value, outer_bytes, outer_representation as outer_representation_of};
 
 use std::alloc::Global;
@@ -30,8 +30,7 @@ pub fn encode_bytes<'a, B: BytesToBytesCodecTraits>(
     codecs: &[B],
     bytes: ArrayBytesRaw<'a>,
 ) -> Result<ArrayBytesRaw<'a>, CodecError>
-    ensures answer { Answers memory (λ value. (raw_of value).items) result (outer_value B.functions codecs.now (raw_of bytes.entry).items) }
-    ensures no_fault { is_fault result ≡ false }
+    ensures answer { Gives items_of result (outer_value B.functions codecs.now (items_of bytes.entry)) }
 {
     match codecs {
         [] => Ok(bytes),
@@ -47,8 +46,7 @@ pub fn decode_bytes<'a, B: BytesToBytesCodecTraits>(
     representation: &BytesRepresentation,
     value: ArrayBytesRaw<'a>,
 ) -> Result<ArrayBytesRaw<'a>, CodecError>
-    ensures answer { Answers memory (λ bytes. (raw_of bytes).items) result (outer_bytes B.functions codecs.now representation.now (raw_of value.entry).items) }
-    ensures no_fault { is_fault result ≡ false }
+    ensures answer { Gives items_of result (outer_bytes B.functions codecs.now representation.now (items_of value.entry)) }
 {
     match codecs {
         [] => Ok(value),

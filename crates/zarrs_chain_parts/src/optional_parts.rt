@@ -1,9 +1,9 @@
 //! The parts of a value of the codec `optional`, and what its chains inside are handed.
 ghost use Rattle.std.specs.Prelude.{◌≡◌, ◌≤◌, ◌+◌, ◌^◌, ℕ, List, Ok, Err, IfOk, IfErr, Some, None, nat_lt, if◌then◌else◌, true, false, length, take, drop};
 ghost use Rattle.std.specs.List.{list_all};
-ghost use Rattle.zarrs_chunk.specs.Answer.{Answers, memory, is_fault, seen};
+ghost use Rattle.zarrs_chunk.specs.Answer.{Answers, memory, is_fault, seen, Gives};
 ghost use Rattle.zarrs_data_type.specs.FillValue.{fill_fits};
-ghost use Rattle.zarrs_array_bytes.specs.Held.{masked, raw_of};
+ghost use Rattle.zarrs_array_bytes.specs.Held.{items_of, masked, raw_of};
 ghost use Rattle.zarrs_array_bytes.specs.Parts.{optional_part};
 ghost use Rattle.zarrs_array_bytes.specs.Present.{present_count};
 ghost use Rattle.zarrs_chain_parts.specs.BytesStages.{in_memory};
@@ -38,9 +38,8 @@ pub fn inner_type(data_type: &DataType) -> Result<&DataType, CodecError>
 /// Refusals: `OutOfMemory`.
 #[tactic(auto, using(crate::proofs::OptionalSteps::blank_fits))]
 pub fn blank_fill(alloc: Global, data_type: &DataType) -> Result<FillValue, CodecError>
-    ensures answer { Answers memory (λ fill. fill) result (Ok (blank_fill_of data_type.now)) }
+    ensures answer { Gives (λ fill. fill) result (Ok (blank_fill_of data_type.now)) }
     ensures fits { fill_fits data_type.now (blank_fill_of data_type.now) ≡ true }
-    ensures no_fault { is_fault result ≡ false }
 {
     if data_type.is_optional() {
         return FillValue::new_optional_null(alloc);
@@ -58,8 +57,8 @@ pub fn masked_parts(
     elements: ArrayBytes<'_>,
 ) -> Result<(ArrayBytes<'_>, ArrayBytesRaw<'_>, u64), CodecError>
     ensures parts { IfOk result (λ parts. elements.entry ≡ masked parts.0 (raw_of parts.1)) }
-    ensures flags { IfOk result (λ parts. list_all (λ byte. nat_lt byte 2) (raw_of parts.1).items ≡ true) }
-    ensures counted { IfOk result (λ parts. present_count (raw_of parts.1).items ≡ Ok parts.2) }
+    ensures flags { IfOk result (λ parts. list_all (λ byte. nat_lt byte 2) (items_of parts.1) ≡ true) }
+    ensures counted { IfOk result (λ parts. present_count (items_of parts.1) ≡ Ok parts.2) }
     ensures refused { IfErr result (λ cause. optional_part elements.entry ≡ Err cause) }
     ensures no_fault { is_fault result ≡ false }
 {
@@ -95,7 +94,7 @@ pub fn both_representations(
 
 /// The bytes, lent.
 pub fn lent<'r>(raw: &'r ArrayBytesRaw<'_>) -> &'r [u8]
-    ensures value { result.now ≡ (raw_of raw.now).items }
+    ensures value { result.now ≡ (items_of raw.now) }
 {
     match raw {
         CowSlice::Borrowed(bytes) => bytes,
@@ -147,7 +146,7 @@ pub fn split_value(
     alloc: Global,
     value: ArrayBytesRaw<'_>,
 ) -> Result<(ArrayBytesRaw<'_>, ArrayBytesRaw<'_>), CodecError>
-    ensures answer { Answers {V = List ℕ × List ℕ} memory (λ parts. ((raw_of parts.0).items, (raw_of parts.1).items)) result (optional_parts (raw_of value.entry).items) }
+    ensures answer { Answers {V = List ℕ × List ℕ} memory (λ parts. ((items_of parts.0), (items_of parts.1))) result (optional_parts (items_of value.entry)) }
     ensures no_fault { is_fault result ≡ false }
 {
     match value {
@@ -170,8 +169,7 @@ pub fn join_parts<'a>(
     mask: &[u8],
     content: &[u8],
 ) -> Result<ArrayBytesRaw<'a>, CodecError>
-    ensures answer { Answers memory (λ value. (raw_of value).items) result (in_memory (optional_layout mask.now content.now)) }
-    ensures no_fault { is_fault result ≡ false }
+    ensures answer { Gives items_of result (in_memory (optional_layout mask.now content.now)) }
 {
     let size = mask
         .len()

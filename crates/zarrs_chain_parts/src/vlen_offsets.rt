@@ -3,7 +3,7 @@
 //! They are made in blocks, since each append to a vector costs as much as the copy of some dozen
 //! bytes.
 ghost use Rattle.std.specs.Prelude.{◌≡◌, ◌++◌, ◌*◌, ◌/◌, ◌-◌, ◌^◌, ◌<◌, ◌≤◌, All, IfOk, OnOk, Ok, false, true, length, map};
-ghost use Rattle.zarrs_chunk.specs.Answer.{Answers, AnswersBy, memory, is_fault};
+ghost use Rattle.zarrs_chunk.specs.Answer.{Gives, GivesBy};
 ghost use Rattle.zarrs_array_bytes.specs.Offsets.{is_offsets};
 ghost use Rattle.zarrs_array_bytes.specs.Pieces.{pieces};
 ghost use Rattle.zarrs_array_bytes.specs.Validity.{Holds};
@@ -116,8 +116,7 @@ pub fn offset_items(
     data_type: VlenIndexDataType,
 ) -> Result<Vec<u8>, CodecError>
     requires rising { is_offsets offsets.now ≡ true }
-    ensures exact { Answers memory (λ v. v.items) result (written_offsets (is_wide data_type) offsets.now) }
-    ensures no_fault { is_fault result ≡ false }
+    ensures exact { Gives (λ v. v.items) result (written_offsets (is_wide data_type) offsets.now) }
 {
     let first = offsets[0];
     match data_type {
@@ -144,8 +143,7 @@ pub fn offset_type(data_type: VlenIndexDataType) -> DataType
 /// The fill value of such elements: zero.
 #[tactic(auto, unfolding(crate::specs::Encode::offset_bytes))]
 pub fn offset_fill(alloc: Global, data_type: VlenIndexDataType) -> Result<FillValue, CodecError>
-    ensures answer { Answers memory (λ fill. fill) result (Ok (offset_bytes (is_wide data_type) 0)) }
-    ensures no_fault { is_fault result ≡ false }
+    ensures answer { Gives (λ fill. fill) result (Ok (offset_bytes (is_wide data_type) 0)) }
 {
     let zero = match data_type {
         VlenIndexDataType::UInt32 => vec![in alloc; 0u8; 4]?,
@@ -162,8 +160,7 @@ pub fn index_elements<'a>(
     data_type: VlenIndexDataType,
 ) -> Result<ArrayBytes<'a>, CodecError>
     requires rising { is_offsets offsets.now ≡ true }
-    ensures exact { AnswersBy memory (Holds (offset_type_of (is_wide data_type))) result (index_elements_of (is_wide data_type) offsets.now) }
-    ensures no_fault { is_fault result ≡ false }
+    ensures exact { GivesBy (Holds (offset_type_of (is_wide data_type))) result (index_elements_of (is_wide data_type) offsets.now) }
 {
     let items = offset_items(alloc, offsets, data_type)?;
     Ok(ArrayBytes::new_flen(CowSlice::Owned(items)))
@@ -175,8 +172,7 @@ pub fn offset_numbers(
     items: &[u8],
     data_type: VlenIndexDataType,
 ) -> Result<Vec<usize>, CodecError>
-    ensures exact { Answers memory (λ v. v.items) result (Ok (read_offsets (is_wide data_type) items.now)) }
-    ensures no_fault { is_fault result ≡ false }
+    ensures exact { Gives (λ v. v.items) result (Ok (read_offsets (is_wide data_type) items.now)) }
 {
     match data_type {
         VlenIndexDataType::UInt64 => Ok(wide_numbers(alloc, items)?),

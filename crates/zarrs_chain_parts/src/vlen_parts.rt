@@ -1,7 +1,7 @@
 //! The parts of a value of the codec `vlen`: the length of its index, the index and the data.
 ghost use Rattle.std.specs.Prelude.{◌≡◌, ◌++◌, ◌+◌, ◌≤◌, ℕ, List, IfOk, false, true, length, take, drop};
-ghost use Rattle.zarrs_chunk.specs.Answer.{Answers, memory, is_fault, seen};
-ghost use Rattle.zarrs_array_bytes.specs.Held.{raw_of};
+ghost use Rattle.zarrs_chunk.specs.Answer.{is_fault, seen, Gives};
+ghost use Rattle.zarrs_array_bytes.specs.Held.{items_of, raw_of};
 ghost use Rattle.zarrs_array_bytes.specs.Offsets.{last_of};
 ghost use Rattle.zarrs_array_bytes.specs.Parts.{variable_part};
 ghost use Rattle.zarrs_chain_parts.specs.BytesStages.{in_memory};
@@ -78,8 +78,8 @@ pub fn split(value: &[u8], location: VlenIndexLocation) -> Result<(&[u8], &[u8])
 /// What stands behind the first `count` bytes. Borrowed bytes are lent on, owned ones are moved to the
 /// front.
 pub fn behind(bytes: ArrayBytesRaw<'_>, count: usize) -> ArrayBytesRaw<'_>
-    requires inside { count ≤ length (raw_of bytes).items }
-    ensures rest { (raw_of result).items ≡ drop count (raw_of bytes.entry).items }
+    requires inside { count ≤ length (items_of bytes) }
+    ensures rest { (items_of result) ≡ drop count (items_of bytes.entry) }
 {
     match bytes {
         CowSlice::Borrowed(bytes) => CowSlice::Borrowed(&bytes[count..]),
@@ -92,8 +92,8 @@ pub fn behind(bytes: ArrayBytesRaw<'_>, count: usize) -> ArrayBytesRaw<'_>
 
 /// The first `count` bytes. Borrowed bytes are lent on, owned ones stay where they are.
 fn front(bytes: ArrayBytesRaw<'_>, count: usize) -> ArrayBytesRaw<'_>
-    requires inside { count ≤ length (raw_of bytes).items }
-    ensures front { (raw_of result).items ≡ take count (raw_of bytes.entry).items }
+    requires inside { count ≤ length (items_of bytes) }
+    ensures front { (items_of result) ≡ take count (items_of bytes.entry) }
 {
     match bytes {
         CowSlice::Borrowed(bytes) => CowSlice::Borrowed(&bytes[..count]),
@@ -110,8 +110,8 @@ pub fn data_part(
     size: usize,
     location: VlenIndexLocation,
 ) -> ArrayBytesRaw<'_>
-    requires inside { 8 + size ≤ length (raw_of value).items }
-    ensures part { (raw_of result).items ≡ data_part_of (is_at_end location) size (raw_of value.entry).items }
+    requires inside { 8 + size ≤ length (items_of value) }
+    ensures part { (items_of result) ≡ data_part_of (is_at_end location) size (items_of value.entry) }
 {
     match location {
         VlenIndexLocation::Start => behind(value, LENGTH_SIZE + size),
@@ -128,7 +128,7 @@ pub fn variable_parts<'a>(
     elements: ArrayBytes<'a>,
 ) -> Result<(ArrayBytesRaw<'a>, ArrayBytesOffsets), CodecError>
     ensures answer { seen (λ parts. (raw_of parts.0, parts.1)) result ≡ variable_part elements.entry }
-    ensures ending { IfOk result (λ parts. last_of parts.1 ≡ length (raw_of parts.0).items) }
+    ensures ending { IfOk result (λ parts. last_of parts.1 ≡ length (items_of parts.0)) }
     ensures no_fault { is_fault result ≡ false }
 {
     elements.as_variable()?;
@@ -137,8 +137,7 @@ pub fn variable_parts<'a>(
 
 /// Three parts, one behind another.
 fn joined(alloc: Global, first: &[u8], second: &[u8], third: &[u8]) -> Result<Vec<u8>, CodecError>
-    ensures answer { Answers memory (λ v. v.items) result (in_memory (first.now ++ (second.now ++ third.now))) }
-    ensures no_fault { is_fault result ≡ false }
+    ensures answer { Gives (λ v. v.items) result (in_memory (first.now ++ (second.now ++ third.now))) }
 {
     let room = first
         .len()
@@ -159,8 +158,7 @@ pub fn join(
     content: &[u8],
     location: VlenIndexLocation,
 ) -> Result<Vec<u8>, CodecError>
-    ensures answer { Answers memory (λ v. v.items) result (in_memory (vlen_layout (is_at_end location) index.now content.now)) }
-    ensures no_fault { is_fault result ≡ false }
+    ensures answer { Gives (λ v. v.items) result (in_memory (vlen_layout (is_at_end location) index.now content.now)) }
 {
     let head = (index.len() as u64).to_le_bytes();
     match location {

@@ -24,9 +24,9 @@ pub record PartialReads : Type 0 where
 -- The answer is a container of the elements at the selected places, of the chunk that the stored value stands for, or of fill elements where nothing is stored; or the first refusal. Only a want of memory or a failure of the handle may come in its place; a failure comes behind the refusals of the selection, and never where all bytes of the read are sure.
 pub record ReadsPart (G : Grammar) (P : PartialReads) (form : Form) (before : StorageState) (selection : Selection) (result : Result Held CodecError) : Type 0 where
   pub selected : (value : List ℕ) (chunk : Chunk) → before.value ≡ Some value → G.Stands form value chunk
-    → AnswersBy memory_or_fault (Holds form.type) result (seen (select chunk) (places_of selection form.sizes))
+      → AnswersBy memory_or_fault (Holds form.type) result (seen (select chunk) (places_of selection form.sizes))
   pub unstored : before.value ≡ None
-    → AnswersBy memory_or_fault (Holds form.type) result (seen (map (λ _. fill_element form.type form.fill)) (places_of selection form.sizes))
+      → AnswersBy memory_or_fault (Holds form.type) result (seen (map (λ _. fill_element form.type form.fill)) (places_of selection form.sizes))
   pub exact : AnswersBy memory_or_fault (Holds form.type) result (P.read form before.value selection)
   pub indexer_first : is_ok (places_of selection form.sizes) ≡ false → is_fault result ≡ false
   pub sure : IfOk (P.plan form selection) (λ numbers. are_sure before.sure numbers ≡ true → is_fault result ≡ false)
@@ -52,7 +52,7 @@ Stores G form (Some value) chunk = G.Written form value chunk
 -- The value afterwards is the one that is written for the chunk with new elements at the selected places, the last write of a place standing; or the first refusal is answered. Only a want of memory or a failure of the handle may come in its place, a failure behind the refusals of the selection and of the elements, which leave the handle as it was.
 pub record EditsPart (G : Grammar) (form : Form) (written : Option (List ℕ) → Selection → Held → Result (List ℕ) CodecError) (before after : StorageState) (selection : Selection) (new : Held) (result : Result (Unit {0}) CodecError) : Type 0 where
   pub edited : (chunk : Chunk) → EditsFrom G form before.value chunk
-    → AnswersBy memory_or_fault (λ _ edited. Stores G form after.value edited) result (edited_chunk form.sizes form.type chunk selection new)
+      → AnswersBy memory_or_fault (λ _ edited. Stores G form after.value edited) result (edited_chunk form.sizes form.type chunk selection new)
   pub exact : Answers memory_or_fault (λ _. after.value) result (seen Some (written before.value selection new))
   pub indexer_first : IfErr (bounds_of selection form.sizes) (λ cause. Answers memory (λ done. done) result (Err cause))
   pub checked_first : IfErr (data_checked form.sizes form.type selection new) (λ cause. Answers memory (λ done. done) result (Err cause))

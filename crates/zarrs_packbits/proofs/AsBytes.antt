@@ -1,4 +1,5 @@
 -- Where all bits of whole bytes are kept, values are those of the codec `bytes` in little order.
+use Rattle.zarrs_data_type.specs.Form.{form_of}
 use Rattle.std.proofs.Common.{◌≡◌, ◌↔◌, ℕ, zero, suc, ◌*◌, ◌<◌, ◌≤◌, ◌^◌, Bool, true, nat_lt, Some, Result, Ok, Err, List, [], ◌∷◌, ◌++◌, length, get_or, lit<, arith, refl, ap, sym, ◌∙◌}
 use Rattle.std.specs.List.{All}
 use Rattle.std.proofs.Math.Nat.{mul-le-mul_left}
@@ -52,14 +53,14 @@ small_at [] h i = lit< tt
 small_at (b ∷ items) h zero = All-head (λ byte. byte < 256) b items h
 small_at (b ∷ items) h (suc i) = small_at items (All-tail (λ byte. byte < 256) b items h) i
 
-length_is : (sizes : List ℕ) (width components : ℕ) (sign : Bool) (fill : List ℕ) → fill_fits (fixed width components sign) fill ≡ true → product sizes < 2 ^ 64 → product sizes * element_size width components < 2 ^ 64 → bytes_length (Some Little) sizes (fixed width components sign) fill ≡ ok (product sizes * element_size width components)
+length_is : (sizes : List ℕ) (width components : ℕ) (sign : Bool) (fill : List ℕ) → fill_fits (fixed width components sign) fill ≡ true → product sizes < 2 ^ 64 → product sizes * element_size width components < 2 ^ 64 → bytes_length (Some Little) (form_of sizes (fixed width components sign) fill) ≡ ok (product sizes * element_size width components)
 length_is sizes width components sign fill f n m =
     let a : nat_lt (product sizes) (2 ^ 64) ≡ true = grind (arith, nat_tests) in
     let b : nat_lt (product sizes * element_size width components) (2 ^ 64) ≡ true = grind (arith, nat_tests) in
     rw (f, a, b) refl
 
 -- 64 bits count the bytes of a chunk that is taken
-whole_fits : (settings : PackBitsSettings) (sizes : List ℕ) (width components : ℕ) (sign : Bool) (fill : List ℕ) (l : PackedLayout) → packed_layout settings sizes (fixed width components sign) fill ≡ Ok l → (product sizes * (l.group * l.size) ≡ parts_of l * l.size) × (product sizes ≤ product sizes * (l.group * l.size)) × (product sizes * element_size width components < 2 ^ 64)
+whole_fits : (settings : PackBitsSettings) (sizes : List ℕ) (width components : ℕ) (sign : Bool) (fill : List ℕ) (l : PackedLayout) → packed_layout settings (form_of sizes (fixed width components sign) fill) ≡ Ok l → (product sizes * (l.group * l.size) ≡ parts_of l * l.size) × (product sizes ≤ product sizes * (l.group * l.size)) × (product sizes * element_size width components < 2 ^ 64)
 whole_fits settings sizes width components sign fill l e =
     let t = taken settings sizes width components sign fill l e in
     let s = t.sound in
@@ -71,17 +72,17 @@ whole_fits settings sizes width components sign fill l e =
     let bytes_fit : product sizes * element_size width components < 2 ^ 64 = omega (arith, ap (λ k. product sizes * k) t.size, all, s.bytes_fit) in
     (all, omega (arith, many), bytes_fit)
 
-pub length_fits : (settings : PackBitsSettings) (sizes : List ℕ) (width components : ℕ) (sign : Bool) (fill : List ℕ) (l : PackedLayout) → packed_layout settings sizes (fixed width components sign) fill ≡ Ok l → bytes_length (Some Little) sizes (fixed width components sign) fill ≡ ok (product sizes * element_size width components)
+pub length_fits : (settings : PackBitsSettings) (sizes : List ℕ) (width components : ℕ) (sign : Bool) (fill : List ℕ) (l : PackedLayout) → packed_layout settings (form_of sizes (fixed width components sign) fill) ≡ Ok l → bytes_length (Some Little) (form_of sizes (fixed width components sign) fill) ≡ ok (product sizes * element_size width components)
 length_fits settings sizes width components sign fill l e =
     let t = taken settings sizes width components sign fill l e in
     let all = whole_fits settings sizes width components sign fill l e in
     length_is sizes width components sign fill t.filled (omega (arith, all.1, all.0, t.sound.bytes_fit)) all.2
 
-fixed_written : (settings : PackBitsSettings) (sizes : List ℕ) (width components : ℕ) (sign : Bool) (fill value : List ℕ) (chunk : Chunk) → keeps_all_bytes (packed_layout settings sizes (fixed width components sign) fill) ≡ true → All HasBytes chunk
-    → PackBitsWritten settings sizes (fixed width components sign) fill value chunk ↔ BytesWritten (Some Little) sizes (fixed width components sign) fill value chunk
+fixed_written : (settings : PackBitsSettings) (sizes : List ℕ) (width components : ℕ) (sign : Bool) (fill value : List ℕ) (chunk : Chunk) → keeps_all_bytes (packed_layout settings (form_of sizes (fixed width components sign) fill)) ≡ true → All HasBytes chunk
+    → PackBitsWritten settings (form_of sizes (fixed width components sign) fill) value chunk ↔ BytesWritten (Some Little) (form_of sizes (fixed width components sign) fill) value chunk
 fixed_written settings sizes width components sign fill value chunk keeps small =
     let type = fixed width components sign in
-    let whole = layout_kept (packed_layout settings sizes type fill) keeps in
+    let whole = layout_kept (packed_layout settings (form_of sizes type fill)) keeps in
     let l = whole.0 in
     let e = whole.1 in
     let t = taken settings sizes width components sign fill l e in
@@ -89,7 +90,7 @@ fixed_written settings sizes width components sign fill value chunk keeps small 
     let length_so = length_fits settings sizes width components sign fill l e in (
       λ w.
           let c = is_cut l (product sizes) width components sign chunk w.elements t.size t.elements in
-          let same : w.layout ≡ l = same_layout w.layout l (packed_layout settings sizes type fill) w.taken e in
+          let same : w.layout ≡ l = same_layout w.layout l (packed_layout settings (form_of sizes type fill)) w.taken e in
           let is : value ≡ joined chunk
           = w.spelt ∙ ap (λ (k : PackedLayout). value_with k (chunk_stream k chunk)) same ∙ ap (value_with l) (stream_cut l chunk c) ∙ whole_encoded l (joined chunk) s whole.2 c.long (small_at (joined chunk) (joined_small chunk small)) in
           record {

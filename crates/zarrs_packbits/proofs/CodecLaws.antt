@@ -1,8 +1,9 @@
 -- The laws of the codec.
+use Rattle.zarrs_data_type.specs.Form.{form_of}
 use Rattle.std.proofs.Common.{◌≡◌, ◌==◌, ℕ, zero, suc, ◌+◌, ◌-◌, ◌*◌, ◌%◌, ◌<◌, ◌≤◌, ◌&&◌, Bool, true, false, nat_lt, Some, Result, Ok, List, [], ◌∷◌, ◌++◌, length, map, take, drop, get_or, arith, refl, ap, sym, ◌∙◌, subst, if◌then◌else◌, set}
 use Rattle.std.specs.List.{All, range_with_len}
 use Rattle.std.proofs.lemmas.Bool.Decides.{nat_tests}
-use Rattle.std.proofs.lemmas.List.{drop_more, length-append}
+use Rattle.std.proofs.lemmas.List.{drop_more, length-append, get_or-append-add, get_or_append_left}
 use Rattle.std.proofs.lemmas.List.Elements.{All-head, All-tail}
 use Rattle.std.proofs.lemmas.List.FromFn.{get_or-map-range_with_len}
 use Rattle.zarrs_chunk.specs.Answer.{◌>>=◌, demand, seen}
@@ -31,7 +32,6 @@ use Rattle.zarrs_packbits.proofs.FlatChunk.{nf, encoded}
 use Rattle.zarrs_packbits.proofs.LocalLemmas.{element_of_piece, element_some}
 use Rattle.zarrs_packbits.proofs.Standing.{encoded_stands, stream_nf, places_inside}
 use Rattle.zarrs_packbits.proofs.ElementBits.{stream_of_pieces}
-use Rattle.std.proofs.lemmas.List.{get_or-append-add, get_or_append_left}
 use Rattle.zarrs_packbits.proofs.Taken.{taken}
 
 -- ---- the normal form
@@ -39,7 +39,7 @@ use Rattle.zarrs_packbits.proofs.Taken.{taken}
 layout_same : (k l : PackedLayout) (r : Result PackedLayout CodecError) → r ≡ Ok k → r ≡ Ok l → k ≡ l
 layout_same k l r e f = cc
 
-written_flat : (settings : PackBitsSettings) (sizes : List ℕ) (width components : ℕ) (sign : Bool) (fill value : List ℕ) (chunk : Chunk) → PackBitsWritten settings sizes (fixed width components sign) fill value chunk → PackBitsStands settings sizes (fixed width components sign) fill value (normal_chunk settings (fixed width components sign) chunk)
+written_flat : (settings : PackBitsSettings) (sizes : List ℕ) (width components : ℕ) (sign : Bool) (fill value : List ℕ) (chunk : Chunk) → PackBitsWritten settings (form_of sizes (fixed width components sign) fill) value chunk → PackBitsStands settings (form_of sizes (fixed width components sign) fill) value (normal_chunk settings (fixed width components sign) chunk)
 written_flat settings sizes width components sign fill value chunk w =
     let type = fixed width components sign in
     let l = w.layout in
@@ -48,8 +48,8 @@ written_flat settings sizes width components sign fill value chunk w =
     let flat = encoded_stands l (joined chunk) t.sound c.long in
     let value_is : encoded l (joined chunk) ≡ value = sym (w.spelt ∙ ap (value_with l) (stream_cut l chunk c)) in
     let normal : cut l (nf l (joined chunk)) ≡ normal_chunk settings type chunk = sym (ap (normal_chunk settings type) c.are ∙ normal_cut settings sizes width components sign fill (joined chunk) l t c.long) in
-    subst (λ (v : List ℕ). PackBitsStands settings sizes type fill v (normal_chunk settings type chunk)) value_is
-    (subst (PackBitsStands settings sizes type fill (encoded l (joined chunk))) normal (stands_flat settings sizes width components sign fill (encoded l (joined chunk)) (nf l (joined chunk)) l w.taken flat))
+    subst (λ (v : List ℕ). PackBitsStands settings (form_of sizes type fill) v (normal_chunk settings type chunk)) value_is
+    (subst (PackBitsStands settings (form_of sizes type fill) (encoded l (joined chunk))) normal (stands_flat settings sizes width components sign fill (encoded l (joined chunk)) (nf l (joined chunk)) l w.taken flat))
 
 pub written_stands : laws.WrittenStands
 written_stands settings sizes (fixed width components sign) fill value chunk w = written_flat settings sizes width components sign fill value chunk w
@@ -66,7 +66,7 @@ normal_once settings sizes type fill value chunk w = (written_stands settings si
 pub normal_written : laws.NormalWritten
 normal_written settings sizes type fill value chunk w =
     let s = written_stands settings sizes type fill value chunk w in
-    let same : s.layout ≡ w.layout = layout_same s.layout w.layout (packed_layout settings sizes type fill) s.taken w.taken in
+    let same : s.layout ≡ w.layout = layout_same s.layout w.layout (packed_layout settings (form_of sizes type fill)) s.taken w.taken in
     record {
       layout = w.layout;
       taken = w.taken;
@@ -74,7 +74,7 @@ normal_written settings sizes type fill value chunk w =
       spelt = w.spelt ∙ ap (value_with w.layout) (normal_stream settings sizes type fill value chunk w);
     }
   where
-    normal_stream : (settings : PackBitsSettings) (sizes : List ℕ) (type : ElementType) (fill value : List ℕ) (chunk : Chunk) (w : PackBitsWritten settings sizes type fill value chunk) → chunk_stream w.layout chunk ≡ chunk_stream w.layout (normal_chunk settings type chunk)
+    normal_stream : (settings : PackBitsSettings) (sizes : List ℕ) (type : ElementType) (fill value : List ℕ) (chunk : Chunk) (w : PackBitsWritten settings (form_of sizes type fill) value chunk) → chunk_stream w.layout chunk ≡ chunk_stream w.layout (normal_chunk settings type chunk)
     normal_stream settings sizes (fixed width components sign) fill value chunk w =
         let type = fixed width components sign in
         let l = w.layout in
@@ -133,11 +133,11 @@ stands_for_one settings sizes type fill value chunk other one two =
 
 pub written_alike : laws.WrittenAlike
 written_alike settings sizes type fill value other_value chunk other one two = (
-  λ e. stands_for_one settings sizes type fill value (normal_chunk settings type chunk) (normal_chunk settings type other) (written_stands settings sizes type fill value chunk one) (subst (λ (v : List ℕ). PackBitsStands settings sizes type fill v (normal_chunk settings type other)) (sym e) (written_stands settings sizes type fill other_value other two)),
+  λ e. stands_for_one settings sizes type fill value (normal_chunk settings type chunk) (normal_chunk settings type other) (written_stands settings sizes type fill value chunk one) (subst (λ (v : List ℕ). PackBitsStands settings (form_of sizes type fill) v (normal_chunk settings type other)) (sym e) (written_stands settings sizes type fill other_value other two)),
   λ e.
       let a = normal_written settings sizes type fill value chunk one in
       let b = normal_written settings sizes type fill other_value other two in
-      let same : a.layout ≡ b.layout = layout_same a.layout b.layout (packed_layout settings sizes type fill) a.taken b.taken in
+      let same : a.layout ≡ b.layout = layout_same a.layout b.layout (packed_layout settings (form_of sizes type fill)) a.taken b.taken in
       a.spelt ∙ ap (λ (k : PackedLayout). value_with k (chunk_stream k (normal_chunk settings type chunk))) same ∙ ap (λ (c : Chunk). value_with b.layout (chunk_stream b.layout c)) e ∙ sym b.spelt,
 )
 
@@ -175,16 +175,16 @@ read_selects settings sizes (fixed width components sign) fill value chunk place
     let n = product sizes in
     let t = taken settings sizes width components sign fill l stands.taken in
     let all = decoded_only settings sizes type fill value chunk stands in
-    let a = bind_ok (packed_layout settings sizes type fill) _ chunk all in
+    let a = bind_ok (packed_layout settings (form_of sizes type fill)) _ chunk all in
     let b = bind_ok (demand (length value == value_len a.0) (InvalidBytesLength (length value) (value_len a.0))) _ chunk a.2 in
     let c = bind_ok (demand (padding_holds a.0 value) PaddingByte) _ chunk b.2 in
-    let same : a.0 ≡ l = layout_same a.0 l (packed_layout settings sizes type fill) a.1 stands.taken in
+    let same : a.0 ≡ l = layout_same a.0 l (packed_layout settings (form_of sizes type fill)) a.1 stands.taken in
     let is : map (packed_element l value) (range_with_len 0 n) ≡ chunk = ap (λ (k : PackedLayout). map (packed_element k value) (range_with_len 0 n)) (sym same) ∙ chunk_is _ chunk c.2 in
     let below : All (λ place. place < n) places = subst (λ k. All (λ place. place < k) places) stands.elements.count_is h in
     let tests : all_below l.elements places ≡ true = ap (λ k. all_below k places) t.elements ∙ below_tests n places below in
     let inside : all_below (length value) (packed_places_bytes l places) ≡ true = ap (λ k. all_below k (packed_places_bytes l places)) stands.len ∙ places_inside l places tests in
     let read : map (packed_element l value) places ≡ select chunk places = read_each (packed_element l value) n places below ∙ ap (λ (k : Chunk). select k places) is in
-    read_at (packed_layout settings sizes type fill) l (λ k. read_packed_places k type fill (Some value) places) stands.taken ∙ rw inside (ap ok read)
+    read_at (packed_layout settings (form_of sizes type fill)) l (λ k. read_packed_places k type fill (Some value) places) stands.taken ∙ rw inside (ap ok read)
 read_selects settings sizes text fill value chunk places stands h = absurd (let e = stands.taken in cc)
 read_selects settings sizes bytes fill value chunk places stands h = absurd (let e = stands.taken in cc)
 read_selects settings sizes (optional type) fill value chunk places stands h = absurd (let e = stands.taken in cc)

@@ -1,4 +1,5 @@
 -- What the codec computes is what its definitions say.
+use Rattle.zarrs_data_type.specs.Form.{form_of}
 use Rattle.std.proofs.Common.{◌≡◌, ℕ, ◌+◌, ◌*◌, ◌<◌, ◌≤◌, ◌^◌, ◌==◌, Bool, true, nat_lt, Result, Ok, Err, List, length, map, drop, arith, ap, sym, ◌∙◌, subst}
 use Rattle.std.specs.List.{flat_map, range_with_len}
 use Rattle.std.specs.Prelude.{IsOkAnd}
@@ -54,12 +55,12 @@ stream_of_elements l width components n sign raw size count =
     ∙ stream_of_pieces l raw.items
 
 -- what is made of a container that fits is its chunk's value
-pub encoded_is : (settings : PackBitsSettings) (sizes : List ℕ) (type : ElementType) (fill : List ℕ) (held : Held) (raw : Raw) (l : PackedLayout) → packed_layout settings sizes type fill ≡ Ok l → validity type (product sizes) held ≡ Ok tt → fixed_part held ≡ Ok raw
-    → packbits_value settings sizes type fill held ≡ Ok (value_with l (stream_of_bytes l raw.items))
+pub encoded_is : (settings : PackBitsSettings) (sizes : List ℕ) (type : ElementType) (fill : List ℕ) (held : Held) (raw : Raw) (l : PackedLayout) → packed_layout settings (form_of sizes type fill) ≡ Ok l → validity type (product sizes) held ≡ Ok tt → fixed_part held ≡ Ok raw
+    → packbits_value settings (form_of sizes type fill) held ≡ Ok (value_with l (stream_of_bytes l raw.items))
 encoded_is settings sizes (fixed width components sign) fill (flen own) raw l e valid part =
     let type = fixed width components sign in
     let t = taken settings sizes width components sign fill l e in
-    two_of (packed_layout settings sizes type fill) (validity type (product sizes) (flen own)) (λ k. value_with k (chunk_stream k (elements type (product sizes) (flen own)))) l tt e valid
+    two_of (packed_layout settings (form_of sizes type fill)) (validity type (product sizes) (flen own)) (λ k. value_with k (chunk_stream k (elements type (product sizes) (flen own)))) l tt e valid
     ∙ ap (λ (bits : List ℕ). ok (value_with l bits)) (stream_of_elements l width components (product sizes) sign own t.size t.elements ∙ ap (λ (r : Raw). stream_of_bytes l r.items) (part_is own raw part))
 encoded_is settings sizes (fixed width components sign) fill (vlen own offsets) raw l e valid part = absurd cc
 encoded_is settings sizes (fixed width components sign) fill (masked inner mask) raw l e valid part = absurd cc
@@ -68,7 +69,7 @@ encoded_is settings sizes bytes fill held raw l e valid part = absurd cc
 encoded_is settings sizes (optional type) fill held raw l e valid part = absurd cc
 
 -- how many bytes such a container has
-pub raw_length : (settings : PackBitsSettings) (sizes : List ℕ) (type : ElementType) (fill : List ℕ) (held : Held) (raw : Raw) (l : PackedLayout) → packed_layout settings sizes type fill ≡ Ok l → validity type (product sizes) held ≡ Ok tt → fixed_part held ≡ Ok raw → length raw.items ≡ parts_of l * l.size
+pub raw_length : (settings : PackBitsSettings) (sizes : List ℕ) (type : ElementType) (fill : List ℕ) (held : Held) (raw : Raw) (l : PackedLayout) → packed_layout settings (form_of sizes type fill) ≡ Ok l → validity type (product sizes) held ≡ Ok tt → fixed_part held ≡ Ok raw → length raw.items ≡ parts_of l * l.size
 raw_length settings sizes (fixed width components sign) fill (flen own) raw l e valid part =
     let t = taken settings sizes width components sign fill l e in
     let n = product sizes in
@@ -123,8 +124,8 @@ found_chunk (Ok a) test other cause f P x e t u p =
 found_chunk (Err d) test other cause f P x e t u p = absurd cc
 
 -- what is made of a value of the right length, with the right padding byte, is its chunk
-pub decoded_holds : (settings : PackBitsSettings) (sizes : List ℕ) (type : ElementType) (fill value : List ℕ) (raw : Raw) (l : PackedLayout) → packed_layout settings sizes type fill ≡ Ok l → length value ≡ value_len l → padding_holds l value ≡ true
-    → raw.items ≡ packing (components_from l 0 (parts_of l) (bits_of (drop (lead l) value))) → IsOkAnd (packbits_chunk settings sizes type fill value) (Holds type (flen raw))
+pub decoded_holds : (settings : PackBitsSettings) (sizes : List ℕ) (type : ElementType) (fill value : List ℕ) (raw : Raw) (l : PackedLayout) → packed_layout settings (form_of sizes type fill) ≡ Ok l → length value ≡ value_len l → padding_holds l value ≡ true
+    → raw.items ≡ packing (components_from l 0 (parts_of l) (bits_of (drop (lead l) value))) → IsOkAnd (packbits_chunk settings (form_of sizes type fill) value) (Holds type (flen raw))
 decoded_holds settings sizes (fixed width components sign) fill value raw l e long pad is =
     let type = fixed width components sign in
     let t = taken settings sizes width components sign fill l e in
@@ -132,7 +133,7 @@ decoded_holds settings sizes (fixed width components sign) fill value raw l e lo
     let small : length raw.items < 2 ^ 64 = omega (arith, ap length is, unpacked_long l value t.sound long, t.sound.bytes_fit) in
     let holds : Holds type (flen raw) (map (packed_element l value) (range_with_len 0 l.elements))
     = places_hold l value (range_with_len 0 l.elements) width components sign raw t.size (all_places l value t.sound long) (is ∙ ap packing (all_components l value)) small in
-    found_chunk (packed_layout settings sizes type fill) (λ k. length value == value_len k) (λ k. padding_holds k value) (λ k. InvalidBytesLength (length value) (value_len k)) (λ k. map (packed_element k value) (range_with_len 0 (product sizes))) (Holds type (flen raw)) l e passed pad
+    found_chunk (packed_layout settings (form_of sizes type fill)) (λ k. length value == value_len k) (λ k. padding_holds k value) (λ k. InvalidBytesLength (length value) (value_len k)) (λ k. map (packed_element k value) (range_with_len 0 (product sizes))) (Holds type (flen raw)) l e passed pad
     (subst (λ n. Holds type (flen raw) (map (packed_element l value) (range_with_len 0 n))) t.elements holds)
 decoded_holds settings sizes text fill value raw l e long pad is = absurd cc
 decoded_holds settings sizes bytes fill value raw l e long pad is = absurd cc

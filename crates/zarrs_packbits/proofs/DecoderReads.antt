@@ -1,4 +1,5 @@
 -- What a partial decoder answers of runs of places.
+use Rattle.zarrs_data_type.specs.Form.{form_of}
 use Rattle.std.proofs.Common.{◌≡◌, ℕ, suc, ◌+◌, ◌*◌, ◌<◌, ◌≤◌, [], ◌∷◌, true, Option, Some, None, Result, Ok, Err, List, length, map, arith, refl, sym, subst}
 use Rattle.std.specs.List.{All, range_with_len}
 use Rattle.std.proofs.lemmas.List.Elements.{All-nil, All-append}
@@ -21,7 +22,7 @@ use Rattle.zarrs_packbits.proofs.CodecLaws.{read_selects}
 use Rattle.zarrs_packbits.proofs.Taken.{taken}
 
 -- a fill value of a taken chunk has a byte
-pub taken_fill : (settings : PackBitsSettings) (sizes : List ℕ) (type : ElementType) (fill : List ℕ) (l : PackedLayout) → packed_layout settings sizes type fill ≡ Ok l → 0 < length fill
+pub taken_fill : (settings : PackBitsSettings) (sizes : List ℕ) (type : ElementType) (fill : List ℕ) (l : PackedLayout) → packed_layout settings (form_of sizes type fill) ≡ Ok l → 0 < length fill
 taken_fill settings sizes (fixed width components sign) fill l e =
     let t = taken settings sizes width components sign fill l e in
     let s = t.sound in
@@ -51,7 +52,7 @@ runs_below limit (run ∷ runs) h =
     (runs_below limit runs (λ k d l. h (suc k) d (omega arith)))
 
 -- what is read of runs of a value that stands for a chunk is the chunk's selection
-pub runs_select : (settings : PackBitsSettings) (sizes : List ℕ) (type : ElementType) (fill : List ℕ) (stored : Option (List ℕ)) (runs slice : List (ℕ × ℕ)) (places : Result (List ℕ) CodecError) → slice ≡ runs → All (λ run. run.0 + run.1 ≤ product sizes) runs → places ≡ Ok (joined_runs runs) → (value : List ℕ) (chunk : Chunk) → stored ≡ Some value → PackBitsStands settings sizes type fill value chunk → read_places_of settings sizes type fill stored (joined_runs slice) ≡ seen (select chunk) places
+pub runs_select : (settings : PackBitsSettings) (sizes : List ℕ) (type : ElementType) (fill : List ℕ) (stored : Option (List ℕ)) (runs slice : List (ℕ × ℕ)) (places : Result (List ℕ) CodecError) → slice ≡ runs → All (λ run. run.0 + run.1 ≤ product sizes) runs → places ≡ Ok (joined_runs runs) → (value : List ℕ) (chunk : Chunk) → stored ≡ Some value → PackBitsStands settings (form_of sizes type fill) value chunk → read_places_of settings (form_of sizes type fill) stored (joined_runs slice) ≡ seen (select chunk) places
 runs_select settings sizes type fill stored runs slice places view below is value chunk here stands =
     let count = stands.elements.count_is in
     let inside : All (λ place. place < length chunk) (joined_runs runs) = subst (λ k. All (λ place. place < k) (joined_runs runs)) (sym count) (runs_below (product sizes) runs below) in
@@ -62,6 +63,6 @@ filled_read (Ok l) c h = refl
 filled_read (Err e) c h = absurd cc
 
 -- what is read of runs where nothing is stored is the fill element at each place
-pub runs_filled : (settings : PackBitsSettings) (sizes : List ℕ) (type : ElementType) (fill : List ℕ) (stored : Option (List ℕ)) (runs slice : List (ℕ × ℕ)) (places : Result (List ℕ) CodecError) → is_ok (packed_layout settings sizes type fill) ≡ true → slice ≡ runs → places ≡ Ok (joined_runs runs) → stored ≡ None → read_places_of settings sizes type fill stored (joined_runs slice) ≡ seen (map (λ _. fill_element type fill)) places
+pub runs_filled : (settings : PackBitsSettings) (sizes : List ℕ) (type : ElementType) (fill : List ℕ) (stored : Option (List ℕ)) (runs slice : List (ℕ × ℕ)) (places : Result (List ℕ) CodecError) → is_ok (packed_layout settings (form_of sizes type fill)) ≡ true → slice ≡ runs → places ≡ Ok (joined_runs runs) → stored ≡ None → read_places_of settings (form_of sizes type fill) stored (joined_runs slice) ≡ seen (map (λ _. fill_element type fill)) places
 runs_filled settings sizes type fill stored runs slice places taken view is here =
-    rw view (rw here (rw is (filled_read (packed_layout settings sizes type fill) (map (λ _. fill_element type fill) (joined_runs runs)) taken)))
+    rw view (rw here (rw is (filled_read (packed_layout settings (form_of sizes type fill)) (map (λ _. fill_element type fill) (joined_runs runs)) taken)))

@@ -1,7 +1,7 @@
 -- Values are written and read exactly where the grammar says.
-use Rattle.std.proofs.Common.{◌≡◌, ℕ, zero, suc, ◌+◌, ◌*◌, ◌<◌, ◌^◌, ◌==◌, Bool, true, nat_lt, Result, Ok, Err, List, [], ◌∷◌, ◌++◌, length, map, get_or, arith, refl, ap, sym, ◌∙◌, subst}
+use Rattle.zarrs_data_type.specs.Form.{form_of}
+use Rattle.std.proofs.Common.{◌≡◌, ℕ, zero, suc, ◌+◌, ◌*◌, ◌<◌, ◌^◌, ◌==◌, Bool, true, nat_lt, Result, Ok, Err, List, [], ◌∷◌, ◌++◌, length, map, get_or, arith, refl, ap, sym, ◌∙◌, subst, Global}
 use Rattle.std.specs.List.{concat, flat_map, range_with_len}
-use Rattle.std.proofs.Common.{Global}
 use Rattle.std.specs.Prelude.{IfOk, IsOkAnd}
 use Rattle.std.specs.declared.borrow.CowSlice.{CowSlice}
 use Rattle.std.proofs.lemmas.Bool.Decides.{nat_tests}
@@ -119,7 +119,7 @@ pub stream_cut : (l : PackedLayout) (chunk : Chunk) → IsCut l chunk → chunk_
 stream_cut l chunk h = ap (chunk_stream l) h.are ∙ stream_of_pieces l (joined chunk)
 
 -- a value stands for a chunk as it does for the chunk's bytes
-pub flat_stands : (settings : PackBitsSettings) (sizes : List ℕ) (width components : ℕ) (sign : Bool) (fill value : List ℕ) (chunk : Chunk) (h : PackBitsStands settings sizes (fixed width components sign) fill value chunk) → FlatStands h.layout value (joined chunk)
+pub flat_stands : (settings : PackBitsSettings) (sizes : List ℕ) (width components : ℕ) (sign : Bool) (fill value : List ℕ) (chunk : Chunk) (h : PackBitsStands settings (form_of sizes (fixed width components sign) fill) value chunk) → FlatStands h.layout value (joined chunk)
 flat_stands settings sizes width components sign fill value chunk h =
     let l = h.layout in
     let t = taken settings sizes width components sign fill l h.taken in
@@ -141,7 +141,7 @@ flat_stands settings sizes width components sign fill value chunk h =
     nf_long l items t e = (encoded_stands l items t.sound e).chunk.size
 
 -- and the other way round
-pub stands_flat : (settings : PackBitsSettings) (sizes : List ℕ) (width components : ℕ) (sign : Bool) (fill value items : List ℕ) (l : PackedLayout) → packed_layout settings sizes (fixed width components sign) fill ≡ Ok l → FlatStands l value items → PackBitsStands settings sizes (fixed width components sign) fill value (cut l items)
+pub stands_flat : (settings : PackBitsSettings) (sizes : List ℕ) (width components : ℕ) (sign : Bool) (fill value items : List ℕ) (l : PackedLayout) → packed_layout settings (form_of sizes (fixed width components sign) fill) ≡ Ok l → FlatStands l value items → PackBitsStands settings (form_of sizes (fixed width components sign) fill) value (cut l items)
 stands_flat settings sizes width components sign fill value items l e h =
     let t = taken settings sizes width components sign fill l e in
     record {
@@ -156,24 +156,24 @@ stands_flat settings sizes width components sign fill value items l e h =
 
 -- ---- encoding
 
-pub encoded_only : (settings : PackBitsSettings) (sizes : List ℕ) (type : ElementType) (fill value : List ℕ) (held : Held) (chunk : Chunk) → Holds type held chunk → PackBitsWritten settings sizes type fill value chunk → packbits_value settings sizes type fill held ≡ Ok value
+pub encoded_only : (settings : PackBitsSettings) (sizes : List ℕ) (type : ElementType) (fill value : List ℕ) (held : Held) (chunk : Chunk) → Holds type held chunk → PackBitsWritten settings (form_of sizes type fill) value chunk → packbits_value settings (form_of sizes type fill) held ≡ Ok value
 encoded_only settings sizes type fill value held chunk holds written =
     let count = written.elements.count_is in
     let valid : validity type (product sizes) held ≡ Ok tt = ap (λ n. validity type n held) (sym count) ∙ holds.valid in
     let same : elements type (product sizes) held ≡ chunk = ap (λ n. elements type n held) (sym count) ∙ holds.elements_are in
-    two_of (packed_layout settings sizes type fill) (validity type (product sizes) held) (λ k. value_with k (chunk_stream k (elements type (product sizes) held))) written.layout tt written.taken valid
+    two_of (packed_layout settings (form_of sizes type fill)) (validity type (product sizes) held) (λ k. value_with k (chunk_stream k (elements type (product sizes) held))) written.layout tt written.taken valid
     ∙ ap (λ (c : Chunk). ok (value_with written.layout (chunk_stream written.layout c))) same
     ∙ ap ok (sym written.spelt)
 
 bytes_are : (x y : List ℕ) → ok x ≡ ok y → y ≡ x
 bytes_are x y e = cc
 
-pub encoded_found : (settings : PackBitsSettings) (sizes : List ℕ) (type : ElementType) (fill value : List ℕ) (held : Held) → packbits_value settings sizes type fill held ≡ Ok value → (chunk : Chunk) × Holds type held chunk × PackBitsWritten settings sizes type fill value chunk
+pub encoded_found : (settings : PackBitsSettings) (sizes : List ℕ) (type : ElementType) (fill value : List ℕ) (held : Held) → packbits_value settings (form_of sizes type fill) held ≡ Ok value → (chunk : Chunk) × Holds type held chunk × PackBitsWritten settings (form_of sizes type fill) value chunk
 encoded_found settings sizes (fixed width components sign) fill value (flen raw) e =
     let type = fixed width components sign in
     let size = element_size width components in
     let n = product sizes in
-    let a = bind_ok (packed_layout settings sizes type fill) _ value e in
+    let a = bind_ok (packed_layout settings (form_of sizes type fill)) _ value e in
     let b = bind_ok (validity type n (flen raw)) _ value a.2 in
     let chunk = elements type n (flen raw) in
     let count : length chunk ≡ n = ap length (elements-pieces width components sign n raw) ∙ length-map (pieces size n raw.items) plain ∙ count-pieces size n raw.items in
@@ -191,12 +191,12 @@ encoded_found settings sizes (fixed width components sign) fill value (flen raw)
       },
     )
 encoded_found settings sizes (fixed width components sign) fill value (vlen raw offsets) e =
-    let a = bind_ok (packed_layout settings sizes (fixed width components sign) fill) _ value e in
+    let a = bind_ok (packed_layout settings (form_of sizes (fixed width components sign) fill)) _ value e in
     let b = bind_ok (validity (fixed width components sign) (product sizes) (vlen raw offsets)) _ value a.2 in
     let v = bind_ok (demand (nat_lt (product sizes * element_size width components) (2 ^ 64)) Overflow) _ tt b.1 in
     absurd (let w = v.2 in cc)
 encoded_found settings sizes (fixed width components sign) fill value (masked inner mask) e =
-    let a = bind_ok (packed_layout settings sizes (fixed width components sign) fill) _ value e in
+    let a = bind_ok (packed_layout settings (form_of sizes (fixed width components sign) fill)) _ value e in
     let b = bind_ok (validity (fixed width components sign) (product sizes) (masked inner mask)) _ value a.2 in
     let v = bind_ok (demand (nat_lt (product sizes * element_size width components) (2 ^ 64)) Overflow) _ tt b.1 in
     absurd (let w = v.2 in cc)
@@ -224,10 +224,10 @@ elements_cut settings sizes width components sign fill value l t long =
     length-range zero s = refl
     length-range (suc n) s = ap suc (length-range n (s + 1))
 
-pub decoded_found : (settings : PackBitsSettings) (sizes : List ℕ) (type : ElementType) (fill value : List ℕ) (chunk : Chunk) → packbits_chunk settings sizes type fill value ≡ Ok chunk → PackBitsStands settings sizes type fill value chunk
+pub decoded_found : (settings : PackBitsSettings) (sizes : List ℕ) (type : ElementType) (fill value : List ℕ) (chunk : Chunk) → packbits_chunk settings (form_of sizes type fill) value ≡ Ok chunk → PackBitsStands settings (form_of sizes type fill) value chunk
 decoded_found settings sizes (fixed width components sign) fill value chunk e =
     let type = fixed width components sign in
-    let a = bind_ok (packed_layout settings sizes type fill) _ chunk e in
+    let a = bind_ok (packed_layout settings (form_of sizes type fill)) _ chunk e in
     let l = a.0 in
     let b = bind_ok (demand (length value == value_len l) (InvalidBytesLength (length value) (value_len l))) _ chunk a.2 in
     let c = bind_ok (demand (padding_holds l value) PaddingByte) _ chunk b.2 in
@@ -238,7 +238,7 @@ decoded_found settings sizes (fixed width components sign) fill value chunk e =
     let items = packing (flat_map (element_bits l value) (range_with_len 0 l.elements)) in
     let is : chunk ≡ cut l items = chunk_is _ chunk c.2 ∙ elements_cut settings sizes width components sign fill value l t long in
     let flat : decoded l value ≡ Ok items = chosen (length value) (value_len l) (padding_holds l value) _ long pad ∙ ap (λ (bits : List ℕ). ok (packing bits)) (all_components l value) in
-    subst (PackBitsStands settings sizes type fill value) (sym is) (stands_flat settings sizes width components sign fill value items l a.1 (decoded_stands l value items t.sound flat))
+    subst (PackBitsStands settings (form_of sizes type fill) value) (sym is) (stands_flat settings sizes width components sign fill value items l a.1 (decoded_stands l value items t.sound flat))
 decoded_found settings sizes text fill value chunk e = absurd cc
 decoded_found settings sizes bytes fill value chunk e = absurd cc
 decoded_found settings sizes (optional type) fill value chunk e = absurd cc
@@ -254,7 +254,7 @@ three_of (Ok a) test other cause f x e t u =
     inside a x e = cc
 three_of (Err d) test other cause f x e t u = absurd cc
 
-pub decoded_only : (settings : PackBitsSettings) (sizes : List ℕ) (type : ElementType) (fill value : List ℕ) (chunk : Chunk) → PackBitsStands settings sizes type fill value chunk → packbits_chunk settings sizes type fill value ≡ Ok chunk
+pub decoded_only : (settings : PackBitsSettings) (sizes : List ℕ) (type : ElementType) (fill value : List ℕ) (chunk : Chunk) → PackBitsStands settings (form_of sizes type fill) value chunk → packbits_chunk settings (form_of sizes type fill) value ≡ Ok chunk
 decoded_only settings sizes (fixed width components sign) fill value chunk h =
     let type = fixed width components sign in
     let l = h.layout in
@@ -264,7 +264,7 @@ decoded_only settings sizes (fixed width components sign) fill value chunk h =
     let items = packing (flat_map (element_bits l value) (range_with_len 0 l.elements)) in
     let flat : decoded l value ≡ Ok items = chosen (length value) (value_len l) (padding_holds l value) _ h.len h.padding ∙ ap (λ (bits : List ℕ). ok (packing bits)) (all_components l value) in
     let same : items ≡ joined chunk = bytes_same items (joined chunk) (sym flat ∙ stands_decoded l value (joined chunk) t.sound (flat_stands settings sizes width components sign fill value chunk h)) in
-    three_of (packed_layout settings sizes type fill) (λ k. length value == value_len k) (λ k. padding_holds k value) (λ k. InvalidBytesLength (length value) (value_len k)) (λ k. map (packed_element k value) (range_with_len 0 (product sizes))) l h.taken passed h.padding
+    three_of (packed_layout settings (form_of sizes type fill)) (λ k. length value == value_len k) (λ k. padding_holds k value) (λ k. InvalidBytesLength (length value) (value_len k)) (λ k. map (packed_element k value) (range_with_len 0 (product sizes))) l h.taken passed h.padding
     ∙ ap ok (elements_cut settings sizes width components sign fill value l t h.len ∙ ap (cut l) same ∙ sym c.are)
   where
     bytes_same : (x y : List ℕ) → ok x ≡ ok y → x ≡ y
@@ -276,14 +276,14 @@ decoded_only settings sizes (optional type) fill value chunk h = absurd (let e =
 -- ---- at the calls
 
 -- a container that holds what the value was decoded to
-pub holds_stands : (settings : PackBitsSettings) (sizes : List ℕ) (type : ElementType) (fill value : List ℕ) (held : Held) → IsOkAnd (packbits_chunk settings sizes type fill value) (Holds type held) → (chunk : Chunk) × Holds type held chunk × PackBitsStands settings sizes type fill value chunk
-holds_stands settings sizes type fill value held h = by_answer (packbits_chunk settings sizes type fill value) refl h
+pub holds_stands : (settings : PackBitsSettings) (sizes : List ℕ) (type : ElementType) (fill value : List ℕ) (held : Held) → IsOkAnd (packbits_chunk settings (form_of sizes type fill) value) (Holds type held) → (chunk : Chunk) × Holds type held chunk × PackBitsStands settings (form_of sizes type fill) value chunk
+holds_stands settings sizes type fill value held h = by_answer (packbits_chunk settings (form_of sizes type fill) value) refl h
   where
-    by_answer : (r : Result Chunk CodecError) → packbits_chunk settings sizes type fill value ≡ r → IsOkAnd r (Holds type held) → (chunk : Chunk) × Holds type held chunk × PackBitsStands settings sizes type fill value chunk
+    by_answer : (r : Result Chunk CodecError) → packbits_chunk settings (form_of sizes type fill) value ≡ r → IsOkAnd r (Holds type held) → (chunk : Chunk) × Holds type held chunk × PackBitsStands settings (form_of sizes type fill) value chunk
     by_answer (Ok chunk) e h = (chunk, h, decoded_found settings sizes type fill value chunk e)
     by_answer (Err d) e h = absurd h
 
-pub holds_only : (settings : PackBitsSettings) (sizes : List ℕ) (type : ElementType) (fill value : List ℕ) (held : Held) (chunk : Chunk) → IsOkAnd (packbits_chunk settings sizes type fill value) (Holds type held) → PackBitsStands settings sizes type fill value chunk → Holds type held chunk
+pub holds_only : (settings : PackBitsSettings) (sizes : List ℕ) (type : ElementType) (fill value : List ℕ) (held : Held) (chunk : Chunk) → IsOkAnd (packbits_chunk settings (form_of sizes type fill) value) (Holds type held) → PackBitsStands settings (form_of sizes type fill) value chunk → Holds type held chunk
 holds_only settings sizes type fill value held chunk h stands =
     subst (λ (r : Result Chunk CodecError). IsOkAnd r (Holds type held)) (decoded_only settings sizes type fill value chunk stands) h
 

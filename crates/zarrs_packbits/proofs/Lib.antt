@@ -5,6 +5,7 @@ pub mod Coding
 pub mod DecoderReads
 pub mod ElementBits
 pub mod Exact
+pub mod ByGrammar
 pub mod FieldLemmas
 pub mod FlagLemmas
 pub mod FlatChunk

@@ -1,8 +1,8 @@
 -- Reads in part.
-use Rattle.std.proofs.Common.{◌≡◌, ℕ, zero, suc, ◌+◌, ◌-◌, ◌*◌, ◌<◌, ◌≤◌, ◌^◌, ◌&&◌, Bool, true, false, nat_lt, Option, Some, None, Result, Ok, Err, List, [], ◌∷◌, ◌++◌, length, map, arith, refl, ap, sym, ◌∙◌, subst}
+use Rattle.zarrs_data_type.specs.Form.{form_of}
+use Rattle.std.proofs.Common.{◌≡◌, ℕ, zero, suc, ◌+◌, ◌-◌, ◌*◌, ◌<◌, ◌≤◌, ◌^◌, ◌&&◌, Bool, true, false, nat_lt, Option, Some, None, Result, Ok, Err, List, [], ◌∷◌, ◌++◌, length, map, arith, refl, ap, sym, ◌∙◌, subst, if◌then◌else◌}
 use Rattle.std.specs.List.{concat, flat_map, list_all, range_with_len, sum_by}
 use Rattle.std.specs.Prelude.{IsOkAnd}
-use Rattle.std.proofs.Common.{if◌then◌else◌}
 use Rattle.std.proofs.lemmas.Bool.Decides.{nat_tests}
 use Rattle.std.proofs.lemmas.List.{length-append}
 use Rattle.std.proofs.lemmas.List.Concat.{flat_map-append}
@@ -73,7 +73,7 @@ found_if true x items c P h f = f refl (bytes_same x items h)
 found_if false x items c P h f = absurd cc
 
 -- the bytes that are read hold the elements at the places
-pub places_found : (settings : PackBitsSettings) (sizes : List ℕ) (type : ElementType) (fill places items : List ℕ) (stored : Option (List ℕ)) (l : PackedLayout) → packed_layout settings sizes type fill ≡ Ok l → read_packed_bytes l stored fill places ≡ Ok items → length items < 2 ^ 64
+pub places_found : (settings : PackBitsSettings) (sizes : List ℕ) (type : ElementType) (fill places items : List ℕ) (stored : Option (List ℕ)) (l : PackedLayout) → packed_layout settings (form_of sizes type fill) ≡ Ok l → read_packed_bytes l stored fill places ≡ Ok items → length items < 2 ^ 64
     → IsOkAnd (read_packed_places l type fill stored places) (Holds type (flen (owned_bytes items)))
 places_found settings sizes (fixed width components sign) fill places items None l e h small =
     let t = taken settings sizes width components sign fill l e in

@@ -1,4 +1,5 @@
 -- What is known of chunks that the codec takes.
+use Rattle.zarrs_data_type.specs.Form.{form_of}
 use Rattle.std.proofs.Common.{◌≡◌, ℕ, ◌+◌, ◌-◌, ◌*◌, ◌<◌, ◌≤◌, ◌&&◌, Bool, true, nat_lt, nat_le, Ok, List, arith, refl, ap, sym, ◌∙◌, subst}
 use Rattle.zarrs_chunk.specs.Answer.{demand, checked_u64}
 use Rattle.zarrs_chunk.specs.ChunkShape.{product}
@@ -34,7 +35,7 @@ sound_for settings n width components sign h some reach =
     (let e : first + (last + 1 - first) + (8 * size - (last + 1)) ≡ 8 * size = omega arith in e)
     (λ whole. bare_padding _ _ whole) reach
 
-pub taken : (settings : PackBitsSettings) (sizes : List ℕ) (width components : ℕ) (sign : Bool) (fill : List ℕ) (l : PackedLayout) → packed_layout settings sizes (fixed width components sign) fill ≡ Ok l → IsTaken settings sizes width components sign fill l
+pub taken : (settings : PackBitsSettings) (sizes : List ℕ) (width components : ℕ) (sign : Bool) (fill : List ℕ) (l : PackedLayout) → packed_layout settings (form_of sizes (fixed width components sign) fill) ≡ Ok l → IsTaken settings sizes width components sign fill l
 taken settings sizes width components sign fill l e =
     let n = product sizes in
     let a = bind_ok (demand (fill_fits (fixed width components sign) fill) InvalidFillValue) _ l e in
@@ -58,7 +59,7 @@ taken settings sizes width components sign fill l e =
     }
 
 -- it takes fixed types alone
-pub taken_width : (settings : PackBitsSettings) (sizes : List ℕ) (type : ElementType) (fill : List ℕ) (l : PackedLayout) → packed_layout settings sizes type fill ≡ Ok l → (width : ℕ) × (components : ℕ) × (sign : Bool) × (type ≡ fixed width components sign)
+pub taken_width : (settings : PackBitsSettings) (sizes : List ℕ) (type : ElementType) (fill : List ℕ) (l : PackedLayout) → packed_layout settings (form_of sizes type fill) ≡ Ok l → (width : ℕ) × (components : ℕ) × (sign : Bool) × (type ≡ fixed width components sign)
 taken_width settings sizes (fixed width components sign) fill l e = (width, components, sign, refl)
 taken_width settings sizes text fill l e = absurd cc
 taken_width settings sizes bytes fill l e = absurd cc

@@ -1,4 +1,5 @@
 -- Where all bits of whole bytes are kept, the answers are those of the codec `bytes` in little order.
+use Rattle.zarrs_data_type.specs.Form.{form_of}
 use Rattle.std.proofs.Common.{◌≡◌, ℕ, zero, suc, ◌+◌, ◌*◌, ◌<◌, ◌==◌, Bool, true, false, Some, Result, Ok, Err, List, [], ◌∷◌, ◌++◌, length, map, get_or, arith, refl, ap, sym, ◌∙◌, subst}
 use Rattle.std.specs.List.{All, concat}
 use Rattle.std.specs.Prelude.{IfOk, IsOkAnd}
@@ -60,8 +61,8 @@ joined_parts [] = refl
 joined_parts (part ∷ parts) = ap (λ (l : List ℕ). part ++ l) (joined_parts parts)
 
 -- what `bytes` writes of a container
-pub whole_value : (settings : PackBitsSettings) (sizes : List ℕ) (type : ElementType) (fill value : List ℕ) (held : Held) → keeps_all_bytes (packed_layout settings sizes type fill) ≡ true → bytes_value (Some Little) sizes type fill held ≡ Ok value → ((i : ℕ) → get_or value i 0 < 256)
-    → packbits_value settings sizes type fill held ≡ Ok value
+pub whole_value : (settings : PackBitsSettings) (sizes : List ℕ) (type : ElementType) (fill value : List ℕ) (held : Held) → keeps_all_bytes (packed_layout settings (form_of sizes type fill)) ≡ true → bytes_value (Some Little) (form_of sizes type fill) held ≡ Ok value → ((i : ℕ) → get_or value i 0 < 256)
+    → packbits_value settings (form_of sizes type fill) held ≡ Ok value
 whole_value settings sizes (fixed width components sign) fill value held keeps e small =
     let type = fixed width components sign in
     let f = encoded_found (Some Little) sizes type fill value held e in
@@ -82,12 +83,12 @@ second_refused (Ok a) (Err b) s f y x len cause e g h = absurd cc
 second_refused (Err d) q s f y x len cause e g h = absurd cc
 
 -- what it refuses to write
-pub whole_refused : (settings : PackBitsSettings) (sizes : List ℕ) (type : ElementType) (fill : List ℕ) (held : Held) (cause : CodecError) → keeps_all_bytes (packed_layout settings sizes type fill) ≡ true → bytes_value (Some Little) sizes type fill held ≡ Err cause → packbits_value settings sizes type fill held ≡ Err cause
+pub whole_refused : (settings : PackBitsSettings) (sizes : List ℕ) (type : ElementType) (fill : List ℕ) (held : Held) (cause : CodecError) → keeps_all_bytes (packed_layout settings (form_of sizes type fill)) ≡ true → bytes_value (Some Little) (form_of sizes type fill) held ≡ Err cause → packbits_value settings (form_of sizes type fill) held ≡ Err cause
 whole_refused settings sizes (fixed width components sign) fill held cause keeps e =
     let type = fixed width components sign in
     let n = product sizes in
-    let whole = layout_kept (packed_layout settings sizes type fill) keeps in
-    second_refused (packed_layout settings sizes type fill) (bytes_length (Some Little) sizes type fill) (validity type n held) (λ k. value_with k (chunk_stream k (elements type n held))) (spelling (Some Little) type (elements type n held)) whole.0 (n * element_size width components) cause whole.1
+    let whole = layout_kept (packed_layout settings (form_of sizes type fill)) keeps in
+    second_refused (packed_layout settings (form_of sizes type fill)) (bytes_length (Some Little) (form_of sizes type fill)) (validity type n held) (λ k. value_with k (chunk_stream k (elements type n held))) (spelling (Some Little) type (elements type n held)) whole.0 (n * element_size width components) cause whole.1
     (length_fits settings sizes width components sign fill whole.0 whole.1) e
 whole_refused settings sizes text fill held cause keeps e = absurd cc
 whole_refused settings sizes bytes fill held cause keeps e = absurd cc
@@ -96,7 +97,7 @@ whole_refused settings sizes (optional type) fill held cause keeps e = absurd cc
 -- ---- decoding
 
 -- how long a value is
-whole_length : (settings : PackBitsSettings) (sizes : List ℕ) (width components : ℕ) (sign : Bool) (fill : List ℕ) (l : PackedLayout) → packed_layout settings sizes (fixed width components sign) fill ≡ Ok l → is_whole l ≡ true → product sizes * element_size width components ≡ value_len l
+whole_length : (settings : PackBitsSettings) (sizes : List ℕ) (width components : ℕ) (sign : Bool) (fill : List ℕ) (l : PackedLayout) → packed_layout settings (form_of sizes (fixed width components sign) fill) ≡ Ok l → is_whole l ≡ true → product sizes * element_size width components ≡ value_len l
 whole_length settings sizes width components sign fill l e whole =
     let t = taken settings sizes width components sign fill l e in
     ap (λ k. product sizes * k) t.size ∙ ap (λ n. n * (l.group * l.size)) (sym t.elements)
@@ -110,14 +111,14 @@ by_length q n f len P e h = from_test (n == len) refl (subst (λ (r : Result ℕ
     from_test false t g = absurd (rw t at g)
 
 -- what `bytes` reads of a value
-pub whole_chunk : (settings : PackBitsSettings) (sizes : List ℕ) (type : ElementType) (fill value : List ℕ) (raw : Raw) → keeps_all_bytes (packed_layout settings sizes type fill) ≡ true → IsOkAnd (bytes_chunk (Some Little) sizes type fill value) (Holds type (flen raw)) → raw.items ≡ value → ((i : ℕ) → get_or value i 0 < 256)
-    → IsOkAnd (packbits_chunk settings sizes type fill value) (Holds type (flen raw))
+pub whole_chunk : (settings : PackBitsSettings) (sizes : List ℕ) (type : ElementType) (fill value : List ℕ) (raw : Raw) → keeps_all_bytes (packed_layout settings (form_of sizes type fill)) ≡ true → IsOkAnd (bytes_chunk (Some Little) (form_of sizes type fill) value) (Holds type (flen raw)) → raw.items ≡ value → ((i : ℕ) → get_or value i 0 < 256)
+    → IsOkAnd (packbits_chunk settings (form_of sizes type fill) value) (Holds type (flen raw))
 whole_chunk settings sizes (fixed width components sign) fill value raw keeps h is small =
     let type = fixed width components sign in
-    let whole = layout_kept (packed_layout settings sizes type fill) keeps in
+    let whole = layout_kept (packed_layout settings (form_of sizes type fill)) keeps in
     let l = whole.0 in
     let t = taken settings sizes width components sign fill l whole.1 in
-    let long : length value ≡ value_len l = by_length (bytes_length (Some Little) sizes type fill) (length value) _ (product sizes * element_size width components) (Holds type (flen raw)) (length_fits settings sizes width components sign fill l whole.1) h ∙ whole_length settings sizes width components sign fill l whole.1 whole.2 in
+    let long : length value ≡ value_len l = by_length (bytes_length (Some Little) (form_of sizes type fill)) (length value) _ (product sizes * element_size width components) (Holds type (flen raw)) (length_fits settings sizes width components sign fill l whole.1) h ∙ whole_length settings sizes width components sign fill l whole.1 whole.2 in
     let pad : padding_holds l value ≡ true = ap (λ p. padding_is p (spare_of l) value) (t.sound.bare whole.2) in
     decoded_holds settings sizes type fill value raw l whole.1 long pad (is ∙ sym (whole_unpacked l value t.sound whole.2 long small))
 whole_chunk settings sizes text fill value raw keeps h is small = absurd cc
@@ -143,23 +144,23 @@ length_refused (Ok m) (Err d) n len x test f l cause e g is h = absurd cc
 length_refused (Err d) r n len x test f l cause e g is h = absurd cc
 
 -- what it refuses to read
-pub whole_refused_chunk : (settings : PackBitsSettings) (sizes : List ℕ) (type : ElementType) (fill value : List ℕ) (cause : CodecError) → keeps_all_bytes (packed_layout settings sizes type fill) ≡ true → bytes_chunk (Some Little) sizes type fill value ≡ Err cause → packbits_chunk settings sizes type fill value ≡ Err cause
+pub whole_refused_chunk : (settings : PackBitsSettings) (sizes : List ℕ) (type : ElementType) (fill value : List ℕ) (cause : CodecError) → keeps_all_bytes (packed_layout settings (form_of sizes type fill)) ≡ true → bytes_chunk (Some Little) (form_of sizes type fill) value ≡ Err cause → packbits_chunk settings (form_of sizes type fill) value ≡ Err cause
 whole_refused_chunk settings sizes (fixed width components sign) fill value cause keeps e =
     let type = fixed width components sign in
-    let whole = layout_kept (packed_layout settings sizes type fill) keeps in
+    let whole = layout_kept (packed_layout settings (form_of sizes type fill)) keeps in
     let l = whole.0 in
-    length_refused (bytes_length (Some Little) sizes type fill) (packed_layout settings sizes type fill) (length value) (product sizes * element_size width components) _ (λ k. padding_holds k value) _ l cause
+    length_refused (bytes_length (Some Little) (form_of sizes type fill)) (packed_layout settings (form_of sizes type fill)) (length value) (product sizes * element_size width components) _ (λ k. padding_holds k value) _ l cause
     (length_fits settings sizes width components sign fill l whole.1) whole.1 (whole_length settings sizes width components sign fill l whole.1 whole.2) e
 whole_refused_chunk settings sizes text fill value cause keeps e = absurd cc
 whole_refused_chunk settings sizes bytes fill value cause keeps e = absurd cc
 whole_refused_chunk settings sizes (optional type) fill value cause keeps e = absurd cc
 
 -- what `bytes` answers of a value
-pub whole_answer : (settings : PackBitsSettings) (sizes : List ℕ) (type : ElementType) (fill value : List ℕ) (raw : Raw) (r : Result Held CodecError) → keeps_all_bytes (packed_layout settings sizes type fill) ≡ true → AnswersBy never (Holds type) r (bytes_chunk (Some Little) sizes type fill value) → IfOk r (λ held. held ≡ flen raw) → raw.items ≡ value → ((i : ℕ) → get_or value i 0 < 256)
-    → AnswersBy never (Holds type) r (packbits_chunk settings sizes type fill value)
+pub whole_answer : (settings : PackBitsSettings) (sizes : List ℕ) (type : ElementType) (fill value : List ℕ) (raw : Raw) (r : Result Held CodecError) → keeps_all_bytes (packed_layout settings (form_of sizes type fill)) ≡ true → AnswersBy never (Holds type) r (bytes_chunk (Some Little) (form_of sizes type fill) value) → IfOk r (λ held. held ≡ flen raw) → raw.items ≡ value → ((i : ℕ) → get_or value i 0 < 256)
+    → AnswersBy never (Holds type) r (packbits_chunk settings (form_of sizes type fill) value)
 whole_answer settings sizes type fill value raw (Ok held) keeps h k is small =
-    subst (λ (held : Held). IsOkAnd (packbits_chunk settings sizes type fill value) (Holds type held)) (sym k)
-    (whole_chunk settings sizes type fill value raw keeps (subst (λ (held : Held). IsOkAnd (bytes_chunk (Some Little) sizes type fill value) (Holds type held)) k h) is small)
+    subst (λ (held : Held). IsOkAnd (packbits_chunk settings (form_of sizes type fill) value) (Holds type held)) (sym k)
+    (whole_chunk settings sizes type fill value raw keeps (subst (λ (held : Held). IsOkAnd (bytes_chunk (Some Little) (form_of sizes type fill) value) (Holds type held)) k h) is small)
 whole_answer settings sizes type fill value raw (Err cause) keeps h k is small = λ _. whole_refused_chunk settings sizes type fill value cause keeps (h refl)
 
 -- what is never excused holds whatever is excused
@@ -173,7 +174,7 @@ answers_seen excuse view (Ok x) expected h = sym h
 answers_seen excuse view (Err cause) expected h = λ _. sym h
 
 -- a value of which a container is the answer stands for the container's chunk
-pub answer_stands : (settings : PackBitsSettings) (sizes : List ℕ) (type : ElementType) (fill value : List ℕ) (r : Result Held CodecError) → AnswersBy never (Holds type) r (packbits_chunk settings sizes type fill value)
-    → IfOk r (λ held. (chunk : Chunk) × Holds type held chunk × PackBitsStands settings sizes type fill value chunk)
+pub answer_stands : (settings : PackBitsSettings) (sizes : List ℕ) (type : ElementType) (fill value : List ℕ) (r : Result Held CodecError) → AnswersBy never (Holds type) r (packbits_chunk settings (form_of sizes type fill) value)
+    → IfOk r (λ held. (chunk : Chunk) × Holds type held chunk × PackBitsStands settings (form_of sizes type fill) value chunk)
 answer_stands settings sizes type fill value (Ok held) h = holds_stands settings sizes type fill value held h
 answer_stands settings sizes type fill value (Err cause) h = tt

@@ -1,4 +1,5 @@
 -- Where all bits of whole bytes are kept, reads in part are those of the codec `bytes` in little order.
+use Rattle.zarrs_data_type.specs.Form.{form_of}
 use Rattle.std.proofs.Common.{◌≡◌, ℕ, ◌+◌, ◌-◌, ◌*◌, ◌<◌, ◌≤◌, ◌^◌, ◌==◌, ◌&&◌, Bool, true, false, nat_lt, nat_le, Option, Some, None, Result, Ok, Err, List, [], ◌∷◌, ◌++◌, length, map, take, drop, get_or, arith, refl, ap, ap₂, sym, ◌∙◌, subst}
 use Rattle.std.specs.List.{concat, flat_map, list_all, range_with_len}
 use Rattle.std.specs.Prelude.{IfOk, IsOkAnd}
@@ -126,7 +127,7 @@ refused_alike true other chunk another cause e h = absurd cc
 refused_alike false other chunk another cause e h = rw e cc
 
 -- what `bytes` reads of the places
-whole_found : (settings : PackBitsSettings) (sizes : List ℕ) (type : ElementType) (fill places : List ℕ) (stored : Option (List ℕ)) (l : PackedLayout) (held : Held) → packed_layout settings sizes type fill ≡ Ok l → is_whole l ≡ true → ((raw : Raw) → held ≡ flen raw → (i : ℕ) → get_or raw.items i 0 < 256)
+whole_found : (settings : PackBitsSettings) (sizes : List ℕ) (type : ElementType) (fill places : List ℕ) (stored : Option (List ℕ)) (l : PackedLayout) (held : Held) → packed_layout settings (form_of sizes type fill) ≡ Ok l → is_whole l ≡ true → ((raw : Raw) → held ≡ flen raw → (i : ℕ) → get_or raw.items i 0 < 256)
     → IsOkAnd (read_places (Some Little) type fill stored places) (Holds type held) → IsOkAnd (read_packed_places l type fill stored places) (Holds type held)
 whole_found settings sizes (fixed width components sign) fill places None l held e h small read = read
 whole_found settings sizes (fixed width components sign) fill places (Some v) l held e h small read =
@@ -149,7 +150,7 @@ whole_found settings sizes bytes fill places stored l held e h small read = absu
 whole_found settings sizes (optional type) fill places stored l held e h small read = absurd cc
 
 -- what it refuses to read
-whole_not_found : (settings : PackBitsSettings) (sizes : List ℕ) (type : ElementType) (fill places : List ℕ) (stored : Option (List ℕ)) (l : PackedLayout) (cause : CodecError) → packed_layout settings sizes type fill ≡ Ok l → is_whole l ≡ true → read_places (Some Little) type fill stored places ≡ Err cause → read_packed_places l type fill stored places ≡ Err cause
+whole_not_found : (settings : PackBitsSettings) (sizes : List ℕ) (type : ElementType) (fill places : List ℕ) (stored : Option (List ℕ)) (l : PackedLayout) (cause : CodecError) → packed_layout settings (form_of sizes type fill) ≡ Ok l → is_whole l ≡ true → read_places (Some Little) type fill stored places ≡ Err cause → read_packed_places l type fill stored places ≡ Err cause
 whole_not_found settings sizes (fixed width components sign) fill places None l cause e h read = absurd cc
 whole_not_found settings sizes (fixed width components sign) fill places (Some v) l cause e h read =
     let t = taken settings sizes width components sign fill l e in
@@ -159,22 +160,22 @@ whole_not_found settings sizes bytes fill places stored l cause e h read = absur
 whole_not_found settings sizes (optional type) fill places stored l cause e h read = absurd cc
 
 -- its answer
-pub whole_read : (settings : PackBitsSettings) (sizes : List ℕ) (type : ElementType) (fill places : List ℕ) (stored : Option (List ℕ)) (l : PackedLayout) (r : Result Held CodecError) → packed_layout settings sizes type fill ≡ Ok l → is_whole l ≡ true → IfOk r (λ held. (raw : Raw) → held ≡ flen raw → (i : ℕ) → get_or raw.items i 0 < 256)
-    → AnswersBy memory_or_fault (Holds type) r (read_places (Some Little) type fill stored places) → AnswersBy memory_or_fault (Holds type) r (read_places_of settings sizes type fill stored places)
+pub whole_read : (settings : PackBitsSettings) (sizes : List ℕ) (type : ElementType) (fill places : List ℕ) (stored : Option (List ℕ)) (l : PackedLayout) (r : Result Held CodecError) → packed_layout settings (form_of sizes type fill) ≡ Ok l → is_whole l ≡ true → IfOk r (λ held. (raw : Raw) → held ≡ flen raw → (i : ℕ) → get_or raw.items i 0 < 256)
+    → AnswersBy memory_or_fault (Holds type) r (read_places (Some Little) type fill stored places) → AnswersBy memory_or_fault (Holds type) r (read_places_of settings (form_of sizes type fill) stored places)
 whole_read settings sizes type fill places stored l (Ok held) e h small read =
-    rw (read_at (packed_layout settings sizes type fill) l (λ k. read_packed_places k type fill stored places) e) (whole_found settings sizes type fill places stored l held e h small read)
+    rw (read_at (packed_layout settings (form_of sizes type fill)) l (λ k. read_packed_places k type fill stored places) e) (whole_found settings sizes type fill places stored l held e h small read)
 whole_read settings sizes type fill places stored l (Err cause) e h small read =
-    λ not. read_at (packed_layout settings sizes type fill) l (λ k. read_packed_places k type fill stored places) e ∙ whole_not_found settings sizes type fill places stored l cause e h (read not)
+    λ not. read_at (packed_layout settings (form_of sizes type fill)) l (λ k. read_packed_places k type fill stored places) e ∙ whole_not_found settings sizes type fill places stored l cause e h (read not)
 
 numbers_at : {A : Type 0} (r : Result PackedLayout CodecError) (l : PackedLayout) (f : PackedLayout → A) → r ≡ Ok l → (r >>= λ k. Ok (f k)) ≡ ok (f l)
 numbers_at r l f e = rw e refl
 
 -- what holds where the bytes that `bytes` reads are sure holds where those of the places are
-pub whole_sure : (settings : PackBitsSettings) (sizes : List ℕ) (type : ElementType) (fill places : List ℕ) (sure : Option (ℕ → Bool)) (P : Type 0) (l : PackedLayout) → packed_layout settings sizes type fill ≡ Ok l → is_whole l ≡ true → (are_sure sure (place_bytes (place_size type) places) ≡ true → P)
-    → IfOk (bytes_of_places settings sizes type fill places) (λ numbers. are_sure sure numbers ≡ true → P)
+pub whole_sure : (settings : PackBitsSettings) (sizes : List ℕ) (type : ElementType) (fill places : List ℕ) (sure : Option (ℕ → Bool)) (P : Type 0) (l : PackedLayout) → packed_layout settings (form_of sizes type fill) ≡ Ok l → is_whole l ≡ true → (are_sure sure (place_bytes (place_size type) places) ≡ true → P)
+    → IfOk (bytes_of_places settings (form_of sizes type fill) places) (λ numbers. are_sure sure numbers ≡ true → P)
 whole_sure settings sizes (fixed width components sign) fill places sure P l e h holds =
     let t = taken settings sizes width components sign fill l e in
-    rw (numbers_at (packed_layout settings sizes (fixed width components sign) fill) l (λ k. packed_places_bytes k places) e) (λ given.
+    rw (numbers_at (packed_layout settings (form_of sizes (fixed width components sign) fill)) l (λ k. packed_places_bytes k places) e) (λ given.
     holds (ap (λ k. are_sure sure (place_bytes k places)) t.size ∙ ap (are_sure sure) (sym (whole_places l places t.sound h)) ∙ given))
 whole_sure settings sizes text fill places sure P l e h holds = absurd cc
 whole_sure settings sizes bytes fill places sure P l e h holds = absurd cc

@@ -1,4 +1,5 @@
 -- Laws of the codec `packbits`.
+use Rattle.zarrs_data_type.specs.Form.{form_of}
 use Rattle.std.specs.Prelude.{◌≡◌, ◌<◌, ◌↔◌, ℕ, true, Some, List, length, All, Ok, ◌*◌, ◌≤◌, drop}
 use Rattle.zarrs_data_type.specs.Element.{Element, plain, absent, present, Chunk}
 use Rattle.zarrs_data_type.specs.ElementType.{ElementType}
@@ -20,25 +21,25 @@ use Rattle.zarrs_packbits.specs.PartialRead.{packed_places_bytes, span_end, read
 abbrev pub WrittenStands : Type 0
 WrittenStands =
     (settings : PackBitsSettings) (sizes : List ℕ) (type : ElementType) (fill value : List ℕ) (chunk : Chunk)
-    → PackBitsWritten settings sizes type fill value chunk → PackBitsStands settings sizes type fill value (normal_chunk settings type chunk)
+    → PackBitsWritten settings (form_of sizes type fill) value chunk → PackBitsStands settings (form_of sizes type fill) value (normal_chunk settings type chunk)
 
 -- What is decoded of it is the normal form.
 abbrev pub DecodedIsNormal : Type 0
 DecodedIsNormal =
     (settings : PackBitsSettings) (sizes : List ℕ) (type : ElementType) (fill value : List ℕ) (chunk : Chunk)
-    → PackBitsWritten settings sizes type fill value chunk → packbits_chunk settings sizes type fill value ≡ Ok (normal_chunk settings type chunk)
+    → PackBitsWritten settings (form_of sizes type fill) value chunk → packbits_chunk settings (form_of sizes type fill) value ≡ Ok (normal_chunk settings type chunk)
 
 -- The normal form of a normal form is itself, for chunks that the codec takes.
 abbrev pub NormalOnce : Type 0
 NormalOnce =
     (settings : PackBitsSettings) (sizes : List ℕ) (type : ElementType) (fill value : List ℕ) (chunk : Chunk)
-    → PackBitsWritten settings sizes type fill value chunk → normal_chunk settings type (normal_chunk settings type chunk) ≡ normal_chunk settings type chunk
+    → PackBitsWritten settings (form_of sizes type fill) value chunk → normal_chunk settings type (normal_chunk settings type chunk) ≡ normal_chunk settings type chunk
 
 -- A chunk and its normal form are written alike.
 abbrev pub NormalWritten : Type 0
 NormalWritten =
     (settings : PackBitsSettings) (sizes : List ℕ) (type : ElementType) (fill value : List ℕ) (chunk : Chunk)
-    → PackBitsWritten settings sizes type fill value chunk → PackBitsWritten settings sizes type fill value (normal_chunk settings type chunk)
+    → PackBitsWritten settings (form_of sizes type fill) value chunk → PackBitsWritten settings (form_of sizes type fill) value (normal_chunk settings type chunk)
 
 -- The normal form of selected elements is those selected of the normal form.
 abbrev pub NormalSelected : Type 0
@@ -56,33 +57,33 @@ NormalUpdated =
 abbrev pub StandsForOne : Type 0
 StandsForOne =
     (settings : PackBitsSettings) (sizes : List ℕ) (type : ElementType) (fill value : List ℕ) (chunk other : Chunk)
-    → PackBitsStands settings sizes type fill value chunk → PackBitsStands settings sizes type fill value other → chunk ≡ other
+    → PackBitsStands settings (form_of sizes type fill) value chunk → PackBitsStands settings (form_of sizes type fill) value other → chunk ≡ other
 
 -- Two chunks are written alike exactly if their normal forms are equal.
 abbrev pub WrittenAlike : Type 0
 WrittenAlike =
     (settings : PackBitsSettings) (sizes : List ℕ) (type : ElementType) (fill value other_value : List ℕ) (chunk other : Chunk)
-    → PackBitsWritten settings sizes type fill value chunk → PackBitsWritten settings sizes type fill other_value other
+    → PackBitsWritten settings (form_of sizes type fill) value chunk → PackBitsWritten settings (form_of sizes type fill) other_value other
     → (value ≡ other_value) ↔ (normal_chunk settings type chunk ≡ normal_chunk settings type other)
 
 -- A written value has the length that the representation says.
 abbrev pub HasRepresentedLength : Type 0
 HasRepresentedLength =
     (settings : PackBitsSettings) (sizes : List ℕ) (type : ElementType) (fill value : List ℕ) (chunk : Chunk) (len : ℕ)
-    → PackBitsWritten settings sizes type fill value chunk → packbits_length settings sizes type fill ≡ Ok len → length value ≡ len
+    → PackBitsWritten settings (form_of sizes type fill) value chunk → packbits_length settings (form_of sizes type fill) ≡ Ok len → length value ≡ len
 
 -- Of a value that stands for a chunk, a read of places inside selects the chunk's elements.
 abbrev pub ReadSelects : Type 0
 ReadSelects =
     (settings : PackBitsSettings) (sizes : List ℕ) (type : ElementType) (fill value : List ℕ) (chunk : Chunk) (places : List ℕ)
-    → PackBitsStands settings sizes type fill value chunk → All (λ place. place < length chunk) places
-    → read_places_of settings sizes type fill (Some value) places ≡ Ok (select chunk places)
+    → PackBitsStands settings (form_of sizes type fill) value chunk → All (λ place. place < length chunk) places
+    → read_places_of settings (form_of sizes type fill) (Some value) places ≡ Ok (select chunk places)
 
 -- Two values that both have all bytes of these places, and the same ones there, are read alike at these places.
 abbrev pub ReadsAlike : Type 0
 ReadsAlike =
     (settings : PackBitsSettings) (sizes : List ℕ) (type : ElementType) (fill : List ℕ) (layout : PackedLayout) (value other places : List ℕ)
-    → packed_layout settings sizes type fill ≡ Ok layout → All (SameByte value other) (packed_places_bytes layout places)
+    → packed_layout settings (form_of sizes type fill) ≡ Ok layout → All (SameByte value other) (packed_places_bytes layout places)
     → read_packed_places layout type fill (Some value) places ≡ read_packed_places layout type fill (Some other) places
 
 -- the kept bits of the element at a place
@@ -99,7 +100,7 @@ pub record SameBits (l : PackedLayout) (value other : List ℕ) (place : ℕ) : 
 abbrev pub ReadsBitsAlike : Type 0
 ReadsBitsAlike =
     (settings : PackBitsSettings) (sizes : List ℕ) (type : ElementType) (fill : List ℕ) (layout : PackedLayout) (value other places : List ℕ)
-    → packed_layout settings sizes type fill ≡ Ok layout → All (SameBits layout value other) places
+    → packed_layout settings (form_of sizes type fill) ≡ Ok layout → All (SameBits layout value other) places
     → read_packed_places layout type fill (Some value) places ≡ read_packed_places layout type fill (Some other) places
 
 -- the bytes of an element are below 256, as all bytes are
@@ -112,5 +113,5 @@ HasBytes (present element) = HasBytes element
 abbrev pub WrittenAsBytes : Type 0
 WrittenAsBytes =
     (settings : PackBitsSettings) (sizes : List ℕ) (type : ElementType) (fill value : List ℕ) (chunk : Chunk)
-    → keeps_all_bytes (packed_layout settings sizes type fill) ≡ true → All HasBytes chunk
-    → PackBitsWritten settings sizes type fill value chunk ↔ BytesWritten (Some Little) sizes type fill value chunk
+    → keeps_all_bytes (packed_layout settings (form_of sizes type fill)) ≡ true → All HasBytes chunk
+    → PackBitsWritten settings (form_of sizes type fill) value chunk ↔ BytesWritten (Some Little) (form_of sizes type fill) value chunk

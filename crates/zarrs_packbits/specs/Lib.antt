@@ -6,6 +6,7 @@ pub mod KeptBits
 pub mod Laws
 pub mod NormalForm
 pub mod PackBitsCodec
+pub mod PackBitsGrammar
 pub mod PackBitsPartialDecoder
 pub mod PackBitsSettings
 pub mod PackedLayout
@@ -23,12 +24,15 @@ pub use Rattle.zarrs_chunk.specs.Selection
 pub use Rattle.zarrs_data_type.specs.Element
 pub use Rattle.zarrs_data_type.specs.ElementType
 pub use Rattle.zarrs_data_type.specs.FillValue
+pub use Rattle.zarrs_data_type.specs.Form
 pub use Rattle.zarrs_array_bytes.specs.Elements
 pub use Rattle.zarrs_array_bytes.specs.Held
 pub use Rattle.zarrs_array_bytes.specs.Update
 pub use Rattle.zarrs_array_bytes.specs.Validity
 pub use Rattle.zarrs_codec.specs.ArrayReader
 pub use Rattle.zarrs_codec.specs.ByteRanges
+pub use Rattle.zarrs_codec.specs.CodersOverHandles
+pub use Rattle.zarrs_codec.specs.Grammar
 pub use Rattle.zarrs_codec.specs.Refused
 pub use Rattle.zarrs_codec.specs.StorageState
 pub use Rattle.zarrs_bytes.specs.BytesCodec

@@ -6,10 +6,10 @@ use Rattle.zarrs_chunk.specs.ChunkShape.{product}
 use Rattle.zarrs_chunk.specs.declared.codec_error.CodecError.{CodecError}
 use Rattle.zarrs_chunk.specs.declared.codec_error.CodecError.TheVariants.{InvalidBytesLength, PaddingByte}
 use Rattle.zarrs_data_type.specs.Element.{Chunk}
-use Rattle.zarrs_data_type.specs.ElementType.{ElementType}
 use Rattle.zarrs_array_bytes.specs.Elements.{elements}
 use Rattle.zarrs_array_bytes.specs.Held.{Held}
 use Rattle.zarrs_array_bytes.specs.Validity.{validity}
+use Rattle.zarrs_data_type.specs.Form.{Form}
 use Rattle.zarrs_bytes.specs.BytesCodec.{IsChunk}
 use Rattle.zarrs_packbits.specs.Bits.{bits_of, field}
 use Rattle.zarrs_packbits.specs.BitStream.{chunk_stream, packed_element}
@@ -22,35 +22,35 @@ use Rattle.zarrs_packbits.specs.PaddingByte.{lead, value_len, padding_holds, val
 -- ---- its grammar
 
 -- The value stands for the chunk: the codec takes such chunks; the value has its length, and its padding byte is the number of spare bits; without a padding byte before them, its first bits are the kept ones of the chunk's components, in order; and the chunk has no other bits. Spare bits are free.
-pub record PackBitsStands (settings : PackBitsSettings) (sizes : List ℕ) (type : ElementType) (fill value : List ℕ) (chunk : Chunk) : Type 0 where
+pub record PackBitsStands (settings : PackBitsSettings) (form : Form) (value : List ℕ) (chunk : Chunk) : Type 0 where
   pub layout : PackedLayout
-  pub taken : packed_layout settings sizes type fill ≡ Ok layout
-  pub elements : IsChunk type (product sizes) chunk
+  pub taken : packed_layout settings form ≡ Ok layout
+  pub elements : IsChunk form.type (product form.sizes) chunk
   pub len : length value ≡ value_len layout
   pub padding : padding_holds layout value ≡ true
   pub bits : field 0 (bits_in layout) (bits_of (drop (lead layout) value)) ≡ chunk_stream layout chunk
-  pub kept : normal_chunk settings type chunk ≡ chunk
+  pub kept : normal_chunk settings form.type chunk ≡ chunk
 
 -- The value is written for the chunk: the codec takes such chunks, and the value is the kept bits of the chunk's components, in order, in as few bytes as hold them, with zeros for spare bits, and the padding byte where it belongs.
-pub record PackBitsWritten (settings : PackBitsSettings) (sizes : List ℕ) (type : ElementType) (fill value : List ℕ) (chunk : Chunk) : Type 0 where
+pub record PackBitsWritten (settings : PackBitsSettings) (form : Form) (value : List ℕ) (chunk : Chunk) : Type 0 where
   pub layout : PackedLayout
-  pub taken : packed_layout settings sizes type fill ≡ Ok layout
-  pub elements : IsChunk type (product sizes) chunk
+  pub taken : packed_layout settings form ≡ Ok layout
+  pub elements : IsChunk form.type (product form.sizes) chunk
   pub spelt : value ≡ value_with layout (chunk_stream layout chunk)
 
 -- ---- what its calls answer
 
 -- the value of the chunk that a container holds, or the first refusal
-abbrev pub packbits_value : PackBitsSettings → List ℕ → ElementType → List ℕ → Held → Result (List ℕ) CodecError
-packbits_value settings sizes type fill held = do
-  l ← packed_layout settings sizes type fill
-  _ ← validity type (product sizes) held
-  Ok (value_with l (chunk_stream l (elements type (product sizes) held)))
+abbrev pub packbits_value : PackBitsSettings → Form → Held → Result (List ℕ) CodecError
+packbits_value settings form held = do
+  l ← packed_layout settings form
+  _ ← validity form.type (product form.sizes) held
+  Ok (value_with l (chunk_stream l (elements form.type (product form.sizes) held)))
 
 -- the chunk that a value stands for, or the first refusal
-abbrev pub packbits_chunk : PackBitsSettings → List ℕ → ElementType → List ℕ → List ℕ → Result Chunk CodecError
-packbits_chunk settings sizes type fill value = do
-  l ← packed_layout settings sizes type fill
+abbrev pub packbits_chunk : PackBitsSettings → Form → List ℕ → Result Chunk CodecError
+packbits_chunk settings form value = do
+  l ← packed_layout settings form
   _ ← demand (length value == value_len l) (InvalidBytesLength (length value) (value_len l))
   _ ← demand (padding_holds l value) PaddingByte
-  Ok (map (packed_element l value) (range_with_len 0 (product sizes)))
+  Ok (map (packed_element l value) (range_with_len 0 (product form.sizes)))

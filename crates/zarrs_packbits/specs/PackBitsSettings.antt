@@ -1,16 +1,17 @@
 -- Which bits a codec `packbits` keeps, and how it packs the chunks that it takes.
-use Rattle.std.specs.Prelude.{ℕ, ◌+◌, ◌-◌, ◌*◌, ◌==◌, ◌&&◌, nat_le, nat_lt, Bool, false, not, Option, Some, None, List, Result, Ok, Err, if◌then◌else◌}
+use Rattle.std.specs.Prelude.{ℕ, ◌+◌, ◌-◌, ◌*◌, ◌==◌, ◌&&◌, nat_le, nat_lt, Bool, false, not, Option, Some, None, Result, Ok, Err, if◌then◌else◌}
 use Rattle.zarrs_chunk.specs.Answer.{◌>>=◌, demand, checked_u64, seen}
 use Rattle.zarrs_chunk.specs.ChunkShape.{product}
 use Rattle.zarrs_chunk.specs.declared.codec_error.CodecError.{CodecError}
 use Rattle.zarrs_chunk.specs.declared.codec_error.CodecError.TheVariants.{UnsupportedDataType, InvalidFillValue, BitRange, Overflow}
 use Rattle.zarrs_chunk.specs.declared.codec_error.CodecName.TheVariants as codec
-use Rattle.zarrs_data_type.specs.ElementType.{ElementType, fixed, text, bytes, optional, component_bytes}
+use Rattle.zarrs_data_type.specs.ElementType.{fixed, text, bytes, optional, component_bytes}
 use Rattle.zarrs_data_type.specs.FillValue.{fill_fits}
 use Rattle.zarrs_metadata.specs.declared.codec.packbits.PackBitsPaddingEncoding.{PackBitsPaddingEncoding}
 use Rattle.zarrs_metadata.specs.declared.codec.packbits.PackBitsPaddingEncoding.TheVariants as padding
 use Rattle.zarrs_metadata.specs.declared.plugin_create_error.PluginCreateError.{PluginCreateError}
 use Rattle.zarrs_metadata.specs.declared.plugin_create_error.PluginCreateError.TheVariants.{BitOrder}
+use Rattle.zarrs_data_type.specs.Form.{Form}
 use Rattle.zarrs_packbits.specs.declared.layout.PackedLayout.{PackedLayout}
 use Rattle.zarrs_packbits.specs.PackedLayout.{is_in_reach, is_whole}
 use Rattle.zarrs_packbits.specs.PaddingByte.{value_len}
@@ -73,20 +74,22 @@ layout_for settings elements width components sign =
     }
 
 -- How a chunk is packed, or the first cause why the codec doesn't take such chunks. An element has a component at least.
-abbrev pub packed_layout : PackBitsSettings → List ℕ → ElementType → List ℕ → Result PackedLayout CodecError
-packed_layout settings sizes (fixed width components sign) fill = do
-  _ ← demand (fill_fits (fixed width components sign) fill) InvalidFillValue
-  _ ← demand (has_bits settings width && nat_lt 0 components) BitRange
-  count ← checked_u64 (product sizes)
-  _ ← demand (is_in_reach (layout_for settings count width components sign)) Overflow
-  Ok (layout_for settings count width components sign)
-packed_layout settings sizes text fill = Err (UnsupportedDataType codec.PackBits)
-packed_layout settings sizes bytes fill = Err (UnsupportedDataType codec.PackBits)
-packed_layout settings sizes (optional type) fill = Err (UnsupportedDataType codec.PackBits)
+abbrev pub packed_layout : PackBitsSettings → Form → Result PackedLayout CodecError
+packed_layout settings form = elim form.type [
+  | fixed width components sign ↦ do
+    _ ← demand (fill_fits (fixed width components sign) form.fill) InvalidFillValue
+    _ ← demand (has_bits settings width && nat_lt 0 components) BitRange
+    count ← checked_u64 (product form.sizes)
+    _ ← demand (is_in_reach (layout_for settings count width components sign)) Overflow
+    Ok (layout_for settings count width components sign)
+  | text ↦ Err (UnsupportedDataType codec.PackBits)
+  | bytes ↦ Err (UnsupportedDataType codec.PackBits)
+  | optional type ↦ Err (UnsupportedDataType codec.PackBits)
+]
 
 -- how many bytes the value of such a chunk has, or the first cause why the codec doesn't take such chunks
-abbrev pub packbits_length : PackBitsSettings → List ℕ → ElementType → List ℕ → Result ℕ CodecError
-packbits_length settings sizes type fill = seen value_len (packed_layout settings sizes type fill)
+abbrev pub packbits_length : PackBitsSettings → Form → Result ℕ CodecError
+packbits_length settings form = seen value_len (packed_layout settings form)
 
 -- all bits of whole bytes are kept of the chunks that are packed so
 abbrev pub keeps_all_bytes : Result PackedLayout CodecError → Bool

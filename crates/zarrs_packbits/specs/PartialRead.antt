@@ -7,6 +7,7 @@ use Rattle.zarrs_chunk.specs.declared.codec_error.CodecError.{CodecError}
 use Rattle.zarrs_chunk.specs.declared.codec_error.CodecError.TheVariants.{InvalidByteRange}
 use Rattle.zarrs_data_type.specs.Element.{Chunk, fill_element}
 use Rattle.zarrs_data_type.specs.ElementType.{ElementType}
+use Rattle.zarrs_data_type.specs.Form.{Form}
 use Rattle.zarrs_packbits.specs.BitStream.{element_bits, packed_element}
 use Rattle.zarrs_packbits.specs.PackBitsSettings.{PackBitsSettings, packed_layout}
 use Rattle.zarrs_packbits.specs.declared.layout.PackedLayout.{PackedLayout}
@@ -48,32 +49,32 @@ read_packed_places l type fill (Some value) places = do
   Ok (map (packed_element l value) places)
 
 -- the same by the settings, or the first cause why the codec doesn't take such chunks
-abbrev pub read_places_of : PackBitsSettings → List ℕ → ElementType → List ℕ → Option (List ℕ) → List ℕ → Result Chunk CodecError
-read_places_of settings sizes type fill stored places = do
-  l ← packed_layout settings sizes type fill
-  read_packed_places l type fill stored places
+abbrev pub read_places_of : PackBitsSettings → Form → Option (List ℕ) → List ℕ → Result Chunk CodecError
+read_places_of settings form stored places = do
+  l ← packed_layout settings form
+  read_packed_places l form.type form.fill stored places
 
 -- the elements that a selection means, of what is stored, or the first refusal
-abbrev pub packbits_read : PackBitsSettings → List ℕ → ElementType → List ℕ → Option (List ℕ) → Selection → Result Chunk CodecError
-packbits_read settings sizes type fill stored selection = do
-  places ← places_of selection sizes
-  read_places_of settings sizes type fill stored places
+abbrev pub packbits_read : PackBitsSettings → Form → Option (List ℕ) → Selection → Result Chunk CodecError
+packbits_read settings form stored selection = do
+  places ← places_of selection form.sizes
+  read_places_of settings form stored places
 
 -- the numbers of the bytes of these places, by the settings
-abbrev pub bytes_of_places : PackBitsSettings → List ℕ → ElementType → List ℕ → List ℕ → Result (List ℕ) CodecError
-bytes_of_places settings sizes type fill places = do
-  l ← packed_layout settings sizes type fill
+abbrev pub bytes_of_places : PackBitsSettings → Form → List ℕ → Result (List ℕ) CodecError
+bytes_of_places settings form places = do
+  l ← packed_layout settings form
   Ok (packed_places_bytes l places)
 
 -- the numbers of the bytes that such a read rests on, or the first refusal
-abbrev pub packbits_plan : PackBitsSettings → List ℕ → ElementType → List ℕ → Selection → Result (List ℕ) CodecError
-packbits_plan settings sizes type fill selection = do
-  places ← places_of selection sizes
-  bytes_of_places settings sizes type fill places
+abbrev pub packbits_plan : PackBitsSettings → Form → Selection → Result (List ℕ) CodecError
+packbits_plan settings form selection = do
+  places ← places_of selection form.sizes
+  bytes_of_places settings form places
 
 -- the places that a selection means, and how their chunk is packed, or the first refusal
-abbrev pub packbits_places : PackBitsSettings → List ℕ → ElementType → List ℕ → Selection → Result (List ℕ × PackedLayout) CodecError
-packbits_places settings sizes type fill selection = do
-  places ← places_of selection sizes
-  l ← packed_layout settings sizes type fill
+abbrev pub packbits_places : PackBitsSettings → Form → Selection → Result (List ℕ × PackedLayout) CodecError
+packbits_places settings form selection = do
+  places ← places_of selection form.sizes
+  l ← packed_layout settings form
   Ok (places, l)

@@ -12,13 +12,13 @@ impl ArrayToBytesCodecTraits for PackBitsCodec {
     ghost use Rattle.zarrs_packbits.specs.PackBitsCodec.{packbits_value, packbits_chunk};
     ghost use Rattle.zarrs_packbits.specs.PackBitsSettings.{packbits_length};
 
-    ghost represented = { λ settings sizes type fill. seen FixedSize (packbits_length settings sizes type fill) };
+    ghost represented = { λ settings form. seen FixedSize (packbits_length settings form) };
 
-    ghost encoded = { λ settings sizes type fill held. packbits_value settings sizes type fill held };
+    ghost encoded = { λ settings form held. packbits_value settings form held };
 
-    ghost decoded = { λ settings sizes type fill value. packbits_chunk settings sizes type fill value };
+    ghost decoded = { λ settings form value. packbits_chunk settings form value };
 
-    ghost opened = { λ settings sizes type fill _. seen (λ _. tt) (packbits_length settings sizes type fill) };
+    ghost opened = { λ settings form _. seen (λ _. tt) (packbits_length settings form) };
 
     fn encoded_representation(
         &self,

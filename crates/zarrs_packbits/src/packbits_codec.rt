@@ -1,8 +1,10 @@
-ghost use Rattle.std.specs.Prelude.{◌≡◌, ℕ, ◌+◌, ◌*◌, ◌^◌, ◌<◌, List, ◌++◌, IfOk, IfSome, Ok, Some, drop, length, true, false, option_map, slice_index};
-ghost use Rattle.zarrs_chunk.specs.Answer.{Answers, AnswersBy, is_fault, memory, never, seen};
+ghost use Rattle.zarrs_data_type.specs.Form.{form_of};
+ghost use Rattle.zarrs_array_bytes.specs.Held.{items_of, flen, raw_of};
+ghost use Rattle.zarrs_codec.specs.Grammar.{Encodes, Decodes};
+ghost use Rattle.zarrs_packbits.specs.PackBitsGrammar.{packbits_grammar};
+ghost use Rattle.std.specs.Prelude.{◌≡◌, ℕ, ◌+◌, ◌*◌, ◌^◌, ◌<◌, ◌++◌, IfOk, IfSome, Ok, Some, drop, length, true, false, option_map, slice_index};
+ghost use Rattle.zarrs_chunk.specs.Answer.{Answers, AnswersBy, is_fault, memory, never, seen, Gives};
 ghost use Rattle.zarrs_chunk.specs.ChunkShape.{product};
-ghost use Rattle.zarrs_data_type.specs.Element.{Chunk};
-ghost use Rattle.zarrs_array_bytes.specs.Held.{flen, raw_of};
 ghost use Rattle.zarrs_array_bytes.specs.Validity.{Holds};
 ghost use Rattle.zarrs_metadata.specs.CodecMetadata.{codec_metadata, packbits_name};
 ghost use Rattle.zarrs_metadata.specs.MetadataV3.{configuration_seen};
@@ -11,7 +13,7 @@ ghost use Rattle.zarrs_codec.specs.declared.capabilities.PartialDecoderCapabilit
 ghost use Rattle.zarrs_codec.specs.declared.capabilities.PartialEncoderCapability.{PartialEncoderCapability};
 ghost use Rattle.zarrs_packbits.specs.Bits.{bits_of};
 ghost use Rattle.zarrs_packbits.specs.BitStream.{components_from, stream_of_bytes};
-ghost use Rattle.zarrs_packbits.specs.PackBitsCodec.{packbits_value, packbits_chunk, PackBitsStands, PackBitsWritten};
+ghost use Rattle.zarrs_packbits.specs.PackBitsCodec.{packbits_value, packbits_chunk};
 ghost use Rattle.zarrs_packbits.specs.PackBitsSettings.{is_reversed, packbits_settings, keeps_all_bytes, packed_layout, packbits_length, first_of, last_of, padding_for};
 ghost use Rattle.zarrs_packbits.specs.PackedLayout.{IsPackedLayout, is_whole, parts_of, spare_of};
 ghost use Rattle.zarrs_packbits.specs.Packing.{packing};
@@ -126,9 +128,8 @@ fn packed_raw<'a>(
 ) -> Result<ArrayBytesRaw<'a>, CodecError>
     requires layout { IsPackedLayout layout.now }
     requires last { layout.now.first + layout.now.count < 2 ^ 64 }
-    requires len { length (raw_of raw).items ≡ parts_of layout.now * layout.now.size }
-    ensures exact { Answers memory (λ value. (raw_of value).items) result (Ok (value_with layout.now (stream_of_bytes layout.now (raw_of raw.entry).items))) }
-    ensures no_fault { is_fault result ≡ false }
+    requires len { length (items_of raw) ≡ parts_of layout.now * layout.now.size }
+    ensures exact { Gives items_of result (Ok (value_with layout.now (stream_of_bytes layout.now (items_of raw.entry)))) }
 {
     let value = packed_value(alloc, layout, &raw)?;
     Ok(CowSlice::Owned(value))
@@ -142,9 +143,8 @@ fn unpacked_raw<'a>(
 ) -> Result<ArrayBytesRaw<'a>, CodecError>
     requires layout { IsPackedLayout layout.now }
     requires in_part { is_whole layout.now ≡ false }
-    requires len { length (raw_of value).items ≡ value_len layout.now }
-    ensures exact { Answers memory (λ bytes. (raw_of bytes).items) result (Ok (packing (components_from layout.now 0 (parts_of layout.now) (bits_of (drop (lead layout.now) (raw_of value.entry).items))))) }
-    ensures no_fault { is_fault result ≡ false }
+    requires len { length (items_of value) ≡ value_len layout.now }
+    ensures exact { Gives items_of result (Ok (packing (components_from layout.now 0 (parts_of layout.now) (bits_of (drop (lead layout.now) (items_of value.entry)))))) }
 {
     let bytes = unpacked_bytes(alloc, layout, &value)?;
     Ok(CowSlice::Owned(bytes))
@@ -216,7 +216,7 @@ impl PackBitsCodec {
         data_type: &DataType,
         fill_value: &FillValue,
     ) -> Result<PackedLayout, CodecError>
-        ensures answer { result ≡ packed_layout self.now shape.now data_type.now fill_value.now }
+        ensures answer { result ≡ packed_layout self.now (form_of shape.now data_type.now fill_value.now) }
         ensures sound { IfOk result IsPackedLayout }
         ensures last { IfOk result (λ layout. layout.first + layout.count < 2 ^ 64) }
         ensures elements { IfOk result (λ layout. layout.elements ≡ product shape.now) }
@@ -264,7 +264,7 @@ impl PackBitsCodec {
         data_type: &DataType,
         fill_value: &FillValue,
     ) -> Result<BytesRepresentation, CodecError>
-        ensures answer { result ≡ seen BytesRepresentation.FixedSize (packbits_length self.now shape.now data_type.now fill_value.now) }
+        ensures answer { result ≡ seen BytesRepresentation.FixedSize (packbits_length self.now (form_of shape.now data_type.now fill_value.now)) }
     {
         let layout = self.layout(shape, data_type, fill_value)?;
         Ok(BytesRepresentation::FixedSize(layout.value_len()))
@@ -280,8 +280,8 @@ impl PackBitsCodec {
         data_type: &DataType,
         fill_value: &FillValue,
     ) -> Result<ArrayBytesRaw<'a>, CodecError>
-        requires whole { keeps_all_bytes (packed_layout self.now shape.now data_type.now fill_value.now) ≡ true }
-        ensures exact { seen (λ value. (raw_of value).items) result ≡ packbits_value self.now shape.now data_type.now fill_value.now elements.entry }
+        requires whole { keeps_all_bytes (packed_layout self.now (form_of shape.now data_type.now fill_value.now)) ≡ true }
+        ensures exact { seen items_of result ≡ packbits_value self.now (form_of shape.now data_type.now fill_value.now) elements.entry }
         ensures kept { IfOk result (λ value. elements.entry ≡ flen (raw_of value)) }
         ensures no_fault { is_fault result ≡ false }
     {
@@ -300,8 +300,8 @@ impl PackBitsCodec {
         data_type: &DataType,
         fill_value: &FillValue,
     ) -> Result<ArrayBytes<'a>, CodecError>
-        requires whole { keeps_all_bytes (packed_layout self.now shape.now data_type.now fill_value.now) ≡ true }
-        ensures exact { AnswersBy never (Holds data_type.now) result (packbits_chunk self.now shape.now data_type.now fill_value.now (raw_of value.entry).items) }
+        requires whole { keeps_all_bytes (packed_layout self.now (form_of shape.now data_type.now fill_value.now)) ≡ true }
+        ensures exact { AnswersBy never (Holds data_type.now) result (packbits_chunk self.now (form_of shape.now data_type.now fill_value.now) (items_of value.entry)) }
         ensures kept { IfOk result (λ elements. elements ≡ flen (raw_of value.entry)) }
         ensures no_fault { is_fault result ≡ false }
     {
@@ -321,12 +321,9 @@ impl PackBitsCodec {
         data_type: &DataType,
         fill_value: &FillValue,
     ) -> Result<ArrayBytesRaw<'a>, CodecError>
-        ensures found { IfOk result (λ value. (chunk : Chunk) × Holds data_type.now elements.entry chunk × PackBitsWritten self.now shape.now data_type.now fill_value.now (raw_of value).items chunk) }
-        ensures only { (chunk : Chunk) (value : List ℕ) → Holds data_type.now elements.entry chunk → PackBitsWritten self.now shape.now data_type.now fill_value.now value chunk → Answers memory (λ bytes. (raw_of bytes).items) result (Ok value) }
-        ensures exact { Answers memory (λ value. (raw_of value).items) result (packbits_value self.now shape.now data_type.now fill_value.now elements.entry) }
-        ensures in_place { keeps_all_bytes (packed_layout self.now shape.now data_type.now fill_value.now) ≡ true → seen (λ value. (raw_of value).items) result ≡ packbits_value self.now shape.now data_type.now fill_value.now elements.entry }
-        ensures kept { keeps_all_bytes (packed_layout self.now shape.now data_type.now fill_value.now) ≡ true → IfOk result (λ value. elements.entry ≡ flen (raw_of value)) }
-        ensures no_fault { is_fault result ≡ false }
+        ensures encodes { Encodes (packbits_grammar self.now) (form_of shape.now data_type.now fill_value.now) elements.entry result }
+        ensures in_place { keeps_all_bytes (packed_layout self.now (form_of shape.now data_type.now fill_value.now)) ≡ true → seen items_of result ≡ packbits_value self.now (form_of shape.now data_type.now fill_value.now) elements.entry }
+        ensures kept { keeps_all_bytes (packed_layout self.now (form_of shape.now data_type.now fill_value.now)) ≡ true → IfOk result (λ value. elements.entry ≡ flen (raw_of value)) }
     {
         let layout = self.layout(shape, data_type, fill_value)?;
         if layout.is_whole() {
@@ -350,12 +347,9 @@ impl PackBitsCodec {
         data_type: &DataType,
         fill_value: &FillValue,
     ) -> Result<ArrayBytes<'a>, CodecError>
-        ensures found { IfOk result (λ elements. (chunk : Chunk) × Holds data_type.now elements chunk × PackBitsStands self.now shape.now data_type.now fill_value.now (raw_of value.entry).items chunk) }
-        ensures only { (chunk : Chunk) → PackBitsStands self.now shape.now data_type.now fill_value.now (raw_of value.entry).items chunk → AnswersBy memory (Holds data_type.now) result (Ok chunk) }
-        ensures exact { AnswersBy memory (Holds data_type.now) result (packbits_chunk self.now shape.now data_type.now fill_value.now (raw_of value.entry).items) }
-        ensures in_place { keeps_all_bytes (packed_layout self.now shape.now data_type.now fill_value.now) ≡ true → AnswersBy never (Holds data_type.now) result (packbits_chunk self.now shape.now data_type.now fill_value.now (raw_of value.entry).items) }
-        ensures kept { keeps_all_bytes (packed_layout self.now shape.now data_type.now fill_value.now) ≡ true → IfOk result (λ elements. elements ≡ flen (raw_of value.entry)) }
-        ensures no_fault { is_fault result ≡ false }
+        ensures decodes { Decodes (packbits_grammar self.now) (form_of shape.now data_type.now fill_value.now) (items_of value.entry) result }
+        ensures in_place { keeps_all_bytes (packed_layout self.now (form_of shape.now data_type.now fill_value.now)) ≡ true → AnswersBy never (Holds data_type.now) result (packbits_chunk self.now (form_of shape.now data_type.now fill_value.now) (items_of value.entry)) }
+        ensures kept { keeps_all_bytes (packed_layout self.now (form_of shape.now data_type.now fill_value.now)) ≡ true → IfOk result (λ elements. elements ≡ flen (raw_of value.entry)) }
     {
         let layout = self.layout(shape, data_type, fill_value)?;
         if layout.is_whole() {

@@ -1,17 +1,14 @@
-ghost use Rattle.std.specs.Prelude.{◌≡◌, ◌<◌, ◌≤◌, ◌+◌, ℕ, true, false, List, Some, None, Ok, IfOk, IfErr, All, is_some, is_ok, map, slice_index};
-ghost use Rattle.zarrs_chunk.specs.Answer.{Answers, AnswersBy, fault, is_fault, memory, memory_or_fault, seen};
+ghost use Rattle.zarrs_data_type.specs.Form.{form_of};
+ghost use Rattle.std.specs.Prelude.{◌≡◌, ◌<◌, ◌≤◌, ◌+◌, ℕ, true, false, None, Ok, IfOk, IfErr, All, is_some, is_ok, slice_index};
+ghost use Rattle.zarrs_chunk.specs.Answer.{Answers, AnswersBy, fault, is_fault, memory, memory_or_fault, seen, Gives, GivesBy};
 ghost use Rattle.zarrs_chunk.specs.Indexer.{selection_of};
 ghost use Rattle.zarrs_chunk.specs.Runs.{joined_runs};
-ghost use Rattle.zarrs_chunk.specs.Selection.{places_of};
-ghost use Rattle.zarrs_data_type.specs.Element.{Chunk, fill_element};
-ghost use Rattle.zarrs_array_bytes.specs.Elements.{select};
 ghost use Rattle.zarrs_array_bytes.specs.Held.{Raw, flen};
 ghost use Rattle.zarrs_array_bytes.specs.Validity.{Holds};
 ghost use Rattle.zarrs_codec.specs.Refused.{outcome};
 ghost use Rattle.zarrs_codec.specs.StorageState.{after_reading, are_sure};
-ghost use Rattle.zarrs_packbits.specs.PackBitsCodec.{PackBitsStands};
 ghost use Rattle.zarrs_packbits.specs.PackBitsSettings.{keeps_all_bytes, packed_layout};
-ghost use Rattle.zarrs_packbits.specs.PartialRead.{bytes_of_places, packbits_places, packbits_plan, packbits_read, read_places_of};
+ghost use Rattle.zarrs_packbits.specs.PartialRead.{bytes_of_places, packbits_places, read_places_of};
 ghost use Rattle.zarrs_packbits.specs.ReadPlan.{IsPlan};
 ghost use Rattle.zarrs_packbits.specs.PackedLayout.{IsPackedLayout};
 ghost use Rattle.zarrs_chunk.specs.ChunkShape.{product};
@@ -37,7 +34,7 @@ pub struct PackBitsPartialDecoder<H> {
     shape: ChunkShape,
     data_type: DataType,
     fill_value: FillValue,
-    ghost taken: { is_ok (packed_layout codec shape data_type fill_value) ≡ true },
+    ghost taken: { is_ok (packed_layout codec (form_of shape data_type fill_value)) ≡ true },
 }
 
 /// The bytes of elements of one size are below 256, as all bytes are.
@@ -59,8 +56,8 @@ impl PackBitsCodec {
         data_type: &DataType,
         fill_value: &FillValue,
     ) -> PackedLayout
-        requires taken { is_ok (packed_layout self.now shape.now data_type.now fill_value.now) ≡ true }
-        ensures is { packed_layout self.now shape.now data_type.now fill_value.now ≡ Ok result }
+        requires taken { is_ok (packed_layout self.now (form_of shape.now data_type.now fill_value.now)) ≡ true }
+        ensures is { packed_layout self.now (form_of shape.now data_type.now fill_value.now) ≡ Ok result }
         ensures sound { IsPackedLayout result }
         ensures elements { result.elements ≡ product shape.now }
     {
@@ -81,11 +78,11 @@ impl PackBitsCodec {
         fill_value: &FillValue,
         runs: &[(u64, u64)],
     ) -> Result<ArrayBytes<'static>, CodecError>
-        requires whole { keeps_all_bytes (packed_layout self.now shape.now data_type.now fill_value.now) ≡ true }
+        requires whole { keeps_all_bytes (packed_layout self.now (form_of shape.now data_type.now fill_value.now)) ≡ true }
         requires filled { All (λ run. 0 < run.1) runs.now }
         requires below { All (λ run. run.0 + run.1 ≤ product shape.now) runs.now }
-        ensures answer { AnswersBy memory_or_fault (Holds data_type.now) result (read_places_of self.now shape.now data_type.now fill_value.now (H.state handle.old).value (joined_runs runs.now)) }
-        ensures sure { IfOk (bytes_of_places self.now shape.now data_type.now fill_value.now (joined_runs runs.now)) (λ numbers. are_sure (H.state handle.old).sure numbers ≡ true → is_fault result ≡ false) }
+        ensures answer { AnswersBy memory_or_fault (Holds data_type.now) result (read_places_of self.now (form_of shape.now data_type.now fill_value.now) (H.state handle.old).value (joined_runs runs.now)) }
+        ensures sure { IfOk (bytes_of_places self.now (form_of shape.now data_type.now fill_value.now) (joined_runs runs.now)) (λ numbers. are_sure (H.state handle.old).sure numbers ≡ true → is_fault result ≡ false) }
         ensures left { H.state handle.new ≡ after_reading result (H.state handle.old) }
         ensures same_reference { H.lent handle.new ≡ H.lent handle.old }
     {
@@ -109,11 +106,11 @@ impl PackBitsCodec {
         fill_value: &FillValue,
         runs: &[(u64, u64)],
     ) -> Result<ArrayBytes<'static>, CodecError>
-        requires taken { is_ok (packed_layout self.now shape.now data_type.now fill_value.now) ≡ true }
+        requires taken { is_ok (packed_layout self.now (form_of shape.now data_type.now fill_value.now)) ≡ true }
         requires filled { All (λ run. 0 < run.1) runs.now }
         requires below { All (λ run. run.0 + run.1 ≤ product shape.now) runs.now }
-        ensures answer { AnswersBy memory_or_fault (Holds data_type.now) result (read_places_of self.now shape.now data_type.now fill_value.now (H.state handle.old).value (joined_runs runs.now)) }
-        ensures sure { IfOk (bytes_of_places self.now shape.now data_type.now fill_value.now (joined_runs runs.now)) (λ numbers. are_sure (H.state handle.old).sure numbers ≡ true → is_fault result ≡ false) }
+        ensures answer { AnswersBy memory_or_fault (Holds data_type.now) result (read_places_of self.now (form_of shape.now data_type.now fill_value.now) (H.state handle.old).value (joined_runs runs.now)) }
+        ensures sure { IfOk (bytes_of_places self.now (form_of shape.now data_type.now fill_value.now) (joined_runs runs.now)) (λ numbers. are_sure (H.state handle.old).sure numbers ≡ true → is_fault result ≡ false) }
         ensures left { H.state handle.new ≡ after_reading result (H.state handle.old) }
         ensures same_reference { H.lent handle.new ≡ H.lent handle.old }
     {
@@ -138,12 +135,11 @@ impl PackBitsCodec {
         fill_value: &FillValue,
         runs: &[(u64, u64)],
     ) -> Result<Vec<ByteRange>, CodecError>
-        requires taken { is_ok (packed_layout self.now shape.now data_type.now fill_value.now) ≡ true }
+        requires taken { is_ok (packed_layout self.now (form_of shape.now data_type.now fill_value.now)) ≡ true }
         requires filled { All (λ run. 0 < run.1) runs.now }
         requires below { All (λ run. run.0 + run.1 ≤ product shape.now) runs.now }
-        ensures plan { AnswersBy memory (λ ranges layout. IsPlan layout (joined_runs runs.now) ranges.items) result (packed_layout self.now shape.now data_type.now fill_value.now) }
+        ensures plan { GivesBy (λ ranges layout. IsPlan layout (joined_runs runs.now) ranges.items) result (packed_layout self.now (form_of shape.now data_type.now fill_value.now)) }
         ensures filled { IfOk result (λ ranges. All (λ range. range.start < range.end) ranges.items) }
-        ensures no_fault { is_fault result ≡ false }
     {
         let layout = self.taken_layout(shape, data_type, fill_value);
         let planned = run_ranges(alloc, &layout, runs)?;
@@ -157,9 +153,8 @@ impl PackBitsCodec {
         data_type: &DataType,
         fill_value: &FillValue,
     ) -> Result<(ChunkShape, DataType, FillValue), CodecError>
-        ensures answer { Answers memory (λ parts. parts) result (seen (λ _. (shape.now, data_type.now, fill_value.now)) (packed_layout self.now shape.now data_type.now fill_value.now)) }
-        ensures taken { IfOk result (λ parts. is_ok (packed_layout self.now parts.0 parts.1 parts.2) ≡ true) }
-        ensures no_fault { is_fault result ≡ false }
+        ensures answer { Gives (λ parts. parts) result (seen (λ _. (shape.now, data_type.now, fill_value.now)) (packed_layout self.now (form_of shape.now data_type.now fill_value.now))) }
+        ensures taken { IfOk result (λ parts. is_ok (packed_layout self.now (form_of parts.0 parts.1 parts.2)) ≡ true) }
     {
         self.layout(shape, data_type, fill_value)?;
         let shape = shape.clone()?;
@@ -178,11 +173,10 @@ impl PackBitsCodec {
         data_type: &DataType,
         fill_value: &FillValue,
     ) -> Result<PackBitsPartialDecoder<H>, Refused<H>>
-        ensures answer { Answers memory (λ made. made) (outcome result) (seen (λ _. tt) (packed_layout self.now shape.now data_type.now fill_value.now)) }
+        ensures answer { Gives (λ made. made) (outcome result) (seen (λ _. tt) (packed_layout self.now (form_of shape.now data_type.now fill_value.now))) }
         ensures form { IfOk result (λ decoder. packbits_form_of decoder ≡ record { settings = self.now; sizes = shape.now; type = data_type.now; fill = fill_value.now }) }
         ensures over { IfOk result (λ decoder. packbits_handle_of decoder ≡ handle) }
         ensures handed_back { IfErr result (λ refused. refused.handle ≡ handle) }
-        ensures no_fault { is_fault (outcome result) ≡ false }
     {
         match self.parts_of_decoder(shape, data_type, fill_value) {
             Ok((shape, data_type, fill_value)) => Ok(PackBitsPartialDecoder {
@@ -198,7 +192,7 @@ impl PackBitsCodec {
 }
 
 impl<H: BytesPartialDecoderTraits> PackBitsPartialDecoder<H> {
-    ghost use Rattle.zarrs_packbits.specs.PackBitsPartialDecoder.{packbits_form_of, packbits_handle_of, SelectsStored, FillsUnstored};
+    ghost use Rattle.zarrs_packbits.specs.PackBitsPartialDecoder.{form_in, packbits_form_of, packbits_handle_of, Reads, Leaves};
 
     /// The type of the elements.
     pub fn data_type(&self) -> &DataType
@@ -217,14 +211,8 @@ impl<H: BytesPartialDecoderTraits> PackBitsPartialDecoder<H> {
         alloc: Global,
         indexer: &Indexer,
     ) -> Result<ArrayBytes<'static>, CodecError>
-        ensures selected { SelectsStored H.state self.old indexer.now result }
-        ensures unstored { FillsUnstored H.state self.old indexer.now result }
-        ensures answer { let form = packbits_form_of self.old in AnswersBy memory_or_fault (Holds form.type) result (packbits_read form.settings form.sizes form.type form.fill (H.state (packbits_handle_of self.old)).value (selection_of indexer.now)) }
-        ensures indexer_first { is_ok (places_of (selection_of indexer.now) (packbits_form_of self.old).sizes) ≡ false → is_fault result ≡ false }
-        ensures sure { let form = packbits_form_of self.old in IfOk (packbits_plan form.settings form.sizes form.type form.fill (selection_of indexer.now)) (λ numbers. are_sure (H.state (packbits_handle_of self.old)).sure numbers ≡ true → is_fault result ≡ false) }
-        ensures left { H.state (packbits_handle_of self.new) ≡ after_reading result (H.state (packbits_handle_of self.old)) }
-        ensures same_reference { H.lent (packbits_handle_of self.new) ≡ H.lent (packbits_handle_of self.old) }
-        ensures form_kept { packbits_form_of self.new ≡ packbits_form_of self.old }
+        ensures reads { Reads H.state self.old indexer.now result }
+        ensures left { Leaves H.state H.lent self.old self.new result }
     {
         let runs = indexer.runs(alloc, &self.shape)?;
         self.codec.read_runs(
@@ -246,9 +234,8 @@ impl<H: BytesPartialDecoderTraits> PackBitsPartialDecoder<H> {
         alloc: Global,
         indexer: &Indexer,
     ) -> Result<Vec<ByteRange>, CodecError>
-        ensures plan { let form = packbits_form_of self.now in AnswersBy memory (λ ranges read. IsPlan read.1 read.0 ranges.items) result (packbits_places form.settings form.sizes form.type form.fill (selection_of indexer.now)) }
+        ensures plan { let form = packbits_form_of self.now in GivesBy (λ ranges read. IsPlan read.1 read.0 ranges.items) result (packbits_places form.settings (form_in form) (selection_of indexer.now)) }
         ensures filled { IfOk result (λ ranges. All (λ range. range.start < range.end) ranges.items) }
-        ensures no_fault { is_fault result ≡ false }
     {
         let asked = indexer.runs(alloc, &self.shape)?;
         let layout = self
@@ -262,9 +249,7 @@ impl<H: BytesPartialDecoderTraits> PackBitsPartialDecoder<H> {
     pub fn exists(&mut self) -> Result<bool, CodecError>
         ensures answer { Answers fault (λ there. there) result (Ok (is_some (H.state (packbits_handle_of self.old)).value)) }
         ensures sure { is_some (H.state (packbits_handle_of self.old)).sure ≡ true → is_fault result ≡ false }
-        ensures left { H.state (packbits_handle_of self.new) ≡ after_reading result (H.state (packbits_handle_of self.old)) }
-        ensures same_reference { H.lent (packbits_handle_of self.new) ≡ H.lent (packbits_handle_of self.old) }
-        ensures form_kept { packbits_form_of self.new ≡ packbits_form_of self.old }
+        ensures left { Leaves H.state H.lent self.old self.new result }
     {
         self.handle.exists()
     }

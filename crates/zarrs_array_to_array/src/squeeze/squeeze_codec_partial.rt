@@ -1,5 +1,5 @@
-ghost use Rattle.std.specs.Prelude.{◌≡◌, Ok, IfOk, IfErr, false};
-ghost use Rattle.zarrs_chunk.specs.Answer.{Answers, memory, is_fault, seen};
+ghost use Rattle.std.specs.Prelude.{◌≡◌, Ok, IfOk, IfErr};
+ghost use Rattle.zarrs_chunk.specs.Answer.{Answers, memory, seen, Gives};
 ghost use Rattle.zarrs_codec.specs.MappedChunk.{encoded_form};
 ghost use Rattle.zarrs_codec.specs.Refused.{outcome};
 ghost use Rattle.zarrs_array_to_array.specs.ArrayToArrayCodec.{coordinates as coordinates_of, squeeze};
@@ -46,8 +46,7 @@ impl SqueezeCodec {
         data_type: &DataType,
         fill_value: &FillValue,
     ) -> Result<ArrayToArrayCodecPartial<SqueezeCodec, I>, Refused<I>>
-        ensures answer { Answers memory (λ made. made) (outcome result) (seen (λ _. tt) (encoded_form (type_taken squeeze data_type.now) (coordinates_of squeeze shape.now) data_type.now fill_value.now)) }
-        ensures no_fault { is_fault (outcome result) ≡ false }
+        ensures answer { Gives (λ made. made) (outcome result) (seen (λ _. tt) (encoded_form (type_taken squeeze data_type.now) (coordinates_of squeeze shape.now) data_type.now fill_value.now)) }
         ensures form { IfOk result (λ stage. (codec_of stage ≡ self.now) × (sizes_of stage ≡ shape.now)) }
         ensures over { IfOk result (λ stage. input_of stage ≡ input) }
         ensures handed_back { IfErr result (λ refused. refused.handle ≡ input) }
@@ -67,8 +66,7 @@ impl SqueezeCodec {
         data_type: &DataType,
         fill_value: &FillValue,
     ) -> Result<ArrayToArrayCodecPartial<SqueezeCodec, I>, Refused<I>>
-        ensures answer { Answers memory (λ made. made) (outcome result) (seen (λ _. tt) (encoded_form (type_taken squeeze data_type.now) (coordinates_of squeeze shape.now) data_type.now fill_value.now)) }
-        ensures no_fault { is_fault (outcome result) ≡ false }
+        ensures answer { Gives (λ made. made) (outcome result) (seen (λ _. tt) (encoded_form (type_taken squeeze data_type.now) (coordinates_of squeeze shape.now) data_type.now fill_value.now)) }
         ensures form { IfOk result (λ stage. (codec_of stage ≡ self.now) × (sizes_of stage ≡ shape.now)) }
         ensures over { IfOk result (λ stage. input_of stage ≡ input) }
         ensures handed_back { IfErr result (λ refused. refused.handle ≡ input) }

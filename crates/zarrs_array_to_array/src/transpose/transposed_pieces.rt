@@ -1,8 +1,8 @@
-ghost use Rattle.std.specs.Prelude.{◌≡◌, ◌<◌, ◌*◌, ◌^◌, Ok, true, false, length, All, IfOk};
+ghost use Rattle.std.specs.Prelude.{◌≡◌, ◌<◌, ◌*◌, ◌^◌, Ok, true, length, All, IfOk};
 ghost use Rattle.std.specs.List.{flat_map};
 ghost use Rattle.zarrs_array_bytes.specs.Elements.{piece};
 ghost use Rattle.zarrs_array_bytes.specs.Held.{flen, owned_bytes};
-ghost use Rattle.zarrs_chunk.specs.Answer.{Answers, memory, is_fault};
+ghost use Rattle.zarrs_chunk.specs.Answer.{Gives};
 ghost use Rattle.zarrs_chunk.specs.ChunkShape.{product};
 ghost use Rattle.zarrs_codec.specs.CoordinateMap.{origins};
 ghost use Rattle.zarrs_metadata.specs.Orders.{is_order};
@@ -49,8 +49,7 @@ pub(crate) fn transposed_fixed<'b>(
     requires fits { product sizes.now < 2 ^ 64 }
     requires sized { 0 < size }
     requires whole { length bytes.now ≡ product sizes.now * size }
-    ensures exact { Answers memory (λ array. array) result (Ok (flen (owned_bytes (flat_map (piece size bytes.now) (origins (transposition order.now sizes.now)))))) }
-    ensures no_fault { is_fault result ≡ false }
+    ensures exact { Gives (λ array. array) result (Ok (flen (owned_bytes (flat_map (piece size bytes.now) (origins (transposition order.now sizes.now)))))) }
 {
     let bytes = transposed_pieces(alloc, bytes, size, order, sizes)?;
     Ok(ArrayBytes::new_flen(CowSlice::Owned(bytes)))

@@ -1,4 +1,4 @@
-use Rattle.std.proofs.Common.{◌≡◌, ◌++◌, ◌∷◌, [], Ok, map, arith, ap, ap₂, sym, ◌∙◌}
+use Rattle.std.proofs.Common.{rules, ◌≡◌, ◌++◌, ◌∷◌, [], Ok, map, arith, ap, ap₂, sym, ◌∙◌}
 use Rattle.std.specs.List.{range_with_len}
 use Rattle.std.proofs.lemmas.List.{map-append}
 use Rattle.std.proofs.lemmas.List.FromFn.{map-range_with_len_more}
@@ -13,19 +13,24 @@ loop-number-preserved c =
     let starts = c.args.starts.now in
     let lengths = c.args.lengths.now in
     let number = c.loop-number.number in
-    let made : c.in_ok-box_tuple.field-0.items ≡ permuted order (box_tuple starts lengths number) = cc ((c.in_ok-box_tuple.ensures {u = tt}).answer) in
+    let made : c.in_ok-box_tuple.field-0.items ≡ permuted order (box_tuple starts lengths number) = cc ((c.in_ok-box_tuple.ensures {u = tt}).answer.is) in
     ap (map (λ tuple. tuple.items)) (c.in_ok-push.ensures {u = tt}).items
     ∙ map-append (λ tuple. tuple.items) c.loop-number.tuples.items (c.in_ok-box_tuple.field-0 ∷ [])
     ∙ ap₂ (λ xs x. xs ++ x ∷ []) c.loop-number.invariant made
     ∙ sym (map-range_with_len_more (λ n. permuted order (box_tuple starts lengths n)) 0 number number (omega arith))
 
-pub returns-clause-answer : goal.returns-clause-answer
-returns-clause-answer c =
+pub returns : goal.returns
+returns c =
     let order = c.args.order.now in
     let starts = c.args.starts.now in
     let lengths = c.args.lengths.now in
     let all : c.loop-number.number ≡ c.args.count = omega arith in
-    ap (λ tuples. Ok tuples)
-    (box_ordered order starts lengths c.args.count (sym c.requires.axes) c.requires.known
-    ∙ ap (λ n. map (λ number. permuted order (box_tuple starts lengths number)) (range_with_len 0 n)) (sym all)
-    ∙ sym c.loop-number.invariant)
+    record {
+      answer = record {
+        is = ap (λ tuples. Ok tuples)
+            (box_ordered order starts lengths c.args.count (sym c.requires.axes) c.requires.known
+            ∙ ap (λ n. map (λ number. permuted order (box_tuple starts lengths number)) (range_with_len 0 n)) (sym all)
+            ∙ sym c.loop-number.invariant);
+        no_fault = search rules;
+      };
+    }

@@ -1,12 +1,12 @@
-use Rattle.std.proofs.Common.{◌≡◌, Ok, Some, map, refl, ap, sym, ◌∙◌}
+use Rattle.std.proofs.Common.{rules, ◌≡◌, Ok, Some, map, refl, ap, sym, ◌∙◌}
 use Rattle.zarrs_chunk.specs.ChunkShape.{shape_of}
 use Rattle.zarrs_array_to_array.proofs.BoxNumbers.{box_empty, shape_of-filled}
 use Rattle.zarrs_array_to_array.proofs.boxes.ordered_box.Goals as goal
 
-pub returns-then-count-eq0-clause-answer : goal.returns-then-count-eq0-clause-answer
-returns-then-count-eq0-clause-answer c =
+pub returns-then-count-eq0 : goal.returns-then-count-eq0
+returns-then-count-eq0 c =
     let none = box_empty c.args.order.now c.args.subset.now.starts c.args.subset.now.lengths c.shape-lengths.ensures.axes (c.requires.known ∙ c.if-count-eq0.true) in
-    ap (λ tuples. Ok tuples) (none ∙ sym (ap (map (λ tuple. tuple.items)) c.new.ensures.items))
+    record { answer = record { is = ap (λ tuples. Ok tuples) (none ∙ sym (ap (map (λ tuple. tuple.items)) c.new.ensures.items)); no_fault = search rules } }
 
 pub unwrap-lengths-requires : goal.unwrap-lengths-requires
 unwrap-lengths-requires c =

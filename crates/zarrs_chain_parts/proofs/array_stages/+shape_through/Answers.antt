@@ -1,4 +1,4 @@
-use Rattle.std.proofs.Common.{arith, map}
+use Rattle.std.proofs.Common.{rules, arith, map}
 use Rattle.zarrs_array_to_array.specs.Mapping.{mapping_of}
 use Rattle.zarrs_chain_parts.proofs.ArraySteps.{behind, mappings_are, shape_at, map_if_ok}
 use Rattle.zarrs_chain_parts.proofs.array_stages.+shape_through.Goals as goal
@@ -11,7 +11,7 @@ returns-in_ok-next-in-len1-up-clause-answer t c =
     let rest = map mapping_of (behind codecs) in
     let type = c.args.data_type.now in
     let sizes = c.args.shape.now in
-    shape_at type (map mapping_of codecs) (mapping_of first) rest sizes c.in_ok-next-in-len1-up.next c.shape_through.result is c.in_ok-next-in-len1-up.ensures.answer c.shape_through.ensures.answer
+    record { is = shape_at type (map mapping_of codecs) (mapping_of first) rest sizes c.in_ok-next-in-len1-up.next c.shape_through.result is c.in_ok-next-in-len1-up.ensures.answer.is c.shape_through.ensures.answer.is; no_fault = search rules }
 
 pub returns-in_ok-next-in-len1-up-clause-map : goal.returns-in_ok-next-in-len1-up-clause-map
 returns-in_ok-next-in-len1-up-clause-map t c =

@@ -1,4 +1,4 @@
-use Rattle.std.proofs.Common.{ℕ, List, length, ap, sym, ◌∙◌}
+use Rattle.std.proofs.Common.{rules, ℕ, List, length, ap, sym, ◌∙◌}
 use Rattle.zarrs_array_bytes.proofs.ValidLemmas.{raw_items}
 use Rattle.zarrs_bytes.proofs.Coding.{ok}
 use Rattle.zarrs_packbits.specs.BitStream.{stream_of_bytes}
@@ -8,7 +8,7 @@ use Rattle.zarrs_packbits.proofs.packbits_codec.packed_raw.Goals as goal
 pub packed_value-requires-clause-len : goal.packed_value-requires-clause-len
 packed_value-requires-clause-len c = ap length (c.deref.ensures.value ∙ raw_items c.args.raw) ∙ c.requires.len
 
-pub returns-clause-exact : goal.returns-clause-exact
-returns-clause-exact c =
+pub returns : goal.returns
+returns c =
     let l = c.args.layout.now in
-    ap ok (ap (λ (b : List ℕ). value_with l (stream_of_bytes l b)) (sym (c.deref.ensures.value ∙ raw_items c.args.raw)) ∙ sym c.in_ok-value.ensures)
+    record { exact = record { is = ap ok (ap (λ (b : List ℕ). value_with l (stream_of_bytes l b)) (sym (c.deref.ensures.value ∙ raw_items c.args.raw)) ∙ sym c.in_ok-value.ensures); no_fault = search rules } }

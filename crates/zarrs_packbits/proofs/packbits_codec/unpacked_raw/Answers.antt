@@ -1,4 +1,4 @@
-use Rattle.std.proofs.Common.{ℕ, List, length, drop, ap, sym, ◌∙◌}
+use Rattle.std.proofs.Common.{rules, ℕ, List, length, drop, ap, sym, ◌∙◌}
 use Rattle.zarrs_array_bytes.proofs.ValidLemmas.{raw_items}
 use Rattle.zarrs_bytes.proofs.Coding.{ok}
 use Rattle.zarrs_packbits.specs.Bits.{bits_of}
@@ -11,7 +11,7 @@ use Rattle.zarrs_packbits.proofs.packbits_codec.unpacked_raw.Goals as goal
 pub unpacked_bytes-requires-clause-len : goal.unpacked_bytes-requires-clause-len
 unpacked_bytes-requires-clause-len c = ap length (c.deref.ensures.value ∙ raw_items c.args.value) ∙ c.requires.len
 
-pub returns-clause-exact : goal.returns-clause-exact
-returns-clause-exact c =
+pub returns : goal.returns
+returns c =
     let l = c.args.layout.now in
-    ap ok (ap (λ (b : List ℕ). packing (components_from l 0 (parts_of l) (bits_of (drop (lead l) b)))) (sym (c.deref.ensures.value ∙ raw_items c.args.value)) ∙ sym c.in_ok-bytes.ensures)
+    record { exact = record { is = ap ok (ap (λ (b : List ℕ). packing (components_from l 0 (parts_of l) (bits_of (drop (lead l) b)))) (sym (c.deref.ensures.value ∙ raw_items c.args.value)) ∙ sym c.in_ok-bytes.ensures); no_fault = search rules } }

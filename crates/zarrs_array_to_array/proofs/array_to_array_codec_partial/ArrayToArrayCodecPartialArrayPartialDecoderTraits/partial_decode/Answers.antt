@@ -16,7 +16,7 @@ returns-in-Ok-clause-answer g c =
     let asked = g.C.ArrayToArrayCodecTraits.asked stage.codec stage.shape in
     let reader = g.I.ArrayPartialDecoderTraits.reader stage.input in
     let selection = selection_of c.args.indexer.now in
-    passed_answer (Holds reader.type) c.partial_decode.result (image_of coordinates asked stage.shape selection) (selection_of c.in-Ok.encoded) reader.answer c.in-Ok.ensures.answer c.partial_decode.ensures.answer
+    passed_answer (Holds reader.type) c.partial_decode.result (image_of coordinates asked stage.shape selection) (selection_of c.in-Ok.encoded) reader.answer c.in-Ok.ensures.answer.is c.partial_decode.ensures.answer
 
 pub returns-in-Err-clause-answer : goal.returns-in-Err-clause-answer
 returns-in-Err-clause-answer g c =
@@ -25,7 +25,7 @@ returns-in-Err-clause-answer g c =
     let asked = g.C.ArrayToArrayCodecTraits.asked stage.codec stage.shape in
     let reader = g.I.ArrayPartialDecoderTraits.reader stage.input in
     let selection = selection_of c.args.indexer.now in
-    refused_answer (Holds reader.type) c.in-Err.error (image_of coordinates asked stage.shape selection) reader.answer c.in-Err.ensures.answer
+    refused_answer (Holds reader.type) c.in-Err.error (image_of coordinates asked stage.shape selection) reader.answer c.in-Err.ensures.answer.is
 
 pub returns-in-Ok-clause-indexer_first : goal.returns-in-Ok-clause-indexer_first
 returns-in-Ok-clause-indexer_first g c =
@@ -34,7 +34,7 @@ returns-in-Ok-clause-indexer_first g c =
     let asked = g.C.ArrayToArrayCodecTraits.asked stage.codec stage.shape in
     let reader = g.I.ArrayPartialDecoderTraits.reader stage.input in
     let selection = selection_of c.args.indexer.now in
-    passed_first coordinates asked stage.shape selection (selection_of c.in-Ok.encoded) (λ cause. AnswersBy memory (Holds reader.type) c.partial_decode.result (Err cause)) c.in-Ok.ensures.answer
+    passed_first coordinates asked stage.shape selection (selection_of c.in-Ok.encoded) (λ cause. AnswersBy memory (Holds reader.type) c.partial_decode.result (Err cause)) c.in-Ok.ensures.answer.is
 
 pub returns-in-Err-clause-indexer_first : goal.returns-in-Err-clause-indexer_first
 returns-in-Err-clause-indexer_first g c =
@@ -43,10 +43,10 @@ returns-in-Err-clause-indexer_first g c =
     let asked = g.C.ArrayToArrayCodecTraits.asked stage.codec stage.shape in
     let reader = g.I.ArrayPartialDecoderTraits.reader stage.input in
     let selection = selection_of c.args.indexer.now in
-    refused_first coordinates asked stage.shape selection (Holds reader.type) c.in-Err.error c.in-Err.ensures.answer
+    refused_first coordinates asked stage.shape selection (Holds reader.type) c.in-Err.error c.in-Err.ensures.answer.is
 
 pub returns-in-Err-clause-left : goal.returns-in-Err-clause-left
-returns-in-Err-clause-left g c = left_alone Held c.in-Err.error (g.I.ArrayPartialDecoderTraits.state c.args.self.now.input) c.in-Err.ensures.no_fault
+returns-in-Err-clause-left g c = left_alone Held c.in-Err.error (g.I.ArrayPartialDecoderTraits.state c.args.self.now.input) c.in-Err.ensures.answer.no_fault
 
 pub returns-in-Ok-clause-reader_kept : goal.returns-in-Ok-clause-reader_kept
 returns-in-Ok-clause-reader_kept g c =

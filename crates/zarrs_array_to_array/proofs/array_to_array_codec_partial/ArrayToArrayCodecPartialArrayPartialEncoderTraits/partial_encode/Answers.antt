@@ -17,7 +17,7 @@ returns-in-Ok-clause-answer g c =
     let selection = selection_of c.args.indexer.now in
     let new = c.args.elements.now in
     let image = image_of coordinates asked stage.shape selection in
-    passed_write _ c.partial_encode.result image (selection_of c.in-Ok.encoded) (λ encoded. writer.written state.value encoded new) c.in-Ok.ensures.answer c.partial_encode.ensures.answer
+    passed_write _ c.partial_encode.result image (selection_of c.in-Ok.encoded) (λ encoded. writer.written state.value encoded new) c.in-Ok.ensures.answer.is c.partial_encode.ensures.answer
 
 pub returns-in-Err-clause-answer : goal.returns-in-Err-clause-answer
 returns-in-Err-clause-answer g c =
@@ -29,7 +29,7 @@ returns-in-Err-clause-answer g c =
     let selection = selection_of c.args.indexer.now in
     let new = c.args.elements.now in
     let image = image_of coordinates asked stage.shape selection in
-    refused_write c.in-Err.refusal image (λ encoded. writer.written state.value encoded new) c.in-Err.ensures.answer
+    refused_write c.in-Err.refusal image (λ encoded. writer.written state.value encoded new) c.in-Err.ensures.answer.is
 
 pub returns-in-Ok-clause-indexer_first : goal.returns-in-Ok-clause-indexer_first
 returns-in-Ok-clause-indexer_first g c =
@@ -41,7 +41,7 @@ returns-in-Ok-clause-indexer_first g c =
     let selection = selection_of c.args.indexer.now in
     let new = c.args.elements.now in
     let image = image_of coordinates asked stage.shape selection in
-    passed_first coordinates asked stage.shape selection (selection_of c.in-Ok.encoded) (λ cause. Answers memory (λ done. done) c.partial_encode.result (Err cause)) c.in-Ok.ensures.answer
+    passed_first coordinates asked stage.shape selection (selection_of c.in-Ok.encoded) (λ cause. Answers memory (λ done. done) c.partial_encode.result (Err cause)) c.in-Ok.ensures.answer.is
 
 pub returns-in-Err-clause-indexer_first : goal.returns-in-Err-clause-indexer_first
 returns-in-Err-clause-indexer_first g c =
@@ -53,7 +53,7 @@ returns-in-Err-clause-indexer_first g c =
     let selection = selection_of c.args.indexer.now in
     let new = c.args.elements.now in
     let image = image_of coordinates asked stage.shape selection in
-    refused_first coordinates asked stage.shape selection (λ (done : Unit {0}) (due : Unit {0}). Unit {0}) c.in-Err.refusal c.in-Err.ensures.answer
+    refused_first coordinates asked stage.shape selection (λ (done : Unit {0}) (due : Unit {0}). Unit {0}) c.in-Err.refusal c.in-Err.ensures.answer.is
 
 pub returns-in-Ok-clause-checked_first : goal.returns-in-Ok-clause-checked_first
 returns-in-Ok-clause-checked_first g c =
@@ -65,7 +65,7 @@ returns-in-Ok-clause-checked_first g c =
     let selection = selection_of c.args.indexer.now in
     let new = c.args.elements.now in
     let image = image_of coordinates asked stage.shape selection in
-    passed_check image (selection_of c.in-Ok.encoded) (λ encoded. writer.checks encoded new) (λ cause. Answers memory (λ done. done) c.partial_encode.result (Err cause)) c.in-Ok.ensures.answer c.partial_encode.ensures.checked_first
+    passed_check image (selection_of c.in-Ok.encoded) (λ encoded. writer.checks encoded new) (λ cause. Answers memory (λ done. done) c.partial_encode.result (Err cause)) c.in-Ok.ensures.answer.is c.partial_encode.ensures.checked_first
 
 pub returns-in-Err-clause-checked_first : goal.returns-in-Err-clause-checked_first
 returns-in-Err-clause-checked_first g c =
@@ -77,7 +77,7 @@ returns-in-Err-clause-checked_first g c =
     let selection = selection_of c.args.indexer.now in
     let new = c.args.elements.now in
     let image = image_of coordinates asked stage.shape selection in
-    refused_check c.in-Err.refusal image (λ encoded. writer.checks encoded new) c.in-Err.ensures.answer
+    refused_check c.in-Err.refusal image (λ encoded. writer.checks encoded new) c.in-Err.ensures.answer.is
 
 pub returns-in-Ok-clause-untouched : goal.returns-in-Ok-clause-untouched
 returns-in-Ok-clause-untouched g c =
@@ -89,7 +89,7 @@ returns-in-Ok-clause-untouched g c =
     let selection = selection_of c.args.indexer.now in
     let new = c.args.elements.now in
     let image = image_of coordinates asked stage.shape selection in
-    passed_check image (selection_of c.in-Ok.encoded) (λ encoded. writer.checks encoded new) _ c.in-Ok.ensures.answer c.partial_encode.ensures.untouched
+    passed_check image (selection_of c.in-Ok.encoded) (λ encoded. writer.checks encoded new) _ c.in-Ok.ensures.answer.is c.partial_encode.ensures.untouched
 
 pub returns-in-Err-clause-refused : goal.returns-in-Err-clause-refused
 returns-in-Err-clause-refused g c =
@@ -101,7 +101,7 @@ returns-in-Err-clause-refused g c =
     let selection = selection_of c.args.indexer.now in
     let new = c.args.elements.now in
     let image = image_of coordinates asked stage.shape selection in
-    alone c.in-Err.refusal state c.in-Err.ensures.no_fault
+    alone c.in-Err.refusal state c.in-Err.ensures.answer.no_fault
 
 pub returns-in-Ok-clause-writer_kept : goal.returns-in-Ok-clause-writer_kept
 returns-in-Ok-clause-writer_kept g c =

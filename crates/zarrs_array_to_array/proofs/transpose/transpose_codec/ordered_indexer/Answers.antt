@@ -1,4 +1,4 @@
-use Rattle.std.proofs.Common.{◌<◌, ◌^◌, Ok, map, arith, ap, ◌∙◌}
+use Rattle.std.proofs.Common.{rules, ◌<◌, ◌^◌, Ok, map, arith, ap, ◌∙◌}
 use Rattle.std.specs.List.{All}
 use Rattle.std.proofs.lemmas.List.{get_or_default}
 use Rattle.zarrs_chunk.specs.Indexer.{selection_of}
@@ -26,9 +26,14 @@ ordered_tuples-requires-clause-axes c =
     let inside = rw c.in-Indices.is at c.requires.inside in
     rw c.as_slice.ensures.value (lists_have_axes c.args.order.now c.args.sizes.now c.in-Indices.tuples.items c.requires.axes inside)
 
-pub returns-in_ok-tuples-in-Indices-clause-answer : goal.returns-in_ok-tuples-in-Indices-clause-answer
-returns-in_ok-tuples-in-Indices-clause-answer c =
+pub returns-in_ok-tuples-in-Indices : goal.returns-in_ok-tuples-in-Indices
+returns-in_ok-tuples-in-Indices c =
     let order = c.args.order.now in
     let made = c.in_ok-tuples-in-Indices.ensures {u = tt} ∙ ap (map (λ tuple. permuted order tuple.items)) c.as_slice.ensures.value in
-    ap (λ s. Ok (indices (map (permuted order) (tuples_of (selection_of s))))) c.in-Indices.is
-    ∙ ap (λ s. Ok s) (ordered_list order c.in-Indices.tuples.items c.in_ok-tuples-in-Indices.tuples.items made)
+    record {
+      answer = record {
+        is = ap (λ s. Ok (indices (map (permuted order) (tuples_of (selection_of s))))) c.in-Indices.is
+            ∙ ap (λ s. Ok s) (ordered_list order c.in-Indices.tuples.items c.in_ok-tuples-in-Indices.tuples.items made);
+        no_fault = search rules;
+      };
+    }

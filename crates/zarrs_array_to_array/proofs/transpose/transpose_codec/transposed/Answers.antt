@@ -1,4 +1,4 @@
-use Rattle.std.proofs.Common.{◌≡◌, ◌<◌, Ok, length, subst, ap, sym, ◌∙◌}
+use Rattle.std.proofs.Common.{rules, ◌≡◌, ◌<◌, Ok, length, subst, ap, sym, ◌∙◌}
 use Rattle.std.specs.List.{All, flat_map}
 use Rattle.zarrs_chunk.specs.Answer.{AnswersBy, memory}
 use Rattle.zarrs_chunk.specs.Runs.{joined_runs}
@@ -13,16 +13,16 @@ use Rattle.zarrs_array_to_array.proofs.FixedChunks.{origins_below, fixed_holds, 
 use Rattle.zarrs_array_to_array.proofs.Transposition.{transposition_map}
 use Rattle.zarrs_array_to_array.proofs.transpose.transpose_codec.transposed.Goals as goal
 
-pub returns-clause-exact : goal.returns-clause-exact
-returns-clause-exact c =
+pub returns : goal.returns
+returns c =
     let type = c.args.data_type.now in
     let held = c.args.bytes.now in
-    let from = rw (c.requires.valid) at c.extract_runs.ensures.answer in
+    let from = rw (c.requires.valid) at c.extract_runs.ensures.answer.is in
     let places = (c.in_ok-runs.ensures {u = tt}).places in
-    subst (λ ps. AnswersBy memory (Holds type) c.extract_runs.result (Ok (select (elements type c.args.count held) ps))) (ap joined_runs c.as_slice.ensures.value ∙ places) from
+    record { exact = record { is = subst (λ ps. AnswersBy memory (Holds type) c.extract_runs.result (Ok (select (elements type c.args.count held) ps))) (ap joined_runs c.as_slice.ensures.value ∙ places) from; no_fault = search rules } }
 
-pub returns-in-Some-Ok-clause-exact : goal.returns-in-Some-Ok-clause-exact
-returns-in-Some-Ok-clause-exact c =
+pub returns-in-Some-Ok : goal.returns-in-Some-Ok
+returns-in-Some-Ok c =
     let type = c.args.data_type.now in
     let held = c.args.bytes.now in
     let order = c.args.order.now in
@@ -34,4 +34,4 @@ returns-in-Some-Ok-clause-exact c =
     let count : length (origins m) ≡ c.args.count = length-origins m ∙ map.count ∙ c.requires.count in
     let inside : All (λ place. place < c.args.count) (origins m) = rw c.requires.count at (origins_below sizes m map) in
     let holds = fixed_holds type c.args.count held (origins m) size items c.requires.valid (sym c.in-Some-Ok.ensures.value) c.in-Some-Ok.ensures'.answer count inside in
-    held_answers type (flen (owned_bytes (flat_map (piece size items) (origins m)))) (moved_chunk m (elements type c.args.count held)) c.transposed_fixed.result holds c.transposed_fixed.ensures.exact
+    record { exact = record { is = held_answers type (flen (owned_bytes (flat_map (piece size items) (origins m)))) (moved_chunk m (elements type c.args.count held)) c.transposed_fixed.result holds c.transposed_fixed.ensures.exact.is; no_fault = search rules } }

@@ -24,13 +24,13 @@ returns-clause-reads g c =
     let places = places_of (selection_of c.args.indexer.now) form.shape in
     record {
       selected = λ value chunk here stands.
-        subst (λ expected. AnswersBy memory_or_fault (Holds form.data_type) c.read_runs.result expected)
-        (runs_select form.codec form.shape form.data_type form.fill_value form.fill_value stored c.in_ok-runs.runs.items c.as_slice.result.now places refl c.as_slice.ensures.value c.in_ok-runs.ensures.below c.in_ok-runs.ensures.places.is value chunk here stands)
-        c.read_runs.ensures.answer;
+          subst (λ expected. AnswersBy memory_or_fault (Holds form.data_type) c.read_runs.result expected)
+          (runs_select form.codec form.shape form.data_type form.fill_value form.fill_value stored c.in_ok-runs.runs.items c.as_slice.result.now places refl c.as_slice.ensures.value c.in_ok-runs.ensures.below c.in_ok-runs.ensures.places.is value chunk here stands)
+          c.read_runs.ensures.answer;
       unstored = λ here.
-        subst (λ expected. AnswersBy memory_or_fault (Holds form.data_type) c.read_runs.result expected)
-        (runs_filled form.codec form.data_type form.fill_value form.fill_value stored c.in_ok-runs.runs.items c.as_slice.result.now places refl c.as_slice.ensures.value c.in_ok-runs.ensures.places.is here)
-        c.read_runs.ensures.answer;
+          subst (λ expected. AnswersBy memory_or_fault (Holds form.data_type) c.read_runs.result expected)
+          (runs_filled form.codec form.data_type form.fill_value form.fill_value stored c.in_ok-runs.runs.items c.as_slice.result.now places refl c.as_slice.ensures.value c.in_ok-runs.ensures.places.is here)
+          c.read_runs.ensures.answer;
       exact = search rules;
       indexer_first = search rules;
       sure = search rules;

@@ -1,8 +1,9 @@
-use Rattle.std.proofs.Common.{◌≡◌, ℕ, List, true, length, arith, sym, ◌∙◌, ap, subst}
+use Rattle.zarrs_data_type.specs.Form.{form_of}
+use Rattle.std.proofs.Common.{◌≡◌, ℕ, List, true, length, arith, refl, Ok, sym, ◌∙◌, ap}
 use Rattle.std.specs.Prelude.{IsOkAnd}
 use Rattle.std.proofs.lemmas.Bool.{false≢true}
-use Rattle.zarrs_chunk.specs.Answer.{AnswersBy, memory}
-use Rattle.zarrs_array_bytes.specs.Held.{raw_of}
+use Rattle.zarrs_chunk.specs.Answer.{memory}
+use Rattle.zarrs_array_bytes.specs.Held.{raw_of, items_of}
 use Rattle.zarrs_array_bytes.specs.Validity.{Holds}
 use Rattle.zarrs_array_bytes.proofs.ValidLemmas.{raw_items}
 use Rattle.zarrs_bytes.proofs.Coding.{ok}
@@ -10,8 +11,8 @@ use Rattle.zarrs_packbits.specs.PackBitsCodec.{packbits_chunk}
 use Rattle.zarrs_packbits.specs.PackBitsSettings.{keeps_all_bytes}
 use Rattle.zarrs_packbits.specs.PaddingByte.{value_len, padding_holds}
 use Rattle.zarrs_packbits.proofs.Coding.{decoded_holds}
-use Rattle.zarrs_packbits.proofs.Exact.{decoded_only, holds_stands, holds_only}
-use Rattle.zarrs_packbits.proofs.WholeChunk.{answer_stands, answers_excused}
+use Rattle.zarrs_packbits.proofs.ByGrammar.{packbits_decodes}
+use Rattle.zarrs_packbits.proofs.WholeChunk.{answers_excused}
 use Rattle.zarrs_packbits.proofs.packbits_codec.PackBitsCodec.decode.Goals as goal
 
 items_are : (xs ys : List ℕ) → ok xs ≡ ok ys → ys ≡ xs
@@ -20,23 +21,17 @@ items_are xs ys e = cc
 pub unpacked_raw-requires-clause-len : goal.unpacked_raw-requires-clause-len
 unpacked_raw-requires-clause-len c = omega (arith, ap length (raw_items c.args.value), c.value_len-expected.ensures)
 
-exactly : (c : goal.After-new_flen) → IsOkAnd (packbits_chunk c.args.self.now c.args.shape.now c.args.data_type.now c.args.fill_value.now (raw_of c.args.value).items) (Holds c.args.data_type.now c.new_flen.result)
+exactly : (c : goal.After-new_flen) → IsOkAnd (packbits_chunk c.args.self.now (form_of c.args.shape.now c.args.data_type.now c.args.fill_value.now) (raw_of c.args.value).items) (Holds c.args.data_type.now c.new_flen.result)
 exactly c =
     let l = c.in_ok-layout.layout in
     let long : length (raw_of c.args.value).items ≡ value_len l = omega (arith, ap length (raw_items c.args.value), c.value_len-expected.ensures) in
     let pad : padding_holds l (raw_of c.args.value).items ≡ true = ap (padding_holds l) (sym (c.deref.ensures.value ∙ raw_items c.args.value)) ∙ sym c.if-not-padding_holds.ensures in
-    let is = items_are _ _ c.in_ok-elements.ensures.exact in
+    let is = items_are _ _ c.in_ok-elements.ensures.exact.is in
     let raw = c.in_ok-elements.elements in
     rw c.new_flen.ensures.made (decoded_holds c.args.self.now c.args.shape.now c.args.data_type.now c.args.fill_value.now (raw_of c.args.value).items (raw_of raw) l (sym c.in_ok-layout.ensures.answer) long pad is)
 
-pub returns-clause-exact : goal.returns-clause-exact
-returns-clause-exact c = exactly c
-
-pub returns-clause-found : goal.returns-clause-found
-returns-clause-found c = holds_stands c.args.self.now c.args.shape.now c.args.data_type.now c.args.fill_value.now (raw_of c.args.value).items c.new_flen.result (exactly c)
-
-pub returns-clause-only : goal.returns-clause-only
-returns-clause-only c = λ chunk stands. holds_only c.args.self.now c.args.shape.now c.args.data_type.now c.args.fill_value.now (raw_of c.args.value).items c.new_flen.result chunk (exactly c) stands
+pub returns-clause-decodes : goal.returns-clause-decodes
+returns-clause-decodes c = packbits_decodes c.args.self.now (form_of c.args.shape.now c.args.data_type.now c.args.fill_value.now) (items_of c.args.value) (Ok c.new_flen.result) (exactly c) refl
 
 pub returns-clause-in_place : goal.returns-clause-in_place
 returns-clause-in_place c = λ _. exactly c
@@ -47,13 +42,6 @@ returns-clause-kept c = λ h. absurd (false≢true (c.if-is_whole.ensures ∙ ap
 pub decode_whole-requires : goal.decode_whole-requires
 decode_whole-requires c = record { whole = sym (ap keeps_all_bytes c.in_ok-layout.ensures.answer) ∙ sym c.if-is_whole.ensures }
 
-pub returns-then-is_whole-clause-exact : goal.returns-then-is_whole-clause-exact
-returns-then-is_whole-clause-exact c = answers_excused memory (Holds c.args.data_type.now) c.decode_whole.result _ c.decode_whole.ensures.exact
-
-pub returns-then-is_whole-clause-found : goal.returns-then-is_whole-clause-found
-returns-then-is_whole-clause-found c = answer_stands c.args.self.now c.args.shape.now c.args.data_type.now c.args.fill_value.now (raw_of c.args.value).items c.decode_whole.result c.decode_whole.ensures.exact
-
-pub returns-then-is_whole-clause-only : goal.returns-then-is_whole-clause-only
-returns-then-is_whole-clause-only c = λ chunk stands.
-    subst (AnswersBy memory (Holds c.args.data_type.now) c.decode_whole.result) (decoded_only c.args.self.now c.args.shape.now c.args.data_type.now c.args.fill_value.now (raw_of c.args.value).items chunk stands)
-    (answers_excused memory (Holds c.args.data_type.now) c.decode_whole.result _ c.decode_whole.ensures.exact)
+pub returns-then-is_whole-clause-decodes : goal.returns-then-is_whole-clause-decodes
+returns-then-is_whole-clause-decodes c =
+    packbits_decodes c.args.self.now (form_of c.args.shape.now c.args.data_type.now c.args.fill_value.now) (items_of c.args.value) c.decode_whole.result (answers_excused memory (Holds c.args.data_type.now) c.decode_whole.result _ c.decode_whole.ensures.exact) c.decode_whole.ensures.no_fault

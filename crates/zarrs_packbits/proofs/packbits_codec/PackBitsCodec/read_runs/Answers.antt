@@ -1,3 +1,4 @@
+use Rattle.zarrs_data_type.specs.Form.{form_of}
 use Rattle.std.proofs.Common.{◌<◌, ◌^◌, length, arith, ap, sym, ◌∙◌}
 use Rattle.std.proofs.lemmas.Result.{err_from_is_err_and}
 use Rattle.zarrs_chunk.specs.Answer.{memory_or_fault}
@@ -28,7 +29,7 @@ returns-in_err-bytes-clause-answer g c =
     let places = joined_runs c.args.runs.now in
     let e = c.in_err-bytes.field-0.0 in
     let p = err_from_is_err_and c.from_residual.result c.from_residual.ensures.1 in
-    rw (p.1, p.2) (Excused-weaker (memory_or_fault e) (λ h. read_at (packed_layout c.args.self.now c.args.shape.now c.args.data_type.now c.args.fill_value.now) l (λ k. read_packed_places k type fill stored places) c.taken_layout-layout.ensures.is ∙ places_refused l type fill places stored e (rw c.as_ne_bytes-fill.ensures.value at h)) c.in_err-bytes.ensures.answer)
+    rw (p.1, p.2) (Excused-weaker (memory_or_fault e) (λ h. read_at (packed_layout c.args.self.now (form_of c.args.shape.now c.args.data_type.now c.args.fill_value.now)) l (λ k. read_packed_places k type fill stored places) c.taken_layout-layout.ensures.is ∙ places_refused l type fill places stored e (rw c.as_ne_bytes-fill.ensures.value at h)) c.in_err-bytes.ensures.answer)
 
 pub returns-in_err-bytes-clause-sure : goal.returns-in_err-bytes-clause-sure
 returns-in_err-bytes-clause-sure g c =
@@ -46,7 +47,7 @@ returns-clause-answer g c =
     let small : length bytes.items < 2 ^ 64 = omega (arith, bytes.ok, bytes.small) in
     let read = rw c.as_ne_bytes-fill.ensures.value at c.in_ok-bytes.ensures.answer in
     let found = places_found c.args.self.now c.args.shape.now c.args.data_type.now c.args.fill_value.now places bytes.items stored l c.taken_layout-layout.ensures.is read small in
-    rw c.new_flen.ensures.made (rw (read_at (packed_layout c.args.self.now c.args.shape.now c.args.data_type.now c.args.fill_value.now) l (λ k. read_packed_places k type fill stored places) c.taken_layout-layout.ensures.is) found)
+    rw c.new_flen.ensures.made (rw (read_at (packed_layout c.args.self.now (form_of c.args.shape.now c.args.data_type.now c.args.fill_value.now)) l (λ k. read_packed_places k type fill stored places) c.taken_layout-layout.ensures.is) found)
 
 pub read_whole_runs-requires-clause-whole : goal.read_whole_runs-requires-clause-whole
 read_whole_runs-requires-clause-whole g c = ap keeps_all_bytes c.taken_layout-layout.ensures.is ∙ sym c.if-is_whole.ensures

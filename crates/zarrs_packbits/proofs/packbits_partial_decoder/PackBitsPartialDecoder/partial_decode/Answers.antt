@@ -1,4 +1,4 @@
-use Rattle.std.proofs.Common.{subst}
+use Rattle.std.proofs.Common.{subst, rules}
 use Rattle.zarrs_chunk.specs.Answer.{AnswersBy, memory_or_fault}
 use Rattle.zarrs_chunk.specs.Indexer.{selection_of}
 use Rattle.zarrs_chunk.specs.Selection.{places_of}
@@ -7,18 +7,21 @@ use Rattle.zarrs_packbits.specs.PackBitsPartialDecoder.{packbits_handle_of}
 use Rattle.zarrs_packbits.proofs.DecoderReads.{runs_select, runs_filled}
 use Rattle.zarrs_packbits.proofs.packbits_partial_decoder.PackBitsPartialDecoder.partial_decode.Goals as goal
 
-pub returns-clause-selected : goal.returns-clause-selected
-returns-clause-selected g c value chunk here stands =
+pub returns-clause-reads : goal.returns-clause-reads
+returns-clause-reads g c =
     let form = c.args.self.now in
     let stored = (g.H.BytesPartialDecoderTraits.state (packbits_handle_of form)).value in
     let places = places_of (selection_of c.args.indexer.now) form.shape in
-    let same = runs_select form.codec form.shape form.data_type form.fill_value stored c.in_ok-runs.runs.items c.as_slice.result.now places c.as_slice.ensures.value c.in_ok-runs.ensures.below c.in_ok-runs.ensures.places.is value chunk here stands in
-    subst (λ expected. AnswersBy memory_or_fault (Holds form.data_type) c.read_runs.result expected) same c.read_runs.ensures.answer
-
-pub returns-clause-unstored : goal.returns-clause-unstored
-returns-clause-unstored g c here =
-    let form = c.args.self.now in
-    let stored = (g.H.BytesPartialDecoderTraits.state (packbits_handle_of form)).value in
-    let places = places_of (selection_of c.args.indexer.now) form.shape in
-    let same = runs_filled form.codec form.shape form.data_type form.fill_value stored c.in_ok-runs.runs.items c.as_slice.result.now places form.taken c.as_slice.ensures.value c.in_ok-runs.ensures.places.is here in
-    subst (λ expected. AnswersBy memory_or_fault (Holds form.data_type) c.read_runs.result expected) same c.read_runs.ensures.answer
+    record {
+      selected = λ value chunk here stands.
+          subst (λ expected. AnswersBy memory_or_fault (Holds form.data_type) c.read_runs.result expected)
+          (runs_select form.codec form.shape form.data_type form.fill_value stored c.in_ok-runs.runs.items c.as_slice.result.now places c.as_slice.ensures.value c.in_ok-runs.ensures.below c.in_ok-runs.ensures.places.is value chunk here stands)
+          c.read_runs.ensures.answer;
+      unstored = λ here.
+          subst (λ expected. AnswersBy memory_or_fault (Holds form.data_type) c.read_runs.result expected)
+          (runs_filled form.codec form.shape form.data_type form.fill_value stored c.in_ok-runs.runs.items c.as_slice.result.now places form.taken c.as_slice.ensures.value c.in_ok-runs.ensures.places.is here)
+          c.read_runs.ensures.answer;
+      exact = search rules;
+      indexer_first = search rules;
+      sure = search rules;
+    }

@@ -1,4 +1,5 @@
-use Rattle.std.proofs.Common.{ℕ, List, sym, ap}
+use Rattle.zarrs_data_type.specs.Form.{form_of}
+use Rattle.std.proofs.Common.{rules, ℕ, List, sym, ap}
 use Rattle.zarrs_chunk.specs.Indexer.{selection_of}
 use Rattle.zarrs_chunk.specs.Runs.{joined_runs}
 use Rattle.zarrs_chunk.specs.Selection.{places_of}
@@ -20,4 +21,4 @@ returns-clause-plan g c =
     let runs = c.as_slice.result.now in
     let are = are_runs-from l.elements runs (rw c.as_slice.ensures.value c.in_ok-asked.ensures.filled) (rw (c.as_slice.ensures.value, c.taken_layout-layout.ensures.elements) c.in_ok-asked.ensures.below) in
     let plan = is_plan l runs c.in_ok-ranges.ranges.items (joined_runs c.in_ok-asked.asked.items) c.taken_layout-layout.ensures.sound are (sym c.in_ok-ranges.ensures.spans) (ap joined_runs c.as_slice.ensures.value) in
-    both_found (places_of (selection_of c.args.indexer.now) form.shape) (packed_layout form.codec form.shape form.data_type form.fill_value) (λ (read : List ℕ × PackedLayout). IsPlan read.1 read.0 c.in_ok-ranges.ranges.items) (joined_runs c.in_ok-asked.asked.items) l c.in_ok-asked.ensures.places c.taken_layout-layout.ensures.is plan
+    record { is = both_found (places_of (selection_of c.args.indexer.now) form.shape) (packed_layout form.codec (form_of form.shape form.data_type form.fill_value)) (λ (read : List ℕ × PackedLayout). IsPlan read.1 read.0 c.in_ok-ranges.ranges.items) (joined_runs c.in_ok-asked.asked.items) l c.in_ok-asked.ensures.places.is c.taken_layout-layout.ensures.is plan; no_fault = search rules }

@@ -1,4 +1,4 @@
-use Rattle.std.proofs.Common.{subst, ◌≡◌, true, sym, ◌∙◌}
+use Rattle.std.proofs.Common.{rules, subst, ◌≡◌, true, sym, ◌∙◌}
 use Rattle.zarrs_chunk.specs.Answer.{memory, AnswersBy}
 use Rattle.zarrs_codec.specs.MappedChunk.{encoded_chunk}
 use Rattle.zarrs_array_to_array.specs.ArrayToArrayCodec.{coordinates, transpose}
@@ -17,12 +17,12 @@ use Rattle.zarrs_array_to_array.proofs.transpose.transpose_codec.TransposeCodecA
 pub returns-clause-exact : goal.returns-clause-exact
 returns-clause-exact c =
     let checked = c.in_ok-count.ensures {u = tt} in
-    encoded_answers c.args.self.now c.args.decoded_shape.now c.as_slice.result.now c.as_slice-2.result.now c.args.decoded_data_type.now c.args.bytes c.in_ok-count.count c.transposed.result (sym checked.exact) checked.count (c.as_slice.ensures.value ∙ c.self.view_is) c.as_slice-2.ensures.sizes c.transposed.ensures.exact
+    record { is = encoded_answers c.args.self.now c.args.decoded_shape.now c.as_slice.result.now c.as_slice-2.result.now c.args.decoded_data_type.now c.args.bytes c.in_ok-count.count c.transposed.result (sym checked.exact) checked.count (c.as_slice.ensures.value ∙ c.self.view_is) c.as_slice-2.ensures.sizes c.transposed.ensures.exact.is; no_fault = search rules }
 
 pub returns-clause-found : goal.returns-clause-found
 returns-clause-found c =
     let order : is_order c.args.self.now ≡ true = rw (← (c.as_slice.ensures.value ∙ c.self.view_is)) c.as_slice.ensures.sound in
-    found_by memory (Holds c.args.decoded_data_type.now) c.transposed.result (transpose_encoded c.args.self.now c.args.decoded_data_type.now c.args.decoded_shape.now c.args.bytes) (λ v. IsTransposed c.args.self.now c.args.decoded_shape.now (elements c.args.decoded_data_type.now (product c.args.decoded_shape.now) c.args.bytes) v) (returns-clause-exact c)
+    found_by memory (Holds c.args.decoded_data_type.now) c.transposed.result (transpose_encoded c.args.self.now c.args.decoded_data_type.now c.args.decoded_shape.now c.args.bytes) (λ v. IsTransposed c.args.self.now c.args.decoded_shape.now (elements c.args.decoded_data_type.now (product c.args.decoded_shape.now) c.args.bytes) v) (returns-clause-exact c).is
     (λ v e. encoded_found c.args.self.now c.args.decoded_shape.now c.args.decoded_data_type.now c.args.bytes v order e)
 
 pub returns-clause-moved : goal.returns-clause-moved
@@ -32,7 +32,7 @@ returns-clause-moved c =
     let type = c.args.decoded_data_type.now in
     let held = c.args.bytes in
     where_expected (Holds type) c.transposed.result (encoded_chunk (type_taken (transpose order) type) (coordinates (transpose order) sizes) type sizes held)
-    (subst (λ expected. AnswersBy memory (Holds type) c.transposed.result expected) (transpose_encoded-chunk order sizes type held) (returns-clause-exact c))
+    (subst (λ expected. AnswersBy memory (Holds type) c.transposed.result expected) (transpose_encoded-chunk order sizes type held) (returns-clause-exact c).is)
 
 pub returns-in_err-count-clause-moved : goal.returns-in_err-count-clause-moved
 returns-in_err-count-clause-moved c =

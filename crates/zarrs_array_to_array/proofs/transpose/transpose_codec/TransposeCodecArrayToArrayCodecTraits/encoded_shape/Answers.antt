@@ -1,4 +1,4 @@
-use Rattle.std.proofs.Common.{◌≡◌, ◌<◌, Ok, true, length, refl, sym, ◌∙◌}
+use Rattle.std.proofs.Common.{rules, ◌≡◌, ◌<◌, Ok, true, length, refl, sym, ◌∙◌}
 use Rattle.std.specs.List.{All}
 use Rattle.zarrs_chunk.specs.Answer.{memory}
 use Rattle.zarrs_chunk.specs.AnswerLaws.{found_from}
@@ -23,6 +23,9 @@ returns-clause-map c =
     found_from memory (λ shape. shape) c.permuted_shape.result (Ok (permuted order sizes)) (λ next. IsMapTo (coordinates (transpose order) sizes) sizes next) made
     (λ next e. transposed_to order sizes next is axes positive e)
 
-pub returns-clause-no_fault : goal.returns-clause-no_fault
-returns-clause-no_fault c =
-    no_fault_from (λ shape. shape) c.permuted_shape.result (Ok (permuted c.as_slice-order.result.now c.as_slice-sizes.result.now)) c.permuted_shape.ensures refl
+pub returns-clause-answer : goal.returns-clause-answer
+returns-clause-answer c =
+    record {
+      is = search rules;
+      no_fault = no_fault_from (λ shape. shape) c.permuted_shape.result (Ok (permuted c.as_slice-order.result.now c.as_slice-sizes.result.now)) c.permuted_shape.ensures refl;
+    }
