@@ -17,6 +17,38 @@ pub(crate) fn are<T: PartialEq + Debug>(rt: &impl Abort, name: &str, came: &[T],
     is(rt, name, &came, &wanted);
 }
 
+/// This is answered. A refusal is an error of the test.
+pub(crate) fn gives<T: PartialEq + Debug + Drop, E: Drop>(
+    rt: &impl Abort,
+    name: &str,
+    answer: Result<T, E>,
+    wanted: &T,
+) -> Result<(), E> {
+    match answer {
+        Ok(came) => {
+            is(rt, name, &came, wanted);
+            Ok(())
+        }
+        Err(cause) => Err(cause),
+    }
+}
+
+/// These items are answered. A refusal is an error of the test.
+pub(crate) fn lists<T: PartialEq + Debug + Drop>(
+    rt: &impl Abort,
+    name: &str,
+    answer: Result<Vec<T>, CodecError>,
+    wanted: &[T],
+) -> Result<(), CodecError> {
+    match answer {
+        Ok(came) => {
+            are(rt, name, came.as_slice(), wanted);
+            Ok(())
+        }
+        Err(cause) => Err(cause),
+    }
+}
+
 /// A shape of these sizes, none of which may be zero.
 pub(crate) fn shape(alloc: Global, sizes: &[u64]) -> Result<ChunkShape, CodecError> {
     ChunkShape::new(sizes.to_vec(alloc)?).ok_or(CodecError::OutOfBounds)

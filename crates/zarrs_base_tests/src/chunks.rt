@@ -1,6 +1,6 @@
 //! Shapes of chunks, subsets of them, and the row-major numbers of index tuples.
 
-use crate::checks::{are, is, shape};
+use crate::checks::{are, gives, is, lists, shape};
 use std::alloc::Global;
 use std::ops::Range;
 use std::process::Abort;
@@ -40,14 +40,14 @@ const SHAPES: &'static [Shape] = &[
 fn is_shape(rt: &impl Abort, row: &Shape, made: &ChunkShape) -> Result<(), CodecError> {
     are(rt, row.name, made.as_slice(), row.sizes);
     is(rt, row.name, &made.num_elements(), &row.elements);
-    is(rt, row.name, &made.clone()?, made);
-    Ok(())
+    gives(rt, row.name, made.clone(), made)
 }
 
 #[test]
 fn count_their_elements(rt: HostRuntime) -> Result<(), CodecError> {
     for row in SHAPES.iter() {
-        is_shape(&rt, row, &shape(rt.alloc(), row.sizes)?)?;
+        let made = shape(rt.alloc(), row.sizes)?;
+        is_shape(&rt, row, &made)?;
     }
     Ok(())
 }
@@ -112,8 +112,7 @@ fn has_parts(rt: &impl Abort, row: &Subset, made: &ArraySubset) -> Result<(), Co
     are(rt, row.name, made.start(), row.start);
     are(rt, row.name, made.shape(), row.shape);
     is(rt, row.name, &made.num_elements(), &row.elements);
-    is(rt, row.name, &made.clone()?, made);
-    Ok(())
+    gives(rt, row.name, made.clone(), made)
 }
 
 fn is_subset(
@@ -256,8 +255,12 @@ const PLACES: &'static [Places] = &[
 #[test]
 fn join_neighbours(rt: HostRuntime) -> Result<(), CodecError> {
     for row in PLACES.iter() {
-        let runs = runs_of_places(rt.alloc(), row.places)?;
-        are(&rt, row.name, runs.as_slice(), row.runs);
+        lists(
+            &rt,
+            row.name,
+            runs_of_places(rt.alloc(), row.places),
+            row.runs,
+        )?;
     }
     Ok(())
 }

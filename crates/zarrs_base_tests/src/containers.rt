@@ -1,6 +1,6 @@
 //! Types and containers as plain data, and what is made of them.
 
-use crate::checks::is;
+use crate::checks::gives;
 use std::alloc::Global;
 use std::borrow::CowSlice;
 use std::process::Abort;
@@ -70,13 +70,7 @@ pub(crate) fn holds(
     came: &ArrayBytes<'static>,
     wanted: &Held,
 ) -> Result<(), CodecError> {
-    match container(alloc, wanted) {
-        Ok(wanted) => {
-            is(rt, name, came, &wanted);
-            Ok(())
-        }
-        Err(cause) => Err(cause),
-    }
+    gives(rt, name, container(alloc, wanted), came)
 }
 
 /// The answer is this container.

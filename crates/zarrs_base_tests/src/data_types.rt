@@ -1,7 +1,7 @@
 //! Data types and fill values. Types with a name are played in the transcripts of the tool, with their
 //! bits and signs.
 
-use crate::checks::{are, is};
+use crate::checks::{are, gives, is};
 use crate::containers::{Type, data_type};
 use std::alloc::Global;
 use std::process::Abort;
@@ -58,8 +58,7 @@ fn says(rt: &impl Abort, said: &Said, data_type: &DataType) -> Result<(), CodecE
     is(rt, said.name, &data_type.is_optional(), &said.is_optional);
     let has_inside = data_type.as_optional().is_some();
     is(rt, said.name, &has_inside, &said.is_optional);
-    is(rt, said.name, &data_type.clone()?, data_type);
-    Ok(())
+    gives(rt, said.name, data_type.clone(), data_type)
 }
 
 #[test]
@@ -70,13 +69,16 @@ fn say_what_their_elements_are(rt: HostRuntime) -> Result<(), CodecError> {
     Ok(())
 }
 
+fn fits(rt: &impl Abort, word: &FillValue, data_type: &DataType, wanted: bool) {
+    is(rt, "fits", &word.fits(data_type), &wanted);
+}
+
 /// One element of two bytes.
 fn is_word(rt: &impl Abort, word: &FillValue) -> Result<(), CodecError> {
     are(rt, "bytes", word.as_ne_bytes(), &[0, 1]);
-    is(rt, "copy", &word.clone()?, word);
-    is(rt, "fits", &word.fits(&DataType::uint16()), &true);
-    is(rt, "fits not", &word.fits(&DataType::uint8()), &false);
-    Ok(())
+    fits(rt, word, &DataType::uint16(), true);
+    fits(rt, word, &DataType::uint8(), false);
+    gives(rt, "copy", word.clone(), word)
 }
 
 /// The bytes of an element that is absent inside.

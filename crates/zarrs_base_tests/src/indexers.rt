@@ -1,6 +1,6 @@
 //! Which elements are meant: their places, and the runs of these.
 
-use crate::checks::{Asked, are, indexer, is, shape};
+use crate::checks::{Asked, gives, indexer, is, lists, shape};
 use crate::chunks::is_unravelled;
 use Asked::{Ranges, Tuples};
 use std::alloc::Global;
@@ -80,23 +80,26 @@ fn means(
 ) -> Result<(), CodecError> {
     is(rt, row.name, &asked.check(chunk), &Ok(()));
     is(rt, row.name, &asked.len(), &Ok(row.places.len() as u64));
-    let places = asked.places(alloc, chunk)?;
-    are(rt, row.name, places.as_slice(), row.places);
-    let runs = asked.runs(alloc, chunk)?;
-    are(rt, row.name, runs.as_slice(), row.runs);
-    Ok(())
+    lists(rt, row.name, asked.places(alloc, chunk), row.places)?;
+    lists(rt, row.name, asked.runs(alloc, chunk), row.runs)
 }
 
-/// The row's indexer, and an equal copy of it.
+/// The row's indexer has an equal copy, and means the row's places.
 fn covers(rt: &impl Abort, alloc: Global, row: &Row, asked: &Indexer) -> Result<(), CodecError> {
-    is(rt, row.name, &asked.clone()?, asked);
-    means(rt, alloc, row, &shape(alloc, row.sizes)?, asked)
+    gives(rt, row.name, asked.clone(), asked)?;
+    let chunk = shape(alloc, row.sizes)?;
+    means(rt, alloc, row, &chunk, asked)
+}
+
+fn covers_row(rt: &impl Abort, alloc: Global, row: &Row) -> Result<(), CodecError> {
+    let asked = indexer(alloc, &row.asked)?;
+    covers(rt, alloc, row, &asked)
 }
 
 #[test]
 fn have_places_and_runs(rt: HostRuntime) -> Result<(), CodecError> {
     for row in ROWS.iter() {
-        covers(&rt, rt.alloc(), row, &indexer(rt.alloc(), &row.asked)?)?;
+        covers_row(&rt, rt.alloc(), row)?;
     }
     Ok(())
 }
@@ -121,13 +124,8 @@ fn whole(alloc: Global, sizes: &[u64]) -> Result<Indexer, CodecError> {
 }
 
 fn is_one_element(rt: &impl Abort, alloc: Global, chunk: &ChunkShape) -> Result<(), CodecError> {
-    means(
-        rt,
-        alloc,
-        &ONE_ELEMENT,
-        chunk,
-        &whole(alloc, chunk.as_slice())?,
-    )
+    let all = whole(alloc, chunk.as_slice())?;
+    means(rt, alloc, &ONE_ELEMENT, chunk, &all)
 }
 
 /// The one element has the number 0.

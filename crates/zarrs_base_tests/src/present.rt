@@ -106,15 +106,15 @@ fn go_and_come(
     )
 }
 
+fn row_goes_and_comes(rt: &impl Abort, alloc: Global, row: &Row) -> Result<(), CodecError> {
+    let data_type = data_type(alloc, &row.data_type)?;
+    go_and_come(rt, alloc, row, &data_type)
+}
+
 #[test]
 fn are_taken_out_and_put_back(rt: HostRuntime) -> Result<(), CodecError> {
     for row in ROWS.iter() {
-        go_and_come(
-            &rt,
-            rt.alloc(),
-            row,
-            &data_type(rt.alloc(), &row.data_type)?,
-        )?;
+        row_goes_and_comes(&rt, rt.alloc(), row)?;
     }
     Ok(())
 }

@@ -137,10 +137,15 @@ fn are_both(rt: &impl Abort, alloc: Global, row: &Row, meant: &Meant) -> Result<
     )
 }
 
+fn select_and_update(rt: &impl Abort, alloc: Global, row: &Row) -> Result<(), CodecError> {
+    let meant = meant_by(alloc, row)?;
+    are_both(rt, alloc, row, &meant)
+}
+
 #[test]
 fn select_and_update_elements(rt: HostRuntime) -> Result<(), CodecError> {
     for row in ROWS.iter() {
-        are_both(&rt, rt.alloc(), row, &meant_by(rt.alloc(), row)?)?;
+        select_and_update(&rt, rt.alloc(), row)?;
     }
     Ok(())
 }

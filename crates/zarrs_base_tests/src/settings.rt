@@ -1,7 +1,7 @@
 //! Settings of codecs: orders of axes, sizes of a reshaped chunk, and where the offsets of `vlen` stand.
 //! What is read as one, and what is refused, is played in the transcripts of the tool.
 
-use crate::checks::{are, is};
+use crate::checks::{are, gives, is};
 use std::alloc::Global;
 use std::process::Abort;
 use zarrs_data_type::Endianness;
@@ -12,8 +12,7 @@ use zarrs_metadata::{
 
 fn is_order(rt: &impl Abort, made: &TransposeOrder) -> Result<(), PluginCreateError> {
     are(rt, "order", made.as_slice(), &[2, 0, 1]);
-    is(rt, "copy", &made.clone()?, made);
-    Ok(())
+    gives(rt, "copy", made.clone(), made)
 }
 
 #[test]
@@ -31,11 +30,11 @@ fn reshaped(alloc: Global) -> Result<ReshapeShape, PluginCreateError> {
 }
 
 fn is_reshaped(rt: &impl Abort, made: &ReshapeShape) -> Result<(), PluginCreateError> {
-    is(rt, "copy", &made.clone()?, made);
+    gives(rt, "copy", made.clone(), made)?;
     let [axes, auto, size] = made.as_slice() else {
         return Err(PluginCreateError::InvalidConfiguration);
     };
-    is(rt, "copy", &axes.clone()?, axes);
+    gives(rt, "copy", axes.clone(), axes)?;
     if let ReshapeDim::InputDims(axes) = axes {
         are(rt, "axes", axes.as_slice(), &[0, 1]);
     }
