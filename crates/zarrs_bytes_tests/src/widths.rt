@@ -113,14 +113,14 @@ fn codes_width(
 
 const GIVEN: &'static [bool] = &[false, true];
 
-fn codes_both(
+fn codes_both<'a>(
     rt: &impl Abort,
     alloc: Global,
     codec: &BytesCodec,
     row: &Width,
     count: u64,
-    memory: &[u8],
-    value: &[u8],
+    memory: &'a [u8],
+    value: &'a [u8],
 ) -> Result<(), CodecError> {
     for is_owned in GIVEN.iter() {
         let pair = Pair {
