@@ -14,13 +14,39 @@ pub(crate) fn is<T: PartialEq + Debug>(rt: &impl Abort, name: &str, came: &T, wa
 
 /// The items that came are those that are wanted.
 pub(crate) fn are<T: PartialEq + Debug>(rt: &impl Abort, name: &str, came: &[T], wanted: &[T]) {
-    assert_eq!(rt; came, wanted, "{name}");
+    is(rt, name, &came, &wanted);
 }
 
-/// A value is equal to its copy and to no value that is unlike it, both ways.
-pub(crate) fn compares<T: PartialEq>(rt: &impl Abort, name: &str, one: &T, copy: &T, unlike: &T) {
-    is(rt, name, &(*one == *copy && *copy == *one), &true);
-    is(rt, name, &(*one != *unlike && *unlike != *one), &true);
+/// This is answered. A refusal is an error of the test.
+pub(crate) fn gives<T: PartialEq + Debug + Drop, E: Drop>(
+    rt: &impl Abort,
+    name: &str,
+    answer: Result<T, E>,
+    wanted: &T,
+) -> Result<(), E> {
+    match answer {
+        Ok(came) => {
+            is(rt, name, &came, wanted);
+            Ok(())
+        }
+        Err(cause) => Err(cause),
+    }
+}
+
+/// These items are answered. A refusal is an error of the test.
+pub(crate) fn lists<T: PartialEq + Debug + Drop>(
+    rt: &impl Abort,
+    name: &str,
+    answer: Result<Vec<T>, CodecError>,
+    wanted: &[T],
+) -> Result<(), CodecError> {
+    match answer {
+        Ok(came) => {
+            are(rt, name, came.as_slice(), wanted);
+            Ok(())
+        }
+        Err(cause) => Err(cause),
+    }
 }
 
 /// A shape of these sizes, none of which may be zero.

@@ -2,12 +2,10 @@
 //! the transcripts of the tool.
 
 use crate::checks::is;
-use crate::containers::{Held, Type, answers, container, data_type};
-use Held::{Fixed, Masked, MaskedTexts, Nested, NestedTexts, Texts};
+use crate::containers::{Elements, Held, Type, answers, container, data_type};
 use std::alloc::Global;
 use std::borrow::CowSlice;
 use std::process::Abort;
-use std::test::Fail;
 use zarrs_array_bytes::count_present;
 use zarrs_chunk::CodecError;
 use zarrs_data_type::DataType;
@@ -25,105 +23,98 @@ struct Row {
 }
 
 const ROWS: &'static [Row] = &[
-    Row {
-        name: "none of three",
-        data_type: Type::Bytes(1),
-        mask: &[0, 0, 0],
-        elements: Fixed(&[5, 9, 7]),
-        count: 0,
-        present: Fixed(&[]),
-        put_back: Masked(&[0, 0, 0], &[0, 0, 0]),
-    },
-    Row {
-        name: "all of three",
-        data_type: Type::Bytes(1),
-        mask: &[1, 1, 1],
-        elements: Fixed(&[5, 9, 7]),
-        count: 3,
-        present: Fixed(&[5, 9, 7]),
-        put_back: Masked(&[1, 1, 1], &[5, 9, 7]),
-    },
-    Row {
-        name: "two bytes, two of four",
-        data_type: Type::Bytes(2),
-        mask: &[0, 1, 1, 0],
-        elements: Fixed(&[1, 2, 3, 4, 5, 6, 7, 8]),
-        count: 2,
-        present: Fixed(&[3, 4, 5, 6]),
-        put_back: Masked(&[0, 1, 1, 0], &[0, 0, 3, 4, 5, 6, 0, 0]),
-    },
     // A byte of no element stands in front of the texts.
     Row {
         name: "two of four texts",
         data_type: Type::Text,
         mask: &[1, 0, 0, 1],
-        elements: Texts(b"xabcdef", &[1, 2, 4, 4, 7]),
+        elements: Held {
+            masks: &[],
+            bytes: b"xabcdef",
+            offsets: Some(&[1, 2, 4, 4, 7]),
+        },
         count: 2,
-        present: Texts(b"adef", &[0, 1, 4]),
-        put_back: MaskedTexts(&[1, 0, 0, 1], b"adef", &[0, 1, 1, 1, 4]),
+        present: Held {
+            masks: &[],
+            bytes: b"adef",
+            offsets: Some(&[0, 1, 4]),
+        },
+        put_back: Held {
+            masks: &[&[1, 0, 0, 1]],
+            bytes: b"adef",
+            offsets: Some(&[0, 1, 1, 1, 4]),
+        },
     },
     // What stands under an absent element of an inner mask goes with it.
     Row {
         name: "two of three under masks",
-        data_type: Type::Optional(1),
+        data_type: Type::OptionalByte,
         mask: &[1, 0, 1],
-        elements: Masked(&[1, 1, 0], &[42, 9, 3]),
+        elements: Held {
+            masks: &[&[1, 1, 0]],
+            bytes: &[42, 9, 3],
+            offsets: None,
+        },
         count: 2,
-        present: Masked(&[1, 0], &[42, 3]),
-        put_back: Nested(&[1, 0, 1], &[1, 0, 0], &[42, 0, 3]),
-    },
-    Row {
-        name: "two of three texts under masks",
-        data_type: Type::OptionalText,
-        mask: &[0, 1, 1],
-        elements: MaskedTexts(&[1, 1, 0], b"xabc", &[1, 2, 4, 4]),
-        count: 2,
-        present: MaskedTexts(&[1, 0], b"bc", &[0, 2, 2]),
-        put_back: NestedTexts(&[0, 1, 1], &[0, 1, 0], b"bc", &[0, 0, 2, 2]),
+        present: Held {
+            masks: &[&[1, 0]],
+            bytes: &[42, 3],
+            offsets: None,
+        },
+        put_back: Held {
+            masks: &[&[1, 0, 0], &[1, 0, 1]],
+            bytes: &[42, 0, 3],
+            offsets: None,
+        },
     },
 ];
 
-fn is_taken_out(
-    rt: &impl Abort,
-    alloc: Global,
-    row: &Row,
-    data_type: &DataType,
-) -> Result<(), CodecError> {
-    let elements = container(alloc, &row.elements)?;
-    let answer = elements.extract_present(alloc, row.mask, data_type);
-    answers(rt, row.name, answer, &row.present)
+fn taken_out(alloc: Global, row: &Row, data_type: &DataType) -> Elements {
+    match container(alloc, &row.elements) {
+        Ok(elements) => elements.extract_present(alloc, row.mask, data_type),
+        Err(cause) => Err(cause),
+    }
 }
 
-fn is_put_back(
-    rt: &impl Abort,
-    alloc: Global,
-    row: &Row,
-    data_type: &DataType,
-) -> Result<(), CodecError> {
-    let present = container(alloc, &row.present)?;
-    let answer = present.expand_present(alloc, CowSlice::Borrowed(row.mask), data_type);
-    answers(rt, row.name, answer, &row.put_back)
+fn put_back(alloc: Global, row: &Row, data_type: &DataType) -> Elements {
+    match container(alloc, &row.present) {
+        Ok(present) => present.expand_present(alloc, CowSlice::Borrowed(row.mask), data_type),
+        Err(cause) => Err(cause),
+    }
 }
 
-fn goes_and_comes(
+fn go_and_come(
     rt: &impl Abort,
     alloc: Global,
     row: &Row,
     data_type: &DataType,
 ) -> Result<(), CodecError> {
     is(rt, row.name, &count_present(row.mask), &Ok(row.count));
-    is_taken_out(rt, alloc, row, data_type)?;
-    is_put_back(rt, alloc, row, data_type)
+    answers(
+        rt,
+        alloc,
+        row.name,
+        taken_out(alloc, row, data_type),
+        &row.present,
+    )?;
+    answers(
+        rt,
+        alloc,
+        row.name,
+        put_back(alloc, row, data_type),
+        &row.put_back,
+    )
 }
 
-fn all_go_and_come(rt: &impl Abort, alloc: Global, rows: &[Row]) -> Result<(), CodecError> {
-    for row in rows {
-        goes_and_comes(rt, alloc, row, &data_type(alloc, &row.data_type)?)?;
-    }
-    Ok(())
+fn row_goes_and_comes(rt: &impl Abort, alloc: Global, row: &Row) -> Result<(), CodecError> {
+    let data_type = data_type(alloc, &row.data_type)?;
+    go_and_come(rt, alloc, row, &data_type)
 }
 
 #[test]
-fn are_taken_out_and_put_back(rt: HostRuntime) -> Result<(), Fail> {
-    Ok(all_go_and_come(&rt, rt.alloc(), ROWS)?)
+fn are_taken_out_and_put_back(rt: HostRuntime) -> Result<(), CodecError> {
+    for row in ROWS.iter() {
+        row_goes_and_comes(&rt, rt.alloc(), row)?;
+    }
+    Ok(())
 }

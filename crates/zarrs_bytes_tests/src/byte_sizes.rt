@@ -52,14 +52,10 @@ fn has_ends(rt: &impl Abort, row: &Ends) {
 }
 
 #[test]
-fn ranges_have_ends_and_differ_by_them(rt: HostRuntime) {
+fn ranges_have_ends(rt: HostRuntime) {
     for row in ENDS.iter() {
         has_ends(&rt, row);
     }
-    let range = ByteRange::new(3..7);
-    is(&rt, "same", &(ByteRange::new(3..7) == range), &true);
-    is(&rt, "start", &(ByteRange::new(2..7) == range), &false);
-    is(&rt, "end", &(ByteRange::new(3..8) == range), &false);
 }
 
 /// A representation, the greatest number of bytes, and whether it is just four bytes.

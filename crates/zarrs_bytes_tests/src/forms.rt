@@ -64,54 +64,43 @@ pub(crate) struct ChunkForm {
 }
 
 pub(crate) fn chunk_form(alloc: Global, form: &Form<'_>) -> Result<ChunkForm, CodecError> {
-    let shape = ChunkShape::new(form.sizes.to_vec(alloc)?);
+    let shape = ChunkShape::new(form.sizes.to_vec(alloc)?).ok_or(CodecError::OutOfBounds)?;
+    let data_type = DataType::components(form.bits, form.components, form.bits % 8 == 4)?;
+    let fill_value = FillValue::new(form.fill.to_vec(alloc)?);
     Ok(ChunkForm {
-        shape: shape.ok_or(CodecError::OutOfBounds)?,
-        data_type: DataType::components(form.bits, form.components, form.bits % 8 == 4)?,
-        fill_value: FillValue::new(form.fill.to_vec(alloc)?),
+        shape,
+        data_type,
+        fill_value,
     })
 }
 
-/// A codec's decoder of such a chunk in part, over a handle, or why there is none and the handle.
-pub(crate) fn made_decoder<H: BytesPartialDecoderTraits>(
+fn made_decoder<H: BytesPartialDecoderTraits>(
     alloc: Global,
-    codec: BytesCodec,
     form: &ChunkForm,
     handle: H,
 ) -> Result<BytesCodecPartial<H>, Refused<H>> {
-    codec.partial_decoder(
-        alloc,
-        handle,
-        &form.shape,
-        &form.data_type,
-        &form.fill_value,
-    )
+    let (shape, data_type, fill_value) = (&form.shape, &form.data_type, &form.fill_value);
+    BytesCodec::big().partial_decoder(alloc, handle, shape, data_type, fill_value)
 }
 
-/// The same of a coder that writes too.
-pub(crate) fn made_encoder<H: BytesPartialEncoderTraits>(
+fn made_encoder<H: BytesPartialEncoderTraits>(
     alloc: Global,
-    codec: BytesCodec,
     form: &ChunkForm,
     handle: H,
 ) -> Result<BytesCodecPartial<H>, Refused<H>> {
-    codec.partial_encoder(
-        alloc,
-        handle,
-        &form.shape,
-        &form.data_type,
-        &form.fill_value,
-    )
+    let (shape, data_type, fill_value) = (&form.shape, &form.data_type, &form.fill_value);
+    BytesCodec::big().partial_encoder(alloc, handle, shape, data_type, fill_value)
 }
 
-/// A decoder for which the highest byte of a component is the first one in a value.
+/// A decoder of such a chunk in part, over a handle, for which the highest byte of a component is the
+/// first one in a value.
 pub(crate) fn decoder<H: BytesPartialDecoderTraits + Drop>(
     alloc: Global,
     form: &Form<'_>,
     handle: H,
 ) -> Result<BytesCodecPartial<H>, CodecError> {
     let form = chunk_form(alloc, form)?;
-    match made_decoder(alloc, BytesCodec::big(), &form, handle) {
+    match made_decoder(alloc, &form, handle) {
         Ok(decoder) => Ok(decoder),
         Err(refused) => Err(refused.error),
     }
@@ -124,7 +113,7 @@ pub(crate) fn encoder<H: BytesPartialEncoderTraits + Drop>(
     handle: H,
 ) -> Result<BytesCodecPartial<H>, CodecError> {
     let form = chunk_form(alloc, form)?;
-    match made_encoder(alloc, BytesCodec::big(), &form, handle) {
+    match made_encoder(alloc, &form, handle) {
         Ok(encoder) => Ok(encoder),
         Err(refused) => Err(refused.error),
     }
@@ -138,24 +127,28 @@ pub(crate) enum Asked<'a> {
     Numbers(&'a [u64]),
 }
 
-pub(crate) fn indexer(alloc: Global, asked: Asked<'_>) -> Result<Indexer, CodecError> {
+fn listed(alloc: Global, tuples: &[&[u64]]) -> Result<Indexer, CodecError> {
     let mut indices = Vec::new(alloc);
-    match asked {
-        Asked::Ranges(ranges) => {
-            return Ok(Indexer::Subset(ArraySubset::new_with_ranges(alloc, ranges)?));
-        }
-        Asked::Tuples(tuples) => {
-            for tuple in tuples {
-                indices.push(tuple.to_vec(alloc)?)?;
-            }
-        }
-        Asked::Numbers(numbers) => {
-            for number in numbers {
-                indices.push(vec![in alloc; *number]?)?;
-            }
-        }
+    for tuple in tuples {
+        indices.push(tuple.to_vec(alloc)?)?;
     }
     Ok(Indexer::Indices(indices))
+}
+
+fn numbered(alloc: Global, numbers: &[u64]) -> Result<Indexer, CodecError> {
+    let mut indices = Vec::new(alloc);
+    for number in numbers {
+        indices.push(vec![in alloc; *number]?)?;
+    }
+    Ok(Indexer::Indices(indices))
+}
+
+pub(crate) fn indexer(alloc: Global, asked: Asked<'_>) -> Result<Indexer, CodecError> {
+    match asked {
+        Asked::Ranges(ranges) => Ok(Indexer::Subset(ArraySubset::new_with_ranges(alloc, ranges)?)),
+        Asked::Tuples(tuples) => listed(alloc, tuples),
+        Asked::Numbers(numbers) => numbered(alloc, numbers),
+    }
 }
 
 /// A handle in memory over this value, or over none.

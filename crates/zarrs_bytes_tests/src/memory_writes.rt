@@ -11,11 +11,11 @@ use zarrs_codec::{BytesPartialEncoderTraits, MemoryHandle};
 
 const LAST: u64 = 18446744073709551615;
 
-/// Values, or none; the starts and lengths of pieces, and their joined bytes; and the value afterwards, or
+/// A value, or none; the starts and lengths of pieces, and their joined bytes; and the value afterwards, or
 /// why the pieces are not written.
 struct Row {
     name: &'static str,
-    values: &'static [Option<&'static [u8]>],
+    value: Option<&'static [u8]>,
     pieces: &'static [(u64, u64)],
     bytes: &'static [u8],
     after: Answer<'static>,
@@ -24,49 +24,35 @@ struct Row {
 const ROWS: &'static [Row] = &[
     Row {
         name: "where pieces meet, the later one stands",
-        values: &[Some(&[1, 2, 3])],
+        value: Some(&[1, 2, 3]),
         pieces: &[(0, 2), (1, 2)],
         bytes: &[7, 8, 9, 6],
         after: Ok(&[7, 9, 6]),
     },
     Row {
         name: "over nothing, with zeros in the gap",
-        values: &[None],
+        value: None,
         pieces: &[(2, 2), (0, 1)],
         bytes: &[5, 6, 4],
         after: Ok(&[4, 0, 5, 6]),
     },
     Row {
         name: "an empty piece as far as can be",
-        values: &[Some(&[1, 2])],
+        value: Some(&[1, 2]),
         pieces: &[(LAST, 0), (0, 1)],
         bytes: &[3],
         after: Ok(&[3, 2]),
     },
     Row {
         name: "no piece over nothing",
-        values: &[None],
+        value: None,
         pieces: &[],
         bytes: &[],
         after: Ok(&[]),
     },
     Row {
-        name: "four bytes, two and one",
-        values: &[Some(&[0, 0, 0, 0, 0, 0, 0, 0])],
-        pieces: &[(4, 4), (0, 2), (2, 1)],
-        bytes: &[1, 2, 3, 4, 5, 6, 7],
-        after: Ok(&[5, 6, 7, 0, 1, 2, 3, 4]),
-    },
-    Row {
-        name: "eight bytes and three, over nothing",
-        values: &[None],
-        pieces: &[(3, 8), (0, 3)],
-        bytes: &[1, 2, 3, 4, 5, 6, 7, 8, 9, 10, 11],
-        after: Ok(&[9, 10, 11, 1, 2, 3, 4, 5, 6, 7, 8]),
-    },
-    Row {
         name: "behind the 64th byte, over nothing",
-        values: &[None],
+        value: None,
         pieces: &[(0, 1), (70, 1)],
         bytes: &[8, 9],
         after: Ok(&[
@@ -76,29 +62,22 @@ const ROWS: &'static [Row] = &[
         ]),
     },
     Row {
-        name: "ends past 64 bits",
-        values: &[Some(&[7, 8]), None],
-        pieces: &[(LAST, 1)],
-        bytes: &[1],
-        after: Err(Overflow),
-    },
-    Row {
         name: "the second piece ends past 64 bits",
-        values: &[Some(&[7, 8]), None],
+        value: Some(&[7, 8]),
         pieces: &[(0, 1), (1, LAST)],
         bytes: &[1],
         after: Err(Overflow),
     },
     Row {
         name: "together too many bytes",
-        values: &[Some(&[7, 8]), None],
+        value: Some(&[7, 8]),
         pieces: &[(0, LAST), (0, 1)],
         bytes: &[1],
         after: Err(Overflow),
     },
     Row {
         name: "a byte too many",
-        values: &[Some(&[7, 8]), None],
+        value: Some(&[7, 8]),
         pieces: &[(0, 1), (5, 2)],
         bytes: &[1, 2, 3, 4],
         after: Err(InvalidBytesLength {
@@ -118,18 +97,16 @@ fn write<H: BytesPartialEncoderTraits>(
     answer.err()
 }
 
-/// What a call leaves over an old value. It counts. Where it is refused, for want of memory too, the old
-/// value is there.
+/// What a call leaves. It counts. Where it is refused, for want of memory too, the old value is there.
 fn leaves(
     rt: &impl Abort,
     handle: &MemoryHandle,
-    old: Option<&[u8]>,
     refusal: Option<CodecError>,
     row: &Row,
 ) -> Result<(), CodecError> {
     let value = match refusal {
         None => row.after.ok(),
-        Some(_) => old,
+        Some(_) => row.value,
     };
     is(rt, row.name, &handle.value(), &value);
     is(rt, row.name, &handle.write_calls(), &1);
@@ -137,18 +114,16 @@ fn leaves(
 }
 
 /// The handle is lent to the call.
-fn writes(rt: &impl Abort, alloc: Global, old: Option<&[u8]>, row: &Row) -> Result<(), CodecError> {
-    let mut handle = stored(alloc, old)?;
+fn writes(rt: &impl Abort, alloc: Global, row: &Row) -> Result<(), CodecError> {
+    let mut handle = stored(alloc, row.value)?;
     let refusal = write(alloc, &mut &mut handle, row);
-    leaves(rt, &handle, old, refusal, row)
+    leaves(rt, &handle, refusal, row)
 }
 
 #[test]
 fn a_handle_in_memory_writes_pieces(rt: HostRuntime) -> Result<(), CodecError> {
     for row in ROWS.iter() {
-        for value in row.values {
-            writes(&rt, rt.alloc(), *value, row)?;
-        }
+        writes(&rt, rt.alloc(), row)?;
     }
     Ok(())
 }
@@ -165,7 +140,7 @@ fn replaces<H: BytesPartialEncoderTraits>(
     is(rt, "size", &handle.size_held(), &size);
     answer?;
     handle.replace(alloc, &[4])?;
-    answers_value(rt, "shorter", &handle.decode(alloc), Ok(Some(&[4])))
+    answers_value(rt, "shorter", handle.decode(alloc), Ok(Some(&[4])))
 }
 
 /// What a handle tells of its writing. Its value is erased, and nothing is erased.

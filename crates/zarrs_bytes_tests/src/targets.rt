@@ -11,12 +11,11 @@ use zarrs_bytes::BytesCodec;
 use zarrs_chunk::{ArraySubset, ChunkShape, CodecError};
 use zarrs_codec::ArrayToBytesCodecTraits;
 
-/// Where in two rows of three zeros the elements 1 and 2 go, whether there is a view for a mask too, and
-/// the six bytes afterwards; or why nothing is written.
+/// Where in two rows of three zeros the elements 1 and 2 go, and the six bytes afterwards; or why nothing
+/// is written.
 struct Row {
     name: &'static str,
     ranges: &'static [Range<u64>],
-    is_masked: bool,
     after: Answer<'static>,
 }
 
@@ -24,52 +23,25 @@ const ROWS: &'static [Row] = &[
     Row {
         name: "a column",
         ranges: &[0..2, 1..2],
-        is_masked: false,
         after: Ok(&[0, 1, 0, 0, 2, 0]),
-    },
-    Row {
-        name: "the end of a row",
-        ranges: &[1..2, 1..3],
-        is_masked: false,
-        after: Ok(&[0, 0, 0, 0, 1, 2]),
     },
     Row {
         name: "one place",
         ranges: &[0..1, 1..2],
-        is_masked: false,
-        after: Err(CodecError::TargetMismatch),
-    },
-    Row {
-        name: "a mask too many",
-        ranges: &[0..2, 1..2],
-        is_masked: true,
         after: Err(CodecError::TargetMismatch),
     },
 ];
 
-/// The view of these ranges of an array of single bytes.
+/// The view of the row's ranges of two rows of three bytes.
 fn view<'a>(
     alloc: Global,
     bytes: &'a mut [u8],
-    sizes: &[u64],
-    ranges: &[Range<u64>],
-) -> Result<ArrayBytesFixedView<'a>, CodecError> {
-    let subset = ArraySubset::new_with_ranges(alloc, ranges)?;
-    let shape = ChunkShape::new(sizes.to_vec(alloc)?).ok_or(CodecError::OutOfBounds)?;
-    ArrayBytesFixedView::new(alloc, bytes, 1, &shape, subset)
-}
-
-/// The view of a mask of two bytes, where there is to be one.
-fn masks<'a>(
-    alloc: Global,
-    flags: &'a mut [u8],
     row: &Row,
-) -> Result<Vec<ArrayBytesFixedView<'a>>, CodecError> {
-    let mut masks = Vec::new(alloc);
-    if row.is_masked {
-        masks.push(view(alloc, flags, &[2], &[0..2])?)?;
-    }
-    Ok(masks)
+) -> Result<ArrayBytesFixedView<'a>, CodecError> {
+    let sizes: &[u64] = &[2, 3];
+    let shape = ChunkShape::new(sizes.to_vec(alloc)?).ok_or(CodecError::OutOfBounds)?;
+    let subset = ArraySubset::new_with_ranges(alloc, row.ranges)?;
+    ArrayBytesFixedView::new(alloc, bytes, 1, &shape, subset)
 }
 
 /// The elements 1 and 2 are decoded into a target: why they aren't, where they aren't.
@@ -112,10 +84,10 @@ fn decodes_form(
 }
 
 fn decodes_row(rt: &impl Abort, alloc: Global, row: &Row) -> Result<(), CodecError> {
-    let (mut bytes, mut flags) = ([0u8; 6], [0u8; 2]);
+    let mut bytes = [0u8; 6];
     let mut target = ArrayBytesDecodeIntoTarget {
-        values: view(alloc, &mut bytes, &[2, 3], row.ranges)?,
-        masks: masks(alloc, &mut flags, row)?,
+        values: view(alloc, &mut bytes, row)?,
+        masks: Vec::new(alloc),
     };
     decodes_form(rt, alloc, &mut target, row)
 }

@@ -16,98 +16,149 @@ use zarrs_data_type::Endianness;
 pub(crate) fn is_coded(
     rt: &impl Abort,
     name: &str,
-    came: &Result<ArrayBytesRaw<'_>, CodecError>,
+    came: Result<ArrayBytesRaw<'_>, CodecError>,
     wanted: Answer<'_>,
 ) -> Result<(), CodecError> {
     match came {
         Ok(bytes) => answers(rt, name, Ok(bytes.as_slice()), wanted),
-        Err(cause) => answers(rt, name, Err(*cause), wanted),
+        Err(cause) => answers(rt, name, Err(cause), wanted),
     }
 }
 
-/// What is to come: bytes, which are lent or owned, or a refusal.
+/// Bytes that are lent, or owned ones.
+pub(crate) fn raw<'a>(
+    alloc: Global,
+    bytes: &'a [u8],
+    is_owned: bool,
+) -> Result<ArrayBytesRaw<'a>, CodecError> {
+    if !is_owned {
+        return Ok(CowSlice::Borrowed(bytes));
+    }
+    Ok(CowSlice::Owned(bytes.to_vec(alloc)?))
+}
+
+/// The bytes of elements as they stand in memory, and of their value, or why they have none and the
+/// value stands for none; whether they are given as owned bytes; and whether what comes is lent, as no
+/// byte changes its place.
 #[derive(Clone, Copy)]
-pub(crate) struct Wanted<'a> {
-    pub(crate) answer: Answer<'a>,
+pub(crate) struct Pair<'a> {
+    pub(crate) name: &'a str,
+    pub(crate) memory: &'a [u8],
+    pub(crate) value: Answer<'a>,
+    pub(crate) is_owned: bool,
     pub(crate) is_lent: bool,
 }
 
-/// The same, where no copy is made of bytes that are lent.
-fn is_lent_or_owned(
+/// The wanted bytes came, and no copy is made of bytes that are lent.
+fn comes(
     rt: &impl Abort,
-    name: &str,
-    came: &Result<ArrayBytesRaw<'_>, CodecError>,
-    wanted: Wanted<'_>,
+    pair: &Pair<'_>,
+    came: Result<ArrayBytesRaw<'_>, CodecError>,
+    wanted: Answer<'_>,
 ) -> Result<(), CodecError> {
-    is_coded(rt, name, came, wanted.answer)?;
-    let is_lent = matches!(came, Ok(CowSlice::Borrowed(_)));
-    is(rt, name, &is_lent, &wanted.is_lent);
+    let is_lent = matches!(&came, Ok(CowSlice::Borrowed(_)));
+    is_coded(rt, pair.name, came, wanted)?;
+    is(rt, pair.name, &is_lent, &pair.is_lent);
     Ok(())
 }
 
-/// Elements have this value, or are refused.
-pub(crate) fn encodes<C: ArrayToBytesCodecTraits>(
-    rt: &impl Abort,
-    name: &str,
+fn value_of<'a, C: ArrayToBytesCodecTraits>(
     alloc: Global,
     codec: &C,
     form: &ChunkForm,
-    elements: ArrayBytes<'_>,
-    wanted: Wanted<'_>,
-) -> Result<(), CodecError> {
-    let (shape, data_type, fill_value) = (&form.shape, &form.data_type, &form.fill_value);
-    let came = codec.encode(alloc, elements, shape, data_type, fill_value);
-    is_lent_or_owned(rt, name, &came, wanted)
+    elements: ArrayBytes<'a>,
+) -> Result<ArrayBytesRaw<'a>, CodecError> {
+    codec.encode(
+        alloc,
+        elements,
+        &form.shape,
+        &form.data_type,
+        &form.fill_value,
+    )
 }
 
-/// The value stands for elements with these bytes in memory, or is refused.
-pub(crate) fn decodes<C: ArrayToBytesCodecTraits>(
-    rt: &impl Abort,
-    name: &str,
+fn memory_of<'a, C: ArrayToBytesCodecTraits>(
     alloc: Global,
     codec: &C,
     form: &ChunkForm,
-    value: ArrayBytesRaw<'_>,
-    wanted: Wanted<'_>,
-) -> Result<(), CodecError> {
-    let (shape, data_type, fill_value) = (&form.shape, &form.data_type, &form.fill_value);
-    let came = match codec.decode(alloc, value, shape, data_type, fill_value) {
+    value: ArrayBytesRaw<'a>,
+) -> Result<ArrayBytesRaw<'a>, CodecError> {
+    match codec.decode(alloc, value, &form.shape, &form.data_type, &form.fill_value) {
         Ok(elements) => elements.into_fixed(),
         Err(cause) => Err(cause),
-    };
-    is_lent_or_owned(rt, name, &came, wanted)
+    }
 }
 
-/// The elements of a chunk, as they stand in memory, and the value, or why they have none and the value
-/// stands for none; and whether all bytes stay in their places.
+/// Elements have this value, or are refused.
+fn encodes<C: ArrayToBytesCodecTraits>(
+    rt: &impl Abort,
+    alloc: Global,
+    codec: &C,
+    form: &ChunkForm,
+    pair: &Pair<'_>,
+) -> Result<(), CodecError> {
+    let elements = ArrayBytes::new_flen(raw(alloc, pair.memory, pair.is_owned)?);
+    comes(rt, pair, value_of(alloc, codec, form, elements), pair.value)
+}
+
+/// The value stands for these elements. What has no value stands for no elements either.
+fn decodes<C: ArrayToBytesCodecTraits>(
+    rt: &impl Abort,
+    alloc: Global,
+    codec: &C,
+    form: &ChunkForm,
+    pair: &Pair<'_>,
+) -> Result<(), CodecError> {
+    let (value, wanted) = match pair.value {
+        Ok(value) => (value, Ok(pair.memory)),
+        Err(cause) => (pair.memory, Err(cause)),
+    };
+    let value = raw(alloc, value, pair.is_owned)?;
+    comes(rt, pair, memory_of(alloc, codec, form, value), wanted)
+}
+
+pub(crate) fn codes<C: ArrayToBytesCodecTraits>(
+    rt: &impl Abort,
+    alloc: Global,
+    codec: &C,
+    form: &ChunkForm,
+    pair: &Pair<'_>,
+) -> Result<(), CodecError> {
+    encodes(rt, alloc, codec, form, pair)?;
+    decodes(rt, alloc, codec, form, pair)
+}
+
+/// A chunk's elements and its value, of bytes that are lent.
 struct Row {
-    name: &'static str,
     order: Option<Endianness>,
     form: Form<'static>,
-    memory: &'static [u8],
-    value: Answer<'static>,
-    stay: bool,
+    pair: Pair<'static>,
 }
 
 const ROWS: &'static [Row] = &[
     Row {
-        name: "bytes without an order",
         order: None,
         form: PAIR,
-        memory: &[1, 2],
-        value: Ok(&[1, 2]),
-        stay: true,
+        pair: Pair {
+            name: "bytes without an order",
+            memory: &[1, 2],
+            value: Ok(&[1, 2]),
+            is_owned: false,
+            is_lent: true,
+        },
     },
     Row {
-        name: "bytes, the highest first",
         order: BIG,
         form: PAIR,
-        memory: &[1, 2],
-        value: Ok(&[1, 2]),
-        stay: true,
+        pair: Pair {
+            name: "bytes, the highest first",
+            memory: &[1, 2],
+            value: Ok(&[1, 2]),
+            is_owned: false,
+            is_lent: true,
+        },
     },
     Row {
-        name: "two components of 7 bits, the highest byte first",
         order: BIG,
         form: Form {
             sizes: &[2],
@@ -115,97 +166,80 @@ const ROWS: &'static [Row] = &[
             components: 2,
             fill: &[0, 0],
         },
-        memory: &[1, 0, 2, 1],
-        value: Ok(&[1, 0, 2, 1]),
-        stay: true,
+        pair: Pair {
+            name: "two components of 7 bits, the highest byte first",
+            memory: &[1, 0, 2, 1],
+            value: Ok(&[1, 0, 2, 1]),
+            is_owned: false,
+            is_lent: true,
+        },
     },
     Row {
-        name: "words, the lowest byte first",
         order: LITTLE,
         form: WORDS,
-        memory: &[1, 0, 2, 1],
-        value: Ok(&[1, 0, 2, 1]),
-        stay: true,
+        pair: Pair {
+            name: "words, the lowest byte first",
+            memory: &[1, 0, 2, 1],
+            value: Ok(&[1, 0, 2, 1]),
+            is_owned: false,
+            is_lent: true,
+        },
     },
     Row {
-        name: "words, the highest byte first",
         order: BIG,
         form: WORDS,
-        memory: &[1, 0, 2, 1],
-        value: Ok(&[0, 1, 1, 2]),
-        stay: false,
+        pair: Pair {
+            name: "words, the highest byte first",
+            memory: &[1, 0, 2, 1],
+            value: Ok(&[0, 1, 1, 2]),
+            is_owned: false,
+            is_lent: false,
+        },
     },
     Row {
-        name: "words without an order",
         order: None,
         form: WORDS,
-        memory: &[1, 0, 2, 1],
-        value: Err(EndiannessMissing),
-        stay: false,
+        pair: Pair {
+            name: "words without an order",
+            memory: &[1, 0, 2, 1],
+            value: Err(EndiannessMissing),
+            is_owned: false,
+            is_lent: false,
+        },
     },
     Row {
-        name: "three bytes for four",
         order: None,
         form: FOUR,
-        memory: &[10, 11, 12],
-        value: Err(InvalidBytesLength {
-            len: 3,
-            expected: 4,
-        }),
-        stay: false,
+        pair: Pair {
+            name: "three bytes for four",
+            memory: &[10, 11, 12],
+            value: Err(InvalidBytesLength {
+                len: 3,
+                expected: 4,
+            }),
+            is_owned: false,
+            is_lent: false,
+        },
     },
     Row {
-        name: "five bytes for two words",
         order: BIG,
         form: WORDS,
-        memory: &[1, 2, 3, 4, 5],
-        value: Err(InvalidBytesLength {
-            len: 5,
-            expected: 4,
-        }),
-        stay: false,
+        pair: Pair {
+            name: "five bytes for two words",
+            memory: &[1, 2, 3, 4, 5],
+            value: Err(InvalidBytesLength {
+                len: 5,
+                expected: 4,
+            }),
+            is_owned: false,
+            is_lent: false,
+        },
     },
 ];
 
-/// Bytes that are lent. What has no value stands for no elements either.
-fn codes(
-    rt: &impl Abort,
-    alloc: Global,
-    codec: &BytesCodec,
-    form: &ChunkForm,
-    row: &Row,
-) -> Result<(), CodecError> {
-    let is_lent = row.stay;
-    let answer = row.value;
-    let elements = ArrayBytes::new_flen(CowSlice::Borrowed(row.memory));
-    encodes(
-        rt,
-        row.name,
-        alloc,
-        codec,
-        form,
-        elements,
-        Wanted { answer, is_lent },
-    )?;
-    let (value, answer) = match row.value {
-        Ok(value) => (value, Ok(row.memory)),
-        Err(cause) => (row.memory, Err(cause)),
-    };
-    let value = CowSlice::Borrowed(value);
-    decodes(
-        rt,
-        row.name,
-        alloc,
-        codec,
-        form,
-        value,
-        Wanted { answer, is_lent },
-    )
-}
-
 fn codes_row(rt: &impl Abort, alloc: Global, row: &Row) -> Result<(), CodecError> {
     let form = chunk_form(alloc, &row.form)?;
-    codes(rt, alloc, &BytesCodec::new(row.order), &form, row)
+    codes(rt, alloc, &BytesCodec::new(row.order), &form, &row.pair)
 }
 
 #[test]
@@ -216,31 +250,37 @@ fn encodes_and_decodes_chunks(rt: HostRuntime) -> Result<(), CodecError> {
     Ok(())
 }
 
-/// A chunk whose elements come as texts, and as bytes that may be absent, and why neither is encoded.
+/// Words whose elements come as texts, or as bytes that may be absent, and why they are not encoded.
 struct OtherKind {
     name: &'static str,
     order: Option<Endianness>,
-    form: Form<'static>,
+    are_texts: bool,
     cause: CodecError,
 }
 
 const OTHER_KINDS: &'static [OtherKind] = &[
     OtherKind {
-        name: "for words",
+        name: "texts for words",
         order: BIG,
-        form: WORDS,
+        are_texts: true,
+        cause: ArrayBytesKind,
+    },
+    OtherKind {
+        name: "bytes that may be absent",
+        order: BIG,
+        are_texts: false,
         cause: ArrayBytesKind,
     },
     OtherKind {
         name: "the missing order comes first",
         order: None,
-        form: WORDS,
+        are_texts: true,
         cause: EndiannessMissing,
     },
 ];
 
 /// Two texts.
-pub(crate) fn texts(alloc: Global) -> Result<ArrayBytes<'static>, CodecError> {
+fn texts(alloc: Global) -> Result<ArrayBytes<'static>, CodecError> {
     let ends: &[usize] = &[0, 1, 2];
     let offsets = ArrayBytesOffsets::new(ends.to_vec(alloc)?)?;
     ArrayBytes::new_vlen(CowSlice::Borrowed(b"ab"), offsets)
@@ -252,26 +292,30 @@ fn masked(alloc: Global) -> Result<ArrayBytes<'static>, CodecError> {
     inner.with_optional_mask(alloc, CowSlice::Borrowed(&[1, 1]))
 }
 
+fn of_kind(alloc: Global, row: &OtherKind) -> Result<ArrayBytes<'static>, CodecError> {
+    if row.are_texts {
+        texts(alloc)
+    } else {
+        masked(alloc)
+    }
+}
+
 fn refuses_kind(
     rt: &impl Abort,
     alloc: Global,
-    elements: ArrayBytes<'_>,
+    form: &ChunkForm,
     row: &OtherKind,
 ) -> Result<(), CodecError> {
-    let form = chunk_form(alloc, &row.form)?;
-    let wanted = Wanted {
-        answer: Err(row.cause),
-        is_lent: false,
-    };
     let codec = BytesCodec::new(row.order);
-    encodes(rt, row.name, alloc, &codec, &form, elements, wanted)
+    let came = value_of(alloc, &codec, form, of_kind(alloc, row)?);
+    is_coded(rt, row.name, came, Err(row.cause))
 }
 
 #[test]
 fn takes_elements_of_the_kind(rt: HostRuntime) -> Result<(), CodecError> {
+    let form = chunk_form(rt.alloc(), &WORDS)?;
     for row in OTHER_KINDS.iter() {
-        refuses_kind(&rt, rt.alloc(), texts(rt.alloc())?, row)?;
-        refuses_kind(&rt, rt.alloc(), masked(rt.alloc())?, row)?;
+        refuses_kind(&rt, rt.alloc(), &form, row)?;
     }
     Ok(())
 }

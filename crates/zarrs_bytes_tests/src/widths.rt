@@ -1,12 +1,10 @@
 //! Components of each width in both orders, whole chunks of them, against bytes that are turned round
 //! one by one.
 
-use crate::forms::{ChunkForm, Form, chunk_form};
-use crate::whole::{Wanted, decodes, encodes};
+use crate::forms::{Form, chunk_form};
+use crate::whole::{Pair, codes};
 use std::alloc::Global;
-use std::borrow::CowSlice;
 use std::process::Abort;
-use zarrs_array_bytes::ArrayBytes;
 use zarrs_bytes::BytesCodec;
 use zarrs_chunk::CodecError;
 
@@ -93,95 +91,48 @@ pub(crate) fn numbered(alloc: Global, size: u64, count: u64) -> Result<Vec<u8>, 
     Ok(bytes)
 }
 
-/// A chunk of these elements has this value, and the value stands for it: of bytes that are lent.
-fn lends(
-    rt: &impl Abort,
-    name: &str,
-    alloc: Global,
-    codec: &BytesCodec,
-    form: &ChunkForm,
-    memory: &[u8],
-    value: &[u8],
-) -> Result<(), CodecError> {
-    let is_lent = memory == value;
-    let answer = Ok(value);
-    let elements = ArrayBytes::new_flen(CowSlice::Borrowed(memory));
-    encodes(
-        rt,
-        name,
-        alloc,
-        codec,
-        form,
-        elements,
-        Wanted { answer, is_lent },
-    )?;
-    let answer = Ok(memory);
-    let value = CowSlice::Borrowed(value);
-    decodes(
-        rt,
-        name,
-        alloc,
-        codec,
-        form,
-        value,
-        Wanted { answer, is_lent },
-    )
-}
-
-/// The same of owned bytes.
-fn owns(
-    rt: &impl Abort,
-    name: &str,
-    alloc: Global,
-    codec: &BytesCodec,
-    form: &ChunkForm,
-    memory: &[u8],
-    value: &[u8],
-) -> Result<(), CodecError> {
-    let is_lent = false;
-    let answer = Ok(value);
-    let elements = ArrayBytes::new_flen(CowSlice::Owned(memory.to_vec(alloc)?));
-    encodes(
-        rt,
-        name,
-        alloc,
-        codec,
-        form,
-        elements,
-        Wanted { answer, is_lent },
-    )?;
-    let answer = Ok(memory);
-    let value = CowSlice::Owned(value.to_vec(alloc)?);
-    decodes(
-        rt,
-        name,
-        alloc,
-        codec,
-        form,
-        value,
-        Wanted { answer, is_lent },
-    )
-}
-
-/// So many components. The fill value is the first of them.
-fn codes(
+/// A chunk of so many components has this value, and the value stands for it: of bytes that are lent or
+/// owned. The fill value is the first of them.
+fn codes_width(
     rt: &impl Abort,
     alloc: Global,
     codec: &BytesCodec,
     row: &Width,
     count: u64,
-    memory: &[u8],
-    value: &[u8],
+    pair: &Pair<'_>,
 ) -> Result<(), CodecError> {
     let form = Form {
         sizes: &[count],
         bits: row.size.saturating_mul(8),
         components: 1,
-        fill: memory.get(..row.size as usize).unwrap_or(memory),
+        fill: pair.memory.get(..row.size as usize).unwrap_or(pair.memory),
     };
     let form = chunk_form(alloc, &form)?;
-    lends(rt, row.name, alloc, codec, &form, memory, value)?;
-    owns(rt, row.name, alloc, codec, &form, memory, value)
+    codes(rt, alloc, codec, &form, pair)
+}
+
+const GIVEN: &'static [bool] = &[false, true];
+
+fn codes_both<'a>(
+    rt: &impl Abort,
+    alloc: Global,
+    codec: &BytesCodec,
+    row: &Width,
+    count: u64,
+    memory: &'a [u8],
+    value: &'a [u8],
+) -> Result<(), CodecError> {
+    for is_owned in GIVEN.iter() {
+        let pair = Pair {
+            name: row.name,
+            memory,
+            value: Ok(value),
+            is_owned: *is_owned,
+            is_lent: memory == value && !*is_owned,
+        };
+        codes_width(rt, alloc, codec, row, count, &pair)?;
+    }
+    Ok(())
 }
 
 /// Each `turned` bytes of the components stand the other way round in the value.
@@ -196,7 +147,7 @@ fn turns(
     let bytes = row.size.saturating_mul(count);
     let memory = numbered(alloc, 1, bytes)?;
     let value = numbered(alloc, turned, bytes)?;
-    codes(
+    codes_both(
         rt,
         alloc,
         &codec,

@@ -1,30 +1,25 @@
 //! Chunks that are written in part: what is left, by how many writing calls of the handle.
 
-use crate::checks::{Answer, answers, is, refuses};
-use crate::forms::{
-    Asked, ChunkForm, FOUR, Form, THREE, chunk_form, encoder, indexer, made_decoder, made_encoder,
-    stored,
-};
-use crate::whole::texts;
+use crate::checks::{Answer, is, refuses};
+use crate::forms::{Asked, FOUR, Form, THREE, encoder, indexer, stored};
+use crate::parts::is_part;
 use Asked::{Ranges, Tuples};
-use CodecError::{
-    ArrayBytesKind, DataMismatch, EndiannessMissing, IncompatibleDimensionality, OutOfBounds,
-};
+use CodecError::{DataMismatch, OutOfBounds};
 use std::alloc::Global;
 use std::borrow::CowSlice;
 use std::process::Abort;
 use zarrs_array_bytes::ArrayBytes;
-use zarrs_bytes::{BytesCodec, BytesCodecPartial};
-use zarrs_chunk::CodecError;
-use zarrs_codec::{ArrayPartialEncoderTraits, BytesPartialEncoderTraits, MemoryHandle, Refused};
+use zarrs_bytes::BytesCodecPartial;
+use zarrs_chunk::{CodecError, Indexer};
+use zarrs_codec::{ArrayPartialEncoderTraits, BytesPartialEncoderTraits, MemoryHandle};
 use zarrs_data_type::DataType;
 
 /// What is stored, where new elements are written, their bytes as they stand in memory, and what is
-/// stored afterwards, or why nothing is written: over each of the values alike.
+/// stored afterwards, or why nothing is written.
 struct Row {
     name: &'static str,
     form: Form<'static>,
-    values: &'static [Option<&'static [u8]>],
+    value: Option<&'static [u8]>,
     asked: Asked<'static>,
     bytes: &'static [u8],
     after: Answer<'static>,
@@ -36,7 +31,7 @@ const ROWS: &'static [Row] = &[
     Row {
         name: "behind the end of a short value",
         form: FOUR,
-        values: &[Some(&[10])],
+        value: Some(&[10]),
         asked: Ranges(&[3..4]),
         bytes: &[13],
         after: Ok(&[10, 0, 0, 13]),
@@ -44,7 +39,7 @@ const ROWS: &'static [Row] = &[
     Row {
         name: "no element over a short value",
         form: FOUR,
-        values: &[Some(&[1])],
+        value: Some(&[1]),
         asked: Ranges(&[4..4]),
         bytes: &[],
         after: Ok(&[1]),
@@ -52,7 +47,7 @@ const ROWS: &'static [Row] = &[
     Row {
         name: "a word over nothing",
         form: THREE,
-        values: &[None],
+        value: None,
         asked: Ranges(&[0..1]),
         bytes: &[1, 2],
         after: Ok(&[2, 1, 8, 9, 8, 9]),
@@ -60,68 +55,70 @@ const ROWS: &'static [Row] = &[
     Row {
         name: "a word of a list over a value",
         form: THREE,
-        values: &[VALUE],
+        value: VALUE,
         asked: Tuples(&[&[0]]),
         bytes: &[5, 6],
         after: Ok(&[6, 5, 3, 4, 5, 6]),
     },
     Row {
-        name: "an axis too many",
-        form: THREE,
-        values: &[VALUE, None],
-        asked: Ranges(&[0..1, 0..1]),
-        bytes: &[],
-        after: Err(IncompatibleDimensionality),
-    },
-    Row {
         name: "a range outside",
         form: THREE,
-        values: &[VALUE, None],
+        value: VALUE,
         asked: Ranges(&[2..4]),
         bytes: &[],
         after: Err(OutOfBounds),
     },
     Row {
-        name: "a word for two places",
-        form: THREE,
-        values: &[VALUE, None],
-        asked: Tuples(&[&[0], &[1]]),
-        bytes: &[1, 2],
-        after: Err(DataMismatch),
-    },
-    Row {
         name: "half a word",
         form: THREE,
-        values: &[VALUE, None],
+        value: VALUE,
         asked: Ranges(&[0..1]),
         bytes: &[1],
         after: Err(DataMismatch),
     },
 ];
 
-/// Writes the row's elements, by the coder's own call: why it is refused, where it is.
+/// Writes elements of one size, by the coder's own call: why they are refused, where they are.
+fn write_at<H: BytesPartialEncoderTraits>(
+    alloc: Global,
+    encoder: &mut BytesCodecPartial<H>,
+    asked: &Indexer,
+    bytes: &[u8],
+) -> Option<CodecError> {
+    let elements = ArrayBytes::new_flen(CowSlice::Borrowed(bytes));
+    encoder.partial_encode(alloc, asked, &elements).err()
+}
+
 fn write<H: BytesPartialEncoderTraits>(
     alloc: Global,
     encoder: &mut BytesCodecPartial<H>,
     row: &Row,
-) -> Result<(), CodecError> {
-    let asked = indexer(alloc, row.asked)?;
-    let elements = ArrayBytes::new_flen(CowSlice::Borrowed(row.bytes));
-    encoder.partial_encode(alloc, &asked, &elements)
+) -> Option<CodecError> {
+    match indexer(alloc, row.asked) {
+        Ok(asked) => write_at(alloc, encoder, &asked, row.bytes),
+        Err(cause) => Some(cause),
+    }
 }
 
-/// What a write over an old value leaves: the new value by one writing call, or the old one, without any
-/// but for want of memory.
+/// By a coder over a handle that is lent.
+fn write_over(alloc: Global, handle: &mut MemoryHandle, row: &Row) -> Option<CodecError> {
+    match encoder(alloc, &row.form, handle) {
+        Ok(mut encoder) => write(alloc, &mut encoder, row),
+        Err(cause) => Some(cause),
+    }
+}
+
+/// What a write leaves: the new value by one writing call, or the old one, without any but for want of
+/// memory.
 fn leaves(
     rt: &impl Abort,
     handle: &MemoryHandle,
-    old: Option<&[u8]>,
     refusal: Option<CodecError>,
     row: &Row,
 ) -> Result<(), CodecError> {
     let (value, calls) = match refusal {
         None => (row.after.ok(), 1),
-        Some(_) => (old, 0),
+        Some(_) => (row.value, 0),
     };
     is(rt, row.name, &handle.value(), &value);
     refuses(rt, row.name, refusal, row.after.err())?;
@@ -129,46 +126,28 @@ fn leaves(
     Ok(())
 }
 
-fn writes(rt: &impl Abort, alloc: Global, old: Option<&[u8]>, row: &Row) -> Result<(), CodecError> {
-    let mut encoder = encoder(alloc, &row.form, stored(alloc, old)?)?;
-    let answer = write(alloc, &mut encoder, row);
-    leaves(rt, &encoder.into_handle(), old, answer.err(), row)
+fn writes(rt: &impl Abort, alloc: Global, row: &Row) -> Result<(), CodecError> {
+    let mut handle = stored(alloc, row.value)?;
+    let refusal = write_over(alloc, &mut handle, row);
+    leaves(rt, &handle, refusal, row)
 }
 
 #[test]
 fn a_write_is_one_call_and_a_refused_one_none(rt: HostRuntime) -> Result<(), CodecError> {
     for row in ROWS.iter() {
-        for value in row.values {
-            writes(&rt, rt.alloc(), *value, row)?;
-        }
+        writes(&rt, rt.alloc(), row)?;
     }
     Ok(())
 }
 
-/// Elements are written to the last two words as any coder of parts does, or refused for this cause.
-fn writes_part<E: ArrayPartialEncoderTraits>(
-    rt: &impl Abort,
+/// Two words are written, as any coder of parts writes them.
+fn writes_words<E: ArrayPartialEncoderTraits>(
     alloc: Global,
     encoder: &mut E,
-    elements: ArrayBytes<'_>,
-    cause: Option<CodecError>,
+    asked: &Indexer,
 ) -> Result<(), CodecError> {
-    let asked = indexer(alloc, Ranges(&[1..3]))?;
-    let answer = encoder.partial_encode(alloc, &asked, &elements);
-    refuses(rt, "written", answer.err(), cause)
-}
-
-/// The last two words are read.
-fn reads<E: ArrayPartialEncoderTraits>(
-    rt: &impl Abort,
-    alloc: Global,
-    encoder: &mut E,
-) -> Result<(), CodecError> {
-    let asked = indexer(alloc, Ranges(&[1..3]))?;
-    match encoder.partial_decode(alloc, &asked) {
-        Ok(part) => answers(rt, "read", part.as_fixed(), Ok(&[4, 3, 6, 5])),
-        Err(cause) => Err(cause),
-    }
+    let words = ArrayBytes::new_flen(CowSlice::Borrowed(&[1, 2, 3, 4]));
+    encoder.partial_encode(alloc, asked, &words)
 }
 
 /// What a coder of three words tells, and that the chunk is erased.
@@ -181,76 +160,35 @@ fn erases<E: ArrayPartialEncoderTraits>(rt: &impl Abort, encoder: &mut E) {
     is(rt, "there", &encoder.exists(), &Ok(false));
 }
 
-/// Two texts are refused, words are read and written, and the chunk is erased.
+/// Two words are written and read, and the chunk is erased.
 fn edits<E: ArrayPartialEncoderTraits>(
     rt: &impl Abort,
     alloc: Global,
     encoder: &mut E,
+    asked: &Indexer,
 ) -> Result<(), CodecError> {
-    writes_part(rt, alloc, encoder, texts(alloc)?, Some(ArrayBytesKind))?;
-    reads(rt, alloc, encoder)?;
-    let words = ArrayBytes::new_flen(CowSlice::Borrowed(&[1, 2, 3, 4]));
-    writes_part(rt, alloc, encoder, words, None)?;
+    writes_words(alloc, encoder, asked)?;
+    let words = Ok([1, 2, 3, 4].as_slice());
+    is_part(rt, "read", encoder.partial_decode(alloc, asked), words)?;
     erases(rt, encoder);
     Ok(())
 }
 
-fn edits_over(rt: &impl Abort, alloc: Global, handle: &mut MemoryHandle) -> Result<(), CodecError> {
-    let mut encoder = encoder(alloc, &THREE, handle)?;
-    edits(rt, alloc, &mut encoder)
+/// The last two words are edited.
+fn edits_last<E: ArrayPartialEncoderTraits>(
+    rt: &impl Abort,
+    alloc: Global,
+    encoder: &mut E,
+) -> Result<(), CodecError> {
+    let asked = indexer(alloc, Ranges(&[1..3]))?;
+    edits(rt, alloc, encoder, &asked)
 }
 
 #[test]
 fn a_coder_is_any_coder_of_parts(rt: HostRuntime) -> Result<(), CodecError> {
-    let mut handle = stored(rt.alloc(), VALUE)?;
-    edits_over(&rt, rt.alloc(), &mut handle)?;
-    is(&rt, "calls", &handle.write_calls(), &2);
+    let handle = stored(rt.alloc(), VALUE)?;
+    let mut encoder = encoder(rt.alloc(), &THREE, handle)?;
+    edits_last(&rt, rt.alloc(), &mut encoder)?;
+    is(&rt, "calls", &encoder.into_handle().write_calls(), &2);
     Ok(())
-}
-
-/// A coder without a byte order was not made over words, and what was given comes back.
-fn comes_back<H: Drop>(
-    rt: &impl Abort,
-    name: &str,
-    made: Result<BytesCodecPartial<H>, Refused<H>>,
-) -> Result<H, CodecError> {
-    match made {
-        Ok(_) => Err(CodecError::DataMismatch),
-        Err(refused) => {
-            refuses(rt, name, Some(refused.error), Some(EndiannessMissing))?;
-            Ok(refused.handle)
-        }
-    }
-}
-
-/// A decoder and then a coder that writes.
-fn no_coder<H: BytesPartialEncoderTraits + Drop>(
-    rt: &impl Abort,
-    alloc: Global,
-    form: &ChunkForm,
-    handle: H,
-) -> Result<H, CodecError> {
-    let made = made_decoder(alloc, BytesCodec::new(None), form, handle);
-    let handle = comes_back(rt, "decoder", made)?;
-    let made = made_encoder(alloc, BytesCodec::new(None), form, handle);
-    comes_back(rt, "encoder", made)
-}
-
-/// Over a handle that is lent, and then owned.
-fn refuses_over(
-    rt: &impl Abort,
-    alloc: Global,
-    form: &ChunkForm,
-    mut handle: MemoryHandle,
-) -> Result<(), CodecError> {
-    no_coder(rt, alloc, form, &mut handle)?;
-    let handle = no_coder(rt, alloc, form, handle)?;
-    is(rt, "handed back", &handle.value(), &VALUE);
-    Ok(())
-}
-
-#[test]
-fn hands_back_a_handle_that_is_owned_or_lent(rt: HostRuntime) -> Result<(), CodecError> {
-    let form = chunk_form(rt.alloc(), &THREE)?;
-    refuses_over(&rt, rt.alloc(), &form, stored(rt.alloc(), VALUE)?)
 }
