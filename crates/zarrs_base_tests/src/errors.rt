@@ -200,6 +200,11 @@ const FAULTS: &'static [Row<PluginCreateError>] = &[
     },
 ];
 
+const FAILURES: &'static [Row<StorageError>] = &[Row {
+    error: StorageError { code: 7 },
+    text: "code 7",
+}];
+
 /// The error has this text, which begins with its name.
 fn has_text<E: Display>(
     rt: &impl Abort,
@@ -221,6 +226,14 @@ fn have_names_and_texts(rt: HostRuntime) -> Result<(), Fail> {
     }
     for row in FAULTS.iter() {
         has_text(&rt, rt.alloc(), row, row.error.name())?;
+    }
+    Ok(())
+}
+
+#[test]
+fn of_a_handle_has_its_number_as_text(rt: HostRuntime) -> Result<(), Fail> {
+    for row in FAILURES.iter() {
+        has_text(&rt, rt.alloc(), row, "code")?;
     }
     Ok(())
 }

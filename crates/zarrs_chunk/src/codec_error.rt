@@ -123,6 +123,14 @@ impl CodecError {
     }
 }
 
+impl fmt::Display for StorageError {
+    fn fmt<W: fmt::Write>(&self, f: &mut fmt::Formatter<W>) -> fmt::Result {
+        write!(f, "code {}", self.code)
+    }
+}
+
+impl Error for StorageError {}
+
 impl fmt::Display for CodecName {
     fn fmt<W: fmt::Write>(&self, f: &mut fmt::Formatter<W>) -> fmt::Result {
         f.write_str(match self {
@@ -140,7 +148,7 @@ impl fmt::Display for CodecName {
 impl fmt::Display for CodecError {
     fn fmt<W: fmt::Write>(&self, f: &mut fmt::Formatter<W>) -> fmt::Result {
         match self {
-            CodecError::Storage(error) => write!(f, "Storage: code {}", error.code),
+            CodecError::Storage(error) => write!(f, "Storage: {error}"),
             CodecError::UnsupportedDataType(codec) => {
                 write!(f, "UnsupportedDataType: the codec {codec}")
             }

@@ -40,3 +40,4 @@ pub use memory_handle::MemoryHandle;
 pub use refused::Refused;
 pub use sample_bytes_codec::SampleBytesCodec;
 pub use sample_maker::SampleMaker;
+pub use zarrs_chunk::{CodecError, CodecName, StorageError};
