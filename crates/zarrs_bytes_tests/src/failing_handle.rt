@@ -61,6 +61,11 @@ impl BytesPartialDecoderTraits for FailingHandle {
         self.memory.exists()
     }
 
+    fn size(&mut self) -> Result<Option<u64>, CodecError> {
+        self.pass()?;
+        self.memory.size()
+    }
+
     fn size_held(&self) -> usize {
         self.memory.size_held()
     }

@@ -93,9 +93,11 @@ fn byte_ranges(alloc: Global, ends: &[(u64, u64)]) -> Result<Vec<ByteRange>, Cod
 
 /// What a handle over the row's value tells.
 fn tells<H: BytesPartialDecoderTraits>(rt: &impl Abort, handle: &mut H, row: &Row) {
-    let size = row.value.unwrap_or(&[]).len();
+    let size = row.value.map(|value| value.len() as u64);
+    let held = row.value.unwrap_or(&[]).len();
     is(rt, row.name, &handle.exists(), &Ok(row.value.is_some()));
-    is(rt, row.name, &handle.size_held(), &size);
+    is(rt, row.name, &handle.size(), &Ok(size));
+    is(rt, row.name, &handle.size_held(), &held);
     is(rt, row.name, &handle.supports_partial_decode(), &true);
 }
 

@@ -1,4 +1,4 @@
-ghost use Rattle.std.specs.Prelude.{◌≡◌, ℕ, Bool, true, false, Option, Some, Ok, is_some};
+ghost use Rattle.std.specs.Prelude.{◌≡◌, ℕ, Bool, true, false, Option, Some, Ok, is_some, length};
 ghost use Rattle.std.specs.Option.{option_map};
 ghost use Rattle.std.specs.Borrow.{GName};
 ghost use Rattle.zarrs_chunk.specs.Answer.{Answers, fault, memory_or_fault, is_fault};
@@ -17,8 +17,8 @@ use zarrs_chunk::CodecError;
 /// call leaves of the state speaks of them. It may keep them in fields of its own, or leave them
 /// as they began where it never fails.
 ///
-/// A handle may say that some bytes, by their numbers, are **sure**: then neither `exists` nor a
-/// read of such bytes alone answers `Storage`. Bytes past the value's end may be sure too.
+/// A handle may say that some bytes, by their numbers, are **sure**: then neither `exists` nor `size`
+/// nor a read of such bytes alone answers `Storage`. Bytes past the value's end may be sure too.
 pub trait BytesPartialDecoderTraits {
     // The value, the sure bytes, the failures, and the count of writing calls.
     ghost state: { Self → StorageState };
@@ -35,6 +35,14 @@ pub trait BytesPartialDecoderTraits {
     /// Whether there is a value. Refusals: `Storage`, but never where the handle has sure bytes.
     fn exists(&mut self) -> Result<bool, CodecError>
         ensures answer { Answers fault (λ there. there) result (Ok (is_some (state self.old).value)) }
+        ensures sure { is_some (state self.old).sure ≡ true → is_fault result ≡ false }
+        ensures left { state self.new ≡ after_reading result (state self.old) }
+        ensures same_reference { lent self.new ≡ lent self.old };
+
+    /// How many bytes the value has, or `None` where there is no value. Refusals: `Storage`, but never
+    /// where the handle has sure bytes.
+    fn size(&mut self) -> Result<Option<u64>, CodecError>
+        ensures answer { Answers fault (λ size. size) result (Ok (option_map (λ bytes. length bytes) (state self.old).value)) }
         ensures sure { is_some (state self.old).sure ≡ true → is_fault result ≡ false }
         ensures left { state self.new ≡ after_reading result (state self.old) }
         ensures same_reference { lent self.new ≡ lent self.old };
@@ -80,6 +88,10 @@ impl<H: BytesPartialDecoderTraits> BytesPartialDecoderTraits for &mut H {
 
     fn exists(&mut self) -> Result<bool, CodecError> {
         (**self).exists()
+    }
+
+    fn size(&mut self) -> Result<Option<u64>, CodecError> {
+        (**self).size()
     }
 
     fn size_held(&self) -> usize {

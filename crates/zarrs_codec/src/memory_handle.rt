@@ -141,6 +141,13 @@ impl BytesPartialDecoderTraits for MemoryHandle {
         Ok(self.value.is_some())
     }
 
+    fn size(&mut self) -> Result<Option<u64>, CodecError> {
+        match &self.value {
+            None => Ok(None),
+            Some(value) => Ok(Some(value.len() as u64)),
+        }
+    }
+
     fn size_held(&self) -> usize {
         match &self.value {
             None => 0,

@@ -79,6 +79,13 @@ impl<'a> BytesPartialDecoderTraits for SliceHandle<'a> {
         Ok(self.value.is_some())
     }
 
+    fn size(&mut self) -> Result<Option<u64>, CodecError> {
+        match self.value {
+            None => Ok(None),
+            Some(value) => Ok(Some(value.len() as u64)),
+        }
+    }
+
     fn size_held(&self) -> usize {
         match self.value {
             None => 0,
