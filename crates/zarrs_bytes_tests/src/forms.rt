@@ -4,7 +4,9 @@ use std::alloc::Global;
 use std::ops::Range;
 use zarrs_bytes::{BytesCodec, BytesCodecPartial};
 use zarrs_chunk::{ArraySubset, ChunkShape, CodecError, Indexer};
-use zarrs_codec::{BytesPartialDecoderTraits, BytesPartialEncoderTraits, MemoryHandle, Refused};
+use zarrs_codec::{
+    ByteRange, BytesPartialDecoderTraits, BytesPartialEncoderTraits, MemoryHandle, Refused,
+};
 use zarrs_data_type::{DataType, Endianness, FillValue};
 
 pub(crate) const LITTLE: Option<Endianness> = Some(Endianness::Little);
@@ -166,4 +168,16 @@ pub(crate) fn repeated(alloc: Global, part: &[u8], count: u64) -> Result<Vec<u8>
         bytes.extend_from_slice(part)?;
     }
     Ok(bytes)
+}
+
+/// The ranges with these starts and ends.
+pub(crate) fn byte_ranges(
+    alloc: Global,
+    ends: &[(u64, u64)],
+) -> Result<Vec<ByteRange>, CodecError> {
+    let mut ranges = Vec::new(alloc);
+    for (start, end) in ends {
+        ranges.push(ByteRange::new(*start..*end).ok_or(CodecError::InvalidByteRange)?)?;
+    }
+    Ok(ranges)
 }

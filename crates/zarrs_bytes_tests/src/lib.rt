@@ -39,6 +39,8 @@ mod sample_codecs;
 #[cfg(test)]
 mod targets;
 #[cfg(test)]
+mod testing_handles;
+#[cfg(test)]
 mod whole;
 #[cfg(test)]
 mod widths;

@@ -1,7 +1,7 @@
 //! The handle in memory, and one that is lent, in reading.
 
 use crate::checks::{is, refuses};
-use crate::forms::stored;
+use crate::forms::{byte_ranges, stored};
 use std::alloc::Global;
 use std::process::Abort;
 use zarrs_chunk::CodecError;
@@ -81,15 +81,6 @@ const ROWS: &'static [Row] = &[
         bytes: PAST,
     },
 ];
-
-/// The ranges with these starts and ends.
-fn byte_ranges(alloc: Global, ends: &[(u64, u64)]) -> Result<Vec<ByteRange>, CodecError> {
-    let mut ranges = Vec::new(alloc);
-    for (start, end) in ends {
-        ranges.push(ByteRange::new(*start..*end).ok_or(CodecError::InvalidByteRange)?)?;
-    }
-    Ok(ranges)
-}
 
 /// What a handle over the row's value tells.
 fn tells<H: BytesPartialDecoderTraits>(rt: &impl Abort, handle: &mut H, row: &Row) {

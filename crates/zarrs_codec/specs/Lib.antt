@@ -7,6 +7,9 @@ pub mod BytesRepresentation
 pub mod BytesToBytesCodec
 pub mod ChunkEdits
 pub mod CodersOverHandles
+pub mod FailingCall
+pub mod FailingHandle
+pub mod FencedHandle
 pub mod Grammar
 pub mod SampleBytesCodec
 pub mod SampleLaws
@@ -14,6 +17,7 @@ pub mod SampleMetadata
 pub mod MemoryHandle
 pub mod Refused
 pub mod StorageState
+pub mod TornHandle
 pub use Rattle.zarrs_chunk.specs.Answer
 pub mod DecodeInto
 pub mod CoordinateMap

@@ -3,7 +3,7 @@
 //!
 //! A coder that reads a chunk in part does so over a storage handle, a
 //! [`BytesPartialDecoderTraits`], and one that writes over a [`BytesPartialEncoderTraits`].
-//! [`MemoryHandle`] is one whose value is in memory.
+//! [`MemoryHandle`] is one whose value is in memory, and [`testing`] has some that fail.
 #![tactic(auto)]
 
 mod array_partial_decoder_traits;
@@ -23,6 +23,7 @@ mod memory_handle;
 mod refused;
 mod sample_bytes_codec;
 mod sample_maker;
+pub mod testing;
 
 pub use array_partial_decoder_traits::ArrayPartialDecoderTraits;
 pub use array_partial_encoder_traits::ArrayPartialEncoderTraits;

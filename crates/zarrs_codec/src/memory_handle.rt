@@ -76,6 +76,7 @@ pub struct MemoryHandle {
 
 impl MemoryHandle {
     ghost use Rattle.zarrs_codec.specs.MemoryHandle.{handle_value, write_count};
+    ghost use Rattle.zarrs_codec.specs.TornHandle.{first_half};
 
     /// A handle without a value.
     pub fn new() -> MemoryHandle
@@ -114,6 +115,16 @@ impl MemoryHandle {
         ensures value { option_map (λ bytes. bytes.items) result ≡ handle_value self }
     {
         self.value
+    }
+
+    /// Leaves the first half of the value, rounded down. This is no writing call.
+    pub(crate) fn halve(&mut self)
+        ensures halved { handle_value self.new ≡ option_map first_half (handle_value self.old) }
+        ensures count { write_count self.new ≡ write_count self.old }
+    {
+        if let Some(value) = &mut self.value {
+            value.truncate(value.len() / 2);
+        }
     }
 
     /// How many writing calls there were, those that were refused among them, modulo 2^64.

@@ -1,0 +1,26 @@
+-- What a handle is seen as that reads the bytes inside its ranges alone.
+use Rattle.std.specs.Prelude.{ℕ, ◌&&◌, nat_le, nat_lt, Bool, true, false, Option, Some, None, List}
+use Rattle.std.specs.List.{list_any}
+use Rattle.zarrs_chunk.specs.declared.codec_error.StorageError.{StorageError}
+use Rattle.zarrs_codec.specs.ByteSpan.{ByteSpan}
+use Rattle.zarrs_codec.specs.StorageState.{StorageState}
+use Rattle.zarrs_codec.specs.MemoryHandle.{handle_value}
+use Rattle.zarrs_codec.specs.declared.testing.fenced_handle.FencedHandle.{FencedHandle}
+
+-- whether a range has the byte of this number
+abbrev pub has_byte : ℕ → ByteSpan → Bool
+has_byte byte range = nat_le range.start byte && nat_lt byte range.end
+
+-- whether one of the ranges has it
+abbrev pub is_fenced : List ByteSpan → ℕ → Bool
+is_fenced ranges byte = list_any (has_byte byte) ranges
+
+-- its state: the bytes inside the ranges are sure
+abbrev pub fenced_state : FencedHandle → StorageState
+fenced_state handle =
+    record { value = handle_value handle.memory; sure = Some (is_fenced handle.ranges.items); faults = handle.faults; failure = handle.failure; writes = 0 }
+
+-- what a read fails with, by whether all bytes that it asks for are sure
+abbrev pub fence_failure : Bool → Option StorageError
+fence_failure true = None
+fence_failure false = Some (record { code = 1 })

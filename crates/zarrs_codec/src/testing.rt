@@ -1,0 +1,12 @@
+//! Storage handles that fail where a test wants them to: by the number of the call
+//! ([`FailingHandle`], [`TornHandle`]), or outside some bytes ([`FencedHandle`]). Else they
+//! answer as [`MemoryHandle`](crate::MemoryHandle) does.
+
+mod failing_call;
+mod failing_handle;
+mod fenced_handle;
+mod torn_handle;
+
+pub use failing_handle::FailingHandle;
+pub use fenced_handle::FencedHandle;
+pub use torn_handle::TornHandle;
