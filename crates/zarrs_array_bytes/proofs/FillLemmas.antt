@@ -1,18 +1,13 @@
 -- The steps of a fill.
-use Rattle.std.proofs.Common.{◌≡◌, ℕ, zero, suc, ◌+◌, ◌-◌, ◌*◌, ◌/◌, ◌%◌, ◌∙◌, sym, ◌<◌, ◌≤◌, get_or, List, [], ◌∷◌, ◌++◌, length, map, replicate, nat_lt, true, refl, ap, ap₂, arith, add-one, lt-ltb}
+use Rattle.std.proofs.Common.{◌≡◌, ℕ, zero, suc, ◌+◌, ◌-◌, ◌*◌, ◌/◌, ◌%◌, ◌∙◌, sym, ◌<◌, ◌≤◌, get_or, List, [], ◌∷◌, ◌++◌, length, map, take, replicate, nat_lt, true, refl, ap, ap₂, arith, add-one, lt-ltb}
 use Rattle.std.specs.List.{list_all, range_with_len}
 use Rattle.std.proofs.lemmas.Nat.{div-add-mod'}
-use Rattle.std.proofs.lemmas.List.{append_assoc, length-append, get_or-replicate, length-replicate}
+use Rattle.std.proofs.Math.Seq.{take-append_seam}
+use Rattle.std.proofs.lemmas.List.{append-nil, append_assoc, length-append, get_or-replicate, length-replicate}
 use Rattle.zarrs_array_bytes.specs.Offsets.{rises, is_offsets, last_of}
-use Rattle.zarrs_array_bytes.specs.Pieces.{ends}
+use Rattle.zarrs_array_bytes.specs.Pieces.{ends, IsLonger}
 use Rattle.zarrs_array_bytes.specs.Filled.{copies}
 use Rattle.zarrs_array_bytes.proofs.OffsetLemmas.{offsets_rise, offsets_end}
-
-less_one : (n i : ℕ) → i < n → n - i ≡ suc (n - (i + 1))
-less_one n i l = omega arith
-
-pub copies_left : (bs : List ℕ) (n i : ℕ) → i < n → copies bs (n - i) ≡ bs ++ copies bs (n - (i + 1))
-copies_left bs n i l = ap (copies bs) (less_one n i l)
 
 -- the ends of copies
 pub ends-replicate : (part : List ℕ) (start first count : ℕ) → start ≡ first * length part → ends start (map (λ p. p) (replicate count part)) ≡ map (λ place. place * length part + length part) (range_with_len first count)
@@ -79,3 +74,18 @@ copies-blocks bytes block each count is =
     ∙ ap (λ (xs : List ℕ). xs ++ copies bytes (count % each)) (copies-many bytes each (count / each))
     ∙ sym (copies-add bytes (count / each * each) (count % each))
     ∙ ap (copies bytes) (div-add-mod' count each)
+
+-- one copy more, behind the others
+pub copies-next : (bytes : List ℕ) (count : ℕ) → copies bytes count ++ bytes ≡ copies bytes (count + 1)
+copies-next bytes count = ap (λ (xs : List ℕ). copies bytes count ++ xs) (sym (append-nil bytes)) ∙ sym (copies-add bytes count 1)
+
+-- what was longer, and longer again
+pub longer-twice : (old between new : List ℕ) → IsLonger old between → IsLonger between new → IsLonger old new
+longer-twice old between new first second = (first.0 ++ second.0, second.1 ∙ ap (λ (xs : List ℕ). xs ++ second.0) first.1 ∙ append_assoc old first.0 second.0)
+
+pub longer-same : (old new : List ℕ) → new ≡ old → IsLonger old new
+longer-same old new is = ([], is ∙ sym (append-nil old))
+
+-- the old items again, cut off from the longer ones
+pub longer-cut : (old new : List ℕ) → IsLonger old new → take (length old) new ≡ old
+longer-cut old new more = ap (take (length old)) more.1 ∙ take-append_seam old more.0

@@ -1,5 +1,5 @@
 -- Byte lists that stand one after another.
-use Rattle.std.specs.Prelude.{ℕ, ◌+◌, List, [], ◌∷◌, length, map}
+use Rattle.std.specs.Prelude.{◌≡◌, ℕ, ◌+◌, List, [], ◌∷◌, ◌++◌, length, map}
 use Rattle.std.specs.List.{flat_map, range_with_len}
 use Rattle.zarrs_array_bytes.specs.Held.{Held, vlen, owned_bytes}
 use Rattle.zarrs_array_bytes.specs.Elements.{piece}
@@ -20,3 +20,7 @@ bytes_with_offsets f xs = (flat_map f xs, 0 ∷ ends 0 (map f xs))
 -- a container of bytes and offsets
 abbrev pub variable_of : List ℕ × List ℕ → Held
 variable_of parts = vlen (owned_bytes parts.0) parts.1
+
+-- the new items are the old ones, and perhaps more behind them
+abbrev pub IsLonger : List ℕ → List ℕ → Type 0
+IsLonger old new = (more : List ℕ) × (new ≡ old ++ more)

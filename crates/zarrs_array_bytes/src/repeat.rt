@@ -1,19 +1,25 @@
-ghost use Rattle.std.specs.Prelude.{◌≡◌, ◌+◌, ◌*◌, ◌^◌, ◌<◌, ◌++◌, Ok, IfOk, OnOk, length, map, replicate, false};
+ghost use Rattle.std.specs.Prelude.{◌≡◌, ◌+◌, ◌*◌, ◌^◌, ◌<◌, ◌++◌, Ok, IfOk, OnOk, OnErr, length, map, replicate, false};
 ghost use Rattle.std.specs.List.{range_with_len};
 ghost use Rattle.zarrs_chunk.specs.Answer.{Answers, memory, is_fault, Gives};
 ghost use Rattle.zarrs_array_bytes.specs.Filled.{copies};
-ghost use Rattle.zarrs_array_bytes.specs.Pieces.{bytes_with_offsets};
+ghost use Rattle.zarrs_array_bytes.specs.Pieces.{bytes_with_offsets, IsLonger};
 
 use std::alloc::{AllocError, Global};
 use zarrs_chunk::CodecError;
 
-/// Appends these bytes `count` times. Room for all of them is made first. Where that is refused, some
-/// of the copies may stand behind the old bytes. Refusals: `AllocError`.
+/// Appends these bytes `count` times. Room for all of them is made first. Refusals: `AllocError`, and
+/// then the old bytes are all there is.
 pub fn append_copies(out: &mut Vec<u8>, bytes: &[u8], count: u64) -> Result<(), AllocError>
     ensures appended { OnOk result (out.new.items ≡ out.old.items ++ copies bytes.now count) }
+    ensures kept { OnErr result (out.new.items ≡ out.old.items) }
 {
     out.reserve(bytes.len().saturating_mul(count as usize))?;
-    append_blocks(out, bytes, count)
+    let len = out.len();
+    let appended = append_blocks(out, bytes, count);
+    if appended.is_err() {
+        out.truncate(len);
+    }
+    appended
 }
 
 /// Appends the bytes `count` times: one byte as by `memset`, many copies of a few bytes by blocks of
@@ -21,6 +27,7 @@ pub fn append_copies(out: &mut Vec<u8>, bytes: &[u8], count: u64) -> Result<(), 
 /// bytes.
 fn append_blocks(out: &mut Vec<u8>, bytes: &[u8], count: u64) -> Result<(), AllocError>
     ensures appended { OnOk result (out.new.items ≡ out.old.items ++ copies bytes.now count) }
+    ensures behind { IsLonger out.old.items out.new.items }
 {
     if let [byte] = bytes {
         return append_byte(out, *byte, count);
@@ -37,6 +44,7 @@ fn append_blocks(out: &mut Vec<u8>, bytes: &[u8], count: u64) -> Result<(), Allo
 /// Appends the byte `count` times.
 fn append_byte(out: &mut Vec<u8>, byte: u8, count: u64) -> Result<(), AllocError>
     ensures appended { OnOk result (out.new.items ≡ out.old.items ++ replicate count byte) }
+    ensures behind { IsLonger out.old.items out.new.items }
 {
     match out.len().checked_add(count as usize) {
         Some(len) => out.resize(len, byte),
@@ -47,6 +55,7 @@ fn append_byte(out: &mut Vec<u8>, byte: u8, count: u64) -> Result<(), AllocError
 /// Appends the bytes `count` times, one by one.
 fn append_each(out: &mut Vec<u8>, bytes: &[u8], count: u64) -> Result<(), AllocError>
     ensures appended { OnOk result (out.new.items ≡ out.old.items ++ copies bytes.now count) }
+    ensures behind { IsLonger out.old.items out.new.items }
 {
     for _copy in 0..count {
         out.extend_from_slice(bytes)?;

@@ -1,6 +1,6 @@
 use Rattle.std.proofs.Common.{◌≡◌, ℕ, List, ◌++◌, ◌/◌, ◌%◌, OnOk, ap, ◌∙◌, subst, append_assoc}
 use Rattle.zarrs_array_bytes.specs.Filled.{copies}
-use Rattle.zarrs_array_bytes.proofs.FillLemmas.{replicate-copies, copies-blocks}
+use Rattle.zarrs_array_bytes.proofs.FillLemmas.{replicate-copies, copies-blocks, longer-twice}
 use Rattle.zarrs_array_bytes.proofs.repeat.+append_blocks.Goals as goal
 
 pub returns-in-len1 : goal.returns-in-len1
@@ -8,6 +8,7 @@ returns-in-len1 t c = record {
   appended =
       subst (λ (xs : List ℕ). OnOk c.append_byte.result (c.append_byte.new.out.items ≡ c.args.out.now.items ++ xs))
       (replicate-copies c.args.bytes.now c.args.count c.in-len1.len_at_least c.in-len1.len_below) c.append_byte.ensures.appended;
+  behind = c.append_byte.ensures.behind;
 }
 
 pub returns : goal.returns
@@ -25,4 +26,5 @@ returns t c =
     ∙ ap (λ (xs : List ℕ). old ++ xs) (copies-blocks bytes block 16 count is) in
     record {
       appended = subst (λ (xs : List ℕ). OnOk c.append_each-3.result (c.append_each-3.new.out.items ≡ xs)) all c.append_each-3.ensures.appended;
+      behind = longer-twice old c.append_blocks.new.out.items c.append_each-3.new.out.items (c.append_blocks.ensures.behind) c.append_each-3.ensures.behind;
     }
