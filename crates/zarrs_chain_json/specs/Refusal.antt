@@ -1,6 +1,6 @@
 -- Why a line is refused, and how an answer says so.
 use Rattle.std.specs.Prelude.{ℕ, ◌++◌, Bool, false, List, Result, Ok, Err, codes}
-use Rattle.zarrs_chunk.specs.Answer.{memory}
+use Rattle.zarrs_chunk.specs.Answer.{memory, Answers}
 use Rattle.zarrs_chunk.specs.CodecError.{name_of}
 use Rattle.zarrs_chunk.specs.declared.codec_error.CodecError.{CodecError}
 use Rattle.zarrs_metadata.specs.PluginCreateError.{plugin_memory, plugin_name_of}
@@ -13,6 +13,14 @@ abbrev pub wants_memory : Refusal → Bool
 wants_memory Syntax = false
 wants_memory (Making error) = plugin_memory error
 wants_memory (Codec error) = memory error
+
+-- The answer of a reading is the expected one, its value or its first refusal; only a want of memory may come in its place.
+abbrev pub Reads : {T : Type 0} → Result T Refusal → Result T Refusal → Type 0
+Reads result expected = Answers wants_memory (λ value. value) result expected
+
+-- the same, of a value that is seen by `view`
+abbrev pub ReadsAs : {T V : Type 0} → (T → V) → Result T Refusal → Result V Refusal → Type 0
+ReadsAs view result expected = Answers wants_memory view result expected
 
 -- the answer of what is made of metadata as a part of a line's answer
 abbrev pub making_answer : {A : Type 0} → Result A PluginCreateError → Result A Refusal

@@ -1,7 +1,6 @@
 //! Containers of elements that were read.
 ghost use Rattle.std.specs.Prelude.{◌≡◌, ◌++◌, Ok, IfOk, OnOk, map, option_map, replicate};
 ghost use Rattle.std.specs.List.{flat_map};
-ghost use Rattle.zarrs_chunk.specs.Answer.{Answers};
 ghost use Rattle.zarrs_data_type.specs.ElementType.{text};
 ghost use Rattle.zarrs_array_bytes.specs.Held.{owned_bytes};
 ghost use Rattle.zarrs_array_bytes.specs.Parts.{with_mask};
@@ -9,7 +8,7 @@ ghost use Rattle.zarrs_array_bytes.specs.Pieces.{bytes_with_offsets};
 ghost use Rattle.zarrs_array_bytes.specs.Present.{mask_of, presence};
 ghost use Rattle.zarrs_chain_json.specs.Containers.{plain_bytes as plain_bytes_of, bytes_or_zeros, under_mask, container_of, variable_answer};
 ghost use Rattle.zarrs_chain_json.specs.Element.{slot_seen, slots_seen};
-ghost use Rattle.zarrs_chain_json.specs.Refusal.{codec_answer, wants_memory};
+ghost use Rattle.zarrs_chain_json.specs.Refusal.{codec_answer, Reads};
 
 use crate::element::Element;
 use crate::refusal::Refusal;
@@ -120,7 +119,7 @@ fn of_parts(bytes: Vec<u8>, offsets: Vec<usize>) -> Result<ArrayBytes<'static>, 
 }
 
 fn variable(alloc: Global, slots: &[Slot<'_>]) -> Result<ArrayBytes<'static>, Refusal>
-    ensures { Answers wants_memory (λ elements. elements) result (Ok (container_of text (slots_seen slots.now))) }
+    ensures { Reads result (Ok (container_of text (slots_seen slots.now))) }
 {
     let (bytes, offsets) = variable_parts(alloc, slots)?;
     match of_parts(bytes, offsets) {
@@ -134,7 +133,7 @@ fn under(
     inner: ArrayBytes<'static>,
     mask: Vec<u8>,
 ) -> Result<ArrayBytes<'static>, Refusal>
-    ensures { Answers wants_memory (λ elements. elements) result (codec_answer (with_mask inner.entry (owned_bytes mask.items))) }
+    ensures { Reads result (codec_answer (with_mask inner.entry (owned_bytes mask.items))) }
 {
     Ok(inner.with_optional_mask(alloc, CowSlice::Owned(mask))?)
 }
@@ -146,7 +145,7 @@ pub fn container(
     data_type: &DataType,
     slots: Vec<Slot<'_>>,
 ) -> Result<ArrayBytes<'static>, Refusal>
-    ensures made { Answers wants_memory (λ elements. elements) result (Ok (container_of data_type.now (slots_seen slots.entry.items))) }
+    ensures made { Reads result (Ok (container_of data_type.now (slots_seen slots.entry.items))) }
 {
     if let Some(inner_type) = data_type.as_optional() {
         let mask = mask(alloc, &slots)?;

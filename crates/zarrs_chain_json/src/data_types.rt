@@ -2,10 +2,10 @@
 ghost use Rattle.std.specs.Prelude.{◌≡◌, Result, option_and_then, ok_or, codes};
 ghost use Rattle.serde_json.specs.Find.{as_object};
 ghost use Rattle.serde_json.specs.View.{view, members_view};
-ghost use Rattle.zarrs_chunk.specs.Answer.{Answers, seen};
+ghost use Rattle.zarrs_chunk.specs.Answer.{seen};
 ghost use Rattle.zarrs_data_type.specs.ElementType.{ElementType, optional as optional_of};
 ghost use Rattle.zarrs_chain_json.specs.Json.{only_member as only_member_of};
-ghost use Rattle.zarrs_chain_json.specs.Refusal.{wants_memory};
+ghost use Rattle.zarrs_chain_json.specs.Refusal.{Reads};
 ghost use Rattle.zarrs_chain_json.specs.DataType.{type_named, number_at, truth_at, components_in, components_among, type_in};
 
 use crate::json::{Members, member, only_member};
@@ -80,15 +80,15 @@ fn components_of(members: &Members) -> Result<&Members, Refusal>
 }
 
 fn several(members: &Members) -> Result<DataType, Refusal>
-    ensures { Answers wants_memory (λ data_type. data_type) result (components_among (members_view members.now.entries)) }
+    ensures { Reads result (components_among (members_view members.now.entries)) }
 {
     components(components_of(members)?)
 }
 
 /// The type of elements that may be absent, by what was read of the type inside.
 fn optional(alloc: Global, inner: Result<DataType, Refusal>) -> Result<DataType, Refusal>
-    ensures { (expected : Result ElementType Refusal) → Answers wants_memory (λ data_type. data_type) inner expected
-        → Answers wants_memory (λ data_type. data_type) result (seen optional_of expected) }
+    ensures { (expected : Result ElementType Refusal) → Reads inner expected
+        → Reads result (seen optional_of expected) }
 {
     match inner {
         Ok(inner) => Ok(DataType::optional(alloc, inner)?),
@@ -99,7 +99,7 @@ fn optional(alloc: Global, inner: Result<DataType, Refusal>) -> Result<DataType,
 /// The type that a tree names. Refusals: `Syntax` where the tree names none; `BitRange` or `Overflow`
 /// of components that are none; `OutOfMemory`.
 pub fn data_type(alloc: Global, tree: &Value) -> Result<DataType, Refusal>
-    ensures answer { Answers wants_memory (λ data_type. data_type) result (type_in (view tree.now)) }
+    ensures answer { Reads result (type_in (view tree.now)) }
 {
     match tree {
         Value::String(name) => type_by_name(name.as_str()).ok_or(Refusal::Syntax),

@@ -2,9 +2,9 @@
 ghost use Rattle.std.specs.Prelude.{◌≡◌, ok_or};
 ghost use Rattle.serde_json.specs.Find.{get_member};
 ghost use Rattle.serde_json.specs.View.{view, members_view};
-ghost use Rattle.zarrs_chunk.specs.Answer.{Answers, seen};
+ghost use Rattle.zarrs_chunk.specs.Answer.{seen};
 ghost use Rattle.zarrs_chain_json.specs.Edit.{edit_at, edit_among as edit_among_members, edit_in, edit_seen};
-ghost use Rattle.zarrs_chain_json.specs.Refusal.{wants_memory};
+ghost use Rattle.zarrs_chain_json.specs.Refusal.{ReadsAs};
 
 use crate::element_lists::elements;
 use crate::indexers::indexer;
@@ -31,7 +31,7 @@ fn value_at<'v>(members: &'v Members, key: &str) -> Result<&'v Value, Refusal>
 
 /// The indexer is read before the elements.
 fn edit_of(alloc: Global, data_type: &DataType, at: &Value, items: &Value) -> Result<Edit, Refusal>
-    ensures { Answers wants_memory edit_seen result (edit_at data_type.now (view at.now) (view items.now)) }
+    ensures { ReadsAs edit_seen result (edit_at data_type.now (view at.now) (view items.now)) }
 {
     let indexer = indexer(alloc, at)?;
     let elements = elements(alloc, data_type, items)?;
@@ -40,7 +40,7 @@ fn edit_of(alloc: Global, data_type: &DataType, at: &Value, items: &Value) -> Re
 
 #[tactic(auto, using(crate::proofs::JsonLemmas::member_count_of_view))]
 fn edit_among(alloc: Global, data_type: &DataType, members: &Members) -> Result<Edit, Refusal>
-    ensures { Answers wants_memory edit_seen result (edit_among_members data_type.now (members_view members.now.entries)) }
+    ensures { ReadsAs edit_seen result (edit_among_members data_type.now (members_view members.now.entries)) }
 {
     if members.len() != 2 {
         return Err(Refusal::Syntax);
@@ -53,7 +53,7 @@ fn edit_among(alloc: Global, data_type: &DataType, members: &Members) -> Result<
 /// The edit of `{"at":INDEXER,"data":ELEMENTS}`. Refusals: `Syntax` where the tree is no object with
 /// these two keys alone; then those of the indexer, and then those of the elements; `OutOfMemory`.
 pub fn read_edit(alloc: Global, data_type: &DataType, tree: &Value) -> Result<Edit, Refusal>
-    ensures answer { Answers wants_memory edit_seen result (edit_in data_type.now (view tree.now)) }
+    ensures answer { ReadsAs edit_seen result (edit_in data_type.now (view tree.now)) }
 {
     let members = object(tree)?;
     edit_among(alloc, data_type, members)

@@ -1,9 +1,8 @@
 //! Single elements read from JSON.
 ghost use Rattle.std.specs.Prelude.{◌≡◌, option_map};
 ghost use Rattle.serde_json.specs.View.{view, items_view};
-ghost use Rattle.zarrs_chunk.specs.Answer.{Answers};
 ghost use Rattle.zarrs_data_type.specs.Element.{plain};
-ghost use Rattle.zarrs_chain_json.specs.Refusal.{wants_memory};
+ghost use Rattle.zarrs_chain_json.specs.Refusal.{ReadsAs};
 ghost use Rattle.zarrs_chain_json.specs.Elements.{bytes_in, plain_in, element_in};
 ghost use Rattle.zarrs_chain_json.specs.Element.{element_seen};
 
@@ -23,7 +22,7 @@ pub enum Element {
 }
 
 fn bytes(alloc: Global, tree: &Value) -> Result<Vec<u8>, Refusal>
-    ensures { Answers wants_memory (λ bytes. bytes.items) result (bytes_in (view tree.now)) }
+    ensures { ReadsAs (λ v. v.items) result (bytes_in (view tree.now)) }
 {
     match tree {
         Value::String(_) => hex_bytes(alloc, tree),
@@ -34,7 +33,7 @@ fn bytes(alloc: Global, tree: &Value) -> Result<Vec<u8>, Refusal>
 
 /// An element that is bytes: as many as the type has, where it has a size.
 fn plain_element(alloc: Global, size: Option<usize>, tree: &Value) -> Result<Vec<u8>, Refusal>
-    ensures { Answers wants_memory (λ bytes. plain bytes.items) result (plain_in size (view tree.now)) }
+    ensures { ReadsAs (λ bytes. plain bytes.items) result (plain_in size (view tree.now)) }
 {
     let bytes = bytes(alloc, tree)?;
     match size {
@@ -51,7 +50,7 @@ fn plain_element(alloc: Global, size: Option<usize>, tree: &Value) -> Result<Vec
 /// of bytes than the type has; where an element that may be absent is due, `Syntax` for all but null
 /// and a list of one; `OutOfMemory`.
 pub fn read_element(alloc: Global, data_type: &DataType, tree: &Value) -> Result<Element, Refusal>
-    ensures answer { Answers wants_memory element_seen result (element_in data_type.now (view tree.now)) }
+    ensures answer { ReadsAs element_seen result (element_in data_type.now (view tree.now)) }
 {
     let Some(inner) = data_type.as_optional() else {
         let bytes = plain_element(alloc, data_type.fixed_size(), tree)?;

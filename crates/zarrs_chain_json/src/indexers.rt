@@ -1,9 +1,8 @@
 //! Indexers read from JSON.
 ghost use Rattle.std.specs.Prelude.{◌≡◌, map};
 ghost use Rattle.serde_json.specs.View.{view, items_view};
-ghost use Rattle.zarrs_chunk.specs.Answer.{Answers};
 ghost use Rattle.zarrs_chunk.specs.Indexer.{selection_of};
-ghost use Rattle.zarrs_chain_json.specs.Refusal.{wants_memory};
+ghost use Rattle.zarrs_chain_json.specs.Refusal.{Reads, ReadsAs};
 ghost use Rattle.zarrs_chain_json.specs.Indexer.{range_between, range_in, ranges_in, tuples_in, ranges_selection, indices_selection, selection_in};
 
 use crate::json::{numbers, object, only_member};
@@ -23,14 +22,14 @@ fn between(ends: &[u64]) -> Option<Range<u64>>
 }
 
 fn range(alloc: Global, tree: &Value) -> Result<Range<u64>, Refusal>
-    ensures { Answers wants_memory (λ range. range) result (range_in (view tree.now)) }
+    ensures { Reads result (range_in (view tree.now)) }
 {
     let ends = numbers(alloc, tree)?;
     between(&ends).ok_or(Refusal::Syntax)
 }
 
 fn ranges_among(alloc: Global, items: &Vec<Value>) -> Result<Vec<Range<u64>>, Refusal>
-    ensures { Answers wants_memory (λ ranges. ranges.items) result (ranges_in (items_view items.now.items)) }
+    ensures { ReadsAs (λ v. v.items) result (ranges_in (items_view items.now.items)) }
 {
     let mut ranges = Vec::new(alloc);
     for item in items {
@@ -41,7 +40,7 @@ fn ranges_among(alloc: Global, items: &Vec<Value>) -> Result<Vec<Range<u64>>, Re
 }
 
 fn tuples_among(alloc: Global, items: &Vec<Value>) -> Result<Vec<ArrayIndices>, Refusal>
-    ensures { Answers wants_memory (λ tuples. map (λ tuple. tuple.items) tuples.items) result (tuples_in (items_view items.now.items)) }
+    ensures { ReadsAs (λ v. map (λ tuple. tuple.items) v.items) result (tuples_in (items_view items.now.items)) }
 {
     let mut tuples = Vec::new(alloc);
     for item in items {
@@ -52,7 +51,7 @@ fn tuples_among(alloc: Global, items: &Vec<Value>) -> Result<Vec<ArrayIndices>, 
 }
 
 fn subset(alloc: Global, tree: &Value) -> Result<Indexer, Refusal>
-    ensures { Answers wants_memory selection_of result (ranges_selection (view tree.now)) }
+    ensures { ReadsAs selection_of result (ranges_selection (view tree.now)) }
 {
     let Value::Array(items) = tree else {
         return Err(Refusal::Syntax);
@@ -63,7 +62,7 @@ fn subset(alloc: Global, tree: &Value) -> Result<Indexer, Refusal>
 }
 
 fn indices(alloc: Global, tree: &Value) -> Result<Indexer, Refusal>
-    ensures { Answers wants_memory selection_of result (indices_selection (view tree.now)) }
+    ensures { ReadsAs selection_of result (indices_selection (view tree.now)) }
 {
     match tree {
         Value::Array(items) => Ok(Indexer::Indices(tuples_among(alloc, items)?)),
@@ -75,7 +74,7 @@ fn indices(alloc: Global, tree: &Value) -> Result<Indexer, Refusal>
 /// the tree is anything else; then `ReversedRange` where a range ends before it starts;
 /// `OutOfMemory`.
 pub fn indexer(alloc: Global, tree: &Value) -> Result<Indexer, Refusal>
-    ensures answer { Answers wants_memory selection_of result (selection_in (view tree.now)) }
+    ensures answer { ReadsAs selection_of result (selection_in (view tree.now)) }
 {
     let members = object(tree)?;
     if let Some(ranges) = only_member(members, "ranges") {

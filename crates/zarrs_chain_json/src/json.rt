@@ -3,8 +3,8 @@ ghost use Rattle.std.specs.Prelude.{◌≡◌, option_map, option_and_then, ok_o
 ghost use Rattle.serde_json.specs.Written.{has_float, items_have_float, members_have_float};
 ghost use Rattle.serde_json.specs.View.{view, items_view, members_view};
 ghost use Rattle.serde_json.specs.Find.{as_number, as_object, as_u64, get_member};
-ghost use Rattle.zarrs_chunk.specs.Answer.{Answers, seen};
-ghost use Rattle.zarrs_chain_json.specs.Refusal.{wants_memory};
+ghost use Rattle.zarrs_chunk.specs.Answer.{seen};
+ghost use Rattle.zarrs_chain_json.specs.Refusal.{ReadsAs};
 ghost use Rattle.zarrs_chain_json.specs.Json.{tree_of, number_list, numbers_in, hex_of, only_member as only_member_of, ok_line as line_of, hex_tree as hex_tree_of, lone_item};
 
 use crate::refusal::Refusal;
@@ -56,7 +56,7 @@ fn members_hold_float(members: &Members) -> bool
 /// The tree of a text. Refusals: `Syntax` where the text isn't UTF-8, isn't one JSON value, or has
 /// a float at any depth; `OutOfMemory`.
 pub fn tree(alloc: Global, text: &[u8]) -> Result<Value, Refusal>
-    ensures answer { Answers wants_memory view result (tree_of text.now) }
+    ensures answer { ReadsAs view result (tree_of text.now) }
 {
     match Value::from_slice(alloc, text) {
         Ok(tree) => {
@@ -122,7 +122,7 @@ fn number(tree: &Value) -> Result<u64, Refusal>
 }
 
 fn numbers_among(alloc: Global, items: &Vec<Value>) -> Result<Vec<u64>, Refusal>
-    ensures { Answers wants_memory (λ numbers. numbers.items) result (numbers_in (items_view items.now.items)) }
+    ensures { ReadsAs (λ v. v.items) result (numbers_in (items_view items.now.items)) }
 {
     let mut numbers = Vec::new(alloc);
     for item in items {
@@ -134,7 +134,7 @@ fn numbers_among(alloc: Global, items: &Vec<Value>) -> Result<Vec<u64>, Refusal>
 
 /// The whole numbers of a list. Refusals: `Syntax` where the tree is anything else; `OutOfMemory`.
 pub fn numbers(alloc: Global, tree: &Value) -> Result<Vec<u64>, Refusal>
-    ensures answer { Answers wants_memory (λ numbers. numbers.items) result (number_list (view tree.now)) }
+    ensures answer { ReadsAs (λ v. v.items) result (number_list (view tree.now)) }
 {
     match tree {
         Value::Array(items) => numbers_among(alloc, items),
@@ -144,7 +144,7 @@ pub fn numbers(alloc: Global, tree: &Value) -> Result<Vec<u64>, Refusal>
 
 /// The bytes of a hex text. Refusals: `Syntax` where the tree is anything else; `OutOfMemory`.
 pub fn hex_bytes(alloc: Global, tree: &Value) -> Result<Vec<u8>, Refusal>
-    ensures answer { Answers wants_memory (λ bytes. bytes.items) result (ok_or (hex_of (view tree.now)) Refusal.Syntax) }
+    ensures answer { ReadsAs (λ v. v.items) result (ok_or (hex_of (view tree.now)) Refusal.Syntax) }
 {
     match tree {
         Value::String(text) => match hex::decode(alloc, text.as_str()) {

@@ -3,13 +3,13 @@ ghost use Rattle.std.specs.Prelude.{◌≡◌, ◌<◌, ◌+◌, ◌*◌, ◌≤
 ghost use Rattle.std.specs.List.{range_with_len};
 ghost use Rattle.serde_json.specs.Data.{array, item, no_items};
 ghost use Rattle.serde_json.specs.View.{view};
-ghost use Rattle.zarrs_chunk.specs.Answer.{Answers, seen};
+ghost use Rattle.zarrs_chunk.specs.Answer.{seen};
 ghost use Rattle.zarrs_chunk.specs.declared.codec_error.CodecError.TheVariants.{InvalidBytesLength};
 ghost use Rattle.zarrs_data_type.specs.Element.{Chunk};
 ghost use Rattle.zarrs_array_bytes.specs.Elements.{piece, cut, element_at};
 ghost use Rattle.zarrs_array_bytes.specs.Offsets.{is_offsets, last_of};
 ghost use Rattle.zarrs_array_bytes.specs.Validity.{Holds, levels_fit};
-ghost use Rattle.zarrs_chain_json.specs.Refusal.{wants_memory};
+ghost use Rattle.zarrs_chain_json.specs.Refusal.{ReadsAs};
 ghost use Rattle.zarrs_chain_json.specs.Json.{hex_tree, ok_line as line_of};
 ghost use Rattle.zarrs_chain_json.specs.Elements.{element_tree, chunk_tree};
 ghost use Rattle.zarrs_chain_json.specs.Shown.{HasElement, HoldsSome};
@@ -23,7 +23,7 @@ use zarrs_chunk::CodecError;
 use zarrs_data_type::DataType;
 
 fn hex_value(alloc: Global, bytes: &[u8]) -> Result<Value, Refusal>
-    ensures { Answers wants_memory view result (Ok (hex_tree bytes.now)) }
+    ensures { ReadsAs view result (Ok (hex_tree bytes.now)) }
 {
     let text = hex::encode(alloc, bytes)?;
     Ok(Value::String(text))
@@ -32,7 +32,7 @@ fn hex_value(alloc: Global, bytes: &[u8]) -> Result<Value, Refusal>
 /// The element at a place, where each has so many bytes.
 fn fixed_value(alloc: Global, size: usize, bytes: &[u8], place: usize) -> Result<Value, Refusal>
     requires { place * size + size ≤ length bytes.now }
-    ensures { Answers wants_memory view result (Ok (hex_tree (piece size bytes.now place))) }
+    ensures { ReadsAs view result (Ok (hex_tree (piece size bytes.now place))) }
 {
     let start = place * size;
     hex_value(alloc, &bytes[start..start + size])
@@ -48,14 +48,14 @@ fn variable_value(
     requires inside { place + 1 < length offsets.now }
     requires rising { is_offsets offsets.now ≡ true }
     requires ending { last_of offsets.now ≡ length bytes.now }
-    ensures { Answers wants_memory view result (Ok (hex_tree (cut offsets.now bytes.now place))) }
+    ensures { ReadsAs view result (Ok (hex_tree (cut offsets.now bytes.now place))) }
 {
     hex_value(alloc, &bytes[offsets[place]..offsets[place + 1]])
 }
 
 /// A list of one.
 fn lone_value(alloc: Global, tree: Value) -> Result<Value, Refusal>
-    ensures { Answers wants_memory view result (Ok (array (item (view tree) no_items))) }
+    ensures { ReadsAs view result (Ok (array (item (view tree) no_items))) }
 {
     let mut items = Vec::with_capacity(alloc, 1)?;
     items.push(tree)?;
@@ -70,7 +70,7 @@ fn value_at(
     place: usize,
 ) -> Result<Value, Refusal>
     requires { HasElement data_type.now elements.now place }
-    ensures { Answers wants_memory view result (Ok (element_tree (element_at data_type.now elements.now place))) }
+    ensures { ReadsAs view result (Ok (element_tree (element_at data_type.now elements.now place))) }
 {
     if let Some(inner_type) = data_type.as_optional() {
         let (inner, mask) = elements.as_optional()?;
@@ -114,7 +114,7 @@ fn values(
     count: usize,
 ) -> Result<Vec<Value>, Refusal>
     requires { levels_fit InvalidBytesLength data_type.now count elements.now ≡ Ok tt }
-    ensures { Answers wants_memory (λ values. map view values.items) result (Ok (map (λ place. element_tree (element_at data_type.now elements.now place)) (range_with_len 0 count))) }
+    ensures { ReadsAs (λ values. map view values.items) result (Ok (map (λ place. element_tree (element_at data_type.now elements.now place)) (range_with_len 0 count))) }
 {
     let mut values = Vec::with_capacity(alloc, count)?;
     for place in 0..count {
@@ -131,7 +131,7 @@ pub fn ok_elements(
     elements: &ArrayBytes<'_>,
 ) -> Result<Vec<u8>, Refusal>
     requires held { HoldsSome data_type.now elements.now }
-    ensures answer { (chunk : Chunk) → Holds data_type.now elements.now chunk → Answers wants_memory (λ line. line.items) result (Ok (line_of (chunk_tree chunk))) }
+    ensures answer { (chunk : Chunk) → Holds data_type.now elements.now chunk → ReadsAs (λ v. v.items) result (Ok (line_of (chunk_tree chunk))) }
 {
     let count = count(data_type, elements)?;
     let values = values(alloc, data_type, elements, count)?;

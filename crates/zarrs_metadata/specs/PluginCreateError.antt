@@ -1,5 +1,6 @@
 -- The refusals of reading metadata and of making codecs.
-use Rattle.std.specs.Prelude.{ℕ, Bool, true, false, List, codes}
+use Rattle.std.specs.Prelude.{ℕ, Bool, true, false, List, Result, codes}
+use Rattle.zarrs_chunk.specs.Answer.{Answers}
 use Rattle.zarrs_metadata.specs.declared.plugin_create_error.PluginCreateError.{PluginCreateError}
 use Rattle.zarrs_metadata.specs.declared.plugin_create_error.PluginCreateError.TheVariants.{OutOfMemory, UnknownName, InvalidConfiguration, MissingArrayToBytes, MultipleArrayToBytes, BitOrder, MultipleAuto, ZeroSize, NotAPermutation}
 
@@ -7,6 +8,10 @@ use Rattle.zarrs_metadata.specs.declared.plugin_create_error.PluginCreateError.T
 abbrev pub plugin_memory : PluginCreateError → Bool
 plugin_memory OutOfMemory = true
 plugin_memory _ = false
+
+-- What is made, seen by `view`, is the expected value, or its first refusal is answered; only a want of memory may come in its place.
+abbrev pub Makes : {T V : Type 0} → (T → V) → Result T PluginCreateError → Result V PluginCreateError → Type 0
+Makes view result expected = Answers plugin_memory view result expected
 
 -- the variant's name, as its bytes
 abbrev pub plugin_name_of : PluginCreateError → List ℕ

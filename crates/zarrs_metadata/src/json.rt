@@ -1,10 +1,10 @@
 //! What metadata reads from JSON trees, and writes as them.
+ghost use Rattle.zarrs_metadata.specs.MetadataV3.{configuration_seen};
 ghost use Rattle.std.specs.Prelude.{◌≡◌, option_map, IfOk};
 ghost use Rattle.serde_json.specs.Written.{has_float, items_have_float, members_have_float};
 ghost use Rattle.serde_json.specs.View.{view, items_view, members_view};
 ghost use Rattle.serde_json.specs.Find.{get_member};
-ghost use Rattle.zarrs_chunk.specs.Answer.{Answers};
-ghost use Rattle.zarrs_metadata.specs.PluginCreateError.{plugin_memory};
+ghost use Rattle.zarrs_metadata.specs.PluginCreateError.{Makes};
 ghost use Rattle.zarrs_metadata.specs.Trees.{needed, whole_number, numbers_in, number_list, numbers_tree};
 
 use crate::metadata_v3::Configuration;
@@ -42,7 +42,7 @@ fn items_hold_float(items: &Vec<Value>) -> bool
 /// The same of a configuration.
 #[cycle(floats)]
 pub(crate) fn members_hold_float(members: &Configuration) -> bool
-    ensures value { result ≡ members_have_float (members_view members.now.entries) }
+    ensures value { result ≡ members_have_float (configuration_seen members.now) }
 {
     for (key, member) in members.iter() {
         if holds_float(member) {
@@ -54,14 +54,14 @@ pub(crate) fn members_hold_float(members: &Configuration) -> bool
 
 /// The value at a key of an object.
 pub(crate) fn member<'v>(members: &'v Configuration, key: &str) -> Option<&'v Value>
-    ensures value { option_map (λ value. view value.now) result ≡ get_member key.now (members_view members.now.entries) }
+    ensures value { option_map (λ value. view value.now) result ≡ get_member key.now (configuration_seen members.now) }
 {
     members.get(key)
 }
 
 /// An object with the same members.
 pub(crate) fn copied(members: &Configuration, alloc: Global) -> Result<Configuration, AllocError>
-    ensures copy { IfOk result (λ copies. members_view copies.entries ≡ members_view members.now.entries) }
+    ensures copy { IfOk result (λ copies. members_view copies.entries ≡ configuration_seen members.now) }
 {
     let mut copies = Map::new(alloc);
     for (key, member) in members.iter() {
@@ -78,7 +78,7 @@ pub(crate) fn numbers_among(
     alloc: Global,
     items: &Vec<Value>,
 ) -> Result<Vec<u64>, PluginCreateError>
-    ensures answer { Answers plugin_memory (λ numbers. numbers.items) result (numbers_in (items_view items.now.items)) }
+    ensures answer { Makes (λ v. v.items) result (numbers_in (items_view items.now.items)) }
 {
     let mut numbers = Vec::new(alloc);
     for item in items {
@@ -97,7 +97,7 @@ fn number(tree: &Value) -> Result<u64, PluginCreateError>
 /// The whole numbers of a list. Refusals: `InvalidConfiguration` where the tree is anything else;
 /// `OutOfMemory`.
 pub(crate) fn numbers(alloc: Global, tree: &Value) -> Result<Vec<u64>, PluginCreateError>
-    ensures answer { Answers plugin_memory (λ numbers. numbers.items) result (number_list (view tree.now)) }
+    ensures answer { Makes (λ v. v.items) result (number_list (view tree.now)) }
 {
     match tree {
         Value::Array(items) => numbers_among(alloc, items),

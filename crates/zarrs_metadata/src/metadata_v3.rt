@@ -1,10 +1,10 @@
 ghost use Rattle.std.specs.Prelude.{◌≡◌, true, false, Ok, Some, None, option_map, option_and_then};
 ghost use Rattle.serde_json.specs.Find.{as_bool, as_object, as_str};
 ghost use Rattle.serde_json.specs.View.{view, members_view};
-ghost use Rattle.zarrs_chunk.specs.Answer.{Answers, seen};
+ghost use Rattle.zarrs_chunk.specs.Answer.{seen};
 ghost use Rattle.zarrs_metadata.specs.Metadata.{metadata_in, metadata_of, read_metadata, write_metadata, metadata_members, unless_false};
-ghost use Rattle.zarrs_metadata.specs.MetadataV3.{metadata_seen};
-ghost use Rattle.zarrs_metadata.specs.PluginCreateError.{plugin_memory};
+ghost use Rattle.zarrs_metadata.specs.MetadataV3.{metadata_seen, configuration_seen, Writes};
+ghost use Rattle.zarrs_metadata.specs.PluginCreateError.{Makes};
 ghost use Rattle.zarrs_metadata.specs.Trees.{needed, optional_key};
 
 use crate::json::{copied, holds_float, member};
@@ -34,7 +34,7 @@ fn name_of(value: Option<&Value>) -> Result<&str, PluginCreateError>
 }
 
 fn configuration_of(value: Option<&Value>) -> Result<Option<&Configuration>, PluginCreateError>
-    ensures { seen (option_map (λ members. members_view members.now.entries)) result ≡ optional_key as_object (option_map (λ v. view v.now) value.entry) }
+    ensures { seen (option_map (λ members. configuration_seen members.now)) result ≡ optional_key as_object (option_map (λ v. view v.now) value.entry) }
 {
     match value {
         None => Ok(None),
@@ -59,7 +59,7 @@ fn copied_where_there(
     configuration: Option<&Configuration>,
     alloc: Global,
 ) -> Result<Option<Configuration>, PluginCreateError>
-    ensures { Answers plugin_memory (option_map (λ members. members_view members.entries)) result (Ok (option_map (λ members. members_view members.now.entries) configuration.entry)) }
+    ensures { Makes (option_map configuration_seen) result (Ok (option_map (λ members. configuration_seen members.now) configuration.entry)) }
 {
     match configuration {
         None => Ok(None),
@@ -68,7 +68,7 @@ fn copied_where_there(
 }
 
 fn metadata_among(alloc: Global, members: &Configuration) -> Result<MetadataV3, PluginCreateError>
-    ensures { Answers plugin_memory metadata_seen result (metadata_in (members_view members.now.entries)) }
+    ensures { Makes metadata_seen result (metadata_in (configuration_seen members.now)) }
 {
     let name = name_of(member(members, "name"))?;
     let configuration = configuration_of(member(members, "configuration"))?;
@@ -84,7 +84,7 @@ impl MetadataV3 {
     /// The metadata of this name, without configuration, which has to be understood. Refusals:
     /// `OutOfMemory`.
     pub fn new(alloc: Global, name: &str) -> Result<MetadataV3, PluginCreateError>
-        ensures made { Answers plugin_memory metadata_seen result (Ok (record { name = name.now; configuration = None; must_understand = true })) }
+        ensures made { Makes metadata_seen result (Ok (record { name = name.now; configuration = None; must_understand = true })) }
     {
         Ok(MetadataV3 {
             name: String::from_str(alloc, name)?,
@@ -100,7 +100,7 @@ impl MetadataV3 {
         name: &str,
         configuration: Configuration,
     ) -> Result<MetadataV3, PluginCreateError>
-        ensures made { Answers plugin_memory metadata_seen result (Ok (record { name = name.now; configuration = Some (members_view configuration.entries); must_understand = true })) }
+        ensures made { Makes metadata_seen result (Ok (record { name = name.now; configuration = Some (members_view configuration.entries); must_understand = true })) }
     {
         Ok(MetadataV3 {
             name: String::from_str(alloc, name)?,
@@ -143,7 +143,7 @@ impl MetadataV3 {
     /// missing there, and other keys are passed over. Refusals: `InvalidConfiguration` for any other
     /// tree, and where a number at any depth is a float; `OutOfMemory`.
     pub fn from_value(alloc: Global, tree: &Value) -> Result<MetadataV3, PluginCreateError>
-        ensures answer { Answers plugin_memory metadata_seen result (read_metadata (view tree.now)) }
+        ensures answer { Makes metadata_seen result (read_metadata (view tree.now)) }
     {
         if holds_float(tree) {
             return Err(PluginCreateError::InvalidConfiguration);
@@ -156,7 +156,7 @@ impl MetadataV3 {
         alloc: Global,
         tree: &Value,
     ) -> Result<MetadataV3, PluginCreateError>
-        ensures answer { Answers plugin_memory metadata_seen result (metadata_of (view tree.now)) }
+        ensures answer { Makes metadata_seen result (metadata_of (view tree.now)) }
     {
         match tree {
             Value::String(name) => MetadataV3::new(alloc, name.as_str()),
@@ -169,7 +169,7 @@ impl MetadataV3 {
     /// understood; else an object, with `must_understand` only where it is false. Refusals:
     /// `OutOfMemory`.
     pub fn to_value(&self, alloc: Global) -> Result<Value, PluginCreateError>
-        ensures answer { Answers plugin_memory view result (Ok (write_metadata (metadata_seen self.now))) }
+        ensures answer { Makes view result (Ok (write_metadata (metadata_seen self.now))) }
     {
         if self.must_understand && self.configuration.is_none() {
             return Ok(Value::try_from_str(alloc, self.name.as_str())?);
@@ -178,7 +178,7 @@ impl MetadataV3 {
     }
 
     fn members(&self, alloc: Global) -> Result<Configuration, PluginCreateError>
-        ensures { Answers plugin_memory (λ c. members_view c.entries) result (Ok (metadata_members (metadata_seen self.now))) }
+        ensures { Writes result (metadata_members (metadata_seen self.now)) }
     {
         let mut members = Map::new(alloc);
         if let Some(configuration) = &self.configuration {

@@ -3,9 +3,8 @@ ghost use Rattle.std.specs.Cmp.{partial_equiv_from_equiv};
 ghost use Rattle.std.specs.Cmp.Lexicographic.{pointwise};
 ghost use Rattle.std.specs.Ordering.{on};
 ghost use Rattle.std.proofs.lemmas.Cmp.{lists_equiv, on_equiv};
-ghost use Rattle.zarrs_chunk.specs.Answer.{Answers};
 ghost use Rattle.zarrs_metadata.specs.Dims.{is_nonzero as nonzero_dim, is_auto as auto_dim, autos, has_no_zero, is_reshape};
-ghost use Rattle.zarrs_metadata.specs.PluginCreateError.{plugin_memory};
+ghost use Rattle.zarrs_metadata.specs.PluginCreateError.{Makes};
 ghost use Rattle.zarrs_metadata.specs.ReshapeShape.{dim_of, reshape_shape_of};
 ghost use Rattle.zarrs_metadata.specs.SameDim.{is_same_dim};
 ghost use Rattle.zarrs_metadata.specs.SameDimLaws.{is_same_dim-equivalence};
@@ -29,7 +28,7 @@ pub enum ReshapeDim {
 impl ReshapeDim {
     /// An equal size. Refusals: `OutOfMemory`.
     pub fn clone(&self) -> Result<ReshapeDim, PluginCreateError>
-        ensures copy { Answers plugin_memory dim_of result (Ok (dim_of self.now)) }
+        ensures copy { Makes dim_of result (Ok (dim_of self.now)) }
     {
         match self {
             ReshapeDim::Size(size) => Ok(ReshapeDim::Size(*size)),
@@ -116,7 +115,7 @@ fn count_autos(dims: &[ReshapeDim]) -> usize
 }
 
 fn cloned(alloc: Global, dims: &[ReshapeDim]) -> Result<Vec<ReshapeDim>, PluginCreateError>
-    ensures { Answers plugin_memory (λ copies. map dim_of copies.items) result (Ok (map dim_of dims.now)) }
+    ensures { Makes (λ v. map dim_of v.items) result (Ok (map dim_of dims.now)) }
 {
     let mut copies = Vec::with_capacity(alloc, dims.len())?;
     for dim in dims {
@@ -150,7 +149,7 @@ impl ReshapeShape {
 
     /// An equal shape. Refusals: `OutOfMemory`.
     pub fn clone(&self) -> Result<ReshapeShape, PluginCreateError>
-        ensures copy { Answers plugin_memory (λ copy. copy) result (Ok self.now) }
+        ensures copy { Makes (λ copy. copy) result (Ok self.now) }
     {
         let dims = cloned(*self.dims.allocator(), self.dims.as_slice())?;
         Ok(ReshapeShape { dims })

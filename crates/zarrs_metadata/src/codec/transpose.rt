@@ -3,9 +3,8 @@ ghost use Rattle.std.specs.Bool.{nat_eq};
 ghost use Rattle.std.specs.Cmp.Lexicographic.{pointwise};
 ghost use Rattle.std.specs.Cmp.Rules.{comparing};
 ghost use Rattle.std.proofs.Common.{rules};
-ghost use Rattle.zarrs_chunk.specs.Answer.{Answers};
 ghost use Rattle.zarrs_metadata.specs.Orders.{is_order};
-ghost use Rattle.zarrs_metadata.specs.PluginCreateError.{plugin_memory};
+ghost use Rattle.zarrs_metadata.specs.PluginCreateError.{Makes};
 ghost use Rattle.zarrs_metadata.specs.TransposeOrder.{transpose_order_of};
 
 use crate::plugin_create_error::PluginCreateError;
@@ -49,7 +48,7 @@ impl TransposeOrder {
     /// The order of these axes, counted from 0. Refusals: `OutOfMemory`; `NotAPermutation` where an
     /// axis comes twice, or isn't one of as many as the list is long.
     pub fn new(alloc: Global, axes: &[usize]) -> Result<TransposeOrder, PluginCreateError>
-        ensures answer { Answers plugin_memory (λ order. order) result (transpose_order_of axes.now) }
+        ensures answer { Makes (λ order. order) result (transpose_order_of axes.now) }
     {
         if !names_each_once(alloc, axes)? {
             return Err(PluginCreateError::NotAPermutation);
@@ -68,7 +67,7 @@ impl TransposeOrder {
 
     /// An equal order. Refusals: `OutOfMemory`.
     pub fn clone(&self) -> Result<TransposeOrder, PluginCreateError>
-        ensures copy { Answers plugin_memory (λ copy. copy) result (Ok self.now) }
+        ensures copy { Makes (λ copy. copy) result (Ok self.now) }
     {
         let axes = self.axes.clone()?;
         Ok(TransposeOrder { axes })

@@ -1,8 +1,8 @@
+ghost use Rattle.zarrs_metadata.specs.MetadataV3.{configuration_seen, Writes};
 ghost use Rattle.std.specs.Prelude.{◌≡◌, Ok, option_map};
-ghost use Rattle.serde_json.specs.View.{view, members_view};
-ghost use Rattle.zarrs_chunk.specs.Answer.{Answers, seen};
+ghost use Rattle.serde_json.specs.View.{view};
+ghost use Rattle.zarrs_chunk.specs.Answer.{seen};
 ghost use Rattle.zarrs_metadata.specs.BytesConfiguration.{bytes_seen, endianness_named, endianness_in, endianness_name, read_bytes, write_bytes};
-ghost use Rattle.zarrs_metadata.specs.PluginCreateError.{plugin_memory};
 ghost use Rattle.zarrs_metadata.specs.Trees.{optional_key};
 
 use crate::json::{member, members_hold_float};
@@ -66,7 +66,7 @@ impl BytesCodecConfiguration {
     pub fn from_configuration(
         configuration: &Configuration,
     ) -> Result<BytesCodecConfiguration, PluginCreateError>
-        ensures answer { seen bytes_seen result ≡ read_bytes (members_view configuration.now.entries) }
+        ensures answer { seen bytes_seen result ≡ read_bytes (configuration_seen configuration.now) }
     {
         if members_hold_float(configuration) {
             return Err(PluginCreateError::InvalidConfiguration);
@@ -77,7 +77,7 @@ impl BytesCodecConfiguration {
 
     /// The members: `endian`, where there is one. Refusals: `OutOfMemory`.
     pub fn to_configuration(&self, alloc: Global) -> Result<Configuration, PluginCreateError>
-        ensures answer { Answers plugin_memory (λ c. members_view c.entries) result (Ok (write_bytes (bytes_seen self.now))) }
+        ensures answer { Writes result (write_bytes (bytes_seen self.now)) }
     {
         let BytesCodecConfiguration::V1(configuration) = self;
         let mut members = Map::new(alloc);

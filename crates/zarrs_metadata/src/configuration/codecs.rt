@@ -1,10 +1,9 @@
 //! Lists of metadata inside a configuration, which nested chains are made from.
 ghost use Rattle.std.specs.Prelude.{◌≡◌, Ok, map};
-ghost use Rattle.serde_json.specs.View.{view, items_view, members_view};
-ghost use Rattle.zarrs_chunk.specs.Answer.{Answers};
+ghost use Rattle.serde_json.specs.View.{view, items_view};
 ghost use Rattle.zarrs_metadata.specs.MetadataList.{metadata_among, metadata_at, metadata_list_tree};
-ghost use Rattle.zarrs_metadata.specs.MetadataV3.{metadata_seen};
-ghost use Rattle.zarrs_metadata.specs.PluginCreateError.{plugin_memory};
+ghost use Rattle.zarrs_metadata.specs.MetadataV3.{metadata_seen, configuration_seen};
+ghost use Rattle.zarrs_metadata.specs.PluginCreateError.{Makes};
 
 use crate::json::member;
 use crate::metadata_v3::{Configuration, MetadataV3};
@@ -13,7 +12,7 @@ use serde_json::Value;
 use std::alloc::Global;
 
 fn among(alloc: Global, items: &Vec<Value>) -> Result<Vec<MetadataV3>, PluginCreateError>
-    ensures { Answers plugin_memory (λ list. map metadata_seen list.items) result (metadata_among (items_view items.now.items)) }
+    ensures { Makes (λ v. map metadata_seen v.items) result (metadata_among (items_view items.now.items)) }
 {
     let mut list = Vec::with_capacity(alloc, items.len())?;
     for item in items {
@@ -29,7 +28,7 @@ pub(crate) fn codecs_at(
     configuration: &Configuration,
     key: &str,
 ) -> Result<Vec<MetadataV3>, PluginCreateError>
-    ensures answer { Answers plugin_memory (λ list. map metadata_seen list.items) result (metadata_at key.now (members_view configuration.now.entries)) }
+    ensures answer { Makes (λ v. map metadata_seen v.items) result (metadata_at key.now (configuration_seen configuration.now)) }
 {
     let Some(Value::Array(items)) = member(configuration, key) else {
         return Err(PluginCreateError::InvalidConfiguration);
@@ -39,7 +38,7 @@ pub(crate) fn codecs_at(
 
 /// The list of metadata, written. Refusals: `OutOfMemory`.
 pub(crate) fn tree_of_codecs(alloc: Global, list: &[MetadataV3]) -> Result<Value, PluginCreateError>
-    ensures answer { Answers plugin_memory view result (Ok (metadata_list_tree (map metadata_seen list.now))) }
+    ensures answer { Makes view result (Ok (metadata_list_tree (map metadata_seen list.now))) }
 {
     let mut items = Vec::with_capacity(alloc, list.len())?;
     for metadata in list {

@@ -1,8 +1,7 @@
+ghost use Rattle.zarrs_metadata.specs.MetadataV3.{configuration_seen, Writes};
 ghost use Rattle.std.specs.Prelude.{◌≡◌, Ok};
-ghost use Rattle.serde_json.specs.View.{members_view};
-ghost use Rattle.zarrs_chunk.specs.Answer.{Answers};
 ghost use Rattle.zarrs_metadata.specs.OptionalConfiguration.{optional_seen, read_optional, write_optional};
-ghost use Rattle.zarrs_metadata.specs.PluginCreateError.{plugin_memory};
+ghost use Rattle.zarrs_metadata.specs.PluginCreateError.{Makes};
 
 use crate::configuration::codecs::{codecs_at, tree_of_codecs};
 use crate::json::members_hold_float;
@@ -35,7 +34,7 @@ impl OptionalCodecConfiguration {
         alloc: Global,
         configuration: &Configuration,
     ) -> Result<OptionalCodecConfiguration, PluginCreateError>
-        ensures answer { Answers plugin_memory optional_seen result (read_optional (members_view configuration.now.entries)) }
+        ensures answer { Makes optional_seen result (read_optional (configuration_seen configuration.now)) }
     {
         if members_hold_float(configuration) {
             return Err(PluginCreateError::InvalidConfiguration);
@@ -50,7 +49,7 @@ impl OptionalCodecConfiguration {
 
     /// The members: `mask_codecs` and `data_codecs`. Refusals: `OutOfMemory`.
     pub fn to_configuration(&self, alloc: Global) -> Result<Configuration, PluginCreateError>
-        ensures answer { Answers plugin_memory (λ c. members_view c.entries) result (Ok (write_optional (optional_seen self.now))) }
+        ensures answer { Writes result (write_optional (optional_seen self.now)) }
     {
         let OptionalCodecConfiguration::V1(configuration) = self;
         let masks = tree_of_codecs(alloc, configuration.mask_codecs.as_slice())?;

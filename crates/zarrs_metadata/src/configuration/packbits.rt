@@ -1,8 +1,8 @@
+ghost use Rattle.zarrs_metadata.specs.MetadataV3.{configuration_seen, Writes};
 ghost use Rattle.std.specs.Prelude.{◌≡◌, Ok, option_map, IfOk};
-ghost use Rattle.serde_json.specs.View.{view, members_view};
-ghost use Rattle.zarrs_chunk.specs.Answer.{Answers, seen};
+ghost use Rattle.serde_json.specs.View.{view};
+ghost use Rattle.zarrs_chunk.specs.Answer.{seen};
 ghost use Rattle.zarrs_metadata.specs.PackBitsConfiguration.{packbits_seen, padding_named, padding_in, padding_or_none, padding_name, bit_tree, are_bits_in_order, read_packbits, write_packbits};
-ghost use Rattle.zarrs_metadata.specs.PluginCreateError.{plugin_memory};
 ghost use Rattle.zarrs_metadata.specs.Trees.{optional_key, whole_number};
 
 use crate::codec::packbits::PackBitsPaddingEncoding;
@@ -114,7 +114,7 @@ impl PackBitsCodecConfiguration {
     pub fn from_configuration(
         configuration: &Configuration,
     ) -> Result<PackBitsCodecConfiguration, PluginCreateError>
-        ensures answer { seen packbits_seen result ≡ read_packbits (members_view configuration.now.entries) }
+        ensures answer { seen packbits_seen result ≡ read_packbits (configuration_seen configuration.now) }
     {
         if members_hold_float(configuration) {
             return Err(PluginCreateError::InvalidConfiguration);
@@ -135,7 +135,7 @@ impl PackBitsCodecConfiguration {
     /// The members: always all three keys, "none" for no padding byte and null for a bit by
     /// default. Refusals: `OutOfMemory`.
     pub fn to_configuration(&self, alloc: Global) -> Result<Configuration, PluginCreateError>
-        ensures answer { Answers plugin_memory (λ c. members_view c.entries) result (Ok (write_packbits (packbits_seen self.now))) }
+        ensures answer { Writes result (write_packbits (packbits_seen self.now)) }
     {
         let PackBitsCodecConfiguration::V1(configuration) = self;
         let mut members = Map::new(alloc);

@@ -1,8 +1,9 @@
+ghost use Rattle.zarrs_metadata.specs.MetadataV3.{configuration_seen, Writes};
 ghost use Rattle.std.specs.Prelude.{◌≡◌, Ok, map, IfOk};
-ghost use Rattle.serde_json.specs.View.{view, items_of, items_view, members_view, number_view};
+ghost use Rattle.serde_json.specs.View.{view, items_of, items_view, number_view};
 ghost use Rattle.serde_json.specs.Data.{array};
-ghost use Rattle.zarrs_chunk.specs.Answer.{Answers, seen};
-ghost use Rattle.zarrs_metadata.specs.PluginCreateError.{plugin_memory};
+ghost use Rattle.zarrs_chunk.specs.Answer.{seen};
+ghost use Rattle.zarrs_metadata.specs.PluginCreateError.{Makes};
 ghost use Rattle.zarrs_metadata.specs.ReshapeConfiguration.{reshape_seen, dim_of_number, dim_in, dims_in, dim_tree, read_reshape, write_reshape};
 ghost use Rattle.zarrs_metadata.specs.ReshapeShape.{dim_of};
 ghost use Rattle.zarrs_metadata.specs.Trees.{needed, numbers_tree};
@@ -42,7 +43,7 @@ fn dim_by_number(number: &Number) -> Result<ReshapeDim, PluginCreateError>
 }
 
 fn dim(alloc: Global, tree: &Value) -> Result<ReshapeDim, PluginCreateError>
-    ensures { Answers plugin_memory dim_of result (dim_in (view tree.now)) }
+    ensures { Makes dim_of result (dim_in (view tree.now)) }
 {
     match tree {
         Value::Number(number) => dim_by_number(number),
@@ -52,7 +53,7 @@ fn dim(alloc: Global, tree: &Value) -> Result<ReshapeDim, PluginCreateError>
 }
 
 fn dims(alloc: Global, items: &Vec<Value>) -> Result<Vec<ReshapeDim>, PluginCreateError>
-    ensures { Answers plugin_memory (λ dims. map dim_of dims.items) result (dims_in (items_view items.now.items)) }
+    ensures { Makes (λ v. map dim_of v.items) result (dims_in (items_view items.now.items)) }
 {
     let mut dims = Vec::new(alloc);
     for item in items {
@@ -90,7 +91,7 @@ impl ReshapeCodecConfiguration {
         alloc: Global,
         configuration: &Configuration,
     ) -> Result<ReshapeCodecConfiguration, PluginCreateError>
-        ensures answer { Answers plugin_memory reshape_seen result (read_reshape (members_view configuration.now.entries)) }
+        ensures answer { Makes reshape_seen result (read_reshape (configuration_seen configuration.now)) }
     {
         if members_hold_float(configuration) {
             return Err(PluginCreateError::InvalidConfiguration);
@@ -105,7 +106,7 @@ impl ReshapeCodecConfiguration {
 
     /// The members: `shape`. Refusals: `OutOfMemory`.
     pub fn to_configuration(&self, alloc: Global) -> Result<Configuration, PluginCreateError>
-        ensures answer { Answers plugin_memory (λ c. members_view c.entries) result (Ok (write_reshape (reshape_seen self.now))) }
+        ensures answer { Writes result (write_reshape (reshape_seen self.now)) }
     {
         let ReshapeCodecConfiguration::V1(configuration) = self;
         let shape = tree_of_dims(alloc, configuration.shape.as_slice())?;

@@ -1,7 +1,7 @@
+ghost use Rattle.zarrs_metadata.specs.MetadataV3.{configuration_seen, Writes};
 ghost use Rattle.std.specs.Prelude.{◌≡◌, Ok, IfOk};
-ghost use Rattle.serde_json.specs.View.{view, members_view};
-ghost use Rattle.zarrs_chunk.specs.Answer.{Answers};
-ghost use Rattle.zarrs_metadata.specs.PluginCreateError.{plugin_memory};
+ghost use Rattle.serde_json.specs.View.{view};
+ghost use Rattle.zarrs_metadata.specs.PluginCreateError.{Makes};
 ghost use Rattle.zarrs_metadata.specs.TransposeConfiguration.{transpose_seen, read_transpose, write_transpose};
 ghost use Rattle.zarrs_metadata.specs.Trees.{number_list, numbers_tree};
 
@@ -38,7 +38,7 @@ fn as_axes(alloc: Global, numbers: &[u64]) -> Result<Vec<usize>, AllocError>
 }
 
 fn axes(alloc: Global, tree: &Value) -> Result<Vec<usize>, PluginCreateError>
-    ensures { Answers plugin_memory (λ axes. axes.items) result (number_list (view tree.now)) }
+    ensures { Makes (λ v. v.items) result (number_list (view tree.now)) }
 {
     let numbers = numbers(alloc, tree)?;
     Ok(as_axes(alloc, numbers.as_slice())?)
@@ -62,7 +62,7 @@ impl TransposeCodecConfiguration {
         alloc: Global,
         configuration: &Configuration,
     ) -> Result<TransposeCodecConfiguration, PluginCreateError>
-        ensures answer { Answers plugin_memory transpose_seen result (read_transpose (members_view configuration.now.entries)) }
+        ensures answer { Makes transpose_seen result (read_transpose (configuration_seen configuration.now)) }
     {
         if members_hold_float(configuration) {
             return Err(PluginCreateError::InvalidConfiguration);
@@ -77,7 +77,7 @@ impl TransposeCodecConfiguration {
 
     /// The members: `order`. Refusals: `OutOfMemory`.
     pub fn to_configuration(&self, alloc: Global) -> Result<Configuration, PluginCreateError>
-        ensures answer { Answers plugin_memory (λ c. members_view c.entries) result (Ok (write_transpose (transpose_seen self.now))) }
+        ensures answer { Writes result (write_transpose (transpose_seen self.now)) }
     {
         let TransposeCodecConfiguration::V1(configuration) = self;
         let order = axes_tree(alloc, configuration.order.as_slice())?;

@@ -1,8 +1,7 @@
 ghost use Rattle.std.specs.Prelude.{◌≡◌, Ok, map, option_map, IfOk};
-ghost use Rattle.serde_json.specs.View.{view, members_view};
-ghost use Rattle.zarrs_chunk.specs.Answer.{Answers};
-ghost use Rattle.zarrs_metadata.specs.MetadataV3.{metadata_seen};
-ghost use Rattle.zarrs_metadata.specs.PluginCreateError.{plugin_memory};
+ghost use Rattle.serde_json.specs.View.{view};
+ghost use Rattle.zarrs_metadata.specs.MetadataV3.{metadata_seen, configuration_seen, Writes};
+ghost use Rattle.zarrs_metadata.specs.PluginCreateError.{Makes};
 ghost use Rattle.zarrs_metadata.specs.VlenConfiguration.{vlen_seen, index_data_type_named, index_location_named, index_data_type_in, index_location_in, index_data_type_name, index_location_name, read_vlen, write_vlen};
 
 use crate::codec::vlen::{VlenIndexDataType, VlenIndexLocation};
@@ -139,7 +138,7 @@ fn members_of(
     index_data_type: VlenIndexDataType,
     index_location: Option<VlenIndexLocation>,
 ) -> Result<Configuration, PluginCreateError>
-    ensures { Answers plugin_memory (λ c. members_view c.entries) result (Ok (write_vlen (record { index_codecs = map metadata_seen index_codecs.now; data_codecs = map metadata_seen data_codecs.now; index_data_type = index_data_type; index_location = index_location }))) }
+    ensures { Writes result (write_vlen (record { index_codecs = map metadata_seen index_codecs.now; data_codecs = map metadata_seen data_codecs.now; index_data_type = index_data_type; index_location = index_location })) }
 {
     let index = tree_of_codecs(alloc, index_codecs)?;
     let elements = tree_of_codecs(alloc, data_codecs)?;
@@ -164,7 +163,7 @@ impl VlenCodecConfiguration {
         alloc: Global,
         configuration: &Configuration,
     ) -> Result<VlenCodecConfiguration, PluginCreateError>
-        ensures answer { Answers plugin_memory vlen_seen result (read_vlen (members_view configuration.now.entries)) }
+        ensures answer { Makes vlen_seen result (read_vlen (configuration_seen configuration.now)) }
     {
         if members_hold_float(configuration) {
             return Err(PluginCreateError::InvalidConfiguration);
@@ -179,7 +178,7 @@ impl VlenCodecConfiguration {
     /// The members: `index_codecs`, `data_codecs` and `index_data_type`, and in version 0.1
     /// `index_location`. Refusals: `OutOfMemory`.
     pub fn to_configuration(&self, alloc: Global) -> Result<Configuration, PluginCreateError>
-        ensures answer { Answers plugin_memory (λ c. members_view c.entries) result (Ok (write_vlen (vlen_seen self.now))) }
+        ensures answer { Writes result (write_vlen (vlen_seen self.now)) }
     {
         match self {
             VlenCodecConfiguration::V0(configuration) => members_of(

@@ -1,0 +1,14 @@
+//! Damaged values: each value below, cut at every length and changed in every byte to 0, 1 and 255, is
+//! decoded whole and read in part by the line tool. Without tests the crate is empty.
+//!
+//! Whole decode either refuses what the chain may refuse, or answers a chunk whose encoding is decoded
+//! to the same chunk. A read in part answers as the whole chunk does, or refuses as whole decode does;
+//! over `bytes` and `packbits` alone it rests on the bytes of its places, whatever the rest is.
+#![tactic(auto)]
+
+#[cfg(test)]
+mod damage;
+#[cfg(test)]
+mod lines;
+#[cfg(test)]
+mod rows;

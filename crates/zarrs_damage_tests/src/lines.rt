@@ -1,0 +1,26 @@
+//! What the line tool answers.
+
+use std::alloc::{AllocError, Global};
+use zarrs_chain_lines::run::run;
+
+/// The lines that come back to the header, a stored value, in hex, and a command.
+pub(crate) fn asked(
+    alloc: Global,
+    header: &str,
+    value: &str,
+    command: &str,
+    argument: &str,
+) -> Result<String, AllocError> {
+    let lines = format!(in alloc; "{header}\nload \"{value}\"\n{command}{argument}\n")?;
+    let mut reader: &[u8] = lines.as_bytes();
+    let mut written = Vec::new(alloc);
+    run(alloc, &mut reader, &mut written);
+    String::from_utf8_lossy(alloc, &written)?
+        .as_str()
+        .to_string(alloc)
+}
+
+/// The answer to the command, which stands below that to the stored value.
+pub(crate) fn answer(lines: &str) -> &str {
+    lines.lines().nth(1).unwrap_or("")
+}

@@ -1,0 +1,274 @@
+//! Values, and what may be asked of them.
+
+/// A place of a chunk, by its indices as they are sent; its number; and how many of a value's bytes an
+/// answer there needs: one more than the number of its last byte.
+pub(crate) struct Place {
+    pub(crate) indices: &'static str,
+    pub(crate) number: usize,
+    pub(crate) needs: usize,
+}
+
+/// A value and the chain that it is of, by the tool's header.
+pub(crate) struct Row {
+    pub(crate) name: &'static str,
+    pub(crate) header: &'static str,
+    /// The value, in hex.
+    pub(crate) value: &'static str,
+    /// The whole chunk, as a reading line names it.
+    pub(crate) whole: &'static str,
+    /// What whole decode may answer in place of a chunk.
+    pub(crate) refusals: &'static [&'static str],
+    /// Places whose elements are made of their own bytes alone. Without any, a read refuses whatever
+    /// whole decode refuses.
+    pub(crate) places: &'static [Place],
+    /// How many bytes at the beginning are no place's.
+    pub(crate) lead: usize,
+}
+
+/// Of `bytes` without bytes codecs.
+const OF_BYTES: &'static [&'static str] = &["error InvalidBytesLength"];
+
+const OF_PACKBITS: &'static [&'static str] = &["error InvalidBytesLength", "error PaddingByte"];
+
+const OF_VLEN: &'static [&'static str] = &[
+    "error InvalidBytesLength",
+    "error IndexLength",
+    "error InvalidOffsets",
+];
+
+/// Of texts whose bytes are packed: as many bits as the last offset tells may be more than 64 bits count.
+const OF_PACKED_TEXTS: &'static [&'static str] = &[
+    "error InvalidBytesLength",
+    "error IndexLength",
+    "error InvalidOffsets",
+    "error Overflow",
+];
+
+const OF_OPTIONAL: &'static [&'static str] = &[
+    "error InvalidBytesLength",
+    "error HeaderOverflow",
+    "error MaskValue",
+];
+
+/// Texts that may be absent.
+const OF_OPTIONAL_TEXTS: &'static [&'static str] = &[
+    "error InvalidBytesLength",
+    "error HeaderOverflow",
+    "error IndexLength",
+    "error InvalidOffsets",
+];
+
+const OF_LENGTH: &'static [&'static str] = &["error BytesCodec"];
+
+/// Elements of one size.
+pub(crate) const FIXED: &'static [Row] = &[
+    Row {
+        name: "bytes whose axes are turned",
+        header: r#"{"shape":[2,3],"data_type":"uint8","fill_value":"00","codecs":[{"name":"transpose","configuration":{"order":[1,0]}},"bytes"]}"#,
+        value: "000301040205",
+        whole: r#"{"ranges":[[0,2],[0,3]]}"#,
+        refusals: OF_BYTES,
+        places: &[
+            Place {
+                indices: "[0,1]",
+                number: 1,
+                needs: 3,
+            },
+            Place {
+                indices: "[1,0]",
+                number: 3,
+                needs: 2,
+            },
+            Place {
+                indices: "[1,2]",
+                number: 5,
+                needs: 6,
+            },
+        ],
+        lead: 0,
+    },
+    Row {
+        name: "words whose axes are turned twice",
+        header: r#"{"shape":[2,2,2],"data_type":"uint32","fill_value":"00000000","codecs":[{"name":"transpose","configuration":{"order":[0,2,1]}},{"name":"transpose","configuration":{"order":[2,0,1]}},{"name":"bytes","configuration":{"endian":"big"}}]}"#,
+        value: "0000000000000001000000040000000500000002000000030000000600000007",
+        whole: r#"{"ranges":[[0,2],[0,2],[0,2]]}"#,
+        refusals: OF_BYTES,
+        places: &[
+            Place {
+                indices: "[0,1,0]",
+                number: 2,
+                needs: 20,
+            },
+            Place {
+                indices: "[1,1,0]",
+                number: 6,
+                needs: 28,
+            },
+        ],
+        lead: 0,
+    },
+    Row {
+        name: "flags",
+        header: r#"{"shape":[8,5],"data_type":"bool","fill_value":"00","codecs":["packbits"]}"#,
+        value: "4992244992",
+        whole: r#"{"ranges":[[0,8],[0,5]]}"#,
+        refusals: OF_PACKBITS,
+        places: &[
+            Place {
+                indices: "[1,2]",
+                number: 7,
+                needs: 1,
+            },
+            Place {
+                indices: "[1,3]",
+                number: 8,
+                needs: 2,
+            },
+            Place {
+                indices: "[7,4]",
+                number: 39,
+                needs: 5,
+            },
+        ],
+        lead: 0,
+    },
+    Row {
+        name: "pairs of bits behind their padding byte",
+        header: r#"{"shape":[5],"data_type":"uint2","fill_value":"00","codecs":[{"name":"packbits","configuration":{"padding_encoding":"first_byte"}}]}"#,
+        value: "06e402",
+        whole: r#"{"ranges":[[0,5]]}"#,
+        refusals: OF_PACKBITS,
+        places: &[
+            Place {
+                indices: "[0]",
+                number: 0,
+                needs: 2,
+            },
+            Place {
+                indices: "[3]",
+                number: 3,
+                needs: 2,
+            },
+            Place {
+                indices: "[4]",
+                number: 4,
+                needs: 3,
+            },
+        ],
+        lead: 1,
+    },
+    Row {
+        name: "three bits of four",
+        header: r#"{"shape":[3],"data_type":"int4","fill_value":"00","codecs":[{"name":"packbits","configuration":{"first_bit":1}}]}"#,
+        value: "3b01",
+        whole: r#"{"ranges":[[0,3]]}"#,
+        refusals: OF_PACKBITS,
+        places: &[
+            Place {
+                indices: "[1]",
+                number: 1,
+                needs: 1,
+            },
+            Place {
+                indices: "[2]",
+                number: 2,
+                needs: 2,
+            },
+        ],
+        lead: 0,
+    },
+    Row {
+        name: "bytes behind their length",
+        header: r#"{"shape":[2],"data_type":"uint8","fill_value":"00","codecs":["bytes","sample.length"]}"#,
+        value: "02000000000000000102",
+        whole: r#"{"ranges":[[0,2]]}"#,
+        refusals: OF_LENGTH,
+        places: &[],
+        lead: 0,
+    },
+    Row {
+        name: "bytes behind their length, turned round",
+        header: r#"{"shape":[2],"data_type":"uint8","fill_value":"00","codecs":["bytes","sample.length","sample.reverse"]}"#,
+        value: "02010000000000000002",
+        whole: r#"{"ranges":[[0,2]]}"#,
+        refusals: OF_LENGTH,
+        places: &[],
+        lead: 0,
+    },
+];
+
+/// Texts, and elements that may be absent.
+pub(crate) const VARIABLE: &'static [Row] = &[
+    Row {
+        name: "texts behind their offsets",
+        header: r#"{"shape":[2],"data_type":"string","fill_value":"","codecs":[{"name":"zarrs.vlen","configuration":{"index_codecs":[{"name":"bytes","configuration":{"endian":"little"}}],"data_codecs":["bytes"],"index_data_type":"uint64","index_location":"start"}}]}"#,
+        value: "1800000000000000000000000000000001000000000000000300000000000000616263",
+        whole: r#"{"ranges":[[0,2]]}"#,
+        refusals: OF_VLEN,
+        places: &[],
+        lead: 0,
+    },
+    Row {
+        name: "texts before their offsets",
+        header: r#"{"shape":[2],"data_type":"string","fill_value":"","codecs":[{"name":"zarrs.vlen","configuration":{"index_codecs":[{"name":"bytes","configuration":{"endian":"little"}}],"data_codecs":["bytes"],"index_data_type":"uint32","index_location":"end"}}]}"#,
+        value: "6162630000000001000000030000000c00000000000000",
+        whole: r#"{"ranges":[[0,2]]}"#,
+        refusals: OF_VLEN,
+        places: &[],
+        lead: 0,
+    },
+    Row {
+        name: "texts whose axes are turned, turned round",
+        header: r#"{"shape":[2,3],"data_type":"string","fill_value":"","codecs":[{"name":"transpose","configuration":{"order":[1,0]}},{"name":"zarrs.vlen","configuration":{"index_codecs":[{"name":"bytes","configuration":{"endian":"little"}}],"data_codecs":["bytes"],"index_data_type":"uint64","index_location":"start"}},"sample.reverse"]}"#,
+        value: "656463626132317362613230736463626131317361313073636261303173303073000000000000002100000000000000190000000000000014000000000000000d0000000000000009000000000000000300000000000000000000000000000038",
+        whole: r#"{"ranges":[[0,2],[0,3]]}"#,
+        refusals: OF_VLEN,
+        places: &[],
+        lead: 0,
+    },
+    Row {
+        name: "offsets of two bits",
+        header: r#"{"shape":[1],"data_type":"string","fill_value":"","codecs":[{"name":"zarrs.vlen","configuration":{"index_codecs":[{"name":"packbits","configuration":{"last_bit":1}}],"data_codecs":["bytes"],"index_data_type":"uint64","index_location":"start"}}]}"#,
+        value: "01000000000000000c616263",
+        whole: r#"{"ranges":[[0,1]]}"#,
+        refusals: OF_VLEN,
+        places: &[],
+        lead: 0,
+    },
+    Row {
+        name: "texts of half bytes",
+        header: r#"{"shape":[2],"data_type":"string","fill_value":"","codecs":[{"name":"zarrs.vlen","configuration":{"index_codecs":[{"name":"bytes","configuration":{"endian":"little"}}],"data_codecs":[{"name":"packbits","configuration":{"last_bit":3}}],"index_data_type":"uint64","index_location":"start"}}]}"#,
+        value: "180000000000000000000000000000000100000000000000020000000000000021",
+        whole: r#"{"ranges":[[0,2]]}"#,
+        refusals: OF_PACKED_TEXTS,
+        places: &[],
+        lead: 0,
+    },
+    Row {
+        name: "bytes that may be absent",
+        header: r#"{"shape":[3],"data_type":{"optional":"uint8"},"fill_value":"00","codecs":[{"name":"optional","configuration":{"mask_codecs":["bytes"],"data_codecs":["bytes"]}}]}"#,
+        value: "030000000000000002000000000000000100010507",
+        whole: r#"{"ranges":[[0,3]]}"#,
+        refusals: OF_OPTIONAL,
+        places: &[],
+        lead: 0,
+    },
+    Row {
+        name: "bytes that may be absent at two levels",
+        header: r#"{"shape":[3],"data_type":{"optional":{"optional":"uint8"}},"fill_value":"00","codecs":[{"name":"optional","configuration":{"mask_codecs":["bytes"],"data_codecs":[{"name":"optional","configuration":{"mask_codecs":["bytes"],"data_codecs":["bytes"]}}]}}]}"#,
+        value: "030000000000000013000000000000000101000200000000000000010000000000000001002a",
+        whole: r#"{"ranges":[[0,3]]}"#,
+        refusals: OF_OPTIONAL,
+        places: &[],
+        lead: 0,
+    },
+    Row {
+        name: "texts that may be absent, behind flags",
+        header: r#"{"shape":[2],"data_type":{"optional":"string"},"fill_value":"00","codecs":[{"name":"optional","configuration":{"mask_codecs":["packbits"],"data_codecs":[{"name":"zarrs.vlen","configuration":{"index_codecs":[{"name":"bytes","configuration":{"endian":"little"}}],"data_codecs":["bytes"],"index_data_type":"uint64","index_location":"start"}}]}}]}"#,
+        value: "01000000000000001a00000000000000011000000000000000000000000000000002000000000000006869",
+        whole: r#"{"ranges":[[0,2]]}"#,
+        refusals: OF_OPTIONAL_TEXTS,
+        places: &[],
+        lead: 0,
+    },
+];
