@@ -1,12 +1,14 @@
--- What codecs answer of types and of encoded shapes.
-use Rattle.std.specs.Prelude.{ℕ, not, is_some, List, Result, Ok, Option, Some, None}
-use Rattle.zarrs_chunk.specs.Answer.{demand, seen}
+-- What codecs answer of types, of encoded shapes and of containers.
+use Rattle.std.specs.Prelude.{◌≡◌, ℕ, not, is_some, List, Result, Ok, Option, Some, None}
+use Rattle.zarrs_chunk.specs.Answer.{demand, seen, GivesBy}
 use Rattle.zarrs_chunk.specs.declared.codec_error.CodecError.{CodecError}
 use Rattle.zarrs_chunk.specs.declared.codec_error.CodecError.TheVariants.{UnsupportedDataType}
 use Rattle.zarrs_chunk.specs.declared.codec_error.CodecName.TheVariants.{Transpose}
 use Rattle.zarrs_data_type.specs.ElementType.{ElementType, inner_of}
+use Rattle.zarrs_array_bytes.specs.Held.{Held}
+use Rattle.zarrs_array_bytes.specs.Validity.{Holds}
 use Rattle.zarrs_array_to_array.specs.ArrayToArrayCodec.{ArrayMapping, transpose, reshape, squeeze}
-use Rattle.zarrs_array_to_array.specs.TransposeCodec.{transposed_back_sizes}
+use Rattle.zarrs_array_to_array.specs.TransposeCodec.{transposed_back_sizes, transpose_encoded, transpose_decoded}
 
 -- the codec takes elements of the type: transposition of those that are not optional, the others of all
 abbrev pub type_taken : ArrayMapping → ElementType → Result (Unit {0}) CodecError
@@ -19,3 +21,17 @@ abbrev pub sizes_before : ArrayMapping → List ℕ → Result (Option (List ℕ
 sizes_before (transpose order) sizes = seen (λ decoded. Some decoded) (transposed_back_sizes order sizes)
 sizes_before (reshape dims) sizes = Ok None
 sizes_before squeeze sizes = Ok None
+
+-- what `encode` gives of a container: transposition its encoded chunk or its first refusal, the others the container as it is
+abbrev pub EncodesHeld : ArrayMapping → ElementType → List ℕ → Held → Result Held CodecError → Type 0
+EncodesHeld (transpose order) type sizes held result =
+    GivesBy (Holds type) result (transpose_encoded order type sizes held)
+EncodesHeld (reshape dims) type sizes held result = result ≡ Ok held
+EncodesHeld squeeze type sizes held result = result ≡ Ok held
+
+-- what `decode` gives of a container, in the same way
+abbrev pub DecodesHeld : ArrayMapping → ElementType → List ℕ → Held → Result Held CodecError → Type 0
+DecodesHeld (transpose order) type sizes held result =
+    GivesBy (Holds type) result (transpose_decoded order type sizes held)
+DecodesHeld (reshape dims) type sizes held result = result ≡ Ok held
+DecodesHeld squeeze type sizes held result = result ≡ Ok held

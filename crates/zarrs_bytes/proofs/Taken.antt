@@ -1,6 +1,6 @@
 -- What is known of chunks that the codec takes.
 use Rattle.zarrs_data_type.specs.Form.{form_of}
-use Rattle.std.proofs.Common.{◌≡◌, ℕ, ◌*◌, ◌<◌, ◌^◌, true, Option, Result, Ok, Err, List, arith, refl}
+use Rattle.std.proofs.Common.{◌≡◌, ℕ, ◌+◌, ◌-◌, ◌*◌, ◌<◌, ◌≤◌, ◌^◌, true, Option, Result, Ok, Err, List, arith, refl, ap, sym, ◌∙◌}
 use Rattle.std.specs.Prelude.{is_ok, is_some}
 use Rattle.zarrs_chunk.specs.ChunkShape.{product}
 use Rattle.zarrs_chunk.specs.declared.codec_error.CodecError.{CodecError}
@@ -40,3 +40,35 @@ taken_small order sizes (fixed width components sign) fill h =
 taken_small order sizes text fill h = absurd cc
 taken_small order sizes bytes fill h = absurd cc
 taken_small order sizes (optional type) fill h = absurd cc
+
+-- how long its value is
+length_is : (order : Option Endianness) (sizes : List ℕ) (type : ElementType) (fill : List ℕ) (len : ℕ) → bytes_length order (form_of sizes type fill) ≡ Ok len → len ≡ product sizes * place_size type
+length_is order sizes (fixed width components sign) fill len e = (taken order sizes width components sign fill len e).len_is
+length_is order sizes text fill len e = absurd cc
+length_is order sizes bytes fill len e = absurd cc
+length_is order sizes (optional type) fill len e = absurd cc
+
+more_elements : (count more size : ℕ) → (count + more) * size ≡ count * size + more * size
+more_elements count more size = omega arith
+
+up_to : (count other : ℕ) → count ≤ other → other ≡ count + (other - count)
+up_to count other l = omega arith
+
+-- the length rests on the count of elements
+pub length_by_count : (order : Option Endianness) (sizes other_sizes : List ℕ) (type : ElementType) (fill : List ℕ) → product sizes ≡ product other_sizes → bytes_length order (form_of sizes type fill) ≡ bytes_length order (form_of other_sizes type fill)
+length_by_count order sizes other_sizes (fixed width components sign) fill e = rw e refl
+length_by_count order sizes other_sizes text fill e = refl
+length_by_count order sizes other_sizes bytes fill e = refl
+length_by_count order sizes other_sizes (optional type) fill e = refl
+
+-- and grows with it
+pub length_grows : (order : Option Endianness) (sizes other_sizes : List ℕ) (type : ElementType) (fill other_fill : List ℕ) (len other_len : ℕ)
+    → bytes_length order (form_of sizes type fill) ≡ Ok len → bytes_length order (form_of other_sizes type other_fill) ≡ Ok other_len → product sizes ≤ product other_sizes
+    → other_len ≡ len + (product other_sizes - product sizes) * place_size type
+length_grows order sizes other_sizes type fill other_fill len other_len e f l =
+    let size = place_size type in
+    let more = product other_sizes - product sizes in
+    length_is order other_sizes type other_fill other_len f
+    ∙ ap (λ (count : ℕ). count * size) (up_to (product sizes) (product other_sizes) l)
+    ∙ more_elements (product sizes) more size
+    ∙ ap (λ (bytes : ℕ). bytes + more * size) (sym (length_is order sizes type fill len e))

@@ -1,6 +1,6 @@
 -- Laws of the codec `bytes`.
 use Rattle.zarrs_data_type.specs.Form.{form_of}
-use Rattle.std.specs.Prelude.{◌≡◌, ◌<◌, ◌↔◌, ℕ, Option, Some, List, length, true, is_ok, Ok}
+use Rattle.std.specs.Prelude.{◌≡◌, ◌<◌, ◌≤◌, ◌+◌, ◌-◌, ◌*◌, ◌↔◌, ℕ, Option, Some, List, length, true, is_ok, Ok}
 use Rattle.std.specs.List.{All}
 use Rattle.zarrs_data_type.specs.Element.{Chunk}
 use Rattle.zarrs_data_type.specs.ElementType.{ElementType}
@@ -59,3 +59,16 @@ WriteUpdates =
     (order : Option Endianness) (sizes : List ℕ) (type : ElementType) (fill : List ℕ) (stored : Option (List ℕ)) (chunk : Chunk) (places : List ℕ) (new : Held)
     → is_ok (bytes_length order (form_of sizes type fill)) ≡ true → StartsFrom order (form_of sizes type fill) stored chunk → All (λ place. place < product sizes) places → data_fit type (length places) new ≡ Ok tt
     → BytesWritten order (form_of sizes type fill) (bytes_left order (form_of sizes type fill) stored places new) (with_elements type chunk places new)
+
+-- Of as many elements a value is as long, or there is none by the same refusal, whatever the sizes.
+abbrev pub LengthByCount : Type 0
+LengthByCount =
+    (order : Option Endianness) (sizes other_sizes : List ℕ) (type : ElementType) (fill : List ℕ)
+    → product sizes ≡ product other_sizes → bytes_length order (form_of sizes type fill) ≡ bytes_length order (form_of other_sizes type fill)
+
+-- Of more elements a value is longer: by as many bytes as the elements have that it has more. Fill values don't change it.
+abbrev pub LengthGrows : Type 0
+LengthGrows =
+    (order : Option Endianness) (sizes other_sizes : List ℕ) (type : ElementType) (fill other_fill : List ℕ) (len other_len : ℕ)
+    → bytes_length order (form_of sizes type fill) ≡ Ok len → bytes_length order (form_of other_sizes type other_fill) ≡ Ok other_len → product sizes ≤ product other_sizes
+    → other_len ≡ len + (product other_sizes - product sizes) * place_size type

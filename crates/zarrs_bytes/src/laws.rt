@@ -1,5 +1,5 @@
 //! Laws of the codec, over its definitions. The functions do nothing; their contracts are the laws.
-ghost use Rattle.zarrs_bytes.specs.Laws.{WrittenStands, StandsForOne, WrittenAlike, HasRepresentedLength, ReadSelects, ReadsAlike, WriteUpdates};
+ghost use Rattle.zarrs_bytes.specs.Laws.{WrittenStands, StandsForOne, WrittenAlike, HasRepresentedLength, ReadSelects, ReadsAlike, WriteUpdates, LengthByCount, LengthGrows};
 
 /// A value that is written for a chunk stands for it.
 pub fn written_stands()
@@ -36,4 +36,14 @@ pub fn reads_alike()
 /// with these elements: over a value that stands for a chunk, and where nothing is stored.
 pub fn write_updates()
     ensures law { WriteUpdates }
+{}
+
+/// How long a value is, or why there is none, depends on the sizes by the count of elements alone.
+pub fn length_by_count()
+    ensures law { LengthByCount }
+{}
+
+/// Each element more makes a value longer by the bytes of one element.
+pub fn length_grows()
+    ensures law { LengthGrows }
 {}

@@ -1,10 +1,11 @@
 -- Reads in part.
 use Rattle.zarrs_data_type.specs.Form.{form_of}
 use Rattle.std.proofs.Common.{◌≡◌, ℕ, zero, suc, ◌+◌, ◌-◌, ◌*◌, ◌<◌, ◌≤◌, ◌^◌, ◌&&◌, Bool, true, false, nat_lt, Option, Some, None, Result, Ok, Err, List, [], ◌∷◌, ◌++◌, length, map, arith, refl, ap, sym, ◌∙◌, subst, if◌then◌else◌}
-use Rattle.std.specs.List.{concat, flat_map, list_all, range_with_len, sum_by}
+use Rattle.std.specs.List.{All, concat, flat_map, list_all, range_with_len, sum_by}
 use Rattle.std.specs.Prelude.{IsOkAnd}
 use Rattle.std.proofs.lemmas.Bool.Decides.{nat_tests}
 use Rattle.std.proofs.lemmas.List.{length-append}
+use Rattle.std.proofs.lemmas.List.Elements.{All-nil, All-cons}
 use Rattle.std.proofs.lemmas.List.Concat.{flat_map-append}
 use Rattle.std.proofs.lemmas.List.Folds.{list_all-append}
 use Rattle.std.proofs.lemmas.List.FromFn.{length-range_with_len}
@@ -30,7 +31,7 @@ use Rattle.zarrs_packbits.specs.PartialRead.{span_start, span_end, packed_place_
 use Rattle.zarrs_packbits.specs.ReadPlan.{run_start, run_end, run_span, spans, IsPlan}
 use Rattle.zarrs_packbits.proofs.ElementBits.{AllLong, element_long, places_hold, plain_holds}
 use Rattle.zarrs_packbits.proofs.FlatRead.{are_runs}
-use Rattle.zarrs_packbits.proofs.RunLemmas.{all_at, all_from, place_end, runs_sure, whole_run_start, whole_run_end, head_of, tail_of}
+use Rattle.zarrs_packbits.proofs.RunLemmas.{all_at, all_from, is_run, place_end, runs_sure, whole_run_start, whole_run_end, head_of, tail_of}
 use Rattle.zarrs_packbits.proofs.Taken.{taken}
 use Rattle.zarrs_packbits.proofs.Tests.{and_first, and_second, from_nat_le}
 
@@ -138,9 +139,17 @@ runs_sum l (p ∷ runs) (r ∷ rs) s w e =
     let m : (p.1 + length (joined_runs runs)) * size ≡ p.1 * size + length (joined_runs runs) * size = omega arith in
     sum_by-cons (λ (r : ByteSpan). r.end - r.start) r rs ∙ omega (arith, a, b, d, runs_sum l runs rs s w rest, m) ∙ ap (λ k. k * size) (sym n)
 
+-- no run is empty
+runs_filled : (count : ℕ) (runs : List (ℕ × ℕ)) → are_runs count runs ≡ true → All (λ (run : ℕ × ℕ). 0 < run.1) runs
+runs_filled count [] h = All-nil (λ (run : ℕ × ℕ). 0 < run.1)
+runs_filled count (run ∷ runs) h =
+    let first = is_run count run runs h in
+    All-cons (λ (run : ℕ × ℕ). 0 < run.1) run runs first.some (runs_filled count runs first.rest)
+
 pub is_plan : (l : PackedLayout) (runs : List (ℕ × ℕ)) (rs : List ByteSpan) (places : List ℕ) → IsPackedLayout l → are_runs l.elements runs ≡ true → spans rs ≡ map (run_span l) runs → joined_runs runs ≡ places → IsPlan l places rs
 is_plan l runs rs places s h e same = record {
   runs = runs;
+  filled = runs_filled l.elements runs h;
   joined = same;
   each = e;
   bytes = λ test. same_bools (list_all test (range_indices rs)) (list_all test (packed_places_bytes l places))

@@ -1,6 +1,6 @@
 -- The bytes of runs of places that follow one another, and the plan of a read.
-use Rattle.std.specs.Prelude.{◌≡◌, ℕ, ◌+◌, ◌-◌, ◌*◌, ◌/◌, ◌%◌, List, [], ◌∷◌, ◌++◌, map, length, take, drop, Bool, true}
-use Rattle.std.specs.List.{list_all, sum_by}
+use Rattle.std.specs.Prelude.{◌≡◌, ℕ, ◌+◌, ◌-◌, ◌*◌, ◌/◌, ◌%◌, ◌<◌, List, [], ◌∷◌, ◌++◌, map, length, take, drop, Bool, true}
+use Rattle.std.specs.List.{All, list_all, sum_by}
 use Rattle.zarrs_chunk.specs.Runs.{joined_runs}
 use Rattle.zarrs_codec.specs.ByteRanges.{range_indices}
 use Rattle.zarrs_codec.specs.ByteSpan.{ByteSpan}
@@ -31,9 +31,10 @@ spans ranges = map (λ range. (range.start, range.end)) ranges
 abbrev pub SameNumbers : List ℕ → List ℕ → Type 0
 SameNumbers numbers others = (test : ℕ → Bool) → list_all test numbers ≡ list_all test others
 
--- The ranges are a plan of a read of these places: the places are cut, in order, into runs of consecutive places, and each range is the bytes of one run. Joined they are the places' bytes and no others. Where all bits of whole bytes are kept, they have as many bytes as the elements.
+-- The ranges are a plan of a read of these places: the places are cut, in order, into runs of consecutive places, none of them empty, and each range is the bytes of one run. Joined they are the places' bytes and no others. Where all bits of whole bytes are kept, they have as many bytes as the elements.
 pub record IsPlan (l : PackedLayout) (places : List ℕ) (ranges : List ByteSpan) : Type 0 where
   pub runs : List (ℕ × ℕ)
+  pub filled : All (λ run. 0 < run.1) runs
   pub joined : joined_runs runs ≡ places
   pub each : spans ranges ≡ map (run_span l) runs
   pub bytes : SameNumbers (range_indices ranges) (packed_places_bytes l places)

@@ -7,10 +7,15 @@ use zarrs_codec::{ArrayToBytesCodecTraits, BytesRepresentation};
 use zarrs_data_type::{DataType, FillValue};
 
 impl ArrayToBytesCodecTraits for PackBitsCodec {
-    ghost use Rattle.zarrs_chunk.specs.Answer.{seen};
+    ghost use Rattle.std.specs.Prelude.{◌≡◌, Ok, IfOk, true};
+    ghost use Rattle.zarrs_chunk.specs.Answer.{AnswersBy, Gives, GivesBy, never, seen};
+    ghost use Rattle.zarrs_chunk.specs.ChunkShape.{product};
+    ghost use Rattle.zarrs_data_type.specs.Form.{form_of};
+    ghost use Rattle.zarrs_array_bytes.specs.Held.{flen, items_of, raw_of};
+    ghost use Rattle.zarrs_array_bytes.specs.Validity.{Holds, validity};
     ghost use Rattle.zarrs_codec.specs.declared.bytes_representation.BytesRepresentation.TheVariants.{FixedSize};
     ghost use Rattle.zarrs_packbits.specs.PackBitsCodec.{packbits_value, packbits_chunk};
-    ghost use Rattle.zarrs_packbits.specs.PackBitsSettings.{packbits_length};
+    ghost use Rattle.zarrs_packbits.specs.PackBitsSettings.{keeps_all_bytes, packbits_length, packed_layout};
 
     ghost represented = { λ settings form. seen FixedSize (packbits_length settings form) };
 
@@ -26,7 +31,10 @@ impl ArrayToBytesCodecTraits for PackBitsCodec {
         shape: &ChunkShape,
         data_type: &DataType,
         fill_value: &FillValue,
-    ) -> Result<BytesRepresentation, CodecError> {
+    ) -> Result<BytesRepresentation, CodecError>
+        ensures answer { Gives (λ representation. representation) result (seen FixedSize (packbits_length self.now (form_of shape.now data_type.now fill_value.now))) }
+        ensures in_place { result ≡ seen FixedSize (packbits_length self.now (form_of shape.now data_type.now fill_value.now)) }
+    {
         let layout = self.layout(shape, data_type, fill_value)?;
         Ok(BytesRepresentation::FixedSize(layout.value_len()))
     }
@@ -38,7 +46,11 @@ impl ArrayToBytesCodecTraits for PackBitsCodec {
         shape: &ChunkShape,
         data_type: &DataType,
         fill_value: &FillValue,
-    ) -> Result<ArrayBytesRaw<'a>, CodecError> {
+    ) -> Result<ArrayBytesRaw<'a>, CodecError>
+        ensures answer { Gives items_of result (packbits_value self.now (form_of shape.now data_type.now fill_value.now) elements.entry) }
+        ensures in_place { keeps_all_bytes (packed_layout self.now (form_of shape.now data_type.now fill_value.now)) ≡ true → seen items_of result ≡ packbits_value self.now (form_of shape.now data_type.now fill_value.now) elements.entry }
+        ensures kept { keeps_all_bytes (packed_layout self.now (form_of shape.now data_type.now fill_value.now)) ≡ true → IfOk result (λ value. elements.entry ≡ flen (raw_of value)) }
+    {
         PackBitsCodec::encode(self, alloc, elements, shape, data_type, fill_value)
     }
 
@@ -50,7 +62,12 @@ impl ArrayToBytesCodecTraits for PackBitsCodec {
         shape: &ChunkShape,
         data_type: &DataType,
         fill_value: &FillValue,
-    ) -> Result<ArrayBytes<'a>, CodecError> {
+    ) -> Result<ArrayBytes<'a>, CodecError>
+        ensures answer { GivesBy (Holds data_type.now) result (packbits_chunk self.now (form_of shape.now data_type.now fill_value.now) (items_of value.entry)) }
+        ensures valid { IfOk result (λ elements. validity data_type.now (product shape.now) elements ≡ Ok tt) }
+        ensures in_place { keeps_all_bytes (packed_layout self.now (form_of shape.now data_type.now fill_value.now)) ≡ true → AnswersBy never (Holds data_type.now) result (packbits_chunk self.now (form_of shape.now data_type.now fill_value.now) (items_of value.entry)) }
+        ensures kept { keeps_all_bytes (packed_layout self.now (form_of shape.now data_type.now fill_value.now)) ≡ true → IfOk result (λ elements. elements ≡ flen (raw_of value.entry)) }
+    {
         PackBitsCodec::decode(self, alloc, value, shape, data_type, fill_value)
     }
 
