@@ -147,7 +147,6 @@ fn replaces<H: BytesPartialEncoderTraits>(
 fn erases<H: BytesPartialEncoderTraits>(rt: &impl Abort, handle: &mut H) {
     is(rt, "in part", &handle.supports_partial_encode(), &true);
     is(rt, "atomic", &handle.is_atomic(), &true);
-    is(rt, "constant", &H::ATOMIC, &true);
     is(rt, "erased", &handle.erase(), &Ok(()));
     is(rt, "erased again", &handle.erase(), &Ok(()));
     is(rt, "there", &handle.exists(), &Ok(false));

@@ -111,8 +111,6 @@ impl BytesPartialDecoderTraits for FailingHandle {
 }
 
 impl BytesPartialEncoderTraits for FailingHandle {
-    const ATOMIC: bool = true;
-
     ghost atomic = { true };
 
     ghost writes_ranges = { true };

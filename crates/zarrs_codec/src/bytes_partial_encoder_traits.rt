@@ -13,10 +13,7 @@ use zarrs_chunk::CodecError;
 /// answers. One that is refused leaves the value as it was where the handle is atomic, and else may
 /// leave any. What else the state has is kept, but for the failure that is answered.
 pub trait BytesPartialEncoderTraits: BytesPartialDecoderTraits {
-    /// Whether a writing call that is refused leaves the value as it was.
-    const ATOMIC: bool;
-
-    // The same for clauses, as a constant of a lent handle can't be named there.
+    // Whether a writing call that is refused leaves the value as it was.
     ghost atomic: { Bool };
 
     // Whether the handle writes pieces without the rest.
@@ -62,14 +59,12 @@ pub trait BytesPartialEncoderTraits: BytesPartialDecoderTraits {
     fn supports_partial_encode(&self) -> bool
         ensures value { result ≡ writes_ranges };
 
-    /// What `ATOMIC` says.
+    /// Whether a writing call that is refused leaves the value as it was.
     fn is_atomic(&self) -> bool
         ensures value { result ≡ atomic };
 }
 
 impl<H: BytesPartialEncoderTraits> BytesPartialEncoderTraits for &mut H {
-    const ATOMIC: bool = H::ATOMIC;
-
     ghost atomic = { H.atomic };
 
     ghost writes_ranges = { H.writes_ranges };

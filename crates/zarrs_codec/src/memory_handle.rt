@@ -204,8 +204,6 @@ fn write_grown(value: &mut Vec<u8>, pieces: &[(u64, u64)], bytes: &[u8]) -> Resu
 }
 
 impl BytesPartialEncoderTraits for MemoryHandle {
-    const ATOMIC: bool = true;
-
     ghost atomic = { true };
 
     ghost writes_ranges = { true };

@@ -131,8 +131,6 @@ impl BytesPartialDecoderTraits for FailingHandle {
 impl BytesPartialEncoderTraits for FailingHandle {
     ghost use Rattle.std.specs.Prelude.{true};
 
-    const ATOMIC: bool = true;
-
     ghost atomic = { true };
 
     ghost writes_ranges = { true };

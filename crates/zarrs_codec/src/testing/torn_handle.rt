@@ -155,8 +155,6 @@ impl BytesPartialDecoderTraits for TornHandle {
 impl BytesPartialEncoderTraits for TornHandle {
     ghost use Rattle.std.specs.Prelude.{true, false};
 
-    const ATOMIC: bool = false;
-
     ghost atomic = { false };
 
     ghost writes_ranges = { true };
