@@ -20,3 +20,4 @@ pub mod PresentLemmas
 pub mod PresentAnswers
 pub mod TargetLemmas
 pub mod ViewLaw
+pub mod CountLaw

@@ -1,14 +1,15 @@
 -- Laws over the definitions alone.
-use Rattle.std.specs.Prelude.{◌≡◌, ◌≢◌, ℕ, ◌*◌, ◌<◌, true, nat_lt, List, length, get_or, All, Ok}
+use Rattle.std.specs.Prelude.{◌≡◌, ◌≢◌, ℕ, ◌+◌, ◌*◌, ◌<◌, true, nat_lt, List, length, get_or, All, Ok, Option, Some, None}
+use Rattle.std.specs.Option.{option_map}
 use Rattle.std.specs.List.{list_all, flat_map}
 use Rattle.std.specs.List.Sorted.{IsStrictlyIncreasing}
 use Rattle.zarrs_chunk.specs.Region.{Region}
-use Rattle.zarrs_data_type.specs.ElementType.{ElementType, optional}
+use Rattle.zarrs_data_type.specs.ElementType.{ElementType, fixed, text, bytes, optional, element_size}
 use Rattle.zarrs_data_type.specs.Element.{absent, Chunk, AreElements}
-use Rattle.zarrs_array_bytes.specs.Held.{Raw, Held, masked}
+use Rattle.zarrs_array_bytes.specs.Held.{Raw, Held, masked, byte_count}
 use Rattle.zarrs_array_bytes.specs.Elements.{piece, select}
 use Rattle.zarrs_array_bytes.specs.FixedView.{FixedView, fixed_view, written_bytes, written_view, elements_fit}
-use Rattle.zarrs_array_bytes.specs.Validity.{sizes_fit, Holds}
+use Rattle.zarrs_array_bytes.specs.Validity.{sizes_fit, validity, Holds}
 use Rattle.zarrs_array_bytes.specs.Update.{update}
 use Rattle.zarrs_array_bytes.specs.Present.{present_elements, mask_of, expansion, present_places, present_count, present_chunk, expanded_chunk}
 
@@ -84,3 +85,15 @@ abbrev pub OtherElementsStay : Type 0
 OtherElementsStay =
     (view : FixedView) (new : List ℕ) (place : ℕ) → IsView view → elements_fit view new ≡ Ok tt → place < view.count → IsUntouched view.places place
     → piece view.element_size (written_bytes view new) place ≡ piece view.element_size view.bytes place
+
+-- how many bytes an element of the type takes in a container, with its mask bytes; none where elements of the type differ in it
+abbrev pub bytes_each : ElementType → Option ℕ
+bytes_each (fixed width components sign) = Some (element_size width components)
+bytes_each text = None
+bytes_each bytes = None
+bytes_each (optional type) = option_map (λ each. each + 1) (bytes_each type)
+
+-- A container of elements that all take as many bytes has these bytes and no others.
+abbrev pub ContainersAreCounted : Type 0
+ContainersAreCounted =
+    (type : ElementType) (count each : ℕ) (held : Held) → bytes_each type ≡ Some each → validity type count held ≡ Ok tt → byte_count held ≡ count * each

@@ -1,5 +1,5 @@
 //! Laws over the definitions alone: each function's contract is one.
-ghost use Rattle.zarrs_array_bytes.specs.Laws.{HeldAreElements, UpdateThenSelect, PresentElementsAreHeld, ExpandedElementsAreHeld, ExpansionRestores, ExpansionKeepsElements, SubsetsAreViews, WrittenElementsStand, OtherElementsStay};
+ghost use Rattle.zarrs_array_bytes.specs.Laws.{HeldAreElements, UpdateThenSelect, PresentElementsAreHeld, ExpandedElementsAreHeld, ExpansionRestores, ExpansionKeepsElements, SubsetsAreViews, WrittenElementsStand, OtherElementsStay, ContainersAreCounted};
 
 /// What a container holds as elements of a type are elements of that type.
 pub fn held_are_elements()
@@ -27,4 +27,10 @@ pub fn views_write_their_places()
     ensures subsets { SubsetsAreViews }
     ensures written { WrittenElementsStand }
     ensures others { OtherElementsStay }
+{}
+
+/// A container of elements that all take as many bytes, with their mask bytes, has these bytes and no
+/// others. So containers that hold one chunk of such a type are of one size.
+pub fn containers_are_counted()
+    ensures law { ContainersAreCounted }
 {}

@@ -1,6 +1,7 @@
 pub mod CachePlace
 pub mod ChunkRead
 pub mod ChunkSource
+pub mod SizeLaws
 pub mod SliceHandle
 pub mod ChunkReader
 pub mod PartialDecoder

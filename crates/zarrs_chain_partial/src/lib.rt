@@ -7,6 +7,7 @@
 #![tactic(auto)]
 
 mod codec_chain_partial;
+pub mod laws;
 mod partial_decoder;
 mod partial_encoder;
 
