@@ -8,3 +8,5 @@ pub mod CodecRelations
 pub mod MakeSteps
 pub mod Counted
 pub mod WrittenAt
+pub mod ReencodeSteps
+pub mod ReencodeLaws

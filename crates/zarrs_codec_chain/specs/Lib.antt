@@ -3,6 +3,8 @@ pub mod Compact
 pub mod ChainView
 pub mod DefaultVlen
 pub mod ChainParts
+pub mod Reencode
+pub mod ReencodeLaws
 pub use Rattle.zarrs_chunk.specs.Answer
 pub use Rattle.zarrs_data_type.specs.Element
 pub use Rattle.zarrs_array_bytes.specs.Elements

@@ -1,8 +1,9 @@
 //! Chains of codecs: codecs of chunks to chunks, one of chunks to bytes, and codecs of bytes to
 //! bytes.
 //!
-//! [`CodecChain`] encodes and decodes whole chunks. The bytes codecs are the caller's. What reads and
-//! writes a chunk in part stands on this crate and goes through the chain by its [`stages`].
+//! [`CodecChain`] encodes and decodes whole chunks, and [`reencode`] takes a value of one chain to
+//! another. The bytes codecs are the caller's. What reads and writes a chunk in part stands on this
+//! crate and goes through the chain by its [`stages`].
 #![tactic(auto)]
 
 mod array_to_bytes;
@@ -10,8 +11,10 @@ mod array_to_bytes_codec;
 mod codec_chain;
 mod decode;
 mod encode;
+pub mod laws;
 mod metadata;
 mod optional_codec;
+pub mod reencode;
 mod representation;
 pub mod stages;
 mod vlen_codec;
@@ -21,4 +24,3 @@ pub use array_to_bytes_codec::ArrayToBytesCodec;
 pub use codec_chain::CodecChain;
 pub use optional_codec::OptionalCodec;
 pub use vlen_codec::VlenCodec;
-pub use zarrs_chain_parts::laws;
