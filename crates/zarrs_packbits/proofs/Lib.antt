@@ -10,6 +10,7 @@ pub mod FieldLemmas
 pub mod FlagLemmas
 pub mod FlatChunk
 pub mod FlatRead
+pub mod LaneLemmas
 pub mod LayoutLemmas
 pub mod LocalBits
 pub mod LocalLemmas
