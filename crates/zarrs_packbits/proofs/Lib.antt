@@ -26,4 +26,5 @@ pub mod WholeReads
 pub mod Counted
 pub mod WordLemmas
 pub mod BlockLemmas
+pub mod PlainBlocks
 pub mod ProductLemmas
