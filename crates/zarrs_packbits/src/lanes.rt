@@ -20,9 +20,10 @@ fn joined_word(word: u64, first: u64, count: u64, lanes: u64, width: u64) -> u64
     ensures bits { low_bits (lanes * count) result ≡ flat_map (λ lane. field (lane * width + first) count (low_bits 64 word)) (range_with_len 0 lanes) }
     ensures below { result < 2 ^ (lanes * count) }
 {
+    let low = word >> first;
     let mut joined = 0u64;
     for lane in 0..lanes {
-        let kept = lowest(word >> (lane * width + first), count as u32);
+        let kept = lowest(low >> (lane * width), count as u32);
         joined |= kept << (lane * count);
     }
     joined
