@@ -1,6 +1,6 @@
 //! The codec `packbits` against a plain body that moves one bit at a time: for all widths of a
 //! component up to 70 bits, all first and last bits, all paddings and both signs, whole and in part.
-//! Chunks of narrow components are long enough for the blocks in which the codec moves them.
+//! Chunks are long enough for the blocks and words in which the codec moves narrow components.
 
 use crate::checks::{ChunkForm, are, fill_by_formula, form_of, has_bytes, head, part};
 use std::alloc::Global;
@@ -19,6 +19,9 @@ const WIDEST: u64 = 70;
 
 /// The widest component of which a chunk has many.
 const NARROW: u64 = 8;
+
+/// The widest component of two bytes.
+const MIDDLE: u64 = 16;
 
 /// Room for the elements of a chunk, and for its value.
 const ROOM: usize = 256;
@@ -311,12 +314,22 @@ fn is_alike(rt: &impl Abort, alloc: Global, case: &Case) -> Result<(), Fail> {
     )
 }
 
+/// How many elements a chunk has. Of narrow components so many that the codec moves them in blocks, with
+/// some before and behind; of wider ones so many that some fill words and some don't.
+fn elements_for(bits: u64) -> u64 {
+    if bits <= NARROW {
+        141
+    } else if bits <= MIDDLE {
+        11
+    } else {
+        5
+    }
+}
+
 fn are_alike(rt: &impl Abort, alloc: Global, bits: u64, first: u64, last: u64) -> Result<(), Fail> {
     for turn in 0..6 {
         let case = Case {
-            // Of narrow components so many that the codec moves them in blocks, with some before and
-            // behind.
-            elements: if bits <= NARROW { 141 } else { 5 },
+            elements: elements_for(bits),
             bits,
             first,
             last,

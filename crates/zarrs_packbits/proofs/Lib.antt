@@ -10,6 +10,7 @@ pub mod FieldLemmas
 pub mod FlagLemmas
 pub mod FlatChunk
 pub mod FlatRead
+pub mod LaneLemmas
 pub mod LayoutLemmas
 pub mod LocalBits
 pub mod LocalLemmas
@@ -25,4 +26,5 @@ pub mod WholeReads
 pub mod Counted
 pub mod WordLemmas
 pub mod BlockLemmas
+pub mod PlainBlocks
 pub mod ProductLemmas

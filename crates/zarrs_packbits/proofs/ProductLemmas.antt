@@ -2,7 +2,7 @@
 use Rattle.std.proofs.Common.{◌≡◌, ℕ, zero, suc, ◌+◌, ◌-◌, ◌*◌, ◌/◌, ◌%◌, ◌^◌, ◌<◌, ◌≤◌, List, [], ◌∷◌, ◌++◌, length, take, drop, get_or, arith, refl, ap, ap₂, sym, ◌∙◌}
 use Rattle.std.specs.Prelude.{bit_and, bit_or}
 use Rattle.std.specs.List.{flat_map, range_with_len}
-use Rattle.std.proofs.lemmas.Nat.{and_block, and_mask, mod_low, shr_high, shr_split, pow-add, shl_whole, or_comm, or_shifted}
+use Rattle.std.proofs.lemmas.Nat.{and_block, and_mask, mod_below, mod_low, pow_pos, shr_high, shr_split, pow-add, shl_whole, or_comm, or_shifted}
 use Rattle.std.proofs.Math.Nat.{div-div-eq-div-mul, pow-suc, mul-le-mul_right}
 use Rattle.std.proofs.lemmas.List.{length-drop, length-take-le}
 use Rattle.zarrs_packbits.specs.Bits.{low_bits, bits_of, field}
@@ -67,6 +67,34 @@ pub product_is : (x : ℕ) → picked 8 x * 72624976668147840 % 2 ^ 64 / 2 ^ 56 
 product_is x =
     product_of (x % 2) (x / 256 % 2) (x / 256 / 256 % 2) (x / 256 / 256 / 256 % 2) (x / 256 / 256 / 256 / 256 % 2) (x / 256 / 256 / 256 / 256 / 256 % 2) (x / 256 / 256 / 256 / 256 / 256 / 256 % 2) (x / 256 / 256 / 256 / 256 / 256 / 256 / 256 % 2)
     (omega arith) (omega arith) (omega arith) (omega arith) (omega arith) (omega arith) (omega arith) (omega arith)
+
+-- the factor moved down, and the bits as many places up
+factor_moved : (b : ℕ) → b < 8 → 72624976668147840 / 2 ^ b * 2 ^ b ≡ 72624976668147840
+factor_moved b h =
+    let r = 7 - b in
+    let parts : 72624976668147840 ≡ 567382630219905 * 2 ^ r * 2 ^ b + 0
+    = (let whole : 2 ^ 7 ≡ 2 ^ r * 2 ^ b = ap (λ n. 2 ^ n) (let e : 7 ≡ r + b = omega arith in e) ∙ pow-add 2 r b in
+    ap (λ n. 567382630219905 * n) whole ∙ (let e : 567382630219905 * (2 ^ r * 2 ^ b) ≡ 567382630219905 * 2 ^ r * 2 ^ b + 0 = omega arith in e)) in
+    ap (λ n. n * 2 ^ b) (ap (λ n. n / 2 ^ b) parts ∙ shr_high (567382630219905 * 2 ^ r) b 0 (pow_pos b))
+    ∙ (let e : 567382630219905 * 2 ^ r * 2 ^ b ≡ 567382630219905 * 2 ^ r * 2 ^ b + 0 = omega arith in e) ∙ sym parts
+
+pub product_moved : (w b : ℕ) → b < 8 → bit_and w (72340172838076673 * 2 ^ b % 2 ^ 64) * (72624976668147840 / 2 ^ b) ≡ picked 8 (w / 2 ^ b) * 72624976668147840
+product_moved w b h =
+    let x = w / 2 ^ b in
+    let ones : 72340172838076673 * 2 ^ b % 2 ^ 64 ≡ 72340172838076673 * 2 ^ b + 0
+    = shl_whole 72340172838076673 57 b 64 (omega arith) (omega arith) ∙ (let e : 72340172838076673 * 2 ^ b ≡ 72340172838076673 * 2 ^ b + 0 = omega arith in e) in
+    let none : bit_and (w % 2 ^ b) 0 ≡ 0 = and_mask (w % 2 ^ b) 0 ∙ (let e : w % 2 ^ b % 2 ^ 0 ≡ 0 = omega arith in e) in
+    let bits : bit_and w (72340172838076673 * 2 ^ b % 2 ^ 64) ≡ picked 8 x * 2 ^ b
+    = ap₂ bit_and (sym (shr_split w b)) ones
+    ∙ and_block b x 72340172838076673 (w % 2 ^ b) 0 (mod_below w (2 ^ b) (pow_pos b)) (pow_pos b)
+    ∙ ap₂ (λ m n. m * 2 ^ b + n) (picked_is 8 x) none
+    ∙ (let e : picked 8 x * 2 ^ b + 0 ≡ picked 8 x * 2 ^ b = omega arith in e) in
+    ap (λ n. n * (72624976668147840 / 2 ^ b)) bits
+    ∙ regroup (picked 8 x) (2 ^ b) (72624976668147840 / 2 ^ b)
+    ∙ ap (λ n. picked 8 x * n) (factor_moved b h)
+  where
+    regroup : (a b c : ℕ) → a * b * c ≡ a * (c * b)
+    regroup a b c = omega arith
 
 pub joined_small : (n x : ℕ) → joined n x < 2 ^ n
 joined_small zero x = omega arith

@@ -12,6 +12,7 @@ use crate::blocks::{
     append_bits_spread, append_halves_joined, append_halves_spread, append_quarters_joined,
     append_quarters_spread,
 };
+use crate::lanes::{append_joined_lanes, append_spread_lanes};
 use crate::layout::PackedLayout;
 use crate::words::{append_bits, component_word, gather_flags, read_bits, read_within};
 use std::alloc::{AllocError, Global};
@@ -92,6 +93,66 @@ fn append_components(
         used = reached;
     }
     Ok((last, used))
+}
+
+/// Appends so many components, whose kept bits stand in the bytes from bit `at` on: by words as far as
+/// they fill words, and then one by one.
+#[inline(always)]
+fn append_by_lanes(
+    out: &mut Vec<u8>,
+    word: u64,
+    filled: u32,
+    layout: &PackedLayout,
+    bytes: &[u8],
+    at: u64,
+    parts: u64,
+    lanes: u64,
+    width: u64,
+) -> Result<(u64, u32), AllocError>
+    requires begun { IsPartlyFilled word filled }
+    requires some { 0 < layout.now.count }
+    requires size { layout.now.first + layout.now.count + layout.now.above ≡ width }
+    requires lanes { lanes * width ≡ 64 }
+    requires inside { at + parts * layout.now.count ≤ 8 * length bytes.now }
+    requires at { at + parts * layout.now.count < 2 ^ 64 }
+    ensures bits { IfOk result (λ left. written_bits out.new.items left.0 left.1 ≡ written_bits out.old.items word filled ++ components_from layout.now at parts (bits_of bytes.now)) }
+    ensures left { IfOk result (λ left. IsPartlyFilled left.0 left.1) }
+{
+    let groups = parts / lanes;
+    let (last, used) = append_spread_lanes(
+        out, word, filled, *layout, bytes, at, groups, lanes, width,
+    )?;
+    let done = groups * lanes;
+    let next = at + done * layout.count;
+    let left = append_components(out, last, used, layout, bytes, next, parts - done)?;
+    Ok(left)
+}
+
+/// Appends so many components of up to 64 bits, whose kept bits stand in the bytes from bit `at` on.
+/// Those of one, two or four bytes go several in a word.
+fn append_narrow(
+    out: &mut Vec<u8>,
+    word: u64,
+    filled: u32,
+    layout: &PackedLayout,
+    bytes: &[u8],
+    at: u64,
+    parts: u64,
+) -> Result<(u64, u32), AllocError>
+    requires begun { IsPartlyFilled word filled }
+    requires some { 0 < layout.now.count }
+    requires fits { layout.now.first + layout.now.count + layout.now.above ≤ 64 }
+    requires inside { at + parts * layout.now.count ≤ 8 * length bytes.now }
+    requires at { at + parts * layout.now.count < 2 ^ 64 }
+    ensures bits { IfOk result (λ left. written_bits out.new.items left.0 left.1 ≡ written_bits out.old.items word filled ++ components_from layout.now at parts (bits_of bytes.now)) }
+    ensures left { IfOk result (λ left. IsPartlyFilled left.0 left.1) }
+{
+    match layout.first + layout.count + layout.above {
+        8 => append_by_lanes(out, word, filled, layout, bytes, at, parts, 8, 8),
+        16 => append_by_lanes(out, word, filled, layout, bytes, at, parts, 4, 16),
+        32 => append_by_lanes(out, word, filled, layout, bytes, at, parts, 2, 32),
+        _ => append_components(out, word, filled, layout, bytes, at, parts),
+    }
 }
 
 /// Appends the kept bits, up to 64 of each, of a chunk's components from one of them on.
@@ -217,8 +278,32 @@ fn append_joined(out: &mut Vec<u8>, layout: &PackedLayout, bytes: &[u8]) -> Resu
     }
 }
 
-/// Appends the kept bits of the first components of a chunk, as many as go by blocks, and says how
-/// many went.
+/// Appends the kept bits of the first components of a chunk, as many as go several in a word, and says
+/// how many went.
+fn append_words(
+    out: &mut Vec<u8>,
+    word: u64,
+    filled: u32,
+    layout: &PackedLayout,
+    bytes: &[u8],
+) -> Result<(u64, u32, u64), AllocError>
+    requires begun { IsPartlyFilled word filled }
+    requires layout { IsPackedLayout layout.now }
+    requires len { length bytes.now ≡ parts_of layout.now * layout.now.size }
+    ensures bits { IfOk result (λ left. written_bits out.new.items left.0 left.1 ≡ written_bits out.old.items word filled ++ stream_before layout.now left.2 bytes.now) }
+    ensures left { IfOk result (λ left. IsPartlyFilled left.0 left.1) }
+    ensures within { IfOk result (λ left. left.2 ≤ parts_of layout.now) }
+{
+    match layout.size {
+        1 => append_joined_lanes(out, word, filled, layout, bytes, 8, 8),
+        2 => append_joined_lanes(out, word, filled, layout, bytes, 4, 16),
+        4 => append_joined_lanes(out, word, filled, layout, bytes, 2, 32),
+        _ => Ok((word, filled, 0)),
+    }
+}
+
+/// Appends the kept bits of the first components of a chunk, as many as go by blocks or by words, and
+/// says how many went.
 fn append_first(
     out: &mut Vec<u8>,
     word: u64,
@@ -234,7 +319,7 @@ fn append_first(
     ensures within { IfOk result (λ left. left.2 ≤ parts_of layout.now) }
 {
     if layout.size != 1 || (layout.count != 4 && layout.count != 2) {
-        return Ok((word, filled, 0));
+        return append_words(out, word, filled, layout, bytes);
     }
     let (last, used) = leveled(out, word, filled)?;
     if used != 0 {
@@ -499,7 +584,7 @@ impl BitWriter {
         requires at { at + parts * layout.now.count < 2 ^ 64 }
         ensures { IfOk result (λ _. self.new ≡ self.old ++ components_from layout.now at parts (bits_of bytes.now)) }
     {
-        let (word, filled) = append_components(
+        let (word, filled) = append_narrow(
             &mut self.out,
             self.word,
             self.filled,

@@ -91,7 +91,12 @@ fn half_block(from: &[u8; 64], first: u64, weight: u8) -> [u8; 128]
     requires { first < 8 }
     ensures { result ≡ map (lifted_byte first weight) (flat_map (fields_of 4 2) from.now) }
 {
-    lifted_wide(&spread_halves(from), first, weight)
+    let kept = spread_halves(from);
+    // Numbers without a sign whose lowest bits are kept stand as they are.
+    if first == 0 && weight == 0 {
+        return kept;
+    }
+    lifted_wide(&kept, first, weight)
 }
 
 /// Appends fewer than 64 components of one kept bit each.

@@ -9,6 +9,7 @@ mod array_to_bytes;
 mod bit_places;
 mod bit_writer;
 mod blocks;
+mod lanes;
 pub mod laws;
 mod layout;
 mod metadata;

@@ -35,15 +35,16 @@ pub(crate) fn append_bits(
 }
 
 /// One bit of each of eight bytes as a number, the first byte's lowest. The product brings each of
-/// them to its place in the highest byte, and no two to one place.
+/// them to its place in the highest byte, and no two to one place. The bits stay where they are, and
+/// the factor is moved down: both numbers are then made once for many bytes.
 #[inline(always)]
 fn eight_flags(bytes: &[u8; 8], bit: u64) -> u64
     requires bit { bit < 8 }
     ensures bits { low_bits 8 result ≡ flags_of bit bytes.now }
     ensures below { result < 2 ^ 8 }
 {
-    let flags = (read_word(bytes) >> bit) & 0x0101_0101_0101_0101;
-    flags.wrapping_mul(0x0102_0408_1020_4080) >> 56
+    let flags = read_word(bytes) & (0x0101_0101_0101_0101 << bit);
+    flags.wrapping_mul(0x0102_0408_1020_4080 >> bit) >> 56
 }
 
 /// One bit of each of 64 bytes as a number, the first byte's lowest.
@@ -112,7 +113,7 @@ fn word_from(bytes: &[u8], start: usize) -> u64
 
 /// The lowest bits of a number, so many.
 #[inline(always)]
-fn lowest(word: u64, count: u32) -> u64
+pub(crate) fn lowest(word: u64, count: u32) -> u64
     requires { count ≤ 64 }
     ensures { result ≡ word % 2 ^ count }
 {
