@@ -8,3 +8,4 @@ pub mod PlaceWrites
 pub mod EditLaws
 pub mod EditRuns
 pub mod SureReads
+pub mod Making
