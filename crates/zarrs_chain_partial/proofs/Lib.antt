@@ -9,3 +9,4 @@ pub mod EditLaws
 pub mod EditRuns
 pub mod SureReads
 pub mod SizeLaw
+pub mod Making

@@ -10,6 +10,7 @@ pub mod ChunkWrite
 pub mod PartialEncoder
 pub mod Edits
 pub mod ElementCode
+pub mod RefusedFirst
 pub use Rattle.zarrs_chunk.specs.Answer
 pub use Rattle.zarrs_chunk.specs.Selection
 pub use Rattle.zarrs_data_type.specs.Element

@@ -10,6 +10,7 @@ ghost use Rattle.zarrs_chain_partial.specs.ChunkRead.{reads_places};
 ghost use Rattle.zarrs_chain_partial.specs.ChunkSource.{source_made};
 ghost use Rattle.zarrs_chain_partial.specs.PartialDecoder.{decoder_source, form_of, handle_of, is_cached, made};
 ghost use Rattle.zarrs_chain_partial.specs.PartialEncoder.{encoder_form, encoder_handle};
+ghost use Rattle.zarrs_chain_partial.specs.RefusedFirst.{RefusedFirst};
 
 use crate::partial_decoder::array_partial_decoder::ArrayPartialDecoder;
 use crate::partial_decoder::chunk_reader::ChunkReader;
@@ -48,10 +49,10 @@ pub trait CodecChainPartialTraits<B: BytesToBytesCodecTraits> {
 
 impl<B: BytesToBytesCodecTraits> CodecChainPartialTraits<B> for CodecChain<B> {
     /// A decoder of a chunk in part, over a handle. Refusals, the first that holds, `OutOfMemory` aside:
-    /// those of `encoded_representation`; with a cache, `Storage`, and then those of what decodes the
-    /// value up to the cache: `BytesCodec` of the last bytes codec, then of the one before; those of the
-    /// codec to bytes. A refusal hands the handle back, as it stands. Without a cache the handle isn't
-    /// asked.
+    /// those of `encoded_representation`, before the handle is asked; with a cache, `Storage`, and then
+    /// those of what decodes the value up to the cache: `BytesCodec` of the last bytes codec, then of the
+    /// one before; those of the codec to bytes. A refusal hands the handle back, as it stands. Without a
+    /// cache the handle isn't asked.
     fn partial_decoder<'a, H: BytesPartialDecoderTraits>(
         &'a self,
         alloc: Global,
@@ -68,6 +69,8 @@ impl<B: BytesToBytesCodecTraits> CodecChainPartialTraits<B> for CodecChain<B> {
         ensures handed_back { IfErr result (λ refused. H.state refused.handle ≡ after_reading (made result) (H.state handle)) }
         ensures handed_same { IfErr result (λ refused. H.lent refused.handle ≡ H.lent handle) }
         ensures untouched { cache_place (codecs_read B.reads_in_part (plain_chain self.now)) ≡ None → is_fault (made result) ≡ false }
+        ensures measured_first { RefusedFirst (chain_representation_of B.functions
+            (plain_chain self.now) shape.now data_type.now fill_value.now) (made result) }
         ensures sure { reads_places (plain_chain self.now).outer (plain_chain self.now).codec ≡ true → is_fault (made result) ≡ false }
     {
         let mut handle = handle;

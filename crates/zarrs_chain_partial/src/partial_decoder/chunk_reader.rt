@@ -15,6 +15,7 @@ ghost use Rattle.zarrs_chain_parts.specs.Chain.{chain_reads, codec_reads as code
 ghost use Rattle.zarrs_codec_chain.specs.ChainView.{plain_chain};
 ghost use Rattle.zarrs_chain_partial.specs.ChunkRead.{codec_place_bytes, encoded_places, IsReadPlan, planned_places, reads_places, WhereSure, ReadsChunk};
 ghost use Rattle.zarrs_chain_partial.specs.ChunkSource.{bytes_above, cache_fits, cache_stage as cache_stage_of, chunk_below, has_cache, held_by, is_kept, is_there, opened_chunk, source_made, source_places, source_read};
+ghost use Rattle.zarrs_chain_partial.specs.RefusedFirst.{RefusedFirst};
 ghost use Rattle.zarrs_chain_parts.specs.Laws.{IsChainOfMappings};
 ghost use Rattle.zarrs_chain_parts.specs.Representation.{codec_representation};
 
@@ -86,8 +87,8 @@ impl<'a, B: BytesToBytesCodecTraits> ChunkReader<'a, B> {
     }
 
     /// A reader of such a chunk, whose cache is filled from the handle. Refusals, the first that holds,
-    /// `OutOfMemory` aside: those of the chain's representation; with a cache, `Storage` and those of
-    /// what decodes the value up to the cache.
+    /// `OutOfMemory` aside: those of the chain's representation, before the handle is asked; with a
+    /// cache, `Storage` and those of what decodes the value up to the cache.
     pub(crate) fn new<H: BytesPartialDecoderTraits>(
         alloc: Global,
         chain: &'a CodecChain<B>,
@@ -100,10 +101,13 @@ impl<'a, B: BytesToBytesCodecTraits> ChunkReader<'a, B> {
         ensures form { IfOk result (λ reader. reader_form reader ≡ record { chain = plain_chain chain.now; sizes = shape.now; type = data_type.now; fill = fill_value.now }) }
         ensures cached { IfOk result (λ reader. is_kept reader.cache ≡ has_cache (cache_stage_of B.reads_in_part (plain_chain chain.now))) }
         ensures untouched { cache_stage_of B.reads_in_part (plain_chain chain.now) ≡ CacheStage.Nowhere → is_fault result ≡ false }
+        ensures measured_first { RefusedFirst (taken_form_of B.functions (plain_chain chain.now)
+            shape.now data_type.now fill_value.now) result }
         ensures filled { IfOk result (λ reader. IsFilledFrom B.functions reader (H.state handle.old).value) }
         ensures left { H.state handle.new ≡ after_reading result (H.state handle.old) }
         ensures same_reference { H.lent handle.new ≡ H.lent handle.old }
     {
+        let stage = cache_stage(chain);
         let shape = shape.clone()?;
         let data_type = data_type.clone()?;
         let fill_value = fill_value.clone()?;
@@ -112,7 +116,7 @@ impl<'a, B: BytesToBytesCodecTraits> ChunkReader<'a, B> {
             alloc,
             chain,
             handle,
-            cache_stage(chain),
+            stage,
             &encoded,
             &data_type,
             &fill_value,

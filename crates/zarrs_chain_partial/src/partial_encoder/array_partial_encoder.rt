@@ -1,7 +1,7 @@
-ghost use Rattle.std.specs.Prelude.{◌≡◌, ◌<◌, ◌&&◌, All, Ok, OnErr, None, option_map, is_some, true, false};
+ghost use Rattle.std.specs.Prelude.{◌≡◌, ◌<◌, ◌&&◌, All, Ok, None, option_map, is_some, true, false};
 ghost use Rattle.zarrs_chunk.specs.Answer.{Answers, fault, memory, is_fault, GivesBy};
 ghost use Rattle.zarrs_chunk.specs.Indexer.{selection_of};
-ghost use Rattle.zarrs_codec.specs.StorageState.{after_writing, apart_from_value};
+ghost use Rattle.zarrs_codec.specs.BytesToBytesCodec.{AreBytes};
 ghost use Rattle.zarrs_chain_parts.specs.Chain.{chain_reads, chain_writes};
 ghost use Rattle.zarrs_chain_partial.specs.ChunkWrite.{EditsChunk};
 ghost use Rattle.zarrs_chain_partial.specs.ChunkRead.{IsReadPlan, planned_places, ReadsChunk};
@@ -10,6 +10,7 @@ ghost use Rattle.zarrs_chain_parts.specs.Laws.{IsChainOfMappings};
 
 use crate::partial_decoder::array_partial_decoder::ArrayPartialDecoder;
 use crate::partial_decoder::chunk_reader::ChunkReader;
+use crate::partial_encoder::machine_bytes::bytes_are;
 use std::alloc::Global;
 use zarrs_array_bytes::ArrayBytes;
 use zarrs_chunk::{ChunkShape, CodecError, Indexer};
@@ -36,14 +37,16 @@ pub struct ArrayPartialEncoder<'a, H: BytesPartialEncoderTraits, B: BytesToBytes
 
 impl<'a, H: BytesPartialEncoderTraits, B: BytesToBytesCodecTraits> ArrayPartialEncoder<'a, H, B> {
     ghost use Rattle.zarrs_chain_partial.specs.PartialDecoder.{form_of, handle_of, is_cached};
-    ghost use Rattle.zarrs_chain_partial.specs.PartialEncoder.{encoder_form, encoder_handle, EncoderReads, EncoderWrites};
+    ghost use Rattle.zarrs_chain_partial.specs.PartialEncoder.{encoder_form, encoder_handle, encoder_value, EncoderReads, EncoderWrites, EncoderWritesOnce};
 
-    /// What the chain and the shape are made of holds.
+    /// What the chain, the shape and the fill value are made of holds.
     pub(crate) fn is_sound(&self)
         ensures mappings { IsChainOfMappings (encoder_form self.now).chain }
         ensures positive { All (λ size. 0 < size) (encoder_form self.now).sizes }
+        ensures filling { AreBytes (encoder_form self.now).fill }
     {
         self.reader.is_sound();
+        bytes_are(self.reader.fill_value.as_ne_bytes());
     }
 
     /// The type of the elements.
@@ -141,11 +144,8 @@ impl<'a, H: BytesPartialEncoderTraits, B: BytesToBytesCodecTraits> ArrayPartialE
     /// Leaves no value; there may have been none. Refusals: `Storage`. It makes exactly one writing
     /// call of the handle. A refusal leaves the value as it was where the handle is atomic.
     pub fn erase(&mut self) -> Result<(), CodecError>
-        ensures answer { Answers fault (λ _. (H.state (encoder_handle self.new)).value) result (Ok None) }
-        ensures left { apart_from_value (H.state (encoder_handle self.new)) ≡ after_writing result (H.state (encoder_handle self.old)) }
-        ensures kept_if_atomic { OnErr result (H.atomic ≡ true → (H.state (encoder_handle self.new)).value ≡ (H.state (encoder_handle self.old)).value) }
-        ensures same_reference { H.lent (encoder_handle self.new) ≡ H.lent (encoder_handle self.old) }
-        ensures form_kept { encoder_form self.new ≡ encoder_form self.old }
+        ensures answer { Answers fault (λ _. encoder_value H.state self.new) result (Ok None) }
+        ensures left { EncoderWritesOnce H.state H.lent H.atomic self.old self.new result }
     {
         self.handle.erase()
     }

@@ -1,5 +1,6 @@
 use Rattle.zarrs_codec_chain.specs.ChainView.{plain_chain}
 use Rattle.zarrs_chain_partial.proofs.CachePlaces.{no_place, no_stage}
+use Rattle.zarrs_chain_partial.proofs.Making.{representation_first}
 use Rattle.zarrs_chain_partial.proofs.codec_chain_partial.CodecChainCodecChainPartialTraits.partial_decoder.Goals as goal
 
 pub returns-in-Err-clause-sure : goal.returns-in-Err-clause-sure
@@ -7,3 +8,11 @@ returns-in-Err-clause-sure g c e =
     let reads = g.B.BytesToBytesCodecTraits.reads_in_part in
     let chain = plain_chain c.args.self.now in
     c.in-Err.ensures.untouched (no_stage reads chain (no_place reads chain e))
+
+pub returns-in-Err-clause-measured_first : goal.returns-in-Err-clause-measured_first
+returns-in-Err-clause-measured_first g c =
+    representation_first g.B.BytesToBytesCodecTraits.functions (plain_chain c.args.self.now) c.args.shape.now c.args.data_type.now c.args.fill_value.now _ c.in-Err.ensures.measured_first
+
+pub returns-in-Ok-clause-measured_first : goal.returns-in-Ok-clause-measured_first
+returns-in-Ok-clause-measured_first g c =
+    representation_first g.B.BytesToBytesCodecTraits.functions (plain_chain c.args.self.now) c.args.shape.now c.args.data_type.now c.args.fill_value.now _ c.in-Ok.ensures.measured_first
