@@ -9,6 +9,8 @@ use Rattle.zarrs_codec.specs.SampleBytesCodec.{sample_codecs}
 use Rattle.zarrs_codec.specs.declared.capabilities.PartialDecoderCapability.{PartialDecoderCapability}
 use Rattle.zarrs_codec.specs.declared.sample_bytes_codec.SampleBytesCodec.{SampleBytesCodec}
 use Rattle.zarrs_chain_parts.specs.Chain.{held_value}
+use Rattle.zarrs_chain_parts.specs.PlainChain.{PlainChain}
+use Rattle.zarrs_codec_chain.specs.Reencode.{reencoded_value}
 use Rattle.zarrs_chain_partial.specs.ChunkRead.{ChunkForm, stored_read}
 use Rattle.zarrs_chain_partial.specs.ChunkSource.{source_made}
 use Rattle.zarrs_chain_partial.specs.ChunkWrite.{stored_written}
@@ -22,7 +24,7 @@ use Rattle.zarrs_chain_json.specs.Elements.{elements_of, chunk_tree}
 use Rattle.zarrs_chain_json.specs.Containers.{container_of}
 use Rattle.zarrs_chain_json.specs.Indexer.{selection_in}
 use Rattle.zarrs_chain_json.specs.Edit.{PlainEdit, edit_in}
-use Rattle.zarrs_chain_lines.specs.Header.{Header}
+use Rattle.zarrs_chain_lines.specs.Header.{Header, codecs_at}
 
 -- what a session keeps: the header that opened it, and the stored value
 pub record State : Type 0 where
@@ -130,6 +132,19 @@ hex_answer state value = Ok (ok_line (hex_tree value), state)
 abbrev pub value_answer : State → LineAnswer
 value_answer state = stored_answer hex_answer state state.value
 
+-- what a chain writes for the chunk that a value stands for
+abbrev pub reencoded_answer : PlainChain SampleBytesCodec → State → List ℕ → LineAnswer
+reencoded_answer to state value = do
+  other ← codec_answer (reencoded_value sample_codecs state.header.chain sample_codecs to (record { sizes = state.header.sizes; type = state.header.data_type; fill = state.header.fill }) value)
+  Ok (ok_line (hex_tree other), state)
+
+-- reencode METADATAS: what the chain of these codecs writes for the chunk that the stored value stands for, or none; the list is read and its chain made in either case, and the stored value stays
+abbrev pub reencode_answer : State → List ℕ → LineAnswer
+reencode_answer state text = do
+  tree ← tree_of text
+  to ← codecs_at (Some tree)
+  stored_answer (reencoded_answer to) state state.value
+
 -- ---- lines
 
 -- a command and its argument
@@ -138,6 +153,7 @@ pub data Command : Type 0 where
   load : List ℕ → Command
   read_part : List ℕ → Command
   write_part : List ℕ → Command
+  reencode : List ℕ → Command
   decode : Command
   erase : Command
   value : Command
@@ -155,6 +171,7 @@ command_named word (Some argument) =
     else if bytes_eq word (codes "load") then load argument
     else if bytes_eq word (codes "read") then read_part argument
     else if bytes_eq word (codes "write") then write_part argument
+    else if bytes_eq word (codes "reencode") then reencode argument
     else unknown
 
 -- the command of a line with its first space at this place: a word before it and an argument behind it, or a word alone
@@ -172,6 +189,7 @@ command_answer state (encode text) = encode_answer state text
 command_answer state (load text) = load_answer state text
 command_answer state (read_part text) = read_answer state text
 command_answer state (write_part text) = write_answer state text
+command_answer state (reencode text) = reencode_answer state text
 command_answer state decode = decode_answer state
 command_answer state erase = erase_answer state
 command_answer state value = value_answer state

@@ -10,6 +10,7 @@ pub enum Command<'a> {
     Load(&'a [u8]),
     Read(&'a [u8]),
     Write(&'a [u8]),
+    Reencode(&'a [u8]),
     Decode,
     Erase,
     Value,
@@ -27,6 +28,8 @@ fn with_argument<'a>(word: &[u8], argument: &'a [u8]) -> Command<'a>
         Command::Read(argument)
     } else if word == b"write".as_slice() {
         Command::Write(argument)
+    } else if word == b"reencode".as_slice() {
+        Command::Reencode(argument)
     } else {
         Command::Unknown
     }

@@ -6,7 +6,7 @@ ghost use Rattle.zarrs_chunk.specs.Indexer.{selection_of};
 ghost use Rattle.zarrs_array_bytes.specs.Validity.{Holds};
 ghost use Rattle.zarrs_codec.specs.MemoryHandle.{handle_value};
 ghost use Rattle.zarrs_codec_chain.specs.ChainView.{plain_chain};
-ghost use Rattle.zarrs_chain_lines.specs.Commands.{first_state, chunk_part, part_of, chunk_left, value_left, encode_answer, load_answer, chunk_answer, decode_answer, read_answer, write_answer, erase_answer, value_answer, answer_to};
+ghost use Rattle.zarrs_chain_lines.specs.Commands.{first_state, chunk_part, part_of, chunk_left, value_left, encode_answer, load_answer, chunk_answer, decode_answer, read_answer, write_answer, erase_answer, value_answer, reencoded_answer, reencode_answer, answer_to};
 ghost use Rattle.zarrs_chain_json.specs.Edit.{edit_seen};
 ghost use Rattle.zarrs_chain_lines.specs.Header.{shape_at, data_type_at, fill_value_at, codecs_at, header_in, line_header};
 ghost use Rattle.zarrs_chain_json.specs.Refusal.{wants_memory};
@@ -25,6 +25,7 @@ use zarrs_chain_partial::CodecChainPartialTraits;
 use zarrs_chunk::{ChunkShape, CodecError, Indexer};
 use zarrs_codec::{MemoryHandle, SampleBytesCodec};
 use zarrs_codec_chain::CodecChain;
+use zarrs_codec_chain::reencode::reencode;
 use zarrs_data_type::{DataType, FillValue};
 
 /// What a header opened, and what is stored since.
@@ -278,6 +279,37 @@ impl Session {
         }
     }
 
+    fn reencode_value(
+        &self,
+        alloc: Global,
+        to: &CodecChain<SampleBytesCodec>,
+        value: &[u8],
+    ) -> Result<Vec<u8>, Refusal>
+        ensures { Answers wants_memory (λ line. (line.items, state_of self.now)) result (reencoded_answer (plain_chain to.now) (state_of self.now) value.now) }
+    {
+        let other = reencode(
+            alloc,
+            &self.chain,
+            to,
+            value,
+            &self.shape,
+            &self.data_type,
+            &self.fill_value,
+        )?;
+        Ok(ok_hex(alloc, &other)?)
+    }
+
+    fn reencode(&self, alloc: Global, text: &[u8]) -> Result<Vec<u8>, Refusal>
+        ensures { Answers wants_memory (λ line. (line.items, state_of self.now)) result (reencode_answer (state_of self.now) text.now) }
+    {
+        let tree = tree(alloc, text)?;
+        let to = codecs(alloc, Some(&tree))?;
+        match self.handle.value() {
+            None => Ok(Vec::from_slice(alloc, b"ok none")?),
+            Some(value) => self.reencode_value(alloc, &to, value),
+        }
+    }
+
     /// The answer to a line, without its end. A refused command leaves what is stored. Refusals are
     /// those of the command; `Syntax` where the line is no command; `OutOfMemory`.
     #[tactic(auto, unfolding(crate::specs::Commands::answer_to))]
@@ -290,6 +322,7 @@ impl Session {
             Command::Load(text) => self.load(alloc, text),
             Command::Read(text) => self.read(alloc, text),
             Command::Write(text) => self.write(alloc, text),
+            Command::Reencode(text) => self.reencode(alloc, text),
             Command::Decode => self.decode(alloc),
             Command::Erase => self.erase(alloc),
             Command::Value => self.value(alloc),
