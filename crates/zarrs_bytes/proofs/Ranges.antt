@@ -21,7 +21,7 @@ use Rattle.zarrs_codec.specs.ByteSpan.{ByteSpan}
 -- ---- bytes by number
 
 -- n bytes from s on, one by one
-take_drop-numbers : (value : List ℕ) (s n : ℕ) → s + n ≤ length value → take n (drop s value) ≡ map (λ k. get_or value k 0) (range_with_len s n)
+pub take_drop-numbers : (value : List ℕ) (s n : ℕ) → s + n ≤ length value → take n (drop s value) ≡ map (λ k. get_or value k 0) (range_with_len s n)
 take_drop-numbers value s zero h = refl
 take_drop-numbers value s (suc n) h =
     let lt : s < length value = omega arith in
@@ -32,7 +32,7 @@ below_both : (s b n : ℕ) → s < b → (nat_lt s n && nat_le b n) ≡ nat_le b
 below_both s b n h = grind (arith, nat_tests)
 
 -- the end of a run that isn't empty bounds its numbers
-all_below-range : (n s m : ℕ) → 0 < m → list_all (λ k. nat_lt k n) (range_with_len s m) ≡ nat_le (s + m) n
+pub all_below-range : (n s m : ℕ) → 0 < m → list_all (λ k. nat_lt k n) (range_with_len s m) ≡ nat_le (s + m) n
 all_below-range n s zero h = absurd (omega arith)
 all_below-range n s (suc zero) h = grind (arith, nat_tests)
 all_below-range n s (suc (suc m)) h =
@@ -131,6 +131,21 @@ place_spans-bytes value size (place ∷ places) =
     let one : size ≡ place * size + size - place * size = omega arith in
     ap (λ (n : ℕ). take n (drop (place * size) value) ++ spans_bytes value (map (place_span size) places)) one
     ∙ ap (λ (l : List ℕ). piece size value place ++ l) (place_spans-bytes value size places)
+
+-- ranges end within n exactly where the numbers of their bytes are below n
+pub ranges_within-numbers : (n : ℕ) (ranges : List ByteSpan) → All (λ range. range.start < range.end) ranges → list_all (λ range. nat_le range.end n) ranges ≡ list_all (λ k. nat_lt k n) (range_indices ranges)
+ranges_within-numbers n ranges filled =
+    sym (range_spans-within n ranges filled)
+    ∙ spans_within-numbers n (map span_of ranges) (range_spans-filled ranges filled)
+    ∙ ap (list_all (λ k. nat_lt k n)) (range_spans-numbers ranges)
+
+-- and their bytes are those with these numbers
+pub ranges_bytes-numbers : (value : List ℕ) (ranges : List ByteSpan) → All (λ range. range.start < range.end) ranges → list_all (λ range. nat_le range.end (length value)) ranges ≡ true
+    → bytes_in_ranges value ranges ≡ map (λ k. get_or value k 0) (range_indices ranges)
+ranges_bytes-numbers value ranges filled inside =
+    sym (range_spans-bytes value ranges)
+    ∙ spans_bytes-numbers value (map span_of ranges) (range_spans-within (length value) ranges filled ∙ inside)
+    ∙ ap (map (λ k. get_or value k 0)) (range_spans-numbers ranges)
 
 -- ---- the read
 

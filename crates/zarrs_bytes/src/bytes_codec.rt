@@ -64,6 +64,13 @@ impl BytesCodec {
         BytesCodec::new(Some(Endianness::Big))
     }
 
+    /// The byte order of the codec, or `None` where it has none.
+    pub fn endianness(&self) -> Option<Endianness>
+        ensures value { result ≡ self.now }
+    {
+        self.endianness
+    }
+
     /// Whether the codec takes components of so many bits.
     fn takes(&self, component_size_bits: u64) -> bool
         ensures value { result ≡ has_order self.now component_size_bits }
