@@ -43,4 +43,11 @@ turn_of calls = record { left = calls.left; code = calls.code }
 -- the state of a handle over memory of which one call fails: no byte is sure
 abbrev pub watched_state : MemoryHandle → FailingCall → StorageState
 watched_state memory calls =
-    record { value = handle_value memory; sure = None; faults = calls.faults; failure = calls.failure; writes = calls.write_calls }
+    record {
+      value = handle_value memory;
+      sure = None;
+      faults = calls.faults;
+      failure = calls.failure;
+      writes = calls.write_calls;
+      accepted_writes = calls.accepted_writes;
+    }

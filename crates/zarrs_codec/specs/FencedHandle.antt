@@ -18,7 +18,14 @@ is_fenced ranges byte = list_any (has_byte byte) ranges
 -- its state: the bytes inside the ranges are sure
 abbrev pub fenced_state : FencedHandle → StorageState
 fenced_state handle =
-    record { value = handle_value handle.memory; sure = Some (is_fenced handle.ranges.items); faults = handle.faults; failure = handle.failure; writes = 0 }
+    record {
+      value = handle_value handle.memory;
+      sure = Some (is_fenced handle.ranges.items);
+      faults = handle.faults;
+      failure = handle.failure;
+      writes = 0;
+      accepted_writes = 0;
+    }
 
 -- what a read fails with, by whether all bytes that it asks for are sure
 abbrev pub fence_failure : Bool → Option StorageError

@@ -12,7 +12,18 @@ handle_value handle = option_map (λ value. value.items) handle.value
 abbrev pub write_count : MemoryHandle → ℕ
 write_count handle = handle.write_calls
 
+-- and how many of them were accepted
+abbrev pub accepted_count : MemoryHandle → ℕ
+accepted_count handle = handle.accepted_writes
+
 -- its state: all bytes are sure, since it never fails
 abbrev pub memory_state : MemoryHandle → StorageState
 memory_state handle =
-    record { value = handle_value handle; sure = Some (λ _. true); faults = 0; failure = None; writes = write_count handle }
+    record {
+      value = handle_value handle;
+      sure = Some (λ _. true);
+      faults = 0;
+      failure = None;
+      writes = write_count handle;
+      accepted_writes = accepted_count handle;
+    }

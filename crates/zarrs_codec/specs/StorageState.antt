@@ -1,18 +1,19 @@
 -- What contracts see of a storage handle.
-use Rattle.std.specs.Prelude.{ℕ, ◌+◌, ◌%◌, ◌^◌, Bool, true, false, Option, Some, None, List, [], length, Result, Err}
+use Rattle.std.specs.Prelude.{ℕ, ◌+◌, ◌%◌, ◌^◌, Bool, true, false, Option, Some, None, List, [], length, Result, Err, is_ok}
 use Rattle.std.specs.List.{list_all, range_with_len}
 use Rattle.zarrs_chunk.specs.Answer.{is_fault}
 use Rattle.zarrs_chunk.specs.declared.codec_error.CodecError.{CodecError}
 use Rattle.zarrs_chunk.specs.declared.codec_error.CodecError.TheVariants.{Storage}
 use Rattle.zarrs_chunk.specs.declared.codec_error.StorageError.{StorageError}
 
--- The stored value, or none; which of its bytes, by their numbers, are sure to be read without a failure, where the handle promises that of any; the calls so far that failed, and what the last of them answered; the calls so far that write. Both counts are modulo 2^64.
+-- The stored value, or none; which of its bytes, by their numbers, are sure to be read without a failure, where the handle promises that of any; the calls so far that failed, and what the last of them answered; the calls so far that write, and those of them that were accepted. The counts are modulo 2^64.
 pub record StorageState : Type 0 where
   pub value : Option (List ℕ)
   pub sure : Option (ℕ → Bool)
   pub faults : ℕ
   pub failure : Option StorageError
   pub writes : ℕ
+  pub accepted_writes : ℕ
 
 -- all bytes with these numbers are sure to be read; never where the handle promises nothing
 abbrev pub are_sure : Option (ℕ → Bool) → List ℕ → Bool
@@ -53,7 +54,10 @@ value_or_empty (Some value) = value
 abbrev pub apart_from_value : StorageState → StorageState
 apart_from_value state = record state { value = None }
 
--- what a writing call leaves apart from the value: all as it was, but for one writing call more and the failure that it answers
+-- what a writing call leaves apart from the value: all as it was, but for one writing call more, an accepted one more where it is accepted, and the failure that it answers
 abbrev pub after_writing : {T : Type 0} → Result T CodecError → StorageState → StorageState
 after_writing result state =
-    record (apart_from_value (after_reading result state)) { writes = count_if true state.writes }
+    record (apart_from_value (after_reading result state)) {
+      writes = count_if true state.writes;
+      accepted_writes = count_if (is_ok result) state.accepted_writes;
+    }

@@ -12,6 +12,7 @@ ghost use Rattle.zarrs_codec.specs.DecodeInto.{decoded_into};
 ghost use Rattle.zarrs_codec.specs.declared.bytes_representation.BytesRepresentation.{BytesRepresentation};
 
 use crate::bytes_representation::BytesRepresentation;
+use crate::codec_traits::ArrayCodecTraits;
 use std::alloc::Global;
 use zarrs_array_bytes::{ArrayBytes, ArrayBytesDecodeIntoTarget, ArrayBytesRaw};
 use zarrs_chunk::{ChunkShape, CodecError};
@@ -20,7 +21,7 @@ use zarrs_data_type::{DataType, FillValue};
 /// A codec of chunks to bytes: the codec of a chain that makes a chunk's value, or a whole chain.
 ///
 /// What it computes is a function of the chunk's shape, type and fill value, and of what is given.
-pub trait ArrayToBytesCodecTraits {
+pub trait ArrayToBytesCodecTraits: ArrayCodecTraits {
     // How many bytes a value has, or the first cause why the codec doesn't take such chunks.
     ghost represented: { Self → Form → Result BytesRepresentation CodecError };
 

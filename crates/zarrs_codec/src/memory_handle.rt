@@ -72,20 +72,24 @@ fn gather(alloc: Global, value: &[u8], ranges: &[ByteRange]) -> Result<Vec<u8>, 
 pub struct MemoryHandle {
     value: Option<Vec<u8>>,
     write_calls: u64,
+    accepted_writes: u64,
 }
 
 impl MemoryHandle {
-    ghost use Rattle.zarrs_codec.specs.MemoryHandle.{handle_value, write_count};
+    ghost use Rattle.zarrs_codec.specs.MemoryHandle.{accepted_count, handle_value, write_count};
+    ghost use Rattle.zarrs_codec.specs.StorageState.{count_if};
     ghost use Rattle.zarrs_codec.specs.TornHandle.{first_half};
 
     /// A handle without a value.
     pub fn new() -> MemoryHandle
         ensures made { handle_value result ≡ None }
         ensures count { write_count result ≡ 0 }
+        ensures none_accepted { accepted_count result ≡ 0 }
     {
         MemoryHandle {
             value: None,
             write_calls: 0,
+            accepted_writes: 0,
         }
     }
 
@@ -93,10 +97,12 @@ impl MemoryHandle {
     pub fn with_value(value: Vec<u8>) -> MemoryHandle
         ensures made { handle_value result ≡ Some value.items }
         ensures count { write_count result ≡ 0 }
+        ensures none_accepted { accepted_count result ≡ 0 }
     {
         MemoryHandle {
             value: Some(value),
             write_calls: 0,
+            accepted_writes: 0,
         }
     }
 
@@ -121,6 +127,7 @@ impl MemoryHandle {
     pub(crate) fn halve(&mut self)
         ensures halved { handle_value self.new ≡ option_map first_half (handle_value self.old) }
         ensures count { write_count self.new ≡ write_count self.old }
+        ensures accepted { accepted_count self.new ≡ accepted_count self.old }
     {
         if let Some(value) = &mut self.value {
             value.truncate(value.len() / 2);
@@ -133,6 +140,26 @@ impl MemoryHandle {
     {
         let MemoryHandle { write_calls, .. } = self;
         *write_calls
+    }
+
+    /// How many writing calls were accepted, modulo 2^64.
+    pub fn accepted_writes(&self) -> u64
+        ensures value { result ≡ accepted_count self.now }
+    {
+        let MemoryHandle {
+            accepted_writes,
+            ..
+        } = self;
+        *accepted_writes
+    }
+
+    /// Counts a writing call that was accepted.
+    fn accept_write(&mut self)
+        ensures value { handle_value self.new ≡ handle_value self.old }
+        ensures count { write_count self.new ≡ write_count self.old }
+        ensures accepted { accepted_count self.new ≡ count_if true (accepted_count self.old) }
+    {
+        self.accepted_writes = self.accepted_writes.wrapping_add(1);
     }
 }
 
@@ -224,18 +251,21 @@ impl BytesPartialEncoderTraits for MemoryHandle {
             }
             Some(value) => write_grown(value, pieces, bytes)?,
         }
+        self.accept_write();
         Ok(())
     }
 
     fn replace(&mut self, alloc: Global, bytes: &[u8]) -> Result<(), CodecError> {
         self.write_calls = self.write_calls.wrapping_add(1);
         self.value = Some(Vec::from_slice(alloc, bytes)?);
+        self.accept_write();
         Ok(())
     }
 
     fn erase(&mut self) -> Result<(), CodecError> {
         self.write_calls = self.write_calls.wrapping_add(1);
         self.value = None;
+        self.accept_write();
         Ok(())
     }
 

@@ -15,12 +15,13 @@ pub(crate) struct FailingCall {
     pub(crate) faults: u64,
     failure: Option<StorageError>,
     pub(crate) write_calls: u64,
+    pub(crate) accepted_writes: u64,
 }
 
 impl FailingCall {
     /// The `n`-th call fails, with code `n`, counted from 1; none does where `n` is 0.
     pub(crate) fn new(n: u32) -> FailingCall
-        ensures made { result ≡ record { left = n; code = n; faults = 0; failure = None; write_calls = 0 } }
+        ensures made { result ≡ record { left = n; code = n; faults = 0; failure = None; write_calls = 0; accepted_writes = 0 } }
     {
         FailingCall {
             left: n,
@@ -28,6 +29,7 @@ impl FailingCall {
             faults: 0,
             failure: None,
             write_calls: 0,
+            accepted_writes: 0,
         }
     }
 
@@ -62,6 +64,13 @@ impl FailingCall {
         self.write_calls = self.write_calls.wrapping_add(1);
     }
 
+    /// Counts a writing call that was accepted.
+    pub(crate) fn accept_write(&mut self)
+        ensures counted { self.new ≡ record self.old { accepted_writes = (self.old.accepted_writes + 1) % 2 ^ 64 } }
+    {
+        self.accepted_writes = self.accepted_writes.wrapping_add(1);
+    }
+
     /// Counts a call, and refuses it where it is its turn to fail.
     pub(crate) fn pass(&mut self) -> Result<(), CodecError>
         ensures answer { Answers fault (λ passed. passed) result (Ok tt) }
@@ -69,6 +78,7 @@ impl FailingCall {
         ensures faults { self.new.faults ≡ count_if (is_fault result) self.old.faults }
         ensures failure { self.new.failure ≡ last_failure result self.old.failure }
         ensures writes { self.new.write_calls ≡ self.old.write_calls }
+        ensures accepted { self.new.accepted_writes ≡ self.old.accepted_writes }
     {
         match self.next() {
             None => Ok(()),

@@ -33,6 +33,7 @@ impl FailingHandle {
         ensures nothing_sure { (failing_state result).sure ≡ None }
         ensures no_faults { (failing_state result).faults ≡ 0 }
         ensures no_writes { (failing_state result).writes ≡ 0 }
+        ensures none_accepted { (failing_state result).accepted_writes ≡ 0 }
         ensures turn { failing_turn result ≡ record { left = n; code = n } }
     {
         let memory = match value {
@@ -64,6 +65,13 @@ impl FailingHandle {
         ensures value { result ≡ (failing_state self.now).writes }
     {
         self.calls.write_calls
+    }
+
+    /// How many writing calls were accepted, modulo 2^64.
+    pub fn accepted_writes(&self) -> u64
+        ensures value { result ≡ (failing_state self.now).accepted_writes }
+    {
+        self.calls.accepted_writes
     }
 }
 
@@ -149,7 +157,9 @@ impl BytesPartialEncoderTraits for FailingHandle {
     {
         self.calls.count_write();
         self.calls.pass()?;
-        self.memory.partial_encode_many(alloc, pieces, bytes)
+        self.memory.partial_encode_many(alloc, pieces, bytes)?;
+        self.calls.accept_write();
+        Ok(())
     }
 
     fn replace(&mut self, alloc: Global, bytes: &[u8]) -> Result<(), CodecError>
@@ -161,7 +171,9 @@ impl BytesPartialEncoderTraits for FailingHandle {
     {
         self.calls.count_write();
         self.calls.pass()?;
-        self.memory.replace(alloc, bytes)
+        self.memory.replace(alloc, bytes)?;
+        self.calls.accept_write();
+        Ok(())
     }
 
     fn erase(&mut self) -> Result<(), CodecError>
@@ -173,7 +185,9 @@ impl BytesPartialEncoderTraits for FailingHandle {
     {
         self.calls.count_write();
         self.calls.pass()?;
-        self.memory.erase()
+        self.memory.erase()?;
+        self.calls.accept_write();
+        Ok(())
     }
 
     fn supports_partial_encode(&self) -> bool {

@@ -57,6 +57,7 @@ impl TornHandle {
         ensures nothing_sure { (torn_state result).sure ≡ None }
         ensures no_faults { (torn_state result).faults ≡ 0 }
         ensures no_writes { (torn_state result).writes ≡ 0 }
+        ensures none_accepted { (torn_state result).accepted_writes ≡ 0 }
         ensures turn { torn_turn result ≡ record { left = n; code = n } }
     {
         let memory = match value {
@@ -88,6 +89,13 @@ impl TornHandle {
         ensures value { result ≡ (torn_state self.now).writes }
     {
         self.calls.write_calls
+    }
+
+    /// How many writing calls were accepted, modulo 2^64.
+    pub fn accepted_writes(&self) -> u64
+        ensures value { result ≡ (torn_state self.now).accepted_writes }
+    {
+        self.calls.accepted_writes
     }
 }
 
@@ -173,7 +181,11 @@ impl BytesPartialEncoderTraits for TornHandle {
     {
         self.calls.count_write();
         match self.calls.next() {
-            None => self.memory.partial_encode_many(alloc, pieces, bytes),
+            None => {
+                self.memory.partial_encode_many(alloc, pieces, bytes)?;
+                self.calls.accept_write();
+                Ok(())
+            }
             Some(failure) => {
                 tear_pieces(alloc, &mut self.memory, pieces, bytes)?;
                 Err(self.calls.fail(failure))
@@ -190,7 +202,11 @@ impl BytesPartialEncoderTraits for TornHandle {
     {
         self.calls.count_write();
         match self.calls.next() {
-            None => self.memory.replace(alloc, bytes),
+            None => {
+                self.memory.replace(alloc, bytes)?;
+                self.calls.accept_write();
+                Ok(())
+            }
             Some(failure) => {
                 self.memory.replace(alloc, &bytes[..bytes.len() / 2])?;
                 Err(self.calls.fail(failure))
@@ -207,7 +223,11 @@ impl BytesPartialEncoderTraits for TornHandle {
     {
         self.calls.count_write();
         match self.calls.next() {
-            None => self.memory.erase(),
+            None => {
+                self.memory.erase()?;
+                self.calls.accept_write();
+                Ok(())
+            }
             Some(failure) => {
                 self.memory.halve();
                 Err(self.calls.fail(failure))
