@@ -1,5 +1,6 @@
 -- Tuples by their numbers, and numbers by their tuples.
-use Rattle.std.specs.Prelude.{◌≡◌, ℕ, ◌+◌, ◌/◌, ◌%◌, ◌^◌, ◌≤◌, ◌&&◌, true, nat_lt, Option, Some, None, List, [], ◌∷◌, if◌then◌else◌}
+use Rattle.std.specs.Prelude.{◌≡◌, ℕ, ◌+◌, ◌/◌, ◌%◌, ◌^◌, ◌≤◌, ◌&&◌, true, nat_lt, Option, Some, None, option_map, List, Vec, [], ◌∷◌, SomeIff, if◌then◌else◌}
+use Rattle.std.specs.declared.alloc.Global.{Global}
 use Rattle.zarrs_chunk.specs.ChunkShape.{product}
 use Rattle.zarrs_chunk.specs.Tuples.{row_major, is_tuple_inside}
 
@@ -26,3 +27,11 @@ box_tuple starts lengths number = indices_behind starts (tuple_of_number lengths
 abbrev pub IsTupleOfNumber : List ℕ → ℕ → Option (List ℕ) → Type 0
 IsTupleOfNumber sizes number None = product sizes ≤ number
 IsTupleOfNumber sizes number (Some tuple) = (is_tuple_inside sizes tuple ≡ true) × (row_major sizes tuple ≡ number)
+
+-- the same of what a call finds that is refused nothing
+abbrev pub FindsTuple : List ℕ → ℕ → Option (Vec ℕ Global) → Unit {0} → Type 0
+FindsTuple sizes number found _ = IsTupleOfNumber sizes number (option_map (λ tuple. tuple.items) found)
+
+-- the place of the tuple, just where the tuple lies inside
+abbrev pub FindsPlace : List ℕ → List ℕ → Option ℕ → Type 0
+FindsPlace sizes tuple found = SomeIff found (is_tuple_inside sizes tuple ≡ true) (row_major sizes tuple)

@@ -1,6 +1,6 @@
 -- The numbers of a box's tuples, built axis by axis.
-use Rattle.std.specs.Prelude.{◌≡◌, ℕ, ◌+◌, ◌*◌, ◌<◌, ◌≤◌, List, map, length, get_or}
-use Rattle.std.specs.List.{flat_map}
+use Rattle.std.specs.Prelude.{◌≡◌, ℕ, ◌+◌, ◌-◌, ◌*◌, ◌^◌, ◌<◌, ◌≤◌, List, map, drop, length, get_or, slice_index}
+use Rattle.std.specs.List.{flat_map, range_with_len}
 use Rattle.zarrs_chunk.specs.ChunkShape.{product}
 use Rattle.zarrs_chunk.specs.Tuples.{row_major, box_tuples}
 
@@ -20,6 +20,27 @@ IsFitting total rest fronts = (k : ℕ) → k < length fronts → (get_or fronts
 -- the row-major numbers of a box's tuples, in order
 abbrev pub box_places : List ℕ → List ℕ → List ℕ → List ℕ
 box_places sizes starts lengths = map (row_major sizes) (box_tuples starts lengths)
+
+-- the fronts over one axis more, of this size: each front gives way to the row of `len` numbers behind it, which begins at the index `start`
+abbrev pub rows_behind : ℕ → ℕ → ℕ → List ℕ → List ℕ
+rows_behind size start len fronts = flat_map (λ front. range_with_len (front * size + start) len) fronts
+
+-- the row behind each front ends where 64 bits hold it
+abbrev pub RowsFit : ℕ → ℕ → ℕ → List ℕ → Type 0
+RowsFit size start len fronts = (k : ℕ) → k < length fronts → slice_index fronts k * size + start + len < 2 ^ 64
+
+-- these are the numbers of the box's tuples over its first `axes` axes: with the tuples of the axes that are left behind them, they are the box's places
+abbrev pub AreFronts : ℕ → List ℕ → List ℕ → List ℕ → List ℕ → Type 0
+AreFronts axes sizes starts lengths fronts =
+    numbers_behind (drop axes sizes) (drop axes starts) (drop axes lengths) fronts ≡ box_places sizes starts lengths
+
+-- the elements of the axes that are left fit behind each front of the first `axes` axes
+abbrev pub FrontsFit : ℕ → List ℕ → List ℕ → Type 0
+FrontsFit axes sizes fronts = IsFitting (product sizes) (product (drop axes sizes)) fronts
+
+-- the box doesn't cover the last of the first `axes` axes whole, if there is one
+abbrev pub LastIsPartial : ℕ → List ℕ → List ℕ → Type 0
+LastIsPartial axes sizes lengths = 0 < axes → slice_index lengths (axes - 1) < slice_index sizes (axes - 1)
 
 -- from the axis `from` on, up to the axis before `to`, the box covers each axis whole: it begins at 0 and is as long as the axis
 abbrev pub AreWhole : ℕ → ℕ → List ℕ → List ℕ → List ℕ → Type 0

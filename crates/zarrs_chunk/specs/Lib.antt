@@ -7,6 +7,7 @@ pub mod Indexer
 pub mod Indices
 pub mod Laws
 pub mod Levels
+pub mod Numbering
 pub mod Region
 pub mod Runs
 pub mod Selection

@@ -1,6 +1,7 @@
 -- Which index tuples are meant, and their places in a chunk.
-use Rattle.std.specs.Prelude.{ℕ, ◌==◌, List, map, length, Result, Ok}
+use Rattle.std.specs.Prelude.{ℕ, ◌==◌, List, Vec, map, length, Result, Ok}
 use Rattle.std.specs.List.{list_all}
+use Rattle.std.specs.declared.alloc.Global.{Global}
 use Rattle.zarrs_chunk.specs.Answer.{◌>>=◌, demand, checked_u64}
 use Rattle.zarrs_chunk.specs.ChunkShape.{product}
 use Rattle.zarrs_chunk.specs.Region.{Region}
@@ -12,6 +13,14 @@ use Rattle.zarrs_chunk.specs.declared.codec_error.CodecError.TheVariants.{Incomp
 pub data Selection : Type 0 where
   subset : Region → Selection
   indices : List (List ℕ) → Selection
+
+-- index tuples as lists of their numbers
+abbrev pub tuples_seen : List (Vec ℕ Global) → List (List ℕ)
+tuples_seen tuples = map (λ tuple. tuple.items) tuples
+
+-- the selection of these tuples, in list order
+abbrev pub indices_of : List (Vec ℕ Global) → Selection
+indices_of tuples = indices (tuples_seen tuples)
 
 -- the tuples that are meant, in order: those of a box row-major, those of a list in list order
 abbrev pub tuples_of : Selection → List (List ℕ)

@@ -1,4 +1,4 @@
-ghost use Rattle.std.specs.Prelude.{◌≡◌, ◌<◌, ◌+◌, ◌^◌, ℕ, Ok, length, slice_index, ◌&&◌};
+ghost use Rattle.std.specs.Prelude.{◌≡◌, Ok, length, ◌&&◌};
 ghost use Rattle.std.specs.Bool.{nat_eq};
 ghost use Rattle.std.specs.Cmp.Lexicographic.{pointwise};
 ghost use Rattle.std.specs.Cmp.Rules.{comparing};
@@ -6,7 +6,8 @@ ghost use Rattle.std.proofs.Common.{rules};
 ghost use Rattle.zarrs_chunk.specs.Answer.{Answers, memory, checked_u64, seen};
 ghost use Rattle.zarrs_chunk.specs.ArraySubset.{ends_fit, subset_of_ranges, subset_of_shape, subset_of_start_shape};
 ghost use Rattle.zarrs_chunk.specs.ChunkShape.{product};
-ghost use Rattle.zarrs_chunk.specs.Tuples.{box_tuples};
+ghost use Rattle.zarrs_chunk.specs.Region.{EndBelow64Bits};
+ghost use Rattle.zarrs_chunk.specs.Selection.{subset as subset_of, len_of};
 
 use crate::boxes::checked_product;
 use crate::codec_error::CodecError;
@@ -99,7 +100,7 @@ impl ArraySubset {
     pub fn shape(&self) -> &[u64]
         ensures lengths { result.now ≡ self.now.lengths }
         ensures axes { length self.now.starts ≡ length self.now.lengths }
-        ensures ends { (axis : ℕ) → axis < length self.now.starts → slice_index self.now.starts axis + slice_index self.now.lengths axis < 2 ^ 64 }
+        ensures ends { EndBelow64Bits self.now.starts self.now.lengths }
     {
         self.lengths.as_slice()
     }
@@ -107,7 +108,7 @@ impl ArraySubset {
     /// How many tuples the box has: the product of its lengths. Refusals: `Overflow`.
     pub fn num_elements(&self) -> Result<u64, CodecError>
         ensures product { result ≡ checked_u64 (product self.now.lengths) }
-        ensures tuples { result ≡ checked_u64 (length (box_tuples self.now.starts self.now.lengths)) }
+        ensures tuples { result ≡ len_of (subset_of self.now) }
     {
         checked_product(self.lengths.as_slice()).ok_or(CodecError::Overflow)
     }

@@ -1,10 +1,8 @@
 //! Products of sizes, and the places and runs of a box, over plain slices.
-ghost use Rattle.std.specs.Prelude.{◌≡◌, ◌<◌, ◌≤◌, ◌^◌, ◌+◌, ◌-◌, ◌*◌, ℕ, length, drop, slice_index, true, IfOk, OnOk, SomeIff, All};
-ghost use Rattle.std.specs.List.{flat_map, range_with_len};
+ghost use Rattle.std.specs.Prelude.{◌≡◌, ◌<◌, ◌≤◌, ◌^◌, length, true, IfOk, OnOk, SomeIff, All};
 ghost use Rattle.zarrs_chunk.specs.ChunkShape.{product};
-ghost use Rattle.zarrs_chunk.specs.Levels.{numbers_behind, box_places as places_of_box, IsFitting};
-ghost use Rattle.zarrs_chunk.specs.Runs.{joined_runs, AreApart};
-ghost use Rattle.zarrs_chunk.specs.Levels.{AreWhole};
+ghost use Rattle.zarrs_chunk.specs.Levels.{box_places as places_of_box, rows_behind, RowsFit, AreFronts, FrontsFit, AreWhole, LastIsPartial};
+ghost use Rattle.zarrs_chunk.specs.Runs.{places_in, AreFilled, EndWithin, AreApart};
 ghost use Rattle.zarrs_chunk.specs.Tuples.{is_box_inside as box_inside};
 
 use std::alloc::{AllocError, Global};
@@ -42,8 +40,8 @@ pub fn is_box_inside(sizes: &[u64], starts: &[u64], lengths: &[u64]) -> bool
 
 /// One axis more, on which the box has one index: each front gives way to the number behind it.
 fn step_fronts(fronts: &mut [u64], size: u64, start: u64)
-    requires { (k : ℕ) → k < length fronts.old → slice_index fronts.old k * size + start + 1 < 2 ^ 64 }
-    ensures { fronts.new ≡ flat_map (λ front. range_with_len (front * size + start) 1) fronts.old }
+    requires { RowsFit size start 1 fronts.old }
+    ensures { fronts.new ≡ rows_behind size start 1 fronts.old }
 {
     for index in 0..fronts.len() {
         fronts[index] = fronts[index] * size + start;
@@ -59,8 +57,8 @@ fn write_rows(
     start: u64,
     len: u64,
 ) -> Result<(), AllocError>
-    requires { (k : ℕ) → k < length fronts.now → slice_index fronts.now k * size + start + len < 2 ^ 64 }
-    ensures { OnOk result (rows.new.items ≡ flat_map (λ front. range_with_len (front * size + start) len) fronts.now) }
+    requires { RowsFit size start len fronts.now }
+    ensures { OnOk result (rows.new.items ≡ rows_behind size start len fronts.now) }
 {
     rows.clear();
     rows.reserve_exact(fronts.len().saturating_mul(len as usize))?;
@@ -80,8 +78,8 @@ fn next_fronts(
     start: u64,
     len: u64,
 ) -> Result<(), AllocError>
-    requires { (k : ℕ) → k < length fronts.old.items → slice_index fronts.old.items k * size + start + len < 2 ^ 64 }
-    ensures { OnOk result (fronts.new.items ≡ flat_map (λ front. range_with_len (front * size + start) len) fronts.old.items) }
+    requires { RowsFit size start len fronts.old.items }
+    ensures { OnOk result (fronts.new.items ≡ rows_behind size start len fronts.old.items) }
 {
     if len == 1 {
         step_fronts(fronts.as_mut_slice(), size, start);
@@ -107,8 +105,8 @@ fn box_fronts(
     requires inside { box_inside sizes.now starts.now lengths.now ≡ true }
     requires positive { All (λ size. 0 < size) sizes.now }
     requires fits { product sizes.now < 2 ^ 64 }
-    ensures level { IfOk result (λ v. numbers_behind (drop axes sizes.now) (drop axes starts.now) (drop axes lengths.now) v.items ≡ places_of_box sizes.now starts.now lengths.now) }
-    ensures fits { IfOk result (λ v. IsFitting (product sizes.now) (product (drop axes sizes.now)) v.items) }
+    ensures level { IfOk result (λ v. AreFronts axes sizes.now starts.now lengths.now v.items) }
+    ensures fits { IfOk result (λ v. FrontsFit axes sizes.now v.items) }
 {
     let mut fronts = vec![in alloc; 0]?;
     let mut rows = Vec::new(alloc);
@@ -148,7 +146,7 @@ fn outer_axes(sizes: &[u64], starts: &[u64], lengths: &[u64]) -> usize
     requires inside { box_inside sizes.now starts.now lengths.now ≡ true }
     ensures axes { result ≤ length sizes.now }
     ensures whole { AreWhole result (length sizes.now) sizes.now starts.now lengths.now }
-    ensures partial { 0 < result → slice_index lengths.now (result - 1) < slice_index sizes.now (result - 1) }
+    ensures partial { LastIsPartial result sizes.now lengths.now }
 {
     let mut axes = 0;
     for index in 0..sizes.len() {
@@ -183,9 +181,10 @@ pub fn box_runs(
     requires inside { box_inside sizes.now starts.now lengths.now ≡ true }
     requires positive { All (λ size. 0 < size) sizes.now }
     requires fits { product sizes.now < 2 ^ 64 }
-    ensures places { IfOk result (λ v. joined_runs v.items ≡ places_of_box sizes.now starts.now lengths.now) }
-    ensures filled { IfOk result (λ v. All (λ run. 0 < run.1) v.items) }
-    ensures below { IfOk result (λ v. All (λ run. run.0 + run.1 ≤ product sizes.now) v.items) }
+    ensures places { IfOk result
+        (λ v. places_in v ≡ places_of_box sizes.now starts.now lengths.now) }
+    ensures filled { IfOk result (λ v. AreFilled v.items) }
+    ensures below { IfOk result (λ v. EndWithin (product sizes.now) v.items) }
     ensures apart { IfOk result (λ v. AreApart v.items) }
 {
     if lengths.contains(&0) {

@@ -1,12 +1,11 @@
 //! Places and runs of a list of index tuples.
-ghost use Rattle.std.specs.Prelude.{◌≡◌, ◌==◌, ◌<◌, ◌≤◌, ◌+◌, ◌++◌, ◌∷◌, [], ◌^◌, length, map, true, false, IfOk, OnOk, All, MatchResult};
-ghost use Rattle.std.specs.List.{list_all};
-ghost use Rattle.zarrs_chunk.specs.Answer.{Answers, Excused, memory, is_fault, Gives};
+ghost use Rattle.std.specs.Prelude.{◌≡◌, ◌<◌, ◌++◌, ◌∷◌, [], ◌^◌, length, true, false, IfOk, IfErr, OnOk, All};
+ghost use Rattle.zarrs_chunk.specs.Answer.{is_fault, Gives};
 ghost use Rattle.zarrs_chunk.specs.ChunkShape.{product};
-ghost use Rattle.zarrs_chunk.specs.Runs.{joined_runs, AreApart};
-ghost use Rattle.zarrs_chunk.specs.Selection.{indices as indices_of, bounds_of, places_of};
+ghost use Rattle.zarrs_chunk.specs.Numbering.{are_of_axes, are_tuples_inside, numbers_of_tuples, AreCountable, IsOkInside};
+ghost use Rattle.zarrs_chunk.specs.Runs.{places_in, AreFilled, EndWithin, StayWithin, AreApart};
+ghost use Rattle.zarrs_chunk.specs.Selection.{indices_of, bounds_of, places_of};
 ghost use Rattle.zarrs_chunk.specs.Tuples.{row_major as row_major_of, is_tuple_inside as tuple_inside};
-ghost use Rattle.zarrs_chunk.specs.declared.codec_error.CodecError.TheVariants.{OutOfBounds};
 
 use crate::boxes::checked_product;
 use crate::chunk_shape::ChunkShape;
@@ -16,13 +15,13 @@ use crate::runs::append_place;
 use std::alloc::Global;
 
 fn have_axes(axes: usize, tuples: &[ArrayIndices]) -> bool
-    ensures { result ≡ list_all (λ tuple. length tuple.items == axes) tuples.now }
+    ensures { result ≡ are_of_axes axes tuples.now }
 {
     tuples.iter().all(|tuple| tuple.len() == axes)
 }
 
 fn are_inside(sizes: &[u64], tuples: &[ArrayIndices]) -> bool
-    ensures { result ≡ list_all (λ tuple. tuple_inside sizes.now tuple.items) tuples.now }
+    ensures { result ≡ are_tuples_inside sizes.now tuples.now }
 {
     tuples
         .iter()
@@ -30,7 +29,7 @@ fn are_inside(sizes: &[u64], tuples: &[ArrayIndices]) -> bool
 }
 
 pub fn check_indices(sizes: &[u64], tuples: &[ArrayIndices]) -> Result<(), CodecError>
-    ensures answer { result ≡ bounds_of (indices_of (map (λ tuple. tuple.items) tuples.now)) sizes.now }
+    ensures answer { result ≡ bounds_of (indices_of tuples.now) sizes.now }
 {
     if !have_axes(sizes.len(), tuples) {
         return Err(CodecError::IncompatibleDimensionality);
@@ -44,7 +43,8 @@ pub fn check_indices(sizes: &[u64], tuples: &[ArrayIndices]) -> Result<(), Codec
 /// What comes before tuples are numbered: each has one number an axis, and 64 bits count the
 /// elements. Where they don't, a tuple outside is refused first.
 fn check_countable(sizes: &[u64], tuples: &[ArrayIndices]) -> Result<(), CodecError>
-    ensures { MatchResult result (λ _. (list_all (λ tuple. length tuple.items == length sizes.now) tuples.now ≡ true) × (product sizes.now < 2 ^ 64)) (λ e. places_of (indices_of (map (λ tuple. tuple.items) tuples.now)) sizes.now ≡ Err e) }
+    ensures countable { OnOk result (AreCountable sizes.now tuples.now) }
+    ensures refused { IfErr result (λ e. places_of (indices_of tuples.now) sizes.now ≡ Err e) }
 {
     if !have_axes(sizes.len(), tuples) {
         return Err(CodecError::IncompatibleDimensionality);
@@ -63,7 +63,9 @@ fn push_place(places: &mut Vec<u64>, sizes: &[u64], tuple: &[u64]) -> Result<(),
     requires axes { length tuple.now ≡ length sizes.now }
     requires positive { All (λ size. 0 < size) sizes.now }
     requires fits { product sizes.now < 2 ^ 64 }
-    ensures pushed { MatchResult result (λ _. (tuple_inside sizes.now tuple.now ≡ true) × (places.new.items ≡ places.old.items ++ row_major_of sizes.now tuple.now ∷ [])) (λ e. Excused (memory e) ((tuple_inside sizes.now tuple.now ≡ false) × (e ≡ OutOfBounds))) }
+    ensures inside { IsOkInside (tuple_inside sizes.now tuple.now) result }
+    ensures pushed { OnOk result
+        (places.new.items ≡ places.old.items ++ row_major_of sizes.now tuple.now ∷ []) }
     ensures no_fault { is_fault result ≡ false }
 {
     let place = place_inside(sizes, tuple).ok_or(CodecError::OutOfBounds)?;
@@ -76,9 +78,11 @@ fn push_run(runs: &mut Vec<(u64, u64)>, sizes: &[u64], tuple: &[u64]) -> Result<
     requires axes { length tuple.now ≡ length sizes.now }
     requires positive { All (λ size. 0 < size) sizes.now }
     requires fits { product sizes.now < 2 ^ 64 }
-    ensures pushed { MatchResult result (λ _. (tuple_inside sizes.now tuple.now ≡ true) × (joined_runs runs.new.items ≡ joined_runs runs.old.items ++ row_major_of sizes.now tuple.now ∷ [])) (λ e. Excused (memory e) ((tuple_inside sizes.now tuple.now ≡ false) × (e ≡ OutOfBounds))) }
-    ensures filled { OnOk result (All (λ run. 0 < run.1) runs.old.items → All (λ run. 0 < run.1) runs.new.items) }
-    ensures below { OnOk result (All (λ run. run.0 + run.1 ≤ product sizes.now) runs.old.items → All (λ run. run.0 + run.1 ≤ product sizes.now) runs.new.items) }
+    ensures inside { IsOkInside (tuple_inside sizes.now tuple.now) result }
+    ensures pushed { OnOk result
+        (places_in runs.new ≡ places_in runs.old ++ row_major_of sizes.now tuple.now ∷ []) }
+    ensures filled { OnOk result (AreFilled runs.old.items → AreFilled runs.new.items) }
+    ensures below { OnOk result (StayWithin (product sizes.now) runs.old.items runs.new.items) }
     ensures apart { OnOk result (AreApart runs.old.items → AreApart runs.new.items) }
     ensures no_fault { is_fault result ≡ false }
 {
@@ -93,10 +97,11 @@ fn tuple_places(
     sizes: &[u64],
     tuples: &[ArrayIndices],
 ) -> Result<Vec<u64>, CodecError>
-    requires axes { list_all (λ tuple. length tuple.items == length sizes.now) tuples.now ≡ true }
+    requires axes { are_of_axes (length sizes.now) tuples.now ≡ true }
     requires positive { All (λ size. 0 < size) sizes.now }
     requires fits { product sizes.now < 2 ^ 64 }
-    ensures places { MatchResult result (λ v. (list_all (λ tuple. tuple_inside sizes.now tuple.items) tuples.now ≡ true) × (v.items ≡ map (λ tuple. row_major_of sizes.now tuple.items) tuples.now)) (λ e. Excused (memory e) ((list_all (λ tuple. tuple_inside sizes.now tuple.items) tuples.now ≡ false) × (e ≡ OutOfBounds))) }
+    ensures inside { IsOkInside (are_tuples_inside sizes.now tuples.now) result }
+    ensures places { IfOk result (λ v. v.items ≡ numbers_of_tuples sizes.now tuples.now) }
     ensures no_fault { is_fault result ≡ false }
 {
     let mut places = Vec::with_capacity(alloc, tuples.len())?;
@@ -112,12 +117,13 @@ fn tuple_runs(
     sizes: &[u64],
     tuples: &[ArrayIndices],
 ) -> Result<Vec<(u64, u64)>, CodecError>
-    requires axes { list_all (λ tuple. length tuple.items == length sizes.now) tuples.now ≡ true }
+    requires axes { are_of_axes (length sizes.now) tuples.now ≡ true }
     requires positive { All (λ size. 0 < size) sizes.now }
     requires fits { product sizes.now < 2 ^ 64 }
-    ensures places { MatchResult result (λ v. (list_all (λ tuple. tuple_inside sizes.now tuple.items) tuples.now ≡ true) × (joined_runs v.items ≡ map (λ tuple. row_major_of sizes.now tuple.items) tuples.now)) (λ e. Excused (memory e) ((list_all (λ tuple. tuple_inside sizes.now tuple.items) tuples.now ≡ false) × (e ≡ OutOfBounds))) }
-    ensures filled { IfOk result (λ v. All (λ run. 0 < run.1) v.items) }
-    ensures below { IfOk result (λ v. All (λ run. run.0 + run.1 ≤ product sizes.now) v.items) }
+    ensures inside { IsOkInside (are_tuples_inside sizes.now tuples.now) result }
+    ensures places { IfOk result (λ v. places_in v ≡ numbers_of_tuples sizes.now tuples.now) }
+    ensures filled { IfOk result (λ v. AreFilled v.items) }
+    ensures below { IfOk result (λ v. EndWithin (product sizes.now) v.items) }
     ensures apart { IfOk result (λ v. AreApart v.items) }
     ensures no_fault { is_fault result ≡ false }
 {
@@ -134,7 +140,7 @@ pub fn indices_places(
     shape: &ChunkShape,
     tuples: &[ArrayIndices],
 ) -> Result<Vec<u64>, CodecError>
-    ensures places { Gives (λ v. v.items) result (places_of (indices_of (map (λ tuple. tuple.items) tuples.now)) shape.now) }
+    ensures places { Gives (λ v. v.items) result (places_of (indices_of tuples.now) shape.now) }
     ensures below { IfOk result (λ v. All (λ place. place < product shape.now) v.items) }
     ensures count { IfOk result (λ v. length v.items < 2 ^ 64) }
 {
@@ -150,10 +156,10 @@ pub fn indices_runs(
     shape: &ChunkShape,
     tuples: &[ArrayIndices],
 ) -> Result<Vec<(u64, u64)>, CodecError>
-    ensures places { Gives (λ v. joined_runs v.items) result (places_of (indices_of (map (λ tuple. tuple.items) tuples.now)) shape.now) }
-    ensures filled { IfOk result (λ v. All (λ run. 0 < run.1) v.items) }
-    ensures below { IfOk result (λ v. All (λ run. run.0 + run.1 ≤ product shape.now) v.items) }
-    ensures count { IfOk result (λ v. length (joined_runs v.items) < 2 ^ 64) }
+    ensures places { Gives places_in result (places_of (indices_of tuples.now) shape.now) }
+    ensures filled { IfOk result (λ v. AreFilled v.items) }
+    ensures below { IfOk result (λ v. EndWithin (product shape.now) v.items) }
+    ensures count { IfOk result (λ v. length (places_in v) < 2 ^ 64) }
     ensures apart { IfOk result (λ v. AreApart v.items) }
 {
     let sizes = shape.as_slice();

@@ -1,8 +1,8 @@
-ghost use Rattle.std.specs.Prelude.{◌≡◌, ◌<◌, ◌≤◌, ◌+◌, ◌^◌, length, false, IfOk, Ok, All};
-ghost use Rattle.zarrs_chunk.specs.Answer.{Answers, memory, is_fault, Gives};
+ghost use Rattle.std.specs.Prelude.{◌≡◌, ◌<◌, ◌^◌, length, IfOk, Ok, All};
+ghost use Rattle.zarrs_chunk.specs.Answer.{Answers, memory, Gives};
 ghost use Rattle.zarrs_chunk.specs.ChunkShape.{product};
 ghost use Rattle.zarrs_chunk.specs.Indexer.{selection_of};
-ghost use Rattle.zarrs_chunk.specs.Runs.{joined_runs, AreApart};
+ghost use Rattle.zarrs_chunk.specs.Runs.{places_in, AreFilled, EndWithin, AreApart};
 ghost use Rattle.zarrs_chunk.specs.Selection.{subset as subset_of, bounds_of, len_of, places_of};
 
 use crate::array_subset::ArraySubset;
@@ -57,10 +57,10 @@ fn subset_runs(
     shape: &ChunkShape,
     subset: &ArraySubset,
 ) -> Result<Vec<(u64, u64)>, CodecError>
-    ensures places { Gives (λ v. joined_runs v.items) result (places_of (subset_of subset.now) shape.now) }
-    ensures filled { IfOk result (λ v. All (λ run. 0 < run.1) v.items) }
-    ensures below { IfOk result (λ v. All (λ run. run.0 + run.1 ≤ product shape.now) v.items) }
-    ensures count { IfOk result (λ v. length (joined_runs v.items) < 2 ^ 64) }
+    ensures places { Gives places_in result (places_of (subset_of subset.now) shape.now) }
+    ensures filled { IfOk result (λ v. AreFilled v.items) }
+    ensures below { IfOk result (λ v. EndWithin (product shape.now) v.items) }
+    ensures count { IfOk result (λ v. length (places_in v) < 2 ^ 64) }
     ensures apart { IfOk result (λ v. AreApart v.items) }
 {
     let sizes = shape.as_slice();
@@ -110,10 +110,10 @@ impl Indexer {
     /// The places in order, as runs of a start and a length: consecutive numbers, none of the runs
     /// empty, and none starting where the one before it ends. Refusals as `places`.
     pub fn runs(&self, alloc: Global, shape: &ChunkShape) -> Result<Vec<(u64, u64)>, CodecError>
-        ensures places { Gives (λ v. joined_runs v.items) result (places_of (selection_of self.now) shape.now) }
-        ensures filled { IfOk result (λ v. All (λ run. 0 < run.1) v.items) }
-        ensures below { IfOk result (λ v. All (λ run. run.0 + run.1 ≤ product shape.now) v.items) }
-        ensures count { IfOk result (λ v. length (joined_runs v.items) < 2 ^ 64) }
+        ensures places { Gives places_in result (places_of (selection_of self.now) shape.now) }
+        ensures filled { IfOk result (λ v. AreFilled v.items) }
+        ensures below { IfOk result (λ v. EndWithin (product shape.now) v.items) }
+        ensures count { IfOk result (λ v. length (places_in v) < 2 ^ 64) }
         ensures apart { IfOk result (λ v. AreApart v.items) }
     {
         match self {

@@ -1,8 +1,8 @@
-ghost use Rattle.std.specs.Prelude.{◌≡◌, ◌<◌, ◌^◌, true, length, option_map, All, SomeIff};
+ghost use Rattle.std.specs.Prelude.{◌≡◌, ◌<◌, ◌^◌, length, All};
 ghost use Rattle.zarrs_chunk.specs.Answer.{AnswersBy, memory, no_refusal};
 ghost use Rattle.zarrs_chunk.specs.ChunkShape.{product};
-ghost use Rattle.zarrs_chunk.specs.Indices.{number_of_tuple, IsTupleOfNumber};
-ghost use Rattle.zarrs_chunk.specs.Tuples.{row_major as row_major_of, is_tuple_inside as tuple_inside};
+ghost use Rattle.zarrs_chunk.specs.Indices.{number_of_tuple, FindsTuple, FindsPlace};
+ghost use Rattle.zarrs_chunk.specs.Tuples.{is_tuple_inside as tuple_inside};
 
 use crate::chunk_shape::ChunkShape;
 use crate::codec_error::CodecError;
@@ -31,7 +31,7 @@ pub fn place_inside(sizes: &[u64], tuple: &[u64]) -> Option<u64>
     requires axes { length tuple.now ≡ length sizes.now }
     requires positive { All (λ size. 0 < size) sizes.now }
     requires fits { product sizes.now < 2 ^ 64 }
-    ensures value { SomeIff result (tuple_inside sizes.now tuple.now ≡ true) (row_major_of sizes.now tuple.now) }
+    ensures value { FindsPlace sizes.now tuple.now result }
 {
     let mut place = 0;
     for axis in 0..sizes.len() {
@@ -68,7 +68,7 @@ pub fn unravel_index(
     index: u64,
     shape: &ChunkShape,
 ) -> Result<Option<ArrayIndices>, CodecError>
-    ensures answer { AnswersBy memory (λ found _. IsTupleOfNumber shape.now index (option_map (λ tuple. tuple.items) found)) result no_refusal }
+    ensures answer { AnswersBy memory (FindsTuple shape.now index) result no_refusal }
 {
     let sizes = shape.as_slice();
     let mut indices = vec![in alloc; 0; sizes.len()]?;

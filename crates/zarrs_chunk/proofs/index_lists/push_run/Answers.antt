@@ -14,9 +14,8 @@ append_place-requires c =
 
 pub returns-clause-pushed : goal.returns-clause-pushed
 returns-clause-pushed c =
-    let inside : is_tuple_inside c.args.sizes.now c.args.tuple.now ≡ true = search rules in
     let place : c.in_ok-place.place ≡ row_major c.args.sizes.now c.args.tuple.now = search rules in
-    (inside, c.in_ok-append_place.ensures.places ∙ ap (λ n. joined_runs c.args.runs.now.items ++ n ∷ []) place)
+    c.in_ok-append_place.ensures.places ∙ ap (λ n. joined_runs c.args.runs.now.items ++ n ∷ []) place
 
 pub returns-clause-below : goal.returns-clause-below
 returns-clause-below c =
