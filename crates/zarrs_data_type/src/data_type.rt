@@ -172,7 +172,8 @@ impl DataType {
         num_components: u64,
         sign_extension: bool,
     ) -> Result<DataType, CodecError>
-        ensures answer { result ≡ type_of_components component_size_bits num_components sign_extension }
+        ensures answer { result
+            ≡ type_of_components component_size_bits num_components sign_extension }
     {
         if component_size_bits == 0 || num_components == 0 {
             return Err(CodecError::BitRange);
