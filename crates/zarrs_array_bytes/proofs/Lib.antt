@@ -21,3 +21,4 @@ pub mod PresentAnswers
 pub mod TargetLemmas
 pub mod ViewLaw
 pub mod CountLaw
+pub mod BlankLemmas

@@ -112,11 +112,11 @@ expanded_holds t a m ds sizes stands =
       elements_are = rw count (under t a m ∙ stands.are);
     }
 
-fits_parts : (b : Bool) (k : ℕ) (f : ℕ → Result (Unit {0}) CodecError) → (demand b MaskValue >>= (λ _. Ok k)) >>= f ≡ Ok tt → (b ≡ true) × (f k ≡ Ok tt)
+pub fits_parts : (b : Bool) (k : ℕ) (f : ℕ → Result (Unit {0}) CodecError) → (demand b MaskValue >>= (λ _. Ok k)) >>= f ≡ Ok tt → (b ≡ true) × (f k ≡ Ok tt)
 fits_parts true k f h = (refl, h)
 fits_parts false k f h = cc
 
-then_is : (r : Result (Unit {0}) CodecError) (h a : Held) → r >>= (λ _. Ok h) ≡ Ok a → (r ≡ Ok tt) × (h ≡ a)
+pub then_is : (r : Result (Unit {0}) CodecError) (h a : Held) → r >>= (λ _. Ok h) ≡ Ok a → (r ≡ Ok tt) × (h ≡ a)
 then_is (Ok u) h a e = (refl, cc)
 then_is (Err c) h a e = cc
 

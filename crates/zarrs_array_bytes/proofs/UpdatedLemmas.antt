@@ -136,6 +136,11 @@ module _ (refusal other : LengthRefusal) where
       }
   updated_is _ n m h g ps e f = cc
 
+-- the elements of an updated container are the update of the elements
+pub updated_are : (refusal other : LengthRefusal) (t : ElementType) (n m : ℕ) (h g : Held) (ps : List ℕ) → levels_fit refusal t n h ≡ Ok tt → levels_fit other t m g ≡ Ok tt
+    → elements t n (container_update t n h m g ps) ≡ update (elements t n h) ps (elements t m g)
+updated_are refusal other t n m h g ps e f = (updated_is refusal other t n m h g ps e f).are
+
 -- what an update leaves holds the updated chunk
 pub updated_holds : (t : ElementType) (n m : ℕ) (h g a : Held) (ps : List ℕ) (other : LengthRefusal) → levels_fit InvalidBytesLength t n h ≡ Ok tt → levels_fit other t m g ≡ Ok tt → sizes_fit t n ≡ Ok tt
     → container_update t n h m g ps ≡ a → Holds t a (update (elements t n h) ps (elements t m g))

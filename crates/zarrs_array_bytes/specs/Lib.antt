@@ -7,6 +7,7 @@ pub mod SameBytesLaws
 pub mod Parts
 pub mod Elements
 pub mod Validity
+pub mod Blank
 pub mod WrongLength
 pub mod Pieces
 pub mod Extracted

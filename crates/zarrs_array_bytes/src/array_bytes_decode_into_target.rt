@@ -2,6 +2,7 @@ ghost use Rattle.std.specs.Prelude.{◌≡◌, ◌+◌, ◌<◌, ◌≤◌, ◌=
 ghost use Rattle.zarrs_chunk.specs.ChunkShape.{product};
 ghost use Rattle.zarrs_array_bytes.specs.ArrayBytesDecodeIntoTarget.{view_name};
 ghost use Rattle.zarrs_array_bytes.specs.ArrayBytesFixedView.{view_of};
+ghost use Rattle.zarrs_array_bytes.specs.Blank.{has_flags};
 ghost use Rattle.zarrs_array_bytes.specs.DecodeTarget.{has_one_size as has_one_size_of, levels_taken as levels_taken_of, written_masks, under_views, has_masks, has_values};
 ghost use Rattle.zarrs_array_bytes.specs.FixedView.{written_view};
 ghost use Rattle.zarrs_array_bytes.specs.Parts.{bytes_in};
@@ -52,6 +53,7 @@ impl<'a> ArrayBytesDecodeIntoTarget<'a> {
         requires fills { fills (target_of self.old) elements.now ≡ true }
         ensures same_reference { target_names self.new ≡ target_names self.old }
         ensures written { target_of self.new ≡ written_target (target_of self.old) elements.now }
+        ensures flags { has_flags elements.now ≡ true }
     {
         write_levels(&mut self.masks, 0, &mut self.values, elements);
     }
@@ -113,6 +115,7 @@ fn write_levels(
     ensures mask_names { map view_name masks.new ≡ map view_name masks.old }
     ensures name { view_name values.new ≡ view_name values.old }
     ensures values { view_of values.new ≡ written_view (view_of values.old) (bytes_in (under_views (drop level (map view_of masks.old)) elements.now)) }
+    ensures flags { has_flags elements.now ≡ true }
 {
     if level == masks.len() {
         values.write(elements.fixed_bytes());
@@ -135,6 +138,7 @@ fn write_mask<'b, 'c>(
     ensures names { map view_name masks.new ≡ map view_name masks.old }
     ensures masks { has_masks (drop (level + 1) (map view_of masks.new)) result.now ≡ true }
     ensures under { under_views (drop (level + 1) (map view_of masks.new)) result.now ≡ under_views (drop level (map view_of masks.old)) elements.now }
+    ensures flags { has_flags result.now ≡ true → has_flags elements.now ≡ true }
     ensures written { take (level + 1) (map view_of masks.new) ++ written_masks (drop (level + 1) (map view_of masks.new)) result.now ≡ take level (map view_of masks.old) ++ written_masks (drop level (map view_of masks.old)) elements.now }
 {
     let (inner, flags) = elements.optional_parts();

@@ -4,6 +4,7 @@ ghost use Rattle.zarrs_chunk.specs.Answer.{Answers, AnswersBy, memory, is_fault,
 ghost use Rattle.zarrs_chunk.specs.Indexer.{selection_of};
 ghost use Rattle.zarrs_chunk.specs.Runs.{joined_runs};
 ghost use Rattle.zarrs_array_bytes.specs.Validity.{Holds, levels_fit};
+ghost use Rattle.zarrs_array_bytes.specs.Blank.{KeepsBlanks};
 ghost use Rattle.zarrs_array_bytes.specs.Extracted.{container_selection, IsSmall};
 ghost use Rattle.zarrs_array_bytes.specs.Chunks.{chunk_at, selected_chunk};
 
@@ -27,6 +28,7 @@ impl<'a> ArrayBytes<'a> {
         data_type: &DataType,
     ) -> Result<ArrayBytes<'static>, CodecError>
         ensures exact { GivesBy (Holds data_type.now) result (selected_chunk data_type.now shape.now (selection_of indexer.now) self.now) }
+        ensures blank { KeepsBlanks data_type.now self.now result }
     {
         let runs = indexer.runs(alloc, shape)?;
         let count = shape.num_elements()?;
@@ -45,6 +47,7 @@ impl<'a> ArrayBytes<'a> {
     ) -> Result<ArrayBytes<'b>, CodecError>
         requires inside { All (λ run. run.0 + run.1 ≤ count) runs.now }
         ensures answer { GivesBy (Holds data_type.now) result (chunk_at data_type.now count (joined_runs runs.now) self.now) }
+        ensures blank { KeepsBlanks data_type.now self.now result }
     {
         self.validate(count, data_type)?;
         self.at_runs(alloc, runs, count, data_type)

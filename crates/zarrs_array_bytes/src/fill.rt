@@ -1,6 +1,7 @@
 ghost use Rattle.std.specs.Prelude.{◌≡◌, Ok, IfOk, false};
 ghost use Rattle.zarrs_chunk.specs.Answer.{Answers, AnswersBy, memory, is_fault, Gives, GivesBy};
 ghost use Rattle.zarrs_array_bytes.specs.Validity.{Holds, sizes_fit};
+ghost use Rattle.zarrs_array_bytes.specs.Blank.{AbsentAreBlank};
 ghost use Rattle.zarrs_array_bytes.specs.Extracted.{IsSmall};
 ghost use Rattle.zarrs_array_bytes.specs.Filled.{blank_elements as blank_of, container_fill};
 ghost use Rattle.zarrs_array_bytes.specs.Chunks.{fill_chunk};
@@ -25,6 +26,7 @@ impl<'a> ArrayBytes<'a> {
     ) -> Result<ArrayBytes<'a>, CodecError>
         ensures exact { GivesBy (Holds data_type.now) result (fill_chunk data_type.now count fill_value.now) }
         ensures held { IfOk result (λ array. array ≡ container_fill data_type.now count fill_value.now) }
+        ensures blank { IfOk result (AbsentAreBlank data_type.now) }
     {
         if !fill_value.fits(data_type) {
             return Err(CodecError::InvalidFillValue);

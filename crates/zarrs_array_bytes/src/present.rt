@@ -6,6 +6,7 @@ ghost use Rattle.zarrs_data_type.specs.ElementType.{optional};
 ghost use Rattle.zarrs_array_bytes.specs.Held.{masked, raw_of};
 ghost use Rattle.zarrs_chunk.specs.declared.codec_error.CodecError.TheVariants.{InvalidBytesLength};
 ghost use Rattle.zarrs_array_bytes.specs.Validity.{sizes_fit, levels_fit, validity, Holds};
+ghost use Rattle.zarrs_array_bytes.specs.Blank.{OuterAreBlank, AbsentAreBlank, KeepsBlanks};
 ghost use Rattle.zarrs_array_bytes.specs.Present.{present_places, present_count, are_all_present, present_chunk, container_spread, container_expansion, expansion_of, expanded_chunk};
 
 use crate::array_bytes::{ArrayBytes, is_mask};
@@ -99,6 +100,7 @@ impl<'a> ArrayBytes<'a> {
     ) -> Result<ArrayBytes<'a>, CodecError>
         ensures answer { GivesBy (Holds data_type.now) result (present_chunk data_type.now self.entry mask.now) }
         ensures kept { are_all_present mask.now ≡ true → result ≡ seen (λ _. self.entry) (validity data_type.now (length mask.now) self.entry) }
+        ensures blank { KeepsBlanks data_type.now self.entry result }
     {
         self.validate(mask.len() as u64, data_type)?;
         if count_set(mask) == mask.len() {
@@ -122,6 +124,9 @@ impl<'a> ArrayBytes<'a> {
     ) -> Result<ArrayBytes<'a>, CodecError>
         ensures answer { GivesBy (Holds (optional data_type.now)) result (expanded_chunk data_type.now self.entry (raw_of mask.entry).items) }
         ensures held { IfOk result (λ array. array ≡ masked (container_expansion data_type.now self.entry (raw_of mask.entry).items) (raw_of mask.entry)) }
+        ensures absent { IfOk result (OuterAreBlank (optional data_type.now)) }
+        ensures blank { AbsentAreBlank data_type.now self.entry
+            → IfOk result (AbsentAreBlank (optional data_type.now)) }
     {
         let inner = self.expanded(alloc, mask.as_slice(), data_type)?;
         inner.with_optional_mask(alloc, mask)

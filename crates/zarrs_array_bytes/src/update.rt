@@ -9,6 +9,7 @@ ghost use Rattle.zarrs_array_bytes.specs.Offsets.{is_offsets, last_of};
 ghost use Rattle.zarrs_array_bytes.specs.Parts.{fixed_part, variable_part, optional_part, bytes_in, offsets_in, inner_in};
 ghost use Rattle.zarrs_array_bytes.specs.Pieces.{variable_of};
 ghost use Rattle.zarrs_array_bytes.specs.Validity.{Holds, levels_fit, data_fit};
+ghost use Rattle.zarrs_array_bytes.specs.Blank.{UpdatesBlanks};
 ghost use Rattle.zarrs_array_bytes.specs.Update.{update, with_runs, cuts_update, container_update};
 ghost use Rattle.zarrs_array_bytes.specs.Chunks.{update_fit, update_at_places, chunk_update};
 
@@ -40,6 +41,7 @@ pub fn update_array_bytes(
     data_type: &DataType,
 ) -> Result<ArrayBytes<'static>, CodecError>
     ensures exact { GivesBy (Holds data_type.now) result (chunk_update data_type.now shape.now (selection_of indexer.now) array.entry new.now) }
+    ensures blank { UpdatesBlanks data_type.now array.entry new.now result }
 {
     let runs = indexer.runs(alloc, shape)?;
     let count = shape.num_elements()?;
@@ -61,6 +63,7 @@ pub fn update_runs(
 ) -> Result<ArrayBytes<'static>, CodecError>
     requires inside { All (λ run. run.0 + run.1 ≤ count) runs.now }
     ensures answer { GivesBy (Holds data_type.now) result (update_at_places data_type.now count (joined_runs runs.now) array.entry new.now) }
+    ensures blank { UpdatesBlanks data_type.now array.entry new.now result }
 {
     check_update(&array, count, runs, new, data_type)?;
     write_elements(alloc, array, count, new, runs, data_type)

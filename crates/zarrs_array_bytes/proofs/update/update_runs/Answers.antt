@@ -1,6 +1,7 @@
 use Rattle.std.proofs.Common.{rules, sym}
 use Rattle.zarrs_chunk.specs.Runs.{joined_runs}
 use Rattle.zarrs_array_bytes.proofs.AnswerLemmas.{update_fits, runs_answers}
+use Rattle.zarrs_array_bytes.proofs.BlankLemmas.{updated_blank}
 use Rattle.zarrs_array_bytes.proofs.update.update_runs.Goals as goal
 
 pub write_elements-requires-clause-valid : goal.write_elements-requires-clause-valid
@@ -13,4 +14,8 @@ write_elements-requires-clause-data_valid c =
 
 pub returns : goal.returns
 returns c =
-    record { answer = record { is = runs_answers c.args.data_type.now c.args.count c.args.array c.args.new.now (joined_runs c.args.runs.now) c.write_elements.result (sym (c.in_ok-check_update.ensures {u = tt}).exact) c.write_elements.ensures.exact; no_fault = search rules } }
+    let fit = sym (c.in_ok-check_update.ensures {u = tt}).exact in
+    record {
+      answer = record { is = runs_answers c.args.data_type.now c.args.count c.args.array c.args.new.now (joined_runs c.args.runs.now) c.write_elements.result fit c.write_elements.ensures.exact; no_fault = search rules };
+      blank = updated_blank c.args.data_type.now c.args.count c.args.array c.args.new.now (joined_runs c.args.runs.now) c.write_elements.result fit c.write_elements.ensures.exact;
+    }

@@ -3,6 +3,7 @@ use Rattle.zarrs_array_bytes.specs.Held.{raw_of}
 use Rattle.zarrs_array_bytes.specs.Present.{expansion_of}
 use Rattle.zarrs_array_bytes.proofs.ValidLemmas.{raw_items}
 use Rattle.zarrs_array_bytes.proofs.PresentAnswers.{expanded_answers}
+use Rattle.zarrs_array_bytes.proofs.BlankLemmas.{expanded_over, expanded_blank}
 use Rattle.zarrs_array_bytes.proofs.array_bytes.ArrayBytes.expand_present.Goals as goal
 
 pub returns-clause-answer : goal.returns-clause-answer
@@ -15,3 +16,19 @@ returns-clause-answer c =
           (subst (λ (xs : List ℕ). expansion_of type c.args.self xs ≡ Ok c.in_ok-inner.inner) bytes is) c.with_optional_mask.ensures.answer;
       no_fault = search rules;
     }
+
+pub returns-clause-absent : goal.returns-clause-absent
+returns-clause-absent c =
+    let type = c.args.data_type.now in
+    let bytes : c.as_slice.result.now ≡ (raw_of c.args.mask).items = c.as_slice.ensures.value ∙ raw_items c.args.mask in
+    let is : expansion_of type c.args.self c.as_slice.result.now ≡ Ok c.in_ok-inner.inner = cc (c.in_ok-inner.ensures.exact.is) in
+    expanded_over type c.args.self c.in_ok-inner.inner (raw_of c.args.mask) c.with_optional_mask.result
+    (subst (λ (xs : List ℕ). expansion_of type c.args.self xs ≡ Ok c.in_ok-inner.inner) bytes is) c.with_optional_mask.ensures.answer
+
+pub returns-clause-blank : goal.returns-clause-blank
+returns-clause-blank c =
+    let type = c.args.data_type.now in
+    let bytes : c.as_slice.result.now ≡ (raw_of c.args.mask).items = c.as_slice.ensures.value ∙ raw_items c.args.mask in
+    let is : expansion_of type c.args.self c.as_slice.result.now ≡ Ok c.in_ok-inner.inner = cc (c.in_ok-inner.ensures.exact.is) in
+    expanded_blank type c.args.self c.in_ok-inner.inner (raw_of c.args.mask) c.with_optional_mask.result
+    (subst (λ (xs : List ℕ). expansion_of type c.args.self xs ≡ Ok c.in_ok-inner.inner) bytes is) c.with_optional_mask.ensures.answer

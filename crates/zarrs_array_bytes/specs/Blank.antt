@@ -1,0 +1,42 @@
+-- What stands under absent elements.
+use Rattle.std.specs.Prelude.{◌≡◌, ℕ, ◌<◌, Bool, true, ◌&&◌, nat_lt, List, [], length, replicate, slice_index, Result, IfOk}
+use Rattle.std.specs.List.{list_all}
+use Rattle.zarrs_data_type.specs.ElementType.{ElementType, fixed, text, bytes, optional, element_size}
+use Rattle.zarrs_data_type.specs.Element.{Element, plain, absent}
+use Rattle.zarrs_array_bytes.specs.Held.{Held, masked}
+use Rattle.zarrs_array_bytes.specs.Elements.{element_at}
+
+-- an element that says nothing: zeros, an empty text, or an absent element
+abbrev pub blank_element : ElementType → Element
+blank_element (fixed width components sign) = plain (replicate (element_size width components) 0)
+blank_element text = plain []
+blank_element bytes = plain []
+blank_element (optional type) = absent
+
+-- a mask over elements has zeros and ones, and where a byte is 0, the element under it is blank
+pub record IsOverBlanks (mask : List ℕ) (type : ElementType) (held : Held) : Type 0 where
+  pub flags : list_all (λ byte. nat_lt byte 2) mask ≡ true
+  pub blank : (place : ℕ) → place < length mask → slice_index mask place ≡ 0 → element_at type held place ≡ blank_element type
+
+-- the outermost mask, of elements that may be absent, is over blanks
+abbrev pub OuterAreBlank : ElementType → Held → Type 0
+OuterAreBlank (optional type) (masked inner mask) = IsOverBlanks mask.items type inner
+OuterAreBlank _ held = Unit {0}
+
+-- blank elements stand under those that are absent, at every depth, and masks have zeros and ones
+abbrev pub AbsentAreBlank : ElementType → Held → Type 0
+AbsentAreBlank (optional type) (masked inner mask) = IsOverBlanks mask.items type inner × AbsentAreBlank type inner
+AbsentAreBlank _ held = Unit {0}
+
+-- where they do in a container, they do in what is made of it
+abbrev pub KeepsBlanks : {E : Type 0} → ElementType → Held → Result Held E → Type 0
+KeepsBlanks type held result = AbsentAreBlank type held → IfOk result (AbsentAreBlank type)
+
+-- where they do in the old elements and in the new ones, they do in what is made of both
+abbrev pub UpdatesBlanks : {E : Type 0} → ElementType → Held → Held → Result Held E → Type 0
+UpdatesBlanks type old new result = AbsentAreBlank type old → AbsentAreBlank type new → IfOk result (AbsentAreBlank type)
+
+-- each mask byte is 0 or 1, at every depth
+abbrev pub has_flags : Held → Bool
+has_flags (masked inner mask) = list_all (λ byte. nat_lt byte 2) mask.items && has_flags inner
+has_flags held = true
