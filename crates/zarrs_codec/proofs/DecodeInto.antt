@@ -1,5 +1,5 @@
 -- Decoding into a target: the decoded container has what the target takes, and what was written of it.
-use Rattle.std.proofs.Common.{◌≡◌, ℕ, true, Ok, Err, Result, IsOkAnd, refl, ap}
+use Rattle.std.proofs.Common.{◌≡◌, ℕ, true, Ok, Err, Result, IsOkAnd}
 use Rattle.zarrs_chunk.specs.declared.codec_error.CodecError.{CodecError}
 use Rattle.zarrs_data_type.specs.Element.{Chunk}
 use Rattle.zarrs_data_type.specs.ElementType.{ElementType}

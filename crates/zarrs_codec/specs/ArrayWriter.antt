@@ -1,8 +1,10 @@
 -- What contracts see of a partial encoder of chunks.
-use Rattle.std.specs.Prelude.{◌≡◌, ◌⊎◌, ℕ, Bool, false, Option, is_some, List, [], Result, Ok}
-use Rattle.zarrs_chunk.specs.Answer.{◌>>=◌, no_refusal}
-use Rattle.zarrs_chunk.specs.Selection.{Selection}
+use Rattle.std.specs.Prelude.{◌≡◌, ◌⊎◌, ℕ, Bool, false, Option, Some, is_some, List, [], Result, Ok, Err, IfErr}
+use Rattle.zarrs_chunk.specs.Answer.{◌>>=◌, Answers, memory, no_refusal, seen}
+use Rattle.zarrs_chunk.specs.Indexer.{selection_of}
+use Rattle.zarrs_chunk.specs.Selection.{Selection, bounds_of}
 use Rattle.zarrs_chunk.specs.declared.codec_error.CodecError.{CodecError}
+use Rattle.zarrs_chunk.specs.declared.indexer.Indexer.{Indexer}
 use Rattle.zarrs_data_type.specs.ElementType.{bytes}
 use Rattle.zarrs_array_bytes.specs.Held.{Held}
 use Rattle.zarrs_codec.specs.ArrayReader.{ArrayReader, mapped_reader}
@@ -36,3 +38,25 @@ mapped_writer coordinates asked in_part sizes input = record {
 abbrev pub IsRefusedWrite : {T : Type 0} → Result T CodecError → StorageState → StorageState → Type 0
 IsRefusedWrite result old new =
     (new ≡ after_reading result old) ⊎ (apart_from_value new ≡ after_writing result old)
+
+-- the same of a call of a coder: `state` says what it knows of its handle
+abbrev pub LeftByRefusal : {C T : Type 0} → (C → StorageState) → C → C → Result T CodecError → Type 0
+LeftByRefusal state before after result = IsRefusedWrite result (state before) (state after)
+
+-- the value that is stored once new elements are written at an indexer's places, or the first cause of a refusal
+abbrev pub written_value : ArrayWriter → StorageState → Indexer → Held → Result (Option (List ℕ)) CodecError
+written_value writer state indexer new = seen Some (writer.written state.value (selection_of indexer) new)
+
+-- that new elements can be written at an indexer's places, as far as that is seen without the handle, or the first cause why not
+abbrev pub edit_check : ArrayWriter → Indexer → Held → Result (Unit {0}) CodecError
+edit_check writer indexer new = writer.checks (selection_of indexer) new
+
+-- A write by an indexer that the chunk has no room for answers the cause, or a want of memory: no failure of the handle comes in its place.
+abbrev pub IndexerFirst : ArrayReader → Indexer → Result (Unit {0}) CodecError → Type 0
+IndexerFirst reader indexer result =
+    IfErr (bounds_of (selection_of indexer) reader.sizes) (λ cause. Answers memory (λ done. done) result (Err cause))
+
+-- What can be seen without the handle, of the indexer and of the new elements, is refused with its cause, or for want of memory: no failure of the handle comes in its place.
+abbrev pub ChecksFirst : ArrayWriter → Indexer → Held → Result (Unit {0}) CodecError → Type 0
+ChecksFirst writer indexer new result =
+    IfErr (edit_check writer indexer new) (λ cause. Answers memory (λ done. done) result (Err cause))

@@ -1,6 +1,6 @@
 -- Writing pieces of a stored value: each is the number of its first byte and how many bytes it has.
 use Rattle.std.specs.Prelude.{ℕ, zero, suc, ◌+◌, ◌-◌, ◌^◌, ◌==◌, nat_lt, max, List, [], ◌∷◌, ◌++◌, length, replicate, Result}
-use Rattle.std.specs.List.{list_all}
+use Rattle.std.specs.List.{list_all, range_with_len}
 use Rattle.zarrs_chunk.specs.Answer.{◌>>=◌, demand}
 use Rattle.zarrs_chunk.specs.Runs.{joined_runs}
 use Rattle.zarrs_chunk.specs.declared.codec_error.CodecError.{CodecError}
@@ -31,3 +31,7 @@ pieces_fit pieces count = do
   _ ← demand (list_all (λ piece. nat_lt (piece.0 + piece.1) (2 ^ 64)) pieces) Overflow
   _ ← demand (nat_lt (length (joined_runs pieces)) (2 ^ 64)) Overflow
   demand (count == length (joined_runs pieces)) (InvalidBytesLength count (length (joined_runs pieces)))
+
+-- the value with these bytes from a number on
+abbrev pub with_bytes : List ℕ → ℕ → List ℕ → List ℕ
+with_bytes value start bytes = update value (range_with_len start (length bytes)) bytes

@@ -1,5 +1,5 @@
 -- Where the elements of a chunk go.
-use Rattle.std.specs.Prelude.{◌≡◌, ℕ, ◌<◌, List, map, All, Result, IsOkAnd}
+use Rattle.std.specs.Prelude.{◌≡◌, ℕ, ◌<◌, List, map, All, Result, IfOk, IsOkAnd}
 use Rattle.std.specs.List.{range_with_len}
 use Rattle.zarrs_chunk.specs.ChunkShape.{product}
 use Rattle.zarrs_chunk.specs.declared.codec_error.CodecError.{CodecError}
@@ -28,6 +28,10 @@ pub record IsCoordinateMap (sizes : List ℕ) (m : CoordinateMap) : Type 0 where
 -- what is done to chunks of these sizes is a coordinate map to chunks of the next ones
 abbrev pub IsMapTo : Result CoordinateMap CodecError → List ℕ → List ℕ → Type 0
 IsMapTo coordinates sizes next = IsOkAnd coordinates (λ m. (m.encoded ≡ next) × IsCoordinateMap sizes m)
+
+-- the sizes that are answered for these are those of what a codec does to chunks of them, which is a coordinate map
+abbrev pub MapsSizes : (List ℕ → Result CoordinateMap CodecError) → List ℕ → Result (List ℕ) CodecError → Type 0
+MapsSizes coordinates sizes result = IfOk result (λ next. IsMapTo (coordinates sizes) sizes next)
 
 -- every element keeps its place, under other sizes
 abbrev pub same_places : List ℕ → CoordinateMap

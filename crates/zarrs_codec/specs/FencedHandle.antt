@@ -1,9 +1,10 @@
 -- What a handle is seen as that reads the bytes inside its ranges alone.
-use Rattle.std.specs.Prelude.{ℕ, ◌&&◌, nat_le, nat_lt, Bool, true, false, Option, Some, None, List}
-use Rattle.std.specs.List.{list_any}
+use Rattle.std.specs.Prelude.{◌≡◌, ℕ, ◌-◌, ◌<◌, ◌&&◌, nat_le, nat_lt, Bool, true, false, Option, Some, None, List, Result}
+use Rattle.std.specs.List.{list_all, list_any, range_with_len}
+use Rattle.zarrs_chunk.specs.declared.codec_error.CodecError.{CodecError}
 use Rattle.zarrs_chunk.specs.declared.codec_error.StorageError.{StorageError}
 use Rattle.zarrs_codec.specs.ByteSpan.{ByteSpan}
-use Rattle.zarrs_codec.specs.StorageState.{StorageState}
+use Rattle.zarrs_codec.specs.StorageState.{StorageState, last_failure}
 use Rattle.zarrs_codec.specs.MemoryHandle.{handle_value}
 use Rattle.zarrs_codec.specs.declared.testing.fenced_handle.FencedHandle.{FencedHandle}
 
@@ -14,6 +15,11 @@ has_byte byte range = nat_le range.start byte && nat_lt byte range.end
 -- whether one of the ranges has it
 abbrev pub is_fenced : List ByteSpan → ℕ → Bool
 is_fenced ranges byte = list_any (has_byte byte) ranges
+
+-- the ranges have all bytes from this one up to, and without, an end behind it
+abbrev pub Reach : List ByteSpan → ℕ → ℕ → Type 0
+Reach ranges byte end =
+    (byte < end) × (list_all (is_fenced ranges) (range_with_len byte (end - byte)) ≡ true)
 
 -- its state: the bytes inside the ranges are sure
 abbrev pub fenced_state : FencedHandle → StorageState
@@ -31,3 +37,7 @@ fenced_state handle =
 abbrev pub fence_failure : Bool → Option StorageError
 fence_failure true = None
 fence_failure false = Some (record { code = 1 })
+
+-- a read fails, with code 1, exactly where not all bytes that it asks for are sure
+abbrev pub FailsUnless : {T : Type 0} → Bool → Result T CodecError → Type 0
+FailsUnless sure result = last_failure result None ≡ fence_failure sure

@@ -5,12 +5,15 @@ pub mod ByteRanges
 pub mod ByteSpan
 pub mod BytesRepresentation
 pub mod BytesToBytesCodec
+pub mod ChunkCodec
 pub mod ChunkEdits
 pub mod CodersOverHandles
 pub mod FailingCall
 pub mod FailingHandle
 pub mod FencedHandle
 pub mod Grammar
+pub mod HandleCalls
+pub mod MadeAgain
 pub mod SampleBytesCodec
 pub mod SampleLaws
 pub mod SampleMetadata

@@ -1,14 +1,15 @@
 -- What a codec that moves elements makes of a chunk.
-use Rattle.std.specs.Prelude.{◌≡◌, ℕ, List, Result, Ok, Option, Some, None}
-use Rattle.zarrs_chunk.specs.Answer.{◌>>=◌, checked_u64}
+use Rattle.std.specs.Prelude.{◌≡◌, ℕ, List, Result, Ok, IfOk, Option, Some, None}
+use Rattle.zarrs_chunk.specs.Answer.{◌>>=◌, Answers, AnswersBy, Gives, checked_u64, memory, seen}
 use Rattle.zarrs_chunk.specs.ChunkShape.{product}
 use Rattle.zarrs_chunk.specs.declared.codec_error.CodecError.{CodecError}
 use Rattle.zarrs_data_type.specs.ElementType.{ElementType}
 use Rattle.zarrs_data_type.specs.Element.{Chunk}
+use Rattle.zarrs_data_type.specs.Form.{Form}
 use Rattle.zarrs_array_bytes.specs.Elements.{elements}
 use Rattle.zarrs_array_bytes.specs.Held.{Held}
-use Rattle.zarrs_array_bytes.specs.Validity.{validity}
-use Rattle.zarrs_codec.specs.CoordinateMap.{CoordinateMap, moved_chunk, inverse_map}
+use Rattle.zarrs_array_bytes.specs.Validity.{Holds, validity}
+use Rattle.zarrs_codec.specs.CoordinateMap.{CoordinateMap, IsMapTo, moved_chunk, inverse_map}
 
 -- what the codec does to chunks of these sizes and this type, where it takes the type, the sizes can be counted, and the container has their elements; else the first cause why not
 abbrev pub map_for : Result (Unit {0}) CodecError → Result CoordinateMap CodecError → ElementType → List ℕ → Held → Result CoordinateMap CodecError
@@ -42,3 +43,32 @@ encoded_form takes coordinates type fill = do
 abbrev pub IsSource : (List ℕ → Result CoordinateMap CodecError) → List ℕ → Option (List ℕ) → Type 0
 IsSource coordinates encoded None = Unit {0}
 IsSource coordinates encoded (Some sizes) = (decoded : List ℕ) (m : CoordinateMap) → coordinates decoded ≡ Ok m → m.encoded ≡ encoded → decoded ≡ sizes
+
+-- ---- what the calls of such a codec give, by what it takes and what it does to chunks of some sizes
+
+-- the type of the encoded elements: the same, where the codec takes it
+abbrev pub encoded_type : (ElementType → Result (Unit {0}) CodecError) → ElementType → Result ElementType CodecError
+encoded_type takes type = seen (λ _. type) (takes type)
+
+-- The answer is the sizes of the encoded chunk, or the first cause why there are none.
+abbrev pub GivesSizes : Result (List ℕ) CodecError → Result CoordinateMap CodecError → Type 0
+GivesSizes result coordinates = Gives (λ shape. shape) result (seen (λ m. m.encoded) coordinates)
+
+-- The answer is the sizes, the type and the fill value of the encoded chunk of such a one, or the first refusal. Only a want of memory may come in its place.
+abbrev pub EncodesForm : (ElementType → Result (Unit {0}) CodecError) → (List ℕ → Result CoordinateMap CodecError) → Form → Result (List ℕ × ElementType × List ℕ) CodecError → Type 0
+EncodesForm takes coordinates form result =
+    Answers memory (λ form. form) result (encoded_form (takes form.type) (coordinates form.sizes) form.type form.fill)
+
+-- the sizes that are answered with it for these are those of a coordinate map
+abbrev pub MapsForm : (List ℕ → Result CoordinateMap CodecError) → List ℕ → Result (List ℕ × ElementType × List ℕ) CodecError → Type 0
+MapsForm coordinates sizes result = IfOk result (λ form. IsMapTo (coordinates sizes) sizes form.0)
+
+-- Where the codec takes such chunks and the container holds one, the answer is a container of the encoded chunk. Only a want of memory may come in its place.
+abbrev pub EncodesMoved : (ElementType → Result (Unit {0}) CodecError) → (List ℕ → Result CoordinateMap CodecError) → ElementType → List ℕ → Held → Result Held CodecError → Type 0
+EncodesMoved takes coordinates type sizes held result =
+    IfOk (encoded_chunk (takes type) (coordinates sizes) type sizes held) (λ chunk. AnswersBy memory (Holds type) result (Ok chunk))
+
+-- the same of the decoded chunk
+abbrev pub DecodesMoved : (ElementType → Result (Unit {0}) CodecError) → (List ℕ → Result CoordinateMap CodecError) → ElementType → List ℕ → Held → Result Held CodecError → Type 0
+DecodesMoved takes coordinates type sizes held result =
+    IfOk (decoded_chunk (takes type) (coordinates sizes) type sizes held) (λ chunk. AnswersBy memory (Holds type) result (Ok chunk))

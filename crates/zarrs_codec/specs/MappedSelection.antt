@@ -1,9 +1,11 @@
 -- The places of a selection in an encoded chunk.
-use Rattle.std.specs.Prelude.{◌≡◌, ℕ, List, map, Result, Ok, IsOkAnd}
-use Rattle.zarrs_chunk.specs.Answer.{◌>>=◌}
+use Rattle.std.specs.Prelude.{◌≡◌, ℕ, List, map, Result, Ok, IfOk, IsOkAnd}
+use Rattle.zarrs_chunk.specs.Answer.{◌>>=◌, Gives}
+use Rattle.zarrs_chunk.specs.Indexer.{selection_of}
 use Rattle.zarrs_chunk.specs.Selection.{Selection, tuples_of, bounds_of, len_of}
 use Rattle.zarrs_chunk.specs.Tuples.{row_major}
 use Rattle.zarrs_chunk.specs.declared.codec_error.CodecError.{CodecError}
+use Rattle.zarrs_chunk.specs.declared.indexer.Indexer.{Indexer}
 use Rattle.zarrs_codec.specs.CoordinateMap.{CoordinateMap}
 
 -- The second selection, of the encoded chunk, lies inside it, and means there, in the same order, the elements that the first one means of the decoded chunk.
@@ -22,3 +24,13 @@ image_of coordinates asked sizes selection = do
 -- the image by what a codec does, where it does it
 abbrev pub IsImageBy : Result CoordinateMap CodecError → List ℕ → Selection → Selection → Type 0
 IsImageBy coordinates sizes selection image = IsOkAnd coordinates (λ m. IsImage sizes m selection image)
+
+-- The answer is the indexer of what is asked for of the encoded chunk, or the first refusal.
+abbrev pub AsksImage : (List ℕ → Result CoordinateMap CodecError) → (List ℕ → List ℕ → Selection → Selection) → List ℕ → Indexer → Result Indexer CodecError → Type 0
+AsksImage coordinates asked sizes indexer result =
+    Gives selection_of result (image_of (coordinates sizes) (asked sizes) sizes (selection_of indexer))
+
+-- the indexer that is answered means of the encoded chunk, in the same order, the elements that the given one means
+abbrev pub KeepsPlaces : (List ℕ → Result CoordinateMap CodecError) → List ℕ → Indexer → Result Indexer CodecError → Type 0
+KeepsPlaces coordinates sizes indexer result =
+    IfOk result (λ encoded. IsImageBy (coordinates sizes) sizes (selection_of indexer) (selection_of encoded))

@@ -1,6 +1,7 @@
 -- What contracts see of a storage handle.
-use Rattle.std.specs.Prelude.{ℕ, ◌+◌, ◌%◌, ◌^◌, Bool, true, false, Option, Some, None, List, [], length, Result, Err, is_ok}
+use Rattle.std.specs.Prelude.{◌≡◌, ℕ, ◌+◌, ◌%◌, ◌^◌, Bool, true, false, Option, Some, None, List, [], length, Result, Err, OnErr, is_ok}
 use Rattle.std.specs.List.{list_all, range_with_len}
+use Rattle.std.specs.Option.{option_map}
 use Rattle.zarrs_chunk.specs.Answer.{is_fault}
 use Rattle.zarrs_chunk.specs.declared.codec_error.CodecError.{CodecError}
 use Rattle.zarrs_chunk.specs.declared.codec_error.CodecError.TheVariants.{Storage}
@@ -24,6 +25,14 @@ are_sure (Some sure) numbers = list_all sure numbers
 abbrev pub value_indices : Option (List ℕ) → List ℕ
 value_indices None = []
 value_indices (Some value) = range_with_len 0 (length value)
+
+-- all bytes of the value are sure to be read
+abbrev pub value_is_sure : StorageState → Bool
+value_is_sure state = are_sure state.sure (value_indices state.value)
+
+-- how many bytes a value has; none, where there is none
+abbrev pub value_size : Option (List ℕ) → Option ℕ
+value_size value = option_map (λ bytes. length bytes) value
 
 -- a count modulo 2^64, one more where the test passes
 abbrev pub count_if : Bool → ℕ → ℕ
@@ -61,3 +70,17 @@ after_writing result state =
       writes = count_if true state.writes;
       accepted_writes = count_if (is_ok result) state.accepted_writes;
     }
+
+-- ---- what a call leaves: `state` says what its object keeps of the handle
+
+-- the value is as it was
+abbrev pub SameValue : {C : Type 0} → (C → StorageState) → C → C → Type 0
+SameValue state before after = (state after).value ≡ (state before).value
+
+-- a call that is refused leaves the value where its writing calls are atomic
+abbrev pub KeptIfAtomic : {C T : Type 0} → Bool → (C → StorageState) → C → C → Result T CodecError → Type 0
+KeptIfAtomic atomic state before after result = OnErr result (atomic ≡ true → SameValue state before after)
+
+-- apart from the value all is as one writing call leaves it that answers this
+abbrev pub LeftByWriting : {C T : Type 0} → (C → StorageState) → C → C → Result T CodecError → Type 0
+LeftByWriting state before after result = apart_from_value (state after) ≡ after_writing result (state before)

@@ -1,11 +1,9 @@
-ghost use Rattle.std.specs.Prelude.{◌≡◌, ℕ, Option, Ok, Err, IfErr};
+ghost use Rattle.std.specs.Prelude.{◌≡◌, ℕ, Option};
 ghost use Rattle.std.specs.Borrow.{GName};
-ghost use Rattle.zarrs_chunk.specs.Answer.{Answers, AnswersBy, memory, fault, memory_or_fault};
 ghost use Rattle.zarrs_chunk.specs.Indexer.{selection_of};
-ghost use Rattle.zarrs_chunk.specs.Selection.{bounds_of};
-ghost use Rattle.zarrs_array_bytes.specs.Validity.{Holds};
-ghost use Rattle.zarrs_codec.specs.ArrayReader.{ArrayReader};
+ghost use Rattle.zarrs_codec.specs.ArrayReader.{ArrayReader, ReadsSelection, IndexerFirstOfRead};
 ghost use Rattle.zarrs_codec.specs.ArrayWriter.{ArrayWriter, no_writer};
+ghost use Rattle.zarrs_codec.specs.HandleCalls.{Tells};
 ghost use Rattle.zarrs_codec.specs.StorageState.{StorageState, after_reading};
 
 use std::alloc::Global;
@@ -38,7 +36,7 @@ pub trait ArrayPartialDecoderTraits {
 
     /// Whether the chunk is stored. Refusals: `Storage`.
     fn exists(&mut self) -> Result<bool, CodecError>
-        ensures answer { Answers fault (λ there. there) result (Ok (reader self.old).is_stored) }
+        ensures answer { Tells result (reader self.old).is_stored }
         ensures left { state self.new ≡ after_reading result (state self.old) }
         ensures same_reference { lent self.new ≡ lent self.old }
         ensures reader_kept { reader self.new ≡ reader self.old }
@@ -56,8 +54,8 @@ pub trait ArrayPartialDecoderTraits {
         alloc: Global,
         indexer: &Indexer,
     ) -> Result<ArrayBytes<'static>, CodecError>
-        ensures answer { AnswersBy memory_or_fault (Holds (reader self.old).type) result ((reader self.old).answer (selection_of indexer.now)) }
-        ensures indexer_first { IfErr (bounds_of (selection_of indexer.now) (reader self.old).sizes) (λ cause. AnswersBy memory (Holds (reader self.old).type) result (Err cause)) }
+        ensures answer { ReadsSelection (reader self.old) (selection_of indexer.now) result }
+        ensures indexer_first { IndexerFirstOfRead (reader self.old) indexer.now result }
         ensures left { state self.new ≡ after_reading result (state self.old) }
         ensures same_reference { lent self.new ≡ lent self.old }
         ensures reader_kept { reader self.new ≡ reader self.old }

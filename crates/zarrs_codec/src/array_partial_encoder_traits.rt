@@ -1,9 +1,7 @@
-ghost use Rattle.std.specs.Prelude.{◌≡◌, Bool, true, Some, None, Ok, Err, OnOk, OnErr, IfErr};
-ghost use Rattle.zarrs_chunk.specs.Answer.{Answers, memory, fault, memory_or_fault, seen};
-ghost use Rattle.zarrs_chunk.specs.Indexer.{selection_of};
-ghost use Rattle.zarrs_chunk.specs.Selection.{bounds_of};
-ghost use Rattle.zarrs_codec.specs.ArrayWriter.{IsRefusedWrite};
-ghost use Rattle.zarrs_codec.specs.StorageState.{after_writing, apart_from_value};
+ghost use Rattle.std.specs.Prelude.{◌≡◌, Bool, None, Ok, OnOk, OnErr};
+ghost use Rattle.zarrs_chunk.specs.Answer.{Answers, fault, memory_or_fault};
+ghost use Rattle.zarrs_codec.specs.ArrayWriter.{ChecksFirst, IndexerFirst, LeftByRefusal, edit_check, written_value};
+ghost use Rattle.zarrs_codec.specs.StorageState.{KeptIfAtomic, LeftByWriting};
 
 use crate::array_partial_decoder_traits::ArrayPartialDecoderTraits;
 use std::alloc::Global;
@@ -34,21 +32,23 @@ pub trait ArrayPartialEncoderTraits: ArrayPartialDecoderTraits {
         indexer: &Indexer,
         elements: &ArrayBytes<'_>,
     ) -> Result<(), CodecError>
-        ensures answer { Answers memory_or_fault (λ _. (Self.state self.new).value) result (seen Some ((Self.writer self.old).written (Self.state self.old).value (selection_of indexer.now) elements.now)) }
-        ensures indexer_first { IfErr (bounds_of (selection_of indexer.now) (Self.reader self.old).sizes) (λ cause. Answers memory (λ done. done) result (Err cause)) }
-        ensures checked_first { IfErr ((Self.writer self.old).checks (selection_of indexer.now) elements.now) (λ cause. Answers memory (λ done. done) result (Err cause)) }
-        ensures untouched { IfErr ((Self.writer self.old).checks (selection_of indexer.now) elements.now) (λ _. Self.state self.new ≡ Self.state self.old) }
-        ensures one_write { OnOk result (apart_from_value (Self.state self.new) ≡ after_writing result (Self.state self.old)) }
-        ensures refused { OnErr result (IsRefusedWrite result (Self.state self.old) (Self.state self.new)) }
-        ensures kept_if_atomic { OnErr result (atomic ≡ true → (Self.state self.new).value ≡ (Self.state self.old).value) }
+        ensures answer { Answers memory_or_fault (λ _. (Self.state self.new).value) result
+            (written_value (Self.writer self.old) (Self.state self.old) indexer.now elements.now) }
+        ensures indexer_first { IndexerFirst (Self.reader self.old) indexer.now result }
+        ensures checked_first { ChecksFirst (Self.writer self.old) indexer.now elements.now result }
+        ensures untouched { OnErr (edit_check (Self.writer self.old) indexer.now elements.now)
+            (Self.state self.new ≡ Self.state self.old) }
+        ensures one_write { OnOk result (LeftByWriting Self.state self.old self.new result) }
+        ensures refused { OnErr result (LeftByRefusal Self.state self.old self.new result) }
+        ensures kept_if_atomic { KeptIfAtomic atomic Self.state self.old self.new result }
         ensures same_reference { Self.lent self.new ≡ Self.lent self.old }
         ensures writer_kept { Self.writer self.new ≡ Self.writer self.old };
 
     /// Leaves no value; there may have been none. Refusals: `Storage`.
     fn erase(&mut self) -> Result<(), CodecError>
         ensures answer { Answers fault (λ _. (Self.state self.new).value) result (Ok None) }
-        ensures left { apart_from_value (Self.state self.new) ≡ after_writing result (Self.state self.old) }
-        ensures kept_if_atomic { OnErr result (atomic ≡ true → (Self.state self.new).value ≡ (Self.state self.old).value) }
+        ensures left { LeftByWriting Self.state self.old self.new result }
+        ensures kept_if_atomic { KeptIfAtomic atomic Self.state self.old self.new result }
         ensures same_reference { Self.lent self.new ≡ Self.lent self.old }
         ensures writer_kept { Self.writer self.new ≡ Self.writer self.old };
 

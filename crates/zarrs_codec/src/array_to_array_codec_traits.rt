@@ -1,13 +1,12 @@
 ghost use Rattle.std.specs.Prelude.{◌≡◌, ℕ, List, Option, Result, Ok, false, IfOk};
-ghost use Rattle.zarrs_chunk.specs.Answer.{Answers, AnswersBy, memory, is_fault, seen, Gives};
-ghost use Rattle.zarrs_chunk.specs.Indexer.{selection_of};
+ghost use Rattle.zarrs_chunk.specs.Answer.{Answers, memory, is_fault};
 ghost use Rattle.zarrs_chunk.specs.Selection.{Selection};
 ghost use Rattle.zarrs_chunk.specs.declared.codec_error.CodecError.{CodecError};
 ghost use Rattle.zarrs_data_type.specs.ElementType.{ElementType};
-ghost use Rattle.zarrs_array_bytes.specs.Validity.{Holds};
-ghost use Rattle.zarrs_codec.specs.CoordinateMap.{CoordinateMap, IsMapTo};
-ghost use Rattle.zarrs_codec.specs.MappedChunk.{encoded_chunk, decoded_chunk, encoded_form, IsSource};
-ghost use Rattle.zarrs_codec.specs.MappedSelection.{image_of, IsImageBy};
+ghost use Rattle.zarrs_data_type.specs.Form.{form_of};
+ghost use Rattle.zarrs_codec.specs.CoordinateMap.{CoordinateMap, MapsSizes};
+ghost use Rattle.zarrs_codec.specs.MappedChunk.{encoded_type, GivesSizes, EncodesForm, MapsForm, IsSource, EncodesMoved, DecodesMoved};
+ghost use Rattle.zarrs_codec.specs.MappedSelection.{AsksImage, KeepsPlaces};
 
 use crate::codec_traits::{ArrayCodecTraits, CodecTraits};
 use std::alloc::Global;
@@ -37,7 +36,8 @@ pub trait ArrayToArrayCodecTraits: ArrayCodecTraits {
         alloc: Global,
         decoded_data_type: &DataType,
     ) -> Result<DataType, CodecError>
-        ensures answer { Answers memory (λ data_type. data_type) result (seen (λ _. decoded_data_type.now) (takes self.now decoded_data_type.now)) };
+        ensures answer { Answers memory (λ data_type. data_type) result
+            (encoded_type (takes self.now) decoded_data_type.now) };
 
     /// The fill value of the encoded elements: the same. Refusals: `OutOfMemory`.
     fn encoded_fill_value(
@@ -46,7 +46,8 @@ pub trait ArrayToArrayCodecTraits: ArrayCodecTraits {
         _decoded_data_type: &DataType,
         decoded_fill_value: &FillValue,
     ) -> Result<FillValue, CodecError>
-        ensures answer { Answers memory (λ fill_value. fill_value) result (Ok decoded_fill_value.now) }
+        ensures answer { Answers memory (λ fill_value. fill_value) result
+            (Ok decoded_fill_value.now) }
     {
         decoded_fill_value.clone()
     }
@@ -58,8 +59,8 @@ pub trait ArrayToArrayCodecTraits: ArrayCodecTraits {
         alloc: Global,
         decoded_shape: &ChunkShape,
     ) -> Result<ChunkShape, CodecError>
-        ensures answer { Gives (λ shape. shape) result (seen (λ m. m.encoded) (coordinates self.now decoded_shape.now)) }
-        ensures map { IfOk result (λ encoded. IsMapTo (coordinates self.now decoded_shape.now) decoded_shape.now encoded) };
+        ensures answer { GivesSizes result (coordinates self.now decoded_shape.now) }
+        ensures map { MapsSizes (coordinates self.now) decoded_shape.now result };
 
     /// The shape of the decoded chunk, or `None` where that of the encoded one doesn't tell it.
     /// Refusals: those of a shape that the codec doesn't make; `OutOfMemory`.
@@ -68,8 +69,9 @@ pub trait ArrayToArrayCodecTraits: ArrayCodecTraits {
         alloc: Global,
         encoded_shape: &ChunkShape,
     ) -> Result<Option<ChunkShape>, CodecError>
-        ensures answer { Answers memory (λ shape. shape) result (decoded_sizes self.now encoded_shape.now) }
-        ensures source { IfOk result (λ shape. IsSource (coordinates self.now) encoded_shape.now shape) };
+        ensures answer { Answers memory (λ shape. shape) result
+            (decoded_sizes self.now encoded_shape.now) }
+        ensures source { IfOk result (IsSource (coordinates self.now) encoded_shape.now) };
 
     /// The shape, the type and the fill value of the encoded chunk. Refusals, the first that holds,
     /// `OutOfMemory` aside: those of `encoded_data_type` and of `encoded_shape`.
@@ -80,8 +82,9 @@ pub trait ArrayToArrayCodecTraits: ArrayCodecTraits {
         decoded_data_type: &DataType,
         decoded_fill_value: &FillValue,
     ) -> Result<(ChunkShape, DataType, FillValue), CodecError>
-        ensures answer { Answers memory (λ form. form) result (encoded_form (takes self.now decoded_data_type.now) (coordinates self.now decoded_shape.now) decoded_data_type.now decoded_fill_value.now) }
-        ensures map { IfOk result (λ form. IsMapTo (coordinates self.now decoded_shape.now) decoded_shape.now form.0) }
+        ensures answer { EncodesForm (takes self.now) (coordinates self.now)
+            (form_of decoded_shape.now decoded_data_type.now decoded_fill_value.now) result }
+        ensures map { MapsForm (coordinates self.now) decoded_shape.now result }
     {
         let data_type = self.encoded_data_type(alloc, decoded_data_type)?;
         let shape = self.encoded_shape(alloc, decoded_shape)?;
@@ -99,7 +102,8 @@ pub trait ArrayToArrayCodecTraits: ArrayCodecTraits {
         decoded_data_type: &DataType,
         decoded_fill_value: &FillValue,
     ) -> Result<ArrayBytes<'a>, CodecError>
-        ensures found { IfOk (encoded_chunk (takes self.now decoded_data_type.now) (coordinates self.now decoded_shape.now) decoded_data_type.now decoded_shape.now bytes.entry) (λ chunk. AnswersBy memory (Holds decoded_data_type.now) result (Ok chunk)) }
+        ensures found { EncodesMoved (takes self.now) (coordinates self.now)
+            decoded_data_type.now decoded_shape.now bytes.entry result }
         ensures no_fault { is_fault result ≡ false };
 
     /// The decoded chunk, of this shape, type and fill value, of an encoded one. Refusals as `encode`.
@@ -111,7 +115,8 @@ pub trait ArrayToArrayCodecTraits: ArrayCodecTraits {
         decoded_data_type: &DataType,
         decoded_fill_value: &FillValue,
     ) -> Result<ArrayBytes<'a>, CodecError>
-        ensures found { IfOk (decoded_chunk (takes self.now decoded_data_type.now) (coordinates self.now decoded_shape.now) decoded_data_type.now decoded_shape.now bytes.entry) (λ chunk. AnswersBy memory (Holds decoded_data_type.now) result (Ok chunk)) }
+        ensures found { DecodesMoved (takes self.now) (coordinates self.now)
+            decoded_data_type.now decoded_shape.now bytes.entry result }
         ensures no_fault { is_fault result ≡ false };
 
     /// The indexer of the encoded chunk: its places there are those where the indexer's elements go,
@@ -123,6 +128,7 @@ pub trait ArrayToArrayCodecTraits: ArrayCodecTraits {
         indexer: &Indexer,
         decoded_shape: &ChunkShape,
     ) -> Result<Indexer, CodecError>
-        ensures answer { Gives selection_of result (image_of (coordinates self.now decoded_shape.now) (asked self.now decoded_shape.now) decoded_shape.now (selection_of indexer.now)) }
-        ensures places { IfOk result (λ encoded. IsImageBy (coordinates self.now decoded_shape.now) decoded_shape.now (selection_of indexer.now) (selection_of encoded)) };
+        ensures answer { AsksImage (coordinates self.now) (asked self.now)
+            decoded_shape.now indexer.now result }
+        ensures places { KeepsPlaces (coordinates self.now) decoded_shape.now indexer.now result };
 }

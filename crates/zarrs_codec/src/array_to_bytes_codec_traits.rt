@@ -1,14 +1,12 @@
-ghost use Rattle.std.specs.Prelude.{◌≡◌, ℕ, List, Result, Ok, None, IfOk, OnErr, option_map, false};
-ghost use Rattle.zarrs_chunk.specs.Answer.{Answers, AnswersBy, memory, is_fault, seen, Gives, GivesBy};
-ghost use Rattle.zarrs_chunk.specs.ChunkShape.{product};
+ghost use Rattle.std.specs.Prelude.{◌≡◌, ℕ, List, Result, OnErr, false};
+ghost use Rattle.zarrs_chunk.specs.Answer.{is_fault};
 ghost use Rattle.zarrs_chunk.specs.declared.codec_error.CodecError.{CodecError};
 ghost use Rattle.zarrs_data_type.specs.Element.{Chunk};
 ghost use Rattle.zarrs_data_type.specs.Form.{Form, form_of};
 ghost use Rattle.zarrs_array_bytes.specs.ArrayBytesDecodeIntoTarget.{target_of, target_names};
-ghost use Rattle.zarrs_array_bytes.specs.DecodeTarget.{target_fit, TargetHolds};
-ghost use Rattle.zarrs_array_bytes.specs.Held.{Held, items_of, raw_of};
-ghost use Rattle.zarrs_array_bytes.specs.Validity.{Holds, validity};
-ghost use Rattle.zarrs_codec.specs.DecodeInto.{decoded_into};
+ghost use Rattle.zarrs_array_bytes.specs.Held.{Held, items_of};
+ghost use Rattle.zarrs_codec.specs.ChunkCodec.{RepresentsBy, EncodesBy, DecodesBy, GivesValid, CompactsNone};
+ghost use Rattle.zarrs_codec.specs.DecodeInto.{DecodesInto};
 ghost use Rattle.zarrs_codec.specs.declared.bytes_representation.BytesRepresentation.{BytesRepresentation};
 
 use crate::bytes_representation::BytesRepresentation;
@@ -43,7 +41,8 @@ pub trait ArrayToBytesCodecTraits: ArrayCodecTraits {
         data_type: &DataType,
         fill_value: &FillValue,
     ) -> Result<BytesRepresentation, CodecError>
-        ensures answer { Gives (λ representation. representation) result (represented self.now (form_of shape.now data_type.now fill_value.now)) };
+        ensures answer { RepresentsBy (represented self.now)
+            (form_of shape.now data_type.now fill_value.now) result };
 
     /// The value of the chunk that `elements` hold. Refusals, the first that holds, `OutOfMemory`
     /// aside: those of `encoded_representation`; those of `ArrayBytes::validate`; the codec's own.
@@ -55,7 +54,8 @@ pub trait ArrayToBytesCodecTraits: ArrayCodecTraits {
         data_type: &DataType,
         fill_value: &FillValue,
     ) -> Result<ArrayBytesRaw<'a>, CodecError>
-        ensures answer { Gives items_of result (encoded self.now (form_of shape.now data_type.now fill_value.now) elements.entry) };
+        ensures answer { EncodesBy (encoded self.now)
+            (form_of shape.now data_type.now fill_value.now) elements.entry result };
 
     /// The chunk that a value stands for. Refusals, the first that holds, `OutOfMemory` aside: those
     /// of `encoded_representation`; the codec's own.
@@ -67,8 +67,9 @@ pub trait ArrayToBytesCodecTraits: ArrayCodecTraits {
         data_type: &DataType,
         fill_value: &FillValue,
     ) -> Result<ArrayBytes<'a>, CodecError>
-        ensures answer { GivesBy (Holds data_type.now) result (decoded self.now (form_of shape.now data_type.now fill_value.now) (items_of value.entry)) }
-        ensures valid { IfOk result (λ elements. validity data_type.now (product shape.now) elements ≡ Ok tt) };
+        ensures answer { DecodesBy (decoded self.now)
+            (form_of shape.now data_type.now fill_value.now) (items_of value.entry) result }
+        ensures valid { GivesValid data_type.now shape.now result };
 
     /// Writes the chunk that a value stands for at the target's places, in row-major order; all other
     /// bytes of the target stay. It takes no memory for the elements beyond that of `decode`. Refusals,
@@ -85,8 +86,8 @@ pub trait ArrayToBytesCodecTraits: ArrayCodecTraits {
         fill_value: &FillValue,
         target: &mut ArrayBytesDecodeIntoTarget<'_>,
     ) -> Result<(), CodecError>
-        ensures answer { AnswersBy memory (λ _ chunk. TargetHolds data_type.now (target_of target.old) (target_of target.new) chunk) result
-            (decoded_into (represented self.now (form_of shape.now data_type.now fill_value.now)) (target_fit data_type.now (product shape.now) (target_of target.old)) (decoded self.now (form_of shape.now data_type.now fill_value.now) (items_of value.entry))) }
+        ensures answer { DecodesInto (represented self.now) (decoded self.now) target.old target.new
+            (form_of shape.now data_type.now fill_value.now) (items_of value.entry) result }
         ensures kept { OnErr result (target_of target.new ≡ target_of target.old) }
         ensures same_reference { target_names target.new ≡ target_names target.old }
         ensures no_fault { is_fault result ≡ false }
@@ -109,5 +110,6 @@ pub trait ArrayToBytesCodecTraits: ArrayCodecTraits {
         data_type: &DataType,
         fill_value: &FillValue,
     ) -> Result<Option<ArrayBytesRaw<'a>>, CodecError>
-        ensures answer { Gives (option_map raw_of) result (seen (λ _. None) (opened self.now (form_of shape.now data_type.now fill_value.now) (items_of value.entry))) };
+        ensures answer { CompactsNone (opened self.now)
+            (form_of shape.now data_type.now fill_value.now) (items_of value.entry) result };
 }

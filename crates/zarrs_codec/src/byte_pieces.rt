@@ -1,9 +1,8 @@
 //! Writing pieces of bytes into a value in memory.
 ghost use Rattle.std.specs.Prelude.{◌≡◌, ◌+◌, ◌≤◌, ◌<◌, ◌^◌, Ok, length, max};
-ghost use Rattle.std.specs.List.{range_with_len};
 ghost use Rattle.zarrs_chunk.specs.Runs.{joined_runs};
 ghost use Rattle.zarrs_array_bytes.specs.Update.{update};
-ghost use Rattle.zarrs_codec.specs.BytePieces.{pieces_fit, end_of, furthest_end};
+ghost use Rattle.zarrs_codec.specs.BytePieces.{pieces_fit, end_of, furthest_end, with_bytes};
 
 use zarrs_chunk::CodecError;
 
@@ -56,7 +55,7 @@ pub(crate) fn furthest_end_of(pieces: &[(u64, u64)], len: usize) -> usize
 #[inline(always)]
 fn overwrite(value: &mut [u8], start: usize, piece: &[u8])
     requires inside { start + length piece.now ≤ length value.old }
-    ensures written { value.new ≡ update value.old (range_with_len start (length piece.now)) piece.now }
+    ensures written { value.new ≡ with_bytes value.old start piece.now }
 {
     value[start..start + piece.len()].copy_from_slice(piece);
 }
@@ -66,7 +65,7 @@ fn overwrite(value: &mut [u8], start: usize, piece: &[u8])
 #[inline(always)]
 fn write_piece(value: &mut [u8], start: usize, piece: &[u8])
     requires inside { end_of start (length piece.now) ≤ length value.old }
-    ensures written { value.new ≡ update value.old (range_with_len start (length piece.now)) piece.now }
+    ensures written { value.new ≡ with_bytes value.old start piece.now }
 {
     match piece.len() {
         0 => {}

@@ -1,4 +1,5 @@
-ghost use Rattle.std.specs.Prelude.{◌≡◌, ◌≤◌, ◌<◌, MatchOption};
+ghost use Rattle.std.specs.Prelude.{◌≡◌, ◌≤◌};
+ghost use Rattle.zarrs_codec.specs.ByteSpan.{MakesSpan};
 
 use std::marker::Model;
 use std::ops::Range;
@@ -26,7 +27,7 @@ impl Model for ByteRange {
 impl ByteRange {
     /// The range from `start`, up to and without `end`, or `None` where it ends before it starts.
     pub fn new(range: Range<u64>) -> Option<ByteRange>
-        ensures answer { MatchOption result (range.end < range.start) (λ made. made ≡ record { start = range.start; end = range.end }) }
+        ensures answer { MakesSpan range.start range.end result }
     {
         if range.start <= range.end {
             Some(ByteRange {

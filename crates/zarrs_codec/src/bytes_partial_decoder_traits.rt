@@ -1,9 +1,8 @@
-ghost use Rattle.std.specs.Prelude.{◌≡◌, ℕ, Bool, true, false, Option, Some, Ok, is_some, length};
-ghost use Rattle.std.specs.Option.{option_map};
+ghost use Rattle.std.specs.Prelude.{◌≡◌, ℕ, Bool, Option, Some, Ok, is_some};
 ghost use Rattle.std.specs.Borrow.{GName};
-ghost use Rattle.zarrs_chunk.specs.Answer.{Answers, fault, memory_or_fault, is_fault};
-ghost use Rattle.zarrs_codec.specs.ByteRanges.{range_indices, read_ranges};
-ghost use Rattle.zarrs_codec.specs.StorageState.{StorageState, after_reading, are_sure, value_indices};
+ghost use Rattle.zarrs_codec.specs.ByteRanges.{ranges_are_sure, read_ranges};
+ghost use Rattle.zarrs_codec.specs.HandleCalls.{NeverFailsIf, ReadsBytes, Tells};
+ghost use Rattle.zarrs_codec.specs.StorageState.{StorageState, after_reading, value_is_sure, value_size};
 
 use crate::byte_range::ByteRange;
 use std::alloc::Global;
@@ -34,16 +33,16 @@ pub trait BytesPartialDecoderTraits {
 
     /// Whether there is a value. Refusals: `Storage`, but never where the handle has sure bytes.
     fn exists(&mut self) -> Result<bool, CodecError>
-        ensures answer { Answers fault (λ there. there) result (Ok (is_some (state self.old).value)) }
-        ensures sure { is_some (state self.old).sure ≡ true → is_fault result ≡ false }
+        ensures answer { Tells result (is_some (state self.old).value) }
+        ensures sure { NeverFailsIf (is_some (state self.old).sure) result }
         ensures left { state self.new ≡ after_reading result (state self.old) }
         ensures same_reference { lent self.new ≡ lent self.old };
 
     /// How many bytes the value has, or `None` where there is no value. Refusals: `Storage`, but never
     /// where the handle has sure bytes.
     fn size(&mut self) -> Result<Option<u64>, CodecError>
-        ensures answer { Answers fault (λ size. size) result (Ok (option_map (λ bytes. length bytes) (state self.old).value)) }
-        ensures sure { is_some (state self.old).sure ≡ true → is_fault result ≡ false }
+        ensures answer { Tells result (value_size (state self.old).value) }
+        ensures sure { NeverFailsIf (is_some (state self.old).sure) result }
         ensures left { state self.new ≡ after_reading result (state self.old) }
         ensures same_reference { lent self.new ≡ lent self.old };
 
@@ -59,16 +58,16 @@ pub trait BytesPartialDecoderTraits {
         alloc: Global,
         ranges: &[ByteRange],
     ) -> Result<Option<Vec<u8>>, CodecError>
-        ensures answer { Answers memory_or_fault (option_map (λ bytes. bytes.items)) result (read_ranges (state self.old).value ranges.now) }
-        ensures sure { are_sure (state self.old).sure (range_indices ranges.now) ≡ true → is_fault result ≡ false }
+        ensures answer { ReadsBytes result (read_ranges (state self.old).value ranges.now) }
+        ensures sure { NeverFailsIf (ranges_are_sure (state self.old) ranges.now) result }
         ensures left { state self.new ≡ after_reading result (state self.old) }
         ensures same_reference { lent self.new ≡ lent self.old };
 
     /// The whole value, or `None`. Refusals: `OutOfMemory`; `Storage`, but never where all bytes of
     /// the value are sure.
     fn decode(&mut self, alloc: Global) -> Result<Option<Vec<u8>>, CodecError>
-        ensures answer { Answers memory_or_fault (option_map (λ bytes. bytes.items)) result (Ok (state self.old).value) }
-        ensures sure { are_sure (state self.old).sure (value_indices (state self.old).value) ≡ true → is_fault result ≡ false }
+        ensures answer { ReadsBytes result (Ok (state self.old).value) }
+        ensures sure { NeverFailsIf (value_is_sure (state self.old)) result }
         ensures left { state self.new ≡ after_reading result (state self.old) }
         ensures same_reference { lent self.new ≡ lent self.old };
 

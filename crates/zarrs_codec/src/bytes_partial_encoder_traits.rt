@@ -1,7 +1,7 @@
-ghost use Rattle.std.specs.Prelude.{◌≡◌, Bool, true, Some, None, Ok, OnOk, OnErr, length};
-ghost use Rattle.zarrs_chunk.specs.Answer.{Answers, fault, memory_or_fault};
-ghost use Rattle.zarrs_codec.specs.BytePieces.{pieces_fit, with_pieces};
-ghost use Rattle.zarrs_codec.specs.StorageState.{after_writing, apart_from_value, value_or_empty};
+ghost use Rattle.std.specs.Prelude.{◌≡◌, Bool, Some, None, Ok, OnOk, length};
+ghost use Rattle.zarrs_codec.specs.BytePieces.{pieces_fit};
+ghost use Rattle.zarrs_codec.specs.HandleCalls.{Accepts, Tells, WritesPieces};
+ghost use Rattle.zarrs_codec.specs.StorageState.{KeptIfAtomic, LeftByWriting};
 
 use crate::bytes_partial_decoder_traits::BytesPartialDecoderTraits;
 use std::alloc::Global;
@@ -33,26 +33,26 @@ pub trait BytesPartialEncoderTraits: BytesPartialDecoderTraits {
         pieces: &[(u64, u64)],
         bytes: &[u8],
     ) -> Result<(), CodecError>
-        ensures answer { Answers memory_or_fault (λ written. written) result (pieces_fit pieces.now (length bytes.now)) }
-        ensures written { OnOk result ((Self.state self.new).value ≡ Some (with_pieces (value_or_empty (Self.state self.old).value) pieces.now bytes.now)) }
-        ensures kept_if_atomic { OnErr result (atomic ≡ true → (Self.state self.new).value ≡ (Self.state self.old).value) }
-        ensures left { apart_from_value (Self.state self.new) ≡ after_writing result (Self.state self.old) }
+        ensures answer { Accepts result (pieces_fit pieces.now (length bytes.now)) }
+        ensures written { WritesPieces Self.state self.old self.new pieces.now bytes.now result }
+        ensures kept_if_atomic { KeptIfAtomic atomic Self.state self.old self.new result }
+        ensures left { LeftByWriting Self.state self.old self.new result }
         ensures same_reference { Self.lent self.new ≡ Self.lent self.old };
 
     /// Makes these bytes the value. Refusals: `OutOfMemory`, `Storage`.
     fn replace(&mut self, alloc: Global, bytes: &[u8]) -> Result<(), CodecError>
-        ensures answer { Answers memory_or_fault (λ written. written) result (Ok tt) }
+        ensures answer { Accepts result (Ok tt) }
         ensures written { OnOk result ((Self.state self.new).value ≡ Some bytes.now) }
-        ensures kept_if_atomic { OnErr result (atomic ≡ true → (Self.state self.new).value ≡ (Self.state self.old).value) }
-        ensures left { apart_from_value (Self.state self.new) ≡ after_writing result (Self.state self.old) }
+        ensures kept_if_atomic { KeptIfAtomic atomic Self.state self.old self.new result }
+        ensures left { LeftByWriting Self.state self.old self.new result }
         ensures same_reference { Self.lent self.new ≡ Self.lent self.old };
 
     /// Leaves no value; there may have been none. Refusals: `Storage`.
     fn erase(&mut self) -> Result<(), CodecError>
-        ensures answer { Answers fault (λ erased. erased) result (Ok tt) }
+        ensures answer { Tells result tt }
         ensures written { OnOk result ((Self.state self.new).value ≡ None) }
-        ensures kept_if_atomic { OnErr result (atomic ≡ true → (Self.state self.new).value ≡ (Self.state self.old).value) }
-        ensures left { apart_from_value (Self.state self.new) ≡ after_writing result (Self.state self.old) }
+        ensures kept_if_atomic { KeptIfAtomic atomic Self.state self.old self.new result }
+        ensures left { LeftByWriting Self.state self.old self.new result }
         ensures same_reference { Self.lent self.new ≡ Self.lent self.old };
 
     /// Whether the handle writes pieces without the rest of the value.

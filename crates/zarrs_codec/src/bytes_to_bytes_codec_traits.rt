@@ -1,10 +1,8 @@
-ghost use Rattle.std.specs.Prelude.{◌≡◌, Ok, false};
-ghost use Rattle.zarrs_chunk.specs.Answer.{Answers, memory, is_fault, Gives};
-ghost use Rattle.zarrs_array_bytes.specs.Held.{items_of, raw_of};
+ghost use Rattle.std.specs.Prelude.{◌≡◌, Ok};
 ghost use Rattle.zarrs_metadata.specs.Metadata.{Metadata};
 ghost use Rattle.zarrs_metadata.specs.MetadataV3.{metadata_seen};
-ghost use Rattle.zarrs_metadata.specs.PluginCreateError.{plugin_memory};
-ghost use Rattle.zarrs_codec.specs.BytesToBytesCodec.{BytesCodecs, IsLawful};
+ghost use Rattle.zarrs_metadata.specs.PluginCreateError.{Makes};
+ghost use Rattle.zarrs_codec.specs.BytesToBytesCodec.{BytesCodecs, IsLawful, EncodesBytes, DecodesBytes};
 ghost use Rattle.zarrs_codec.specs.declared.capabilities.PartialDecoderCapability.{PartialDecoderCapability};
 ghost use Rattle.zarrs_codec.specs.declared.capabilities.PartialEncoderCapability.{PartialEncoderCapability};
 
@@ -39,7 +37,7 @@ pub trait BytesToBytesCodecTraits {
         alloc: Global,
         bytes: ArrayBytesRaw<'a>,
     ) -> Result<ArrayBytesRaw<'a>, CodecError>
-        ensures answer { Gives items_of result (Ok (functions.encoded_bytes self.now (items_of bytes.entry))) };
+        ensures answer { EncodesBytes functions self.now bytes.entry result };
 
     /// The bytes of this representation that encoded ones stand for. Refusals: `BytesCodec` with a
     /// number of the codec's own, where they stand for none; `OutOfMemory`.
@@ -49,7 +47,8 @@ pub trait BytesToBytesCodecTraits {
         encoded: ArrayBytesRaw<'a>,
         decoded_representation: &BytesRepresentation,
     ) -> Result<ArrayBytesRaw<'a>, CodecError>
-        ensures answer { Gives items_of result (functions.decoded_bytes self.now decoded_representation.now (items_of encoded.entry)) };
+        ensures answer { DecodesBytes functions self.now
+            decoded_representation.now encoded.entry result };
 
     /// How many encoded bytes there are, by how many bytes there are.
     fn encoded_representation(
@@ -70,7 +69,7 @@ pub trait BytesToBytesCodecTraits {
     /// The codec's metadata: its name, its configuration where it has one, and whether a reader that
     /// can't make the codec has to refuse. Refusals: `OutOfMemory`.
     fn metadata(&self, alloc: Global) -> Result<MetadataV3, PluginCreateError>
-        ensures answer { Answers plugin_memory metadata_seen result (Ok (described self.now)) };
+        ensures answer { Makes metadata_seen result (Ok (described self.now)) };
 
     // The laws of what they compute.
     ghost lawful: { IsLawful functions };

@@ -2,7 +2,7 @@ ghost use Rattle.std.specs.Prelude.{◌≡◌, ℕ, List, Ok, Option, option_map
 ghost use Rattle.zarrs_chunk.specs.Answer.{Answers, memory};
 ghost use Rattle.zarrs_metadata.specs.Data.{Members};
 ghost use Rattle.zarrs_metadata.specs.MetadataV3.{configuration_seen};
-ghost use Rattle.zarrs_metadata.specs.PluginCreateError.{plugin_memory};
+ghost use Rattle.zarrs_metadata.specs.PluginCreateError.{Makes};
 ghost use Rattle.zarrs_codec.specs.declared.capabilities.PartialDecoderCapability.{PartialDecoderCapability};
 ghost use Rattle.zarrs_codec.specs.declared.capabilities.PartialEncoderCapability.{PartialEncoderCapability};
 
@@ -29,7 +29,7 @@ pub trait CodecTraits {
 
     /// The codec's configuration in metadata, where it has one. Refusals: `OutOfMemory`.
     fn configuration(&self, alloc: Global) -> Result<Option<Configuration>, PluginCreateError>
-        ensures answer { Answers plugin_memory (option_map configuration_seen) result (Ok (written self.now)) };
+        ensures answer { Makes (option_map configuration_seen) result (Ok (written self.now)) };
 
     /// What it can read in part.
     fn partial_decoder_capability(&self) -> PartialDecoderCapability

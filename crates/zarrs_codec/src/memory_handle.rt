@@ -1,9 +1,8 @@
-ghost use Rattle.std.specs.Prelude.{◌≡◌, ◌++◌, IfOk, IfErr, OnErr, OnOk, Ok, true, false, Some, None, length, nat_le};
-ghost use Rattle.std.specs.List.{between};
+ghost use Rattle.std.specs.Prelude.{◌≡◌, ◌++◌, IfOk, IfErr, OnErr, OnOk, Ok, true, Some, None, length};
 ghost use Rattle.std.specs.Option.{option_map};
 ghost use Rattle.zarrs_chunk.specs.Answer.{Answers, memory, is_fault, Gives};
 ghost use Rattle.zarrs_codec.specs.BytePieces.{pieces_fit, with_pieces};
-ghost use Rattle.zarrs_codec.specs.ByteRanges.{read_value};
+ghost use Rattle.zarrs_codec.specs.ByteRanges.{read_value, IsPieceOf, EndsOutside};
 
 use crate::byte_pieces::{check_pieces, furthest_end_of, write_pieces};
 use crate::byte_range::ByteRange;
@@ -44,8 +43,8 @@ fn append_piece(bytes: &mut Vec<u8>, piece: &[u8]) -> Result<(), AllocError>
 /// A range's bytes of a value.
 #[inline(always)]
 fn piece_of<'a>(value: &'a [u8], range: &ByteRange) -> Result<&'a [u8], CodecError>
-    ensures inside { IfOk result (λ piece. (piece.now ≡ between range.now.start range.now.end value.now) × (nat_le range.now.end (length value.now) ≡ true)) }
-    ensures outside { IfErr result (λ error. (error ≡ CodecError.InvalidByteRange) × (nat_le range.now.end (length value.now) ≡ false)) }
+    ensures inside { IfOk result (λ piece. IsPieceOf value.now range.now piece.now) }
+    ensures outside { IfErr result (EndsOutside value.now range.now) }
 {
     let start = range.start() as usize;
     let end = range.end() as usize;
@@ -219,7 +218,8 @@ impl BytesPartialDecoderTraits for MemoryHandle {
 /// Writes the pieces, for which the value grows first: nothing is refused from then on.
 fn write_grown(value: &mut Vec<u8>, pieces: &[(u64, u64)], bytes: &[u8]) -> Result<(), AllocError>
     requires fit { pieces_fit pieces.now (length bytes.now) ≡ Ok tt }
-    ensures written { OnOk result (value.new.items ≡ with_pieces value.old.items pieces.now bytes.now) }
+    ensures written { OnOk result
+        (value.new.items ≡ with_pieces value.old.items pieces.now bytes.now) }
     ensures kept { OnErr result (value.new.items ≡ value.old.items) }
 {
     let needed = furthest_end_of(pieces, bytes.len());

@@ -1,7 +1,8 @@
 //! Which call of a handle fails, and what came of the calls.
-ghost use Rattle.std.specs.Prelude.{◌≡◌, ◌+◌, ◌%◌, ◌^◌, Some, Ok};
-ghost use Rattle.zarrs_chunk.specs.Answer.{Answers, fault, is_fault};
-ghost use Rattle.zarrs_codec.specs.FailingCall.{FailsInTurn, failure_due, turn_after, turn_of};
+ghost use Rattle.std.specs.Prelude.{◌≡◌};
+ghost use Rattle.zarrs_chunk.specs.Answer.{is_fault};
+ghost use Rattle.zarrs_codec.specs.FailingCall.{FailsInTurn, failure_due, none_made, one_accepted, one_failed, one_more, one_writes, turn_of};
+ghost use Rattle.zarrs_codec.specs.HandleCalls.{Tells};
 ghost use Rattle.zarrs_codec.specs.StorageState.{count_if, last_failure};
 
 use zarrs_chunk::{CodecError, StorageError};
@@ -21,7 +22,7 @@ pub(crate) struct FailingCall {
 impl FailingCall {
     /// The `n`-th call fails, with code `n`, counted from 1; none does where `n` is 0.
     pub(crate) fn new(n: u32) -> FailingCall
-        ensures made { result ≡ record { left = n; code = n; faults = 0; failure = None; write_calls = 0; accepted_writes = 0 } }
+        ensures made { result ≡ none_made n }
     {
         FailingCall {
             left: n,
@@ -36,7 +37,7 @@ impl FailingCall {
     /// Counts a call. It is to fail where it is its turn.
     pub(crate) fn next(&mut self) -> Option<StorageError>
         ensures due { result ≡ failure_due (turn_of self.old) }
-        ensures counted { self.new ≡ record self.old { left = (turn_after (turn_of self.old)).left } }
+        ensures counted { self.new ≡ one_more self.old }
     {
         let due = self.left == 1;
         self.left = self.left.saturating_sub(1);
@@ -50,7 +51,7 @@ impl FailingCall {
     /// Counts a failure, and makes the refusal of it.
     pub(crate) fn fail(&mut self, failure: StorageError) -> CodecError
         ensures refusal { result ≡ CodecError.Storage failure }
-        ensures counted { self.new ≡ record self.old { faults = (self.old.faults + 1) % 2 ^ 64; failure = Some failure } }
+        ensures counted { self.new ≡ one_failed failure self.old }
     {
         self.faults = self.faults.wrapping_add(1);
         self.failure = Some(failure);
@@ -59,21 +60,21 @@ impl FailingCall {
 
     /// Counts a writing call.
     pub(crate) fn count_write(&mut self)
-        ensures counted { self.new ≡ record self.old { write_calls = (self.old.write_calls + 1) % 2 ^ 64 } }
+        ensures counted { self.new ≡ one_writes self.old }
     {
         self.write_calls = self.write_calls.wrapping_add(1);
     }
 
     /// Counts a writing call that was accepted.
     pub(crate) fn accept_write(&mut self)
-        ensures counted { self.new ≡ record self.old { accepted_writes = (self.old.accepted_writes + 1) % 2 ^ 64 } }
+        ensures counted { self.new ≡ one_accepted self.old }
     {
         self.accepted_writes = self.accepted_writes.wrapping_add(1);
     }
 
     /// Counts a call, and refuses it where it is its turn to fail.
     pub(crate) fn pass(&mut self) -> Result<(), CodecError>
-        ensures answer { Answers fault (λ passed. passed) result (Ok tt) }
+        ensures answer { Tells result tt }
         ensures in_turn { FailsInTurn result (turn_of self.old) (turn_of self.new) }
         ensures faults { self.new.faults ≡ count_if (is_fault result) self.old.faults }
         ensures failure { self.new.failure ≡ last_failure result self.old.failure }

@@ -1,12 +1,12 @@
 //! A handle of which one call fails.
 ghost use Rattle.std.specs.Prelude.{◌≡◌, Ok, Some, None, OnOk, OnErr, is_some, length};
 ghost use Rattle.std.specs.Option.{option_map};
-ghost use Rattle.zarrs_chunk.specs.Answer.{Answers, fault, memory_or_fault};
-ghost use Rattle.zarrs_codec.specs.BytePieces.{pieces_fit, with_pieces};
+ghost use Rattle.zarrs_codec.specs.BytePieces.{pieces_fit};
 ghost use Rattle.zarrs_codec.specs.ByteRanges.{read_ranges};
 ghost use Rattle.zarrs_codec.specs.FailingCall.{FailsInTurn};
 ghost use Rattle.zarrs_codec.specs.FailingHandle.{failing_state, failing_turn};
-ghost use Rattle.zarrs_codec.specs.StorageState.{after_reading, after_writing, apart_from_value, value_or_empty};
+ghost use Rattle.zarrs_codec.specs.HandleCalls.{Accepts, ReadsBytes, Tells, WritesPieces};
+ghost use Rattle.zarrs_codec.specs.StorageState.{LeftByWriting, SameValue, after_reading, value_size};
 
 use crate::byte_range::ByteRange;
 use crate::bytes_partial_decoder_traits::BytesPartialDecoderTraits;
@@ -88,7 +88,7 @@ impl BytesPartialDecoderTraits for FailingHandle {
     ghost reads_ranges = { true };
 
     fn exists(&mut self) -> Result<bool, CodecError>
-        ensures answer { Answers fault (λ there. there) result (Ok (is_some (failing_state self.old).value)) }
+        ensures answer { Tells result (is_some (failing_state self.old).value) }
         ensures left { failing_state self.new ≡ after_reading result (failing_state self.old) }
         ensures in_turn { FailsInTurn result (failing_turn self.old) (failing_turn self.new) }
     {
@@ -97,7 +97,7 @@ impl BytesPartialDecoderTraits for FailingHandle {
     }
 
     fn size(&mut self) -> Result<Option<u64>, CodecError>
-        ensures answer { Answers fault (λ size. size) result (Ok (option_map (λ bytes. length bytes) (failing_state self.old).value)) }
+        ensures answer { Tells result (value_size (failing_state self.old).value) }
         ensures left { failing_state self.new ≡ after_reading result (failing_state self.old) }
         ensures in_turn { FailsInTurn result (failing_turn self.old) (failing_turn self.new) }
     {
@@ -114,7 +114,7 @@ impl BytesPartialDecoderTraits for FailingHandle {
         alloc: Global,
         ranges: &[ByteRange],
     ) -> Result<Option<Vec<u8>>, CodecError>
-        ensures answer { Answers memory_or_fault (option_map (λ bytes. bytes.items)) result (read_ranges (failing_state self.old).value ranges.now) }
+        ensures answer { ReadsBytes result (read_ranges (failing_state self.old).value ranges.now) }
         ensures left { failing_state self.new ≡ after_reading result (failing_state self.old) }
         ensures in_turn { FailsInTurn result (failing_turn self.old) (failing_turn self.new) }
     {
@@ -123,7 +123,7 @@ impl BytesPartialDecoderTraits for FailingHandle {
     }
 
     fn decode(&mut self, alloc: Global) -> Result<Option<Vec<u8>>, CodecError>
-        ensures answer { Answers memory_or_fault (option_map (λ bytes. bytes.items)) result (Ok (failing_state self.old).value) }
+        ensures answer { ReadsBytes result (Ok (failing_state self.old).value) }
         ensures left { failing_state self.new ≡ after_reading result (failing_state self.old) }
         ensures in_turn { FailsInTurn result (failing_turn self.old) (failing_turn self.new) }
     {
@@ -149,10 +149,10 @@ impl BytesPartialEncoderTraits for FailingHandle {
         pieces: &[(u64, u64)],
         bytes: &[u8],
     ) -> Result<(), CodecError>
-        ensures answer { Answers memory_or_fault (λ written. written) result (pieces_fit pieces.now (length bytes.now)) }
-        ensures written { OnOk result ((failing_state self.new).value ≡ Some (with_pieces (value_or_empty (failing_state self.old).value) pieces.now bytes.now)) }
-        ensures kept { OnErr result ((failing_state self.new).value ≡ (failing_state self.old).value) }
-        ensures left { apart_from_value (failing_state self.new) ≡ after_writing result (failing_state self.old) }
+        ensures answer { Accepts result (pieces_fit pieces.now (length bytes.now)) }
+        ensures written { WritesPieces failing_state self.old self.new pieces.now bytes.now result }
+        ensures kept { OnErr result (SameValue failing_state self.old self.new) }
+        ensures left { LeftByWriting failing_state self.old self.new result }
         ensures in_turn { FailsInTurn result (failing_turn self.old) (failing_turn self.new) }
     {
         self.calls.count_write();
@@ -163,10 +163,10 @@ impl BytesPartialEncoderTraits for FailingHandle {
     }
 
     fn replace(&mut self, alloc: Global, bytes: &[u8]) -> Result<(), CodecError>
-        ensures answer { Answers memory_or_fault (λ written. written) result (Ok tt) }
+        ensures answer { Accepts result (Ok tt) }
         ensures written { OnOk result ((failing_state self.new).value ≡ Some bytes.now) }
-        ensures kept { OnErr result ((failing_state self.new).value ≡ (failing_state self.old).value) }
-        ensures left { apart_from_value (failing_state self.new) ≡ after_writing result (failing_state self.old) }
+        ensures kept { OnErr result (SameValue failing_state self.old self.new) }
+        ensures left { LeftByWriting failing_state self.old self.new result }
         ensures in_turn { FailsInTurn result (failing_turn self.old) (failing_turn self.new) }
     {
         self.calls.count_write();
@@ -177,10 +177,10 @@ impl BytesPartialEncoderTraits for FailingHandle {
     }
 
     fn erase(&mut self) -> Result<(), CodecError>
-        ensures answer { Answers fault (λ written. written) result (Ok tt) }
+        ensures answer { Tells result tt }
         ensures written { OnOk result ((failing_state self.new).value ≡ None) }
-        ensures kept { OnErr result ((failing_state self.new).value ≡ (failing_state self.old).value) }
-        ensures left { apart_from_value (failing_state self.new) ≡ after_writing result (failing_state self.old) }
+        ensures kept { OnErr result (SameValue failing_state self.old self.new) }
+        ensures left { LeftByWriting failing_state self.old self.new result }
         ensures in_turn { FailsInTurn result (failing_turn self.old) (failing_turn self.new) }
     {
         self.calls.count_write();

@@ -1,11 +1,11 @@
 //! A handle that is read inside some ranges alone.
-ghost use Rattle.std.specs.Prelude.{◌≡◌, ◌-◌, ◌<◌, Ok, Some, None, true, false, MatchOption};
+ghost use Rattle.std.specs.Prelude.{◌≡◌, ◌-◌, Ok, Some, None, true, false, MatchOption};
 ghost use Rattle.std.specs.List.{list_all, range_with_len};
 ghost use Rattle.std.specs.Option.{option_map};
-ghost use Rattle.zarrs_chunk.specs.Answer.{Answers, fault, memory_or_fault};
-ghost use Rattle.zarrs_codec.specs.ByteRanges.{range_indices, read_ranges};
-ghost use Rattle.zarrs_codec.specs.FencedHandle.{fence_failure, fenced_state, is_fenced};
-ghost use Rattle.zarrs_codec.specs.StorageState.{after_reading, are_sure, last_failure, value_indices};
+ghost use Rattle.zarrs_codec.specs.ByteRanges.{range_indices, ranges_are_sure, read_ranges};
+ghost use Rattle.zarrs_codec.specs.FencedHandle.{FailsUnless, Reach, fenced_state, is_fenced};
+ghost use Rattle.zarrs_codec.specs.HandleCalls.{ReadsBytes, Tells};
+ghost use Rattle.zarrs_codec.specs.StorageState.{after_reading, value_is_sure};
 
 use crate::byte_range::ByteRange;
 use crate::bytes_partial_decoder_traits::BytesPartialDecoderTraits;
@@ -15,7 +15,7 @@ use zarrs_chunk::{CodecError, StorageError};
 
 /// The end of a range that has this byte, or `None` where none has it.
 fn fence_end(ranges: &[ByteRange], byte: u64) -> Option<u64>
-    ensures end { MatchOption result (is_fenced ranges.now byte ≡ false) (λ end. (byte < end) × (list_all (is_fenced ranges.now) (range_with_len byte (end - byte)) ≡ true)) }
+    ensures end { MatchOption result (is_fenced ranges.now byte ≡ false) (Reach ranges.now byte) }
 {
     for range in ranges {
         if range.start() <= byte && byte < range.end() {
@@ -94,8 +94,8 @@ impl FencedHandle {
 
     /// Fails where a byte outside is asked for.
     fn pass(&mut self, inside: bool) -> Result<(), CodecError>
-        ensures answer { Answers fault (λ passed. passed) result (Ok tt) }
-        ensures fenced { last_failure result None ≡ fence_failure inside }
+        ensures answer { Tells result tt }
+        ensures fenced { FailsUnless inside result }
         ensures left { fenced_state self.new ≡ after_reading result (fenced_state self.old) }
     {
         if inside {
@@ -109,7 +109,7 @@ impl FencedHandle {
 
     /// Whether all bytes of the value lie inside.
     fn has_value(&self) -> bool
-        ensures all { result ≡ are_sure (fenced_state self.now).sure (value_indices (fenced_state self.now).value) }
+        ensures all { result ≡ value_is_sure (fenced_state self.now) }
     {
         match self.memory.value() {
             None => true,
@@ -146,8 +146,8 @@ impl BytesPartialDecoderTraits for FencedHandle {
         alloc: Global,
         ranges: &[ByteRange],
     ) -> Result<Option<Vec<u8>>, CodecError>
-        ensures answer { Answers memory_or_fault (option_map (λ bytes. bytes.items)) result (read_ranges (fenced_state self.old).value ranges.now) }
-        ensures fenced { last_failure result None ≡ fence_failure (are_sure (fenced_state self.old).sure (range_indices ranges.now)) }
+        ensures answer { ReadsBytes result (read_ranges (fenced_state self.old).value ranges.now) }
+        ensures fenced { FailsUnless (ranges_are_sure (fenced_state self.old) ranges.now) result }
         ensures left { fenced_state self.new ≡ after_reading result (fenced_state self.old) }
     {
         let inside = has_ranges(self.ranges.as_slice(), ranges);
@@ -156,8 +156,8 @@ impl BytesPartialDecoderTraits for FencedHandle {
     }
 
     fn decode(&mut self, alloc: Global) -> Result<Option<Vec<u8>>, CodecError>
-        ensures answer { Answers memory_or_fault (option_map (λ bytes. bytes.items)) result (Ok (fenced_state self.old).value) }
-        ensures fenced { last_failure result None ≡ fence_failure (are_sure (fenced_state self.old).sure (value_indices (fenced_state self.old).value)) }
+        ensures answer { ReadsBytes result (Ok (fenced_state self.old).value) }
+        ensures fenced { FailsUnless (value_is_sure (fenced_state self.old)) result }
         ensures left { fenced_state self.new ≡ after_reading result (fenced_state self.old) }
     {
         let inside = self.has_value();

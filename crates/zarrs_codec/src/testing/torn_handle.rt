@@ -1,13 +1,14 @@
 //! A handle of which one call fails, and tears the value where it writes.
 ghost use Rattle.std.specs.Prelude.{◌≡◌, Ok, Some, None, OnOk, OnErr, is_some, length};
 ghost use Rattle.std.specs.Option.{option_map};
-ghost use Rattle.zarrs_chunk.specs.Answer.{Answers, memory, fault, memory_or_fault};
-ghost use Rattle.zarrs_codec.specs.BytePieces.{pieces_fit, with_pieces};
+ghost use Rattle.zarrs_chunk.specs.Answer.{Answers, memory};
+ghost use Rattle.zarrs_codec.specs.BytePieces.{pieces_fit};
 ghost use Rattle.zarrs_codec.specs.ByteRanges.{read_ranges};
 ghost use Rattle.zarrs_codec.specs.FailingCall.{FailsInTurn, TearsInTurn};
-ghost use Rattle.zarrs_codec.specs.TornHandle.{torn_state, torn_turn, first_half, half_of_pieces, torn_or_kept};
+ghost use Rattle.zarrs_codec.specs.TornHandle.{HasHalf, Tears, first_half, half_of_pieces, torn_state, torn_turn};
+ghost use Rattle.zarrs_codec.specs.HandleCalls.{Accepts, ReadsBytes, Tells, WritesPieces};
 ghost use Rattle.zarrs_codec.specs.MemoryHandle.{handle_value};
-ghost use Rattle.zarrs_codec.specs.StorageState.{after_reading, after_writing, apart_from_value, value_or_empty};
+ghost use Rattle.zarrs_codec.specs.StorageState.{LeftByWriting, after_reading, value_size};
 
 use crate::byte_pieces::check_pieces;
 use crate::byte_range::ByteRange;
@@ -40,7 +41,7 @@ fn tear_pieces(
     bytes: &[u8],
 ) -> Result<(), CodecError>
     ensures memory_alone { Answers memory (λ torn. torn) result (Ok tt) }
-    ensures torn { OnOk result (handle_value handle.new ≡ half_of_pieces (handle_value handle.old) pieces.now bytes.now) }
+    ensures torn { OnOk result (HasHalf pieces.now bytes.now handle.old handle.new) }
     ensures kept { OnErr result (handle_value handle.new ≡ handle_value handle.old) }
 {
     if check_pieces(pieces, bytes.len()).is_ok() {
@@ -112,7 +113,7 @@ impl BytesPartialDecoderTraits for TornHandle {
     ghost reads_ranges = { true };
 
     fn exists(&mut self) -> Result<bool, CodecError>
-        ensures answer { Answers fault (λ there. there) result (Ok (is_some (torn_state self.old).value)) }
+        ensures answer { Tells result (is_some (torn_state self.old).value) }
         ensures left { torn_state self.new ≡ after_reading result (torn_state self.old) }
         ensures in_turn { FailsInTurn result (torn_turn self.old) (torn_turn self.new) }
     {
@@ -121,7 +122,7 @@ impl BytesPartialDecoderTraits for TornHandle {
     }
 
     fn size(&mut self) -> Result<Option<u64>, CodecError>
-        ensures answer { Answers fault (λ size. size) result (Ok (option_map (λ bytes. length bytes) (torn_state self.old).value)) }
+        ensures answer { Tells result (value_size (torn_state self.old).value) }
         ensures left { torn_state self.new ≡ after_reading result (torn_state self.old) }
         ensures in_turn { FailsInTurn result (torn_turn self.old) (torn_turn self.new) }
     {
@@ -138,7 +139,7 @@ impl BytesPartialDecoderTraits for TornHandle {
         alloc: Global,
         ranges: &[ByteRange],
     ) -> Result<Option<Vec<u8>>, CodecError>
-        ensures answer { Answers memory_or_fault (option_map (λ bytes. bytes.items)) result (read_ranges (torn_state self.old).value ranges.now) }
+        ensures answer { ReadsBytes result (read_ranges (torn_state self.old).value ranges.now) }
         ensures left { torn_state self.new ≡ after_reading result (torn_state self.old) }
         ensures in_turn { FailsInTurn result (torn_turn self.old) (torn_turn self.new) }
     {
@@ -147,7 +148,7 @@ impl BytesPartialDecoderTraits for TornHandle {
     }
 
     fn decode(&mut self, alloc: Global) -> Result<Option<Vec<u8>>, CodecError>
-        ensures answer { Answers memory_or_fault (option_map (λ bytes. bytes.items)) result (Ok (torn_state self.old).value) }
+        ensures answer { ReadsBytes result (Ok (torn_state self.old).value) }
         ensures left { torn_state self.new ≡ after_reading result (torn_state self.old) }
         ensures in_turn { FailsInTurn result (torn_turn self.old) (torn_turn self.new) }
     {
@@ -173,10 +174,10 @@ impl BytesPartialEncoderTraits for TornHandle {
         pieces: &[(u64, u64)],
         bytes: &[u8],
     ) -> Result<(), CodecError>
-        ensures answer { Answers memory_or_fault (λ written. written) result (pieces_fit pieces.now (length bytes.now)) }
-        ensures written { OnOk result ((torn_state self.new).value ≡ Some (with_pieces (value_or_empty (torn_state self.old).value) pieces.now bytes.now)) }
-        ensures torn { OnErr result ((torn_state self.new).value ≡ torn_or_kept result (half_of_pieces (torn_state self.old).value pieces.now bytes.now) (torn_state self.old).value) }
-        ensures left { apart_from_value (torn_state self.new) ≡ after_writing result (torn_state self.old) }
+        ensures answer { Accepts result (pieces_fit pieces.now (length bytes.now)) }
+        ensures written { WritesPieces torn_state self.old self.new pieces.now bytes.now result }
+        ensures torn { Tears (half_of_pieces pieces.now bytes.now) self.old self.new result }
+        ensures left { LeftByWriting torn_state self.old self.new result }
         ensures in_turn { TearsInTurn result (torn_turn self.old) (torn_turn self.new) }
     {
         self.calls.count_write();
@@ -194,10 +195,10 @@ impl BytesPartialEncoderTraits for TornHandle {
     }
 
     fn replace(&mut self, alloc: Global, bytes: &[u8]) -> Result<(), CodecError>
-        ensures answer { Answers memory_or_fault (λ written. written) result (Ok tt) }
+        ensures answer { Accepts result (Ok tt) }
         ensures written { OnOk result ((torn_state self.new).value ≡ Some bytes.now) }
-        ensures torn { OnErr result ((torn_state self.new).value ≡ torn_or_kept result (Some (first_half bytes.now)) (torn_state self.old).value) }
-        ensures left { apart_from_value (torn_state self.new) ≡ after_writing result (torn_state self.old) }
+        ensures torn { Tears (λ _. Some (first_half bytes.now)) self.old self.new result }
+        ensures left { LeftByWriting torn_state self.old self.new result }
         ensures in_turn { TearsInTurn result (torn_turn self.old) (torn_turn self.new) }
     {
         self.calls.count_write();
@@ -215,10 +216,10 @@ impl BytesPartialEncoderTraits for TornHandle {
     }
 
     fn erase(&mut self) -> Result<(), CodecError>
-        ensures answer { Answers fault (λ written. written) result (Ok tt) }
+        ensures answer { Tells result tt }
         ensures written { OnOk result ((torn_state self.new).value ≡ None) }
-        ensures torn { OnErr result ((torn_state self.new).value ≡ torn_or_kept result (option_map first_half (torn_state self.old).value) (torn_state self.old).value) }
-        ensures left { apart_from_value (torn_state self.new) ≡ after_writing result (torn_state self.old) }
+        ensures torn { Tears (option_map first_half) self.old self.new result }
+        ensures left { LeftByWriting torn_state self.old self.new result }
         ensures in_turn { FailsInTurn result (torn_turn self.old) (torn_turn self.new) }
     {
         self.calls.count_write();
