@@ -1,7 +1,9 @@
 -- What the codec `bytes` answers, for which chunk a value stands, and which value is written for a chunk.
-use Rattle.std.specs.Prelude.{◌≡◌, ℕ, ◌*◌, ◌<◌, ◌^◌, ◌==◌, ◌&&◌, nat_le, is_some, if◌then◌else◌, Bool, false, not, Option, Some, None, List, [], length, map, Result, Ok, Err}
+use Rattle.std.specs.Prelude.{◌≡◌, ℕ, ◌*◌, ◌<◌, ◌^◌, ◌==◌, ◌&&◌, nat_le, is_some, is_ok, if◌then◌else◌, Bool, true, false, not, Option, Some, None, List, [], length, map, Result, Ok, Err}
+use Rattle.std.proofs.Common.{Global}
 use Rattle.std.specs.List.{range_with_len}
-use Rattle.zarrs_chunk.specs.Answer.{◌>>=◌, demand, checked_u64}
+use Rattle.std.specs.declared.borrow.CowSlice.{CowSlice}
+use Rattle.zarrs_chunk.specs.Answer.{◌>>=◌, Gives, demand, checked_u64, seen}
 use Rattle.zarrs_chunk.specs.ChunkShape.{product}
 use Rattle.zarrs_chunk.specs.declared.codec_error.CodecError.{CodecError}
 use Rattle.zarrs_chunk.specs.declared.codec_error.CodecError.TheVariants.{UnsupportedDataType, InvalidFillValue, EndiannessMissing, InvalidBytesLength}
@@ -12,10 +14,13 @@ use Rattle.zarrs_data_type.specs.FillValue.{fill_fits}
 use Rattle.zarrs_data_type.specs.declared.endianness.Endianness.{Endianness}
 use Rattle.zarrs_data_type.specs.declared.endianness.Endianness.TheVariants.{Big}
 use Rattle.zarrs_array_bytes.specs.Elements.{piece, elements}
-use Rattle.zarrs_array_bytes.specs.Held.{Held, flen}
+use Rattle.zarrs_array_bytes.specs.Held.{Held, flen, items_of, raw_of}
 use Rattle.zarrs_array_bytes.specs.Validity.{validity}
 use Rattle.zarrs_data_type.specs.Form.{Form}
+use Rattle.zarrs_codec.specs.declared.bytes_representation.BytesRepresentation.{BytesRepresentation}
+use Rattle.zarrs_codec.specs.declared.bytes_representation.BytesRepresentation.TheVariants.{FixedSize}
 use Rattle.zarrs_bytes.specs.ByteOrder.{bytes_in_order, has_order, spelled_chunk}
+use Rattle.zarrs_bytes.specs.GivenBytes.{EncodesNow, DecodesNow}
 
 -- ---- which chunks it takes
 
@@ -34,6 +39,19 @@ length_by order sizes (optional type) fill = Err (UnsupportedDataType codec.Byte
 -- how many bytes the value of such a chunk has, or the first cause why the codec doesn't take such chunks
 abbrev pub bytes_length : Option Endianness → Form → Result ℕ CodecError
 bytes_length order form = length_by order form.sizes form.type form.fill
+
+-- the representation of the value of such a chunk, or the first cause why the codec doesn't take such chunks
+abbrev pub bytes_represented : Option Endianness → Form → Result BytesRepresentation CodecError
+bytes_represented order form = seen FixedSize (bytes_length order form)
+
+-- the codec takes such chunks
+abbrev pub BytesTakes : Option Endianness → Form → Type 0
+BytesTakes order form = is_ok (bytes_length order form) ≡ true
+
+-- what such a chunk is made of is given, where the codec takes such chunks, or the first refusal
+abbrev pub Copies : Option Endianness → Form → Result (List ℕ × ElementType × List ℕ) CodecError → Type 0
+Copies order form result =
+    Gives (λ parts. parts) result (seen (λ _. (form.sizes, form.type, form.fill)) (bytes_length order form))
 
 -- ---- its grammar: the elements of the chunk in order, each component in the byte order
 
@@ -94,3 +112,13 @@ turn_size order type = None
 abbrev pub needs_memory : Option Endianness → ElementType → Held → Bool
 needs_memory order type (flen raw) = is_some (turn_size order type) && not raw.is_owned
 needs_memory order type held = false
+
+-- where no memory is taken for a container's bytes, its chunk's value is answered, or the first refusal
+abbrev pub EncodesInPlace : Option Endianness → Form → Held → Result (CowSlice ℕ Global) CodecError → Type 0
+EncodesInPlace order form held result =
+    needs_memory order form.type held ≡ false → EncodesNow (bytes_value order) form held result
+
+-- where no memory is taken for a value's bytes, a container of its chunk is answered, or the first refusal
+abbrev pub DecodesInPlace : Option Endianness → Form → CowSlice ℕ Global → Result Held CodecError → Type 0
+DecodesInPlace order form given result =
+    needs_memory order form.type (flen (raw_of given)) ≡ false → DecodesNow (bytes_chunk order) form (items_of given) result

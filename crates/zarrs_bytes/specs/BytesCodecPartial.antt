@@ -1,6 +1,9 @@
 -- What a partial coder of `bytes` is made of, and what it reads and writes of a chunk.
-use Rattle.std.specs.Prelude.{◌≡◌, ℕ, Bool, Option, is_some, List, Result}
+use Rattle.std.specs.Prelude.{◌≡◌, ◌*◌, ℕ, Bool, Option, is_some, List, length, Result, IfOk, Vec}
+use Rattle.std.proofs.Common.{Global}
+use Rattle.zarrs_chunk.specs.Answer.{Gives}
 use Rattle.zarrs_chunk.specs.Indexer.{selection_of}
+use Rattle.zarrs_chunk.specs.Selection.{places_of}
 use Rattle.zarrs_chunk.specs.declared.codec_error.CodecError.{CodecError}
 use Rattle.zarrs_chunk.specs.declared.indexer.Indexer.{Indexer}
 use Rattle.zarrs_data_type.specs.ElementType.{ElementType}
@@ -8,13 +11,17 @@ use Rattle.zarrs_data_type.specs.declared.endianness.Endianness.{Endianness}
 use Rattle.zarrs_array_bytes.specs.Held.{Held}
 use Rattle.zarrs_codec.specs.ArrayReader.{ArrayReader}
 use Rattle.zarrs_codec.specs.ArrayWriter.{ArrayWriter}
+use Rattle.zarrs_codec.specs.ByteRanges.{range_indices}
+use Rattle.zarrs_codec.specs.ByteSpan.{ByteSpan}
 use Rattle.zarrs_codec.specs.ChunkEdits.{data_checked}
 use Rattle.zarrs_codec.specs.StorageState.{StorageState}
+use Rattle.zarrs_codec.specs.declared.refused.Refused.{Refused}
 use Rattle.zarrs_bytes.specs.BytesGrammar.{bytes_grammar, bytes_reads_part}
 use Rattle.zarrs_data_type.specs.Form.{Form, form_of}
 use Rattle.zarrs_codec.specs.CodersOverHandles.{ReadsPart, OnlyReads, EditsPart, OnlyWrites}
-use Rattle.zarrs_bytes.specs.PartialRead.{bytes_read}
+use Rattle.zarrs_bytes.specs.PartialRead.{bytes_plan, bytes_read, place_size}
 use Rattle.zarrs_bytes.specs.PartialWrite.{bytes_written}
+use Rattle.zarrs_bytes.specs.PlannedRanges.{ranges_len}
 use Rattle.zarrs_bytes.specs.declared.bytes_codec_partial.BytesCodecPartial.{BytesCodecPartial}
 
 -- the chunks that a decoder reads: the byte order, the shape, the type and the fill value
@@ -37,6 +44,23 @@ bytes_form_of decoder =
 abbrev pub bytes_handle_of : {H : Type 0} → BytesCodecPartial H → H
 bytes_handle_of decoder = decoder.handle
 
+-- what is seen of a coder's handle
+abbrev pub coder_state : {H : Type 0} → (H → StorageState) → BytesCodecPartial H → StorageState
+coder_state state coder = state (bytes_handle_of coder)
+
+-- the value that a coder's handle keeps, or none
+abbrev pub stored_in : {H : Type 0} → (H → StorageState) → BytesCodecPartial H → Option (List ℕ)
+stored_in state coder = (coder_state state coder).value
+
+-- what a coder's handle lends
+abbrev pub coder_lent : {H L : Type 0} → (H → L) → BytesCodecPartial H → L
+coder_lent lent coder = lent (bytes_handle_of coder)
+
+-- a coder that is made has this byte order, and is one of chunks of this form
+abbrev pub HasForm : {H : Type 0} → Option Endianness → Form → Result (BytesCodecPartial H) (Refused H) → Type 0
+HasForm order form result =
+    IfOk result (λ coder. bytes_form_of coder ≡ record { order = order; sizes = form.sizes; type = form.type; fill = form.fill })
+
 -- what a decoder reads at a selection by its grammar (`state` says what a handle keeps)
 abbrev pub Reads : {H : Type 0} → (H → StorageState) → BytesCodecPartial H → Indexer → Result Held CodecError → Type 0
 Reads state decoder indexer result =
@@ -45,7 +69,17 @@ Reads state decoder indexer result =
 -- that a call of a decoder changes nothing
 abbrev pub Leaves : {H T L : Type 0} → (H → StorageState) → (H → L) → BytesCodecPartial H → BytesCodecPartial H → Result T CodecError → Type 0
 Leaves state lent before after result =
-    OnlyReads (λ decoder. state (bytes_handle_of decoder)) (λ decoder. lent (bytes_handle_of decoder)) bytes_form_of before after result
+    OnlyReads (coder_state state) (coder_lent lent) bytes_form_of before after result
+
+-- the ranges that a decoder plans are the bytes of the places that the indexer means, in order, or the first refusal is answered
+abbrev pub Plans : {H : Type 0} → BytesCodecPartial H → Indexer → Result (Vec ByteSpan Global) CodecError → Type 0
+Plans decoder indexer result =
+    Gives (λ ranges. range_indices ranges.items) result (bytes_plan decoder.shape decoder.data_type (selection_of indexer))
+
+-- the ranges that a decoder plans have as many bytes as the elements that the indexer means
+abbrev pub PlansAllBytes : {H : Type 0} → BytesCodecPartial H → Indexer → Result (Vec ByteSpan Global) CodecError → Type 0
+PlansAllBytes decoder indexer result =
+    IfOk result (λ ranges. IfOk (places_of (selection_of indexer) decoder.shape) (λ places. ranges_len ranges.items ≡ length places * place_size decoder.data_type))
 
 -- the reader of a chunk of this form, where this value or none is stored: it answers of a selection what `bytes_read` says
 abbrev pub bytes_reader : BytesForm → Option (List ℕ) → Bool → ArrayReader
@@ -73,4 +107,4 @@ Edits state before after indexer new result =
 -- that a call of a coder makes one writing call at most, and changes nothing else
 abbrev pub WritesAtMostOnce : {H T L : Type 0} → (H → StorageState) → (H → L) → Bool → BytesCodecPartial H → BytesCodecPartial H → Result T CodecError → Type 0
 WritesAtMostOnce state lent atomic before after result =
-    OnlyWrites (λ coder. state (bytes_handle_of coder)) (λ coder. lent (bytes_handle_of coder)) bytes_form_of atomic before after result
+    OnlyWrites (coder_state state) (coder_lent lent) bytes_form_of atomic before after result

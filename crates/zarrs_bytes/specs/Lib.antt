@@ -2,9 +2,12 @@ pub mod ByteOrder
 pub mod BytesCodec
 pub mod BytesCodecPartial
 pub mod BytesGrammar
+pub mod GivenBytes
 pub mod Laws
+pub mod MadeCoders
 pub mod PartialRead
 pub mod PartialWrite
+pub mod PlannedRanges
 pub use Rattle.zarrs_chunk.specs.Answer
 pub use Rattle.zarrs_chunk.specs.ChunkShape
 pub use Rattle.zarrs_chunk.specs.Indexer

@@ -1,7 +1,8 @@
 -- What a read in part answers, by the bytes of the places that are asked for alone.
-use Rattle.std.specs.Prelude.{◌≡◌, ℕ, ◌+◌, ◌*◌, ◌<◌, Bool, nat_le, Option, Some, None, List, length, map, Result, Ok}
+use Rattle.std.specs.Prelude.{◌≡◌, ℕ, ◌+◌, ◌*◌, ◌<◌, ◌++◌, Bool, nat_le, Option, Some, None, option_map, List, length, map, Result, Ok}
 use Rattle.std.specs.List.{concat, flat_map, list_all, range_with_len}
-use Rattle.zarrs_chunk.specs.Answer.{◌>>=◌, demand, seen}
+use Rattle.zarrs_chunk.specs.Answer.{◌>>=◌, AnswersBy, demand, memory_or_fault, seen}
+use Rattle.zarrs_chunk.specs.Runs.{joined_runs}
 use Rattle.zarrs_chunk.specs.Selection.{Selection, places_of}
 use Rattle.zarrs_chunk.specs.declared.codec_error.CodecError.{CodecError}
 use Rattle.zarrs_chunk.specs.declared.codec_error.CodecError.TheVariants.{InvalidByteRange}
@@ -9,12 +10,24 @@ use Rattle.zarrs_data_type.specs.Element.{Chunk, fill_element}
 use Rattle.zarrs_data_type.specs.ElementType.{ElementType, fixed, text, bytes, optional, element_size}
 use Rattle.zarrs_data_type.specs.declared.endianness.Endianness.{Endianness}
 use Rattle.zarrs_array_bytes.specs.Elements.{piece}
+use Rattle.zarrs_array_bytes.specs.Held.{Held}
+use Rattle.zarrs_array_bytes.specs.Validity.{Holds}
+use Rattle.zarrs_codec.specs.StorageState.{StorageState, are_sure}
 use Rattle.zarrs_data_type.specs.Form.{Form}
 use Rattle.zarrs_bytes.specs.BytesCodec.{bytes_element}
+use Rattle.zarrs_codec.specs.HandleCalls.{NeverFailsIf}
 
 -- the numbers of the bytes of elements of one size at these places, in order
 abbrev pub place_bytes : ℕ → List ℕ → List ℕ
 place_bytes size places = flat_map (λ place. range_with_len (place * size) size) places
+
+-- the same of the places of these runs, each a start and a length
+abbrev pub run_bytes : ℕ → List (ℕ × ℕ) → List ℕ
+run_bytes size runs = place_bytes size (joined_runs runs)
+
+-- all bytes of elements of one size at the places of these runs are sure to be read
+abbrev pub runs_are_sure : ℕ → StorageState → List (ℕ × ℕ) → Bool
+runs_are_sure size before runs = are_sure before.sure (run_bytes size runs)
 
 -- the bytes of elements of one size at these places of what is stored, joined in order, where the value has all of them; none, where nothing is stored
 abbrev pub bytes_at : ℕ → Option (List ℕ) → List ℕ → Result (Option (List ℕ)) CodecError
@@ -22,6 +35,14 @@ bytes_at size None places = Ok None
 bytes_at size (Some value) places = do
   _ ← demand (list_all (λ place. nat_le (place * size + size) (length value)) places) InvalidByteRange
   Ok (Some (concat (map (piece size value) places)))
+
+-- the bytes of elements of one size at the places of these runs, of what the handle keeps
+abbrev pub bytes_at_runs : ℕ → StorageState → List (ℕ × ℕ) → Result (Option (List ℕ)) CodecError
+bytes_at_runs size before runs = bytes_at size before.value (joined_runs runs)
+
+-- these bytes, and behind them those that are read, where there are any
+abbrev pub with_read : List ℕ → Result (Option (List ℕ)) CodecError → Result (Option (List ℕ)) CodecError
+with_read before read = seen (option_map (λ more. before ++ more)) read
 
 -- how many bytes an element of a fixed type has; none of any other type
 abbrev pub place_size : ElementType → ℕ
@@ -54,6 +75,19 @@ abbrev pub bytes_read : Option Endianness → Form → Option (List ℕ) → Sel
 bytes_read order form stored selection = do
   places ← places_of selection form.sizes
   read_places order form.type form.fill stored places
+
+-- The answer is a container of the elements at the places of these runs: those of the stored value, where it has all their bytes; the fill element at each, where nothing is stored. Only a want of memory or a failure of the handle may come in its place.
+abbrev pub ReadsRuns : Option Endianness → ElementType → List ℕ → StorageState → List (ℕ × ℕ) → Result Held CodecError → Type 0
+ReadsRuns order type fill before runs result =
+    AnswersBy memory_or_fault (Holds type) result (read_places order type fill before.value (joined_runs runs))
+
+-- Where all bytes of the elements at the places of these runs are sure, no failure of the handle comes.
+abbrev pub ReadsRunsSurely : {T : Type 0} → ElementType → StorageState → List (ℕ × ℕ) → Result T CodecError → Type 0
+ReadsRunsSurely type before runs result = NeverFailsIf (runs_are_sure (place_size type) before runs) result
+
+-- how many bytes the elements at the places of these runs have
+abbrev pub byte_count_of : ElementType → List (ℕ × ℕ) → ℕ
+byte_count_of type runs = length (joined_runs runs) * place_size type
 
 -- the numbers of the bytes that such a read asks for, or the first refusal
 abbrev pub bytes_plan : List ℕ → ElementType → Selection → Result (List ℕ) CodecError

@@ -1,21 +1,29 @@
 -- What a write in part leaves: of a stored value all but the bytes of the places that are written.
-use Rattle.std.specs.Prelude.{◌≡◌, ℕ, ◌+◌, ◌*◌, max, Option, Some, None, List, [], ◌∷◌, length, map, replicate, Result, Ok}
-use Rattle.zarrs_chunk.specs.Answer.{◌>>=◌}
+use Rattle.std.specs.Prelude.{◌≡◌, ℕ, ◌+◌, ◌*◌, ◌≤◌, max, Option, Some, None, List, [], ◌∷◌, length, map, replicate, Result, Ok, OnOk}
+use Rattle.std.proofs.Common.{Global}
+use Rattle.std.specs.List.{All}
+use Rattle.std.specs.declared.borrow.CowSlice.{CowSlice}
+use Rattle.zarrs_chunk.specs.Answer.{◌>>=◌, Answers, Gives, memory_or_fault}
 use Rattle.zarrs_chunk.specs.ChunkShape.{product}
+use Rattle.zarrs_chunk.specs.Runs.{joined_runs}
 use Rattle.zarrs_chunk.specs.Selection.{Selection}
 use Rattle.zarrs_chunk.specs.declared.codec_error.CodecError.{CodecError}
 use Rattle.zarrs_data_type.specs.Element.{Chunk, fill_element}
 use Rattle.zarrs_data_type.specs.ElementType.{ElementType}
 use Rattle.zarrs_data_type.specs.declared.endianness.Endianness.{Endianness}
 use Rattle.zarrs_array_bytes.specs.Elements.{elements}
-use Rattle.zarrs_array_bytes.specs.Held.{Held}
+use Rattle.zarrs_array_bytes.specs.Held.{Held, items_of}
+use Rattle.zarrs_array_bytes.specs.Parts.{bytes_in}
 use Rattle.zarrs_array_bytes.specs.Update.{update}
+use Rattle.zarrs_array_bytes.specs.Validity.{data_fit}
 use Rattle.zarrs_codec.specs.BytePieces.{with_zeros}
 use Rattle.zarrs_codec.specs.ChunkEdits.{data_places, with_elements}
+use Rattle.zarrs_codec.specs.StorageState.{StorageState, value_or_empty}
 use Rattle.zarrs_bytes.specs.BytesGrammar.{bytes_grammar}
 use Rattle.zarrs_codec.specs.CodersOverHandles.{EditsFrom, Stores}
 use Rattle.zarrs_data_type.specs.Form.{Form}
-use Rattle.zarrs_bytes.specs.BytesCodec.{spelling}
+use Rattle.zarrs_bytes.specs.ByteOrder.{turned_bytes}
+use Rattle.zarrs_bytes.specs.BytesCodec.{spelling, turn_size}
 use Rattle.zarrs_bytes.specs.PartialRead.{place_bytes, place_size}
 
 -- ---- bytes
@@ -34,7 +42,20 @@ with_place_bytes size value places new =
 abbrev pub byte_runs : ℕ → List (ℕ × ℕ) → List (ℕ × ℕ)
 byte_runs size runs = map (λ run. (run.0 * size, run.1 * size)) runs
 
+-- an accepted call leaves the value of a handle, or an empty one where there was none, with these bytes in the place of those of the runs' elements, each of one size (`state` says what is seen of a handle)
+abbrev pub PutsBytes : {H E : Type 0} → ℕ → List (ℕ × ℕ) → List ℕ → (H → StorageState) → H → H → Result (Unit {0}) E → Type 0
+PutsBytes size runs new state before after result =
+    OnOk result ((state after).value ≡ Some (with_place_bytes size (value_or_empty (state before).value) (joined_runs runs) new))
+
 -- ---- elements
+
+-- there is one new element of the type for each place of the runs
+abbrev pub FitRuns : ElementType → List (ℕ × ℕ) → Held → Type 0
+FitRuns type runs new = data_fit type (length (joined_runs runs)) new ≡ Ok tt
+
+-- the bytes of a container's elements as they stand in a value, each component in the byte order
+abbrev pub value_bytes : Option Endianness → ElementType → Held → List ℕ
+value_bytes order type held = turned_bytes (turn_size order type) (bytes_in held)
 
 -- a chunk of fill elements
 abbrev pub filled_chunk : List ℕ → ElementType → List ℕ → Chunk
@@ -52,6 +73,15 @@ abbrev pub bytes_written : Option Endianness → Form → Option (List ℕ) → 
 bytes_written order form stored selection new = do
   places ← data_places form.sizes form.type selection new
   Ok (bytes_left order form stored places new)
+
+-- The value afterwards is that of the handle with new elements at the places of these runs; where nothing was stored, that of a chunk of fill elements with the new ones. Only a want of memory or a failure of the handle may come in its place (`state` says what is seen of a handle).
+abbrev pub WritesRuns : {H : Type 0} → Option Endianness → Form → List (ℕ × ℕ) → Held → (H → StorageState) → H → H → Result (Unit {0}) CodecError → Type 0
+WritesRuns order form runs new state before after result =
+    Answers memory_or_fault (λ _. (state after).value) result (Ok (Some (bytes_left order form (state before).value (joined_runs runs) new)))
+
+-- The answer is the value of a chunk of fill elements with new ones at the places of these runs. Only a want of memory may come in its place.
+abbrev pub WritesOverFill : Option Endianness → Form → List (ℕ × ℕ) → Held → Result (CowSlice ℕ Global) CodecError → Type 0
+WritesOverFill order form runs new result = Gives items_of result (Ok (bytes_left order form None (joined_runs runs) new))
 
 -- ---- edits of a chunk
 

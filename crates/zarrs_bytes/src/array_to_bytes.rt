@@ -7,16 +7,15 @@ use zarrs_codec::{ArrayToBytesCodecTraits, BytesRepresentation};
 use zarrs_data_type::{DataType, FillValue};
 
 impl ArrayToBytesCodecTraits for BytesCodec {
-    ghost use Rattle.std.specs.Prelude.{◌≡◌, Ok, None, IfOk, false};
-    ghost use Rattle.zarrs_chunk.specs.Answer.{AnswersBy, Gives, GivesBy, never, seen};
-    ghost use Rattle.zarrs_chunk.specs.ChunkShape.{product};
+    ghost use Rattle.std.specs.Prelude.{◌≡◌, None};
+    ghost use Rattle.zarrs_chunk.specs.Answer.{seen};
     ghost use Rattle.zarrs_data_type.specs.Form.{form_of};
-    ghost use Rattle.zarrs_array_bytes.specs.Held.{flen, items_of, raw_of};
-    ghost use Rattle.zarrs_array_bytes.specs.Validity.{Holds, validity};
-    ghost use Rattle.zarrs_codec.specs.declared.bytes_representation.BytesRepresentation.TheVariants.{FixedSize};
-    ghost use Rattle.zarrs_bytes.specs.BytesCodec.{bytes_length, bytes_value, bytes_chunk, needs_memory, turn_size};
+    ghost use Rattle.zarrs_array_bytes.specs.Held.{items_of};
+    ghost use Rattle.zarrs_bytes.specs.BytesCodec.{bytes_represented, bytes_length, bytes_value, bytes_chunk, turn_size, EncodesInPlace, DecodesInPlace};
+    ghost use Rattle.zarrs_codec.specs.ChunkCodec.{RepresentsBy, EncodesBy, DecodesBy, GivesValid};
+    ghost use Rattle.zarrs_bytes.specs.GivenBytes.{IsGiven, HoldsGiven};
 
-    ghost represented = { λ order form. seen FixedSize (bytes_length order form) };
+    ghost represented = { λ order form. bytes_represented order form };
 
     ghost encoded = { λ order form held. bytes_value order form held };
 
@@ -31,8 +30,10 @@ impl ArrayToBytesCodecTraits for BytesCodec {
         data_type: &DataType,
         fill_value: &FillValue,
     ) -> Result<BytesRepresentation, CodecError>
-        ensures answer { Gives (λ representation. representation) result (seen FixedSize (bytes_length self.now (form_of shape.now data_type.now fill_value.now))) }
-        ensures in_place { result ≡ seen FixedSize (bytes_length self.now (form_of shape.now data_type.now fill_value.now)) }
+        ensures answer { RepresentsBy (bytes_represented self.now)
+            (form_of shape.now data_type.now fill_value.now) result }
+        ensures in_place { result
+            ≡ bytes_represented self.now (form_of shape.now data_type.now fill_value.now) }
     {
         let lengths = self.lengths(shape, data_type, fill_value)?;
         Ok(BytesRepresentation::FixedSize(lengths.bytes))
@@ -46,9 +47,11 @@ impl ArrayToBytesCodecTraits for BytesCodec {
         data_type: &DataType,
         fill_value: &FillValue,
     ) -> Result<ArrayBytesRaw<'a>, CodecError>
-        ensures answer { Gives items_of result (bytes_value self.now (form_of shape.now data_type.now fill_value.now) elements.entry) }
-        ensures in_place { needs_memory self.now data_type.now elements.entry ≡ false → seen items_of result ≡ bytes_value self.now (form_of shape.now data_type.now fill_value.now) elements.entry }
-        ensures kept { turn_size self.now data_type.now ≡ None → IfOk result (λ value. elements.entry ≡ flen (raw_of value)) }
+        ensures answer { EncodesBy (bytes_value self.now)
+            (form_of shape.now data_type.now fill_value.now) elements.entry result }
+        ensures in_place { EncodesInPlace self.now
+            (form_of shape.now data_type.now fill_value.now) elements.entry result }
+        ensures kept { turn_size self.now data_type.now ≡ None → IsGiven elements.entry result }
     {
         BytesCodec::encode(self, alloc, elements, shape, data_type, fill_value)
     }
@@ -62,10 +65,12 @@ impl ArrayToBytesCodecTraits for BytesCodec {
         data_type: &DataType,
         fill_value: &FillValue,
     ) -> Result<ArrayBytes<'a>, CodecError>
-        ensures answer { GivesBy (Holds data_type.now) result (bytes_chunk self.now (form_of shape.now data_type.now fill_value.now) (items_of value.entry)) }
-        ensures valid { IfOk result (λ elements. validity data_type.now (product shape.now) elements ≡ Ok tt) }
-        ensures in_place { needs_memory self.now data_type.now (flen (raw_of value.entry)) ≡ false → AnswersBy never (Holds data_type.now) result (bytes_chunk self.now (form_of shape.now data_type.now fill_value.now) (items_of value.entry)) }
-        ensures kept { turn_size self.now data_type.now ≡ None → IfOk result (λ elements. elements ≡ flen (raw_of value.entry)) }
+        ensures answer { DecodesBy (bytes_chunk self.now)
+            (form_of shape.now data_type.now fill_value.now) (items_of value.entry) result }
+        ensures valid { GivesValid data_type.now shape.now result }
+        ensures in_place { DecodesInPlace self.now
+            (form_of shape.now data_type.now fill_value.now) value.entry result }
+        ensures kept { turn_size self.now data_type.now ≡ None → HoldsGiven value.entry result }
     {
         BytesCodec::decode(self, alloc, value, shape, data_type, fill_value)
     }

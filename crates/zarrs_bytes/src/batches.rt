@@ -2,12 +2,14 @@
 //!
 //! A range takes 16 bytes of memory, more than most elements have. So where a read asks for many
 //! short ranges, they are made and asked for a batch at a time.
-ghost use Rattle.std.specs.Prelude.{◌≡◌, ◌<◌, ◌≤◌, ◌+◌, ◌++◌, ◌*◌, ◌-◌, ◌^◌, true, false, Some, IfOk, All, is_some, min, length, option_map};
-ghost use Rattle.zarrs_chunk.specs.Answer.{Answers, is_fault, memory_or_fault, seen};
+ghost use Rattle.std.specs.Prelude.{◌≡◌, ◌<◌, ◌≤◌, ◌+◌, ◌*◌, ◌-◌, ◌^◌, true, Some, IfOk, All, is_some, min, length};
+ghost use Rattle.zarrs_chunk.specs.Answer.{Answers, memory_or_fault};
 ghost use Rattle.zarrs_chunk.specs.Runs.{joined_runs};
 ghost use Rattle.zarrs_codec.specs.ByteRanges.{range_indices};
-ghost use Rattle.zarrs_codec.specs.StorageState.{after_reading, are_sure};
-ghost use Rattle.zarrs_bytes.specs.PartialRead.{bytes_at, place_bytes};
+ghost use Rattle.zarrs_codec.specs.StorageState.{after_reading};
+ghost use Rattle.zarrs_codec.specs.HandleCalls.{NeverFailsIf, ReadsBytes};
+ghost use Rattle.zarrs_bytes.specs.PartialRead.{bytes_at_runs, run_bytes, runs_are_sure, with_read};
+ghost use Rattle.zarrs_bytes.specs.PlannedRanges.{NoneIsEmpty};
 
 use std::alloc::{AllocError, Global};
 use zarrs_chunk::CodecError;
@@ -25,8 +27,8 @@ pub fn run_ranges(
     requires filled { All (λ run. 0 < run.1) runs.now }
     requires ends { All (λ run. (run.0 + run.1) * size < 2 ^ 64) runs.now }
     requires positive { 0 < size }
-    ensures bytes { IfOk result (λ ranges. range_indices ranges.items ≡ place_bytes size (joined_runs runs.now)) }
-    ensures filled { IfOk result (λ ranges. All (λ range. range.start < range.end) ranges.items) }
+    ensures bytes { IfOk result (λ ranges. range_indices ranges.items ≡ run_bytes size runs.now) }
+    ensures filled { IfOk result (λ ranges. NoneIsEmpty ranges.items) }
 {
     let mut ranges = Vec::with_capacity(alloc, runs.len())?;
     for (start, len) in runs {
@@ -79,8 +81,9 @@ fn append_batch<H: BytesPartialDecoderTraits>(
     requires ends { All (λ run. (run.0 + run.1) * size < 2 ^ 64) runs.now }
     requires positive { 0 < size }
     requires stored { is_some (H.state handle.old).value ≡ true }
-    ensures answer { Answers memory_or_fault (λ _. Some elements.new.items) result (seen (option_map (λ more. elements.old.items ++ more)) (bytes_at size (H.state handle.old).value (joined_runs runs.now))) }
-    ensures sure { are_sure (H.state handle.old).sure (place_bytes size (joined_runs runs.now)) ≡ true → is_fault result ≡ false }
+    ensures answer { Answers memory_or_fault (λ _. Some elements.new.items) result
+        (with_read elements.old.items (bytes_at_runs size (H.state handle.old) runs.now)) }
+    ensures sure { NeverFailsIf (runs_are_sure size (H.state handle.old) runs.now) result }
     ensures left { H.state handle.new ≡ after_reading result (H.state handle.old) }
     ensures same_reference { H.lent handle.new ≡ H.lent handle.old }
 {
@@ -104,8 +107,9 @@ fn append_batches<H: BytesPartialDecoderTraits>(
     requires ends { All (λ run. (run.0 + run.1) * size < 2 ^ 64) runs.now }
     requires positive { 0 < size }
     requires stored { is_some (H.state handle.old).value ≡ true }
-    ensures answer { Answers memory_or_fault (λ _. Some elements.new.items) result (seen (option_map (λ more. elements.old.items ++ more)) (bytes_at size (H.state handle.old).value (joined_runs runs.now))) }
-    ensures sure { are_sure (H.state handle.old).sure (place_bytes size (joined_runs runs.now)) ≡ true → is_fault result ≡ false }
+    ensures answer { Answers memory_or_fault (λ _. Some elements.new.items) result
+        (with_read elements.old.items (bytes_at_runs size (H.state handle.old) runs.now)) }
+    ensures sure { NeverFailsIf (runs_are_sure size (H.state handle.old) runs.now) result }
     ensures left { H.state handle.new ≡ after_reading result (H.state handle.old) }
     ensures same_reference { H.lent handle.new ≡ H.lent handle.old }
 {
@@ -130,8 +134,8 @@ pub fn read_bytes<H: BytesPartialDecoderTraits>(
     requires filled { All (λ run. 0 < run.1) runs.now }
     requires ends { All (λ run. (run.0 + run.1) * size < 2 ^ 64) runs.now }
     requires positive { 0 < size }
-    ensures answer { Answers memory_or_fault (option_map (λ bytes. bytes.items)) result (bytes_at size (H.state handle.old).value (joined_runs runs.now)) }
-    ensures sure { are_sure (H.state handle.old).sure (place_bytes size (joined_runs runs.now)) ≡ true → is_fault result ≡ false }
+    ensures answer { ReadsBytes result (bytes_at_runs size (H.state handle.old) runs.now) }
+    ensures sure { NeverFailsIf (runs_are_sure size (H.state handle.old) runs.now) result }
     ensures left { H.state handle.new ≡ after_reading result (H.state handle.old) }
     ensures same_reference { H.lent handle.new ≡ H.lent handle.old }
 {

@@ -1,13 +1,13 @@
-ghost use Rattle.std.specs.Prelude.{◌≡◌, ◌<◌, Ok, Some, None, IfOk, IfSome, false};
-ghost use Rattle.zarrs_chunk.specs.Answer.{AnswersBy, is_fault, memory, never, seen};
+ghost use Rattle.std.specs.Prelude.{◌≡◌, ◌<◌, Some, None, IfOk, IfSome, false};
+ghost use Rattle.zarrs_chunk.specs.Answer.{is_fault, seen};
 ghost use Rattle.zarrs_chunk.specs.ChunkShape.{product};
-ghost use Rattle.zarrs_array_bytes.specs.Held.{flen, raw_of, items_of};
-ghost use Rattle.zarrs_array_bytes.specs.Validity.{Holds};
+ghost use Rattle.zarrs_array_bytes.specs.Held.{items_of};
 ghost use Rattle.zarrs_bytes.specs.ByteOrder.{has_order};
 ghost use Rattle.zarrs_data_type.specs.Form.{form_of};
 ghost use Rattle.zarrs_bytes.specs.BytesGrammar.{bytes_grammar};
 ghost use Rattle.zarrs_codec.specs.Grammar.{Encodes, Decodes};
-ghost use Rattle.zarrs_bytes.specs.BytesCodec.{bytes_length, bytes_value, bytes_chunk, turn_size as turn_size_of, needs_memory};
+ghost use Rattle.zarrs_bytes.specs.BytesCodec.{bytes_represented, bytes_length, turn_size as turn_size_of, EncodesInPlace, DecodesInPlace};
+ghost use Rattle.zarrs_bytes.specs.GivenBytes.{IsGiven, HoldsGiven};
 
 use crate::byte_order::turn;
 use std::alloc::Global;
@@ -104,7 +104,8 @@ impl BytesCodec {
         data_type: &DataType,
         fill_value: &FillValue,
     ) -> Result<ChunkLengths, CodecError>
-        ensures answer { seen (λ lengths. lengths.bytes) result ≡ bytes_length self.now (form_of shape.now data_type.now fill_value.now) }
+        ensures answer { seen (λ lengths. lengths.bytes) result
+            ≡ bytes_length self.now (form_of shape.now data_type.now fill_value.now) }
         ensures elements { IfOk result (λ lengths. lengths.elements ≡ product shape.now) }
         ensures no_fault { is_fault result ≡ false }
     {
@@ -135,7 +136,8 @@ impl BytesCodec {
         data_type: &DataType,
         fill_value: &FillValue,
     ) -> Result<BytesRepresentation, CodecError>
-        ensures answer { result ≡ seen BytesRepresentation.FixedSize (bytes_length self.now (form_of shape.now data_type.now fill_value.now)) }
+        ensures answer { result
+            ≡ bytes_represented self.now (form_of shape.now data_type.now fill_value.now) }
     {
         let lengths = self.lengths(shape, data_type, fill_value)?;
         Ok(BytesRepresentation::FixedSize(lengths.bytes))
@@ -154,9 +156,11 @@ impl BytesCodec {
         data_type: &DataType,
         fill_value: &FillValue,
     ) -> Result<ArrayBytesRaw<'a>, CodecError>
-        ensures encodes { Encodes (bytes_grammar self.now) (form_of shape.now data_type.now fill_value.now) elements.entry result }
-        ensures in_place { needs_memory self.now data_type.now elements.entry ≡ false → seen items_of result ≡ bytes_value self.now (form_of shape.now data_type.now fill_value.now) elements.entry }
-        ensures kept { turn_size_of self.now data_type.now ≡ None → IfOk result (λ value. elements.entry ≡ flen (raw_of value)) }
+        ensures encodes { Encodes (bytes_grammar self.now)
+            (form_of shape.now data_type.now fill_value.now) elements.entry result }
+        ensures in_place { EncodesInPlace self.now
+            (form_of shape.now data_type.now fill_value.now) elements.entry result }
+        ensures kept { turn_size_of self.now data_type.now ≡ None → IsGiven elements.entry result }
     {
         let lengths = self.lengths(shape, data_type, fill_value)?;
         elements.validate(lengths.elements, data_type)?;
@@ -178,9 +182,11 @@ impl BytesCodec {
         data_type: &DataType,
         fill_value: &FillValue,
     ) -> Result<ArrayBytes<'a>, CodecError>
-        ensures decodes { Decodes (bytes_grammar self.now) (form_of shape.now data_type.now fill_value.now) (items_of value.entry) result }
-        ensures in_place { needs_memory self.now data_type.now (flen (raw_of value.entry)) ≡ false → AnswersBy never (Holds data_type.now) result (bytes_chunk self.now (form_of shape.now data_type.now fill_value.now) (items_of value.entry)) }
-        ensures kept { turn_size_of self.now data_type.now ≡ None → IfOk result (λ elements. elements ≡ flen (raw_of value.entry)) }
+        ensures decodes { Decodes (bytes_grammar self.now)
+            (form_of shape.now data_type.now fill_value.now) (items_of value.entry) result }
+        ensures in_place { DecodesInPlace self.now
+            (form_of shape.now data_type.now fill_value.now) value.entry result }
+        ensures kept { turn_size_of self.now data_type.now ≡ None → HoldsGiven value.entry result }
     {
         let lengths = self.lengths(shape, data_type, fill_value)?;
         let found = value.len() as u64;

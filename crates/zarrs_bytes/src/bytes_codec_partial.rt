@@ -1,20 +1,20 @@
 ghost use Rattle.zarrs_data_type.specs.Form.{form_of};
-ghost use Rattle.std.specs.Prelude.{◌≡◌, ◌<◌, ◌≤◌, ◌+◌, ◌*◌, ◌-◌, ◌^◌, true, false, Some, None, Ok, Err, IfOk, IfErr, All, OnErr, is_some, is_ok, sum_by, length};
+ghost use Rattle.std.specs.Prelude.{◌≡◌, ◌<◌, ◌+◌, ◌*◌, ◌^◌, true, None, Ok, IfOk, IfErr, All, is_some, length};
 ghost use Rattle.std.specs.List.{flat_map};
-ghost use Rattle.zarrs_chunk.specs.Answer.{Answers, AnswersBy, fault, is_fault, memory, memory_or_fault, seen, Gives};
+ghost use Rattle.zarrs_chunk.specs.Answer.{Answers, fault, Gives};
 ghost use Rattle.zarrs_chunk.specs.Indexer.{selection_of};
-ghost use Rattle.zarrs_chunk.specs.Runs.{joined_runs};
-ghost use Rattle.zarrs_chunk.specs.Selection.{places_of};
+ghost use Rattle.zarrs_chunk.specs.Runs.{joined_runs, EndWithin};
 ghost use Rattle.zarrs_data_type.specs.ElementType.{fixed_size_of};
 ghost use Rattle.zarrs_data_type.specs.FillValue.{fill_fits};
-ghost use Rattle.zarrs_array_bytes.specs.Validity.{Holds, data_fit};
 ghost use Rattle.zarrs_chunk.specs.ChunkShape.{product};
-ghost use Rattle.zarrs_codec.specs.ByteRanges.{range_indices};
-ghost use Rattle.zarrs_codec.specs.Refused.{outcome};
-ghost use Rattle.zarrs_codec.specs.StorageState.{after_reading, after_writing, apart_from_value, are_sure};
-ghost use Rattle.zarrs_bytes.specs.BytesCodec.{bytes_length};
-ghost use Rattle.zarrs_bytes.specs.PartialRead.{place_bytes, bytes_plan, read_places, place_size, IsFilledType};
 ghost use Rattle.zarrs_codec.specs.ChunkEdits.{data_places};
+ghost use Rattle.zarrs_codec.specs.StorageState.{after_reading, KeptIfAtomic, LeftByWriting};
+ghost use Rattle.zarrs_bytes.specs.BytesCodec.{bytes_length, BytesTakes, Copies};
+ghost use Rattle.zarrs_codec.specs.HandleCalls.{NeverFailsIf, Tells};
+ghost use Rattle.zarrs_bytes.specs.MadeCoders.{GivesCoder};
+ghost use Rattle.zarrs_bytes.specs.PartialRead.{place_size, IsFilledType, ReadsRuns, ReadsRunsSurely};
+ghost use Rattle.zarrs_bytes.specs.PartialWrite.{FitRuns};
+ghost use Rattle.zarrs_bytes.specs.PlannedRanges.{NoneIsEmpty};
 
 use crate::batches::{count_of, read_bytes, run_ranges};
 use crate::byte_order::turn;
@@ -39,7 +39,7 @@ pub struct BytesCodecPartial<H> {
     shape: ChunkShape,
     data_type: DataType,
     fill_value: FillValue,
-    ghost taken: { is_ok (bytes_length codec (form_of shape data_type fill_value)) ≡ true },
+    ghost taken: { BytesTakes codec (form_of shape data_type fill_value) },
 }
 
 /// How many bytes an element of a fixed type has.
@@ -70,7 +70,7 @@ fn fill_runs(alloc: Global, fill: &[u8], runs: &[(u64, u64)]) -> Result<Vec<u8>,
 }
 
 impl BytesCodec {
-    ghost use Rattle.zarrs_bytes.specs.BytesCodecPartial.{bytes_form_of, bytes_handle_of};
+    ghost use Rattle.zarrs_bytes.specs.BytesCodecPartial.{bytes_handle_of, HasForm};
 
     /// The elements at the places of these runs, each a start and a length, in order, over a handle
     /// that keeps a chunk's value: those of the stored value by the places' bytes alone, and the fill
@@ -91,8 +91,9 @@ impl BytesCodec {
         requires fits { fill_fits data_type.now fill_value.now ≡ true }
         requires filled { All (λ run. 0 < run.1) runs.now }
         requires ends { All (λ run. (run.0 + run.1) * place_size data_type.now < 2 ^ 64) runs.now }
-        ensures answer { AnswersBy memory_or_fault (Holds data_type.now) result (read_places self.now data_type.now fill_value.now (H.state handle.old).value (joined_runs runs.now)) }
-        ensures sure { are_sure (H.state handle.old).sure (place_bytes (place_size data_type.now) (joined_runs runs.now)) ≡ true → is_fault result ≡ false }
+        ensures answer { ReadsRuns self.now data_type.now fill_value.now
+            (H.state handle.old) runs.now result }
+        ensures sure { ReadsRunsSurely data_type.now (H.state handle.old) runs.now result }
         ensures left { H.state handle.new ≡ after_reading result (H.state handle.old) }
         ensures same_reference { H.lent handle.new ≡ H.lent handle.old }
     {
@@ -117,8 +118,8 @@ impl BytesCodec {
         data_type: &DataType,
         fill_value: &FillValue,
     ) -> Result<(ChunkShape, DataType, FillValue), CodecError>
-        ensures answer { Gives (λ parts. parts) result (seen (λ _. (shape.now, data_type.now, fill_value.now)) (bytes_length self.now (form_of shape.now data_type.now fill_value.now))) }
-        ensures taken { IfOk result (λ parts. is_ok (bytes_length self.now (form_of parts.0 parts.1 parts.2)) ≡ true) }
+        ensures answer { Copies self.now (form_of shape.now data_type.now fill_value.now) result }
+        ensures taken { IfOk result (λ all. BytesTakes self.now (form_of all.0 all.1 all.2)) }
     {
         self.encoded_representation(shape, data_type, fill_value)?;
         let shape = shape.clone()?;
@@ -137,8 +138,9 @@ impl BytesCodec {
         data_type: &DataType,
         fill_value: &FillValue,
     ) -> Result<BytesCodecPartial<H>, Refused<H>>
-        ensures answer { Gives (λ made. made) (outcome result) (seen (λ _. tt) (bytes_length self.now (form_of shape.now data_type.now fill_value.now))) }
-        ensures form { IfOk result (λ decoder. bytes_form_of decoder ≡ record { order = self.now; sizes = shape.now; type = data_type.now; fill = fill_value.now }) }
+        ensures answer { GivesCoder result
+            (bytes_length self.now (form_of shape.now data_type.now fill_value.now)) }
+        ensures form { HasForm self.now (form_of shape.now data_type.now fill_value.now) result }
         ensures over { IfOk result (λ decoder. bytes_handle_of decoder ≡ handle) }
         ensures handed_back { IfErr result (λ refused. refused.handle ≡ handle) }
     {
@@ -164,8 +166,9 @@ impl BytesCodec {
         data_type: &DataType,
         fill_value: &FillValue,
     ) -> Result<BytesCodecPartial<H>, Refused<H>>
-        ensures answer { Gives (λ made. made) (outcome result) (seen (λ _. tt) (bytes_length self.now (form_of shape.now data_type.now fill_value.now))) }
-        ensures form { IfOk result (λ encoder. bytes_form_of encoder ≡ record { order = self.now; sizes = shape.now; type = data_type.now; fill = fill_value.now }) }
+        ensures answer { GivesCoder result
+            (bytes_length self.now (form_of shape.now data_type.now fill_value.now)) }
+        ensures form { HasForm self.now (form_of shape.now data_type.now fill_value.now) result }
         ensures over { IfOk result (λ encoder. bytes_handle_of encoder ≡ handle) }
         ensures handed_back { IfErr result (λ refused. refused.handle ≡ handle) }
     {
@@ -183,10 +186,11 @@ fn runs_for(
     data_type: &DataType,
     elements: &ArrayBytes<'_>,
 ) -> Result<Vec<(u64, u64)>, CodecError>
-    ensures answer { Gives (λ runs. joined_runs runs.items) result (data_places shape.now data_type.now (selection_of indexer.now) elements.now) }
+    ensures answer { Gives (λ runs. joined_runs runs.items) result
+        (data_places shape.now data_type.now (selection_of indexer.now) elements.now) }
     ensures filled { IfOk result (λ runs. All (λ run. 0 < run.1) runs.items) }
-    ensures below { IfOk result (λ runs. All (λ run. run.0 + run.1 ≤ product shape.now) runs.items) }
-    ensures fit { IfOk result (λ runs. data_fit data_type.now (length (joined_runs runs.items)) elements.now ≡ Ok tt) }
+    ensures below { IfOk result (λ runs. EndWithin (product shape.now) runs.items) }
+    ensures fit { IfOk result (λ runs. FitRuns data_type.now runs.items elements.now) }
 {
     let runs = indexer.runs(alloc, shape)?;
     elements.validate_data(count_of(runs.as_slice()), data_type)?;
@@ -194,7 +198,7 @@ fn runs_for(
 }
 
 impl<H: BytesPartialDecoderTraits> BytesCodecPartial<H> {
-    ghost use Rattle.zarrs_bytes.specs.BytesCodecPartial.{bytes_form_of, bytes_handle_of, Reads, Leaves};
+    ghost use Rattle.zarrs_bytes.specs.BytesCodecPartial.{bytes_form_of, bytes_handle_of, coder_state, stored_in, Reads, Plans, PlansAllBytes, Leaves};
 
     /// The type of the elements.
     pub fn data_type(&self) -> &DataType
@@ -234,9 +238,9 @@ impl<H: BytesPartialDecoderTraits> BytesCodecPartial<H> {
         alloc: Global,
         indexer: &Indexer,
     ) -> Result<Vec<ByteRange>, CodecError>
-        ensures bytes { let form = bytes_form_of self.now in Gives (λ ranges. range_indices ranges.items) result (bytes_plan form.sizes form.type (selection_of indexer.now)) }
-        ensures filled { IfOk result (λ ranges. All (λ range. range.start < range.end) ranges.items) }
-        ensures sum { let form = bytes_form_of self.now in IfOk result (λ ranges. IfOk (places_of (selection_of indexer.now) form.sizes) (λ places. sum_by (λ range. range.end - range.start) ranges.items ≡ length places * place_size form.type)) }
+        ensures bytes { Plans self.now indexer.now result }
+        ensures filled { IfOk result (λ ranges. NoneIsEmpty ranges.items) }
+        ensures sum { PlansAllBytes self.now indexer.now result }
     {
         let asked = indexer.runs(alloc, &self.shape)?;
         let size = element_size(&self.data_type, &self.fill_value);
@@ -246,8 +250,8 @@ impl<H: BytesPartialDecoderTraits> BytesCodecPartial<H> {
 
     /// Whether a value is stored. Refusals: `Storage`, but never where the handle has sure bytes.
     pub fn exists(&mut self) -> Result<bool, CodecError>
-        ensures answer { Answers fault (λ there. there) result (Ok (is_some (H.state (bytes_handle_of self.old)).value)) }
-        ensures sure { is_some (H.state (bytes_handle_of self.old)).sure ≡ true → is_fault result ≡ false }
+        ensures answer { Tells result (is_some (stored_in H.state self.old)) }
+        ensures sure { NeverFailsIf (is_some (coder_state H.state self.old).sure) result }
         ensures left { Leaves H.state H.lent self.old self.new result }
     {
         self.handle.exists()
@@ -269,7 +273,7 @@ impl<H: BytesPartialDecoderTraits> BytesCodecPartial<H> {
 }
 
 impl<H: BytesPartialEncoderTraits> BytesCodecPartial<H> {
-    ghost use Rattle.zarrs_bytes.specs.BytesCodecPartial.{bytes_form_of, bytes_handle_of, Edits, WritesAtMostOnce};
+    ghost use Rattle.zarrs_bytes.specs.BytesCodecPartial.{bytes_form_of, coder_lent, coder_state, stored_in, Edits, WritesAtMostOnce};
 
     /// Writes these elements at the places that the indexer means, in its order: where a place comes
     /// twice, the last one stands. Of a stored value the places' bytes alone are replaced, and it
@@ -304,10 +308,11 @@ impl<H: BytesPartialEncoderTraits> BytesCodecPartial<H> {
 
     /// Leaves no value; there may have been none. Refusals: `Storage`.
     pub fn erase(&mut self) -> Result<(), CodecError>
-        ensures answer { Answers fault (λ _. (H.state (bytes_handle_of self.new)).value) result (Ok None) }
-        ensures left { apart_from_value (H.state (bytes_handle_of self.new)) ≡ after_writing result (H.state (bytes_handle_of self.old)) }
-        ensures kept_if_atomic { OnErr result (H.atomic ≡ true → (H.state (bytes_handle_of self.new)).value ≡ (H.state (bytes_handle_of self.old)).value) }
-        ensures same_reference { H.lent (bytes_handle_of self.new) ≡ H.lent (bytes_handle_of self.old) }
+        ensures answer { Answers fault (λ _. stored_in H.state self.new) result (Ok None) }
+        ensures left { LeftByWriting (coder_state H.state) self.old self.new result }
+        ensures kept_if_atomic { KeptIfAtomic H.atomic (coder_state H.state)
+            self.old self.new result }
+        ensures same_reference { coder_lent H.lent self.new ≡ coder_lent H.lent self.old }
         ensures form_kept { bytes_form_of self.new ≡ bytes_form_of self.old }
     {
         self.handle.erase()

@@ -1,10 +1,11 @@
 //! The codec `bytes` made from its metadata, and what it says of itself, as every codec does.
-ghost use Rattle.std.specs.Prelude.{◌≡◌, Ok, Some, IfOk, IfSome, option_map, true};
+ghost use Rattle.std.specs.Prelude.{◌≡◌, Ok, Some, option_map, true};
 ghost use Rattle.zarrs_chunk.specs.Answer.{Answers};
 ghost use Rattle.zarrs_metadata.specs.BytesConfiguration.{bytes_seen, write_bytes};
-ghost use Rattle.zarrs_metadata.specs.CodecMetadata.{bytes_made, bytes_name, codec_metadata, is_bytes_name};
+ghost use Rattle.zarrs_metadata.specs.CodecMetadata.{bytes_made, bytes_name, is_bytes_name};
 ghost use Rattle.zarrs_metadata.specs.MetadataV3.{configuration_seen, metadata_seen};
 ghost use Rattle.zarrs_metadata.specs.PluginCreateError.{plugin_memory};
+ghost use Rattle.zarrs_codec.specs.MadeAgain.{MadeAgain};
 
 use crate::bytes_codec::BytesCodec;
 use std::alloc::Global;
@@ -70,8 +71,9 @@ impl CodecTraits for BytesCodec {
     /// The codec's configuration: `endian`, where it has a byte order. With its name it makes an
     /// equal codec. Refusals: `OutOfMemory`.
     fn configuration(&self, alloc: Global) -> Result<Option<Configuration>, PluginCreateError>
-        ensures answer { Answers plugin_memory (option_map configuration_seen) result (Ok (Some (write_bytes self.now))) }
-        ensures made_again { IfOk result (λ written. IfSome written (λ c. bytes_made (codec_metadata bytes_name (configuration_seen c)) ≡ Ok self.now)) }
+        ensures answer { Answers plugin_memory (option_map configuration_seen) result
+            (Ok (Some (write_bytes self.now))) }
+        ensures made_again { MadeAgain configuration_seen bytes_made bytes_name self.now result }
     {
         let configuration = BytesCodecConfiguration::V1(BytesCodecConfigurationV1 {
             endian: self.endianness,

@@ -1,10 +1,10 @@
-ghost use Rattle.std.specs.Prelude.{◌≡◌, ◌<◌, ◌+◌, ◌*◌, ◌-◌, ◌^◌, true, Ok, IfOk, All, is_some, sum_by, length};
+ghost use Rattle.std.specs.Prelude.{◌≡◌, ◌<◌, ◌+◌, ◌*◌, ◌^◌, true, Ok, IfOk, All, is_some};
 ghost use Rattle.zarrs_chunk.specs.Answer.{Gives};
-ghost use Rattle.zarrs_chunk.specs.Runs.{joined_runs};
 ghost use Rattle.zarrs_data_type.specs.ElementType.{fixed_size_of};
 ghost use Rattle.zarrs_data_type.specs.FillValue.{fill_fits};
 ghost use Rattle.zarrs_codec.specs.ByteRanges.{range_indices};
-ghost use Rattle.zarrs_bytes.specs.PartialRead.{place_bytes, place_size};
+ghost use Rattle.zarrs_bytes.specs.PartialRead.{byte_count_of, place_size, run_bytes};
+ghost use Rattle.zarrs_bytes.specs.PlannedRanges.{NoneIsEmpty, ranges_len};
 
 use crate::batches::run_ranges;
 use crate::bytes_codec::BytesCodec;
@@ -30,9 +30,11 @@ impl BytesCodec {
         requires fits { fill_fits data_type.now fill_value.now ≡ true }
         requires filled { All (λ run. 0 < run.1) runs.now }
         requires ends { All (λ run. (run.0 + run.1) * place_size data_type.now < 2 ^ 64) runs.now }
-        ensures bytes { Gives (λ ranges. range_indices ranges.items) result (Ok (place_bytes (place_size data_type.now) (joined_runs runs.now))) }
-        ensures filled { IfOk result (λ ranges. All (λ range. range.start < range.end) ranges.items) }
-        ensures sum { IfOk result (λ ranges. sum_by (λ range. range.end - range.start) ranges.items ≡ length (joined_runs runs.now) * place_size data_type.now) }
+        ensures bytes { Gives (λ ranges. range_indices ranges.items) result
+            (Ok (run_bytes (place_size data_type.now) runs.now)) }
+        ensures filled { IfOk result (λ ranges. NoneIsEmpty ranges.items) }
+        ensures sum { IfOk result (λ ranges. ranges_len ranges.items
+            ≡ byte_count_of data_type.now runs.now) }
     {
         let size = element_size(data_type, fill_value);
         let ranges = run_ranges(alloc, size as u64, runs)?;

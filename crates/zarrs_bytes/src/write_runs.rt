@@ -1,17 +1,15 @@
 //! New elements written at runs of places, over a handle that keeps a chunk's value.
 ghost use Rattle.zarrs_data_type.specs.Form.{form_of};
-ghost use Rattle.std.specs.Prelude.{◌≡◌, ◌<◌, ◌≤◌, ◌+◌, ◌*◌, ◌^◌, true, Ok, Some, None, All, IsOk, OnOk, OnErr, is_ok, length};
+ghost use Rattle.std.specs.Prelude.{◌≡◌, ◌<◌, ◌+◌, ◌*◌, ◌^◌, Ok, All, IsOk, OnOk, OnErr, length};
 ghost use Rattle.zarrs_chunk.specs.Answer.{Gives, Answers, memory_or_fault};
 ghost use Rattle.zarrs_array_bytes.specs.Held.{items_of};
 ghost use Rattle.zarrs_chunk.specs.ChunkShape.{product};
-ghost use Rattle.zarrs_chunk.specs.Runs.{joined_runs};
+ghost use Rattle.zarrs_chunk.specs.Runs.{joined_runs, EndWithin};
 ghost use Rattle.zarrs_array_bytes.specs.Parts.{fixed_part, bytes_in};
-ghost use Rattle.zarrs_array_bytes.specs.Validity.{data_fit};
-ghost use Rattle.zarrs_codec.specs.ArrayWriter.{IsRefusedWrite};
-ghost use Rattle.zarrs_codec.specs.StorageState.{after_writing, apart_from_value, value_or_empty};
-ghost use Rattle.zarrs_bytes.specs.ByteOrder.{turned_bytes};
-ghost use Rattle.zarrs_bytes.specs.BytesCodec.{bytes_length, turn_size as turn_size_of};
-ghost use Rattle.zarrs_bytes.specs.PartialWrite.{byte_runs, bytes_left, with_place_bytes};
+ghost use Rattle.zarrs_bytes.specs.BytesCodec.{BytesTakes};
+ghost use Rattle.zarrs_codec.specs.StorageState.{KeptIfAtomic, LeftByWriting};
+ghost use Rattle.zarrs_codec.specs.ArrayWriter.{LeftByRefusal};
+ghost use Rattle.zarrs_bytes.specs.PartialWrite.{byte_runs, value_bytes, FitRuns, PutsBytes, WritesOverFill, WritesRuns};
 
 use crate::byte_order::turn;
 use crate::bytes_codec::BytesCodec;
@@ -48,9 +46,9 @@ fn put_runs<H: BytesPartialEncoderTraits>(
     requires positive { 0 < size }
     requires enough { length bytes.now ≡ length (joined_runs runs.items) * size }
     ensures answer { Answers memory_or_fault (λ done. done) result (Ok tt) }
-    ensures written { OnOk result ((H.state handle.new).value ≡ Some (with_place_bytes size (value_or_empty (H.state handle.old).value) (joined_runs runs.items) bytes.now)) }
-    ensures kept_if_atomic { OnErr result (H.atomic ≡ true → (H.state handle.new).value ≡ (H.state handle.old).value) }
-    ensures left { apart_from_value (H.state handle.new) ≡ after_writing result (H.state handle.old) }
+    ensures written { PutsBytes size runs.items bytes.now H.state handle.old handle.new result }
+    ensures kept_if_atomic { KeptIfAtomic H.atomic H.state handle.old handle.new result }
+    ensures left { LeftByWriting H.state handle.old handle.new result }
     ensures same_reference { H.lent handle.new ≡ H.lent handle.old }
 {
     scale_runs(&mut runs, size);
@@ -67,7 +65,8 @@ impl BytesCodec {
         data_type: &DataType,
     ) -> Result<ArrayBytesRaw<'b>, CodecError>
         requires kind { IsOk (fixed_part elements.now) }
-        ensures answer { Gives items_of result (Ok (turned_bytes (turn_size_of self.now data_type.now) (bytes_in elements.now))) }
+        ensures answer { Gives items_of result
+            (Ok (value_bytes self.now data_type.now elements.now)) }
     {
         let bytes = elements.as_fixed()?;
         turn(alloc, CowSlice::Borrowed(bytes), self.turn_size(data_type))
@@ -89,10 +88,11 @@ impl BytesCodec {
         requires kind { IsOk (fixed_part elements.now) }
         requires enough { length (bytes_in elements.now) ≡ length (joined_runs runs.items) * size }
         ensures answer { Answers memory_or_fault (λ done. done) result (Ok tt) }
-        ensures written { OnOk result ((H.state handle.new).value ≡ Some (with_place_bytes size (value_or_empty (H.state handle.old).value) (joined_runs runs.items) (turned_bytes (turn_size_of self.now data_type.now) (bytes_in elements.now)))) }
-        ensures one_write { OnOk result (apart_from_value (H.state handle.new) ≡ after_writing result (H.state handle.old)) }
-        ensures refused { OnErr result (IsRefusedWrite result (H.state handle.old) (H.state handle.new)) }
-        ensures kept_if_atomic { OnErr result (H.atomic ≡ true → (H.state handle.new).value ≡ (H.state handle.old).value) }
+        ensures written { PutsBytes size runs.items
+            (value_bytes self.now data_type.now elements.now) H.state handle.old handle.new result }
+        ensures one_write { OnOk result (LeftByWriting H.state handle.old handle.new result) }
+        ensures refused { OnErr result (LeftByRefusal H.state handle.old handle.new result) }
+        ensures kept_if_atomic { KeptIfAtomic H.atomic H.state handle.old handle.new result }
         ensures same_reference { H.lent handle.new ≡ H.lent handle.old }
     {
         let bytes = self.spelled(alloc, elements, data_type)?;
@@ -109,10 +109,11 @@ impl BytesCodec {
         runs: &[(u64, u64)],
         elements: &ArrayBytes<'_>,
     ) -> Result<ArrayBytesRaw<'static>, CodecError>
-        requires taken { is_ok (bytes_length self.now (form_of shape.now data_type.now fill_value.now)) ≡ true }
-        requires below { All (λ run. run.0 + run.1 ≤ product shape.now) runs.now }
-        requires fit { data_fit data_type.now (length (joined_runs runs.now)) elements.now ≡ Ok tt }
-        ensures answer { Gives items_of result (Ok (bytes_left self.now (form_of shape.now data_type.now fill_value.now) None (joined_runs runs.now) elements.now)) }
+        requires taken { BytesTakes self.now (form_of shape.now data_type.now fill_value.now) }
+        requires below { EndWithin (product shape.now) runs.now }
+        requires fit { FitRuns data_type.now runs.now elements.now }
+        ensures answer { WritesOverFill self.now (form_of shape.now data_type.now fill_value.now)
+            runs.now elements.now result }
     {
         let count = shape.num_elements()?;
         let filled = ArrayBytes::new_fill_value(alloc, data_type, count, fill_value)?;
@@ -139,14 +140,15 @@ impl BytesCodec {
         runs: Vec<(u64, u64)>,
         elements: &ArrayBytes<'_>,
     ) -> Result<(), CodecError>
-        requires taken { is_ok (bytes_length self.now (form_of shape.now data_type.now fill_value.now)) ≡ true }
+        requires taken { BytesTakes self.now (form_of shape.now data_type.now fill_value.now) }
         requires filled { All (λ run. 0 < run.1) runs.items }
-        requires below { All (λ run. run.0 + run.1 ≤ product shape.now) runs.items }
-        requires fit { data_fit data_type.now (length (joined_runs runs.items)) elements.now ≡ Ok tt }
-        ensures answer { Answers memory_or_fault (λ _. (H.state handle.new).value) result (Ok (Some (bytes_left self.now (form_of shape.now data_type.now fill_value.now) (H.state handle.old).value (joined_runs runs.items) elements.now))) }
-        ensures one_write { OnOk result (apart_from_value (H.state handle.new) ≡ after_writing result (H.state handle.old)) }
-        ensures refused { OnErr result (IsRefusedWrite result (H.state handle.old) (H.state handle.new)) }
-        ensures kept_if_atomic { OnErr result (H.atomic ≡ true → (H.state handle.new).value ≡ (H.state handle.old).value) }
+        requires below { EndWithin (product shape.now) runs.items }
+        requires fit { FitRuns data_type.now runs.items elements.now }
+        ensures answer { WritesRuns self.now (form_of shape.now data_type.now fill_value.now)
+            runs.items elements.now H.state handle.old handle.new result }
+        ensures one_write { OnOk result (LeftByWriting H.state handle.old handle.new result) }
+        ensures refused { OnErr result (LeftByRefusal H.state handle.old handle.new result) }
+        ensures kept_if_atomic { KeptIfAtomic H.atomic H.state handle.old handle.new result }
         ensures same_reference { H.lent handle.new ≡ H.lent handle.old }
     {
         if handle.exists()? {

@@ -7,7 +7,7 @@ use Rattle.zarrs_chunk.specs.ChunkShape.{product}
 use Rattle.zarrs_chunk.specs.declared.codec_error.CodecError.{CodecError}
 use Rattle.zarrs_chunk.specs.declared.codec_error.CodecError.TheVariants.{InvalidFillValue, BitRange, UnsupportedDataType, InvalidOffsets}
 use Rattle.zarrs_chunk.specs.declared.codec_error.CodecName.TheVariants as name
-use Rattle.zarrs_data_type.specs.ElementType.{ElementType, fixed, text, bytes, optional}
+use Rattle.zarrs_data_type.specs.ElementType.{ElementType, fixed, text, bytes, optional, is_variable}
 use Rattle.zarrs_data_type.specs.FillValue.{fill_fits}
 use Rattle.zarrs_data_type.specs.Element.{plain, Chunk}
 use Rattle.zarrs_data_type.specs.declared.endianness.Endianness.{Endianness}
@@ -33,7 +33,7 @@ use Rattle.zarrs_chain_parts.specs.BytesStages.{outer_value, outer_bytes, outer_
 use Rattle.zarrs_chain_parts.specs.Chain.{taken_form, codec_held_value, held_value}
 use Rattle.zarrs_chain_parts.specs.Encode.{offset_bytes, all_bytes, codec_value}
 use Rattle.zarrs_chain_parts.specs.Decode.{Decoder, part_chunk, offsets_in_chunk, slices, vlen_parts, vlen_chunk, optional_parts, flag_in, flags_in, count_set, under_flags, optional_chunk, around_chunk, codec_chunk, chain_chunk}
-use Rattle.zarrs_chain_parts.specs.Representation.{Measure, is_variable, flag_type, byte_type, offset_type, blank_fill, codec_representation, chain_representation}
+use Rattle.zarrs_chain_parts.specs.Representation.{Measure, flag_type, byte_type, offset_type, blank_fill, codec_representation, chain_representation}
 use Rattle.zarrs_chain_parts.proofs.NestedParts.{length_under}
 use Rattle.zarrs_chain_parts.proofs.ArraySteps.{ok, err, at_ok, bind_ok, ok_is, ok_no_err, counted_so}
 

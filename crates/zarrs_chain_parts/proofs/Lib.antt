@@ -25,3 +25,4 @@ pub mod OptionalSteps
 pub mod MetadataDepth
 pub mod MadeAlike
 pub mod MadeAgain
+pub mod PlainForms

@@ -1,5 +1,5 @@
 -- What is written of a chain makes an equal one.
-use Rattle.std.proofs.Common.{◌≡◌, ◌∙◌, ℕ, List, [], ◌∷◌, ◌++◌, Ok, Err, Bool, true, false, Option, Some, None, map, refl, ap, sym, subst, append_assoc, append-nil}
+use Rattle.std.proofs.Common.{◌≡◌, ◌∙◌, List, [], ◌∷◌, ◌++◌, Ok, Err, Bool, true, false, Option, Some, None, map, refl, ap, sym, append_assoc, append-nil}
 use Rattle.std.specs.Prelude.{Result, not, All, IfOk}
 use Rattle.std.proofs.lemmas.Bool.{false≢true}
 use Rattle.std.proofs.lemmas.List.Elements.{All-head, All-tail}
@@ -21,16 +21,14 @@ use Rattle.zarrs_metadata.proofs.ReadBack.{transpose-reads_back, reshape-reads_b
 use Rattle.zarrs_array_to_array.specs.ArrayToArrayCodec.{ArrayMapping, transpose, reshape, squeeze, IsMapping}
 use Rattle.zarrs_array_to_array.specs.MappingMetadata.{mapping_configuration}
 use Rattle.zarrs_array_to_array.proofs.MadeAgain.{mappings_made_again}
-use Rattle.zarrs_packbits.specs.PackBitsSettings.{PackBitsSettings, is_reversed}
 use Rattle.zarrs_packbits.specs.SettingsMetadata.{read_settings, write_settings}
 use Rattle.zarrs_packbits.proofs.MadeAgain.{made_again}
 use Rattle.zarrs_chain_parts.specs.VlenSettings.{is_wide, is_at_end}
-use Rattle.zarrs_chain_parts.specs.CodecNames.{codec_named, vlen_name, optional_name}
 use Rattle.zarrs_chain_parts.specs.Laws.{HasMappings, IsChainOfMappings}
-use Rattle.zarrs_chain_parts.specs.MadeAgain.{IsMadeAgain, HasCodecs, IsChainOf, HasRanges, HasOuter, HasBytesCodecs, ChainsAreMadeAgain}
-use Rattle.zarrs_chain_parts.specs.MadeChain.{CodecMade, array_made, to_bytes_made, outer_made, Gathered, vlen_of_parts, optional_of_chains, asked_maker, made_by_name, codec_made, with_codec, joined, gathered, finished, nothing_gathered, chain_made_by, chain_made, vlen_made_by, optional_made_by}
+use Rattle.zarrs_chain_parts.specs.MadeAgain.{IsMadeAgain, HasCodecs, HasRanges, HasOuter, HasBytesCodecs, ChainsAreMadeAgain}
+use Rattle.zarrs_chain_parts.specs.MadeChain.{array_made, to_bytes_made, outer_made, vlen_of_parts, optional_of_chains, asked_maker, made_by_name, codec_made, joined, gathered, finished, chain_made}
 use Rattle.zarrs_chain_parts.specs.PlainChain.{PlainCodec, bytes_codec, packbits_codec, vlen_codec, optional_codec, PlainChain, vlen_codec_of, optional_codec_of}
-use Rattle.zarrs_chain_parts.specs.WrittenMetadata.{offset_type_of, index_place, mapping_metadata, codec_name, listed, codec_configuration, to_bytes_metadata, chain_metadatas}
+use Rattle.zarrs_chain_parts.specs.WrittenMetadata.{offset_type_of, index_place, mapping_metadata, listed, codec_configuration, to_bytes_metadata, chain_metadatas}
 use Rattle.zarrs_chain_parts.proofs.MadeAlike.{chain_made_at}
 
 -- ---- no number that is written is a float: else it wouldn't be read

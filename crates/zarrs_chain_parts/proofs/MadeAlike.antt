@@ -1,5 +1,5 @@
 -- The chains inside a chain are made as the chain itself.
-use Rattle.std.proofs.Common.{◌≡◌, ◌∙◌, ℕ, zero, suc, ◌<◌, ◌≤◌, max, List, [], ◌∷◌, Ok, Err, Bool, Option, Some, None, IfOk, refl, ap, sym, subst, arith}
+use Rattle.std.proofs.Common.{◌≡◌, ◌∙◌, ℕ, zero, suc, ◌<◌, ◌≤◌, List, [], ◌∷◌, Ok, Err, Option, Some, None, IfOk, refl, ap, arith}
 use Rattle.std.specs.Prelude.{Result}
 use Rattle.zarrs_chunk.specs.Answer.{◌>>=◌, seen}
 use Rattle.zarrs_chunk.specs.declared.codec_error.CodecName.{CodecName}
@@ -11,8 +11,8 @@ use Rattle.zarrs_metadata.specs.VlenConfiguration.{VlenParts, read_vlen}
 use Rattle.zarrs_metadata.specs.declared.plugin_create_error.PluginCreateError.{PluginCreateError}
 use Rattle.zarrs_chain_parts.specs.VlenSettings.{is_wide, is_at_end}
 use Rattle.zarrs_chain_parts.specs.CodecNames.{codec_named, is_vlen_name, is_optional_name}
-use Rattle.zarrs_chain_parts.specs.MadeChain.{CodecMade, to_bytes_made, Gathered, location_or_start, vlen_of_parts, optional_of_chains, vlen_made_by, optional_made_by, made_by_name, codec_made, joined, gathered, finished, nothing_gathered, chain_made_by, depth_of, depth_all, chain_in, chain_made, ChainsAreMadeAlike}
-use Rattle.zarrs_chain_parts.specs.PlainChain.{PlainCodec, PlainChain, vlen_codec_of, optional_codec_of}
+use Rattle.zarrs_chain_parts.specs.MadeChain.{to_bytes_made, Gathered, location_or_start, vlen_of_parts, optional_of_chains, made_by_name, codec_made, joined, gathered, finished, nothing_gathered, depth_of, depth_all, chain_in, chain_made, ChainsAreMadeAlike}
+use Rattle.zarrs_chain_parts.specs.PlainChain.{PlainChain, vlen_codec_of, optional_codec_of}
 use Rattle.zarrs_chain_parts.proofs.MetadataDepth.{VlenWithin, vlen_within, OptionalWithin, optional_within}
 
 -- steps that go on alike

@@ -1,5 +1,5 @@
 -- What is read of a configuration is less deep than the configuration.
-use Rattle.std.proofs.Common.{◌≡◌, ◌∙◌, ℕ, suc, ◌<◌, ◌≤◌, max, List, [], ◌∷◌, Ok, Err, Bool, true, false, Option, Some, None, IfSome, IfOk, Ordering, Less, Equal, Greater, codes, refl, subst, arith}
+use Rattle.std.proofs.Common.{ℕ, suc, ◌<◌, ◌≤◌, max, List, Ok, Err, Bool, Option, Some, None, IfSome, IfOk, Ordering, Less, Equal, Greater, codes, subst, arith}
 use Rattle.std.specs.Prelude.{Result, option_and_then}
 use Rattle.std.specs.Ordering.{nat_cmp, match_ordering}
 use Rattle.std.specs.Cmp.Lexicographic.{slice_cmp}

@@ -8,7 +8,7 @@ use Rattle.zarrs_chunk.specs.Answer.{demand, checked_u64}
 use Rattle.zarrs_chunk.specs.ChunkShape.{product}
 use Rattle.zarrs_chunk.specs.declared.codec_error.CodecError.TheVariants.{UnsupportedDataType, InvalidFillValue}
 use Rattle.zarrs_chunk.specs.declared.codec_error.CodecName.TheVariants as codec
-use Rattle.zarrs_data_type.specs.ElementType.{ElementType, fixed, text, bytes, optional, element_size}
+use Rattle.zarrs_data_type.specs.ElementType.{ElementType, fixed, text, bytes, optional, element_size, is_variable}
 use Rattle.zarrs_data_type.specs.FillValue.{fill_fits}
 use Rattle.zarrs_data_type.specs.declared.endianness.Endianness.{Endianness}
 use Rattle.zarrs_codec.specs.BytesToBytesCodec.{BytesCodecs, IsLawful, IsAtMost}
@@ -25,7 +25,7 @@ use Rattle.zarrs_chain_parts.specs.PlainChain.{PlainCodec, bytes_codec, packbits
 use Rattle.zarrs_chain_parts.specs.ArrayStages.{arrays_map}
 use Rattle.zarrs_chain_parts.specs.BytesStages.{outer_representation}
 use Rattle.zarrs_chain_parts.specs.Laws.{HasMappings}
-use Rattle.zarrs_chain_parts.specs.Representation.{Measure, is_variable, flag_type, blank_fill, bounded, both_representations, vlen_representation, optional_representation, around_representation, codec_representation}
+use Rattle.zarrs_chain_parts.specs.Representation.{Measure, flag_type, blank_fill, bounded, both_representations, vlen_representation, optional_representation, around_representation, codec_representation}
 use Rattle.zarrs_chain_parts.proofs.ArraySteps.{bind_ok, ok_is}
 use Rattle.zarrs_chain_parts.proofs.ChainSteps.{seen_ok}
 use Rattle.zarrs_chain_parts.proofs.NestedStages.{arrays_are_map}

@@ -1,5 +1,5 @@
 -- What codecs to bytes answer of values stands, with chains inside too.
-use Rattle.std.proofs.Common.{◌≡◌, ℕ, zero, suc, ◌+◌, ◌<◌, ◌^◌, nat_lt, Bool, true, false, List, [], ◌∷◌, length, map, Ok, arith, refl, ap, sym, subst, ◌∙◌}
+use Rattle.std.proofs.Common.{◌≡◌, ℕ, zero, suc, ◌+◌, ◌<◌, Bool, true, List, [], ◌∷◌, length, map, Ok, arith, refl, ap, sym, subst, ◌∙◌}
 use Rattle.std.specs.List.{All, range_with_len}
 use Rattle.std.proofs.lemmas.List.{length-map}
 use Rattle.std.proofs.lemmas.List.Elements.{All-nil, All-cons}
@@ -8,7 +8,7 @@ use Rattle.zarrs_chunk.specs.Answer.{demand, checked_u64}
 use Rattle.zarrs_chunk.specs.ChunkShape.{product}
 use Rattle.zarrs_chunk.specs.declared.codec_error.CodecError.TheVariants.{UnsupportedDataType, InvalidOffsets}
 use Rattle.zarrs_chunk.specs.declared.codec_error.CodecName.TheVariants as codec
-use Rattle.zarrs_data_type.specs.ElementType.{ElementType, fixed, text, bytes, optional}
+use Rattle.zarrs_data_type.specs.ElementType.{ElementType, fixed, text, bytes, optional, is_variable}
 use Rattle.zarrs_data_type.specs.Element.{Element, plain, Chunk, IsElement, AreElements}
 use Rattle.zarrs_array_bytes.specs.Elements.{cut}
 use Rattle.zarrs_array_bytes.specs.Offsets.{rises, last_of}
@@ -27,7 +27,7 @@ use Rattle.zarrs_chain_parts.specs.BytesStages.{outer_bytes}
 use Rattle.zarrs_chain_parts.specs.Decode.{Decoder, part_chunk, offsets_in_chunk, slices, vlen_parts, vlen_chunk, optional_parts, flags_in, count_set, under_flags, optional_chunk, around_chunk, codec_chunk, chain_chunk}
 use Rattle.zarrs_chain_parts.specs.Encode.{offset_bytes, all_bytes, flag_of, present_of}
 use Rattle.zarrs_chain_parts.specs.Laws.{HasMappings, IsChainOfMappings}
-use Rattle.zarrs_chain_parts.specs.Representation.{Measure, flag_type, byte_type, offset_type, blank_fill, is_variable, codec_representation}
+use Rattle.zarrs_chain_parts.specs.Representation.{Measure, flag_type, byte_type, offset_type, blank_fill, codec_representation}
 use Rattle.zarrs_chain_parts.specs.Stands.{Standing, PartStands, VlenStands, OptionalStands, StandsThrough, CodecStands, ChainStands}
 use Rattle.zarrs_chain_parts.proofs.ArraySteps.{bind_ok, ok_is}
 use Rattle.zarrs_chain_parts.proofs.NestedParts.{vlen_cut, optional_cut_found, flag_element, flags_found, flags_under, present_under, length_under, elements_under}

@@ -3,7 +3,7 @@ use Rattle.std.proofs.Common.{◌≡◌, ℕ, suc, ◌+◌, ◌<◌, ◌≤◌, 
 use Rattle.std.proofs.lemmas.List.{ext_get_or, length-append}
 use Rattle.std.proofs.lemmas.List.FromFn.{length-map-range_with_len, get_or-map-range_with_len}
 use Rattle.std.proofs.lemmas.Nat.{from_le_bytes-to_le_bytes_8, from_le_bytes-to_le_bytes_4}
-use Rattle.zarrs_data_type.specs.ElementType.{ElementType, fixed, text, bytes, optional}
+use Rattle.zarrs_data_type.specs.ElementType.{ElementType, fixed, text, bytes, optional, is_variable}
 use Rattle.zarrs_data_type.specs.Element.{Element, plain, absent, present, Chunk, IsElement, AreElements}
 use Rattle.zarrs_array_bytes.specs.Elements.{cut}
 use Rattle.zarrs_array_bytes.specs.Offsets.{rises, last_of}
@@ -13,7 +13,6 @@ use Rattle.zarrs_array_bytes.proofs.OffsetLemmas.{ends_rise, offsets_end}
 use Rattle.zarrs_bytes.specs.ByteOrder.{bytes_of}
 use Rattle.zarrs_chain_parts.specs.Decode.{length_of, offset_of, offsets_in_chunk, slices}
 use Rattle.zarrs_chain_parts.specs.Encode.{chunk_offsets, offset_bytes, length_bytes, offset_elements, offset_fits, byte_elements, all_bytes, vlen_layout}
-use Rattle.zarrs_chain_parts.specs.Representation.{is_variable}
 use Rattle.zarrs_chain_parts.specs.Stands.{arranged}
 use Rattle.zarrs_packbits.proofs.Tests.{from_nat_lt, to_nat_lt}
 

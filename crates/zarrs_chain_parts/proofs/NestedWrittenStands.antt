@@ -7,7 +7,7 @@ use Rattle.std.proofs.lemmas.List.Elements.{All-nil, All-cons, All-head, All-tai
 use Rattle.zarrs_chunk.specs.Answer.{demand}
 use Rattle.zarrs_chunk.specs.ChunkShape.{product}
 use Rattle.zarrs_chunk.specs.declared.codec_error.CodecError.TheVariants.{Overflow}
-use Rattle.zarrs_data_type.specs.ElementType.{ElementType, fixed, text, bytes, optional}
+use Rattle.zarrs_data_type.specs.ElementType.{ElementType, fixed, text, bytes, optional, is_variable}
 use Rattle.zarrs_data_type.specs.Element.{Element, absent, Chunk, IsElement, AreElements}
 use Rattle.zarrs_array_bytes.specs.Offsets.{rises, last_of}
 use Rattle.zarrs_array_bytes.specs.Validity.{sizes_fit}
@@ -27,7 +27,7 @@ use Rattle.zarrs_chain_parts.specs.Decode.{offsets_in_chunk, slices}
 use Rattle.zarrs_chain_parts.specs.Encode.{chunk_offsets, offset_bytes, length_bytes, offset_elements, byte_elements, all_bytes, flag_of, present_of, optional_layout}
 use Rattle.zarrs_chain_parts.specs.Laws.{HasMappings, IsChainOfMappings}
 use Rattle.zarrs_chain_parts.specs.NormalForm.{vlen_normal, optional_normal, normal_element, normal_form}
-use Rattle.zarrs_chain_parts.specs.Representation.{Measure, is_variable, flag_type, byte_type, offset_type, blank_fill, vlen_representation, codec_representation}
+use Rattle.zarrs_chain_parts.specs.Representation.{Measure, flag_type, byte_type, offset_type, blank_fill, vlen_representation, codec_representation}
 use Rattle.zarrs_chain_parts.specs.Stands.{Standing, PartStands, VlenStands, OptionalStandsFor, StandsThrough, CodecStands, ChainStands}
 use Rattle.zarrs_chain_parts.specs.Written.{PartWritten, VlenWritten, OptionalWrittenFor, WrittenThrough, CodecWritten, ChainWritten}
 use Rattle.zarrs_chain_parts.proofs.NestedFlags.{KeepsFlags, keeps_flags, flags_stay}

@@ -1,30 +1,30 @@
 -- Mask bytes as flags, and elements under a mask as the chain's definitions say them.
-use Rattle.std.proofs.Common.{◌≡◌, ℕ, zero, suc, ◌+◌, ◌*◌, ◌<◌, ◌^◌, nat_eq, nat_lt, ◌&&◌, Bool, true, false, List, [], ◌∷◌, length, drop, map, Result, Ok, Err, arith, refl, ap, sym, subst, ◌∙◌}
+use Rattle.std.proofs.Common.{◌≡◌, ℕ, zero, suc, ◌*◌, ◌<◌, ◌^◌, nat_eq, nat_lt, ◌&&◌, Bool, true, false, List, [], ◌∷◌, length, map, Result, Ok, Err, arith, refl, ap, sym, subst, ◌∙◌}
 use Rattle.std.specs.List.{list_all}
 use Rattle.std.proofs.lemmas.Bool.{eq-eqb, eqb-true}
 use Rattle.std.proofs.lemmas.Bool.Decides.{nat_tests}
 use Rattle.std.proofs.lemmas.List.{length-map}
-use Rattle.zarrs_chunk.specs.Answer.{◌>>=◌, demand, seen}
+use Rattle.zarrs_chunk.specs.Answer.{◌>>=◌, demand}
 use Rattle.zarrs_chunk.specs.declared.codec_error.CodecError.{CodecError}
 use Rattle.zarrs_chunk.specs.declared.codec_error.CodecError.TheVariants.{MaskValue, Overflow, InvalidBytesLength}
-use Rattle.zarrs_data_type.specs.ElementType.{ElementType, fixed, text, bytes, optional, element_size}
-use Rattle.zarrs_data_type.specs.Element.{Element, plain, absent, present, Chunk}
+use Rattle.zarrs_data_type.specs.ElementType.{ElementType, optional, element_size}
+use Rattle.zarrs_data_type.specs.Element.{plain, absent, present, Chunk}
 use Rattle.zarrs_array_bytes.specs.Elements.{elements}
 use Rattle.zarrs_array_bytes.specs.Held.{Raw, Held, flen, vlen, masked}
 use Rattle.zarrs_array_bytes.specs.Parts.{fixed_part}
 use Rattle.zarrs_array_bytes.specs.Pieces.{pieces}
-use Rattle.zarrs_array_bytes.specs.Present.{present_elements, presence, mask_of, expansion, present_places, present_count}
-use Rattle.zarrs_array_bytes.specs.Validity.{length_is, sizes_fit, levels_fit, validity, Holds}
+use Rattle.zarrs_array_bytes.specs.Present.{present_elements, mask_of, expansion, present_places}
+use Rattle.zarrs_array_bytes.specs.Validity.{sizes_fit, levels_fit, validity, Holds}
 use Rattle.zarrs_array_bytes.proofs.Pieces.{pieces-suc, elements-pieces}
 use Rattle.zarrs_array_bytes.proofs.PresentAnswers.{present_held}
 use Rattle.zarrs_array_bytes.proofs.PresentLemmas.{marked, present_places-marked}
 use Rattle.zarrs_array_bytes.proofs.ValidLemmas.{both_ok, then_ok}
 use Rattle.zarrs_bytes.proofs.Coding.{demand_ok}
 use Rattle.zarrs_packbits.proofs.Tests.{to_nat_lt}
-use Rattle.zarrs_chain_parts.specs.Decode.{flag_in, flags_in, count_set, under_flags}
+use Rattle.zarrs_chain_parts.specs.Decode.{flags_in, count_set, under_flags}
 use Rattle.zarrs_chain_parts.specs.Encode.{byte_elements, flag_of, present_of}
 use Rattle.zarrs_chain_parts.specs.Representation.{flag_type}
-use Rattle.zarrs_chain_parts.proofs.ArraySteps.{ok, err, ok_is}
+use Rattle.zarrs_chain_parts.proofs.ArraySteps.{ok, err}
 
 -- ---- flags of mask bytes
 

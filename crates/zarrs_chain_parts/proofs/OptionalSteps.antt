@@ -11,9 +11,9 @@ use Rattle.zarrs_data_type.specs.ElementType.{ElementType, fixed, text, bytes, o
 use Rattle.zarrs_data_type.specs.Element.{absent, Chunk}
 use Rattle.zarrs_data_type.specs.FillValue.{fill_fits}
 use Rattle.zarrs_array_bytes.specs.Elements.{elements}
-use Rattle.zarrs_array_bytes.specs.Held.{Raw, Held, flen, vlen, masked, owned_bytes}
+use Rattle.zarrs_array_bytes.specs.Held.{Raw, Held, flen, vlen, masked}
 use Rattle.zarrs_array_bytes.specs.Parts.{optional_part}
-use Rattle.zarrs_array_bytes.specs.Present.{present_elements, mask_of, present_places, present_count, present_chunk, expansion, expanded_chunk}
+use Rattle.zarrs_array_bytes.specs.Present.{present_elements, present_places, present_count, present_chunk, expansion, expanded_chunk}
 use Rattle.zarrs_array_bytes.specs.Validity.{length_is, sizes_fit, levels_fit, validity, Holds}
 use Rattle.zarrs_array_bytes.proofs.PresentAnswers.{present_held, present_selected, expanded_held}
 use Rattle.zarrs_array_bytes.proofs.ValidLemmas.{both_ok, then_ok}
@@ -25,12 +25,12 @@ use Rattle.zarrs_bytes.proofs.Coding.{demand_ok, checked_ok}
 use Rattle.zarrs_chain_parts.specs.PlainChain.{PlainChain, optional_codec_of}
 use Rattle.zarrs_chain_parts.specs.ArrayStages.{arrays_map}
 use Rattle.zarrs_chain_parts.specs.BytesStages.{in_memory, outer_bytes}
-use Rattle.zarrs_chain_parts.specs.Chain.{held_value, held_part, codec_held_value}
-use Rattle.zarrs_chain_parts.specs.Decode.{Decoder, part_chunk, optional_parts, flags_in, count_set, under_flags, chain_chunk, codec_chunk}
+use Rattle.zarrs_chain_parts.specs.Chain.{held_value, held_part}
+use Rattle.zarrs_chain_parts.specs.Decode.{Decoder, part_chunk, optional_parts, count_set, under_flags, chain_chunk, codec_chunk}
 use Rattle.zarrs_chain_parts.specs.Encode.{Encoder, part_value, byte_elements, flag_of, present_of, optional_layout, optional_value, chain_value, codec_value}
 use Rattle.zarrs_chain_parts.specs.OptionalParts.{optional_inner, elements_under, present_part}
 use Rattle.zarrs_chain_parts.specs.Representation.{flag_type, blank_fill, both_representations, chain_representation, codec_representation}
-use Rattle.zarrs_chain_parts.proofs.ArraySteps.{ok, err, bind_ok, ok_is, ok_no_err, holds_elements}
+use Rattle.zarrs_chain_parts.proofs.ArraySteps.{ok, bind_ok, ok_is, ok_no_err, holds_elements}
 use Rattle.zarrs_chain_parts.proofs.ChainRelations.{held_value_is}
 use Rattle.zarrs_chain_parts.proofs.ChainSteps.{held_chunk}
 use Rattle.zarrs_chain_parts.proofs.OptionalFlags.{set_in, flags_or_refusal, flags_read, count_present, expansion_under, present_same, flag_elements, flags_valid, flags_bytes}

@@ -1,8 +1,8 @@
 -- A row of elements through a chain: the part that is written of it, and the part that it is read of.
-use Rattle.std.proofs.Common.{◌≡◌, ℕ, zero, suc, ◌*◌, ◌^◌, ◌==◌, nat_lt, true, false, List, [], ◌∷◌, Option, None, Some, Result, Ok, Err, arith, refl, ap, sym, subst, ◌∙◌}
+use Rattle.std.proofs.Common.{◌≡◌, ℕ, zero, suc, ◌*◌, ◌^◌, ◌==◌, nat_lt, true, false, List, [], ◌∷◌, None, Some, Result, Ok, arith, refl, sym, subst}
 use Rattle.std.proofs.lemmas.Bool.Decides.{nat_tests}
 use Rattle.zarrs_chunk.specs.ChunkShape.{shape_of}
-use Rattle.zarrs_chunk.specs.Answer.{◌>>=◌, demand, Answers, AnswersBy, memory}
+use Rattle.zarrs_chunk.specs.Answer.{demand, Answers, AnswersBy, memory}
 use Rattle.zarrs_chunk.specs.declared.codec_error.CodecError.{CodecError}
 use Rattle.zarrs_chunk.specs.declared.codec_error.CodecError.TheVariants.{Overflow}
 use Rattle.zarrs_data_type.specs.ElementType.{ElementType, fixed, text, bytes, optional, element_size}

@@ -1,5 +1,5 @@
 -- Offsets written one behind another, and read again.
-use Rattle.std.proofs.Common.{◌≡◌, ℕ, zero, suc, ◌+◌, ◌-◌, ◌*◌, ◌/◌, ◌<◌, ◌≤◌, ◌^◌, Bool, true, false, if◌then◌else◌, List, [], ◌∷◌, ◌++◌, length, map, take, drop, get_or, slice_index, Some, Ok, Err, arith, refl, ap, sym, subst, ◌∙◌}
+use Rattle.std.proofs.Common.{◌≡◌, ℕ, ◌+◌, ◌-◌, ◌*◌, ◌/◌, ◌<◌, ◌≤◌, ◌^◌, Bool, true, false, if◌then◌else◌, List, [], ◌∷◌, ◌++◌, length, map, take, drop, get_or, slice_index, Ok, Err, arith, refl, ap, sym, subst, ◌∙◌}
 use Rattle.std.specs.Prelude.{IsOkAnd}
 use Rattle.std.specs.List.{All, concat, flat_map, range_with_len}
 use Rattle.std.proofs.lemmas.List.{append_assoc, append-nil, length-append, length-take, length-map, take_at, drop_at, drop_all, take_all, drop-drop, ext_get_or}
@@ -12,8 +12,8 @@ use Rattle.zarrs_chunk.specs.declared.codec_error.CodecError.{CodecError}
 use Rattle.zarrs_chunk.specs.declared.codec_error.CodecError.TheVariants.{OffsetTooLarge, InvalidBytesLength}
 use Rattle.zarrs_chunk.proofs.BoxTuples.{flat_map-take_more}
 use Rattle.zarrs_data_type.specs.Element.{Chunk, plain}
-use Rattle.zarrs_data_type.specs.ElementType.{ElementType, fixed, element_size}
-use Rattle.zarrs_array_bytes.specs.Elements.{piece, elements}
+use Rattle.zarrs_data_type.specs.ElementType.{element_size}
+use Rattle.zarrs_array_bytes.specs.Elements.{piece}
 use Rattle.zarrs_array_bytes.specs.Held.{Raw, flen}
 use Rattle.zarrs_array_bytes.specs.Offsets.{is_offsets, last_of}
 use Rattle.zarrs_array_bytes.specs.Pieces.{pieces}

@@ -1,5 +1,5 @@
 -- What a chain's calls answer.
-use Rattle.std.specs.Prelude.{ℕ, zero, suc, ◌&&◌, true, false, List, [], ◌∷◌, Option, None, Some, Result, Ok}
+use Rattle.std.specs.Prelude.{ℕ, zero, suc, ◌&&◌, Bool, true, false, List, [], ◌∷◌, Option, None, Some, Result, Ok}
 use Rattle.std.specs.List.{list_all}
 use Rattle.zarrs_chunk.specs.Answer.{◌>>=◌, seen}
 use Rattle.zarrs_chunk.specs.ChunkShape.{product}
@@ -13,6 +13,7 @@ use Rattle.zarrs_codec.specs.declared.bytes_representation.BytesRepresentation.{
 use Rattle.zarrs_codec.specs.declared.capabilities.PartialDecoderCapability.{PartialDecoderCapability}
 use Rattle.zarrs_codec.specs.declared.capabilities.PartialEncoderCapability.{PartialEncoderCapability}
 use Rattle.zarrs_chain_parts.specs.PlainChain.{PlainCodec, bytes_codec, packbits_codec, vlen_codec, optional_codec, PlainChain}
+use Rattle.zarrs_chain_parts.specs.PlainVlen.{is_plain}
 use Rattle.zarrs_chain_parts.specs.ArrayStages.{arrays_map}
 use Rattle.zarrs_chain_parts.specs.Decode.{Decoder, codec_chunk}
 use Rattle.zarrs_chain_parts.specs.Encode.{codec_value, chain_value}
@@ -55,12 +56,17 @@ abbrev pub held_part : {B : Type 0} → BytesCodecs B → PlainChain B → ℕ �
 held_part f chain zero type fill held = Ok []
 held_part f chain (suc count) type fill held = held_value f chain (suc count ∷ []) type fill held
 
--- what a codec to bytes reads in part: `bytes` and `packbits` all, one with chains inside nothing
+-- all that can be read in part, or nothing of it
+abbrev pub reads_all_if : Bool → PartialDecoderCapability
+reads_all_if test = record { partial_read = test; partial_decode = test }
+
+-- what a codec to bytes reads in part: `bytes`, `packbits` and a plain `vlen` all, any other with chains inside nothing
 abbrev pub codec_reads : {B : Type 0} → PlainCodec B → PartialDecoderCapability
-codec_reads (bytes_codec order) = record { partial_read = true; partial_decode = true }
-codec_reads (packbits_codec settings) = record { partial_read = true; partial_decode = true }
-codec_reads (vlen_codec ia ix ib da dx db wide at_end) = record { partial_read = false; partial_decode = false }
-codec_reads (optional_codec ma mx mb da dx db) = record { partial_read = false; partial_decode = false }
+codec_reads (bytes_codec order) = reads_all_if true
+codec_reads (packbits_codec settings) = reads_all_if true
+codec_reads (vlen_codec ia ix ib da dx db wide at_end) =
+    reads_all_if (is_plain (vlen_codec ia ix ib da dx db wide at_end))
+codec_reads (optional_codec ma mx mb da dx db) = reads_all_if false
 
 -- what it writes in part: `bytes` alone does
 abbrev pub codec_writes : {B : Type 0} → PlainCodec B → PartialEncoderCapability

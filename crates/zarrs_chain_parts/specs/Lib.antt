@@ -8,7 +8,9 @@ pub mod Decode
 pub mod Stands
 pub mod Written
 pub mod Chain
+pub mod CallAnswers
 pub mod VlenSettings
+pub mod PlainVlen
 pub mod VlenSteps
 pub mod OptionalParts
 pub mod CodecNames

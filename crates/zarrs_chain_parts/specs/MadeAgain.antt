@@ -52,3 +52,8 @@ abbrev pub ChainsAreMadeAgain : Type 0 → Type 0
 ChainsAreMadeAgain B =
     (described : B → Metadata) (makes : Metadata → Result (Option B) PluginCreateError) (chain : PlainChain B)
     → IsChainOf (IsMadeAgain described makes) chain → chain_made makes (chain_metadatas described chain) ≡ Ok chain
+
+-- of these metadata the chain is made by each maker that makes its bytes codecs again
+abbrev pub MakesChain : {B : Type 0} → (B → Metadata) → PlainChain B → List Metadata → Type 0
+MakesChain {B} described chain metadatas =
+    (makes : Metadata → Result (Option B) PluginCreateError) → HasBytesCodecs (IsMadeAgain described makes) chain → chain_made makes metadatas ≡ Ok chain

@@ -149,3 +149,17 @@ chain_made makes metadatas = chain_in makes (suc (depth_all metadatas)) metadata
 -- the chains inside a chain are made as the chain itself
 abbrev pub ChainsAreMadeAlike : Type 0 → Type 0
 ChainsAreMadeAlike B = (makes : Metadata → Result (Option B) PluginCreateError) (metadatas : List Metadata) → chain_made makes metadatas ≡ chain_made_by (chain_made makes) makes metadatas
+
+-- ---- by a maker of bytes codecs
+
+-- `optional` of these chains
+abbrev pub optional_by : {B : Type 0} → (Metadata → Result (Option B) PluginCreateError) → OptionalChains → Result (PlainCodec B) PluginCreateError
+optional_by makes chains = optional_of_chains (chain_made makes) chains
+
+-- the codec of a metadata
+abbrev pub codec_by : {B : Type 0} → (Metadata → Result (Option B) PluginCreateError) → Metadata → Result (CodecMade B) PluginCreateError
+codec_by makes metadata = codec_made (chain_made makes) makes metadata
+
+-- the codecs that were gathered, with that of the metadata, or without it where it may be passed over
+abbrev pub joined_by : {B : Type 0} → (Metadata → Result (Option B) PluginCreateError) → Metadata → Gathered B → Result (Gathered B) PluginCreateError
+joined_by makes metadata parts = joined (codec_by makes metadata) metadata.must_understand parts

@@ -1,12 +1,12 @@
 -- Which chunks a chain takes, and how many bytes they have.
 use Rattle.zarrs_data_type.specs.Form.{form_of}
-use Rattle.std.specs.Prelude.{ℕ, ◌+◌, ◌^◌, Bool, true, false, nat_lt, if◌then◌else◌, List, [], ◌∷◌, replicate, Result, Ok, Err}
+use Rattle.std.specs.Prelude.{ℕ, ◌+◌, ◌^◌, Bool, false, nat_lt, if◌then◌else◌, List, [], ◌∷◌, replicate, Result, Ok, Err}
 use Rattle.zarrs_chunk.specs.Answer.{◌>>=◌, demand, checked_u64, seen}
 use Rattle.zarrs_chunk.specs.ChunkShape.{product}
 use Rattle.zarrs_chunk.specs.declared.codec_error.CodecError.{CodecError}
 use Rattle.zarrs_chunk.specs.declared.codec_error.CodecError.TheVariants.{UnsupportedDataType, InvalidFillValue}
 use Rattle.zarrs_chunk.specs.declared.codec_error.CodecName.TheVariants as codec
-use Rattle.zarrs_data_type.specs.ElementType.{ElementType, fixed, text, bytes, optional, element_size}
+use Rattle.zarrs_data_type.specs.ElementType.{ElementType, fixed, text, bytes, optional, element_size, is_variable}
 use Rattle.zarrs_data_type.specs.FillValue.{fill_fits}
 use Rattle.zarrs_codec.specs.BytesToBytesCodec.{BytesCodecs}
 use Rattle.zarrs_codec.specs.declared.bytes_representation.BytesRepresentation.{BytesRepresentation}
@@ -44,12 +44,6 @@ blank_fill (optional type) = 0 ∷ []
 -- what says how many bytes a chunk of these sizes, this type and this fill value has, or the first cause of a refusal
 abbrev pub Measure : Type 0
 Measure = List ℕ → ElementType → List ℕ → Result BytesRepresentation CodecError
-
-abbrev pub is_variable : ElementType → Bool
-is_variable (fixed width components sign) = false
-is_variable text = true
-is_variable bytes = true
-is_variable (optional type) = false
 
 -- that of `vlen`: it doesn't ask the inner chains
 abbrev pub vlen_representation : Measure

@@ -1,21 +1,25 @@
 -- The steps of a codec `vlen`, each by what its calls are given.
-use Rattle.zarrs_data_type.specs.Form.{form_of}
+use Rattle.zarrs_data_type.specs.Form.{form_of, Form}
 use Rattle.std.specs.Prelude.{◌≡◌, ℕ, ◌+◌, ◌-◌, ◌/◌, Bool, true, false, nat_le, if◌then◌else◌, List, [], ◌∷◌, length, map, take, drop, slice_index, Result, Ok, IsOk}
 use Rattle.std.specs.List.{flat_map}
-use Rattle.zarrs_chunk.specs.Answer.{◌>>=◌, demand}
+use Rattle.zarrs_chunk.specs.Answer.{◌>>=◌, demand, Answers, memory}
 use Rattle.zarrs_chunk.specs.declared.codec_error.CodecError.{CodecError}
 use Rattle.zarrs_chunk.specs.declared.codec_error.CodecError.TheVariants.{IndexLength, InvalidOffsets, OffsetTooLarge, OffsetNotKept}
 use Rattle.zarrs_data_type.specs.Element.{Chunk}
-use Rattle.zarrs_array_bytes.specs.Held.{Raw}
+use Rattle.zarrs_array_bytes.specs.Held.{Raw, flen}
 use Rattle.zarrs_array_bytes.specs.Offsets.{rises, last_of}
 use Rattle.zarrs_array_bytes.specs.Pieces.{pieces}
 use Rattle.zarrs_codec.specs.BytesToBytesCodec.{BytesCodecs}
-use Rattle.zarrs_packbits.specs.PackBitsSettings.{packed_layout}
+use Rattle.zarrs_packbits.specs.PackBitsSettings.{packed_layout, PackBitsSettings}
 use Rattle.zarrs_chain_parts.specs.PlainChain.{PlainCodec, bytes_codec, packbits_codec, vlen_codec, optional_codec, PlainChain}
 use Rattle.zarrs_chain_parts.specs.Decode.{length_of, offset_of, offsets_in_chunk, part_chunk, chain_chunk}
 use Rattle.zarrs_chain_parts.specs.Encode.{part_value, all_bytes, offset_bytes, offset_fits, offset_elements, byte_elements, is_same_bytes, chain_value}
 use Rattle.zarrs_chain_parts.specs.NormalForm.{normal_element}
 use Rattle.zarrs_chain_parts.specs.Representation.{byte_type, offset_type}
+use Rattle.zarrs_chunk.specs.ChunkShape.{product}
+use Rattle.zarrs_data_type.specs.ElementType.{ElementType}
+use Rattle.zarrs_array_bytes.specs.Validity.{Holds}
+use Rattle.zarrs_packbits.specs.NormalForm.{normal_chunk}
 
 -- ---- parts of a value
 
@@ -110,3 +114,21 @@ abbrev pub content_bytes : {B : Type 0} → BytesCodecs B → PlainChain B → �
 content_bytes f chain count part = do
   items ← part_chunk (chain_chunk f chain) byte_type (0 ∷ []) count part
   Ok (all_bytes items)
+
+-- the codec `packbits` takes chunks of this form
+abbrev pub IsPackable : PackBitsSettings → Form → Type 0
+IsPackable settings form = IsOk (packed_layout settings form)
+
+-- a row of so many offsets
+abbrev pub offsets_form : Bool → ℕ → Form
+offsets_form wide count = form_of (count ∷ []) (offset_type wide) (offset_bytes wide 0)
+
+-- The answer is whether `packbits` gives the elements of each chunk back unchanged that these bytes hold. Only a want of memory may come in its place.
+abbrev pub TellsKept : PackBitsSettings → List ℕ → ElementType → List ℕ → Result Bool CodecError → Type 0
+TellsKept settings sizes type items result =
+    (chunk : Chunk) → Holds type (flen (lent_bytes items)) chunk → length chunk ≡ product sizes
+    → Answers memory (λ kept. kept) result (Ok (is_same_bytes (normal_chunk settings type chunk) chunk))
+
+-- a codec has to give offsets back unchanged
+abbrev pub offsets_kept : {B : Type 0} → PlainCodec B → Bool → List ℕ → Result (Unit {0}) CodecError
+offsets_kept codec wide offsets = demand (keeps_offsets codec wide offsets) OffsetNotKept

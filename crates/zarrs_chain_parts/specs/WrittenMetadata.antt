@@ -1,11 +1,11 @@
 -- The metadata that is written of codecs and of chains.
-use Rattle.std.specs.Prelude.{ℕ, Bool, true, false, List, [], ◌∷◌, ◌++◌, map, Some}
+use Rattle.std.specs.Prelude.{ℕ, Bool, true, false, List, ◌∷◌, ◌++◌, map, Some}
 use Rattle.zarrs_metadata.specs.BytesConfiguration.{write_bytes}
 use Rattle.zarrs_metadata.specs.CodecMetadata.{codec_metadata, bytes_name, packbits_name}
 use Rattle.zarrs_metadata.specs.Data.{Members}
 use Rattle.zarrs_metadata.specs.Metadata.{Metadata}
-use Rattle.zarrs_metadata.specs.OptionalConfiguration.{OptionalChains, write_optional}
-use Rattle.zarrs_metadata.specs.VlenConfiguration.{VlenParts, write_vlen}
+use Rattle.zarrs_metadata.specs.OptionalConfiguration.{write_optional}
+use Rattle.zarrs_metadata.specs.VlenConfiguration.{write_vlen}
 use Rattle.zarrs_metadata.specs.declared.codec.vlen.VlenIndexDataType.{VlenIndexDataType}
 use Rattle.zarrs_metadata.specs.declared.codec.vlen.VlenIndexDataType.TheVariants.{UInt32, UInt64}
 use Rattle.zarrs_metadata.specs.declared.codec.vlen.VlenIndexLocation.{VlenIndexLocation}
@@ -15,6 +15,8 @@ use Rattle.zarrs_array_to_array.specs.MappingMetadata.{mapping_name, mapping_con
 use Rattle.zarrs_packbits.specs.SettingsMetadata.{write_settings}
 use Rattle.zarrs_chain_parts.specs.CodecNames.{vlen_name, optional_name}
 use Rattle.zarrs_chain_parts.specs.PlainChain.{PlainCodec, bytes_codec, packbits_codec, vlen_codec, optional_codec, PlainChain}
+use Rattle.zarrs_metadata.specs.MetadataV3.{metadata_seen}
+use Rattle.zarrs_metadata.specs.declared.metadata_v3.MetadataV3.{MetadataV3}
 
 -- the type of offsets that have 64 bits, or 32
 abbrev pub offset_type_of : Bool → VlenIndexDataType
@@ -63,3 +65,19 @@ to_bytes_metadata described codec = codec_metadata (codec_name codec) (codec_con
 -- the metadata of a chain: one for each codec
 abbrev pub chain_metadatas : {B : Type 0} → (B → Metadata) → PlainChain B → List Metadata
 chain_metadatas described chain = listed described chain.arrays (to_bytes_metadata described chain.codec) chain.outer
+
+-- the configuration of `vlen` by its four keys
+abbrev pub vlen_members_of : List MetadataV3 → List MetadataV3 → VlenIndexDataType → VlenIndexLocation → Members
+vlen_members_of index content data_type location = write_vlen (record {
+  index_codecs = map metadata_seen index;
+  data_codecs = map metadata_seen content;
+  index_data_type = data_type;
+  index_location = Some location;
+})
+
+-- and of `optional` by its two
+abbrev pub optional_members_of : List MetadataV3 → List MetadataV3 → Members
+optional_members_of mask content = write_optional (record {
+  mask_codecs = map metadata_seen mask;
+  data_codecs = map metadata_seen content;
+})

@@ -6,7 +6,7 @@ ghost use Rattle.zarrs_codec.specs.CoordinateMap.{IsMapTo};
 ghost use Rattle.zarrs_codec.specs.MappedChunk.{encoded_chunk, decoded_chunk};
 ghost use Rattle.zarrs_array_to_array.specs.ArrayToArrayCodec.{coordinates};
 ghost use Rattle.zarrs_array_to_array.specs.Mapping.{mapping_of};
-ghost use Rattle.zarrs_chain_parts.specs.ArrayStages.{codec_map, arrays_map, IsMapWhere};
+ghost use Rattle.zarrs_chain_parts.specs.ArrayStages.{codec_map, arrays_map, IsMapWhere, EncodesThrough, DecodesThrough};
 
 use std::alloc::Global;
 use zarrs_array_bytes::ArrayBytes;
@@ -24,8 +24,10 @@ fn next_shape(
     shape: &ChunkShape,
     data_type: &DataType,
 ) -> Result<ChunkShape, CodecError>
-    ensures answer { Gives (λ shape. shape) result (seen (λ m. m.encoded) (codec_map data_type.now (mapping_of codec.now) shape.now)) }
-    ensures map { IfOk result (λ next. IsMapTo (coordinates (mapping_of codec.now) shape.now) shape.now next) }
+    ensures answer { Gives (λ shape. shape) result
+        (seen (λ m. m.encoded) (codec_map data_type.now (mapping_of codec.now) shape.now)) }
+    ensures map { IfOk result
+        (λ next. IsMapTo (coordinates (mapping_of codec.now) shape.now) shape.now next) }
 {
     codec.encoded_data_type(alloc, data_type)?;
     codec.encoded_shape(alloc, shape)
@@ -39,8 +41,10 @@ pub fn shape_through(
     shape: &ChunkShape,
     data_type: &DataType,
 ) -> Result<ChunkShape, CodecError>
-    ensures answer { Gives (λ shape. shape) result (seen (λ m. m.encoded) (arrays_map data_type.now (map mapping_of codecs.now) shape.now)) }
-    ensures map { IfOk result (λ _. IsMapWhere data_type.now (map mapping_of codecs.now) shape.now) }
+    ensures answer { Gives (λ shape. shape) result
+        (seen (λ m. m.encoded) (arrays_map data_type.now (map mapping_of codecs.now) shape.now)) }
+    ensures map { IfOk result
+        (λ _. IsMapWhere data_type.now (map mapping_of codecs.now) shape.now) }
 {
     match codecs {
         [] => shape.clone(),
@@ -60,8 +64,9 @@ pub fn encode_arrays<'a>(
     data_type: &DataType,
     fill_value: &FillValue,
 ) -> Result<ArrayBytes<'a>, CodecError>
-    ensures found { IfOk (encoded_chunk (Ok tt) (arrays_map data_type.now (map mapping_of codecs.now) shape.now) data_type.now shape.now chunk.entry) (λ moved. AnswersBy memory (Holds data_type.now) result (Ok moved)) }
-    ensures map { IfOk result (λ _. IsMapWhere data_type.now (map mapping_of codecs.now) shape.now) }
+    ensures found { EncodesThrough data_type.now codecs.now shape.now chunk.entry result }
+    ensures map { IfOk result
+        (λ _. IsMapWhere data_type.now (map mapping_of codecs.now) shape.now) }
     ensures no_fault { is_fault result ≡ false }
 {
     match codecs {
@@ -83,8 +88,9 @@ pub fn decode_arrays<'a>(
     data_type: &DataType,
     fill_value: &FillValue,
 ) -> Result<ArrayBytes<'a>, CodecError>
-    ensures found { IfOk (decoded_chunk (Ok tt) (arrays_map data_type.now (map mapping_of codecs.now) shape.now) data_type.now shape.now chunk.entry) (λ moved. AnswersBy memory (Holds data_type.now) result (Ok moved)) }
-    ensures map { IfOk result (λ _. IsMapWhere data_type.now (map mapping_of codecs.now) shape.now) }
+    ensures found { DecodesThrough data_type.now codecs.now shape.now chunk.entry result }
+    ensures map { IfOk result
+        (λ _. IsMapWhere data_type.now (map mapping_of codecs.now) shape.now) }
     ensures no_fault { is_fault result ≡ false }
 {
     match codecs {

@@ -30,7 +30,8 @@ pub fn encode_bytes<'a, B: BytesToBytesCodecTraits>(
     codecs: &[B],
     bytes: ArrayBytesRaw<'a>,
 ) -> Result<ArrayBytesRaw<'a>, CodecError>
-    ensures answer { Gives items_of result (outer_value B.functions codecs.now (items_of bytes.entry)) }
+    ensures answer { Gives items_of result
+        (outer_value B.functions codecs.now (items_of bytes.entry)) }
 {
     match codecs {
         [] => Ok(bytes),
@@ -46,7 +47,8 @@ pub fn decode_bytes<'a, B: BytesToBytesCodecTraits>(
     representation: &BytesRepresentation,
     value: ArrayBytesRaw<'a>,
 ) -> Result<ArrayBytesRaw<'a>, CodecError>
-    ensures answer { Gives items_of result (outer_bytes B.functions codecs.now representation.now (items_of value.entry)) }
+    ensures answer { Gives items_of result
+        (outer_bytes B.functions codecs.now representation.now (items_of value.entry)) }
 {
     match codecs {
         [] => Ok(value),

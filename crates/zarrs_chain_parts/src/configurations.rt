@@ -1,8 +1,9 @@
 //! The configurations of codecs with chains inside, read from their metadata.
+ghost use Rattle.zarrs_chain_parts.specs.WrittenMetadata.{vlen_members_of, optional_members_of};
 ghost use Rattle.std.specs.Prelude.{◌≡◌, ◌<◌, Ok, Some, IfOk, map};
 ghost use Rattle.zarrs_chunk.specs.Answer.{Answers};
 ghost use Rattle.zarrs_metadata.specs.CodecMetadata.{made_of};
-ghost use Rattle.zarrs_metadata.specs.MetadataV3.{configuration_seen, metadata_seen};
+ghost use Rattle.zarrs_metadata.specs.MetadataV3.{configuration_seen, metadata_seen, Writes};
 ghost use Rattle.zarrs_metadata.specs.OptionalConfiguration.{optional_seen, read_optional, write_optional};
 ghost use Rattle.zarrs_metadata.specs.PluginCreateError.{plugin_memory};
 ghost use Rattle.zarrs_metadata.specs.VlenConfiguration.{vlen_seen, read_vlen, write_vlen};
@@ -22,7 +23,8 @@ fn read_vlen_configuration(
     alloc: Global,
     metadata: &MetadataV3,
 ) -> Result<VlenCodecConfiguration, PluginCreateError>
-    ensures answer { Answers plugin_memory vlen_seen result (made_of is_vlen_name read_vlen (metadata_seen metadata.now)) }
+    ensures answer { Answers plugin_memory vlen_seen result
+        (made_of is_vlen_name read_vlen (metadata_seen metadata.now)) }
 {
     if !is_vlen(metadata.name()) {
         return Err(PluginCreateError::UnknownName);
@@ -40,9 +42,12 @@ pub fn vlen_configuration(
     alloc: Global,
     metadata: &MetadataV3,
 ) -> Result<VlenCodecConfiguration, PluginCreateError>
-    ensures answer { Answers plugin_memory vlen_seen result (made_of is_vlen_name read_vlen (metadata_seen metadata.now)) }
-    ensures index { IfOk result (λ c. depth_all (vlen_seen c).index_codecs < depth_of (metadata_seen metadata.now)) }
-    ensures content { IfOk result (λ c. depth_all (vlen_seen c).data_codecs < depth_of (metadata_seen metadata.now)) }
+    ensures answer { Answers plugin_memory vlen_seen result
+        (made_of is_vlen_name read_vlen (metadata_seen metadata.now)) }
+    ensures index { IfOk result
+        (λ c. depth_all (vlen_seen c).index_codecs < depth_of (metadata_seen metadata.now)) }
+    ensures content { IfOk result
+        (λ c. depth_all (vlen_seen c).data_codecs < depth_of (metadata_seen metadata.now)) }
 {
     read_vlen_configuration(alloc, metadata)
 }
@@ -92,7 +97,8 @@ fn read_optional_configuration(
     alloc: Global,
     metadata: &MetadataV3,
 ) -> Result<OptionalCodecConfiguration, PluginCreateError>
-    ensures answer { Answers plugin_memory optional_seen result (made_of is_optional_name read_optional (metadata_seen metadata.now)) }
+    ensures answer { Answers plugin_memory optional_seen result
+        (made_of is_optional_name read_optional (metadata_seen metadata.now)) }
 {
     if !is_optional(metadata.name()) {
         return Err(PluginCreateError::UnknownName);
@@ -110,9 +116,12 @@ pub fn optional_configuration(
     alloc: Global,
     metadata: &MetadataV3,
 ) -> Result<OptionalCodecConfiguration, PluginCreateError>
-    ensures answer { Answers plugin_memory optional_seen result (made_of is_optional_name read_optional (metadata_seen metadata.now)) }
-    ensures mask { IfOk result (λ c. depth_all (optional_seen c).mask_codecs < depth_of (metadata_seen metadata.now)) }
-    ensures content { IfOk result (λ c. depth_all (optional_seen c).data_codecs < depth_of (metadata_seen metadata.now)) }
+    ensures answer { Answers plugin_memory optional_seen result
+        (made_of is_optional_name read_optional (metadata_seen metadata.now)) }
+    ensures mask { IfOk result
+        (λ c. depth_all (optional_seen c).mask_codecs < depth_of (metadata_seen metadata.now)) }
+    ensures content { IfOk result
+        (λ c. depth_all (optional_seen c).data_codecs < depth_of (metadata_seen metadata.now)) }
 {
     read_optional_configuration(alloc, metadata)
 }
@@ -141,7 +150,8 @@ pub fn vlen_members(
     index_data_type: VlenIndexDataType,
     index_location: VlenIndexLocation,
 ) -> Result<Configuration, PluginCreateError>
-    ensures answer { Answers plugin_memory configuration_seen result (Ok (write_vlen (record { index_codecs = map metadata_seen index_codecs.items; data_codecs = map metadata_seen data_codecs.items; index_data_type = index_data_type; index_location = Some index_location }))) }
+    ensures answer { Writes result
+        (vlen_members_of index_codecs.items data_codecs.items index_data_type index_location) }
 {
     let configuration = VlenCodecConfiguration::V0_1(VlenCodecConfigurationV0_1 {
         index_codecs,
@@ -158,7 +168,7 @@ pub fn optional_members(
     mask_codecs: Vec<MetadataV3>,
     data_codecs: Vec<MetadataV3>,
 ) -> Result<Configuration, PluginCreateError>
-    ensures answer { Answers plugin_memory configuration_seen result (Ok (write_optional (record { mask_codecs = map metadata_seen mask_codecs.items; data_codecs = map metadata_seen data_codecs.items }))) }
+    ensures answer { Writes result (optional_members_of mask_codecs.items data_codecs.items) }
 {
     let configuration = OptionalCodecConfiguration::V1(OptionalCodecConfigurationV1 {
         mask_codecs,

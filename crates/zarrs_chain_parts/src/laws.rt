@@ -3,6 +3,7 @@
 ghost use Rattle.zarrs_codec.specs.BytesToBytesCodec.{BytesCodecs};
 ghost use Rattle.zarrs_chain_parts.specs.MadeAgain.{ChainsAreMadeAgain};
 ghost use Rattle.zarrs_chain_parts.specs.MadeChain.{ChainsAreMadeAlike};
+ghost use Rattle.zarrs_chain_parts.specs.PlainVlen.{PlainIsPlain};
 ghost use Rattle.zarrs_chain_parts.specs.Laws.{WrittenStands, StandsForOne, StandsIsAnswered, AnsweredStands, WrittenOnce, ValueIsWritten, NormalTwice, NormalMoved, NormalUpdated, WrittenForNormal, WrittenAlike, WrittenKeeps};
 
 /// What is written for a chunk stands for its normal form.
@@ -59,6 +60,11 @@ pub fn written_alike<B>()
 /// A written value is as many bytes as the representation says.
 pub fn written_keeps<B>()
     ensures law { (f : BytesCodecs B) → WrittenKeeps f }
+{}
+
+/// A codec that has a plain form is the plain `vlen` of this form, over some data chain.
+pub fn plain_is_plain<B>()
+    ensures law { PlainIsPlain B }
 {}
 
 /// The chains inside a chain are made of their metadata as the chain itself is.

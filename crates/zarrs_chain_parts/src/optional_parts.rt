@@ -9,7 +9,7 @@ ghost use Rattle.zarrs_array_bytes.specs.Present.{present_count};
 ghost use Rattle.zarrs_chain_parts.specs.BytesStages.{in_memory};
 ghost use Rattle.zarrs_chain_parts.specs.Decode.{optional_parts};
 ghost use Rattle.zarrs_chain_parts.specs.Encode.{optional_layout};
-ghost use Rattle.zarrs_chain_parts.specs.OptionalParts.{optional_inner};
+ghost use Rattle.zarrs_chain_parts.specs.OptionalParts.{optional_inner, joined_size, both_items};
 ghost use Rattle.zarrs_chain_parts.specs.Representation.{blank_fill as blank_fill_of, both_representations as both_representations_of};
 
 use crate::length_fields::read_length;
@@ -57,7 +57,8 @@ pub fn masked_parts(
     elements: ArrayBytes<'_>,
 ) -> Result<(ArrayBytes<'_>, ArrayBytesRaw<'_>, u64), CodecError>
     ensures parts { IfOk result (λ parts. elements.entry ≡ masked parts.0 (raw_of parts.1)) }
-    ensures flags { IfOk result (λ parts. list_all (λ byte. nat_lt byte 2) (items_of parts.1) ≡ true) }
+    ensures flags { IfOk result
+        (λ parts. list_all (λ byte. nat_lt byte 2) (items_of parts.1) ≡ true) }
     ensures counted { IfOk result (λ parts. present_count (items_of parts.1) ≡ Ok parts.2) }
     ensures refused { IfErr result (λ cause. optional_part elements.entry ≡ Err cause) }
     ensures no_fault { is_fault result ≡ false }
@@ -69,7 +70,7 @@ pub fn masked_parts(
 
 /// How many bytes a value of parts of so many bytes has, where 64 bits count them.
 fn whole_size(mask_size: u64, data_size: u64) -> Option<u64>
-    ensures value { result ≡ (if nat_lt (16 + mask_size + data_size) (2 ^ 64) then Some (16 + mask_size + data_size) else None) }
+    ensures value { result ≡ joined_size mask_size data_size }
 {
     mask_size
         .checked_add(HEADER_SIZE as u64)?
@@ -106,7 +107,8 @@ pub fn lent<'r>(raw: &'r ArrayBytesRaw<'_>) -> &'r [u8]
 /// `InvalidBytesLength` where there are fewer bytes than the lengths take; `HeaderOverflow` where 64
 /// bits don't count what the lengths say; `InvalidBytesLength` where there are more bytes, or fewer.
 fn split_bytes(value: &[u8]) -> Result<(&[u8], &[u8]), CodecError>
-    ensures answer { seen {Y = List ℕ × List ℕ} (λ parts. (parts.0.now, parts.1.now)) result ≡ optional_parts value.now }
+    ensures answer { seen {Y = List ℕ × List ℕ} (λ parts. (parts.0.now, parts.1.now)) result ≡
+        optional_parts value.now }
     ensures no_fault { is_fault result ≡ false }
 {
     let len = value.len() as u64;
@@ -146,7 +148,7 @@ pub fn split_value(
     alloc: Global,
     value: ArrayBytesRaw<'_>,
 ) -> Result<(ArrayBytesRaw<'_>, ArrayBytesRaw<'_>), CodecError>
-    ensures answer { Answers {V = List ℕ × List ℕ} memory (λ parts. ((items_of parts.0), (items_of parts.1))) result (optional_parts (items_of value.entry)) }
+    ensures answer { Answers memory both_items result (optional_parts (items_of value.entry)) }
     ensures no_fault { is_fault result ≡ false }
 {
     match value {

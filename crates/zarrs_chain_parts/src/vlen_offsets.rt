@@ -160,7 +160,8 @@ pub fn index_elements<'a>(
     data_type: VlenIndexDataType,
 ) -> Result<ArrayBytes<'a>, CodecError>
     requires rising { is_offsets offsets.now ≡ true }
-    ensures exact { GivesBy (Holds (offset_type_of (is_wide data_type))) result (index_elements_of (is_wide data_type) offsets.now) }
+    ensures exact { GivesBy (Holds (offset_type_of (is_wide data_type))) result
+        (index_elements_of (is_wide data_type) offsets.now) }
 {
     let items = offset_items(alloc, offsets, data_type)?;
     Ok(ArrayBytes::new_flen(CowSlice::Owned(items)))
@@ -182,7 +183,8 @@ pub fn offset_numbers(
 
 /// The numbers that eight bytes each spell, the lowest first.
 fn wide_numbers(alloc: Global, items: &[u8]) -> Result<Vec<usize>, AllocError>
-    ensures { IfOk result (λ v. v.items ≡ map (offset_of true) (pieces 8 (length items.now / 8) items.now)) }
+    ensures { IfOk result
+        (λ v. v.items ≡ map (offset_of true) (pieces 8 (length items.now / 8) items.now)) }
 {
     let count = items.len() / 8;
     let mut numbers = vec![in alloc; 0usize; count]?;
@@ -195,7 +197,8 @@ fn wide_numbers(alloc: Global, items: &[u8]) -> Result<Vec<usize>, AllocError>
 
 /// The numbers that four bytes each spell, the lowest first.
 fn narrow_numbers(alloc: Global, items: &[u8]) -> Result<Vec<usize>, AllocError>
-    ensures { IfOk result (λ v. v.items ≡ map (offset_of false) (pieces 4 (length items.now / 4) items.now)) }
+    ensures { IfOk result
+        (λ v. v.items ≡ map (offset_of false) (pieces 4 (length items.now / 4) items.now)) }
 {
     let count = items.len() / 4;
     let mut numbers = vec![in alloc; 0usize; count]?;
@@ -208,9 +211,9 @@ fn narrow_numbers(alloc: Global, items: &[u8]) -> Result<Vec<usize>, AllocError>
 
 /// The number that eight bytes spell, the lowest first.
 #[tactic(auto, unfolding(crate::specs::Decode::offset_of))]
-fn read_wide(bytes: &[u8]) -> u64
-    requires { length bytes.now ≡ 8 }
-    ensures { result ≡ offset_of true bytes.now }
+pub fn read_wide(bytes: &[u8]) -> u64
+    requires long { length bytes.now ≡ 8 }
+    ensures value { result ≡ offset_of true bytes.now }
 {
     u64::from_le_bytes([
         bytes[0], bytes[1], bytes[2], bytes[3], bytes[4], bytes[5], bytes[6], bytes[7],
@@ -219,9 +222,9 @@ fn read_wide(bytes: &[u8]) -> u64
 
 /// The number that four bytes spell, the lowest first.
 #[tactic(auto, unfolding(crate::specs::Decode::offset_of))]
-fn read_narrow(bytes: &[u8]) -> u32
-    requires { length bytes.now ≡ 4 }
-    ensures { result ≡ offset_of false bytes.now }
+pub fn read_narrow(bytes: &[u8]) -> u32
+    requires long { length bytes.now ≡ 4 }
+    ensures value { result ≡ offset_of false bytes.now }
 {
     u32::from_le_bytes([bytes[0], bytes[1], bytes[2], bytes[3]])
 }

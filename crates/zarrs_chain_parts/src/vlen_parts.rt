@@ -34,7 +34,8 @@ fn index_size(head: &[u8], others: usize) -> Result<usize, CodecError>
 
 /// The parts where the index stands first.
 fn split_start(value: &[u8]) -> Result<(&[u8], &[u8]), CodecError>
-    ensures answer { seen {Y = List ℕ × List ℕ} (λ parts. (parts.0.now, parts.1.now)) result ≡ vlen_parts false value.now }
+    ensures answer { seen {Y = List ℕ × List ℕ} (λ parts. (parts.0.now, parts.1.now)) result ≡
+        vlen_parts false value.now }
 {
     if value.len() < LENGTH_SIZE {
         return Err(CodecError::InvalidBytesLength {
@@ -49,7 +50,8 @@ fn split_start(value: &[u8]) -> Result<(&[u8], &[u8]), CodecError>
 
 /// The parts where the index stands last.
 fn split_end(value: &[u8]) -> Result<(&[u8], &[u8]), CodecError>
-    ensures answer { seen {Y = List ℕ × List ℕ} (λ parts. (parts.0.now, parts.1.now)) result ≡ vlen_parts true value.now }
+    ensures answer { seen {Y = List ℕ × List ℕ} (λ parts. (parts.0.now, parts.1.now)) result ≡
+        vlen_parts true value.now }
 {
     if value.len() < LENGTH_SIZE {
         return Err(CodecError::InvalidBytesLength {
@@ -66,7 +68,8 @@ fn split_end(value: &[u8]) -> Result<(&[u8], &[u8]), CodecError>
 /// The index and the data of a value. Refusals, the first that holds: `InvalidBytesLength` where it
 /// is shorter than the index's length; `IndexLength` where the index is longer than what is left.
 pub fn split(value: &[u8], location: VlenIndexLocation) -> Result<(&[u8], &[u8]), CodecError>
-    ensures answer { seen {Y = List ℕ × List ℕ} (λ parts. (parts.0.now, parts.1.now)) result ≡ vlen_parts (is_at_end location) value.now }
+    ensures answer { seen {Y = List ℕ × List ℕ} (λ parts. (parts.0.now, parts.1.now)) result ≡
+        vlen_parts (is_at_end location) value.now }
     ensures no_fault { is_fault result ≡ false }
 {
     match location {
@@ -111,7 +114,8 @@ pub fn data_part(
     location: VlenIndexLocation,
 ) -> ArrayBytesRaw<'_>
     requires inside { 8 + size ≤ length (items_of value) }
-    ensures part { (items_of result) ≡ data_part_of (is_at_end location) size (items_of value.entry) }
+    ensures part { (items_of result) ≡
+        data_part_of (is_at_end location) size (items_of value.entry) }
 {
     match location {
         VlenIndexLocation::Start => behind(value, LENGTH_SIZE + size),
@@ -127,7 +131,8 @@ pub fn data_part(
 pub fn variable_parts<'a>(
     elements: ArrayBytes<'a>,
 ) -> Result<(ArrayBytesRaw<'a>, ArrayBytesOffsets), CodecError>
-    ensures answer { seen (λ parts. (raw_of parts.0, parts.1)) result ≡ variable_part elements.entry }
+    ensures answer { seen (λ parts. (raw_of parts.0, parts.1)) result ≡
+        variable_part elements.entry }
     ensures ending { IfOk result (λ parts. last_of parts.1 ≡ length (items_of parts.0)) }
     ensures no_fault { is_fault result ≡ false }
 {
@@ -137,7 +142,8 @@ pub fn variable_parts<'a>(
 
 /// Three parts, one behind another.
 fn joined(alloc: Global, first: &[u8], second: &[u8], third: &[u8]) -> Result<Vec<u8>, CodecError>
-    ensures answer { Gives (λ v. v.items) result (in_memory (first.now ++ (second.now ++ third.now))) }
+    ensures answer { Gives (λ v. v.items) result
+        (in_memory (first.now ++ (second.now ++ third.now))) }
 {
     let room = first
         .len()
@@ -158,7 +164,8 @@ pub fn join(
     content: &[u8],
     location: VlenIndexLocation,
 ) -> Result<Vec<u8>, CodecError>
-    ensures answer { Gives (λ v. v.items) result (in_memory (vlen_layout (is_at_end location) index.now content.now)) }
+    ensures answer { Gives (λ v. v.items) result
+        (in_memory (vlen_layout (is_at_end location) index.now content.now)) }
 {
     let head = (index.len() as u64).to_le_bytes();
     match location {

@@ -14,13 +14,15 @@ use zarrs_chunk::CodecError;
 use zarrs_codec::{ArrayCodecTraits, ArrayToBytesCodecTraits, SampleBytesCodec};
 use zarrs_codec_chain::ArrayToBytesCodec;
 
-/// What is coded, and what comes of decoding the value into a target.
+/// What is coded, whether it is read in part, and what comes of decoding the value into a target.
 pub(crate) struct Nested {
     pub(crate) row: Row,
+    pub(crate) reads: bool,
     pub(crate) into: Into,
 }
 
-/// Such a codec does nothing in part, and makes no value shorter.
+/// Such a codec writes nothing in part, reads in part where it is a plain `vlen`, and makes no value
+/// shorter.
 fn answers<C: ArrayToBytesCodecTraits + ArrayCodecTraits>(
     rt: &impl Abort,
     alloc: Global,
@@ -32,7 +34,7 @@ fn answers<C: ArrayToBytesCodecTraits + ArrayCodecTraits>(
     is_coded(rt, alloc, codec, form, row)?;
     is_compacted(rt, alloc, codec, form, row.name, row.value, &Ok(false))?;
     is_decoded_into(rt, alloc, codec, form, row.name, row.value, &nested.into)?;
-    is_capable(rt, row.name, codec, false, false);
+    is_capable(rt, row.name, codec, nested.reads, false);
     is_whole(rt, alloc, row.name, codec, &form.shape)
 }
 

@@ -80,6 +80,7 @@ pub(crate) const NESTED: &'static [Nested] = &[
                 masks: &[],
             }),
         },
+        reads: true,
         into: NOT_FOR_TEXTS,
     },
     Nested {
@@ -105,6 +106,7 @@ pub(crate) const NESTED: &'static [Nested] = &[
                 masks: &[],
             }),
         },
+        reads: true,
         into: NOT_FOR_TEXTS,
     },
     Nested {
@@ -130,6 +132,7 @@ pub(crate) const NESTED: &'static [Nested] = &[
                 masks: &[&[1, 0, 1]],
             }),
         },
+        reads: false,
         into: Into {
             sizes: &[6],
             ranges: &[1..4],
@@ -162,6 +165,7 @@ pub(crate) const NESTED: &'static [Nested] = &[
                 masks: &[&[1, 0, 0], &[1, 1, 0]],
             }),
         },
+        reads: false,
         into: NOT_FOR_ITS_LEVELS,
     },
     Nested {
@@ -187,6 +191,7 @@ pub(crate) const NESTED: &'static [Nested] = &[
                 masks: &[&[0, 0, 0, 0]],
             }),
         },
+        reads: false,
         into: NOT_FOR_ITS_LEVELS,
     },
     Nested {
@@ -212,6 +217,7 @@ pub(crate) const NESTED: &'static [Nested] = &[
                 masks: &[&[1, 0]],
             }),
         },
+        reads: false,
         into: NOT_FOR_TEXTS,
     },
     Nested {
@@ -237,6 +243,7 @@ pub(crate) const NESTED: &'static [Nested] = &[
                 masks: &[&[1, 0, 0], &[1, 0, 1]],
             }),
         },
+        reads: false,
         into: NOT_FOR_TEXTS,
     },
 ];

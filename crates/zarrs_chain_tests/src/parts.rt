@@ -79,6 +79,48 @@ const CAPABLE: &'static [Capable] = &[
         writes: false,
     },
     Capable {
+        name: "a plain vlen behind an array codec",
+        codecs: r#"[{"name":"reshape","configuration":{"shape":[-1]}},{"name":"zarrs.vlen","configuration":{"index_codecs":[{"name":"bytes","configuration":{"endian":"big"}}],"data_codecs":[{"name":"bytes","configuration":{"endian":"big"}}],"index_data_type":"uint64","index_location":"end"}}]"#,
+        reads: true,
+        writes: false,
+    },
+    Capable {
+        name: "a plain vlen, and codecs of bytes",
+        codecs: r#"[{"name":"zarrs.vlen","configuration":{"index_codecs":[{"name":"bytes","configuration":{"endian":"little"}}],"data_codecs":["bytes"],"index_data_type":"uint32"}},"sample.length"]"#,
+        reads: false,
+        writes: false,
+    },
+    Capable {
+        name: "a vlen whose index has no byte order",
+        codecs: r#"[{"name":"zarrs.vlen","configuration":{"index_codecs":["bytes"],"data_codecs":["bytes"],"index_data_type":"uint32"}}]"#,
+        reads: false,
+        writes: false,
+    },
+    Capable {
+        name: "a vlen whose index is packed",
+        codecs: r#"[{"name":"zarrs.vlen","configuration":{"index_codecs":["packbits"],"data_codecs":["bytes"],"index_data_type":"uint32"}}]"#,
+        reads: false,
+        writes: false,
+    },
+    Capable {
+        name: "a vlen whose data are packed",
+        codecs: r#"[{"name":"zarrs.vlen","configuration":{"index_codecs":[{"name":"bytes","configuration":{"endian":"little"}}],"data_codecs":["packbits"],"index_data_type":"uint32"}}]"#,
+        reads: false,
+        writes: false,
+    },
+    Capable {
+        name: "a vlen whose index is moved",
+        codecs: r#"[{"name":"zarrs.vlen","configuration":{"index_codecs":[{"name":"reshape","configuration":{"shape":[-1]}},{"name":"bytes","configuration":{"endian":"little"}}],"data_codecs":["bytes"],"index_data_type":"uint32"}}]"#,
+        reads: false,
+        writes: false,
+    },
+    Capable {
+        name: "a vlen whose data are turned round",
+        codecs: r#"[{"name":"zarrs.vlen","configuration":{"index_codecs":[{"name":"bytes","configuration":{"endian":"little"}}],"data_codecs":["bytes","sample.reverse"],"index_data_type":"uint32"}}]"#,
+        reads: false,
+        writes: false,
+    },
+    Capable {
         name: "codecs of all three kinds",
         codecs: SHOWN,
         reads: false,

@@ -10,3 +10,4 @@ pub mod Counted
 pub mod WrittenAt
 pub mod ReencodeSteps
 pub mod ReencodeLaws
+pub mod PlainForms

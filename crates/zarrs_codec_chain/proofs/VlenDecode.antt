@@ -11,7 +11,7 @@ use Rattle.zarrs_chunk.specs.ChunkShape.{product}
 use Rattle.zarrs_chunk.specs.declared.codec_error.CodecError.{CodecError}
 use Rattle.zarrs_chunk.specs.declared.codec_error.CodecError.TheVariants.{InvalidBytesLength, InvalidOffsets, ArrayBytesKind, Overflow}
 use Rattle.zarrs_data_type.specs.Element.{plain, Chunk}
-use Rattle.zarrs_data_type.specs.ElementType.{ElementType, fixed, text, bytes, optional}
+use Rattle.zarrs_data_type.specs.ElementType.{ElementType, fixed, text, bytes, optional, is_variable}
 use Rattle.zarrs_data_type.specs.FillValue.{fill_fits}
 use Rattle.zarrs_array_bytes.specs.Elements.{cut, elements}
 use Rattle.zarrs_array_bytes.specs.Held.{Held, Raw, flen, vlen, masked}
@@ -31,7 +31,7 @@ use Rattle.zarrs_chain_parts.specs.ArrayStages.{arrays_map}
 use Rattle.zarrs_chain_parts.specs.BytesStages.{outer_bytes}
 use Rattle.zarrs_chain_parts.specs.Decode.{Decoder, part_chunk, offsets_in_chunk, slices, vlen_parts, codec_chunk, chain_chunk}
 use Rattle.zarrs_chain_parts.specs.Encode.{offset_bytes, all_bytes}
-use Rattle.zarrs_chain_parts.specs.Representation.{byte_type, offset_type, is_variable, vlen_representation, codec_representation}
+use Rattle.zarrs_chain_parts.specs.Representation.{byte_type, offset_type, vlen_representation, codec_representation}
 use Rattle.zarrs_codec_chain.specs.ChainView.{plain_chain, plain_vlen, plain_vlen_at}
 use Rattle.zarrs_chain_parts.specs.VlenSettings.{is_wide, is_at_end}
 use Rattle.zarrs_chain_parts.specs.VlenSteps.{data_part, read_offsets, index_offsets, content_bytes}

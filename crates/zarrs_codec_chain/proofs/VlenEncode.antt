@@ -13,7 +13,7 @@ use Rattle.zarrs_chunk.specs.declared.codec_error.CodecError.{CodecError}
 use Rattle.zarrs_chunk.specs.declared.codec_error.CodecError.TheVariants.{InvalidBytesLength, OffsetTooLarge, OffsetNotKept, InvalidFillValue, BitRange, Overflow, UnsupportedDataType}
 use Rattle.zarrs_chunk.specs.declared.codec_error.CodecName.TheVariants as names
 use Rattle.zarrs_data_type.specs.Element.{plain, Chunk}
-use Rattle.zarrs_data_type.specs.ElementType.{ElementType, fixed, text, bytes, optional, element_size}
+use Rattle.zarrs_data_type.specs.ElementType.{ElementType, fixed, text, bytes, optional, element_size, is_variable}
 use Rattle.zarrs_data_type.specs.FillValue.{fill_fits}
 use Rattle.zarrs_array_to_array.specs.ArrayToArrayCodec.{ArrayMapping, IsMapping}
 use Rattle.zarrs_array_bytes.specs.Elements.{cut, elements}
@@ -43,7 +43,7 @@ use Rattle.zarrs_chain_parts.specs.Decode.{slices}
 use Rattle.zarrs_chain_parts.specs.Encode.{Encoder, part_value, chunk_offsets, offset_bytes, offset_fits, offset_elements, byte_elements, all_bytes, vlen_layout, is_same_bytes, vlen_value, codec_value, chain_value}
 use Rattle.zarrs_chain_parts.specs.Laws.{IsChainOfMappings}
 use Rattle.zarrs_chain_parts.specs.NormalForm.{normal_element}
-use Rattle.zarrs_chain_parts.specs.Representation.{byte_type, offset_type, is_variable, vlen_representation, around_representation, codec_representation, chain_representation}
+use Rattle.zarrs_chain_parts.specs.Representation.{byte_type, offset_type, vlen_representation, around_representation, codec_representation, chain_representation}
 use Rattle.zarrs_codec_chain.specs.ChainView.{plain_vlen, plain_vlen_at}
 use Rattle.zarrs_codec_chain.specs.declared.vlen_codec.VlenCodec.{VlenCodec}
 use Rattle.zarrs_chain_parts.specs.VlenSteps.{from_first, offsets_fit, index_elements, keeps_offsets, TakesOffsets, index_part, content_part}

@@ -1,5 +1,5 @@
 -- Chains of codecs as the plain chains that contracts speak of.
-use Rattle.std.specs.Prelude.{◌≡◌, map}
+use Rattle.std.specs.Prelude.{◌≡◌, map, List}
 use Rattle.std.proofs.Common.{ap}
 use Rattle.std.specs.declared.alloc.Global.{Global}
 use Rattle.std.specs.declared.boxed.Box.{Box}
@@ -13,6 +13,7 @@ use Rattle.zarrs_codec_chain.specs.declared.array_to_bytes_codec.ArrayToBytesCod
 use Rattle.zarrs_codec_chain.specs.declared.codec_chain.CodecChain.{CodecChain}
 use Rattle.zarrs_codec_chain.specs.declared.optional_codec.OptionalCodec.{OptionalCodec, OptionalCodec', out-OptionalCodec, is-OptionalCodec', roll-OptionalCodec, rolls-OptionalCodec'}
 use Rattle.zarrs_codec_chain.specs.declared.vlen_codec.VlenCodec.{VlenCodec, VlenCodec', out-VlenCodec, is-VlenCodec', roll-VlenCodec, rolls-VlenCodec'}
+use Rattle.zarrs_array_to_array.specs.declared.array_to_array_codec.ArrayToArrayCodec.{ArrayToArrayCodec}
 
 unfoldable mutual
   pub plain_codec : {B : Type 0} → ArrayToBytesCodec B → PlainCodec B
@@ -58,3 +59,12 @@ pub plain_optional_made : {B : Type 0} (mask content : Box (CodecChain B) Global
 unfolding plain_optional plain_codec
 plain_optional_made mask content =
     ap (λ x. plain_optional x) (rolls-OptionalCodec' (record { mask_codecs = mask; data_codecs = content }))
+
+-- the chain of these codecs
+abbrev pub chain_of : {B : Type 0} → List ArrayToArrayCodec → ArrayToBytesCodec B → List B → PlainChain B
+chain_of arrays codec outer = record { arrays = map mapping_of arrays; codec = plain_codec codec; outer = outer }
+
+-- `vlen` with these chains inside and these settings
+abbrev pub vlen_of : {B : Type 0} → CodecChain B → CodecChain B → VlenIndexDataType → VlenIndexLocation → PlainCodec B
+vlen_of index content index_data_type index_location =
+    vlen_codec_of (plain_chain index) (plain_chain content) (is_wide index_data_type) (is_at_end index_location)

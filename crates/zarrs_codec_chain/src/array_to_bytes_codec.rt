@@ -1,3 +1,5 @@
+ghost use Rattle.zarrs_data_type.specs.Form.{form_of};
+ghost use Rattle.zarrs_chain_parts.specs.CallAnswers.{GivesCodecChunk, GivesCodecValue, GivesRepresentation, IsTaken};
 ghost use Rattle.zarrs_chunk.specs.Answer.{Gives, GivesBy};
 ghost use Rattle.zarrs_array_bytes.specs.Held.{items_of};
 ghost use Rattle.std.specs.Prelude.{◌≡◌, IsOk, false};
@@ -13,6 +15,7 @@ use crate::optional_codec::{
     OptionalCodec, optional_decode, optional_encode, optional_has_ranges, optional_is_sound,
     optional_representation,
 };
+use crate::plain_form::vlen_reads;
 use crate::vlen_codec::{
     VlenCodec, vlen_decode, vlen_encode, vlen_has_ranges, vlen_is_sound, vlen_representation,
 };
@@ -79,7 +82,8 @@ pub(crate) fn codec_representation<B: BytesToBytesCodecTraits>(
     data_type: &DataType,
     fill_value: &FillValue,
 ) -> Result<BytesRepresentation, CodecError>
-    ensures answer { Gives (λ representation. representation) result (codec_representation_of B.functions (plain_codec codec.now) shape.now data_type.now fill_value.now) }
+    ensures answer { GivesRepresentation B.functions (plain_codec codec.now)
+        (form_of shape.now data_type.now fill_value.now) result }
 {
     match codec {
         ArrayToBytesCodec::Bytes(codec) => {
@@ -106,7 +110,8 @@ pub(crate) fn codec_encode<'a, B: BytesToBytesCodecTraits>(
     data_type: &DataType,
     fill_value: &FillValue,
 ) -> Result<ArrayBytesRaw<'a>, CodecError>
-    ensures answer { Gives items_of result (codec_held_value B.functions (plain_codec codec.now) shape.now data_type.now fill_value.now elements.entry) }
+    ensures answer { GivesCodecValue B.functions (plain_codec codec.now)
+        (form_of shape.now data_type.now fill_value.now) elements.entry result }
 {
     match codec {
         ArrayToBytesCodec::Bytes(codec) => {
@@ -135,8 +140,10 @@ pub fn codec_decode<'a, B: BytesToBytesCodecTraits>(
     data_type: &DataType,
     fill_value: &FillValue,
 ) -> Result<ArrayBytes<'a>, CodecError>
-    requires taken { IsOk (codec_representation_of B.functions (plain_codec codec.now) shape.now data_type.now fill_value.now) }
-    ensures answer { GivesBy (Holds data_type.now) result (codec_chunk B.functions (plain_codec codec.now) shape.now data_type.now fill_value.now (items_of value.entry)) }
+    requires taken { IsTaken B.functions (plain_codec codec.now)
+        (form_of shape.now data_type.now fill_value.now) }
+    ensures answer { GivesCodecChunk B.functions (plain_codec codec.now)
+        (form_of shape.now data_type.now fill_value.now) (items_of value.entry) result }
 {
     match codec {
         ArrayToBytesCodec::Bytes(codec) => codec.decode(alloc, value, shape, data_type, fill_value),
@@ -152,8 +159,9 @@ pub fn codec_decode<'a, B: BytesToBytesCodecTraits>(
     }
 }
 
-/// What the codec reads in part.
-#[tactic(auto, unfolding(crate::specs::ChainView::plain_codec), using(crate::specs::ChainView::plain_vlen_at, crate::specs::ChainView::plain_optional_at))]
+/// What the codec reads in part: `bytes`, `packbits` and a plain `vlen` all, any other with chains
+/// inside nothing.
+#[tactic(auto, unfolding(crate::specs::ChainView::plain_codec), using(crate::specs::ChainView::plain_optional_at))]
 pub(crate) fn codec_reads<B>(codec: &ArrayToBytesCodec<B>) -> PartialDecoderCapability
     ensures value { result ≡ codec_reads_of (plain_codec codec.now) }
 {
@@ -163,7 +171,8 @@ pub(crate) fn codec_reads<B>(codec: &ArrayToBytesCodec<B>) -> PartialDecoderCapa
             partial_decode: true,
         },
         ArrayToBytesCodec::PackBits(codec) => codec.partial_decoder_capability(),
-        ArrayToBytesCodec::Vlen(_) | ArrayToBytesCodec::Optional(_) => PartialDecoderCapability {
+        ArrayToBytesCodec::Vlen(codec) => vlen_reads(codec),
+        ArrayToBytesCodec::Optional(_) => PartialDecoderCapability {
             partial_read: false,
             partial_decode: false,
         },

@@ -1,3 +1,4 @@
+ghost use Rattle.zarrs_chain_parts.specs.CallAnswers.{GivesChainRepresentation};
 ghost use Rattle.std.specs.Prelude.{◌≡◌, Ok, None, All, map};
 ghost use Rattle.std.specs.List.{list_all};
 ghost use Rattle.zarrs_chunk.specs.Answer.{Gives};
@@ -8,7 +9,7 @@ ghost use Rattle.zarrs_codec_chain.specs.ChainGrammar.{chain_grammar};
 ghost use Rattle.zarrs_array_to_array.specs.ArrayToArrayCodec.{IsMapping};
 ghost use Rattle.zarrs_array_to_array.specs.Mapping.{mapping_of};
 ghost use Rattle.zarrs_chain_parts.specs.Chain.{outer_reads as outer_reads_of};
-ghost use Rattle.zarrs_codec_chain.specs.ChainView.{plain_chain, plain_codec};
+ghost use Rattle.zarrs_codec_chain.specs.ChainView.{plain_chain, plain_codec, chain_of};
 ghost use Rattle.zarrs_chain_parts.specs.Laws.{IsChainOfMappings};
 ghost use Rattle.zarrs_chain_parts.specs.MadeAgain.{HasRanges};
 ghost use Rattle.zarrs_chain_parts.specs.Representation.{chain_representation as chain_representation_of};
@@ -47,7 +48,8 @@ impl<B> CodecChain<B> {
         array_to_bytes: ArrayToBytesCodec<B>,
         bytes_to_bytes: Vec<B>,
     ) -> CodecChain<B>
-        ensures made { plain_chain result ≡ record { arrays = map mapping_of array_to_array.items; codec = plain_codec array_to_bytes; outer = bytes_to_bytes.items } }
+        ensures made { plain_chain result ≡
+            chain_of array_to_array.items array_to_bytes bytes_to_bytes.items }
     {
         CodecChain {
             array_to_array,
@@ -119,7 +121,8 @@ impl<B: BytesToBytesCodecTraits> CodecChain<B> {
         data_type: &DataType,
         fill_value: &FillValue,
     ) -> Result<BytesRepresentation, CodecError>
-        ensures answer { Gives (λ representation. representation) result (chain_representation_of B.functions (plain_chain self.now) shape.now data_type.now fill_value.now) }
+        ensures answer { GivesChainRepresentation B.functions (plain_chain self.now)
+            (form_of shape.now data_type.now fill_value.now) result }
     {
         chain_representation(alloc, self, shape, data_type, fill_value)
     }
@@ -136,7 +139,8 @@ impl<B: BytesToBytesCodecTraits> CodecChain<B> {
         data_type: &DataType,
         fill_value: &FillValue,
     ) -> Result<ArrayBytesRaw<'a>, CodecError>
-        ensures encodes { Encodes (chain_grammar B.functions (plain_chain self.now)) (form_of shape.now data_type.now fill_value.now) elements.entry result }
+        ensures encodes { Encodes (chain_grammar B.functions (plain_chain self.now))
+            (form_of shape.now data_type.now fill_value.now) elements.entry result }
     {
         chain_is_sound(self);
         shape.as_slice();
@@ -157,7 +161,8 @@ impl<B: BytesToBytesCodecTraits> CodecChain<B> {
         data_type: &DataType,
         fill_value: &FillValue,
     ) -> Result<ArrayBytes<'a>, CodecError>
-        ensures decodes { Decodes (chain_grammar B.functions (plain_chain self.now)) (form_of shape.now data_type.now fill_value.now) (items_of value.entry) result }
+        ensures decodes { Decodes (chain_grammar B.functions (plain_chain self.now))
+            (form_of shape.now data_type.now fill_value.now) (items_of value.entry) result }
     {
         chain_is_sound(self);
         shape.as_slice();
@@ -187,7 +192,8 @@ fn outer_reads<B: BytesToBytesCodecTraits>(codecs: &[B]) -> PartialDecoderCapabi
 
 /// Whether all bytes codecs write in part.
 fn outer_writes<B: BytesToBytesCodecTraits>(codecs: &[B]) -> bool
-    ensures value { result ≡ list_all (λ codec. (B.writes_in_part codec).partial_encode) codecs.now }
+    ensures value { result ≡
+        list_all (λ codec. (B.writes_in_part codec).partial_encode) codecs.now }
 {
     match codecs {
         [] => true,

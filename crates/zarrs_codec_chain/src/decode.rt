@@ -1,4 +1,6 @@
 //! The chunk that a value stands for, through a chain.
+ghost use Rattle.zarrs_data_type.specs.Form.{form_of};
+ghost use Rattle.zarrs_chain_parts.specs.CallAnswers.{GivesChainChunk, GivesPartChunk};
 ghost use Rattle.zarrs_chunk.specs.Answer.{GivesBy};
 ghost use Rattle.zarrs_array_bytes.specs.Held.{items_of};
 ghost use Rattle.std.specs.Prelude.{◌≡◌, true};
@@ -29,7 +31,8 @@ pub(crate) fn chain_decode<'a, B: BytesToBytesCodecTraits>(
     data_type: &DataType,
     fill_value: &FillValue,
 ) -> Result<ArrayBytes<'a>, CodecError>
-    ensures exact { GivesBy (Holds data_type.now) result (chain_chunk B.functions (plain_chain chain.now) shape.now data_type.now fill_value.now (items_of value.entry)) }
+    ensures exact { GivesChainChunk B.functions (plain_chain chain.now)
+        (form_of shape.now data_type.now fill_value.now) (items_of value.entry) result }
 {
     let taken = taken_form(alloc, chain, shape, data_type, fill_value)?;
     let below = decode_bytes(alloc, &chain.bytes_to_bytes, &taken.representation, value)?;
@@ -63,7 +66,8 @@ pub(crate) fn part_decode<'a, B: BytesToBytesCodecTraits>(
     fill_value: &FillValue,
 ) -> Result<ArrayBytes<'a>, CodecError>
     requires fits { fill_fits data_type.now fill_value.now ≡ true }
-    ensures exact { GivesBy (Holds data_type.now) result (part_chunk (chain_chunk B.functions (plain_chain chain.now)) data_type.now fill_value.now count (items_of part.entry)) }
+    ensures exact { GivesPartChunk B.functions (plain_chain chain.now) count
+        data_type.now fill_value.now (items_of part.entry) result }
 {
     match row_of(alloc, count)? {
         Some(row) => chain_decode(alloc, chain, part, &row, data_type, fill_value),

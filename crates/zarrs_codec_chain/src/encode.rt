@@ -1,4 +1,6 @@
 //! The value of a chunk, through a chain.
+ghost use Rattle.zarrs_data_type.specs.Form.{form_of};
+ghost use Rattle.zarrs_chain_parts.specs.CallAnswers.{GivesChainValue, GivesPartValue};
 ghost use Rattle.zarrs_chunk.specs.Answer.{Gives, is_fault, checked_u64};
 ghost use Rattle.zarrs_array_bytes.specs.Held.{items_of};
 ghost use Rattle.std.specs.Prelude.{◌≡◌, Ok, false};
@@ -45,7 +47,8 @@ pub(crate) fn chain_encode<'a, B: BytesToBytesCodecTraits>(
     data_type: &DataType,
     fill_value: &FillValue,
 ) -> Result<ArrayBytesRaw<'a>, CodecError>
-    ensures exact { Gives items_of result (held_value B.functions (plain_chain chain.now) shape.now data_type.now fill_value.now elements.entry) }
+    ensures exact { GivesChainValue B.functions (plain_chain chain.now)
+        (form_of shape.now data_type.now fill_value.now) elements.entry result }
 {
     let taken = taken_form(alloc, chain, shape, data_type, fill_value)?;
     check_elements(&elements, shape, data_type)?;
@@ -79,7 +82,8 @@ pub(crate) fn part_encode<'a, B: BytesToBytesCodecTraits>(
     data_type: &DataType,
     fill_value: &FillValue,
 ) -> Result<ArrayBytesRaw<'a>, CodecError>
-    ensures exact { Gives items_of result (held_part B.functions (plain_chain chain.now) count data_type.now fill_value.now elements.entry) }
+    ensures exact { GivesPartValue B.functions (plain_chain chain.now) count
+        data_type.now fill_value.now elements.entry result }
 {
     match row_of(alloc, count)? {
         Some(row) => chain_encode(alloc, chain, elements, &row, data_type, fill_value),

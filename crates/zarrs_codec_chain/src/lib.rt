@@ -14,6 +14,7 @@ mod encode;
 pub mod laws;
 mod metadata;
 mod optional_codec;
+mod plain_form;
 pub mod reencode;
 mod representation;
 pub mod stages;

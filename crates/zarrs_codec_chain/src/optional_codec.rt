@@ -1,3 +1,4 @@
+ghost use Rattle.zarrs_chain_parts.specs.CallAnswers.{GivesCodecChunk, GivesCodecValue, GivesRepresentation, GivesTakenChunk, IsTaken, GivesPartValue};
 ghost use Rattle.zarrs_chunk.specs.Answer.{Gives, GivesBy, Answers, checked_u64};
 ghost use Rattle.zarrs_array_bytes.specs.Held.{items_of};
 ghost use Rattle.std.specs.Prelude.{◌≡◌, ◌+◌, ◌<◌, ◌^◌, [], ◌∷◌, length, Ok, IsOk};
@@ -6,7 +7,7 @@ ghost use Rattle.zarrs_data_type.specs.ElementType.{optional};
 ghost use Rattle.zarrs_array_bytes.specs.Elements.{elements as elements_of};
 ghost use Rattle.zarrs_array_bytes.specs.Validity.{Holds, sizes_fit, validity};
 ghost use Rattle.zarrs_metadata.specs.MetadataV3.{configuration_seen};
-ghost use Rattle.zarrs_metadata.specs.PluginCreateError.{plugin_memory};
+ghost use Rattle.zarrs_metadata.specs.PluginCreateError.{plugin_memory, Makes};
 ghost use Rattle.zarrs_chain_parts.specs.Chain.{codec_held_value, held_part, taken_chunk};
 ghost use Rattle.zarrs_data_type.specs.Form.{form_of};
 ghost use Rattle.zarrs_codec.specs.Grammar.{Encodes, Decodes};
@@ -16,7 +17,7 @@ ghost use Rattle.zarrs_chain_parts.specs.Decode.{codec_chunk, chain_chunk};
 ghost use Rattle.zarrs_chain_parts.specs.Encode.{byte_elements, chain_value, codec_value};
 ghost use Rattle.zarrs_chain_parts.specs.Laws.{HasMappings};
 ghost use Rattle.zarrs_chain_parts.specs.MadeAgain.{HasRanges};
-ghost use Rattle.zarrs_chain_parts.specs.OptionalParts.{optional_inner, present_part};
+ghost use Rattle.zarrs_chain_parts.specs.OptionalParts.{optional_inner, present_part, mask_part, mask_chunk, optional_content, GivesPresent};
 ghost use Rattle.zarrs_chain_parts.specs.PlainChain.{optional_codec_of};
 ghost use Rattle.zarrs_chain_parts.specs.Representation.{codec_representation, flag_type, blank_fill as blank_fill_of};
 ghost use Rattle.zarrs_chain_parts.specs.WrittenMetadata.{codec_configuration};
@@ -54,7 +55,8 @@ impl<B> OptionalCodec<B> {
     /// The codec with these chains for the mask and for the present elements.
     #[tactic(auto, using(crate::specs::ChainView::plain_optional_made))]
     pub fn new(mask_codecs: Box<CodecChain<B>>, data_codecs: Box<CodecChain<B>>) -> OptionalCodec<B>
-        ensures made { plain_optional result ≡ optional_codec_of (plain_chain mask_codecs.value) (plain_chain data_codecs.value) }
+        ensures made { plain_optional result ≡
+            optional_codec_of (plain_chain mask_codecs.value) (plain_chain data_codecs.value) }
     {
         OptionalCodec {
             mask_codecs,
@@ -90,7 +92,8 @@ pub(crate) fn optional_written<B: BytesToBytesCodecTraits>(
     alloc: Global,
     codec: &OptionalCodec<B>,
 ) -> Result<Configuration, PluginCreateError>
-    ensures answer { Answers plugin_memory configuration_seen result (Ok (codec_configuration B.described (plain_optional codec.now))) }
+    ensures answer { Makes configuration_seen result
+        (Ok (codec_configuration B.described (plain_optional codec.now))) }
 {
     let mask_codecs = chain_written(alloc, &codec.mask_codecs)?;
     let data_codecs = chain_written(alloc, &codec.data_codecs)?;
@@ -108,7 +111,8 @@ pub(crate) fn optional_representation<B: BytesToBytesCodecTraits>(
     data_type: &DataType,
     fill_value: &FillValue,
 ) -> Result<BytesRepresentation, CodecError>
-    ensures answer { Gives (λ representation. representation) result (codec_representation B.functions (plain_optional codec.now) shape.now data_type.now fill_value.now) }
+    ensures answer { GivesRepresentation B.functions (plain_optional codec.now)
+        (form_of shape.now data_type.now fill_value.now) result }
 {
     let inner = inner_type(data_type)?;
     if !fill_value.fits(data_type) {
@@ -134,7 +138,8 @@ fn mask_encode<'a, B: BytesToBytesCodecTraits>(
 ) -> Result<ArrayBytesRaw<'a>, CodecError>
     requires long { length (items_of mask) ≡ product shape.now }
     requires counted { checked_u64 (product shape.now) ≡ Ok (product shape.now) }
-    ensures answer { Gives items_of result (chain_value B.functions (plain_chain chain.now) shape.now flag_type (0 ∷ []) (byte_elements (items_of mask.entry))) }
+    ensures answer { Gives items_of result
+        (mask_part B.functions (plain_chain chain.now) shape.now (items_of mask.entry)) }
 {
     let flag = DataType::bool();
     let zero = blank_fill(alloc, &flag)?;
@@ -157,7 +162,8 @@ fn present_encode<'a, B: BytesToBytesCodecTraits>(
     count: u64,
     data_type: &DataType,
 ) -> Result<ArrayBytesRaw<'a>, CodecError>
-    ensures exact { Gives items_of result (held_part B.functions (plain_chain chain.now) count data_type.now (blank_fill_of data_type.now) present.entry) }
+    ensures exact { GivesPartValue B.functions (plain_chain chain.now) count
+        data_type.now (blank_fill_of data_type.now) present.entry result }
 {
     let blank = blank_fill(alloc, data_type)?;
     part_encode(alloc, chain, present, count, data_type, &blank)
@@ -176,7 +182,8 @@ fn content_encode<'a, B: BytesToBytesCodecTraits>(
 ) -> Result<ArrayBytesRaw<'a>, CodecError>
     requires valid { validity (optional inner.now) (product shape.now) elements ≡ Ok tt }
     requires counted { checked_u64 (product shape.now) ≡ Ok (product shape.now) }
-    ensures answer { Gives items_of result (codec_value B.functions (plain_optional codec.now) shape.now (optional inner.now) [] (elements_of (optional inner.now) (product shape.now) elements.entry)) }
+    ensures answer { Gives items_of result
+        (optional_content B.functions (plain_optional codec.now) shape.now inner.now elements.entry) }
 {
     let (inside, mask, count) = masked_parts(elements)?;
     let present = inside.extract_present(alloc, lent(&mask), inner)?;
@@ -196,7 +203,8 @@ pub(crate) fn optional_encode<'a, B: BytesToBytesCodecTraits>(
     data_type: &DataType,
     fill_value: &FillValue,
 ) -> Result<ArrayBytesRaw<'a>, CodecError>
-    ensures answer { Gives items_of result (codec_held_value B.functions (plain_optional codec.now) shape.now data_type.now fill_value.now elements.entry) }
+    ensures answer { GivesCodecValue B.functions (plain_optional codec.now)
+        (form_of shape.now data_type.now fill_value.now) elements.entry result }
 {
     let inner = inner_type(data_type)?;
     optional_representation(alloc, codec, shape, data_type, fill_value)?;
@@ -213,7 +221,8 @@ fn mask_decode<'a, B: BytesToBytesCodecTraits>(
     part: ArrayBytesRaw<'a>,
     shape: &ChunkShape,
 ) -> Result<ArrayBytesRaw<'a>, CodecError>
-    ensures answer { Gives (λ mask. byte_elements (items_of mask)) result (chain_chunk B.functions (plain_chain chain.now) shape.now flag_type (0 ∷ []) (items_of part.entry)) }
+    ensures answer { Gives (λ mask. byte_elements (items_of mask)) result
+        (mask_chunk B.functions (plain_chain chain.now) shape.now (items_of part.entry)) }
 {
     let flag = DataType::bool();
     let zero = blank_fill(alloc, &flag)?;
@@ -232,8 +241,10 @@ fn present_decode<'a, B: BytesToBytesCodecTraits>(
     part: ArrayBytesRaw<'a>,
     data_type: &DataType,
 ) -> Result<ArrayBytes<'a>, CodecError>
-    requires room { length (items_of mask) + 1 < 2 ^ 64 → sizes_fit data_type.now (length (items_of mask)) ≡ Ok tt }
-    ensures answer { GivesBy (Holds (optional data_type.now)) result (present_part (chain_chunk B.functions (plain_chain chain.now)) data_type.now (byte_elements (items_of mask.entry)) (items_of part.entry)) }
+    requires room { length (items_of mask) + 1 < 2 ^ 64 →
+        sizes_fit data_type.now (length (items_of mask)) ≡ Ok tt }
+    ensures answer { GivesPresent B.functions (plain_chain chain.now) data_type.now
+        (items_of mask.entry) (items_of part.entry) result }
 {
     let count = count_present(lent(&mask))?;
     let blank = blank_fill(alloc, data_type)?;
@@ -251,10 +262,12 @@ fn has_room<B: BytesToBytesCodecTraits>(
     inner: &DataType,
     mask: &ArrayBytesRaw<'_>,
 )
-    requires taken { IsOk (codec_representation B.functions (plain_optional codec.now) shape.now data_type.now fill_value.now) }
+    requires taken { IsTaken B.functions (plain_optional codec.now)
+        (form_of shape.now data_type.now fill_value.now) }
     requires inside { optional_inner data_type.now ≡ Ok inner.now }
     requires long { length (items_of mask.now) ≡ product shape.now }
-    ensures room { length (items_of mask.now) + 1 < 2 ^ 64 → sizes_fit inner.now (length (items_of mask.now)) ≡ Ok tt }
+    ensures room { length (items_of mask.now) + 1 < 2 ^ 64 →
+        sizes_fit inner.now (length (items_of mask.now)) ≡ Ok tt }
 {
     optional_is_sound(codec);
     shape.as_slice();
@@ -271,8 +284,10 @@ pub(crate) fn optional_decode<'a, B: BytesToBytesCodecTraits>(
     data_type: &DataType,
     fill_value: &FillValue,
 ) -> Result<ArrayBytes<'a>, CodecError>
-    requires taken { IsOk (codec_representation B.functions (plain_optional codec.now) shape.now data_type.now fill_value.now) }
-    ensures answer { GivesBy (Holds data_type.now) result (codec_chunk B.functions (plain_optional codec.now) shape.now data_type.now fill_value.now (items_of value.entry)) }
+    requires taken { IsTaken B.functions (plain_optional codec.now)
+        (form_of shape.now data_type.now fill_value.now) }
+    ensures answer { GivesCodecChunk B.functions (plain_optional codec.now)
+        (form_of shape.now data_type.now fill_value.now) (items_of value.entry) result }
 {
     let inner = inner_type(data_type)?;
     let (mask_part, data_part) = split_value(alloc, value)?;
@@ -291,7 +306,8 @@ fn optional_taken_decode<'a, B: BytesToBytesCodecTraits>(
     data_type: &DataType,
     fill_value: &FillValue,
 ) -> Result<ArrayBytes<'a>, CodecError>
-    ensures exact { GivesBy (Holds data_type.now) result (taken_chunk B.functions (plain_optional codec.now) shape.now data_type.now fill_value.now (items_of value.entry)) }
+    ensures exact { GivesTakenChunk B.functions (plain_optional codec.now)
+        (form_of shape.now data_type.now fill_value.now) (items_of value.entry) result }
 {
     optional_representation(alloc, codec, shape, data_type, fill_value)?;
     optional_decode(alloc, codec, value, shape, data_type, fill_value)
@@ -310,7 +326,8 @@ impl<B: BytesToBytesCodecTraits> OptionalCodec<B> {
         data_type: &DataType,
         fill_value: &FillValue,
     ) -> Result<BytesRepresentation, CodecError>
-        ensures answer { Gives (λ representation. representation) result (codec_representation B.functions (plain_optional self.now) shape.now data_type.now fill_value.now) }
+        ensures answer { GivesRepresentation B.functions (plain_optional self.now)
+            (form_of shape.now data_type.now fill_value.now) result }
     {
         optional_representation(alloc, self, shape, data_type, fill_value)
     }
@@ -326,7 +343,8 @@ impl<B: BytesToBytesCodecTraits> OptionalCodec<B> {
         data_type: &DataType,
         fill_value: &FillValue,
     ) -> Result<ArrayBytesRaw<'a>, CodecError>
-        ensures encodes { Encodes (codec_grammar B.functions (plain_optional self.now)) (form_of shape.now data_type.now fill_value.now) elements.entry result }
+        ensures encodes { Encodes (codec_grammar B.functions (plain_optional self.now))
+            (form_of shape.now data_type.now fill_value.now) elements.entry result }
     {
         optional_is_sound(self);
         shape.as_slice();
@@ -345,7 +363,8 @@ impl<B: BytesToBytesCodecTraits> OptionalCodec<B> {
         data_type: &DataType,
         fill_value: &FillValue,
     ) -> Result<ArrayBytes<'a>, CodecError>
-        ensures decodes { Decodes (codec_grammar B.functions (plain_optional self.now)) (form_of shape.now data_type.now fill_value.now) (items_of value.entry) result }
+        ensures decodes { Decodes (codec_grammar B.functions (plain_optional self.now))
+            (form_of shape.now data_type.now fill_value.now) (items_of value.entry) result }
     {
         optional_is_sound(self);
         shape.as_slice();

@@ -40,7 +40,8 @@ pub fn reencode<B: BytesToBytesCodecTraits, C: BytesToBytesCodecTraits>(
     data_type: &DataType,
     fill_value: &FillValue,
 ) -> Result<Vec<u8>, CodecError>
-    ensures reencodes { Reencodes B.functions (plain_chain from.now) C.functions (plain_chain to.now)
+    ensures reencodes { Reencodes
+        B.functions (plain_chain from.now) C.functions (plain_chain to.now)
         (form_of shape.now data_type.now fill_value.now) value.now result }
 {
     chain_is_sound(from);

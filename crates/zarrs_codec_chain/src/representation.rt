@@ -1,4 +1,6 @@
 //! How many bytes the value of a chunk has, through a chain.
+ghost use Rattle.zarrs_data_type.specs.Form.{form_of};
+ghost use Rattle.zarrs_chain_parts.specs.CallAnswers.{GivesChainRepresentation};
 ghost use Rattle.zarrs_chunk.specs.Answer.{Gives, checked_u64};
 ghost use Rattle.std.specs.Prelude.{◌≡◌, IfOk, Ok};
 ghost use Rattle.zarrs_chunk.specs.ChunkShape.{product};
@@ -33,8 +35,10 @@ pub(crate) fn taken_form<B: BytesToBytesCodecTraits>(
     data_type: &DataType,
     fill_value: &FillValue,
 ) -> Result<TakenForm, CodecError>
-    ensures answer { Gives (λ taken. (taken.shape, taken.representation)) result (taken_form_of B.functions (plain_chain chain.now) shape.now data_type.now fill_value.now) }
-    ensures map { IfOk result (λ _. IsMapWhere data_type.now (plain_chain chain.now).arrays shape.now) }
+    ensures answer { Gives (λ taken. (taken.shape, taken.representation)) result
+        (taken_form_of B.functions (plain_chain chain.now) shape.now data_type.now fill_value.now) }
+    ensures map { IfOk result
+        (λ _. IsMapWhere data_type.now (plain_chain chain.now).arrays shape.now) }
     ensures counted { IfOk result (λ _. checked_u64 (product shape.now) ≡ Ok (product shape.now)) }
 {
     let encoded = shape_through(alloc, &chain.array_to_array, shape, data_type)?;
@@ -61,7 +65,8 @@ pub(crate) fn chain_representation<B: BytesToBytesCodecTraits>(
     data_type: &DataType,
     fill_value: &FillValue,
 ) -> Result<BytesRepresentation, CodecError>
-    ensures answer { Gives (λ representation. representation) result (chain_representation_of B.functions (plain_chain chain.now) shape.now data_type.now fill_value.now) }
+    ensures answer { GivesChainRepresentation B.functions (plain_chain chain.now)
+        (form_of shape.now data_type.now fill_value.now) result }
 {
     let taken = taken_form(alloc, chain, shape, data_type, fill_value)?;
     Ok(outer_representation(&chain.bytes_to_bytes, taken.representation))

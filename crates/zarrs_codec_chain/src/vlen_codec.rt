@@ -1,22 +1,24 @@
+ghost use Rattle.zarrs_chain_parts.specs.CallAnswers.{GivesCodecChunk, GivesCodecValue, GivesRepresentation, GivesTakenChunk, IsTaken, codec_represented};
 ghost use Rattle.zarrs_chunk.specs.Answer.{Gives, GivesBy, Answers, memory, is_fault, checked_u64};
 ghost use Rattle.zarrs_array_bytes.specs.Held.{items_of};
-ghost use Rattle.std.specs.Prelude.{◌≡◌, ◌<◌, ◌+◌, [], Ok, IfOk, IsOk, false, length, true};
+ghost use Rattle.std.specs.Prelude.{◌≡◌, ◌<◌, ◌+◌, [], Ok, IfOk, IsOk, false, length, option_map, true};
 ghost use Rattle.zarrs_chunk.specs.ChunkShape.{product};
 ghost use Rattle.zarrs_array_bytes.specs.Offsets.{is_offsets, last_of};
 ghost use Rattle.zarrs_array_bytes.specs.Validity.{Holds};
 ghost use Rattle.zarrs_metadata.specs.MetadataV3.{configuration_seen};
-ghost use Rattle.zarrs_metadata.specs.PluginCreateError.{plugin_memory};
+ghost use Rattle.zarrs_metadata.specs.PluginCreateError.{plugin_memory, Makes};
 ghost use Rattle.zarrs_chain_parts.specs.Chain.{codec_held_value, taken_chunk};
 ghost use Rattle.zarrs_data_type.specs.Form.{form_of};
 ghost use Rattle.zarrs_codec.specs.Grammar.{Encodes, Decodes};
 ghost use Rattle.zarrs_codec_chain.specs.ChainGrammar.{codec_grammar};
-ghost use Rattle.zarrs_codec_chain.specs.ChainView.{plain_chain, plain_vlen};
+ghost use Rattle.zarrs_codec_chain.specs.ChainView.{plain_chain, plain_vlen, vlen_of};
 ghost use Rattle.zarrs_chain_parts.specs.VlenSettings.{is_wide, is_at_end};
 ghost use Rattle.zarrs_chain_parts.specs.Decode.{codec_chunk};
 ghost use Rattle.zarrs_codec_chain.specs.DefaultVlen.{bytes_chain, default_vlen};
 ghost use Rattle.zarrs_chain_parts.specs.Laws.{HasMappings};
 ghost use Rattle.zarrs_chain_parts.specs.MadeAgain.{HasRanges};
 ghost use Rattle.zarrs_chain_parts.specs.PlainChain.{vlen_codec_of, with_location};
+ghost use Rattle.zarrs_chain_parts.specs.PlainVlen.{plain_form, plain_form_of};
 ghost use Rattle.zarrs_chain_parts.specs.Representation.{codec_representation, vlen_representation as vlen_representation_of};
 ghost use Rattle.zarrs_chain_parts.specs.VlenSteps.{index_part, content_part, index_offsets, content_bytes};
 ghost use Rattle.zarrs_chain_parts.specs.WrittenMetadata.{codec_configuration};
@@ -26,12 +28,14 @@ use crate::codec_chain::{CodecChain, chain_has_ranges, chain_is_sound};
 use crate::decode::part_decode;
 use crate::encode::{check_elements, part_encode};
 use crate::metadata::write_chain::chain_written;
+use crate::plain_form::{form_of_parts, lone_bytes};
 use crate::vlen_kept::check_kept;
 use std::alloc::Global;
 use std::borrow::CowSlice;
 use zarrs_array_bytes::{ArrayBytes, ArrayBytesOffsets, ArrayBytesRaw};
 use zarrs_bytes::BytesCodec;
 use zarrs_chain_parts::configurations::vlen_members;
+use zarrs_chain_parts::plain_vlen::PlainVlen;
 use zarrs_chain_parts::vlen_offsets::{index_elements, offset_fill, offset_numbers, offset_type};
 use zarrs_chain_parts::vlen_parts::{behind, data_part, join, split, variable_parts};
 use zarrs_chunk::{ChunkShape, CodecError, CodecName};
@@ -64,7 +68,8 @@ impl<B> VlenCodec<B> {
         index_data_type: VlenIndexDataType,
         index_location: VlenIndexLocation,
     ) -> VlenCodec<B>
-        ensures made { plain_vlen result ≡ vlen_codec_of (plain_chain index_codecs.value) (plain_chain data_codecs.value) (is_wide index_data_type) (is_at_end index_location) }
+        ensures made { plain_vlen result ≡
+            vlen_of index_codecs.value data_codecs.value index_data_type index_location }
     {
         VlenCodec {
             index_codecs,
@@ -77,7 +82,8 @@ impl<B> VlenCodec<B> {
     /// The same codec, with the index at this place.
     #[tactic(auto, using(crate::specs::ChainView::plain_vlen_at, crate::specs::ChainView::plain_vlen_made))]
     pub fn with_index_location(self, index_location: VlenIndexLocation) -> VlenCodec<B>
-        ensures made { plain_vlen result ≡ with_location (is_at_end index_location) (plain_vlen self) }
+        ensures made { plain_vlen result ≡
+            with_location (is_at_end index_location) (plain_vlen self) }
     {
         let VlenCodec {
             index_codecs,
@@ -87,12 +93,27 @@ impl<B> VlenCodec<B> {
         } = self;
         VlenCodec::new(index_codecs, data_codecs, index_data_type, index_location)
     }
+
+    /// What a read in part goes by where the codec is plain: its index chain is `bytes` with a byte
+    /// order, and its data chain is `bytes`, both alone. `None` where it isn't.
+    #[tactic(auto, using(crate::specs::ChainView::plain_vlen_at))]
+    pub fn plain_form(&self) -> Option<PlainVlen>
+        ensures form { option_map plain_form result ≡ plain_form_of (plain_vlen self.now) }
+    {
+        form_of_parts(
+            lone_bytes(&self.index_codecs),
+            lone_bytes(&self.data_codecs),
+            self.index_data_type,
+            self.index_location,
+        )
+    }
 }
 
 /// The codec `bytes` alone, in a box. Refusals: `OutOfMemory`.
 #[tactic(auto, unfolding(crate::specs::ChainView::plain_codec))]
 fn boxed_bytes<B: Drop>(alloc: Global, codec: BytesCodec) -> Result<Box<CodecChain<B>>, CodecError>
-    ensures made { Answers memory (λ chain. plain_chain chain.value) result (Ok (bytes_chain codec)) }
+    ensures made { Answers memory (λ chain. plain_chain chain.value) result
+        (Ok (bytes_chain codec)) }
 {
     let codec = ArrayToBytesCodec::Bytes(codec);
     let chain = CodecChain::new(Vec::new(alloc), codec, Vec::new(alloc));
@@ -144,7 +165,8 @@ pub(crate) fn vlen_written<B: BytesToBytesCodecTraits>(
     alloc: Global,
     codec: &VlenCodec<B>,
 ) -> Result<Configuration, PluginCreateError>
-    ensures answer { Answers plugin_memory configuration_seen result (Ok (codec_configuration B.described (plain_vlen codec.now))) }
+    ensures answer { Makes configuration_seen result
+        (Ok (codec_configuration B.described (plain_vlen codec.now))) }
 {
     let index_codecs = chain_written(alloc, &codec.index_codecs)?;
     let data_codecs = chain_written(alloc, &codec.data_codecs)?;
@@ -183,7 +205,8 @@ fn index_encode<'a, B: BytesToBytesCodecTraits>(
     data_type: VlenIndexDataType,
 ) -> Result<ArrayBytesRaw<'a>, CodecError>
     requires rising { is_offsets offsets.now ≡ true }
-    ensures answer { Gives items_of result (index_part B.functions (plain_chain chain.now) (is_wide data_type) offsets.now) }
+    ensures answer { Gives items_of result
+        (index_part B.functions (plain_chain chain.now) (is_wide data_type) offsets.now) }
 {
     chain_is_sound(chain);
     let rows = index_elements(alloc, offsets, data_type)?;
@@ -208,7 +231,8 @@ fn content_encode<'a, B: BytesToBytesCodecTraits>(
     chain: &CodecChain<B>,
     bytes: ArrayBytesRaw<'a>,
 ) -> Result<ArrayBytesRaw<'a>, CodecError>
-    ensures answer { Gives items_of result (content_part B.functions (plain_chain chain.now) (items_of bytes.entry)) }
+    ensures answer { Gives items_of result
+        (content_part B.functions (plain_chain chain.now) (items_of bytes.entry)) }
 {
     let fill_value = FillValue::new_optional_null(alloc)?;
     let count = bytes.len() as u64;
@@ -234,7 +258,8 @@ pub(crate) fn vlen_encode<'a, B: BytesToBytesCodecTraits>(
     data_type: &DataType,
     fill_value: &FillValue,
 ) -> Result<ArrayBytesRaw<'a>, CodecError>
-    ensures answer { Gives items_of result (codec_held_value B.functions (plain_vlen codec.now) shape.now data_type.now fill_value.now elements.entry) }
+    ensures answer { GivesCodecValue B.functions (plain_vlen codec.now)
+        (form_of shape.now data_type.now fill_value.now) elements.entry result }
 {
     vlen_representation(shape, data_type)?;
     check_elements(&elements, shape, data_type)?;
@@ -263,7 +288,8 @@ fn index_decode<B: BytesToBytesCodecTraits>(
     data_type: VlenIndexDataType,
 ) -> Result<ArrayBytesOffsets, CodecError>
     requires some { 0 < count }
-    ensures answer { Gives (λ offsets. offsets) result (index_offsets B.functions (plain_chain chain.now) (is_wide data_type) count part.now) }
+    ensures answer { Gives (λ offsets. offsets) result
+        (index_offsets B.functions (plain_chain chain.now) (is_wide data_type) count part.now) }
 {
     let fill_value = offset_fill(alloc, data_type)?;
     let part = CowSlice::Borrowed(part);
@@ -287,7 +313,8 @@ fn content_decode<'a, B: BytesToBytesCodecTraits>(
     part: ArrayBytesRaw<'a>,
     count: u64,
 ) -> Result<ArrayBytesRaw<'a>, CodecError>
-    ensures answer { Gives items_of result (content_bytes B.functions (plain_chain chain.now) count (items_of part.entry)) }
+    ensures answer { Gives items_of result
+        (content_bytes B.functions (plain_chain chain.now) count (items_of part.entry)) }
     ensures long { IfOk result (λ bytes. length (items_of bytes) ≡ count) }
 {
     let fill_value = FillValue::new_optional_null(alloc)?;
@@ -306,8 +333,10 @@ pub fn vlen_decode<'a, B: BytesToBytesCodecTraits>(
     data_type: &DataType,
     fill_value: &FillValue,
 ) -> Result<ArrayBytes<'a>, CodecError>
-    requires taken { IsOk (codec_representation B.functions (plain_vlen codec.now) shape.now data_type.now fill_value.now) }
-    ensures answer { GivesBy (Holds data_type.now) result (codec_chunk B.functions (plain_vlen codec.now) shape.now data_type.now fill_value.now (items_of value.entry)) }
+    requires taken { IsTaken B.functions (plain_vlen codec.now)
+        (form_of shape.now data_type.now fill_value.now) }
+    ensures answer { GivesCodecChunk B.functions (plain_vlen codec.now)
+        (form_of shape.now data_type.now fill_value.now) (items_of value.entry) result }
 {
     let (index, _) = split(value.as_slice(), codec.index_location)?;
     let size = index.len();
@@ -351,8 +380,10 @@ fn vlen_measure<B: BytesToBytesCodecTraits>(
     data_type: &DataType,
     fill_value: &FillValue,
 ) -> Result<BytesRepresentation, CodecError>
-    ensures answer { Gives (λ representation. representation) result (codec_representation B.functions (plain_vlen codec.now) shape.now data_type.now fill_value.now) }
-    ensures in_place { result ≡ codec_representation B.functions (plain_vlen codec.now) shape.now data_type.now fill_value.now }
+    ensures answer { GivesRepresentation B.functions (plain_vlen codec.now)
+        (form_of shape.now data_type.now fill_value.now) result }
+    ensures in_place { result ≡ codec_represented B.functions (plain_vlen codec.now)
+        (form_of shape.now data_type.now fill_value.now) }
 {
     vlen_representation(shape, data_type)
 }
@@ -367,7 +398,8 @@ fn vlen_taken_decode<'a, B: BytesToBytesCodecTraits>(
     data_type: &DataType,
     fill_value: &FillValue,
 ) -> Result<ArrayBytes<'a>, CodecError>
-    ensures exact { GivesBy (Holds data_type.now) result (taken_chunk B.functions (plain_vlen codec.now) shape.now data_type.now fill_value.now (items_of value.entry)) }
+    ensures exact { GivesTakenChunk B.functions (plain_vlen codec.now)
+        (form_of shape.now data_type.now fill_value.now) (items_of value.entry) result }
 {
     vlen_measure(codec, shape, data_type, fill_value)?;
     vlen_decode(alloc, codec, value, shape, data_type, fill_value)
@@ -383,8 +415,10 @@ impl<B: BytesToBytesCodecTraits> VlenCodec<B> {
         data_type: &DataType,
         fill_value: &FillValue,
     ) -> Result<BytesRepresentation, CodecError>
-        ensures answer { Gives (λ representation. representation) result (codec_representation B.functions (plain_vlen self.now) shape.now data_type.now fill_value.now) }
-        ensures in_place { result ≡ codec_representation B.functions (plain_vlen self.now) shape.now data_type.now fill_value.now }
+        ensures answer { GivesRepresentation B.functions (plain_vlen self.now)
+            (form_of shape.now data_type.now fill_value.now) result }
+        ensures in_place { result ≡ codec_represented B.functions (plain_vlen self.now)
+            (form_of shape.now data_type.now fill_value.now) }
     {
         vlen_measure(self, shape, data_type, fill_value)
     }
@@ -402,7 +436,8 @@ impl<B: BytesToBytesCodecTraits> VlenCodec<B> {
         data_type: &DataType,
         fill_value: &FillValue,
     ) -> Result<ArrayBytesRaw<'a>, CodecError>
-        ensures encodes { Encodes (codec_grammar B.functions (plain_vlen self.now)) (form_of shape.now data_type.now fill_value.now) elements.entry result }
+        ensures encodes { Encodes (codec_grammar B.functions (plain_vlen self.now))
+            (form_of shape.now data_type.now fill_value.now) elements.entry result }
     {
         vlen_is_sound(self);
         shape.as_slice();
@@ -422,7 +457,8 @@ impl<B: BytesToBytesCodecTraits> VlenCodec<B> {
         data_type: &DataType,
         fill_value: &FillValue,
     ) -> Result<ArrayBytes<'a>, CodecError>
-        ensures decodes { Decodes (codec_grammar B.functions (plain_vlen self.now)) (form_of shape.now data_type.now fill_value.now) (items_of value.entry) result }
+        ensures decodes { Decodes (codec_grammar B.functions (plain_vlen self.now))
+            (form_of shape.now data_type.now fill_value.now) (items_of value.entry) result }
     {
         vlen_is_sound(self);
         shape.as_slice();

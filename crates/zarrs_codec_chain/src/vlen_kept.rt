@@ -16,7 +16,7 @@ ghost use Rattle.zarrs_chain_parts.specs.VlenSettings.{is_wide};
 ghost use Rattle.zarrs_chain_parts.specs.Encode.{is_same_bytes, offset_bytes};
 ghost use Rattle.zarrs_chain_parts.specs.PlainChain.{packbits_codec};
 ghost use Rattle.zarrs_chain_parts.specs.Representation.{offset_type as offset_type_of};
-ghost use Rattle.zarrs_chain_parts.specs.VlenSteps.{keeps_offsets, lent_bytes, offsets_fit, TakesOffsets};
+ghost use Rattle.zarrs_chain_parts.specs.VlenSteps.{keeps_offsets, lent_bytes, offsets_fit, TakesOffsets, IsPackable, offsets_form, TellsKept, offsets_kept};
 ghost use Rattle.zarrs_packbits.specs.NormalForm.{normal_chunk};
 ghost use Rattle.zarrs_packbits.specs.PackBitsSettings.{packed_layout};
 
@@ -40,8 +40,8 @@ fn keeps_items(
     data_type: &DataType,
     fill_value: &FillValue,
 ) -> Result<bool, CodecError>
-    requires taken { IsOk (packed_layout codec.now (form_of shape.now data_type.now fill_value.now)) }
-    ensures answer { (chunk : Chunk) → Holds data_type.now (flen (lent_bytes items.now)) chunk → length chunk ≡ product shape.now → Answers memory (λ kept. kept) result (Ok (is_same_bytes (normal_chunk codec.now data_type.now chunk) chunk)) }
+    requires taken { IsPackable codec.now (form_of shape.now data_type.now fill_value.now) }
+    ensures answer { TellsKept codec.now shape.now data_type.now items.now result }
     ensures no_fault { is_fault result ≡ false }
 {
     let elements = ArrayBytes::new_flen(CowSlice::Borrowed(items));
@@ -53,7 +53,8 @@ fn keeps_items(
 /// Whether the bytes of elements of one size are these. Refusals: `ArrayBytesKind` for any other
 /// elements.
 fn holds_items(elements: &ArrayBytes<'_>, items: &[u8]) -> Result<bool, CodecError>
-    ensures answer { result ≡ seen (λ raw. pointwise nat_eq raw.items items.now) (fixed_part elements.now) }
+    ensures answer { result ≡
+        seen (λ raw. pointwise nat_eq raw.items items.now) (fixed_part elements.now) }
 {
     Ok(elements.as_fixed()? == items)
 }
@@ -67,8 +68,9 @@ fn packs_offsets(
 ) -> Result<bool, CodecError>
     requires rising { is_offsets offsets.now ≡ true }
     requires fits { offsets_fit (is_wide data_type) offsets.now ≡ true }
-    requires taken { IsOk (packed_layout codec.now (form_of (length offsets.now ∷ []) (offset_type_of (is_wide data_type)) (offset_bytes (is_wide data_type) 0))) }
-    ensures answer { Gives (λ kept. kept) result (Ok (keeps_offsets {B = ℕ} (packbits_codec codec.now) (is_wide data_type) offsets.now)) }
+    requires taken { IsPackable codec.now (offsets_form (is_wide data_type) (length offsets.now)) }
+    ensures answer { Gives (λ kept. kept) result
+        (Ok (keeps_offsets {B = ℕ} (packbits_codec codec.now) (is_wide data_type) offsets.now)) }
 {
     let items = offset_items(alloc, offsets, data_type)?;
     let fill_value = offset_fill(alloc, data_type)?;
@@ -97,7 +99,8 @@ fn is_kept<B>(
     requires rising { is_offsets offsets.now ≡ true }
     requires fits { offsets_fit (is_wide data_type) offsets.now ≡ true }
     requires taken { TakesOffsets (plain_codec codec.now) (is_wide data_type) (length offsets.now) }
-    ensures answer { Gives (λ kept. kept) result (Ok (keeps_offsets (plain_codec codec.now) (is_wide data_type) offsets.now)) }
+    ensures answer { Gives (λ kept. kept) result
+        (Ok (keeps_offsets (plain_codec codec.now) (is_wide data_type) offsets.now)) }
 {
     match codec {
         ArrayToBytesCodec::Bytes(_) => Ok(true),
@@ -118,7 +121,8 @@ pub(crate) fn check_kept<B>(
     requires rising { is_offsets offsets.now ≡ true }
     requires fits { offsets_fit (is_wide data_type) offsets.now ≡ true }
     requires taken { TakesOffsets (plain_codec codec.now) (is_wide data_type) (length offsets.now) }
-    ensures answer { Gives (λ done. done) result (demand (keeps_offsets (plain_codec codec.now) (is_wide data_type) offsets.now) OffsetNotKept) }
+    ensures answer { Gives (λ done. done) result
+        (offsets_kept (plain_codec codec.now) (is_wide data_type) offsets.now) }
 {
     if is_kept(alloc, codec, offsets, data_type)? {
         Ok(())

@@ -1,7 +1,7 @@
 //! Codecs that were made, and what they make together.
 ghost use Rattle.std.specs.Prelude.{◌≡◌};
 ghost use Rattle.zarrs_chunk.specs.Answer.{Answers, seen};
-ghost use Rattle.zarrs_metadata.specs.PluginCreateError.{plugin_memory};
+ghost use Rattle.zarrs_metadata.specs.PluginCreateError.{plugin_memory, Makes};
 ghost use Rattle.zarrs_codec_chain.specs.ChainParts.{made_seen, parts_seen};
 ghost use Rattle.zarrs_codec_chain.specs.ChainView.{plain_chain};
 ghost use Rattle.zarrs_chain_parts.specs.MadeChain.{nothing_gathered, with_codec, finished};
@@ -46,7 +46,8 @@ impl<B: Drop> ChainParts<B> {
     /// The codec joins those of its kind, behind them. Refusals: `MultipleArrayToBytes` for a second
     /// one of chunks to bytes; `OutOfMemory`.
     pub(crate) fn add(&mut self, codec: MadeCodec<B>) -> Result<(), PluginCreateError>
-        ensures answer { Answers plugin_memory (λ _. parts_seen self.new) result (with_codec (made_seen codec) (parts_seen self.old)) }
+        ensures answer { Makes (λ _. parts_seen self.new) result
+            (with_codec (made_seen codec) (parts_seen self.old)) }
     {
         match codec {
             MadeCodec::Array(codec) => Ok(self.array_to_array.push(codec)?),
@@ -56,7 +57,8 @@ impl<B: Drop> ChainParts<B> {
     }
 
     fn add_to_bytes(&mut self, codec: ArrayToBytesCodec<B>) -> Result<(), PluginCreateError>
-        ensures answer { seen (λ _. parts_seen self.new) result ≡ with_codec (made_seen (MadeCodec.ToBytes codec)) (parts_seen self.old) }
+        ensures answer { seen (λ _. parts_seen self.new) result ≡
+            with_codec (made_seen (MadeCodec.ToBytes codec)) (parts_seen self.old) }
     {
         if self.array_to_bytes.is_some() {
             return Err(PluginCreateError::MultipleArrayToBytes);

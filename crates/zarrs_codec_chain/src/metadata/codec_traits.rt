@@ -3,9 +3,9 @@ ghost use Rattle.std.specs.Prelude.{◌≡◌, Option, Result, Ok, IfOk, map};
 ghost use Rattle.zarrs_chunk.specs.Answer.{Answers};
 ghost use Rattle.zarrs_metadata.specs.Metadata.{Metadata};
 ghost use Rattle.zarrs_metadata.specs.MetadataV3.{metadata_seen};
-ghost use Rattle.zarrs_metadata.specs.PluginCreateError.{plugin_memory};
+ghost use Rattle.zarrs_metadata.specs.PluginCreateError.{plugin_memory, Makes};
 ghost use Rattle.zarrs_codec_chain.specs.ChainView.{plain_chain};
-ghost use Rattle.zarrs_chain_parts.specs.MadeAgain.{IsMadeAgain, HasBytesCodecs};
+ghost use Rattle.zarrs_chain_parts.specs.MadeAgain.{IsMadeAgain, HasBytesCodecs, MakesChain};
 ghost use Rattle.zarrs_chain_parts.specs.MadeChain.{chain_made};
 ghost use Rattle.zarrs_chain_parts.specs.WrittenMetadata.{chain_metadatas};
 
@@ -13,6 +13,7 @@ use crate::array_to_bytes_codec::{ArrayToBytesCodec, codec_reads, codec_writes};
 use crate::codec_chain::{CodecChain, chain_has_ranges, chain_is_sound};
 use crate::metadata::write_chain::{chain_written, codec_name, codec_written};
 use crate::optional_codec::{OptionalCodec, optional_written};
+use crate::plain_form::vlen_reads;
 use crate::vlen_codec::{VlenCodec, vlen_written};
 use std::alloc::Global;
 use zarrs_codec::{
@@ -27,8 +28,10 @@ impl<B: BytesToBytesCodecTraits> CodecChain<B> {
     /// an equal chain of them, with a maker that makes the bytes codecs again. Refusals:
     /// `OutOfMemory`.
     pub fn create_metadatas(&self, alloc: Global) -> Result<Vec<MetadataV3>, PluginCreateError>
-        ensures answer { Answers plugin_memory (λ list. map metadata_seen list.items) result (Ok (chain_metadatas B.described (plain_chain self.now))) }
-        ensures made_again { IfOk result (λ list. (makes : Metadata → Result (Option B) PluginCreateError) → HasBytesCodecs (IsMadeAgain B.described makes) (plain_chain self.now) → chain_made makes (map metadata_seen list.items) ≡ Ok (plain_chain self.now)) }
+        ensures answer { Makes (λ list. map metadata_seen list.items) result
+            (Ok (chain_metadatas B.described (plain_chain self.now))) }
+        ensures made_again { IfOk result
+            (λ list. MakesChain B.described (plain_chain self.now) (map metadata_seen list.items)) }
     {
         chain_is_sound(self);
         chain_has_ranges(self);
@@ -38,11 +41,12 @@ impl<B: BytesToBytesCodecTraits> CodecChain<B> {
 
 impl<B: BytesToBytesCodecTraits> CodecTraits for VlenCodec<B> {
     ghost use Rattle.std.specs.Prelude.{Some, false};
+    ghost use Rattle.zarrs_chain_parts.specs.Chain.{codec_reads};
     ghost use Rattle.zarrs_codec_chain.specs.ChainView.{plain_vlen};
     ghost use Rattle.zarrs_chain_parts.specs.CodecNames.{vlen_name};
     ghost use Rattle.zarrs_chain_parts.specs.WrittenMetadata.{codec_configuration};
 
-    ghost reads_in_part = { λ _. record { partial_read = false; partial_decode = false } };
+    ghost reads_in_part = { λ codec. codec_reads (plain_vlen codec) };
 
     ghost writes_in_part = { λ _. record { partial_encode = false } };
 
@@ -60,11 +64,9 @@ impl<B: BytesToBytesCodecTraits> CodecTraits for VlenCodec<B> {
         Ok(Some(vlen_written(alloc, self)?))
     }
 
+    /// All where the codec is plain, else nothing.
     fn partial_decoder_capability(&self) -> PartialDecoderCapability {
-        PartialDecoderCapability {
-            partial_read: false,
-            partial_decode: false,
-        }
+        vlen_reads(self)
     }
 
     fn partial_encoder_capability(&self) -> PartialEncoderCapability {

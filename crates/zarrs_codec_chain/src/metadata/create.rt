@@ -3,10 +3,10 @@ ghost use Rattle.std.specs.Prelude.{map};
 ghost use Rattle.zarrs_chunk.specs.Answer.{Answers};
 ghost use Rattle.zarrs_metadata.specs.MetadataV3.{metadata_seen};
 ghost use Rattle.zarrs_metadata.specs.OptionalConfiguration.{optional_seen};
-ghost use Rattle.zarrs_metadata.specs.PluginCreateError.{plugin_memory};
+ghost use Rattle.zarrs_metadata.specs.PluginCreateError.{plugin_memory, Makes};
 ghost use Rattle.zarrs_metadata.specs.VlenConfiguration.{vlen_seen};
 ghost use Rattle.zarrs_codec_chain.specs.ChainView.{plain_chain, plain_vlen, plain_optional};
-ghost use Rattle.zarrs_chain_parts.specs.MadeChain.{chain_made, vlen_of_parts, vlen_made_by, optional_of_chains, optional_made_by};
+ghost use Rattle.zarrs_chain_parts.specs.MadeChain.{chain_made, vlen_of_parts, vlen_made_by, optional_of_chains, optional_made_by, optional_by};
 
 use crate::codec_chain::CodecChain;
 use crate::metadata::make_chain::{
@@ -30,7 +30,8 @@ impl<B: Drop> VlenCodec<B> {
         configuration: &VlenCodecConfiguration,
         maker: &M,
     ) -> Result<VlenCodec<B>, PluginCreateError>
-        ensures answer { Answers plugin_memory plain_vlen result (vlen_of_parts (chain_made (M.makes maker.now)) (vlen_seen configuration.now)) }
+        ensures answer { Makes plain_vlen result
+            (vlen_of_parts (chain_made (M.makes maker.now)) (vlen_seen configuration.now)) }
     {
         vlen_from(alloc, configuration, maker)
     }
@@ -46,7 +47,8 @@ impl<B: Drop> VlenCodec<B> {
         metadata: &MetadataV3,
         maker: &M,
     ) -> Result<VlenCodec<B>, PluginCreateError>
-        ensures answer { Answers plugin_memory plain_vlen result (vlen_made_by (chain_made (M.makes maker.now)) (metadata_seen metadata.now)) }
+        ensures answer { Makes plain_vlen result
+            (vlen_made_by (chain_made (M.makes maker.now)) (metadata_seen metadata.now)) }
     {
         vlen_create(alloc, metadata, maker)
     }
@@ -61,7 +63,8 @@ impl<B: Drop> OptionalCodec<B> {
         configuration: &OptionalCodecConfiguration,
         maker: &M,
     ) -> Result<OptionalCodec<B>, PluginCreateError>
-        ensures answer { Answers plugin_memory plain_optional result (optional_of_chains (chain_made (M.makes maker.now)) (optional_seen configuration.now)) }
+        ensures answer { Makes plain_optional result
+            (optional_by (M.makes maker.now) (optional_seen configuration.now)) }
     {
         optional_from(alloc, configuration, maker)
     }
@@ -77,7 +80,8 @@ impl<B: Drop> OptionalCodec<B> {
         metadata: &MetadataV3,
         maker: &M,
     ) -> Result<OptionalCodec<B>, PluginCreateError>
-        ensures answer { Answers plugin_memory plain_optional result (optional_made_by (chain_made (M.makes maker.now)) (metadata_seen metadata.now)) }
+        ensures answer { Makes plain_optional result
+            (optional_made_by (chain_made (M.makes maker.now)) (metadata_seen metadata.now)) }
     {
         optional_create(alloc, metadata, maker)
     }
@@ -98,7 +102,8 @@ impl<B: Drop> CodecChain<B> {
         metadatas: &[MetadataV3],
         maker: &M,
     ) -> Result<CodecChain<B>, PluginCreateError>
-        ensures answer { Answers plugin_memory plain_chain result (chain_made (M.makes maker.now) (map metadata_seen metadatas.now)) }
+        ensures answer { Makes plain_chain result
+            (chain_made (M.makes maker.now) (map metadata_seen metadatas.now)) }
     {
         chain_from(alloc, metadatas, maker)
     }

@@ -5,12 +5,12 @@ ghost use Rattle.std.specs.Prelude.{◌≡◌, ◌||◌, Ok, Err, if◌then◌el
 ghost use Rattle.zarrs_chunk.specs.Answer.{Answers};
 ghost use Rattle.zarrs_metadata.specs.MetadataV3.{metadata_seen};
 ghost use Rattle.zarrs_metadata.specs.OptionalConfiguration.{optional_seen};
-ghost use Rattle.zarrs_metadata.specs.PluginCreateError.{plugin_memory};
+ghost use Rattle.zarrs_metadata.specs.PluginCreateError.{plugin_memory, Makes};
 ghost use Rattle.zarrs_metadata.specs.VlenConfiguration.{vlen_seen};
 ghost use Rattle.zarrs_codec_chain.specs.ChainParts.{made_seen, parts_seen};
-ghost use Rattle.zarrs_codec_chain.specs.ChainView.{plain_chain, plain_vlen, plain_optional};
+ghost use Rattle.zarrs_codec_chain.specs.ChainView.{plain_chain, plain_vlen, plain_optional, vlen_of};
 ghost use Rattle.zarrs_chain_parts.specs.VlenSettings.{is_wide, is_at_end};
-ghost use Rattle.zarrs_chain_parts.specs.MadeChain.{asked_maker, chain_made, codec_made, joined, vlen_of_parts, vlen_made_by, optional_of_chains, optional_made_by};
+ghost use Rattle.zarrs_chain_parts.specs.MadeChain.{asked_maker, chain_made, codec_made, joined, vlen_of_parts, vlen_made_by, optional_of_chains, optional_made_by, optional_by, codec_by, joined_by};
 ghost use Rattle.zarrs_chain_parts.specs.PlainChain.{vlen_codec_of, optional_codec_of};
 
 use crate::array_to_bytes_codec::ArrayToBytesCodec;
@@ -42,7 +42,8 @@ fn boxed_vlen<B: Drop>(
     index_data_type: VlenIndexDataType,
     index_location: VlenIndexLocation,
 ) -> Result<VlenCodec<B>, PluginCreateError>
-    ensures made { Answers plugin_memory plain_vlen result (Ok (vlen_codec_of (plain_chain index) (plain_chain content) (is_wide index_data_type) (is_at_end index_location))) }
+    ensures made { Makes plain_vlen result
+        (Ok (vlen_of index content index_data_type index_location)) }
 {
     let index = Box::new(alloc, index)?;
     let content = Box::new(alloc, content)?;
@@ -55,7 +56,8 @@ fn boxed_optional<B: Drop>(
     mask: CodecChain<B>,
     content: CodecChain<B>,
 ) -> Result<OptionalCodec<B>, PluginCreateError>
-    ensures made { Answers plugin_memory plain_optional result (Ok (optional_codec_of (plain_chain mask) (plain_chain content))) }
+    ensures made { Makes plain_optional result
+        (Ok (optional_codec_of (plain_chain mask) (plain_chain content))) }
 {
     let mask = Box::new(alloc, mask)?;
     let content = Box::new(alloc, content)?;
@@ -70,7 +72,8 @@ pub(crate) fn vlen_from<B: Drop, M: BytesCodecMaker<B>>(
     configuration: &VlenCodecConfiguration,
     maker: &M,
 ) -> Result<VlenCodec<B>, PluginCreateError>
-    ensures answer { Answers plugin_memory plain_vlen result (vlen_of_parts (chain_made (M.makes maker.now)) (vlen_seen configuration.now)) }
+    ensures answer { Makes plain_vlen result
+        (vlen_of_parts (chain_made (M.makes maker.now)) (vlen_seen configuration.now)) }
 {
     let index = chain_from(alloc, index_codecs(configuration), maker)?;
     let content = chain_from(alloc, data_codecs(configuration), maker)?;
@@ -91,7 +94,8 @@ pub(crate) fn optional_from<B: Drop, M: BytesCodecMaker<B>>(
     configuration: &OptionalCodecConfiguration,
     maker: &M,
 ) -> Result<OptionalCodec<B>, PluginCreateError>
-    ensures answer { Answers plugin_memory plain_optional result (optional_of_chains (chain_made (M.makes maker.now)) (optional_seen configuration.now)) }
+    ensures answer { Makes plain_optional result
+        (optional_of_chains (chain_made (M.makes maker.now)) (optional_seen configuration.now)) }
 {
     let mask = chain_from(alloc, mask_codecs(configuration), maker)?;
     let content = chain_from(alloc, present_codecs(configuration), maker)?;
@@ -105,7 +109,8 @@ pub(crate) fn vlen_create<B: Drop, M: BytesCodecMaker<B>>(
     metadata: &MetadataV3,
     maker: &M,
 ) -> Result<VlenCodec<B>, PluginCreateError>
-    ensures answer { Answers plugin_memory plain_vlen result (vlen_made_by (chain_made (M.makes maker.now)) (metadata_seen metadata.now)) }
+    ensures answer { Makes plain_vlen result
+        (vlen_made_by (chain_made (M.makes maker.now)) (metadata_seen metadata.now)) }
 {
     let configuration = vlen_configuration(alloc, metadata)?;
     vlen_from(alloc, &configuration, maker)
@@ -118,7 +123,8 @@ pub(crate) fn optional_create<B: Drop, M: BytesCodecMaker<B>>(
     metadata: &MetadataV3,
     maker: &M,
 ) -> Result<OptionalCodec<B>, PluginCreateError>
-    ensures answer { Answers plugin_memory plain_optional result (optional_made_by (chain_made (M.makes maker.now)) (metadata_seen metadata.now)) }
+    ensures answer { Makes plain_optional result
+        (optional_made_by (chain_made (M.makes maker.now)) (metadata_seen metadata.now)) }
 {
     let configuration = optional_configuration(alloc, metadata)?;
     optional_from(alloc, &configuration, maker)
@@ -130,7 +136,8 @@ fn asked<B: Drop, M: BytesCodecMaker<B>>(
     metadata: &MetadataV3,
     maker: &M,
 ) -> Result<MadeCodec<B>, PluginCreateError>
-    ensures answer { Answers plugin_memory made_seen result (asked_maker (M.makes maker.now (metadata_seen metadata.now))) }
+    ensures answer { Makes made_seen result
+        (asked_maker (M.makes maker.now (metadata_seen metadata.now))) }
 {
     match maker.make(alloc, metadata) {
         Ok(Some(codec)) => Ok(MadeCodec::Outer(codec)),
@@ -148,7 +155,8 @@ fn codec_from<B: Drop, M: BytesCodecMaker<B>>(
     metadata: &MetadataV3,
     maker: &M,
 ) -> Result<MadeCodec<B>, PluginCreateError>
-    ensures answer { Answers plugin_memory made_seen result (codec_made (chain_made (M.makes maker.now)) (M.makes maker.now) (metadata_seen metadata.now)) }
+    ensures answer { Makes made_seen result
+        (codec_by (M.makes maker.now) (metadata_seen metadata.now)) }
 {
     match codec_named(metadata.name()) {
         Some(CodecName::Transpose | CodecName::Reshape | CodecName::Squeeze) => {
@@ -183,7 +191,8 @@ fn is_want_of_memory(refusal: PluginCreateError) -> bool
 /// Where a codec can't be made, its metadata is passed over if it need not be understood. Want of
 /// memory says nothing of the metadata, so it is never passed over. Refusals: this one.
 fn pass_over(refusal: PluginCreateError, must_understand: bool) -> Result<(), PluginCreateError>
-    ensures value { result ≡ (if must_understand || plugin_memory refusal then Err refusal else Ok tt) }
+    ensures value { result ≡
+        (if must_understand || plugin_memory refusal then Err refusal else Ok tt) }
 {
     if must_understand || is_want_of_memory(refusal) {
         return Err(refusal);
@@ -201,7 +210,8 @@ fn join<B: Drop, M: BytesCodecMaker<B>>(
     maker: &M,
     parts: &mut ChainParts<B>,
 ) -> Result<(), PluginCreateError>
-    ensures answer { Answers plugin_memory (λ _. parts_seen parts.new) result (joined (codec_made (chain_made (M.makes maker.now)) (M.makes maker.now) (metadata_seen metadata.now)) (metadata_seen metadata.now).must_understand (parts_seen parts.old)) }
+    ensures answer { Makes (λ _. parts_seen parts.new) result
+        (joined_by (M.makes maker.now) (metadata_seen metadata.now) (parts_seen parts.old)) }
 {
     match codec_from(alloc, metadata, maker) {
         Ok(codec) => parts.add(codec),
@@ -216,7 +226,8 @@ pub(crate) fn chain_from<B: Drop, M: BytesCodecMaker<B>>(
     metadatas: &[MetadataV3],
     maker: &M,
 ) -> Result<CodecChain<B>, PluginCreateError>
-    ensures answer { Answers plugin_memory plain_chain result (chain_made (M.makes maker.now) (map metadata_seen metadatas.now)) }
+    ensures answer { Makes plain_chain result
+        (chain_made (M.makes maker.now) (map metadata_seen metadatas.now)) }
 {
     let mut parts = ChainParts::new(alloc);
     for metadata in metadatas {

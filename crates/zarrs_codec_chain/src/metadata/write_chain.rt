@@ -3,7 +3,7 @@ ghost use Rattle.std.specs.Prelude.{◌≡◌, ◌++◌, Ok, map};
 ghost use Rattle.zarrs_chunk.specs.Answer.{Answers};
 ghost use Rattle.zarrs_metadata.specs.BytesConfiguration.{write_bytes};
 ghost use Rattle.zarrs_metadata.specs.MetadataV3.{configuration_seen, metadata_seen};
-ghost use Rattle.zarrs_metadata.specs.PluginCreateError.{plugin_memory};
+ghost use Rattle.zarrs_metadata.specs.PluginCreateError.{plugin_memory, Makes};
 ghost use Rattle.zarrs_array_to_array.specs.Mapping.{mapping_of};
 ghost use Rattle.zarrs_packbits.specs.SettingsMetadata.{write_settings};
 ghost use Rattle.zarrs_codec_chain.specs.ChainView.{plain_chain, plain_codec};
@@ -22,7 +22,8 @@ use zarrs_packbits::PackBitsCodec;
 
 /// The metadata of an array codec. Refusals: `OutOfMemory`.
 fn array_metadata(alloc: Global, codec: &ArrayToArrayCodec) -> Result<MetadataV3, PluginCreateError>
-    ensures answer { Answers plugin_memory metadata_seen result (Ok (mapping_metadata (mapping_of codec.now))) }
+    ensures answer { Makes metadata_seen result
+        (Ok (mapping_metadata (mapping_of codec.now))) }
 {
     let name = codec.name_v3().unwrap_or("");
     match codec.configuration(alloc)? {
@@ -36,7 +37,8 @@ fn array_metadatas(
     alloc: Global,
     codecs: &[ArrayToArrayCodec],
 ) -> Result<Vec<MetadataV3>, PluginCreateError>
-    ensures answer { Answers plugin_memory (λ list. map metadata_seen list.items) result (Ok (map mapping_metadata (map mapping_of codecs.now))) }
+    ensures answer { Makes (λ list. map metadata_seen list.items) result
+        (Ok (map mapping_metadata (map mapping_of codecs.now))) }
 {
     let mut list = Vec::with_capacity(alloc, codecs.len())?;
     for codec in codecs {
@@ -51,7 +53,8 @@ fn push_outer<B: BytesToBytesCodecTraits>(
     codecs: &[B],
     list: &mut Vec<MetadataV3>,
 ) -> Result<(), PluginCreateError>
-    ensures answer { Answers plugin_memory (λ _. map metadata_seen list.new.items) result (Ok (map metadata_seen list.old.items ++ map B.described codecs.now)) }
+    ensures answer { Makes (λ _. map metadata_seen list.new.items) result
+        (Ok (map metadata_seen list.old.items ++ map B.described codecs.now)) }
 {
     for codec in codecs {
         list.push(codec.metadata(alloc)?)?;
@@ -74,7 +77,7 @@ pub(crate) fn codec_name<B>(codec: &ArrayToBytesCodec<B>) -> &'static str
 
 /// The configuration of `bytes`. Refusals: `OutOfMemory`.
 fn bytes_written(alloc: Global, codec: &BytesCodec) -> Result<Configuration, PluginCreateError>
-    ensures answer { Answers plugin_memory configuration_seen result (Ok (write_bytes codec.now)) }
+    ensures answer { Makes configuration_seen result (Ok (write_bytes codec.now)) }
 {
     match codec.configuration(alloc)? {
         None => Ok(Configuration::new(alloc)),
@@ -87,7 +90,8 @@ fn packbits_written(
     alloc: Global,
     codec: &PackBitsCodec,
 ) -> Result<Configuration, PluginCreateError>
-    ensures answer { Answers plugin_memory configuration_seen result (Ok (write_settings codec.now)) }
+    ensures answer { Makes configuration_seen result
+        (Ok (write_settings codec.now)) }
 {
     match codec.configuration(alloc)? {
         None => Ok(Configuration::new(alloc)),
@@ -102,7 +106,8 @@ pub(crate) fn codec_written<B: BytesToBytesCodecTraits>(
     alloc: Global,
     codec: &ArrayToBytesCodec<B>,
 ) -> Result<Configuration, PluginCreateError>
-    ensures answer { Answers plugin_memory configuration_seen result (Ok (codec_configuration_of B.described (plain_codec codec.now))) }
+    ensures answer { Makes configuration_seen result
+        (Ok (codec_configuration_of B.described (plain_codec codec.now))) }
 {
     match codec {
         ArrayToBytesCodec::Bytes(codec) => bytes_written(alloc, codec),
@@ -118,7 +123,8 @@ pub(crate) fn chain_written<B: BytesToBytesCodecTraits>(
     alloc: Global,
     chain: &CodecChain<B>,
 ) -> Result<Vec<MetadataV3>, PluginCreateError>
-    ensures answer { Answers plugin_memory (λ list. map metadata_seen list.items) result (Ok (chain_metadatas_of B.described (plain_chain chain.now))) }
+    ensures answer { Makes (λ list. map metadata_seen list.items) result
+        (Ok (chain_metadatas_of B.described (plain_chain chain.now))) }
 {
     let mut list = array_metadatas(alloc, &chain.array_to_array)?;
     let name = codec_name(&chain.array_to_bytes);

@@ -1,4 +1,4 @@
-use Rattle.std.proofs.Common.{rules, ◌^◌, arith}
+use Rattle.std.proofs.Common.{rules, arith}
 use Rattle.std.proofs.lemmas.Result.{err_from_is_err_and}
 use Rattle.zarrs_array_bytes.specs.Held.{owned_bytes}
 use Rattle.zarrs_chain_parts.specs.VlenSettings.{is_wide}

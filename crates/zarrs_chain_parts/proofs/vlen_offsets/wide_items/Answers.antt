@@ -1,7 +1,5 @@
-use Rattle.std.proofs.Common.{◌≡◌, ◌+◌, ◌-◌, ◌*◌, ◌/◌, ◌≤◌, true, length, ap, ◌∙◌, arith}
+use Rattle.std.proofs.Common.{◌≡◌, ◌+◌, ◌-◌, ◌*◌, ◌/◌, true, length, arith}
 use Rattle.std.proofs.Math.Nat.{div-mul-le_self}
-use Rattle.std.proofs.lemmas.List.{take_all}
-use Rattle.zarrs_chain_parts.specs.VlenSteps.{bytes_from}
 use Rattle.zarrs_chain_parts.proofs.VlenOffsets.{more_from, whole_from}
 use Rattle.zarrs_chain_parts.proofs.vlen_offsets.wide_items.Goals as goal
 

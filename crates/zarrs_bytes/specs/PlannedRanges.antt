@@ -1,0 +1,12 @@
+-- Ranges of bytes that a read asks for.
+use Rattle.std.specs.Prelude.{ℕ, ◌-◌, ◌<◌, List}
+use Rattle.std.specs.List.{All, sum_by}
+use Rattle.zarrs_codec.specs.ByteSpan.{ByteSpan}
+
+-- none of the ranges is empty
+abbrev pub NoneIsEmpty : List ByteSpan → Type 0
+NoneIsEmpty ranges = All (λ range. range.start < range.end) ranges
+
+-- how many bytes the ranges have, all together
+abbrev pub ranges_len : List ByteSpan → ℕ
+ranges_len ranges = sum_by (λ range. range.end - range.start) ranges

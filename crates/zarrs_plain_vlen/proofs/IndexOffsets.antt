@@ -1,0 +1,193 @@
+-- The offsets of an index.
+use Rattle.std.proofs.Common.{◌≡◌, ℕ, ◌+◌, ◌-◌, ◌*◌, ◌<◌, ◌≤◌, ◌^◌, ◌==◌, nat_lt, Bool, true, false, if◌then◌else◌, List, [], ◌∷◌, length, map, Result, Ok, Err, Some, arith, refl, ap, sym, subst, ◌∙◌}
+use Rattle.std.specs.Prelude.{IsOkAnd}
+use Rattle.std.specs.List.{range_with_len}
+use Rattle.std.proofs.lemmas.List.FromFn.{length-map-range_with_len}
+use Rattle.zarrs_chunk.specs.Answer.{◌>>=◌, Answers, memory, demand, checked_u64, seen}
+use Rattle.zarrs_chunk.specs.ChunkShape.{product}
+use Rattle.zarrs_chunk.specs.declared.codec_error.CodecError.{CodecError}
+use Rattle.zarrs_chunk.specs.declared.codec_error.CodecError.TheVariants.{InvalidBytesLength, InvalidOffsets, Overflow, ArrayBytesKind}
+use Rattle.zarrs_data_type.specs.Element.{Chunk}
+use Rattle.zarrs_data_type.specs.ElementType.{ElementType}
+use Rattle.zarrs_data_type.specs.FillValue.{fill_fits}
+use Rattle.zarrs_data_type.specs.declared.endianness.Endianness.{Endianness}
+use Rattle.zarrs_array_bytes.specs.Held.{Held, Raw, flen, vlen, masked}
+use Rattle.zarrs_array_bytes.specs.Offsets.{rises, is_offsets, offsets_of}
+use Rattle.zarrs_array_bytes.specs.Parts.{fixed_part}
+use Rattle.zarrs_array_bytes.specs.Validity.{Holds}
+use Rattle.zarrs_array_bytes.proofs.ValidLemmas.{both_ok}
+use Rattle.zarrs_bytes.specs.BytesCodec.{bytes_chunk, bytes_length, bytes_element}
+use Rattle.zarrs_chain_parts.specs.Decode.{offsets_in_chunk}
+use Rattle.zarrs_chain_parts.specs.Encode.{offset_bytes}
+use Rattle.zarrs_chain_parts.specs.Representation.{offset_type}
+use Rattle.zarrs_chain_parts.specs.VlenSteps.{offset_size, read_offsets}
+use Rattle.zarrs_chain_parts.proofs.ArraySteps.{ok, err, bind_ok, ok_is, ok_no_err}
+use Rattle.zarrs_chain_parts.proofs.VlenOffsets.{numbers_in, numbers_long}
+use Rattle.zarrs_array_bytes.proofs.ElementLemmas.{length_between}
+use Rattle.zarrs_codec.specs.ByteSpan.{ByteSpan}
+use Rattle.zarrs_plain_vlen.specs.VlenLayout.{span_bytes}
+use Rattle.zarrs_plain_vlen.specs.IndexSteps.{index_count}
+use Rattle.zarrs_chain_parts.specs.PlainVlen.{PlainForm}
+use Rattle.zarrs_plain_vlen.specs.VlenRead.{index_form, offsets_of_index, offsets_read}
+
+pub zero_fits : (wide : Bool) → fill_fits (offset_type wide) (offset_bytes wide 0) ≡ true
+unfolding offset_bytes
+zero_fits true = refl
+zero_fits false = refl
+
+same_answer : {A : Type 0} (r : Result A CodecError) → (r >>= λ x. ok x) ≡ r
+same_answer (Ok x) = refl
+same_answer (Err e) = refl
+
+row_length : (order : Endianness) (wide : Bool) (n m : ℕ) → bytes_length (Some order) (index_form wide n) ≡ (checked_u64 (product (n ∷ [])) >>= λ c. checked_u64 (c * offset_size wide) >>= λ len. ok len)
+row_length order true n m = rw (zero_fits true) refl
+row_length order false n m = rw (zero_fits false) refl
+
+pub row_is : (n : ℕ) → product (n ∷ []) ≡ n
+row_is n = omega arith
+
+each_length : (wide : Bool) (r : Result ℕ CodecError) → (r >>= λ c. checked_u64 (c * offset_size wide) >>= λ len. ok len) ≡ (r >>= λ c. checked_u64 (c * offset_size wide))
+each_length wide (Ok c) = same_answer (checked_u64 (c * offset_size wide))
+each_length wide (Err e) = refl
+
+-- how long the part of so many offsets is
+pub index_long : (order : Endianness) (wide : Bool) (n : ℕ) → bytes_length (Some order) (index_form wide n) ≡ (checked_u64 n >>= λ c. checked_u64 (c * offset_size wide))
+index_long order wide n =
+    row_length order wide n n
+    ∙ ap (λ k. checked_u64 k >>= λ c. checked_u64 (c * offset_size wide) >>= λ len. ok len) (row_is n)
+    ∙ each_length wide (checked_u64 n)
+
+pub guard : {A B : Type 0} (test : Bool) (cause : CodecError) (x : A) (f : A → Result B CodecError) (r : Result B CodecError) → (test ≡ true → r ≡ f x) → (test ≡ false → r ≡ err cause) → r ≡ ((demand test cause >>= λ _. ok x) >>= f)
+guard true cause x f r so other = so refl
+guard false cause x f r so other = other refl
+
+-- What is known of an index by its length comes first, and in the same order.
+module _ (form : PlainForm) (count : ℕ) (index : List ℕ) where
+  abbrev pub found : ℕ
+  found = length index
+
+  abbrev pub read : ℕ → Result (List ℕ) CodecError
+  read n = offsets_of_index form n index
+
+  pub at_length : (n : ℕ) (r : Result ℕ CodecError) → bytes_length (Some form.order) (index_form form.wide n) ≡ r
+      → read n ≡ ((r >>= λ len. demand (found == len) (InvalidBytesLength found len) >>= λ _. ok (map (bytes_element (Some form.order) (offset_type form.wide) index) (range_with_len 0 (product (n ∷ []))))) >>= λ chunk. demand (rises (offsets_in_chunk form.wide chunk)) InvalidOffsets >>= λ _. ok (offsets_in_chunk form.wide chunk))
+  at_length n r e = rw e refl
+
+  by_length : (n len : ℕ) → bytes_length (Some form.order) (index_form form.wide n) ≡ Ok len → read n ≡ ((demand (found == len) (InvalidBytesLength found len) >>= λ _. ok n) >>= read)
+  by_length n len e = guard (found == len) (InvalidBytesLength found len) n read (read n) (λ _. refl) (λ t. at_length n (Ok len) e ∙ rw t refl)
+
+  by_size : (n : ℕ) (test : Bool) → nat_lt n (2 ^ 64) ≡ true → nat_lt (n * offset_size form.wide) (2 ^ 64) ≡ test
+      → read n ≡ (((if test then ok (n * offset_size form.wide) else err Overflow) >>= λ len. demand (found == len) (InvalidBytesLength found len) >>= λ _. ok n) >>= read)
+  by_size n true small t = by_length n (n * offset_size form.wide) (index_long form.order form.wide n ∙ rw small (rw t refl))
+  by_size n false small t = at_length n (err Overflow) (index_long form.order form.wide n ∙ rw small (rw t refl))
+
+  by_count : (test : Bool) → nat_lt (count + 1) (2 ^ 64) ≡ test
+      → ((if test then ok (count + 1) else err Overflow) >>= λ _. read (count + 1))
+      ≡ (((if test then ok (count + 1) else err Overflow) >>= λ offsets. checked_u64 (offsets * offset_size form.wide) >>= λ len. demand (found == len) (InvalidBytesLength found len) >>= λ _. ok offsets) >>= read)
+  by_count true t = by_size (count + 1) (nat_lt ((count + 1) * offset_size form.wide) (2 ^ 64)) t refl
+  by_count false t = refl
+
+  pub lengths_first : offsets_read form count index ≡ (index_count form.wide count (length index) >>= read)
+  lengths_first = by_count (nat_lt (count + 1) (2 ^ 64)) refl
+
+counted_ok : (r : Result ℕ CodecError) (f : ℕ → Result (List ℕ) CodecError) (n : ℕ) (x : Result (List ℕ) CodecError) → x ≡ (r >>= f) → r ≡ Ok n → x ≡ f n
+counted_ok r f n x e h = e ∙ rw h refl
+
+counted_err : (r : Result ℕ CodecError) (f : ℕ → Result (List ℕ) CodecError) (cause : CodecError) (x : Result (List ℕ) CodecError) → x ≡ (r >>= f) → r ≡ Err cause → x ≡ err cause
+counted_err r f cause x e h = e ∙ rw h refl
+
+-- an index of the right length is read
+pub index_counted : (form : PlainForm) (count n : ℕ) (index : List ℕ) → index_count form.wide count (length index) ≡ Ok n → offsets_read form count index ≡ offsets_of_index form n index
+index_counted form count n index h = counted_ok (index_count form.wide count (length index)) (λ k. offsets_of_index form k index) n (offsets_read form count index) (lengths_first form count index) h
+
+pub index_refused : (form : PlainForm) (count : ℕ) (index : List ℕ) (cause : CodecError) → index_count form.wide count (length index) ≡ Err cause → offsets_read form count index ≡ Err cause
+index_refused form count index cause h = counted_err (index_count form.wide count (length index)) (λ k. offsets_of_index form k index) cause (offsets_read form count index) (lengths_first form count index) h
+
+-- ---- rows
+
+held_chunk : (type : ElementType) (held : Held) (r : Result Chunk CodecError) → IsOkAnd r (Holds type held) → (chunk : Chunk) × (r ≡ Ok chunk) × Holds type held chunk
+held_chunk type held (Ok chunk) h = (chunk, refl, h)
+held_chunk type held (Err error) h = absurd h
+
+fixed_held : (held : Held) (raw : Raw) → fixed_part held ≡ Ok raw → held ≡ flen raw
+fixed_held (flen raw) other e = cc
+fixed_held (vlen raw offsets) other e = absurd cc
+fixed_held (masked inner mask) other e = absurd cc
+
+-- a container of elements of one size has their bytes
+pub fixed_there : (wide : Bool) (held : Held) (r : Result Chunk CodecError) (error : CodecError) → IsOkAnd r (Holds (offset_type wide) held) → fixed_part held ≡ Err error → ⊥
+fixed_there wide (flen raw) r error h e = cc
+fixed_there wide (vlen raw offsets) r error h e = let c = held_chunk (offset_type wide) (vlen raw offsets) r h in ok_no_err tt ArrayBytesKind (sym (both_ok _ _ c.2.valid).1)
+fixed_there wide (masked inner mask) r error h e = let c = held_chunk (offset_type wide) (masked inner mask) r h in ok_no_err tt ArrayBytesKind (sym (both_ok _ _ c.2.valid).1)
+
+pub rises_are : (numbers : List ℕ) → 0 < length numbers → is_offsets numbers ≡ rises numbers
+rises_are [] l = absurd (omega arith)
+rises_are (number ∷ numbers) l = refl
+
+row_long : (order : Endianness) (wide : Bool) (count : ℕ) (index : List ℕ) (chunk : Chunk) → bytes_chunk (Some order) (index_form wide count) index ≡ Ok chunk → length chunk ≡ count
+row_long order wide count index chunk e =
+    let l = bind_ok (bytes_length (Some order) (index_form wide count)) _ chunk e in
+    let d = bind_ok (demand (length index == l.0) (InvalidBytesLength (length index) l.0)) _ chunk l.2 in
+    ap length (sym (ok_is _ chunk d.2)) ∙ length-map-range_with_len (bytes_element (Some order) (offset_type wide) index) 0 (product (count ∷ [])) ∙ row_is count
+
+-- the offsets that the bytes of a container spell are those of the index
+pub offsets_found : (form : PlainForm) (count : ℕ) (part : List ℕ) (held : Held) (raw : Raw) (numbers : List ℕ) → 0 < count
+    → IsOkAnd (bytes_chunk (Some form.order) (index_form form.wide count) part) (Holds (offset_type form.wide) held) → fixed_part held ≡ Ok raw → numbers ≡ read_offsets form.wide raw.items
+    → offsets_of_index form count part ≡ offsets_of numbers
+offsets_found form count part held raw numbers some h is read =
+    let wide = form.wide in
+    let c = held_chunk (offset_type wide) held (bytes_chunk (Some form.order) (index_form wide count) part) h in
+    let holds : Holds (offset_type wide) (flen raw) c.0 = subst (λ (x : Held). Holds (offset_type wide) x c.0) (fixed_held held raw is) c.2 in
+    let same : offsets_in_chunk wide c.0 ≡ numbers = sym (read ∙ numbers_in wide raw c.0 holds) in
+    let long : length numbers ≡ count = ap length (sym same) ∙ numbers_long wide c.0 ∙ row_long form.order wide count part c.0 c.1 in
+    rw c.1 (ap (λ (ns : List ℕ). demand (rises ns) InvalidOffsets >>= λ _. ok ns) same
+    ∙ ap (λ b. demand b InvalidOffsets >>= λ _. ok numbers) (sym (rises_are numbers (omega (arith, long, some)))))
+
+pub offsets_refused : (form : PlainForm) (count : ℕ) (part : List ℕ) (error : CodecError)
+    → bytes_chunk (Some form.order) (index_form form.wide count) part ≡ Err error → offsets_of_index form count part ≡ Err error
+offsets_refused form count part error e = rw e refl
+
+-- there is one offset more than elements
+pub offsets_long : (form : PlainForm) (count : ℕ) (part offsets : List ℕ) → offsets_read form count part ≡ Ok offsets → length offsets ≡ count + 1
+offsets_long form count part offsets e =
+    let n = bind_ok (checked_u64 (count + 1)) _ offsets e in
+    let rows = bind_ok (bytes_chunk (Some form.order) (index_form form.wide (count + 1)) part) _ offsets n.2 in
+    let rising = bind_ok (demand (rises (offsets_in_chunk form.wide rows.0)) InvalidOffsets) _ offsets rows.2 in
+    ap length (sym (ok_is (offsets_in_chunk form.wide rows.0) offsets rising.2)) ∙ numbers_long form.wide rows.0 ∙ row_long form.order form.wide (count + 1) part rows.0 rows.1
+
+-- ---- what a call answers
+
+offsets_at : (form : PlainForm) (count : ℕ) (part : List ℕ) (held : Held) (r : Result Raw CodecError) (bytes numbers : List ℕ) → 0 < count
+    → IsOkAnd (bytes_chunk (Some form.order) (index_form form.wide count) part) (Holds (offset_type form.wide) held) → fixed_part held ≡ r → ok bytes ≡ seen (λ raw. raw.items) r → numbers ≡ read_offsets form.wide bytes
+    → offsets_of_index form count part ≡ offsets_of numbers
+offsets_at form count part held (Ok raw) bytes numbers some h is same read =
+    offsets_found form count part held raw numbers some h is (read ∙ ap (read_offsets form.wide) (ok_is bytes raw.items same))
+offsets_at form count part held (Err e) bytes numbers some h is same read = absurd cc
+
+answers_same : (r expected : Result (List ℕ) CodecError) → r ≡ expected → Answers memory (λ (x : List ℕ). x) r expected
+answers_same (Ok x) expected e = sym e
+answers_same (Err error) expected e = λ _. sym e
+
+-- the offsets that are made of a container's bytes are those of the index
+pub offsets_answered : (r : Result (List ℕ) CodecError) (form : PlainForm) (count : ℕ) (part : List ℕ) (held : Held) (bytes numbers : List ℕ) → 0 < count
+    → IsOkAnd (bytes_chunk (Some form.order) (index_form form.wide count) part) (Holds (offset_type form.wide) held)
+    → ok bytes ≡ seen (λ raw. raw.items) (fixed_part held) → ok (read_offsets form.wide bytes) ≡ ok numbers → r ≡ offsets_of numbers
+    → Answers memory (λ (x : List ℕ). x) r (offsets_of_index form count part)
+offsets_answered r form count part held bytes numbers some h same read is =
+    answers_same r (offsets_of_index form count part)
+    (is ∙ sym (offsets_at form count part held (fixed_part held) bytes numbers some h refl same (sym (ok_is (read_offsets form.wide bytes) numbers read))))
+
+-- ---- an index where it stands in a value
+
+index_size : (value : List ℕ) (index : ByteSpan) → index.start ≤ index.end → index.end ≤ length value → length (span_bytes value index) ≡ index.end - index.start
+index_size value index ordered inside = length_between index.start index.end value ordered inside
+
+pub refused_there : (form : PlainForm) (count size : ℕ) (value : List ℕ) (index : ByteSpan) (cause : CodecError) → size ≡ index.end - index.start → index.start ≤ index.end → index.end ≤ length value
+    → index_count form.wide count size ≡ Err cause → offsets_read form count (span_bytes value index) ≡ Err cause
+refused_there form count size value index cause e ordered inside h =
+    index_refused form count (span_bytes value index) cause (ap (index_count form.wide count) (index_size value index ordered inside ∙ sym e) ∙ h)
+
+pub counted_there : (form : PlainForm) (count size n : ℕ) (value : List ℕ) (index : ByteSpan) → size ≡ index.end - index.start → index.start ≤ index.end → index.end ≤ length value
+    → index_count form.wide count size ≡ Ok n → offsets_read form count (span_bytes value index) ≡ offsets_of_index form n (span_bytes value index)
+counted_there form count size n value index e ordered inside h =
+    index_counted form count n (span_bytes value index) (ap (index_count form.wide count) (index_size value index ordered inside ∙ sym e) ∙ h)

@@ -1,0 +1,57 @@
+-- The parts of a value by where they stand.
+use Rattle.std.proofs.Common.{◌≡◌, ℕ, ◌+◌, ◌-◌, ◌≤◌, Bool, true, false, nat_le, List, length, take, drop, Result, arith, refl, ap, ap₂, sym, ◌∙◌}
+use Rattle.std.proofs.lemmas.Bool.Decides.{nat_tests}
+use Rattle.std.proofs.lemmas.List.{drop-drop, take_rest}
+use Rattle.zarrs_chunk.specs.Answer.{◌>>=◌, demand}
+use Rattle.zarrs_chunk.specs.declared.codec_error.CodecError.{CodecError}
+use Rattle.zarrs_chunk.specs.declared.codec_error.CodecError.TheVariants.{InvalidBytesLength, IndexLength}
+use Rattle.zarrs_codec.specs.ByteSpan.{ByteSpan}
+use Rattle.zarrs_chain_parts.specs.Decode.{length_of, vlen_parts}
+use Rattle.zarrs_chain_parts.proofs.ArraySteps.{ok}
+use Rattle.zarrs_plain_vlen.specs.VlenLayout.{VlenLayout, span_bytes, head_at, layout_at, layout_within, layout_of}
+
+abbrev Parts : Type 0
+Parts = List ℕ × List ℕ
+
+-- the index and the data of a value that has this layout
+abbrev pub parts_at : List ℕ → VlenLayout → Parts
+parts_at value layout = (span_bytes value layout.index, span_bytes value layout.content)
+
+outer : (test : Bool) (cause : CodecError) (head : ByteSpan) (f : Result Parts CodecError) (g : ByteSpan → Result VlenLayout CodecError) (view : VlenLayout → Parts)
+    → (test ≡ true → f ≡ (g head >>= λ l. ok (view l))) → (demand test cause >>= λ _. f) ≡ (((demand test cause >>= λ _. ok head) >>= g) >>= λ l. ok (view l))
+outer true cause head f g view h = h refl
+outer false cause head f g view h = refl
+
+inner : (test : Bool) (cause : CodecError) (parts : Parts) (layout : VlenLayout) (view : VlenLayout → Parts)
+    → (test ≡ true → parts ≡ view layout) → (demand test cause >>= λ _. ok parts) ≡ ((demand test cause >>= λ _. ok layout) >>= λ l. ok (view l))
+inner true cause parts layout view h = ap ok (h refl)
+inner false cause parts layout view h = refl
+
+pair : (a b c d : List ℕ) → a ≡ c → b ≡ d → ◌≡◌ {A = Parts} (a, b) (c, d)
+pair a b c d e f = ap₂ (λ (x y : List ℕ). (x, y)) e f
+
+-- the parts are what stands there
+pub parts_are : (at_end : Bool) (value : List ℕ) → vlen_parts at_end value ≡ (layout_of at_end value >>= λ layout. ok (parts_at value layout))
+parts_are false value =
+    let n = length value in
+    let size = length_of (take 8 value) in
+    outer (nat_le 8 n) (InvalidBytesLength n 8) (head_at false n) (demand (nat_le size (n - 8)) IndexLength >>= λ _. ok (take size (drop 8 value), drop size (drop 8 value)))
+    (λ head. layout_within false n (length_of (span_bytes value head))) (parts_at value)
+    (λ _. inner (nat_le size (n - 8)) IndexLength (take size (drop 8 value), drop size (drop 8 value)) (layout_at false n size) (parts_at value)
+    (λ _.
+    let index : size ≡ 8 + size - 8 = omega arith in
+    pair _ _ _ _ (ap (λ k. take k (drop 8 value)) index) (drop-drop size 8 value ∙ sym (take_rest value (8 + size)))))
+parts_are true value =
+    let n = length value in
+    let at = n - 8 in
+    let size = length_of (drop at value) in
+    let head : span_bytes value (head_at true n) ≡ drop at value = take_rest value at in
+    outer (nat_le 8 n) (InvalidBytesLength n 8) (head_at true n) (demand (nat_le size at) IndexLength >>= λ _. ok (take size (drop (at - size) value), take (at - size) value))
+    (λ head. layout_within true n (length_of (span_bytes value head))) (parts_at value)
+    (λ _. inner (nat_le size at) IndexLength (take size (drop (at - size) value), take (at - size) value) (layout_at true n size) (parts_at value)
+    (λ t.
+    let le : size ≤ at = grind (arith, nat_tests) in
+    let index : size ≡ at - (at - size) = omega arith in
+    let all : at - size ≡ at - size - 0 = omega arith in
+    pair _ _ _ _ (ap (λ k. take k (drop (at - size) value)) index) (ap (λ k. take k value) all))
+    ∙ ap (λ k. layout_within true n k >>= λ l. ok (parts_at value l)) (ap length_of (sym head)))

@@ -1,0 +1,9 @@
+pub mod ElementBytes
+pub mod RangesRead
+pub mod IndexOffsets
+pub mod LayoutParts
+pub mod StoredReads
+pub mod Selected
+pub mod Alike
+pub mod ElementReads
+pub mod IndexOrder

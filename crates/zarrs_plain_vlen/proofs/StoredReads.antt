@@ -1,0 +1,96 @@
+-- A read in part, step by step, and the bytes that each step reads.
+use Rattle.std.proofs.Common.{◌≡◌, ℕ, ◌+◌, ◌<◌, ◌≤◌, Bool, true, Option, Some, None, List, ◌++◌, length, Result, Ok, Err, arith, refl, ap, sym, ◌∙◌}
+use Rattle.std.specs.List.{All, list_all}
+use Rattle.std.proofs.lemmas.Bool.{and_parts}
+use Rattle.std.proofs.lemmas.List.Folds.{list_all-append}
+use Rattle.zarrs_chunk.specs.Answer.{◌>>=◌, seen}
+use Rattle.zarrs_chunk.specs.declared.codec_error.CodecError.{CodecError}
+use Rattle.zarrs_data_type.specs.Element.{Chunk}
+use Rattle.zarrs_codec.specs.StorageState.{are_sure}
+use Rattle.zarrs_chain_parts.specs.Decode.{vlen_parts}
+use Rattle.zarrs_chain_parts.proofs.ArraySteps.{ok, err}
+use Rattle.zarrs_chain_parts.specs.PlainVlen.{PlainForm}
+use Rattle.zarrs_plain_vlen.specs.VlenLayout.{VlenLayout, span_bytes, span_numbers, head_of, layout_of}
+use Rattle.zarrs_data_type.specs.ElementType.{ElementType}
+use Rattle.zarrs_plain_vlen.specs.PlainRead.{plain_read}
+use Rattle.zarrs_plain_vlen.specs.VlenRead.{stored_vlen_read, offsets_read, elements_read, vlen_read, numbers_in, element_numbers, elements_at, rests_on}
+use Rattle.zarrs_plain_vlen.proofs.IndexOffsets.{offsets_long}
+use Rattle.zarrs_plain_vlen.proofs.LayoutParts.{parts_at, parts_are}
+
+next_ok : {A B : Type 0} (r : Result A CodecError) (x : A) (f : A → Result B CodecError) → r ≡ Ok x → (r >>= f) ≡ f x
+next_ok r x f e = rw e refl
+
+next_err : {A B : Type 0} (r : Result A CodecError) (cause : CodecError) (f : A → Result B CodecError) → r ≡ Err cause → (r >>= f) ≡ err cause
+next_err r cause f e = rw e refl
+
+-- ---- the answer
+
+module _ (form : PlainForm) (count : ℕ) (value places : List ℕ) where
+  abbrev pub rest : List ℕ × List ℕ → Result Chunk CodecError
+  rest parts = offsets_read form count parts.0 >>= λ offsets. elements_read offsets parts.1 places
+
+  parts_ok : (layout : VlenLayout) → layout_of form.at_end value ≡ Ok layout → vlen_parts form.at_end value ≡ ok (parts_at value layout)
+  parts_ok layout e = parts_are form.at_end value ∙ next_ok (layout_of form.at_end value) layout (λ l. ok (parts_at value l)) e
+
+  pub read_unparted : (cause : CodecError) → layout_of form.at_end value ≡ Err cause → vlen_read form count value places ≡ Err cause
+  read_unparted cause e = next_err (vlen_parts form.at_end value) cause rest (parts_are form.at_end value ∙ next_err (layout_of form.at_end value) cause (λ l. ok (parts_at value l)) e)
+
+  pub read_unindexed : (layout : VlenLayout) (cause : CodecError) → layout_of form.at_end value ≡ Ok layout → offsets_read form count (span_bytes value layout.index) ≡ Err cause → vlen_read form count value places ≡ Err cause
+  read_unindexed layout cause e f =
+      next_ok (vlen_parts form.at_end value) (parts_at value layout) rest (parts_ok layout e)
+      ∙ next_err (offsets_read form count (span_bytes value layout.index)) cause (λ offsets. elements_read offsets (span_bytes value layout.content) places) f
+
+  pub read_indexed : (layout : VlenLayout) (offsets : List ℕ) → layout_of form.at_end value ≡ Ok layout → offsets_read form count (span_bytes value layout.index) ≡ Ok offsets
+      → vlen_read form count value places ≡ elements_read offsets (span_bytes value layout.content) places
+  read_indexed layout offsets e f =
+      next_ok (vlen_parts form.at_end value) (parts_at value layout) rest (parts_ok layout e)
+      ∙ next_ok (offsets_read form count (span_bytes value layout.index)) offsets (λ offsets. elements_read offsets (span_bytes value layout.content) places) f
+
+-- ---- sure bytes
+
+sure_both : (sure : Option (ℕ → Bool)) (xs ys : List ℕ) → are_sure sure (xs ++ ys) ≡ true → (are_sure sure xs ≡ true) × (are_sure sure ys ≡ true)
+sure_both None xs ys h = absurd cc
+sure_both (Some sure) xs ys h = and_parts (list_all sure xs) (list_all sure ys) (sym (list_all-append sure xs ys) ∙ h)
+
+module _ (form : PlainForm) (count : ℕ) (value places : List ℕ) (sure : Option (ℕ → Bool)) (h : are_sure sure (rests_on form count value places) ≡ true) where
+  abbrev pub head : List ℕ
+  head = numbers_in (seen span_numbers (head_of form.at_end (length value)))
+
+  abbrev pub index : List ℕ
+  index = numbers_in (seen (λ layout. span_numbers layout.index) (layout_of form.at_end value))
+
+  abbrev pub elements : List ℕ
+  elements = numbers_in (elements_at form count value places)
+
+  pub sure_head : are_sure sure (numbers_in (seen span_numbers (head_of form.at_end (length value)))) ≡ true
+  sure_head = (sure_both sure head (index ++ elements) h).0
+
+  pub sure_index : (layout : VlenLayout) → layout_of form.at_end value ≡ Ok layout → are_sure sure (span_numbers layout.index) ≡ true
+  sure_index layout e =
+      let both = sure_both sure index elements (sure_both sure head (index ++ elements) h).1 in
+      ap (λ (r : Result VlenLayout CodecError). are_sure sure (numbers_in (seen (λ layout. span_numbers layout.index) r))) (sym e) ∙ both.0
+
+  pub sure_elements : (layout : VlenLayout) (offsets : List ℕ) → layout_of form.at_end value ≡ Ok layout → offsets_read form count (span_bytes value layout.index) ≡ Ok offsets → are_sure sure (element_numbers layout.content.start offsets places) ≡ true
+  sure_elements layout offsets e f =
+      let both = sure_both sure index elements (sure_both sure head (index ++ elements) h).1 in
+      let is : elements_at form count value places ≡ ok (element_numbers layout.content.start offsets places) =
+      next_ok (layout_of form.at_end value) layout (λ l. offsets_read form count (span_bytes value l.index) >>= λ os. ok (element_numbers l.content.start os places)) e
+      ∙ next_ok (offsets_read form count (span_bytes value layout.index)) offsets (λ os. ok (element_numbers layout.content.start os places)) f in
+      ap (λ (r : Result (List ℕ) CodecError). are_sure sure (numbers_in r)) (sym is) ∙ both.1
+
+-- ---- runs
+
+-- runs of elements are known by their offsets
+pub runs_known : (form : PlainForm) (count : ℕ) (part offsets : List ℕ) (runs : List (ℕ × ℕ)) → offsets_read form count part ≡ Ok offsets → All (λ run. run.0 + run.1 ≤ count) runs → All (λ run. run.0 + run.1 < length offsets) runs
+runs_known form count part offsets runs e h = λ k d l. let long = offsets_long form count part offsets e in omega (arith, long, h k d l)
+
+-- ---- what is stored
+
+refused_first : (r : Result Chunk CodecError) (error : CodecError) → (r >>= λ chunk. ok (Some chunk)) ≡ Err error → r ≡ Err error
+refused_first (Ok chunk) error e = absurd cc
+refused_first (Err cause) error e = cc
+
+-- a refusal of what is stored is that of the value
+pub refused_stored : (form : PlainForm) (count : ℕ) (type : ElementType) (fill : List ℕ) (stored : Option (List ℕ)) (places : List ℕ) (error : CodecError) → stored_vlen_read form count stored places ≡ Err error → plain_read form count type fill stored places ≡ Err error
+refused_stored form count type fill None places error e = absurd cc
+refused_stored form count type fill (Some value) places error e = refused_first (vlen_read form count value places) error e

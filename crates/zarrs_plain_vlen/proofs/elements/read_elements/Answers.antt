@@ -1,0 +1,26 @@
+use Rattle.std.proofs.Common.{sym, subst}
+use Rattle.zarrs_chunk.specs.Answer.{AnswersBy, memory_or_fault}
+use Rattle.zarrs_chunk.specs.Runs.{joined_runs}
+use Rattle.zarrs_array_bytes.specs.Validity.{Holds}
+use Rattle.zarrs_codec.specs.StorageState.{value_or_empty}
+use Rattle.zarrs_plain_vlen.specs.Elements.{blank_element}
+use Rattle.zarrs_plain_vlen.specs.VlenLayout.{span_bytes}
+use Rattle.zarrs_plain_vlen.specs.VlenRead.{elements_read}
+use Rattle.zarrs_plain_vlen.proofs.ElementBytes.{gathered_rises, gathered_ends}
+use Rattle.zarrs_plain_vlen.proofs.ElementReads.{elements_held}
+use Rattle.zarrs_plain_vlen.proofs.elements.read_elements.Goals as goal
+
+pub variable-requires-clause-rising : goal.variable-requires-clause-rising
+variable-requires-clause-rising g c =
+    gathered_rises (blank_element c.args.offsets.now) (joined_runs c.args.runs.now) c.in_ok-ends.ends.items c.in_ok-ends.ensures.ends
+
+pub variable-requires-clause-ending : goal.variable-requires-clause-ending
+variable-requires-clause-ending g c =
+    gathered_ends (blank_element c.args.offsets.now) (joined_runs c.args.runs.now) c.in_ok-bytes.bytes.items c.in_ok-ends.ends.items c.in_ok-bytes.ensures.lengths c.in_ok-ends.ensures.ends
+
+pub returns-clause-answer : goal.returns-clause-answer
+returns-clause-answer g c =
+    let content = span_bytes (value_or_empty (g.H.BytesPartialDecoderTraits.state c.args.handle.now).value) c.args.content in
+    let type = c.args.data_type.now in
+    subst (λ r. AnswersBy memory_or_fault (Holds type) r (elements_read c.args.offsets.now content (joined_runs c.args.runs.now))) (sym c.variable.ensures.made)
+    (elements_held type c.args.offsets.now content (joined_runs c.args.runs.now) c.in_ok-bytes.bytes.items c.in_ok-ends.ends.items c.requires.variable c.in_ok-bytes.ensures.answer c.in_ok-ends.ensures.ends c.in_ok-ends.ensures.small)

@@ -1,0 +1,12 @@
+pub mod VlenLayout
+pub mod IndexSteps
+pub mod Layout
+pub mod Elements
+pub mod StoredElements
+pub mod VlenRead
+pub mod PlainRead
+pub mod Laws
+pub use Rattle.zarrs_chunk.specs.Answer
+pub use Rattle.zarrs_array_bytes.specs.Validity
+pub use Rattle.zarrs_codec.specs.StorageState
+pub use Rattle.zarrs_chain_parts.specs.PlainVlen

@@ -1,0 +1,90 @@
+-- What a read in part answers through a plain `vlen`, and the bytes that the answer rests on.
+use Rattle.std.specs.Prelude.{ℕ, ◌+◌, ◌-◌, Bool, nat_le, ◌||◌, Option, Some, None, List, [], ◌∷◌, ◌++◌, length, map, slice_index, Result, Ok, Err}
+use Rattle.std.specs.List.{flat_map, list_all, range_with_len}
+use Rattle.zarrs_chunk.specs.Answer.{◌>>=◌, demand, checked_u64, seen}
+use Rattle.zarrs_chunk.specs.declared.codec_error.CodecError.{CodecError}
+use Rattle.zarrs_chunk.specs.declared.codec_error.CodecError.TheVariants.{InvalidOffsets, InvalidByteRange}
+use Rattle.zarrs_data_type.specs.Element.{plain, Chunk}
+use Rattle.zarrs_data_type.specs.Form.{Form, form_of}
+use Rattle.zarrs_array_bytes.specs.Elements.{cut}
+use Rattle.zarrs_array_bytes.specs.Offsets.{rises}
+use Rattle.zarrs_bytes.specs.BytesCodec.{bytes_chunk}
+use Rattle.zarrs_chain_parts.specs.Decode.{offsets_in_chunk, vlen_parts}
+use Rattle.zarrs_chain_parts.specs.Encode.{offset_bytes}
+use Rattle.zarrs_chain_parts.specs.Representation.{offset_type}
+use Rattle.zarrs_chain_parts.specs.PlainVlen.{PlainForm}
+use Rattle.zarrs_plain_vlen.specs.VlenLayout.{span_numbers, head_of, layout_of, span_bytes}
+
+-- ---- the answer
+
+-- the form of an index of so many offsets: a row of them
+abbrev pub index_form : Bool → ℕ → Form
+index_form wide count = form_of (count ∷ []) (offset_type wide) (offset_bytes wide 0)
+
+-- so many offsets that an index part stands for, or the first refusal
+abbrev pub offsets_of_index : PlainForm → ℕ → List ℕ → Result (List ℕ) CodecError
+offsets_of_index form count index = do
+  chunk ← bytes_chunk (Some form.order) (index_form form.wide count) index
+  _ ← demand (rises (offsets_in_chunk form.wide chunk)) InvalidOffsets
+  Ok (offsets_in_chunk form.wide chunk)
+
+-- the offsets of so many elements, one more than these, that an index part stands for, or the first refusal
+abbrev pub offsets_read : PlainForm → ℕ → List ℕ → Result (List ℕ) CodecError
+offsets_read form count index = do
+  _ ← checked_u64 (count + 1)
+  offsets_of_index form (count + 1) index
+
+-- the element at a place is empty, or ends within so many bytes of data
+abbrev pub is_there : List ℕ → ℕ → ℕ → Bool
+is_there offsets size place =
+    nat_le (slice_index offsets (place + 1)) (slice_index offsets place) || nat_le (slice_index offsets (place + 1)) size
+
+-- the elements at places, each the data from its offset to the next, where all are there
+abbrev pub elements_read : List ℕ → List ℕ → List ℕ → Result Chunk CodecError
+elements_read offsets content places = do
+  _ ← demand (list_all (is_there offsets (length content)) places) InvalidByteRange
+  Ok (map (λ place. plain (cut offsets content place)) places)
+
+-- The elements at places of a chunk of so many, by a value's index and the elements' bytes alone; or the first refusal: of the value's parts; of the index, also where there are no places; of an element that isn't there.
+abbrev pub vlen_read : PlainForm → ℕ → List ℕ → List ℕ → Result Chunk CodecError
+vlen_read form count value places = do
+  parts ← vlen_parts form.at_end value
+  offsets ← offsets_read form count parts.0
+  elements_read offsets parts.1 places
+
+-- ---- what it rests on
+
+-- the numbers, or none of what is refused
+abbrev pub numbers_in : Result (List ℕ) CodecError → List ℕ
+numbers_in (Ok numbers) = numbers
+numbers_in (Err cause) = []
+
+-- the numbers of the bytes of the elements at places, of data that begin at `start`
+abbrev pub element_numbers : ℕ → List ℕ → List ℕ → List ℕ
+element_numbers start offsets places =
+    flat_map (λ place. range_with_len (start + slice_index offsets place) (slice_index offsets (place + 1) - slice_index offsets place)) places
+
+-- the numbers of the bytes of a value that hold the elements at places, where it has offsets
+abbrev pub elements_at : PlainForm → ℕ → List ℕ → List ℕ → Result (List ℕ) CodecError
+elements_at form count value places = do
+  layout ← layout_of form.at_end value
+  offsets ← offsets_read form count (span_bytes value layout.index)
+  Ok (element_numbers layout.content.start offsets places)
+
+-- The numbers of the bytes that a read of these places rests on: those of the index's length, those of the index and those of the elements; of a value that is refused, those of the parts that it has.
+abbrev pub rests_on : PlainForm → ℕ → List ℕ → List ℕ → List ℕ
+rests_on form count value places =
+    numbers_in (seen span_numbers (head_of form.at_end (length value)))
+    ++ (numbers_in (seen (λ layout. span_numbers layout.index) (layout_of form.at_end value)) ++ numbers_in (elements_at form count value places))
+
+-- the same of what is stored: of nothing it rests on no bytes
+abbrev pub stored_rests_on : PlainForm → ℕ → Option (List ℕ) → List ℕ → List ℕ
+stored_rests_on form count None places = []
+stored_rests_on form count (Some value) places = rests_on form count value places
+
+-- the elements at places of what is stored, or the first refusal; none, where nothing is stored
+abbrev pub stored_vlen_read : PlainForm → ℕ → Option (List ℕ) → List ℕ → Result (Option Chunk) CodecError
+stored_vlen_read form count None places = Ok None
+stored_vlen_read form count (Some value) places = do
+  chunk ← vlen_read form count value places
+  Ok (Some chunk)

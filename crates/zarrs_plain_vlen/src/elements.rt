@@ -1,0 +1,253 @@
+//! The elements at runs of places, of which the offsets are known.
+ghost use Rattle.std.specs.Prelude.{◌≡◌, ◌≤◌, ◌<◌, ◌+◌, ◌-◌, ◌*◌, ◌^◌, ◌∷◌, ◌++◌, [], true, false, All, Ok, IfOk, OnOk, is_some, length, map, min, nat_le, slice_index};
+ghost use Rattle.std.specs.List.{flat_map, list_all, range_with_len};
+ghost use Rattle.zarrs_chunk.specs.Answer.{Answers, AnswersBy, is_fault, memory, memory_or_fault};
+ghost use Rattle.zarrs_chunk.specs.Runs.{joined_runs};
+ghost use Rattle.zarrs_data_type.specs.ElementType.{is_variable};
+ghost use Rattle.zarrs_array_bytes.specs.Elements.{cut};
+ghost use Rattle.zarrs_array_bytes.specs.Held.{vlen, owned_bytes};
+ghost use Rattle.zarrs_array_bytes.specs.Offsets.{is_offsets, last_of};
+ghost use Rattle.zarrs_array_bytes.specs.Pieces.{ends as ends_of};
+ghost use Rattle.zarrs_array_bytes.specs.Validity.{Holds};
+ghost use Rattle.zarrs_codec.specs.ByteRanges.{range_indices};
+ghost use Rattle.zarrs_codec.specs.StorageState.{after_reading, are_sure, value_or_empty};
+ghost use Rattle.zarrs_plain_vlen.specs.Elements.{blank_element, bytes_read};
+ghost use Rattle.zarrs_plain_vlen.specs.VlenLayout.{span_bytes};
+ghost use Rattle.zarrs_plain_vlen.specs.VlenRead.{is_there, elements_read, element_numbers};
+
+use crate::handle_reads::read_inside;
+use crate::layout::range_of;
+use std::alloc::{AllocError, Global};
+use std::borrow::CowSlice;
+use zarrs_array_bytes::{ArrayBytes, ArrayBytesOffsets};
+use zarrs_chunk::CodecError;
+use zarrs_codec::{ByteRange, BytesPartialDecoderTraits};
+use zarrs_data_type::DataType;
+
+/// Whether each of the `count` elements from `first` on is empty, or ends within `size` bytes.
+fn run_is_there(offsets: &[usize], size: u64, first: usize, count: usize) -> bool
+    requires rising { is_offsets offsets.now ≡ true }
+    requires known { first + count < length offsets.now }
+    ensures value { result ≡ list_all (is_there offsets.now size) (range_with_len first count) }
+{
+    let from = offsets[first];
+    let to = offsets[first + count];
+    to <= from || to as u64 <= size
+}
+
+/// Whether each of the elements at the runs is empty, or ends within `size` bytes.
+fn are_there(offsets: &[usize], size: u64, runs: &[(u64, u64)]) -> bool
+    requires rising { is_offsets offsets.now ≡ true }
+    requires known { All (λ run. run.0 + run.1 < length offsets.now) runs.now }
+    ensures value { result ≡ list_all (λ run. list_all (is_there offsets.now size) (range_with_len run.0 run.1)) runs.now }
+{
+    for (first, count) in runs {
+        if !run_is_there(offsets, size, *first as usize, *count as usize) {
+            return false;
+        }
+    }
+    true
+}
+
+/// Appends a range, joined with the last one where that one ends there.
+fn push_joined(ranges: &mut Vec<ByteRange>, range: ByteRange) -> Result<(), AllocError>
+    requires some { range.start < range.end }
+    requires filled { All (λ range. range.start < range.end) ranges.old.items }
+    ensures numbers { OnOk result (range_indices ranges.new.items ≡ range_indices ranges.old.items ++ range_with_len range.start (range.end - range.start)) }
+    ensures filled { OnOk result (All (λ range. range.start < range.end) ranges.new.items) }
+{
+    match ranges.pop() {
+        None => ranges.push(range)?,
+        Some(last) => {
+            if last.end() == range.start() {
+                ranges.push(range_of(last.start(), range.end()))?;
+            } else {
+                ranges.push(last)?;
+                ranges.push(range)?;
+            }
+        }
+    }
+    Ok(())
+}
+
+/// Appends the range of the bytes of the `count` elements from `first` on, of data that begin at
+/// `start`; none, where they are all empty.
+fn plan_run(
+    ranges: &mut Vec<ByteRange>,
+    offsets: &[usize],
+    start: u64,
+    first: usize,
+    count: usize,
+) -> Result<(), AllocError>
+    requires rising { is_offsets offsets.now ≡ true }
+    requires known { first + count < length offsets.now }
+    requires ends { slice_index offsets.now first < slice_index offsets.now (first + count) → start + slice_index offsets.now (first + count) < 2 ^ 64 }
+    requires filled { All (λ range. range.start < range.end) ranges.old.items }
+    ensures numbers { OnOk result (range_indices ranges.new.items ≡ range_indices ranges.old.items ++ element_numbers start offsets.now (range_with_len first count)) }
+    ensures filled { OnOk result (All (λ range. range.start < range.end) ranges.new.items) }
+{
+    let from = offsets[first];
+    let to = offsets[first + count];
+    if from >= to {
+        return Ok(());
+    }
+    push_joined(ranges, range_of(start + from as u64, start + to as u64))
+}
+
+/// The ranges of the bytes of the elements at the runs, of data that begin at `start`, in order.
+/// Neighbours are joined, and none is empty.
+fn plan_runs(
+    alloc: Global,
+    offsets: &[usize],
+    start: u64,
+    size: u64,
+    runs: &[(u64, u64)],
+) -> Result<Vec<ByteRange>, AllocError>
+    requires rising { is_offsets offsets.now ≡ true }
+    requires known { All (λ run. run.0 + run.1 < length offsets.now) runs.now }
+    requires there { list_all (is_there offsets.now size) (joined_runs runs.now) ≡ true }
+    requires fits { start + size < 2 ^ 64 }
+    ensures numbers { IfOk result (λ ranges. range_indices ranges.items ≡ element_numbers start offsets.now (joined_runs runs.now)) }
+    ensures filled { IfOk result (λ ranges. All (λ range. range.start < range.end) ranges.items) }
+{
+    let mut ranges = Vec::with_capacity(alloc, runs.len())?;
+    for (first, count) in runs {
+        plan_run(
+            &mut ranges,
+            offsets,
+            start,
+            *first as usize,
+            *count as usize,
+        )?;
+    }
+    Ok(ranges)
+}
+
+/// Appends the offsets, counted from `start` where they were counted from `from`.
+fn append_moved(
+    out: &mut Vec<usize>,
+    offsets: &[usize],
+    from: usize,
+    start: usize,
+) -> Result<(), AllocError>
+    requires behind { All (λ offset. from ≤ offset) offsets.now }
+    requires fits { All (λ offset. offset - from + start < 2 ^ 64) offsets.now }
+    ensures appended { OnOk result (out.new.items ≡ out.old.items ++ map (λ offset. offset - from + start) offsets.now) }
+{
+    out.extend(offsets.iter().map(|offset| *offset - from + start))
+}
+
+/// Appends where each of the `count` elements from `first` on ends, behind `start` bytes.
+fn append_ends(
+    ends: &mut Vec<usize>,
+    offsets: &[usize],
+    start: usize,
+    first: usize,
+    count: usize,
+) -> Result<(), AllocError>
+    requires rising { is_offsets offsets.now ≡ true }
+    requires known { first + count < length offsets.now }
+    requires fits { start + (slice_index offsets.now (first + count) - slice_index offsets.now first) < 2 ^ 64 }
+    ensures ends { OnOk result (ends.new.items ≡ ends.old.items ++ ends_of start (map (blank_element offsets.now) (range_with_len first count))) }
+{
+    let from = offsets[first];
+    append_moved(ends, &offsets[first + 1..first + count + 1], from, start)
+}
+
+/// How many places the runs have, or `u64::MAX` where they have more.
+fn count_places(runs: &[(u64, u64)]) -> u64
+    ensures { result ≡ min (length (joined_runs runs.now)) (2 ^ 64 - 1) }
+{
+    let mut count: u64 = 0;
+    for (_, len) in runs {
+        count = count.saturating_add(*len);
+    }
+    count
+}
+
+/// The offsets of the elements at the runs, one behind another.
+fn ends_of_runs(
+    alloc: Global,
+    offsets: &[usize],
+    runs: &[(u64, u64)],
+) -> Result<Vec<usize>, AllocError>
+    requires rising { is_offsets offsets.now ≡ true }
+    requires known { All (λ run. run.0 + run.1 < length offsets.now) runs.now }
+    requires fits { length (flat_map (blank_element offsets.now) (joined_runs runs.now)) < 2 ^ 64 }
+    ensures small { IfOk result (λ ends. length ends.items < 2 ^ 64) }
+    ensures ends { IfOk result (λ ends. ends.items ≡ 0 ∷ ends_of 0 (map (blank_element offsets.now) (joined_runs runs.now))) }
+{
+    let room = (count_places(runs) as usize).saturating_add(1);
+    let mut ends = Vec::with_capacity(alloc, room)?;
+    ends.push(0)?;
+    let mut start = 0;
+    for (first, count) in runs {
+        let first = *first as usize;
+        let count = *count as usize;
+        append_ends(&mut ends, offsets, start, first, count)?;
+        start += offsets[first + count] - offsets[first];
+    }
+    Ok(ends)
+}
+
+/// The bytes of the elements at the runs, read by one call. Refusals: `InvalidByteRange`.
+fn read_bytes<H: BytesPartialDecoderTraits>(
+    alloc: Global,
+    handle: &mut H,
+    offsets: &[usize],
+    content: ByteRange,
+    runs: &[(u64, u64)],
+) -> Result<Vec<u8>, CodecError>
+    requires stored { is_some (H.state handle.old).value ≡ true }
+    requires inside { content.end ≤ length (value_or_empty (H.state handle.old).value) }
+    requires rising { is_offsets offsets.now ≡ true }
+    requires known { All (λ run. run.0 + run.1 < length offsets.now) runs.now }
+    ensures answer { Answers memory_or_fault (λ bytes. bytes.items) result (bytes_read offsets.now (span_bytes (value_or_empty (H.state handle.old).value) content) (joined_runs runs.now)) }
+    ensures lengths { IfOk result (λ bytes. length bytes.items ≡ length (flat_map (blank_element offsets.now) (joined_runs runs.now))) }
+    ensures sure { are_sure (H.state handle.old).sure (element_numbers content.start offsets.now (joined_runs runs.now)) ≡ true → is_fault result ≡ false }
+    ensures left { H.state handle.new ≡ after_reading result (H.state handle.old) }
+    ensures same_reference { H.lent handle.new ≡ H.lent handle.old }
+{
+    let start = content.start();
+    let size = content.end() - start;
+    if !are_there(offsets, size, runs) {
+        return Err(CodecError::InvalidByteRange);
+    }
+    let ranges = plan_runs(alloc, offsets, start, size, runs)?;
+    read_inside(alloc, handle, ranges.as_slice())
+}
+
+/// A container of elements of any length.
+fn variable(bytes: Vec<u8>, offsets: Vec<usize>) -> Result<ArrayBytes<'static>, CodecError>
+    requires rising { is_offsets offsets.items ≡ true }
+    requires ending { last_of offsets.items ≡ length bytes.items }
+    ensures made { result ≡ Ok (vlen (owned_bytes bytes.items) offsets.items) }
+{
+    ArrayBytes::new_vlen(CowSlice::Owned(bytes), ArrayBytesOffsets::new(offsets)?)
+}
+
+/// The elements at the runs, in their order, of data that stand there in the stored value. Refusals:
+/// `InvalidByteRange`.
+pub(crate) fn read_elements<H: BytesPartialDecoderTraits>(
+    alloc: Global,
+    handle: &mut H,
+    offsets: &[usize],
+    content: ByteRange,
+    data_type: &DataType,
+    runs: &[(u64, u64)],
+) -> Result<ArrayBytes<'static>, CodecError>
+    requires stored { is_some (H.state handle.old).value ≡ true }
+    requires inside { content.end ≤ length (value_or_empty (H.state handle.old).value) }
+    requires rising { is_offsets offsets.now ≡ true }
+    requires known { All (λ run. run.0 + run.1 < length offsets.now) runs.now }
+    requires variable { is_variable data_type.now ≡ true }
+    ensures answer { AnswersBy memory_or_fault (Holds data_type.now) result (elements_read offsets.now (span_bytes (value_or_empty (H.state handle.old).value) content) (joined_runs runs.now)) }
+    ensures sure { are_sure (H.state handle.old).sure (element_numbers content.start offsets.now (joined_runs runs.now)) ≡ true → is_fault result ≡ false }
+    ensures left { H.state handle.new ≡ after_reading result (H.state handle.old) }
+    ensures same_reference { H.lent handle.new ≡ H.lent handle.old }
+{
+    let bytes = read_bytes(alloc, handle, offsets, content, runs)?;
+    let ends = ends_of_runs(alloc, offsets, runs)?;
+    let _ = data_type;
+    variable(bytes, ends)
+}

@@ -1,0 +1,127 @@
+//! The offsets of a value.
+ghost use Rattle.std.specs.Prelude.{◌≡◌, ◌≤◌, ◌<◌, ◌+◌, ◌-◌, ◌*◌, ◌∷◌, [], true, false, Ok, Some, IfOk, is_some, length};
+ghost use Rattle.zarrs_chunk.specs.Answer.{Answers, AnswersBy, is_fault, memory, memory_or_fault};
+ghost use Rattle.zarrs_array_bytes.specs.Validity.{Holds};
+ghost use Rattle.zarrs_bytes.specs.BytesCodec.{bytes_chunk};
+ghost use Rattle.zarrs_codec.specs.StorageState.{after_reading, are_sure, value_or_empty};
+ghost use Rattle.zarrs_chain_parts.specs.Representation.{offset_type as offset_type_of};
+ghost use Rattle.zarrs_chain_parts.specs.VlenSettings.{is_wide};
+ghost use Rattle.zarrs_chain_parts.specs.VlenSteps.{offset_size as offset_size_of};
+ghost use Rattle.zarrs_plain_vlen.specs.IndexSteps.{index_count};
+ghost use Rattle.zarrs_chain_parts.specs.PlainVlen.{plain_form};
+ghost use Rattle.zarrs_plain_vlen.specs.VlenLayout.{span_bytes, span_numbers};
+ghost use Rattle.zarrs_plain_vlen.specs.VlenRead.{index_form, offsets_of_index, offsets_read};
+
+use crate::handle_reads::read_range;
+use std::alloc::Global;
+use std::borrow::CowSlice;
+use zarrs_array_bytes::{ArrayBytes, ArrayBytesOffsets};
+use zarrs_bytes::BytesCodec;
+use zarrs_chain_parts::plain_vlen::PlainVlen;
+use zarrs_chain_parts::vlen_offsets::{offset_fill, offset_numbers, offset_type};
+use zarrs_chunk::{ChunkShape, CodecError};
+use zarrs_codec::{ByteRange, BytesPartialDecoderTraits};
+use zarrs_metadata::VlenIndexDataType;
+
+/// How many bytes an offset takes.
+fn offset_size(data_type: VlenIndexDataType) -> u64
+    ensures value { result ≡ offset_size_of (is_wide data_type) }
+{
+    match data_type {
+        VlenIndexDataType::UInt32 => 4,
+        VlenIndexDataType::UInt64 => 8,
+    }
+}
+
+/// How many offsets `count` elements have, where their index has `found` bytes. Refusals: `Overflow`
+/// where 64 bits don't count the offsets, or their bytes; `InvalidBytesLength` where it has others.
+fn count_offsets(count: u64, data_type: VlenIndexDataType, found: u64) -> Result<u64, CodecError>
+    ensures answer { result ≡ index_count (is_wide data_type) count found }
+    ensures some { IfOk result (λ offsets. 0 < offsets) }
+    ensures no_fault { is_fault result ≡ false }
+{
+    let offsets = count.checked_add(1).ok_or(CodecError::Overflow)?;
+    let expected = offsets
+        .checked_mul(offset_size(data_type))
+        .ok_or(CodecError::Overflow)?;
+    if found != expected {
+        return Err(CodecError::InvalidBytesLength {
+            len: found,
+            expected,
+        });
+    }
+    Ok(offsets)
+}
+
+/// The shape of a row of so many elements.
+fn row_of(alloc: Global, count: u64) -> Result<ChunkShape, CodecError>
+    requires some { 0 < count }
+    ensures answer { Answers memory (λ shape. shape) result (Ok (count ∷ [])) }
+    ensures no_fault { is_fault result ≡ false }
+{
+    let sizes = vec![in alloc; count; 1]?;
+    match ChunkShape::new(sizes) {
+        None => unreachable!(),
+        Some(shape) => Ok(shape),
+    }
+}
+
+/// The elements of an index, `count` offsets. Refusals: those of the codec `bytes`.
+fn index_rows(
+    alloc: Global,
+    codec: PlainVlen,
+    count: u64,
+    index: Vec<u8>,
+) -> Result<ArrayBytes<'static>, CodecError>
+    requires some { 0 < count }
+    ensures answer { let form = plain_form codec in AnswersBy memory (Holds (offset_type_of form.wide)) result (bytes_chunk (Some form.order) (index_form form.wide count) index.items) }
+    ensures no_fault { is_fault result ≡ false }
+{
+    let shape = row_of(alloc, count)?;
+    let fill_value = offset_fill(alloc, codec.index_data_type)?;
+    BytesCodec::new(Some(codec.endianness)).decode(
+        alloc,
+        CowSlice::Owned(index),
+        &shape,
+        &offset_type(codec.index_data_type),
+        &fill_value,
+    )
+}
+
+/// The offsets, `count` of them, that an index stands for. Refusals: those of the codec `bytes`;
+/// `InvalidOffsets`.
+fn decode_index(
+    alloc: Global,
+    codec: PlainVlen,
+    count: u64,
+    index: Vec<u8>,
+) -> Result<ArrayBytesOffsets, CodecError>
+    requires some { 0 < count }
+    ensures answer { Answers memory (λ offsets. offsets) result (offsets_of_index (plain_form codec) count index.items) }
+    ensures no_fault { is_fault result ≡ false }
+{
+    let rows = index_rows(alloc, codec, count, index)?;
+    let numbers = offset_numbers(alloc, rows.as_fixed()?, codec.index_data_type)?;
+    ArrayBytesOffsets::new(numbers)
+}
+
+/// The offsets of `count` elements, by the index that stands there in the stored value. An index of
+/// another length isn't read. Refusals: `Overflow`, `InvalidBytesLength`, `InvalidOffsets`.
+pub(crate) fn read_index<H: BytesPartialDecoderTraits>(
+    alloc: Global,
+    handle: &mut H,
+    codec: PlainVlen,
+    count: u64,
+    index: ByteRange,
+) -> Result<ArrayBytesOffsets, CodecError>
+    requires stored { is_some (H.state handle.old).value ≡ true }
+    requires inside { index.end ≤ length (value_or_empty (H.state handle.old).value) }
+    ensures answer { Answers memory_or_fault (λ offsets. offsets) result (offsets_read (plain_form codec) count (span_bytes (value_or_empty (H.state handle.old).value) index)) }
+    ensures sure { are_sure (H.state handle.old).sure (span_numbers index) ≡ true → is_fault result ≡ false }
+    ensures left { H.state handle.new ≡ after_reading result (H.state handle.old) }
+    ensures same_reference { H.lent handle.new ≡ H.lent handle.old }
+{
+    let offsets = count_offsets(count, codec.index_data_type, index.end() - index.start())?;
+    let bytes = read_range(alloc, handle, index)?;
+    decode_index(alloc, codec, offsets, bytes)
+}
