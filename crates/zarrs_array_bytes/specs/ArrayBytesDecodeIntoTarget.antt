@@ -1,8 +1,10 @@
 -- What a target's own parts are seen as.
 use Rattle.std.specs.Borrow.{GName}
-use Rattle.std.specs.Prelude.{List, map}
+use Rattle.std.specs.Prelude.{ℕ, Bool, List, map, take, drop, ◌++◌}
 use Rattle.zarrs_array_bytes.specs.ArrayBytesFixedView.{view_of}
-use Rattle.zarrs_array_bytes.specs.DecodeTarget.{DecodeTarget}
+use Rattle.zarrs_array_bytes.specs.DecodeTarget.{DecodeTarget, has_values, under_views, written_masks}
+use Rattle.zarrs_array_bytes.specs.FixedView.{FixedView}
+use Rattle.zarrs_array_bytes.specs.Held.{Held}
 use Rattle.zarrs_array_bytes.specs.declared.array_bytes_fixed_view.ArrayBytesFixedView.{ArrayBytesFixedView}
 use Rattle.zarrs_array_bytes.specs.declared.array_bytes_decode_into_target.ArrayBytesDecodeIntoTarget.{ArrayBytesDecodeIntoTarget}
 
@@ -17,3 +19,19 @@ view_name view = view.bytes.ghost_name
 -- those of the views of a target: of the elements, and of the masks
 abbrev pub target_names : ArrayBytesDecodeIntoTarget → GName × List GName
 target_names target = (view_name target.values, map view_name target.masks.items)
+
+-- the views of the masks from this level on
+abbrev pub views_from : ℕ → List ArrayBytesFixedView → List FixedView
+views_from level masks = drop level (map view_of masks)
+
+-- what stands under the masks from this level on
+abbrev pub under_from : ℕ → List ArrayBytesFixedView → Held → Held
+under_from level masks held = under_views (views_from level masks) held
+
+-- what stands under these masks has as many bytes as the view's elements
+abbrev pub has_values_from : ℕ → List ArrayBytesFixedView → ArrayBytesFixedView → Held → Bool
+has_values_from level masks values held = has_values (view_of values) (under_from level masks held)
+
+-- the views of the masks, those from this level on with the mask bytes of a container written into them
+abbrev pub written_from : ℕ → List ArrayBytesFixedView → Held → List FixedView
+written_from level masks held = take level (map view_of masks) ++ written_masks (views_from level masks) held

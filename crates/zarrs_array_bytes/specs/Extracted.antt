@@ -1,17 +1,15 @@
 -- The container that is taken out of another at places.
 use Rattle.std.specs.Prelude.{ℕ, ◌<◌, ◌^◌, List, length, map, slice_index}
-use Rattle.std.specs.List.{flat_map}
 use Rattle.zarrs_data_type.specs.ElementType.{ElementType, fixed, text, bytes, optional, element_size}
 use Rattle.zarrs_array_bytes.specs.Held.{Held, flen, vlen, masked, owned_bytes}
-use Rattle.zarrs_array_bytes.specs.Elements.{piece, cut}
-use Rattle.zarrs_array_bytes.specs.Pieces.{bytes_with_offsets, variable_of}
+use Rattle.zarrs_array_bytes.specs.Pieces.{pieces_at, cuts_at, fixed_of, variable_of}
 
 -- a container of the elements at the places: their bytes one after another, and at each optional level their mask bytes
 abbrev pub container_selection : ElementType → Held → List ℕ → Held
 container_selection (fixed width count sign) (flen raw) places =
-    flen (owned_bytes (flat_map (piece (element_size width count) raw.items) places))
-container_selection text (vlen raw offsets) places = variable_of (bytes_with_offsets (cut offsets raw.items) places)
-container_selection bytes (vlen raw offsets) places = variable_of (bytes_with_offsets (cut offsets raw.items) places)
+    fixed_of (pieces_at (element_size width count) raw.items places)
+container_selection text (vlen raw offsets) places = variable_of (cuts_at offsets raw.items places)
+container_selection bytes (vlen raw offsets) places = variable_of (cuts_at offsets raw.items places)
 container_selection (optional type) (masked inner mask) places =
     masked (container_selection type inner places) (owned_bytes (map (slice_index mask.items) places))
 container_selection _ held places = held

@@ -10,6 +10,10 @@ use Rattle.zarrs_array_bytes.specs.Pieces.{bytes_with_offsets, variable_of}
 abbrev pub copies : List ℕ → ℕ → List ℕ
 copies items count = flat_map (λ part. part) (replicate count items)
 
+-- the same bytes, and the offsets of these `count` elements
+abbrev pub copies_with_offsets : List ℕ → ℕ → List ℕ × List ℕ
+copies_with_offsets items count = bytes_with_offsets (λ part. part) (replicate count items)
+
 -- what stands under `count` absent elements: zeros, empty bytes, inner masks of zero
 abbrev pub blank_elements : ElementType → ℕ → Held
 blank_elements (fixed width components sign) count =
@@ -21,8 +25,8 @@ blank_elements (optional type) count = masked (blank_elements type count) (owned
 -- a container of `count` elements, each of them the fill value; where that is absent, they stand over blank ones
 abbrev pub container_fill : ElementType → ℕ → List ℕ → Held
 container_fill (fixed width components sign) count fill = flen (owned_bytes (copies fill count))
-container_fill text count fill = variable_of (bytes_with_offsets (λ part. part) (replicate count fill))
-container_fill bytes count fill = variable_of (bytes_with_offsets (λ part. part) (replicate count fill))
+container_fill text count fill = variable_of (copies_with_offsets fill count)
+container_fill bytes count fill = variable_of (copies_with_offsets fill count)
 container_fill (optional type) count fill =
     if is_null fill then masked (blank_elements type count) (owned_bytes (replicate count 0))
     else masked (container_fill type count (front_of fill)) (owned_bytes (replicate count 1))

@@ -10,6 +10,8 @@ pub mod Validity
 pub mod Blank
 pub mod WrongLength
 pub mod Pieces
+pub mod Cuts
+pub mod Given
 pub mod Extracted
 pub mod Filled
 pub mod Sources

@@ -1,7 +1,8 @@
 -- Containers made of parts, and the parts of containers.
 use Rattle.std.specs.Prelude.{ℕ, ◌==◌, nat_lt, List, [], length, Result, Ok, Err}
 use Rattle.std.specs.List.{list_all}
-use Rattle.zarrs_chunk.specs.Answer.{◌>>=◌, demand}
+use Rattle.std.proofs.Common.{Bor}
+use Rattle.zarrs_chunk.specs.Answer.{◌>>=◌, demand, seen}
 use Rattle.zarrs_chunk.specs.declared.codec_error.CodecError.{CodecError}
 use Rattle.zarrs_chunk.specs.declared.codec_error.CodecError.TheVariants.{ArrayBytesKind, InvalidOffsets, MaskValue}
 use Rattle.zarrs_array_bytes.specs.Held.{Raw, Held, flen, vlen, masked}
@@ -36,6 +37,20 @@ abbrev pub optional_part : Held → Result (Held × Raw) CodecError
 optional_part (flen raw) = Err ArrayBytesKind
 optional_part (vlen raw offsets) = Err ArrayBytesKind
 optional_part (masked inner mask) = Ok (inner, mask)
+
+-- the same parts, of whose bytes it doesn't matter who owns them
+abbrev pub fixed_items : Held → Result (List ℕ) CodecError
+fixed_items held = seen (λ raw. raw.items) (fixed_part held)
+
+abbrev pub variable_items : Held → Result (List ℕ × List ℕ) CodecError
+variable_items held = seen (λ parts. (parts.0.items, parts.1)) (variable_part held)
+
+abbrev pub optional_items : Held → Result (Held × List ℕ) CodecError
+optional_items held = seen (λ parts. (parts.0, parts.1.items)) (optional_part held)
+
+-- two values that are lent
+abbrev pub lent_both : {A B : Type 0} → Bor A × Bor B → A × B
+lent_both pair = (pair.0.now, pair.1.now)
 
 -- the bytes of the outermost level: those of the elements, or a mask's
 abbrev pub bytes_in : Held → List ℕ

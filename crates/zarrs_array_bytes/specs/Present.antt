@@ -1,16 +1,16 @@
 -- Elements under a mask: those that are present, taken out and put back.
-use Rattle.std.specs.Prelude.{ℕ, zero, suc, ◌==◌, Bool, nat_lt, if◌then◌else◌, List, [], ◌∷◌, length, map, slice_index, Result, Ok}
+use Rattle.std.specs.Prelude.{◌≡◌, ℕ, zero, suc, ◌==◌, Bool, nat_lt, if◌then◌else◌, List, [], ◌∷◌, length, map, slice_index, Result, Ok}
 use Rattle.std.specs.List.{filter, list_all, range_with_len}
 use Rattle.zarrs_chunk.specs.Answer.{◌>>=◌, demand}
 use Rattle.zarrs_chunk.specs.declared.codec_error.CodecError.{CodecError}
 use Rattle.zarrs_chunk.specs.declared.codec_error.CodecError.TheVariants.{MaskValue}
 use Rattle.zarrs_data_type.specs.ElementType.{ElementType, optional}
 use Rattle.zarrs_data_type.specs.Element.{Element, absent, present, Chunk}
-use Rattle.zarrs_array_bytes.specs.Held.{Held, masked, owned_bytes}
+use Rattle.zarrs_array_bytes.specs.Held.{Raw, Held, masked, owned_bytes}
 use Rattle.zarrs_array_bytes.specs.Elements.{elements}
 use Rattle.zarrs_array_bytes.specs.Validity.{sizes_fit, validity}
 use Rattle.zarrs_array_bytes.specs.Filled.{blank_elements}
-use Rattle.zarrs_array_bytes.specs.Update.{container_update}
+use Rattle.zarrs_array_bytes.specs.Update.{container_written}
 
 -- what is inside the elements that are present, in order
 abbrev pub present_elements : Chunk → Chunk
@@ -70,7 +70,7 @@ expanded_chunk type held mask = do
 -- blank elements, as many as there are mask bytes, with those at the present places replaced by the elements of a container in order
 abbrev pub container_spread : ElementType → Held → List ℕ → Held
 container_spread type held mask =
-    container_update type (length mask) (blank_elements type (length mask)) (length (present_places mask)) held (present_places mask)
+    container_written type (length mask) (blank_elements type (length mask)) (present_places mask) held
 
 -- what stands under a mask where the elements are put back: they themselves where all are present, else blank ones between them
 abbrev pub container_expansion : ElementType → Held → List ℕ → Held
@@ -81,3 +81,7 @@ abbrev pub expansion_of : ElementType → Held → List ℕ → Result Held Code
 expansion_of type held mask = do
   _ ← expansion_fits type held mask
   Ok (container_expansion type held mask)
+
+-- the container is the elements of another one, put back under a mask
+abbrev pub IsExpansion : ElementType → Held → Raw → Held → Type 0
+IsExpansion type held mask expanded = expanded ≡ masked (container_expansion type held mask.items) mask

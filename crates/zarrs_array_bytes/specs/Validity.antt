@@ -1,6 +1,6 @@
 -- Whether a container has the kind of a type and so many elements, and the first cause where not.
 use Rattle.std.specs.Prelude.{◌≡◌, ℕ, ◌+◌, ◌*◌, length, ◌==◌, ◌^◌, nat_lt, Result, Ok, Err}
-use Rattle.zarrs_chunk.specs.Answer.{◌>>=◌, demand}
+use Rattle.zarrs_chunk.specs.Answer.{◌>>=◌, demand, seen}
 use Rattle.zarrs_chunk.specs.declared.codec_error.CodecError.{CodecError}
 use Rattle.zarrs_chunk.specs.declared.codec_error.CodecError.TheVariants.{Overflow, ArrayBytesKind, InvalidBytesLength, DataMismatch}
 use Rattle.zarrs_data_type.specs.ElementType.{ElementType, fixed, text, bytes, optional, element_size}
@@ -33,11 +33,19 @@ levels_fit refusal (optional type) count (masked inner mask) =
     length_is refusal (length mask.items) count >>= λ _. levels_fit refusal type count inner
 levels_fit refusal _ count _ = Err ArrayBytesKind
 
+-- level by level, the container is of the type's kind and has so many elements
+abbrev pub HasElements : ElementType → ℕ → Held → Type 0
+HasElements type count held = levels_fit InvalidBytesLength type count held ≡ Ok tt
+
 -- a chunk's container has so many elements of the type
 abbrev pub validity : ElementType → ℕ → Held → Result (Unit {0}) CodecError
 validity type count held = do
   _ ← sizes_fit type count
   levels_fit InvalidBytesLength type count held
+
+-- the container, where it has so many elements of the type, or the first cause why not
+abbrev pub validated : ElementType → ℕ → Held → Result Held CodecError
+validated type count held = seen (λ _. held) (validity type count held)
 
 -- any wrong length of new data
 abbrev pub data_mismatch : LengthRefusal

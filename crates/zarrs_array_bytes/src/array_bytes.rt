@@ -1,12 +1,14 @@
-ghost use Rattle.std.specs.Prelude.{◌≡◌, ◌<◌, ◌^◌, ℕ, List, Ok, IfOk, true, false, min, length};
+ghost use Rattle.std.specs.Prelude.{◌≡◌, ◌<◌, ◌^◌, Ok, IfOk, true, false, min, length};
 ghost use Rattle.std.specs.Cmp.{partial_equiv_from_equiv};
-ghost use Rattle.zarrs_chunk.specs.Answer.{Answers, memory, seen, is_fault, Gives};
-ghost use Rattle.zarrs_array_bytes.specs.Held.{Held, flen, vlen, masked, owned_bytes, raw_of, byte_count, mask_levels};
+ghost use Rattle.zarrs_chunk.specs.Answer.{Answers, memory, seen, is_fault};
+ghost use Rattle.zarrs_array_bytes.specs.Held.{flen, vlen, owned_bytes, raw_of, byte_count, mask_levels};
 ghost use Rattle.zarrs_array_bytes.specs.Offsets.{is_offsets, last_of};
 ghost use Rattle.zarrs_array_bytes.specs.Extracted.{IsSmall};
 ghost use Rattle.zarrs_array_bytes.specs.SameBytes.{is_same_held};
 ghost use Rattle.zarrs_array_bytes.specs.SameBytesLaws.{is_same_held-equivalence};
-ghost use Rattle.zarrs_array_bytes.specs.Parts.{with_offsets, with_mask, fixed_part, variable_part, optional_part};
+ghost use Rattle.zarrs_array_bytes.specs.Given.{GivesHeld};
+ghost use Rattle.zarrs_array_bytes.specs.Parts.{with_offsets, with_mask, variable_part, optional_part, fixed_part, fixed_items, variable_items, optional_items, lent_both};
+ghost use Rattle.zarrs_array_bytes.specs.Pieces.{masked_by};
 ghost use Rattle.zarrs_array_bytes.specs.Validity.{sizes_fit, levels_fit, validity, data_fit};
 ghost use Rattle.zarrs_array_bytes.specs.WrongLength.{refusal_of};
 ghost use Rattle.std.specs.List.{list_all};
@@ -94,7 +96,8 @@ impl<'a> ArrayBytes<'a> {
         alloc: Global,
         mask: ArrayBytesRaw<'a>,
     ) -> Result<ArrayBytes<'a>, CodecError>
-        ensures answer { Answers memory (λ array. array) result (with_mask self.entry (raw_of mask.entry)) }
+        ensures answer { Answers memory (λ array. array) result
+            (with_mask self.entry (raw_of mask.entry)) }
     {
         if !is_mask(mask.as_slice()) {
             return Err(CodecError::MaskValue);
@@ -124,7 +127,7 @@ impl<'a> ArrayBytes<'a> {
     ) -> Result<ArrayBytes<'a>, CodecError>
         requires { list_all (λ byte. nat_lt byte 2) mask.items ≡ true }
         ensures small { IfOk result (λ array. IsSmall inner.entry → IsSmall array) }
-        ensures exact { Gives (λ array. array) result (Ok (masked inner.entry (owned_bytes mask.items))) }
+        ensures exact { GivesHeld result (Ok (masked_by inner.entry mask.items)) }
     {
         Ok(ArrayBytes {
             parts: Parts::Optional(Box::new(alloc, inner)?, CowSlice::Owned(mask)),
@@ -144,7 +147,8 @@ impl<'a> ArrayBytes<'a> {
     /// The bytes and offsets of elements of any length. Refusals: `ArrayBytesKind` for any other
     /// elements.
     pub fn into_variable(self) -> Result<(ArrayBytesRaw<'a>, ArrayBytesOffsets), CodecError>
-        ensures answer { seen (λ parts. (raw_of parts.0, parts.1)) result ≡ variable_part self.entry }
+        ensures answer { seen (λ parts. (raw_of parts.0, parts.1)) result
+            ≡ variable_part self.entry }
     {
         match self.parts {
             Parts::Variable(bytes, offsets) => Ok((bytes, offsets)),
@@ -155,7 +159,8 @@ impl<'a> ArrayBytes<'a> {
     /// What stands under the outermost mask, and that mask. Refusals: `ArrayBytesKind` for elements
     /// without a mask.
     pub fn into_optional(self) -> Result<(Box<ArrayBytes<'a>>, ArrayBytesRaw<'a>), CodecError>
-        ensures answer { seen (λ parts. (parts.0.value, raw_of parts.1)) result ≡ optional_part self.entry }
+        ensures answer { seen (λ parts. (parts.0.value, raw_of parts.1)) result
+            ≡ optional_part self.entry }
     {
         match self.parts {
             Parts::Optional(inner, mask) => Ok((inner, mask)),
@@ -165,7 +170,7 @@ impl<'a> ArrayBytes<'a> {
 
     /// The bytes of elements of one size, lent. Refusals: `ArrayBytesKind` for any other elements.
     pub fn as_fixed(&self) -> Result<&[u8], CodecError>
-        ensures answer { seen (λ bytes. bytes.now) result ≡ seen (λ raw. raw.items) (fixed_part self.now) }
+        ensures answer { seen (λ bytes. bytes.now) result ≡ fixed_items self.now }
     {
         match &self.parts {
             Parts::Fixed(bytes) => Ok(bytes.as_slice()),
@@ -176,7 +181,7 @@ impl<'a> ArrayBytes<'a> {
     /// The bytes and offsets of elements of any length, lent. Refusals: `ArrayBytesKind` for any other
     /// elements.
     pub fn as_variable(&self) -> Result<(&[u8], &ArrayBytesOffsets), CodecError>
-        ensures answer { seen {Y = List ℕ × List ℕ} (λ parts. (parts.0.now, parts.1.now)) result ≡ seen (λ parts. (parts.0.items, parts.1)) (variable_part self.now) }
+        ensures answer { seen lent_both result ≡ variable_items self.now }
         ensures ending { IfOk result (λ parts. last_of parts.1.now ≡ length parts.0.now) }
     {
         match &self.parts {
@@ -188,7 +193,7 @@ impl<'a> ArrayBytes<'a> {
     /// What stands under the outermost mask, and that mask, lent: a byte for each element, 0 for
     /// absent and 1 for present. Refusals: `ArrayBytesKind` for elements without a mask.
     pub fn as_optional(&self) -> Result<(&ArrayBytes<'a>, &[u8]), CodecError>
-        ensures answer { seen {Y = Held × List ℕ} (λ parts. (parts.0.now, parts.1.now)) result ≡ seen (λ parts. (parts.0, parts.1.items)) (optional_part self.now) }
+        ensures answer { seen lent_both result ≡ optional_items self.now }
         ensures mask { IfOk result (λ parts. list_all (λ byte. nat_lt byte 2) parts.1.now ≡ true) }
         ensures inside { IfOk result (λ parts. mask_levels parts.0.now < mask_levels self.now) }
     {
@@ -243,7 +248,8 @@ impl<'a> ArrayBytes<'a> {
         wrong: WrongLength,
     ) -> Result<(), CodecError>
         requires counted { wrong ≡ WrongLength.InvalidBytesLength → count < 2 ^ 64 }
-        requires sizes { wrong ≡ WrongLength.InvalidBytesLength → sizes_fit data_type.now count ≡ Ok tt }
+        requires sizes { wrong ≡ WrongLength.InvalidBytesLength
+            → sizes_fit data_type.now count ≡ Ok tt }
         ensures exact { result ≡ levels_fit (refusal_of wrong) data_type.now count self.now }
         ensures no_fault { is_fault result ≡ false }
     {

@@ -6,6 +6,7 @@ ghost use Rattle.zarrs_array_bytes.specs.Blank.{has_flags};
 ghost use Rattle.zarrs_array_bytes.specs.DecodeTarget.{has_one_size as has_one_size_of, levels_taken as levels_taken_of, written_masks, under_views, has_masks, has_values};
 ghost use Rattle.zarrs_array_bytes.specs.FixedView.{written_view};
 ghost use Rattle.zarrs_array_bytes.specs.Parts.{bytes_in};
+ghost use Rattle.zarrs_array_bytes.specs.ArrayBytesDecodeIntoTarget.{views_from, under_from, has_values_from, written_from};
 
 use crate::array_bytes::ArrayBytes;
 use crate::array_bytes_fixed_view::ArrayBytesFixedView;
@@ -30,7 +31,8 @@ impl<'a> ArrayBytesDecodeIntoTarget<'a> {
     /// a mask of one byte for each, that of the elements of their size.
     #[tactic(auto, using(crate::proofs::TargetLemmas::miscounted))]
     pub fn check(&self, shape: &ChunkShape, data_type: &DataType) -> Result<(), CodecError>
-        ensures answer { result ≡ target_fit data_type.now (product shape.now) (target_of self.now) }
+        ensures answer { result
+            ≡ target_fit data_type.now (product shape.now) (target_of self.now) }
     {
         if !has_one_size(data_type) {
             return Err(CodecError::UnsupportedTarget);
@@ -86,7 +88,8 @@ fn levels_taken(
     count: u64,
     data_type: &DataType,
 ) -> bool
-    ensures { result ≡ levels_taken_of data_type.now count (map view_of masks.now) (view_of values.now) }
+    ensures { result
+        ≡ levels_taken_of data_type.now count (map view_of masks.now) (view_of values.now) }
 {
     match (masks, data_type.as_optional()) {
         ([], None) => match data_type.fixed_size() {
@@ -109,12 +112,13 @@ fn write_levels(
     elements: &ArrayBytes<'_>,
 )
     requires level { level ≤ length masks.old }
-    requires masks { has_masks (drop level (map view_of masks.old)) elements.now ≡ true }
-    requires values { has_values (view_of values.old) (under_views (drop level (map view_of masks.old)) elements.now) ≡ true }
-    ensures masks { map view_of masks.new ≡ take level (map view_of masks.old) ++ written_masks (drop level (map view_of masks.old)) elements.now }
+    requires masks { has_masks (views_from level masks.old) elements.now ≡ true }
+    requires values { has_values_from level masks.old values.old elements.now ≡ true }
+    ensures masks { map view_of masks.new ≡ written_from level masks.old elements.now }
     ensures mask_names { map view_name masks.new ≡ map view_name masks.old }
     ensures name { view_name values.new ≡ view_name values.old }
-    ensures values { view_of values.new ≡ written_view (view_of values.old) (bytes_in (under_views (drop level (map view_of masks.old)) elements.now)) }
+    ensures values { view_of values.new
+        ≡ written_view (view_of values.old) (bytes_in (under_from level masks.old elements.now)) }
     ensures flags { has_flags elements.now ≡ true }
 {
     if level == masks.len() {
@@ -133,13 +137,15 @@ fn write_mask<'b, 'c>(
     elements: &'b ArrayBytes<'c>,
 ) -> &'b ArrayBytes<'c>
     requires level { level < length masks.old }
-    requires masks { has_masks (drop level (map view_of masks.old)) elements.now ≡ true }
+    requires masks { has_masks (views_from level masks.old) elements.now ≡ true }
     ensures len { length masks.new ≡ length masks.old }
     ensures names { map view_name masks.new ≡ map view_name masks.old }
-    ensures masks { has_masks (drop (level + 1) (map view_of masks.new)) result.now ≡ true }
-    ensures under { under_views (drop (level + 1) (map view_of masks.new)) result.now ≡ under_views (drop level (map view_of masks.old)) elements.now }
+    ensures masks { has_masks (views_from (level + 1) masks.new) result.now ≡ true }
+    ensures under { under_from (level + 1) masks.new result.now
+        ≡ under_from level masks.old elements.now }
+    ensures written { written_from (level + 1) masks.new result.now
+        ≡ written_from level masks.old elements.now }
     ensures flags { has_flags result.now ≡ true → has_flags elements.now ≡ true }
-    ensures written { take (level + 1) (map view_of masks.new) ++ written_masks (drop (level + 1) (map view_of masks.new)) result.now ≡ take level (map view_of masks.old) ++ written_masks (drop level (map view_of masks.old)) elements.now }
 {
     let (inner, flags) = elements.optional_parts();
     masks[level].write(flags);

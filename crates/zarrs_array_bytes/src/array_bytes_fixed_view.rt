@@ -24,7 +24,7 @@ impl<'a> ArrayBytesFixedView<'a> {
     ghost use Rattle.zarrs_chunk.specs.Answer.{Answers, memory};
     ghost use Rattle.zarrs_array_bytes.specs.ArrayBytesFixedView.{view_of};
     ghost use Rattle.zarrs_array_bytes.specs.DecodeTarget.{takes_elements};
-    ghost use Rattle.zarrs_array_bytes.specs.FixedView.{fixed_view, written_view, elements_fit};
+    ghost use Rattle.zarrs_array_bytes.specs.FixedView.{fixed_view, written_view, view_length, elements_fit};
 
     /// The elements of the subset of an array of this shape, whose elements have `element_size` bytes
     /// each and stand in `bytes`. Refusals, the first that holds, `OutOfMemory` aside:
@@ -38,8 +38,9 @@ impl<'a> ArrayBytesFixedView<'a> {
         shape: &ChunkShape,
         subset: ArraySubset,
     ) -> Result<ArrayBytesFixedView<'a>, CodecError>
-        ensures answer { Answers memory (λ view. view_of view) result (fixed_view bytes.old element_size shape.now subset) }
-        ensures same_reference { IfOk result (λ view. view.bytes.ghost_name ≡ bytes.entry.ghost_name) }
+        ensures answer { Answers memory view_of result
+            (fixed_view bytes.old element_size shape.now subset) }
+        ensures same_reference { IfOk result (λ v. v.bytes.ghost_name ≡ bytes.entry.ghost_name) }
     {
         if element_size == 0 {
             return Err(CodecError::TargetMismatch);
@@ -74,7 +75,8 @@ impl<'a> ArrayBytesFixedView<'a> {
     /// bytes as the subset's elements have; then nothing is written.
     pub fn copy_from_slice(&mut self, elements: &[u8]) -> Result<(), CodecError>
         ensures answer { result ≡ elements_fit (view_of self.old) elements.now }
-        ensures written { OnOk result (view_of self.new ≡ written_view (view_of self.old) elements.now) }
+        ensures written { OnOk result
+            (view_of self.new ≡ written_view (view_of self.old) elements.now) }
         ensures kept { OnErr result (view_of self.new ≡ view_of self.old) }
         ensures same_reference { self.new.bytes.ghost_name ≡ self.old.bytes.ghost_name }
     {
@@ -88,7 +90,7 @@ impl<'a> ArrayBytesFixedView<'a> {
 
     /// Writes the subset's elements, as many bytes as they have.
     pub(crate) fn write(&mut self, elements: &[u8])
-        requires enough { length elements.now ≡ length (view_of self.old).places * (view_of self.old).element_size }
+        requires enough { length elements.now ≡ view_length (view_of self.old) }
         ensures written { view_of self.new ≡ written_view (view_of self.old) elements.now }
         ensures same_reference { self.new.bytes.ghost_name ≡ self.old.bytes.ghost_name }
     {

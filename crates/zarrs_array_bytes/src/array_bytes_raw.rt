@@ -1,6 +1,7 @@
-ghost use Rattle.std.specs.Prelude.{◌≡◌, Ok, false};
-ghost use Rattle.zarrs_chunk.specs.Answer.{Answers, memory, is_fault, Gives};
-ghost use Rattle.zarrs_array_bytes.specs.Held.{raw_of};
+ghost use Rattle.std.specs.Prelude.{Ok};
+ghost use Rattle.zarrs_chunk.specs.Answer.{Answers, memory};
+ghost use Rattle.zarrs_array_bytes.specs.Given.{GivesItems};
+ghost use Rattle.zarrs_array_bytes.specs.Held.{raw_of, items_of};
 
 use std::alloc::Global;
 use std::borrow::CowSlice;
@@ -21,7 +22,7 @@ pub(crate) fn clone_raw<'a>(raw: &ArrayBytesRaw<'a>) -> Result<ArrayBytesRaw<'a>
 
 /// The bytes as owned ones. Owned bytes are taken as they are.
 pub(crate) fn owned_bytes(alloc: Global, raw: ArrayBytesRaw<'_>) -> Result<Vec<u8>, CodecError>
-    ensures exact { Gives (λ v. v.items) result (Ok (raw_of raw.entry).items) }
+    ensures exact { GivesItems result (items_of raw.entry) }
 {
     match raw {
         CowSlice::Borrowed(bytes) => Ok(bytes.to_vec(alloc)?),

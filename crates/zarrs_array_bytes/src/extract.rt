@@ -7,6 +7,8 @@ ghost use Rattle.zarrs_array_bytes.specs.Validity.{Holds, levels_fit};
 ghost use Rattle.zarrs_array_bytes.specs.Blank.{KeepsBlanks};
 ghost use Rattle.zarrs_array_bytes.specs.Extracted.{container_selection, IsSmall};
 ghost use Rattle.zarrs_array_bytes.specs.Chunks.{chunk_at, selected_chunk};
+ghost use Rattle.zarrs_array_bytes.specs.Given.{GivesHeld};
+ghost use Rattle.zarrs_array_bytes.specs.Validity.{HasElements};
 
 use crate::array_bytes::{ArrayBytes, Parts};
 use crate::gather::{gather_cuts, gather_flags, gather_pieces};
@@ -27,7 +29,8 @@ impl<'a> ArrayBytes<'a> {
         shape: &ChunkShape,
         data_type: &DataType,
     ) -> Result<ArrayBytes<'static>, CodecError>
-        ensures exact { GivesBy (Holds data_type.now) result (selected_chunk data_type.now shape.now (selection_of indexer.now) self.now) }
+        ensures exact { GivesBy (Holds data_type.now) result
+            (selected_chunk data_type.now shape.now (selection_of indexer.now) self.now) }
         ensures blank { KeepsBlanks data_type.now self.now result }
     {
         let runs = indexer.runs(alloc, shape)?;
@@ -46,7 +49,8 @@ impl<'a> ArrayBytes<'a> {
         data_type: &DataType,
     ) -> Result<ArrayBytes<'b>, CodecError>
         requires inside { All (λ run. run.0 + run.1 ≤ count) runs.now }
-        ensures answer { GivesBy (Holds data_type.now) result (chunk_at data_type.now count (joined_runs runs.now) self.now) }
+        ensures answer { GivesBy (Holds data_type.now) result
+            (chunk_at data_type.now count (joined_runs runs.now) self.now) }
         ensures blank { KeepsBlanks data_type.now self.now result }
     {
         self.validate(count, data_type)?;
@@ -61,10 +65,11 @@ impl<'a> ArrayBytes<'a> {
         count: u64,
         data_type: &DataType,
     ) -> Result<ArrayBytes<'b>, CodecError>
-        requires valid { levels_fit InvalidBytesLength data_type.now count self.now ≡ Ok tt }
+        requires valid { HasElements data_type.now count self.now }
         requires inside { All (λ run. run.0 + run.1 ≤ count) runs.now }
         ensures small { IfOk result IsSmall }
-        ensures exact { Gives (λ array. array) result (Ok (container_selection data_type.now self.now (joined_runs runs.now))) }
+        ensures exact { GivesHeld result
+            (Ok (container_selection data_type.now self.now (joined_runs runs.now))) }
     {
         match &self.parts {
             Parts::Fixed(bytes) => {

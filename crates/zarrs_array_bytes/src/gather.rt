@@ -1,10 +1,10 @@
-ghost use Rattle.std.specs.Prelude.{◌≡◌, ◌+◌, ◌-◌, ◌*◌, ◌<◌, ◌^◌, ◌≤◌, ◌++◌, All, Ok, IfOk, OnOk, length, map, slice_index, true, false};
-ghost use Rattle.std.specs.List.{flat_map, range_with_len};
-ghost use Rattle.zarrs_chunk.specs.Answer.{Answers, memory, is_fault, Gives};
+ghost use Rattle.std.specs.Prelude.{◌≡◌, ◌+◌, ◌-◌, ◌*◌, ◌<◌, ◌^◌, ◌≤◌, ◌++◌, All, IfOk, OnOk, length, map, slice_index, true};
 ghost use Rattle.zarrs_chunk.specs.Runs.{joined_runs};
-ghost use Rattle.zarrs_array_bytes.specs.Elements.{piece, cut};
+ghost use Rattle.zarrs_array_bytes.specs.Cuts.{run_cuts, run_bytes, run_size, EndsFollow, moved_offsets};
+ghost use Rattle.zarrs_array_bytes.specs.Elements.{cut};
+ghost use Rattle.zarrs_array_bytes.specs.Given.{GivesItems, GivesCuts};
 ghost use Rattle.zarrs_array_bytes.specs.Offsets.{is_offsets, last_of};
-ghost use Rattle.zarrs_array_bytes.specs.Pieces.{bytes_with_offsets, ends as ends_of};
+ghost use Rattle.zarrs_array_bytes.specs.Pieces.{pieces_at, cuts_at};
 
 use crate::runs::{bytes_of_cuts, bytes_of_runs};
 use std::alloc::{AllocError, Global};
@@ -19,7 +19,7 @@ pub(crate) fn gather_pieces(
 ) -> Result<Vec<u8>, CodecError>
     requires { All (λ run. (run.0 + run.1) * size ≤ length bytes.now) runs.now }
     ensures small { IfOk result (λ v. length v.items < 2 ^ 64) }
-    ensures exact { Gives (λ v. v.items) result (Ok (flat_map (piece size bytes.now) (joined_runs runs.now))) }
+    ensures exact { GivesItems result (pieces_at size bytes.now (joined_runs runs.now)) }
 {
     let mut out = Vec::with_capacity(alloc, bytes_of_runs(runs, size))?;
     for run in runs {
@@ -37,7 +37,7 @@ pub(crate) fn gather_flags(
     runs: &[(u64, u64)],
 ) -> Result<Vec<u8>, CodecError>
     requires { All (λ run. run.0 + run.1 ≤ length flags.now) runs.now }
-    ensures exact { Gives (λ v. v.items) result (Ok (map (slice_index flags.now) (joined_runs runs.now))) }
+    ensures exact { GivesItems result (map (slice_index flags.now) (joined_runs runs.now)) }
 {
     gather_pieces(alloc, flags, 1, runs)
 }
@@ -54,7 +54,7 @@ pub(crate) fn gather_cuts(
     requires ending { last_of offsets.now ≡ length bytes.now }
     requires inside { All (λ run. run.0 + run.1 < length offsets.now) runs.now }
     ensures small { IfOk result (λ parts. length parts.1.items < 2 ^ 64) }
-    ensures exact { Gives (λ parts. (parts.0.items, parts.1.items)) result (Ok (bytes_with_offsets (cut offsets.now bytes.now) (joined_runs runs.now))) }
+    ensures exact { GivesCuts result (cuts_at offsets.now bytes.now (joined_runs runs.now)) }
 {
     let mut out = Vec::with_capacity(alloc, bytes_of_cuts(runs, offsets))?;
     let mut ends = Vec::with_capacity(alloc, bytes_of_runs(runs, 1).saturating_add(1))?;
@@ -85,8 +85,10 @@ pub(crate) fn append_cuts(
     requires rising { is_offsets offsets.now ≡ true }
     requires ending { last_of offsets.now ≡ length bytes.now }
     requires inside { first + count < length offsets.now }
-    ensures bytes { OnOk result (out.new.items ≡ out.old.items ++ flat_map (cut offsets.now bytes.now) (range_with_len first count)) }
-    ensures ends { OnOk result (ends.new.items ≡ ends.old.items ++ ends_of (length out.old.items) (map (cut offsets.now bytes.now) (range_with_len first count))) }
+    ensures bytes { OnOk result
+        (out.new.items ≡ out.old.items ++ run_bytes offsets.now bytes.now first count) }
+    ensures ends { OnOk result
+        (EndsFollow out.old ends.old ends.new (run_cuts offsets.now bytes.now first count)) }
 {
     let start = out.len();
     let from = offsets[first];
@@ -100,8 +102,8 @@ fn bytes_of_run<'a>(bytes: &'a [u8], offsets: &[usize], first: usize, count: usi
     requires rising { is_offsets offsets.now ≡ true }
     requires ending { last_of offsets.now ≡ length bytes.now }
     requires inside { first + count < length offsets.now }
-    ensures bytes { result.now ≡ flat_map (cut offsets.now bytes.now) (range_with_len first count) }
-    ensures len { length result.now ≡ slice_index offsets.now (first + count) - slice_index offsets.now first }
+    ensures bytes { result.now ≡ run_bytes offsets.now bytes.now first count }
+    ensures len { length result.now ≡ run_size offsets.now first count }
 {
     &bytes[offsets[first]..offsets[first + count]]
 }
@@ -115,7 +117,8 @@ fn append_moved(
 ) -> Result<(), AllocError>
     requires behind { All (λ offset. from ≤ offset) offsets.now }
     requires fits { All (λ offset. offset - from + start < 2 ^ 64) offsets.now }
-    ensures appended { OnOk result (out.new.items ≡ out.old.items ++ map (λ offset. offset - from + start) offsets.now) }
+    ensures appended { OnOk result
+        (out.new.items ≡ out.old.items ++ moved_offsets from start offsets.now) }
 {
     out.extend(offsets.iter().map(|offset| *offset - from + start))
 }

@@ -8,6 +8,11 @@ ghost use Rattle.zarrs_chunk.specs.declared.codec_error.CodecError.TheVariants.{
 ghost use Rattle.zarrs_array_bytes.specs.Validity.{sizes_fit, levels_fit, validity, Holds};
 ghost use Rattle.zarrs_array_bytes.specs.Blank.{OuterAreBlank, AbsentAreBlank, KeepsBlanks};
 ghost use Rattle.zarrs_array_bytes.specs.Present.{present_places, present_count, are_all_present, present_chunk, container_spread, container_expansion, expansion_of, expanded_chunk};
+ghost use Rattle.zarrs_chunk.specs.Runs.{places_in, EndWithin, StayWithin};
+ghost use Rattle.zarrs_array_bytes.specs.Given.{GivesHeld};
+ghost use Rattle.zarrs_array_bytes.specs.Held.{items_of};
+ghost use Rattle.zarrs_array_bytes.specs.Present.{IsExpansion};
+ghost use Rattle.zarrs_array_bytes.specs.Validity.{HasElements, validated};
 
 use crate::array_bytes::{ArrayBytes, is_mask};
 use crate::array_bytes_raw::ArrayBytesRaw;
@@ -60,8 +65,9 @@ fn count_runs(mask: &[u8]) -> usize {
 /// place.
 fn push_run(runs: &mut Vec<(u64, u64)>, start: usize, end: usize) -> Result<(), AllocError>
     requires order { start ≤ end }
-    ensures places { OnOk result (joined_runs runs.new.items ≡ joined_runs runs.old.items ++ range_with_len start (end - start)) }
-    ensures inside { OnOk result (All (λ run. run.0 + run.1 ≤ end) runs.old.items → All (λ run. run.0 + run.1 ≤ end) runs.new.items) }
+    ensures places { OnOk result
+        (places_in runs.new ≡ places_in runs.old ++ range_with_len start (end - start)) }
+    ensures inside { OnOk result (StayWithin end runs.old.items runs.new.items) }
 {
     if start < end {
         runs.push((start as u64, (end - start) as u64))?;
@@ -71,8 +77,8 @@ fn push_run(runs: &mut Vec<(u64, u64)>, start: usize, end: usize) -> Result<(), 
 
 /// The places at which a mask byte isn't 0, in runs of a start and a length.
 fn runs_of_mask(alloc: Global, mask: &[u8]) -> Result<Vec<(u64, u64)>, CodecError>
-    ensures places { Gives (λ runs. joined_runs runs.items) result (Ok (present_places mask.now)) }
-    ensures inside { IfOk result (λ runs. All (λ run. run.0 + run.1 ≤ length mask.now) runs.items) }
+    ensures places { Gives places_in result (Ok (present_places mask.now)) }
+    ensures inside { IfOk result (λ runs. EndWithin (length mask.now) runs.items) }
 {
     let mut runs = Vec::with_capacity(alloc, count_runs(mask))?;
     let mut start = 0;
@@ -98,8 +104,10 @@ impl<'a> ArrayBytes<'a> {
         mask: &[u8],
         data_type: &DataType,
     ) -> Result<ArrayBytes<'a>, CodecError>
-        ensures answer { GivesBy (Holds data_type.now) result (present_chunk data_type.now self.entry mask.now) }
-        ensures kept { are_all_present mask.now ≡ true → result ≡ seen (λ _. self.entry) (validity data_type.now (length mask.now) self.entry) }
+        ensures answer { GivesBy (Holds data_type.now) result
+            (present_chunk data_type.now self.entry mask.now) }
+        ensures kept { are_all_present mask.now ≡ true
+            → result ≡ validated data_type.now (length mask.now) self.entry }
         ensures blank { KeepsBlanks data_type.now self.entry result }
     {
         self.validate(mask.len() as u64, data_type)?;
@@ -122,8 +130,9 @@ impl<'a> ArrayBytes<'a> {
         mask: ArrayBytesRaw<'a>,
         data_type: &DataType,
     ) -> Result<ArrayBytes<'a>, CodecError>
-        ensures answer { GivesBy (Holds (optional data_type.now)) result (expanded_chunk data_type.now self.entry (raw_of mask.entry).items) }
-        ensures held { IfOk result (λ array. array ≡ masked (container_expansion data_type.now self.entry (raw_of mask.entry).items) (raw_of mask.entry)) }
+        ensures answer { GivesBy (Holds (optional data_type.now)) result
+            (expanded_chunk data_type.now self.entry (items_of mask.entry)) }
+        ensures held { IfOk result (IsExpansion data_type.now self.entry (raw_of mask.entry)) }
         ensures absent { IfOk result (OuterAreBlank (optional data_type.now)) }
         ensures blank { AbsentAreBlank data_type.now self.entry
             → IfOk result (AbsentAreBlank (optional data_type.now)) }
@@ -139,7 +148,7 @@ impl<'a> ArrayBytes<'a> {
         mask: &[u8],
         data_type: &DataType,
     ) -> Result<ArrayBytes<'a>, CodecError>
-        ensures exact { Gives (λ array. array) result (expansion_of data_type.now self.entry mask.now) }
+        ensures exact { GivesHeld result (expansion_of data_type.now self.entry mask.now) }
     {
         let count = count_present(mask)?;
         self.validate(count, data_type)?;
@@ -158,9 +167,9 @@ fn spread<'a>(
     mask: &[u8],
     data_type: &DataType,
 ) -> Result<ArrayBytes<'a>, CodecError>
-    requires valid { levels_fit InvalidBytesLength data_type.now (length (present_places mask.now)) array.now ≡ Ok tt }
+    requires valid { HasElements data_type.now (length (present_places mask.now)) array.now }
     requires sizes { sizes_fit data_type.now (length mask.now) ≡ Ok tt }
-    ensures exact { Gives (λ array. array) result (Ok (container_spread data_type.now array.now mask.now)) }
+    ensures exact { GivesHeld result (Ok (container_spread data_type.now array.now mask.now)) }
 {
     let count = mask.len() as u64;
     let runs = runs_of_mask(alloc, mask)?;

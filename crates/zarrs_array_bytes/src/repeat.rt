@@ -1,8 +1,8 @@
-ghost use Rattle.std.specs.Prelude.{◌≡◌, ◌+◌, ◌*◌, ◌^◌, ◌<◌, ◌++◌, Ok, IfOk, OnOk, OnErr, length, map, replicate, false};
-ghost use Rattle.std.specs.List.{range_with_len};
-ghost use Rattle.zarrs_chunk.specs.Answer.{Answers, memory, is_fault, Gives};
-ghost use Rattle.zarrs_array_bytes.specs.Filled.{copies};
-ghost use Rattle.zarrs_array_bytes.specs.Pieces.{bytes_with_offsets, IsLonger};
+ghost use Rattle.std.specs.Prelude.{◌≡◌, ◌*◌, ◌^◌, ◌<◌, ◌++◌, IfOk, OnOk, OnErr, length, replicate};
+ghost use Rattle.zarrs_array_bytes.specs.Cuts.{even_ends};
+ghost use Rattle.zarrs_array_bytes.specs.Filled.{copies, copies_with_offsets};
+ghost use Rattle.zarrs_array_bytes.specs.Given.{GivesItems, GivesCuts};
+ghost use Rattle.zarrs_array_bytes.specs.Pieces.{IsLonger};
 
 use std::alloc::{AllocError, Global};
 use zarrs_chunk::CodecError;
@@ -66,7 +66,7 @@ fn append_each(out: &mut Vec<u8>, bytes: &[u8], count: u64) -> Result<(), AllocE
 /// The bytes, `count` times.
 pub(crate) fn repeat_bytes(alloc: Global, bytes: &[u8], count: u64) -> Result<Vec<u8>, CodecError>
     ensures small { IfOk result (λ v. length v.items < 2 ^ 64) }
-    ensures exact { Gives (λ v. v.items) result (Ok (copies bytes.now count)) }
+    ensures exact { GivesItems result (copies bytes.now count) }
 {
     let mut out = Vec::with_capacity(alloc, bytes.len().saturating_mul(count as usize))?;
     append_copies(&mut out, bytes, count)?;
@@ -80,7 +80,7 @@ pub(crate) fn repeat_cuts(
     count: u64,
 ) -> Result<(Vec<u8>, Vec<usize>), CodecError>
     ensures small { IfOk result (λ parts. length parts.1.items < 2 ^ 64) }
-    ensures exact { Gives (λ parts. (parts.0.items, parts.1.items)) result (Ok (bytes_with_offsets (λ part. part) (replicate count bytes.now))) }
+    ensures exact { GivesCuts result (copies_with_offsets bytes.now count) }
 {
     let out = repeat_bytes(alloc, bytes, count)?;
     let mut ends = Vec::with_capacity(alloc, (count as usize).saturating_add(1))?;
@@ -92,7 +92,7 @@ pub(crate) fn repeat_cuts(
 /// Appends where each of `count` elements of `size` bytes ends, if the first one begins at 0.
 fn append_ends(ends: &mut Vec<usize>, size: usize, count: usize) -> Result<(), AllocError>
     requires fits { count * size < 2 ^ 64 }
-    ensures appended { OnOk result (ends.new.items ≡ ends.old.items ++ map (λ place. place * size + size) (range_with_len 0 count)) }
+    ensures appended { OnOk result (ends.new.items ≡ ends.old.items ++ even_ends size count) }
 {
     ends.extend((0..count).map(|place| place * size + size))
 }
@@ -100,7 +100,7 @@ fn append_ends(ends: &mut Vec<usize>, size: usize, count: usize) -> Result<(), A
 /// `count` such bytes.
 pub(crate) fn same_bytes(alloc: Global, byte: u8, count: u64) -> Result<Vec<u8>, CodecError>
     ensures small { IfOk result (λ v. length v.items < 2 ^ 64) }
-    ensures exact { Gives (λ v. v.items) result (Ok (replicate count byte)) }
+    ensures exact { GivesItems result (replicate count byte) }
 {
     Ok(vec![in alloc; byte; count as usize]?)
 }
@@ -108,7 +108,7 @@ pub(crate) fn same_bytes(alloc: Global, byte: u8, count: u64) -> Result<Vec<u8>,
 /// `count` zeros.
 pub(crate) fn zero_offsets(alloc: Global, count: u64) -> Result<Vec<usize>, CodecError>
     ensures small { IfOk result (λ v. length v.items < 2 ^ 64) }
-    ensures exact { Gives (λ v. v.items) result (Ok (replicate count 0)) }
+    ensures exact { GivesItems result (replicate count 0) }
 {
     Ok(vec![in alloc; 0usize; count as usize]?)
 }

@@ -1,10 +1,8 @@
-ghost use Rattle.std.specs.Prelude.{◌≡◌, ◌+◌, ◌≤◌, ◌-◌, ◌<◌, ◌^◌, All, Ok, IfOk, length, true, false};
-ghost use Rattle.zarrs_chunk.specs.Answer.{Answers, memory, is_fault, Gives};
+ghost use Rattle.std.specs.Prelude.{◌≡◌, ◌+◌, ◌≤◌, ◌-◌, ◌<◌, ◌^◌, All, IfOk, length, true};
 ghost use Rattle.zarrs_chunk.specs.Runs.{joined_runs};
-ghost use Rattle.zarrs_array_bytes.specs.Elements.{cut};
+ghost use Rattle.zarrs_array_bytes.specs.Given.{GivesItems, GivesCuts};
 ghost use Rattle.zarrs_array_bytes.specs.Offsets.{is_offsets, last_of};
-ghost use Rattle.zarrs_array_bytes.specs.Pieces.{bytes_with_offsets};
-ghost use Rattle.zarrs_array_bytes.specs.Sources.{sources, source_bytes, IsSourceOf};
+ghost use Rattle.zarrs_array_bytes.specs.Sources.{sources, IsSourceOf, AreSources, cut_from, cuts_from};
 ghost use Rattle.zarrs_array_bytes.specs.Update.{cuts_update};
 
 use crate::gather::cut_of;
@@ -37,9 +35,8 @@ pub(crate) fn written_cuts(
     requires new_ending { last_of new_offsets.now ≡ length new.now }
     requires inside { All (λ run. run.0 + run.1 ≤ length old_offsets.now - 1) runs.now }
     requires enough { length new_offsets.now ≡ length (joined_runs runs.now) + 1 }
-    ensures exact { Answers memory (λ parts. (parts.0.items, parts.1.items)) result
-        (Ok (cuts_update old_offsets.now old.now new_offsets.now new.now (joined_runs runs.now))) }
-    ensures no_fault { is_fault result ≡ false }
+    ensures exact { GivesCuts result
+        (cuts_update old_offsets.now old.now new_offsets.now new.now (joined_runs runs.now)) }
 {
     if are_rising(runs) {
         return splice_cuts(alloc, old, old_offsets, new, new_offsets, runs);
@@ -52,7 +49,7 @@ pub(crate) fn written_cuts(
 /// For each of `count` places, where its element comes from after writes at these places.
 fn sources_of(alloc: Global, count: usize, places: &[u64]) -> Result<Vec<Source>, CodecError>
     requires inside { All (λ place. place < count) places.now }
-    ensures exact { Gives (λ v. v.items) result (Ok (sources count places.now)) }
+    ensures exact { GivesItems result (sources count places.now) }
 {
     let mut from = Vec::with_capacity(alloc, count)?;
     for place in 0..count {
@@ -79,10 +76,9 @@ fn gather_sources(
     requires old_ending { last_of old_offsets.now ≡ length old.now }
     requires new_rising { is_offsets new_offsets.now ≡ true }
     requires new_ending { last_of new_offsets.now ≡ length new.now }
-    requires known { All (IsSourceOf (length old_offsets.now - 1) (length new_offsets.now - 1)) from.now }
-    ensures exact { Answers memory (λ parts. (parts.0.items, parts.1.items)) result
-        (Ok (bytes_with_offsets (source_bytes (cut old_offsets.now old.now) (cut new_offsets.now new.now)) from.now)) }
-    ensures no_fault { is_fault result ≡ false }
+    requires known { AreSources old_offsets.now new_offsets.now from.now }
+    ensures exact { GivesCuts result
+        (cuts_from old_offsets.now old.now new_offsets.now new.now from.now) }
 {
     let room = bytes_of_sources(old, old_offsets, new, new_offsets, from);
     let mut out = Vec::with_capacity(alloc, room)?;
@@ -107,7 +103,7 @@ fn bytes_of_sources(
     requires old_ending { last_of old_offsets.now ≡ length old.now }
     requires new_rising { is_offsets new_offsets.now ≡ true }
     requires new_ending { last_of new_offsets.now ≡ length new.now }
-    requires known { All (IsSourceOf (length old_offsets.now - 1) (length new_offsets.now - 1)) from.now }
+    requires known { AreSources old_offsets.now new_offsets.now from.now }
 {
     let mut len: usize = 0;
     for source in from {
@@ -130,7 +126,8 @@ fn bytes_at<'a>(
     requires new_rising { is_offsets new_offsets.now ≡ true }
     requires new_ending { last_of new_offsets.now ≡ length new.now }
     requires known { IsSourceOf (length old_offsets.now - 1) (length new_offsets.now - 1) source }
-    ensures bytes { result.now ≡ source_bytes (cut old_offsets.now old.now) (cut new_offsets.now new.now) source }
+    ensures bytes { result.now
+        ≡ cut_from old_offsets.now old.now new_offsets.now new.now source }
 {
     match source {
         Source::Old(place) => cut_of(old, old_offsets, place),

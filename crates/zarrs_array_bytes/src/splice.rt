@@ -1,6 +1,6 @@
-ghost use Rattle.std.specs.Prelude.{◌≡◌, ◌+◌, ◌≤◌, ◌-◌, ◌<◌, ◌^◌, All, Ok, length, true, false};
-ghost use Rattle.zarrs_chunk.specs.Answer.{Answers, memory, is_fault};
+ghost use Rattle.std.specs.Prelude.{◌≡◌, ◌+◌, ◌≤◌, ◌-◌, ◌<◌, ◌^◌, All, length, true};
 ghost use Rattle.zarrs_chunk.specs.Runs.{joined_runs};
+ghost use Rattle.zarrs_array_bytes.specs.Given.{GivesCuts};
 ghost use Rattle.zarrs_array_bytes.specs.Offsets.{is_offsets, last_of};
 ghost use Rattle.zarrs_array_bytes.specs.Update.{is_rising, cuts_update};
 
@@ -40,9 +40,8 @@ pub(crate) fn splice_cuts(
     requires inside { All (λ run. run.0 + run.1 ≤ length old_offsets.now - 1) runs.now }
     requires enough { length new_offsets.now ≡ length (joined_runs runs.now) + 1 }
     requires rising { is_rising 0 runs.now ≡ true }
-    ensures exact { Answers memory (λ parts. (parts.0.items, parts.1.items)) result
-        (Ok (cuts_update old_offsets.now old.now new_offsets.now new.now (joined_runs runs.now))) }
-    ensures no_fault { is_fault result ≡ false }
+    ensures exact { GivesCuts result
+        (cuts_update old_offsets.now old.now new_offsets.now new.now (joined_runs runs.now)) }
 {
     let mut bytes = Vec::with_capacity(alloc, spliced_len(old, old_offsets, new, runs))?;
     let mut ends = Vec::with_capacity(alloc, old_offsets.len())?;

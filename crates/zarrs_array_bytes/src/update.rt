@@ -12,6 +12,10 @@ ghost use Rattle.zarrs_array_bytes.specs.Validity.{Holds, levels_fit, data_fit};
 ghost use Rattle.zarrs_array_bytes.specs.Blank.{UpdatesBlanks};
 ghost use Rattle.zarrs_array_bytes.specs.Update.{update, with_runs, cuts_update, container_update};
 ghost use Rattle.zarrs_array_bytes.specs.Chunks.{update_fit, update_at_places, chunk_update};
+ghost use Rattle.zarrs_array_bytes.specs.Given.{GivesHeld};
+ghost use Rattle.zarrs_array_bytes.specs.Pieces.{fixed_of};
+ghost use Rattle.zarrs_array_bytes.specs.Update.{variable_update, mask_update, container_written};
+ghost use Rattle.zarrs_array_bytes.specs.Validity.{HasElements};
 
 use crate::array_bytes::{ArrayBytes, Parts};
 use crate::array_bytes_offsets::ArrayBytesOffsets;
@@ -40,7 +44,8 @@ pub fn update_array_bytes(
     new: &ArrayBytes<'_>,
     data_type: &DataType,
 ) -> Result<ArrayBytes<'static>, CodecError>
-    ensures exact { GivesBy (Holds data_type.now) result (chunk_update data_type.now shape.now (selection_of indexer.now) array.entry new.now) }
+    ensures exact { GivesBy (Holds data_type.now) result
+        (chunk_update data_type.now shape.now (selection_of indexer.now) array.entry new.now) }
     ensures blank { UpdatesBlanks data_type.now array.entry new.now result }
 {
     let runs = indexer.runs(alloc, shape)?;
@@ -62,7 +67,8 @@ pub fn update_runs(
     data_type: &DataType,
 ) -> Result<ArrayBytes<'static>, CodecError>
     requires inside { All (λ run. run.0 + run.1 ≤ count) runs.now }
-    ensures answer { GivesBy (Holds data_type.now) result (update_at_places data_type.now count (joined_runs runs.now) array.entry new.now) }
+    ensures answer { GivesBy (Holds data_type.now) result
+        (update_at_places data_type.now count (joined_runs runs.now) array.entry new.now) }
     ensures blank { UpdatesBlanks data_type.now array.entry new.now result }
 {
     check_update(&array, count, runs, new, data_type)?;
@@ -78,7 +84,8 @@ fn check_update(
     new: &ArrayBytes<'_>,
     data_type: &DataType,
 ) -> Result<(), CodecError>
-    ensures exact { result ≡ update_fit data_type.now count (joined_runs runs.now) array.now new.now }
+    ensures exact { result
+        ≡ update_fit data_type.now count (joined_runs runs.now) array.now new.now }
     ensures no_fault { is_fault result ≡ false }
 {
     array.validate(count, data_type)?;
@@ -107,12 +114,11 @@ pub(crate) fn write_elements<'b>(
     runs: &[(u64, u64)],
     data_type: &DataType,
 ) -> Result<ArrayBytes<'b>, CodecError>
-    requires valid { levels_fit InvalidBytesLength data_type.now count array ≡ Ok tt }
+    requires valid { HasElements data_type.now count array }
     requires data_valid { data_fit data_type.now (length (joined_runs runs.now)) new.now ≡ Ok tt }
     requires inside { All (λ run. run.0 + run.1 ≤ count) runs.now }
-    ensures exact { Answers memory (λ array. array) result
-        (Ok (container_update data_type.now count array.entry (length (joined_runs runs.now)) new.now (joined_runs runs.now))) }
-    ensures no_fault { is_fault result ≡ false }
+    ensures exact { GivesHeld result
+        (Ok (container_written data_type.now count array.entry (joined_runs runs.now) new.now)) }
 {
     match array.parts {
         Parts::Fixed(old) => {
@@ -140,7 +146,8 @@ fn write_fixed<'b>(
     requires kind { IsOk (fixed_part new.now) }
     requires inside { All (λ run. (run.0 + run.1) * size ≤ length (items_of old)) runs.now }
     requires enough { length (joined_runs runs.now) * size ≤ length (bytes_in new.now) }
-    ensures exact { Gives (λ array. array) result (Ok (flen (owned_bytes (with_runs size (raw_of old.entry).items runs.now (bytes_in new.now))))) }
+    ensures exact { GivesHeld result
+        (Ok (fixed_of (with_runs size (items_of old.entry) runs.now (bytes_in new.now)))) }
 {
     let bytes = written_elements(alloc, old, new.fixed_bytes(), size, runs)?;
     Ok(ArrayBytes::new_flen(CowSlice::Owned(bytes)))
@@ -159,9 +166,8 @@ fn write_variable<'b>(
     requires ending { last_of offsets ≡ length (items_of old) }
     requires inside { All (λ run. run.0 + run.1 ≤ length offsets - 1) runs.now }
     requires enough { length (offsets_in new.now) ≡ length (joined_runs runs.now) + 1 }
-    ensures exact { Answers memory (λ array. array) result
-        (Ok (variable_of (cuts_update offsets (raw_of old.entry).items (offsets_in new.now) (bytes_in new.now) (joined_runs runs.now)))) }
-    ensures no_fault { is_fault result ≡ false }
+    ensures exact { GivesHeld result
+        (Ok (variable_update offsets (items_of old.entry) (joined_runs runs.now) new.now)) }
 {
     let (new, new_offsets) = new.variable_parts();
     let (bytes, offsets) = written_cuts(
@@ -188,7 +194,8 @@ fn write_mask<'b>(
     requires new_flags { list_all (λ byte. nat_lt byte 2) new_mask.now ≡ true }
     requires inside { All (λ run. run.0 + run.1 ≤ length (items_of mask)) runs.now }
     requires enough { length new_mask.now ≡ length (joined_runs runs.now) }
-    ensures exact { Gives (λ array. array) result (Ok (masked inner.entry (owned_bytes (update (raw_of mask.entry).items (joined_runs runs.now) new_mask.now)))) }
+    ensures exact { GivesHeld result
+        (Ok (mask_update inner.entry (items_of mask.entry) (joined_runs runs.now) new_mask.now)) }
 {
     let mask = written_flags(alloc, mask, new_mask, runs)?;
     ArrayBytes::of_masked(alloc, inner, mask)

@@ -1,10 +1,8 @@
-ghost use Rattle.std.specs.Prelude.{◌≡◌, ◌+◌, ◌*◌, ◌≤◌, All, Ok, false, length};
-ghost use Rattle.std.specs.List.{concat};
-ghost use Rattle.zarrs_chunk.specs.Answer.{Answers, memory, is_fault, Gives};
+ghost use Rattle.std.specs.Prelude.{◌≡◌, ◌+◌, ◌*◌, ◌≤◌, All, length};
 ghost use Rattle.zarrs_chunk.specs.Runs.{joined_runs};
-ghost use Rattle.zarrs_array_bytes.specs.Held.{items_of, raw_of};
-ghost use Rattle.zarrs_array_bytes.specs.Pieces.{pieces};
-ghost use Rattle.zarrs_array_bytes.specs.Update.{with_items_at, with_runs, update};
+ghost use Rattle.zarrs_array_bytes.specs.Given.{GivesItems};
+ghost use Rattle.zarrs_array_bytes.specs.Held.{items_of};
+ghost use Rattle.zarrs_array_bytes.specs.Update.{with_items_at, with_runs, update, pieces_update};
 
 use crate::array_bytes_raw::{ArrayBytesRaw, owned_bytes};
 use std::alloc::Global;
@@ -21,7 +19,7 @@ pub(crate) fn written_elements(
 ) -> Result<Vec<u8>, CodecError>
     requires inside { All (λ run. (run.0 + run.1) * size ≤ length (items_of raw)) runs.now }
     requires enough { length (joined_runs runs.now) * size ≤ length new.now }
-    ensures exact { Gives (λ v. v.items) result (Ok (with_runs size (raw_of raw.entry).items runs.now new.now)) }
+    ensures exact { GivesItems result (with_runs size (items_of raw.entry) runs.now new.now) }
 {
     let mut bytes = owned_bytes(alloc, raw)?;
     write_runs(&mut bytes, new, size, runs);
@@ -37,7 +35,7 @@ pub(crate) fn written_flags(
 ) -> Result<Vec<u8>, CodecError>
     requires inside { All (λ run. run.0 + run.1 ≤ length (items_of raw)) runs.now }
     requires enough { length new.now ≡ length (joined_runs runs.now) }
-    ensures exact { Gives (λ v. v.items) result (Ok (update (raw_of raw.entry).items (joined_runs runs.now) new.now)) }
+    ensures exact { GivesItems result (update (items_of raw.entry) (joined_runs runs.now) new.now) }
 {
     written_elements(alloc, raw, new, 1, runs)
 }
@@ -53,7 +51,8 @@ pub(crate) fn write_places(
     requires whole { length bytes.old ≡ count * size }
     requires inside { All (λ run. run.0 + run.1 ≤ count) runs.now }
     requires enough { length new.now ≡ length (joined_runs runs.now) * size }
-    ensures written { bytes.new ≡ concat (update (pieces size count bytes.old) (joined_runs runs.now) (pieces size (length (joined_runs runs.now)) new.now)) }
+    ensures written { bytes.new
+        ≡ pieces_update size count bytes.old (joined_runs runs.now) new.now }
     ensures len { length bytes.new ≡ length bytes.old }
 {
     write_runs(bytes, new, size, runs);

@@ -1,7 +1,7 @@
 -- What each command answers, and what is stored afterwards.
 use Rattle.std.specs.Prelude.{false, ◌==◌, ◌+◌, ℕ, List, take, drop, position, Option, Some, None, ok_or, Result, Ok, Err, codes, if◌then◌else◌}
 use Rattle.std.specs.Str.{bytes_eq}
-use Rattle.zarrs_chunk.specs.Answer.{◌>>=◌}
+use Rattle.zarrs_chunk.specs.Answer.{◌>>=◌, Answers, AnswersBy, memory, seen}
 use Rattle.zarrs_chunk.specs.Selection.{Selection}
 use Rattle.zarrs_chunk.specs.declared.codec_error.CodecError.{CodecError}
 use Rattle.zarrs_data_type.specs.Element.{Chunk}
@@ -11,7 +11,7 @@ use Rattle.zarrs_codec.specs.declared.sample_bytes_codec.SampleBytesCodec.{Sampl
 use Rattle.zarrs_chain_parts.specs.Chain.{held_value}
 use Rattle.zarrs_chain_parts.specs.PlainChain.{PlainChain}
 use Rattle.zarrs_codec_chain.specs.Reencode.{reencoded_value}
-use Rattle.zarrs_chain_partial.specs.ChunkRead.{ChunkForm, stored_read}
+use Rattle.zarrs_chain_partial.specs.ChunkRead.{ChunkForm, stored_read, chunk_form}
 use Rattle.zarrs_chain_partial.specs.ChunkSource.{source_made}
 use Rattle.zarrs_chain_partial.specs.ChunkWrite.{stored_written}
 use Rattle.zarrs_chain_parts.specs.Decode.{chain_chunk}
@@ -25,6 +25,10 @@ use Rattle.zarrs_chain_json.specs.Containers.{container_of}
 use Rattle.zarrs_chain_json.specs.Indexer.{selection_in}
 use Rattle.zarrs_chain_json.specs.Edit.{PlainEdit, edit_in}
 use Rattle.zarrs_chain_lines.specs.Header.{Header, codecs_at}
+use Rattle.zarrs_data_type.specs.ElementType.{ElementType}
+use Rattle.zarrs_array_bytes.specs.Held.{Held}
+use Rattle.zarrs_array_bytes.specs.Validity.{Holds}
+use Rattle.zarrs_data_type.specs.Form.{Form}
 
 -- what a session keeps: the header that opened it, and the stored value
 pub record State : Type 0 where
@@ -198,3 +202,25 @@ command_answer state unknown = Err Syntax
 -- what a line answers
 unfoldable pub answer_to : State → List ℕ → LineAnswer
 answer_to state line = command_answer state (command_of line)
+
+-- ---- what the calls give that answer them
+
+-- a container of the elements that a selection means of what is stored, or the first refusal
+abbrev pub GivesPart : State → Selection → Result Held CodecError → Type 0
+GivesPart state selection result =
+    AnswersBy memory (Holds state.header.data_type) result (part_of state.header state.value selection)
+
+-- the value with new elements is stored afterwards, or the first refusal is answered
+abbrev pub StoresEdit : State → State → PlainEdit → Result (Unit {0}) CodecError → Type 0
+StoresEdit before after edit result =
+    Answers memory (λ _. after) result (seen (λ value. record { header = before.header; value = Some value }) (value_left before.header before.value edit))
+
+-- the same of a chunk of this form through a chain
+abbrev pub GivesChunkPart : PlainChain SampleBytesCodec → Form → Option (List ℕ) → Selection → Result Held CodecError → Type 0
+GivesChunkPart chain form value selection result =
+    AnswersBy memory (Holds form.type) result (chunk_part (chunk_form chain form) value selection)
+
+-- and of new elements in it
+abbrev pub StoresChunkEdit : PlainChain SampleBytesCodec → Form → Option (List ℕ) → Option (List ℕ) → PlainEdit → Result (Unit {0}) CodecError → Type 0
+StoresChunkEdit chain form before after edit result =
+    Answers memory (λ _. after) result (seen (λ value. Some value) (chunk_left (chunk_form chain form) before edit))

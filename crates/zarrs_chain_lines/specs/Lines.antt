@@ -1,5 +1,5 @@
 -- The lines of an input.
-use Rattle.std.specs.Prelude.{ℕ, Bool, true, false, List, [], ◌∷◌, ◌==◌, if◌then◌else◌, filter}
+use Rattle.std.specs.Prelude.{ℕ, Bool, true, false, List, [], ◌∷◌, ◌==◌, if◌then◌else◌, filter, ◌≡◌, Option, Some, IfSome, MatchBool}
 
 -- a byte at the front of the first line
 abbrev pub onto_first : ℕ → List (List ℕ) → List (List ℕ)
@@ -19,3 +19,15 @@ is_filled (b ∷ bs) = true
 -- the lines that aren't empty
 abbrev pub filled_lines : List ℕ → List (List ℕ)
 filled_lines input = filter is_filled (lines_of input)
+
+-- ---- reading, by the bytes that the reader had and has left, where those are known
+
+-- the next line was read, or there was none
+abbrev pub ReadsLine : Option (List ℕ) → Option (List ℕ) → List ℕ → Bool → Type 0
+ReadsLine unread left line is_read =
+    IfSome unread (λ input. (rest : List ℕ) × (left ≡ Some rest) × MatchBool is_read (lines_of input ≡ line ∷ lines_of rest) ((input ≡ []) × (rest ≡ [])))
+
+-- the next line that isn't empty was read, or there was none
+abbrev pub ReadsFilledLine : Option (List ℕ) → Option (List ℕ) → List ℕ → Bool → Type 0
+ReadsFilledLine unread left line is_read =
+    IfSome unread (λ input. (rest : List ℕ) × (left ≡ Some rest) × MatchBool is_read (filled_lines input ≡ line ∷ filled_lines rest) ((filled_lines input ≡ []) × (rest ≡ [])))

@@ -57,3 +57,12 @@ EndsDone unread left held holds =
 abbrev pub EndsBad : Option (List ℕ) → Option (List ℕ) → Option (List ℕ) → Type 0
 EndsBad unread held holds =
     IfSome unread (λ input. (output : List ℕ) × Appends held holds output × IsBadHeader (filled_lines input) output)
+
+-- the answer to a line that is refused, and the line's end
+abbrev pub refusal_line : Refusal → List ℕ
+refusal_line refusal = output_line (error_line refusal)
+
+-- A run from this state to the end: all is read, and what was written answers all lines that aren't empty.
+abbrev pub EndsReplied : State → Option (List ℕ) → Option (List ℕ) → Option (List ℕ) → Option (List ℕ) → Type 0
+EndsReplied state unread left held holds =
+    IfSome unread (λ input. (left ≡ Some []) × ((output : List ℕ) × Appends held holds output × AreReplies state (filled_lines input) output))

@@ -14,7 +14,8 @@ use zarrs_codec_chain::CodecChain;
 use zarrs_metadata::{MetadataV3, PluginCreateError};
 
 fn metadata_in(alloc: Global, items: &Vec<Value>) -> Result<Vec<MetadataV3>, PluginCreateError>
-    ensures { Answers plugin_memory (λ list. map metadata_seen list.items) result (metadata_among (items_view items.now.items)) }
+    ensures { Answers plugin_memory (λ list. map metadata_seen list.items) result
+        (metadata_among (items_view items.now.items)) }
 {
     let mut list = Vec::with_capacity(alloc, items.len())?;
     for item in items {
@@ -30,7 +31,8 @@ pub fn chain(
     alloc: Global,
     items: &Vec<Value>,
 ) -> Result<CodecChain<SampleBytesCodec>, PluginCreateError>
-    ensures answer { Answers plugin_memory plain_chain result (chain_in (items_view items.now.items)) }
+    ensures answer { Answers plugin_memory plain_chain result
+        (chain_in (items_view items.now.items)) }
 {
     let list = metadata_in(alloc, items)?;
     CodecChain::from_metadata(alloc, list.as_slice(), &SampleMaker)

@@ -2,9 +2,9 @@
 ghost use Rattle.std.specs.Prelude.{◌≡◌, ℕ, List, [], ◌∷◌, Some, IfOk, OnOk, IfSome, MatchBool};
 ghost use Rattle.std.specs.Io.BufRead.{strip_last};
 ghost use Rattle.std.specs.Io.KnownBytes.{Appends};
-ghost use Rattle.zarrs_chain_lines.specs.Lines.{lines_of, filled_lines};
+ghost use Rattle.zarrs_chain_lines.specs.Lines.{lines_of, filled_lines, ReadsLine, ReadsFilledLine};
 ghost use Rattle.zarrs_chain_json.specs.Refusal.{error_line};
-ghost use Rattle.zarrs_chain_lines.specs.Run.{output_line};
+ghost use Rattle.zarrs_chain_lines.specs.Run.{output_line, refusal_line};
 
 use std::io;
 use std::io::{BufRead, ErrorKind, Write};
@@ -21,9 +21,8 @@ fn drop_line_end(line: &mut Vec<u8>)
 
 /// Reads the next line, without its end, or answers `false` where there is none.
 fn next_line<R: BufRead>(reader: &mut R, line: &mut Vec<u8>) -> io::Result<bool>
-    ensures { IfOk result (λ is_read. IfSome (R.remaining reader.old) (λ input.
-        (rest : List ℕ) × (R.remaining reader.new ≡ Some rest)
-        × MatchBool is_read (lines_of input ≡ line.new.items ∷ lines_of rest) ((input ≡ []) × (rest ≡ [])))) }
+    ensures { IfOk result
+        (ReadsLine (R.remaining reader.old) (R.remaining reader.new) line.new.items) }
 {
     line.clear();
     if reader.read_until(b'\n', line)? == 0 {
@@ -35,9 +34,8 @@ fn next_line<R: BufRead>(reader: &mut R, line: &mut Vec<u8>) -> io::Result<bool>
 
 /// Reads lines until one isn't empty, or answers `false` where none is left.
 pub fn next_filled_line<R: BufRead>(reader: &mut R, line: &mut Vec<u8>) -> io::Result<bool>
-    ensures next { IfOk result (λ is_read. IfSome (R.remaining reader.old) (λ input.
-        (rest : List ℕ) × (R.remaining reader.new ≡ Some rest)
-        × MatchBool is_read (filled_lines input ≡ line.new.items ∷ filled_lines rest) ((filled_lines input ≡ []) × (rest ≡ [])))) }
+    ensures next { IfOk result
+        (ReadsFilledLine (R.remaining reader.old) (R.remaining reader.new) line.new.items) }
 {
     'lines: for _ in 0..u64::MAX {
         if !next_line(reader, line)? {
@@ -52,7 +50,8 @@ pub fn next_filled_line<R: BufRead>(reader: &mut R, line: &mut Vec<u8>) -> io::R
 
 /// Writes an answer, and the line's end.
 pub fn write_line<W: Write>(writer: &mut W, answer: &[u8]) -> io::Result<()>
-    ensures written { OnOk result (Appends (W.contents writer.old) (W.contents writer.new) (output_line answer.now)) }
+    ensures written { OnOk result
+        (Appends (W.contents writer.old) (W.contents writer.new) (output_line answer.now)) }
 {
     writer.write_all(answer)?;
     writer.write_all(b"\n")
@@ -60,7 +59,8 @@ pub fn write_line<W: Write>(writer: &mut W, answer: &[u8]) -> io::Result<()>
 
 /// Writes the answer to a line that is refused.
 pub fn write_refusal<W: Write>(writer: &mut W, refusal: Refusal) -> io::Result<()>
-    ensures written { OnOk result (Appends (W.contents writer.old) (W.contents writer.new) (output_line (error_line refusal))) }
+    ensures written { OnOk result
+        (Appends (W.contents writer.old) (W.contents writer.new) (refusal_line refusal)) }
 {
     writer.write_all(b"error ")?;
     writer.write_all(refusal.name().as_bytes())?;

@@ -2,7 +2,7 @@
 ghost use Rattle.std.specs.Prelude.{◌≡◌, ℕ, List, [], Some, Ok, OnOk, IfSome, true, false};
 ghost use Rattle.std.specs.Io.KnownBytes.{Appends};
 ghost use Rattle.zarrs_chain_lines.specs.Lines.{filled_lines};
-ghost use Rattle.zarrs_chain_lines.specs.Run.{AreReplies, EndsDone, EndsBad};
+ghost use Rattle.zarrs_chain_lines.specs.Run.{AreReplies, EndsDone, EndsBad, EndsReplied};
 ghost use Rattle.zarrs_chain_lines.specs.Session.{state_of};
 
 use crate::lines::{next_filled_line, write_line, write_refusal};
@@ -30,9 +30,9 @@ fn serve<R: BufRead, W: Write>(
     writer: &mut W,
     line: &mut Vec<u8>,
 ) -> io::Result<()>
-    ensures { OnOk result (IfSome (R.remaining reader.old) (λ input. (R.remaining reader.new ≡ Some [])
-        × ((output : List ℕ) × Appends (W.contents writer.old) (W.contents writer.new) output
-        × AreReplies (state_of session.old) (filled_lines input) output))) }
+    ensures { OnOk result
+        (EndsReplied (state_of session.old) (R.remaining reader.old) (R.remaining reader.new)
+        (W.contents writer.old) (W.contents writer.new)) }
 {
     'commands: for _ in 0..u64::MAX {
         if !next_filled_line(reader, line)? {
@@ -48,8 +48,11 @@ fn serve<R: BufRead, W: Write>(
 
 /// Answers the header and the lines after it: whether the header was good, or there was none.
 fn try_run<R: BufRead, W: Write>(alloc: Global, reader: &mut R, writer: &mut W) -> io::Result<bool>
-    ensures done { result ≡ Ok true → EndsDone (R.remaining reader.old) (R.remaining reader.new) (W.contents writer.old) (W.contents writer.new) }
-    ensures bad { result ≡ Ok false → EndsBad (R.remaining reader.old) (W.contents writer.old) (W.contents writer.new) }
+    ensures done { result ≡ Ok true →
+        EndsDone (R.remaining reader.old) (R.remaining reader.new)
+        (W.contents writer.old) (W.contents writer.new) }
+    ensures bad { result ≡ Ok false →
+        EndsBad (R.remaining reader.old) (W.contents writer.old) (W.contents writer.new) }
 {
     let mut line = Vec::new(alloc);
     if !next_filled_line(reader, &mut line)? {
@@ -73,8 +76,11 @@ fn run_and_flush<R: BufRead, W: Write>(
     reader: &mut R,
     writer: &mut W,
 ) -> io::Result<bool>
-    ensures done { result ≡ Ok true → EndsDone (R.remaining reader.old) (R.remaining reader.new) (W.contents writer.old) (W.contents writer.new) }
-    ensures bad { result ≡ Ok false → EndsBad (R.remaining reader.old) (W.contents writer.old) (W.contents writer.new) }
+    ensures done { result ≡ Ok true →
+        EndsDone (R.remaining reader.old) (R.remaining reader.new)
+        (W.contents writer.old) (W.contents writer.new) }
+    ensures bad { result ≡ Ok false →
+        EndsBad (R.remaining reader.old) (W.contents writer.old) (W.contents writer.new) }
 {
     let is_header_good = try_run(alloc, reader, writer);
     writer.flush()?;
@@ -88,8 +94,11 @@ fn run_and_flush<R: BufRead, W: Write>(
 ///
 /// A line may be answered `error OutOfMemory` where memory is wanting; what is stored stays.
 pub fn run<R: BufRead, W: Write>(alloc: Global, reader: &mut R, writer: &mut W) -> RunEnd
-    ensures done { result ≡ RunEnd.Done → EndsDone (R.remaining reader.old) (R.remaining reader.new) (W.contents writer.old) (W.contents writer.new) }
-    ensures bad { result ≡ RunEnd.BadHeader → EndsBad (R.remaining reader.old) (W.contents writer.old) (W.contents writer.new) }
+    ensures done { result ≡ RunEnd.Done →
+        EndsDone (R.remaining reader.old) (R.remaining reader.new)
+        (W.contents writer.old) (W.contents writer.new) }
+    ensures bad { result ≡ RunEnd.BadHeader →
+        EndsBad (R.remaining reader.old) (W.contents writer.old) (W.contents writer.new) }
 {
     match run_and_flush(alloc, reader, writer) {
         Ok(true) => RunEnd::Done,

@@ -1,4 +1,5 @@
 //! A session: what a header opened, and the stored value.
+ghost use Rattle.zarrs_data_type.specs.Form.{form_of};
 ghost use Rattle.std.specs.Prelude.{◌≡◌, OnErr, Some, option_map};
 ghost use Rattle.serde_json.specs.View.{view, members_view};
 ghost use Rattle.zarrs_chunk.specs.Answer.{Answers, AnswersBy, memory, seen};
@@ -6,7 +7,7 @@ ghost use Rattle.zarrs_chunk.specs.Indexer.{selection_of};
 ghost use Rattle.zarrs_array_bytes.specs.Validity.{Holds};
 ghost use Rattle.zarrs_codec.specs.MemoryHandle.{handle_value};
 ghost use Rattle.zarrs_codec_chain.specs.ChainView.{plain_chain};
-ghost use Rattle.zarrs_chain_lines.specs.Commands.{first_state, chunk_part, part_of, chunk_left, value_left, encode_answer, load_answer, chunk_answer, decode_answer, read_answer, write_answer, erase_answer, value_answer, reencoded_answer, reencode_answer, answer_to};
+ghost use Rattle.zarrs_chain_lines.specs.Commands.{first_state, chunk_part, part_of, chunk_left, value_left, encode_answer, load_answer, chunk_answer, decode_answer, read_answer, write_answer, erase_answer, value_answer, reencoded_answer, reencode_answer, answer_to, GivesPart, StoresEdit, GivesChunkPart, StoresChunkEdit};
 ghost use Rattle.zarrs_chain_json.specs.Edit.{edit_seen};
 ghost use Rattle.zarrs_chain_lines.specs.Header.{shape_at, data_type_at, fill_value_at, codecs_at, header_in, line_header};
 ghost use Rattle.zarrs_chain_json.specs.Refusal.{wants_memory};
@@ -39,7 +40,8 @@ pub struct Session {
 }
 
 fn shape(alloc: Global, tree: Option<&Value>) -> Result<ChunkShape, Refusal>
-    ensures { Answers wants_memory (λ shape. shape) result (shape_at (option_map (λ v. view v.now) tree.entry)) }
+    ensures { Answers wants_memory (λ shape. shape) result
+        (shape_at (option_map (λ v. view v.now) tree.entry)) }
 {
     let Some(tree) = tree else {
         return Err(Refusal::Syntax);
@@ -49,7 +51,8 @@ fn shape(alloc: Global, tree: Option<&Value>) -> Result<ChunkShape, Refusal>
 }
 
 fn named_type(alloc: Global, tree: Option<&Value>) -> Result<DataType, Refusal>
-    ensures { Answers wants_memory (λ data_type. data_type) result (data_type_at (option_map (λ v. view v.now) tree.entry)) }
+    ensures { Answers wants_memory (λ data_type. data_type) result
+        (data_type_at (option_map (λ v. view v.now) tree.entry)) }
 {
     match tree {
         Some(tree) => data_type(alloc, tree),
@@ -58,7 +61,8 @@ fn named_type(alloc: Global, tree: Option<&Value>) -> Result<DataType, Refusal>
 }
 
 fn fill_value(alloc: Global, tree: Option<&Value>) -> Result<FillValue, Refusal>
-    ensures { Answers wants_memory (λ fill. fill) result (fill_value_at (option_map (λ v. view v.now) tree.entry)) }
+    ensures { Answers wants_memory (λ fill. fill) result
+        (fill_value_at (option_map (λ v. view v.now) tree.entry)) }
 {
     let Some(tree) = tree else {
         return Err(Refusal::Syntax);
@@ -68,7 +72,8 @@ fn fill_value(alloc: Global, tree: Option<&Value>) -> Result<FillValue, Refusal>
 }
 
 fn codecs(alloc: Global, tree: Option<&Value>) -> Result<CodecChain<SampleBytesCodec>, Refusal>
-    ensures { Answers wants_memory plain_chain result (codecs_at (option_map (λ v. view v.now) tree.entry)) }
+    ensures { Answers wants_memory plain_chain result
+        (codecs_at (option_map (λ v. view v.now) tree.entry)) }
 {
     match tree {
         Some(Value::Array(items)) => Ok(chain(alloc, items)?),
@@ -86,8 +91,9 @@ fn read_part(
     fill_value: &FillValue,
     indexer: &Indexer,
 ) -> Result<ArrayBytes<'static>, CodecError>
-    ensures answer { AnswersBy memory (Holds data_type.now) result
-        (chunk_part (record { chain = plain_chain chain.now; sizes = shape.now; type = data_type.now; fill = fill_value.now }) (handle_value handle.old) (selection_of indexer.now)) }
+    ensures answer { GivesChunkPart (plain_chain chain.now)
+        (form_of shape.now data_type.now fill_value.now)
+        (handle_value handle.old) (selection_of indexer.now) result }
     ensures kept { handle_value handle.new ≡ handle_value handle.old }
 {
     match chain.partial_decoder(alloc, handle, shape, data_type, fill_value) {
@@ -110,8 +116,9 @@ fn write_part(
     fill_value: &FillValue,
     edit: &Edit,
 ) -> Result<(), CodecError>
-    ensures answer { Answers memory (λ _. handle_value handle.new) result
-        (seen Some (chunk_left (record { chain = plain_chain chain.now; sizes = shape.now; type = data_type.now; fill = fill_value.now }) (handle_value handle.old) (edit_seen edit.now))) }
+    ensures answer { StoresChunkEdit (plain_chain chain.now)
+        (form_of shape.now data_type.now fill_value.now)
+        (handle_value handle.old) (handle_value handle.new) (edit_seen edit.now) result }
     ensures kept { OnErr result (handle_value handle.new ≡ handle_value handle.old) }
 {
     match chain.partial_encoder(alloc, handle, shape, data_type, fill_value) {
@@ -128,7 +135,8 @@ impl Session {
     ghost use Rattle.zarrs_chain_lines.specs.Session.{state_of};
 
     fn open_among(alloc: Global, members: &Members) -> Result<Session, Refusal>
-        ensures { Answers wants_memory state_of result (seen first_state (header_in (members_view members.now.entries))) }
+        ensures { Answers wants_memory state_of result
+            (seen first_state (header_in (members_view members.now.entries))) }
     {
         let shape = shape(alloc, member(members, "shape"))?;
         let data_type = named_type(alloc, member(members, "data_type"))?;
@@ -149,7 +157,8 @@ impl Session {
     /// `codecs` don't read, in this order and each with its own refusals; then those of the chain's
     /// representation; `OutOfMemory`.
     pub fn open(alloc: Global, header: &[u8]) -> Result<Session, Refusal>
-        ensures answer { Answers wants_memory state_of result (seen first_state (line_header header.now)) }
+        ensures answer { Answers wants_memory state_of result
+            (seen first_state (line_header header.now)) }
     {
         let tree = tree(alloc, header)?;
         let members = object(&tree)?;
@@ -157,7 +166,8 @@ impl Session {
     }
 
     fn encode(&self, alloc: Global, text: &[u8]) -> Result<Vec<u8>, Refusal>
-        ensures { Answers wants_memory (λ line. (line.items, state_of self.now)) result (encode_answer (state_of self.now) text.now) }
+        ensures { Answers wants_memory (λ line. (line.items, state_of self.now)) result
+            (encode_answer (state_of self.now) text.now) }
     {
         let tree = tree(alloc, text)?;
         let elements = elements(alloc, &self.data_type, &tree)?;
@@ -173,7 +183,8 @@ impl Session {
     }
 
     fn load(&mut self, alloc: Global, text: &[u8]) -> Result<Vec<u8>, Refusal>
-        ensures answer { Answers wants_memory (λ line. (line.items, state_of self.new)) result (load_answer (state_of self.old) text.now) }
+        ensures answer { Answers wants_memory (λ line. (line.items, state_of self.new)) result
+            (load_answer (state_of self.old) text.now) }
         ensures kept { OnErr result (state_of self.new ≡ state_of self.old) }
     {
         let tree = tree(alloc, text)?;
@@ -184,7 +195,8 @@ impl Session {
     }
 
     fn decode_value(&self, alloc: Global, value: &[u8]) -> Result<Vec<u8>, Refusal>
-        ensures { Answers wants_memory (λ line. (line.items, state_of self.now)) result (chunk_answer (state_of self.now) value.now) }
+        ensures { Answers wants_memory (λ line. (line.items, state_of self.now)) result
+            (chunk_answer (state_of self.now) value.now) }
     {
         let elements = self.chain.decode(
             alloc,
@@ -197,7 +209,8 @@ impl Session {
     }
 
     fn decode(&self, alloc: Global) -> Result<Vec<u8>, Refusal>
-        ensures { Answers wants_memory (λ line. (line.items, state_of self.now)) result (decode_answer (state_of self.now)) }
+        ensures { Answers wants_memory (λ line. (line.items, state_of self.now)) result
+            (decode_answer (state_of self.now)) }
     {
         match self.handle.value() {
             None => Ok(Vec::from_slice(alloc, b"ok none")?),
@@ -210,7 +223,7 @@ impl Session {
         alloc: Global,
         indexer: &Indexer,
     ) -> Result<ArrayBytes<'static>, CodecError>
-        ensures answer { let state = state_of self.old in AnswersBy memory (Holds state.header.data_type) result (part_of state.header state.value (selection_of indexer.now)) }
+        ensures answer { GivesPart (state_of self.old) (selection_of indexer.now) result }
         ensures kept { state_of self.new ≡ state_of self.old }
     {
         read_part(
@@ -225,7 +238,8 @@ impl Session {
     }
 
     fn read(&mut self, alloc: Global, text: &[u8]) -> Result<Vec<u8>, Refusal>
-        ensures answer { Answers wants_memory (λ line. (line.items, state_of self.new)) result (read_answer (state_of self.old) text.now) }
+        ensures answer { Answers wants_memory (λ line. (line.items, state_of self.new)) result
+            (read_answer (state_of self.old) text.now) }
         ensures kept { state_of self.new ≡ state_of self.old }
     {
         let tree = tree(alloc, text)?;
@@ -235,7 +249,8 @@ impl Session {
     }
 
     fn store(&mut self, alloc: Global, edit: &Edit) -> Result<(), CodecError>
-        ensures answer { let state = state_of self.old in Answers memory (λ _. state_of self.new) result (seen (λ value. record { header = state.header; value = Some value }) (value_left state.header state.value (edit_seen edit.now))) }
+        ensures answer { StoresEdit (state_of self.old) (state_of self.new)
+            (edit_seen edit.now) result }
         ensures kept { OnErr result (state_of self.new ≡ state_of self.old) }
     {
         let handle = &mut self.handle;
@@ -251,7 +266,8 @@ impl Session {
     }
 
     fn write(&mut self, alloc: Global, text: &[u8]) -> Result<Vec<u8>, Refusal>
-        ensures answer { Answers wants_memory (λ line. (line.items, state_of self.new)) result (write_answer (state_of self.old) text.now) }
+        ensures answer { Answers wants_memory (λ line. (line.items, state_of self.new)) result
+            (write_answer (state_of self.old) text.now) }
         ensures kept { OnErr result (state_of self.new ≡ state_of self.old) }
     {
         let tree = tree(alloc, text)?;
@@ -262,7 +278,8 @@ impl Session {
     }
 
     fn erase(&mut self, alloc: Global) -> Result<Vec<u8>, Refusal>
-        ensures answer { Answers wants_memory (λ line. (line.items, state_of self.new)) result (erase_answer (state_of self.old)) }
+        ensures answer { Answers wants_memory (λ line. (line.items, state_of self.new)) result
+            (erase_answer (state_of self.old)) }
         ensures kept { OnErr result (state_of self.new ≡ state_of self.old) }
     {
         let line = Vec::from_slice(alloc, b"ok")?;
@@ -271,7 +288,8 @@ impl Session {
     }
 
     fn value(&self, alloc: Global) -> Result<Vec<u8>, Refusal>
-        ensures { Answers wants_memory (λ line. (line.items, state_of self.now)) result (value_answer (state_of self.now)) }
+        ensures { Answers wants_memory (λ line. (line.items, state_of self.now)) result
+            (value_answer (state_of self.now)) }
     {
         match self.handle.value() {
             None => Ok(Vec::from_slice(alloc, b"ok none")?),
@@ -285,7 +303,8 @@ impl Session {
         to: &CodecChain<SampleBytesCodec>,
         value: &[u8],
     ) -> Result<Vec<u8>, Refusal>
-        ensures { Answers wants_memory (λ line. (line.items, state_of self.now)) result (reencoded_answer (plain_chain to.now) (state_of self.now) value.now) }
+        ensures { Answers wants_memory (λ line. (line.items, state_of self.now)) result
+            (reencoded_answer (plain_chain to.now) (state_of self.now) value.now) }
     {
         let other = reencode(
             alloc,
@@ -300,7 +319,8 @@ impl Session {
     }
 
     fn reencode(&self, alloc: Global, text: &[u8]) -> Result<Vec<u8>, Refusal>
-        ensures { Answers wants_memory (λ line. (line.items, state_of self.now)) result (reencode_answer (state_of self.now) text.now) }
+        ensures { Answers wants_memory (λ line. (line.items, state_of self.now)) result
+            (reencode_answer (state_of self.now) text.now) }
     {
         let tree = tree(alloc, text)?;
         let to = codecs(alloc, Some(&tree))?;
@@ -314,7 +334,8 @@ impl Session {
     /// those of the command; `Syntax` where the line is no command; `OutOfMemory`.
     #[tactic(auto, unfolding(crate::specs::Commands::answer_to))]
     pub fn answer(&mut self, alloc: Global, line: &[u8]) -> Result<Vec<u8>, Refusal>
-        ensures answer { Answers wants_memory (λ answer. (answer.items, state_of self.new)) result (answer_to (state_of self.old) line.now) }
+        ensures answer { Answers wants_memory (λ answer. (answer.items, state_of self.new)) result
+            (answer_to (state_of self.old) line.now) }
         ensures kept { OnErr result (state_of self.new ≡ state_of self.old) }
     {
         match command_of(line) {

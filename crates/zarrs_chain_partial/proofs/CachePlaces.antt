@@ -9,10 +9,11 @@ use Rattle.zarrs_array_bytes.specs.Validity.{validity}
 use Rattle.zarrs_codec.specs.declared.capabilities.PartialDecoderCapability.{PartialDecoderCapability}
 use Rattle.zarrs_array_to_array.specs.ArrayToArrayCodec.{ArrayMapping}
 use Rattle.zarrs_chain_partial.specs.CachePlace.{array_reads, codecs_read, last_without, greater, cache_place}
-use Rattle.zarrs_chain_parts.specs.Chain.{codec_reads}
-use Rattle.zarrs_chain_partial.specs.ChunkRead.{reads_places}
+use Rattle.zarrs_chain_parts.specs.Chain.{codec_reads, reads_all_if}
+use Rattle.zarrs_chain_partial.specs.ChunkRead.{asks_in_part}
 use Rattle.zarrs_chain_partial.specs.ChunkSource.{IsSizeOf, bytes_left, bytes_stage, cache_fits, cache_stage, has_cache, held_by, is_kept, source_of, stage_at, stage_by, stage_fits}
 use Rattle.zarrs_chain_parts.specs.PlainChain.{PlainCodec, bytes_codec, packbits_codec, vlen_codec, optional_codec, PlainChain}
+use Rattle.zarrs_chain_parts.specs.PlainVlen.{is_plain}
 use Rattle.zarrs_chain_partial.specs.declared.partial_decoder.cache.Cache.{Cache}
 use Rattle.zarrs_chain_partial.specs.declared.partial_decoder.cache.Cache.TheVariants as kept
 use Rattle.zarrs_chain_partial.specs.declared.partial_decoder.cache.CacheStage.{CacheStage}
@@ -182,15 +183,19 @@ cache_there reads_of chain = stage_there (length chain.outer) (cache_place (code
 pub no_stage : {B : Type 0} (reads_of : B → PartialDecoderCapability) (chain : PlainChain B) → cache_place (codecs_read reads_of chain) ≡ None → cache_stage reads_of chain ≡ stage.Nowhere
 no_stage reads_of chain e = ap (stage_at (length chain.outer)) e
 
-no_place_of : {B : Type 0} (reads_of : B → PartialDecoderCapability) (outer : List B) (codec : PlainCodec B) → reads_places outer codec ≡ true → cache_place (codec_reads codec ∷ map reads_of outer) ≡ None
+no_place_if : (test : Bool) → test ≡ true → cache_place (reads_all_if test ∷ []) ≡ None
+no_place_if true e = refl
+no_place_if false e = absurd cc
+
+no_place_of : {B : Type 0} (reads_of : B → PartialDecoderCapability) (outer : List B) (codec : PlainCodec B) → asks_in_part outer codec ≡ true → cache_place (codec_reads codec ∷ map reads_of outer) ≡ None
 no_place_of reads_of [] (bytes_codec order) e = refl
 no_place_of reads_of [] (packbits_codec settings) e = refl
-no_place_of reads_of [] (vlen_codec ia ix ib da dx db wide at_end) e = absurd cc
+no_place_of reads_of [] (vlen_codec ia ix ib da dx db wide at_end) e = no_place_if (is_plain (vlen_codec ia ix ib da dx db wide at_end)) e
 no_place_of reads_of [] (optional_codec ma mx mb da dx db) e = absurd cc
 no_place_of reads_of (first ∷ rest) codec e = absurd cc
 
--- where a read asks for its places alone, there is none
-pub no_place : {B : Type 0} (reads_of : B → PartialDecoderCapability) (chain : PlainChain B) → reads_places chain.outer chain.codec ≡ true → cache_place (codecs_read reads_of chain) ≡ None
+-- where a read asks for a part of the value alone, there is none
+pub no_place : {B : Type 0} (reads_of : B → PartialDecoderCapability) (chain : PlainChain B) → asks_in_part chain.outer chain.codec ≡ true → cache_place (codecs_read reads_of chain) ≡ None
 no_place reads_of chain e = arrays_pass chain.arrays (codec_reads chain.codec ∷ map reads_of chain.outer) ∙ no_place_of reads_of chain.outer chain.codec e
 
 -- ---- how much a cache keeps

@@ -10,3 +10,4 @@ pub mod EditRuns
 pub mod SureReads
 pub mod SizeLaw
 pub mod Making
+pub mod ReadLaws

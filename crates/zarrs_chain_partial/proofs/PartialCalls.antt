@@ -12,7 +12,7 @@ use Rattle.zarrs_chunk.specs.declared.codec_error.CodecError.{CodecError}
 use Rattle.zarrs_chunk.specs.declared.codec_error.CodecError.TheVariants.{InvalidFillValue, UnsupportedDataType, Overflow}
 use Rattle.zarrs_chunk.specs.declared.codec_error.CodecName.TheVariants as codec
 use Rattle.zarrs_data_type.specs.Element.{Element, Chunk, fill_element}
-use Rattle.zarrs_data_type.specs.ElementType.{ElementType, fixed, text, bytes, optional}
+use Rattle.zarrs_data_type.specs.ElementType.{ElementType, fixed, text, bytes, optional, is_variable}
 use Rattle.zarrs_data_type.specs.FillValue.{fill_fits}
 use Rattle.zarrs_data_type.specs.declared.endianness.Endianness.{Endianness}
 use Rattle.zarrs_array_bytes.specs.Chunks.{fill_chunk}
@@ -39,7 +39,7 @@ use Rattle.zarrs_codec_chain.specs.ChainView.{plain_codec}
 use Rattle.zarrs_chain_partial.specs.ChunkRead.{encoded_places, IsCodecPlan}
 use Rattle.zarrs_chain_parts.specs.Decode.{codec_chunk}
 use Rattle.zarrs_chain_parts.specs.PlainChain.{PlainCodec, bytes_codec, packbits_codec, vlen_codec, optional_codec, PlainChain}
-use Rattle.zarrs_chain_parts.specs.Representation.{codec_representation, is_variable}
+use Rattle.zarrs_chain_parts.specs.Representation.{codec_representation}
 use Rattle.zarrs_codec_chain.specs.declared.array_to_bytes_codec.ArrayToBytesCodec.{ArrayToBytesCodec}
 use Rattle.zarrs_codec_chain.specs.declared.array_to_bytes_codec.ArrayToBytesCodec.TheVariants.{Bytes, PackBits}
 use Rattle.zarrs_chain_parts.proofs.Answered.{from_ok}

@@ -29,16 +29,19 @@ use Rattle.zarrs_packbits.proofs.Exact as packbits
 use Rattle.zarrs_chain_parts.specs.ArrayStages.{arrays_map}
 use Rattle.zarrs_chain_parts.specs.BytesStages.{outer_bytes, outer_representation}
 use Rattle.zarrs_chain_parts.specs.Chain.{taken_form}
-use Rattle.zarrs_chain_partial.specs.ChunkRead.{ChunkForm, codec_read, encoded_places, outer_stored, stored_read}
+use Rattle.zarrs_chain_partial.specs.ChunkRead.{ChunkForm, codec_read, encoded_places, outer_stored, read_by_form, stored_read}
 use Rattle.zarrs_chain_partial.specs.ChunkSource.{Source, is_there, opened_chunk, source_at, source_made_at, source_places, source_read}
-use Rattle.zarrs_chain_parts.specs.Decode.{codec_chunk, chain_chunk}
+use Rattle.zarrs_chain_parts.specs.Decode.{Decoder, codec_chunk, chain_chunk}
 use Rattle.zarrs_chain_parts.specs.PlainChain.{PlainCodec, bytes_codec, packbits_codec, vlen_codec, optional_codec, PlainChain}
+use Rattle.zarrs_chain_parts.specs.PlainVlen.{PlainForm, plain_form_of}
 use Rattle.zarrs_chain_parts.specs.Representation.{codec_representation}
 use Rattle.zarrs_chain_partial.specs.declared.partial_decoder.cache.CacheStage.{CacheStage}
 use Rattle.zarrs_chain_partial.specs.declared.partial_decoder.cache.CacheStage.TheVariants as stage
 use Rattle.zarrs_chain_parts.proofs.ArraySteps.{ok, bind_ok, ok_is}
 use Rattle.zarrs_chain_parts.proofs.ChainSteps.{is_taken, seen_ok}
 use Rattle.zarrs_chain_parts.proofs.NestedStages.{arrays_are_map, chained_of}
+use Rattle.zarrs_chain_parts.proofs.PlainForms.{plain_is_plain}
+use Rattle.zarrs_plain_vlen.proofs.Selected.{decoded_selects}
 
 -- ---- what is known of a chunk that a chain takes
 
@@ -83,16 +86,31 @@ filled_if : {A : Type 0} (r : Result A CodecError) (chunk : Chunk) → is_ok r �
 filled_if (Ok x) chunk h = refl
 filled_if (Err e) chunk h = absurd cc
 
+-- where nothing is stored a `vlen`, plain or not, reads fill elements
+form_fills : (form : Option PlainForm) (decode : Decoder) (sizes : List ℕ) (type : ElementType) (fill places : List ℕ) → read_by_form form decode sizes type fill None places ≡ Ok (map (λ _. fill_element type fill) places)
+form_fills None decode sizes type fill places = refl
+form_fills (Some form) decode sizes type fill places = refl
+
 -- where nothing is stored a codec to bytes reads fill elements
 pub codec_fills : {B : Type 0} (f : BytesCodecs B) (codec : PlainCodec B) (sizes : List ℕ) (type : ElementType) (fill : List ℕ) (r : BytesRepresentation) (places : List ℕ) → codec_representation f codec sizes type fill ≡ Ok r → codec_read f codec sizes type fill None places ≡ Ok (map (λ _. fill_element type fill) places)
 unfolding codec_representation
 codec_fills f (bytes_codec order) sizes type fill r places e = refl
 codec_fills f (packbits_codec settings) sizes type fill r places e = filled_if (packed_layout settings (form_of sizes type fill)) (map (λ _. fill_element type fill) places) (layout_of settings sizes type fill r e)
-codec_fills f (vlen_codec ia ix ib da dx db wide at_end) sizes type fill r places e = refl
+codec_fills f (vlen_codec ia ix ib da dx db wide at_end) sizes type fill r places e =
+    let codec = vlen_codec ia ix ib da dx db wide at_end in
+    form_fills (plain_form_of codec) (codec_chunk f codec) sizes type fill places
 codec_fills f (optional_codec ma mx mb da dx db) sizes type fill r places e = refl
 
 whole_selects : (r : Result Chunk CodecError) (chunk : Chunk) (places : List ℕ) → r ≡ Ok chunk → (r >>= λ c. ok (select c places)) ≡ Ok (select chunk places)
 whole_selects r chunk places e = rw e refl
+
+-- of a value that it reads as a chunk, a `vlen`, plain or not, reads the chunk's elements
+form_selects : {B : Type 0} (f : BytesCodecs B) (codec : PlainCodec B) (form : Option PlainForm) (sizes : List ℕ) (type : ElementType) (fill value : List ℕ) (chunk : Chunk) (places : List ℕ) → plain_form_of codec ≡ form
+    → codec_chunk f codec sizes type fill value ≡ Ok chunk → All (λ place. place < product sizes) places → read_by_form form (codec_chunk f codec) sizes type fill (Some value) places ≡ Ok (select chunk places)
+form_selects f codec None sizes type fill value chunk places p e h = whole_selects (codec_chunk f codec sizes type fill value) chunk places e
+form_selects {B} f codec (Some form) sizes type fill value chunk places p e h =
+    let plain = plain_is_plain B codec form p in
+    decoded_selects f form plain.0 sizes type fill value chunk places (subst (λ (c : PlainCodec B). codec_chunk f c sizes type fill value ≡ Ok chunk) plain.1 e) h
 
 -- of a value that it reads as a chunk, a codec to bytes reads the chunk's elements
 pub codec_selects : {B : Type 0} (f : BytesCodecs B) (codec : PlainCodec B) (sizes : List ℕ) (type : ElementType) (fill value : List ℕ) (chunk : Chunk) (places : List ℕ)
@@ -104,7 +122,9 @@ codec_selects f (bytes_codec order) sizes type fill value chunk places e h =
 codec_selects f (packbits_codec settings) sizes type fill value chunk places e h =
     let stands = packbits.decoded_found settings sizes type fill value chunk e in
     packbits_laws.read_selects settings sizes type fill value chunk places stands (subst (λ n. All (λ place. place < n) places) (sym stands.elements.count_is) h)
-codec_selects f (vlen_codec ia ix ib da dx db wide at_end) sizes type fill value chunk places e h = whole_selects (codec_chunk f (vlen_codec ia ix ib da dx db wide at_end) sizes type fill value) chunk places e
+codec_selects f (vlen_codec ia ix ib da dx db wide at_end) sizes type fill value chunk places e h =
+    let codec = vlen_codec ia ix ib da dx db wide at_end in
+    form_selects f codec (plain_form_of codec) sizes type fill value chunk places refl e h
 codec_selects f (optional_codec ma mx mb da dx db) sizes type fill value chunk places e h = whole_selects (codec_chunk f (optional_codec ma mx mb da dx db) sizes type fill value) chunk places e
 
 -- ---- bytes codecs in two parts

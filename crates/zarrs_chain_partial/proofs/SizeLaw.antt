@@ -1,7 +1,7 @@
 -- How many bytes a cache has of what answers rest on.
-use Rattle.std.proofs.Common.{◌≡◌, ℕ, ◌-◌, ◌*◌, ◌^◌, min, Some, None, length, ap, sym, ◌∙◌}
+use Rattle.std.proofs.Common.{ℕ, ◌-◌, ◌^◌, min, Some, None, length, ap, sym, ◌∙◌}
 use Rattle.zarrs_array_bytes.proofs.CountLaw.{containers_are_counted}
-use Rattle.zarrs_chain_partial.specs.ChunkSource.{Source, bytes_above, chunk_below, IsSizeOf}
+use Rattle.zarrs_chain_partial.specs.ChunkSource.{bytes_above, chunk_below}
 use Rattle.zarrs_chain_partial.specs.SizeLaws.{ChunkSizesAreExact, SizesAreExact}
 
 pub chunk_sizes_are_exact : ChunkSizesAreExact

@@ -1,5 +1,5 @@
 -- Where a partial decoder of a chain keeps its cache.
-use Rattle.std.specs.Prelude.{ℕ, suc, max, Bool, true, if◌then◌else◌, Option, Some, None, option_map, List, [], ◌∷◌, ◌++◌, length, map}
+use Rattle.std.specs.Prelude.{ℕ, suc, max, Bool, true, if◌then◌else◌, Option, Some, None, option_map, List, [], ◌∷◌, ◌++◌, length, map, is_some}
 use Rattle.zarrs_codec.specs.declared.capabilities.PartialDecoderCapability.{PartialDecoderCapability}
 use Rattle.zarrs_array_to_array.specs.ArrayToArrayCodec.{ArrayMapping}
 use Rattle.zarrs_chain_parts.specs.Chain.{codec_reads}
@@ -28,3 +28,7 @@ greater (Some place) (Some other) = Some (max place other)
 abbrev pub cache_place : List PartialDecoderCapability → Option ℕ
 cache_place codecs =
     greater (option_map suc (last_without (λ codec. codec.partial_decode) codecs)) (last_without (λ codec. codec.partial_read) codecs)
+
+-- a partial decoder of the chain has a cache
+abbrev pub has_cache_place : {B : Type 0} → (B → PartialDecoderCapability) → PlainChain B → Bool
+has_cache_place reads chain = is_some (cache_place (codecs_read reads chain))

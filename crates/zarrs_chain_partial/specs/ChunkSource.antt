@@ -1,6 +1,6 @@
 -- What a partial decoder's answers rest on, and what of it a cache keeps.
-use Rattle.std.specs.Prelude.{◌≡◌, ℕ, suc, ◌-◌, ◌^◌, ◌&&◌, not, nat_le, min, Bool, true, false, if◌then◌else◌, Option, Some, None, option_map, List, [], ◌∷◌, length, map, take, drop, is_ok, is_some, Result, Ok}
-use Rattle.zarrs_chunk.specs.Answer.{◌>>=◌}
+use Rattle.std.specs.Prelude.{◌≡◌, ℕ, suc, ◌-◌, ◌^◌, ◌&&◌, not, nat_le, min, Bool, true, false, if◌then◌else◌, Option, Some, None, option_map, List, [], ◌∷◌, length, map, take, drop, is_ok, is_some, Result, Ok, IsOkAnd}
+use Rattle.zarrs_chunk.specs.Answer.{◌>>=◌, Answers, GivesBy, memory_or_fault}
 use Rattle.zarrs_chunk.specs.Selection.{Selection}
 use Rattle.zarrs_chunk.specs.declared.codec_error.CodecError.{CodecError}
 use Rattle.zarrs_data_type.specs.Element.{Chunk, fill_element}
@@ -13,7 +13,7 @@ use Rattle.zarrs_codec.specs.declared.bytes_representation.BytesRepresentation.{
 use Rattle.zarrs_codec.specs.declared.capabilities.PartialDecoderCapability.{PartialDecoderCapability}
 use Rattle.zarrs_chain_parts.specs.BytesStages.{outer_bytes, outer_representation}
 use Rattle.zarrs_chain_partial.specs.CachePlace.{cache_place, codecs_read}
-use Rattle.zarrs_chain_parts.specs.Chain.{taken_form}
+use Rattle.zarrs_chain_parts.specs.Chain.{taken_form, codec_reads}
 use Rattle.zarrs_chain_partial.specs.ChunkRead.{ChunkForm, codec_read, encoded_places, outer_stored}
 use Rattle.zarrs_chain_parts.specs.Decode.{codec_chunk}
 use Rattle.zarrs_chain_parts.specs.PlainChain.{PlainChain}
@@ -21,6 +21,8 @@ use Rattle.zarrs_chain_partial.specs.declared.partial_decoder.cache.Cache.{Cache
 use Rattle.zarrs_chain_partial.specs.declared.partial_decoder.cache.Cache.TheVariants as kept
 use Rattle.zarrs_chain_partial.specs.declared.partial_decoder.cache.CacheStage.{CacheStage}
 use Rattle.zarrs_chain_partial.specs.declared.partial_decoder.cache.CacheStage.TheVariants as stage
+use Rattle.zarrs_chunk.specs.ChunkShape.{product}
+use Rattle.zarrs_data_type.specs.Form.{Form}
 
 -- What answers rest on: the bytes above so many of the first bytes codecs, or the chunk that the codec to bytes reads; either only where something is stored.
 pub data Source : Type 0 where
@@ -151,3 +153,34 @@ IsSizeOf type (bytes_above below None) size = size ≡ 0
 IsSizeOf type (bytes_above below (Some value)) size = size ≡ length value
 IsSizeOf type (chunk_below None) size = size ≡ 0
 IsSizeOf type (chunk_below (Some chunk)) size = (held : Held) × Holds type held chunk × (size ≡ min (byte_count held) (2 ^ 64 - 1))
+
+-- ---- what calls give
+
+-- the container of the chunk that the codec to bytes reads of a value, or the first refusal
+abbrev pub OpensChunk : {B : Type 0} → BytesCodecs B → PlainChain B → Form → BytesRepresentation → List ℕ → Result Held CodecError → Type 0
+OpensChunk f chain form r value result = GivesBy (Holds form.type) result (opened_chunk f chain form.sizes form.type form.fill r value)
+
+-- the bytes of a value above so many of the first bytes codecs, or the refusal of what decodes them
+abbrev pub upper_bytes : {B : Type 0} → BytesCodecs B → List B → ℕ → BytesRepresentation → List ℕ → Result (List ℕ) CodecError
+upper_bytes f codecs below r value = outer_bytes f (drop below codecs) (outer_representation f (take below codecs) r) value
+
+-- the stage is one of the chain
+abbrev pub is_stage_of : {B : Type 0} → PlainChain B → CacheStage → Bool
+is_stage_of chain stage = stage_fits (codec_reads chain.codec) (length chain.outer) stage
+
+-- the cache is one of the chunks that the chain's codec to bytes gets
+abbrev pub is_cache_of : {B : Type 0} → PlainChain B → List ℕ → ElementType → Cache → Bool
+is_cache_of chain encoded type cache = cache_fits (codec_reads chain.codec) type (product encoded) (length chain.outer) cache
+
+-- a cache at this stage, filled from what is stored, or the refusal of what decodes it
+abbrev pub FillsCache : {B : Type 0} → BytesCodecs B → PlainChain B → BytesRepresentation → CacheStage → Form → Option (List ℕ) → Result Cache CodecError → Type 0
+FillsCache f chain r stage form stored result =
+    Answers memory_or_fault (source_of form.type (product form.sizes) (length chain.outer) stored) result (source_at f chain form.sizes form.type form.fill r stage stored)
+
+-- the cache of a decoder that was made of what was stored then has so many bytes
+abbrev pub IsCacheSize : {B : Type 0} → BytesCodecs B → (B → PartialDecoderCapability) → ChunkForm B → Option (List ℕ) → ℕ → Type 0
+IsCacheSize f reads form stored size = IsOkAnd (source_made f reads form stored) (λ source. IsSizeOf form.type source size)
+
+-- the chain wants a cache
+abbrev pub wants_cache : {B : Type 0} → (B → PartialDecoderCapability) → PlainChain B → Bool
+wants_cache reads chain = has_cache (cache_stage reads chain)

@@ -1,7 +1,7 @@
 -- What a write in part leaves through a chain.
 use Rattle.zarrs_codec.specs.StorageState.{StorageState}
-use Rattle.std.specs.Prelude.{◌≡◌, ℕ, Bool, Option, Some, None, List, [], ◌∷◌, length, map, Result, Ok, Err, IfErr, OnOk, IsOkAnd}
-use Rattle.zarrs_chunk.specs.Answer.{◌>>=◌, Answers, memory, memory_or_fault, seen}
+use Rattle.std.specs.Prelude.{◌≡◌, ℕ, Bool, Option, Some, None, List, [], ◌∷◌, length, map, Result, Ok, Err, IfErr, OnOk, IsOkAnd, ◌+◌, ◌≤◌, All}
+use Rattle.zarrs_chunk.specs.Answer.{◌>>=◌, Answers, memory, memory_or_fault, seen, Gives}
 use Rattle.zarrs_chunk.specs.ChunkShape.{product}
 use Rattle.zarrs_chunk.specs.Selection.{Selection, bounds_of}
 use Rattle.zarrs_chunk.specs.declared.codec_error.CodecError.{CodecError}
@@ -10,7 +10,7 @@ use Rattle.zarrs_data_type.specs.declared.endianness.Endianness.{Endianness}
 use Rattle.zarrs_data_type.specs.ElementType.{ElementType}
 use Rattle.zarrs_array_bytes.specs.Chunks.{fill_chunk}
 use Rattle.zarrs_array_bytes.specs.Elements.{elements}
-use Rattle.zarrs_array_bytes.specs.Held.{Held}
+use Rattle.zarrs_array_bytes.specs.Held.{Held, items_of}
 use Rattle.zarrs_codec.specs.ArrayWriter.{ArrayWriter}
 use Rattle.zarrs_codec.specs.BytesToBytesCodec.{BytesCodecs}
 use Rattle.zarrs_codec.specs.ChunkEdits.{data_checked, data_places, with_elements, edited_chunk}
@@ -26,6 +26,12 @@ use Rattle.zarrs_chain_partial.specs.PartialDecoder.{chunk_reader}
 use Rattle.zarrs_chain_parts.specs.PlainChain.{PlainCodec, bytes_codec, packbits_codec, vlen_codec, optional_codec}
 use Rattle.zarrs_chain_parts.specs.Stands.{ChainStands}
 use Rattle.zarrs_chain_parts.specs.Written.{ChainWritten}
+use Rattle.std.proofs.Common.{Global}
+use Rattle.std.specs.declared.borrow.CowSlice.{CowSlice}
+use Rattle.zarrs_chunk.specs.Runs.{joined_runs}
+use Rattle.zarrs_array_bytes.specs.Validity.{validity}
+use Rattle.zarrs_codec.specs.declared.capabilities.PartialEncoderCapability.{PartialEncoderCapability}
+use Rattle.zarrs_chain_parts.specs.Chain.{chain_writes}
 
 -- the byte order of `bytes` without bytes codecs: there a write over a stored value replaces the bytes of its places alone
 abbrev pub order_in_place : {B : Type 0} → List B → PlainCodec B → Option (Option Endianness)
@@ -101,3 +107,69 @@ pub record EditsChunk {B : Type 0} (f : BytesCodecs B) (form : ChunkForm B) (bef
   pub indexer_first : IfErr (bounds_of selection form.sizes) (λ cause. Answers memory (λ done. done) result (Err cause))
   pub checked_first : IfErr (data_checked form.sizes form.type selection new) (λ cause. Answers memory (λ done. done) result (Err cause))
   pub untouched : IfErr (data_checked form.sizes form.type selection new) (λ _. after ≡ before)
+
+-- ---- what calls give
+
+-- the check of new elements at a selection
+abbrev pub form_checked : {B : Type 0} → ChunkForm B → Selection → Held → Result (Unit {0}) CodecError
+form_checked form selection new = data_checked form.sizes form.type selection new
+
+-- where they go through the array codecs
+abbrev pub form_written : {B : Type 0} → ChunkForm B → Selection → Held → Result (List ℕ) CodecError
+form_written form selection new = written_places form.type form.chain.arrays form.sizes selection new
+
+-- the byte order of `bytes` without bytes codecs
+abbrev pub form_in_place : {B : Type 0} → ChunkForm B → Option (Option Endianness)
+form_in_place form = order_in_place form.chain.outer form.chain.codec
+
+-- all codecs encode a part
+abbrev pub form_encodes_parts : {B : Type 0} → (B → PartialEncoderCapability) → ChunkForm B → Bool
+form_encodes_parts writes form = (chain_writes writes form.chain).partial_encode
+
+-- each run ends within the chunk
+abbrev pub RunsInside : {B : Type 0} → ChunkForm B → List (ℕ × ℕ) → Type 0
+RunsInside form runs = All (λ run. run.0 + run.1 ≤ product form.sizes) runs
+
+-- there is one new element of the type for each place of the runs
+abbrev pub FitsRuns : {B : Type 0} → ChunkForm B → List (ℕ × ℕ) → Held → Type 0
+FitsRuns form runs new = data_fit form.type (length (joined_runs runs)) new ≡ Ok tt
+
+-- a container of such a chunk
+abbrev pub IsWhole : {B : Type 0} → ChunkForm B → Held → Type 0
+IsWhole form held = validity form.type (product form.sizes) held ≡ Ok tt
+
+-- the value of a chunk with new elements at the places of the runs, or the first refusal
+abbrev pub GivesEdited : {B : Type 0} → BytesCodecs B → ChunkForm B → Held → List (ℕ × ℕ) → Held → Result (CowSlice ℕ Global) CodecError → Type 0
+GivesEdited f form chunk runs new result =
+    Gives items_of result (edited_value f form (elements form.type (product form.sizes) chunk) (joined_runs runs) new)
+
+-- the value that new elements at the places of the runs leave of what is stored, by the whole value; or the first refusal
+abbrev pub ReadsNewValue : {B : Type 0} → BytesCodecs B → ChunkForm B → Option (List ℕ) → List (ℕ × ℕ) → Held → Result (CowSlice ℕ Global) CodecError → Type 0
+ReadsNewValue f form stored runs new result = Answers memory_or_fault items_of result (value_left f form None stored (joined_runs runs) new)
+
+-- this value is stored afterwards
+abbrev pub WritesRuns : {B : Type 0} → BytesCodecs B → ChunkForm B → (before after : StorageState) → List (ℕ × ℕ) → Held → Result (Unit {0}) CodecError → Type 0
+WritesRuns f form before after runs new result =
+    Answers memory_or_fault (λ _. after.value) result (seen Some (value_left f form None before.value (joined_runs runs) new))
+
+-- the value afterwards is the one that new elements at a selection leave, in place or by the whole value; or the first refusal is answered
+abbrev pub WritesSelection : {B : Type 0} → BytesCodecs B → ChunkForm B → Option (Option Endianness) → (before after : StorageState) → Selection → Held → Result (Unit {0}) CodecError → Type 0
+WritesSelection f form order before after selection new result =
+    Answers memory_or_fault (λ _. after.value) result (seen Some (selection_left f form order before.value selection new))
+
+-- the same, in place where the chain writes in place
+abbrev pub WritesStored : {B : Type 0} → BytesCodecs B → ChunkForm B → (before after : StorageState) → Selection → Held → Result (Unit {0}) CodecError → Type 0
+WritesStored f form before after selection new result =
+    Answers memory_or_fault (λ _. after.value) result (seen Some (stored_written f form before.value selection new))
+
+-- where the selection is refused, this is what is answered, or a want of memory
+abbrev pub WriteRefusedAtSelection : {B : Type 0} → ChunkForm B → Selection → Result (Unit {0}) CodecError → Type 0
+WriteRefusedAtSelection form selection result = IfErr (bounds_of selection form.sizes) (λ cause. Answers memory (λ done. done) result (Err cause))
+
+-- where the new elements are refused, this is what is answered, or a want of memory
+abbrev pub RefusedAtData : {B : Type 0} → ChunkForm B → Selection → Held → Result (Unit {0}) CodecError → Type 0
+RefusedAtData form selection new result = IfErr (form_checked form selection new) (λ cause. Answers memory (λ done. done) result (Err cause))
+
+-- and the handle is as it was
+abbrev pub UntouchedAtData : {B : Type 0} → ChunkForm B → Selection → Held → (before after : StorageState) → Type 0
+UntouchedAtData form selection new before after = IfErr (form_checked form selection new) (λ _. after ≡ before)

@@ -108,9 +108,13 @@ abbrev pub advanced : ℕ → ℕ → ℕ
 advanced zero count = count
 advanced (suc more) count = count_if true (advanced more count)
 
--- what so many accepted edits leave of a handle, where this is stored afterwards: one writing call more for each
+-- what so many accepted edits leave of a handle, where this is stored afterwards: one writing call more for each, and one that was accepted
 abbrev pub after_edits : ℕ → Option (List ℕ) → StorageState → StorageState
-after_edits done stored state = record state { value = stored; writes = advanced done state.writes }
+after_edits done stored state = record state {
+  value = stored;
+  writes = advanced done state.writes;
+  accepted_writes = advanced done state.accepted_writes;
+}
 
 -- what is left where an edit was refused behind so many accepted ones: what a refused write leaves of that; else that
 abbrev pub LeavesEdits : Option CodecError → StorageState → StorageState → Type 0

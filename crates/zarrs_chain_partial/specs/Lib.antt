@@ -11,6 +11,7 @@ pub mod PartialEncoder
 pub mod Edits
 pub mod ElementCode
 pub mod RefusedFirst
+pub mod ReadLaws
 pub use Rattle.zarrs_chunk.specs.Answer
 pub use Rattle.zarrs_chunk.specs.Selection
 pub use Rattle.zarrs_data_type.specs.Element
@@ -23,7 +24,10 @@ pub use Rattle.zarrs_codec.specs.CodersOverHandles
 pub use Rattle.zarrs_codec.specs.Refused
 pub use Rattle.zarrs_codec.specs.StorageState
 pub use Rattle.zarrs_chain_parts.specs.Chain
+pub use Rattle.zarrs_chain_parts.specs.PlainVlen
 pub use Rattle.zarrs_codec_chain.specs.ChainView
 pub use Rattle.zarrs_chain_parts.specs.Representation
 pub use Rattle.zarrs_chain_parts.specs.Stands
 pub use Rattle.zarrs_chain_parts.specs.Written
+pub use Rattle.zarrs_plain_vlen.specs.PlainRead
+pub use Rattle.zarrs_plain_vlen.specs.VlenRead

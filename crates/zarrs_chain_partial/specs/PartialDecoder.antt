@@ -1,14 +1,20 @@
 -- What a partial decoder of a chain is made of.
-use Rattle.std.specs.Prelude.{◌≡◌, ℕ, Bool, Option, is_some, List, Result, Ok, Err}
+use Rattle.std.specs.Prelude.{◌≡◌, ℕ, Bool, Option, is_some, List, Result, Ok, Err, true}
 use Rattle.zarrs_chunk.specs.declared.codec_error.CodecError.{CodecError}
 use Rattle.zarrs_codec.specs.ArrayReader.{ArrayReader}
 use Rattle.zarrs_codec.specs.BytesToBytesCodec.{BytesCodecs}
 use Rattle.zarrs_codec.specs.StorageState.{StorageState, after_reading}
 use Rattle.zarrs_codec.specs.declared.refused.Refused.{Refused}
 use Rattle.zarrs_chain_partial.specs.ChunkReader.{reader_form, reader_source}
-use Rattle.zarrs_chain_partial.specs.ChunkRead.{ChunkForm, stored_read}
-use Rattle.zarrs_chain_partial.specs.ChunkSource.{Source, held_by, is_kept}
+use Rattle.zarrs_chain_partial.specs.ChunkRead.{ChunkForm, stored_read, chunk_form, ReadsChunk}
+use Rattle.zarrs_chain_partial.specs.ChunkSource.{Source, held_by, is_kept, IsCacheSize, source_made}
 use Rattle.zarrs_chain_partial.specs.declared.partial_decoder.array_partial_decoder.ArrayPartialDecoder.{ArrayPartialDecoder}
+use Rattle.zarrs_chunk.specs.Answer.{Answers, memory_or_fault}
+use Rattle.zarrs_chunk.specs.Selection.{Selection}
+use Rattle.zarrs_data_type.specs.Form.{Form}
+use Rattle.zarrs_array_bytes.specs.Held.{Held}
+use Rattle.zarrs_codec.specs.declared.capabilities.PartialDecoderCapability.{PartialDecoderCapability}
+use Rattle.zarrs_chain_parts.specs.PlainChain.{PlainChain}
 
 -- the handle that a decoder reads
 abbrev pub handle_of : {H B : Type 0} {h : _} {b : _} → ArrayPartialDecoder H B h b → H
@@ -56,3 +62,17 @@ pub record LeavesAll {C T L F : Type 0} (state : C → StorageState) (lent : C �
 abbrev pub DecoderLeaves : {H B T L : Type 0} {h : _} {b : _} → (H → StorageState) → (H → L) → ArrayPartialDecoder H B h b → ArrayPartialDecoder H B h b → Result T CodecError → Type 0
 DecoderLeaves state lent before after result =
     LeavesAll (λ decoder. state (handle_of decoder)) (λ decoder. lent (handle_of decoder)) form_of is_cached before after result
+
+-- a decoder of the chunk of this form, its cache filled from what is stored; or the first refusal
+abbrev pub MakesDecoder : {H B : Type 0} {h : _} {b : _} → BytesCodecs B → (B → PartialDecoderCapability) → PlainChain B → Form → Option (List ℕ) → Result (ArrayPartialDecoder H B h b) (Refused H) → Type 0
+MakesDecoder f reads chain form stored result =
+    Answers memory_or_fault (λ decoder. decoder_source decoder stored) (made result) (source_made f reads (chunk_form chain form) stored)
+
+-- how many bytes the cache keeps, where there is one
+abbrev pub KeepsCache : {H B : Type 0} {h : _} {b : _} → (H → StorageState) → BytesCodecs B → (B → PartialDecoderCapability) → ArrayPartialDecoder H B h b → ℕ → Type 0
+KeepsCache state f reads decoder size =
+    is_cached decoder ≡ true → IsCacheSize f reads (form_of decoder) (state (handle_of decoder)).value size
+
+-- what a read of a decoder gives
+abbrev pub DecoderReads : {H B : Type 0} {h : _} {b : _} → (H → StorageState) → BytesCodecs B → ArrayPartialDecoder H B h b → Selection → Result Held CodecError → Type 0
+DecoderReads state f decoder selection result = ReadsChunk f (form_of decoder) (state (handle_of decoder)) selection result

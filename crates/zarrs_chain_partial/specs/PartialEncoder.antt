@@ -6,11 +6,14 @@ use Rattle.zarrs_codec.specs.BytesToBytesCodec.{BytesCodecs}
 use Rattle.zarrs_codec.specs.CodersOverHandles.{OnlyReads, OnlyWrites}
 use Rattle.zarrs_codec.specs.StorageState.{StorageState, after_writing, apart_from_value}
 use Rattle.zarrs_chain_partial.specs.ChunkReader.{reader_form}
-use Rattle.zarrs_chain_partial.specs.ChunkRead.{ChunkForm}
+use Rattle.zarrs_chain_partial.specs.ChunkRead.{ChunkForm, ReadsChunk}
 use Rattle.zarrs_chain_partial.specs.Edits.{edit_excuse, edited_store, RunsEdits}
 use Rattle.zarrs_chain_partial.specs.declared.partial_encoder.array_partial_encoder.ArrayPartialEncoder.{ArrayPartialEncoder}
 use Rattle.zarrs_chain_partial.specs.declared.partial_encoder.edits.Edit.{Edit}
 use Rattle.zarrs_chain_partial.specs.declared.partial_encoder.edits.EditOutcome.{EditOutcome}
+use Rattle.zarrs_chunk.specs.Selection.{Selection}
+use Rattle.zarrs_array_bytes.specs.Held.{Held}
+use Rattle.zarrs_chain_partial.specs.ChunkWrite.{EditsChunk}
 
 -- the handle that an encoder reads and writes
 abbrev pub encoder_handle : {H B : Type 0} {h : _} {w : _} {b : _} → ArrayPartialEncoder H B h w b → H
@@ -68,3 +71,12 @@ EncoderEdits state f before after edit result =
 abbrev pub EncoderRuns : {H B : Type 0} {h : _} {w : _} {b : _} → (H → StorageState) → Bool → BytesCodecs B → ArrayPartialEncoder H B h w b → ArrayPartialEncoder H B h w b → List Edit → EditOutcome → Type 0
 EncoderRuns state atomic f before after edits outcome =
     RunsEdits f (encoder_form before) atomic (encoder_state state before) (encoder_state state after) edits outcome
+
+-- what a read of an encoder gives
+abbrev pub EncoderGives : {H B : Type 0} {h : _} {w : _} {b : _} → (H → StorageState) → BytesCodecs B → ArrayPartialEncoder H B h w b → Selection → Result Held CodecError → Type 0
+EncoderGives state f encoder selection result = ReadsChunk f (encoder_form encoder) (encoder_state state encoder) selection result
+
+-- what a write of an encoder leaves
+abbrev pub EncoderLeaves : {H B : Type 0} {h : _} {w : _} {b : _} → (H → StorageState) → BytesCodecs B → (before after : ArrayPartialEncoder H B h w b) → Selection → Held → Result (Unit {0}) CodecError → Type 0
+EncoderLeaves state f before after selection new result =
+    EditsChunk f (encoder_form before) (encoder_state state before) (encoder_state state after) selection new result

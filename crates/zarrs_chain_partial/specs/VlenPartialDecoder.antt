@@ -1,16 +1,23 @@
 -- What a partial decoder of `vlen` is made of, and what it reads of a chunk.
-use Rattle.std.specs.Prelude.{ℕ, Bool, Option, is_some, List, Result}
-use Rattle.zarrs_chunk.specs.Answer.{◌>>=◌}
-use Rattle.zarrs_chunk.specs.Selection.{Selection, places_of}
+use Rattle.std.specs.Prelude.{◌≡◌, ℕ, Bool, true, Option, is_some, IfOk, List, Result, false, Some, None, map, Err, IfErr}
+use Rattle.zarrs_chunk.specs.Answer.{◌>>=◌, AnswersBy, is_fault, memory, memory_or_fault, seen}
+use Rattle.zarrs_chunk.specs.Selection.{Selection, places_of, bounds_of}
 use Rattle.zarrs_chunk.specs.declared.codec_error.CodecError.{CodecError}
-use Rattle.zarrs_data_type.specs.Element.{Chunk}
+use Rattle.zarrs_data_type.specs.Element.{Chunk, fill_element}
 use Rattle.zarrs_data_type.specs.ElementType.{ElementType}
 use Rattle.zarrs_codec.specs.ArrayReader.{ArrayReader}
 use Rattle.zarrs_codec.specs.BytesToBytesCodec.{BytesCodecs}
+use Rattle.zarrs_codec.specs.StorageState.{are_sure, StorageState}
+use Rattle.zarrs_chain_parts.specs.Chain.{codec_reads}
 use Rattle.zarrs_codec_chain.specs.ChainView.{plain_vlen}
-use Rattle.zarrs_chain_partial.specs.ChunkRead.{codec_read}
+use Rattle.zarrs_chain_partial.specs.ChunkRead.{codec_read, codec_rests_on}
 use Rattle.zarrs_chain_parts.specs.PlainChain.{PlainCodec}
 use Rattle.zarrs_chain_partial.specs.declared.partial_decoder.vlen_partial_decoder.VlenPartialDecoder.{VlenPartialDecoder}
+use Rattle.zarrs_data_type.specs.Form.{Form}
+use Rattle.zarrs_array_bytes.specs.Elements.{select}
+use Rattle.zarrs_array_bytes.specs.Held.{Held}
+use Rattle.zarrs_array_bytes.specs.Validity.{Holds}
+use Rattle.zarrs_chain_parts.specs.Stands.{CodecStands}
 
 -- the chunk that is read: through which codec to bytes, its sizes, its type and its fill value
 pub record CodecForm (B : Type 0) : Type 0 where
@@ -34,6 +41,17 @@ codec_stored_read f form stored selection = do
   places ← places_of selection form.sizes
   codec_read f form.codec form.sizes form.type form.fill stored places
 
+-- the numbers of the bytes that a read rests on, of what is stored, or the first refusal: the selection's; the codec's
+abbrev pub codec_selection_rests_on : {B : Type 0} → CodecForm B → Option (List ℕ) → Selection → Result (List ℕ) CodecError
+codec_selection_rests_on form stored selection = do
+  places ← places_of selection form.sizes
+  codec_rests_on form.codec form.sizes form.type form.fill stored places
+
+-- P, where a read asks for a part of the value alone and the bytes that it rests on are sure
+abbrev pub CodecWhereSure : {B : Type 0} → CodecForm B → StorageState → Selection → Type 0 → Type 0
+CodecWhereSure form before selection P =
+    (codec_reads form.codec).partial_decode ≡ true → IfOk (codec_selection_rests_on form before.value selection) (λ numbers. are_sure before.sure numbers ≡ true → P)
+
 -- the reader of a chunk of this form, where this value or none is stored: it answers of a selection what `codec_stored_read` says
 abbrev pub codec_reader : {B : Type 0} → BytesCodecs B → CodecForm B → Option (List ℕ) → Bool → ArrayReader
 codec_reader f form stored in_part = record {
@@ -43,3 +61,38 @@ codec_reader f form stored in_part = record {
   answer = codec_stored_read f form stored;
   in_part = in_part;
 }
+
+-- ---- what calls give
+
+-- what is made of a chunk's form, where it is made, has that form
+abbrev pub HasCodecForm : {B C E : Type 0} → (C → CodecForm B) → PlainCodec B → Form → Result C E → Type 0
+HasCodecForm view codec form result =
+    IfOk result (λ made. view made ≡ record { codec = codec; sizes = form.sizes; type = form.type; fill = form.fill })
+
+-- the elements that a selection means are read of what the handle keeps, or the first refusal
+abbrev pub VlenReads : {H B : Type 0} {h : _} {b : _} → (H → StorageState) → BytesCodecs B → VlenPartialDecoder H B h b → Selection → Result Held CodecError → Type 0
+VlenReads state f decoder selection result =
+    AnswersBy memory_or_fault (Holds (vlen_form_of decoder).type) result (codec_stored_read f (vlen_form_of decoder) (state (vlen_handle_of decoder)).value selection)
+
+-- of a stored value that stands for a chunk they are that chunk's
+abbrev pub VlenSelects : {H B : Type 0} {h : _} {b : _} → (H → StorageState) → BytesCodecs B → VlenPartialDecoder H B h b → Selection → Result Held CodecError → Type 0
+VlenSelects state f decoder selection result =
+    (value : List ℕ) (chunk : Chunk) → (state (vlen_handle_of decoder)).value ≡ Some value
+    → CodecStands f (vlen_form_of decoder).codec (vlen_form_of decoder).sizes (vlen_form_of decoder).type (vlen_form_of decoder).fill value chunk
+    → AnswersBy memory_or_fault (Holds (vlen_form_of decoder).type) result (seen (select chunk) (places_of selection (vlen_form_of decoder).sizes))
+
+-- where nothing is stored they are fill elements
+abbrev pub VlenFills : {H B : Type 0} {h : _} {b : _} → (H → StorageState) → VlenPartialDecoder H B h b → Selection → Result Held CodecError → Type 0
+VlenFills state decoder selection result =
+    (state (vlen_handle_of decoder)).value ≡ None
+    → AnswersBy memory_or_fault (Holds (vlen_form_of decoder).type) result (seen (map (λ _. fill_element (vlen_form_of decoder).type (vlen_form_of decoder).fill)) (places_of selection (vlen_form_of decoder).sizes))
+
+-- where the selection is refused, this is what is answered, or a want of memory
+abbrev pub VlenRefusedAtSelection : {H B : Type 0} {h : _} {b : _} → VlenPartialDecoder H B h b → Selection → Result Held CodecError → Type 0
+VlenRefusedAtSelection decoder selection result =
+    IfErr (bounds_of selection (vlen_form_of decoder).sizes) (λ cause. AnswersBy memory (Holds (vlen_form_of decoder).type) result (Err cause))
+
+-- no failure of the handle comes where the bytes are sure that a read in part rests on
+abbrev pub SureVlen : {H B : Type 0} {h : _} {b : _} → (H → StorageState) → VlenPartialDecoder H B h b → Selection → Result Held CodecError → Type 0
+SureVlen state decoder selection result =
+    CodecWhereSure (vlen_form_of decoder) (state (vlen_handle_of decoder)) selection (is_fault result ≡ false)

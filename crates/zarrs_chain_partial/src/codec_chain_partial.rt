@@ -1,14 +1,15 @@
 //! The coders of a chunk in part that a chain makes.
+ghost use Rattle.zarrs_data_type.specs.Form.{form_of as form_with};
 ghost use Rattle.std.specs.Prelude.{◌≡◌, Ok, IfOk, IfErr, None, is_some, true, false};
 ghost use Rattle.zarrs_chunk.specs.Answer.{Answers, memory_or_fault, is_fault, seen, Gives};
 ghost use Rattle.zarrs_codec.specs.Refused.{outcome};
 ghost use Rattle.zarrs_codec.specs.StorageState.{after_reading};
 ghost use Rattle.zarrs_codec_chain.specs.ChainView.{plain_chain};
 ghost use Rattle.zarrs_chain_parts.specs.Representation.{chain_representation as chain_representation_of};
-ghost use Rattle.zarrs_chain_partial.specs.CachePlace.{cache_place, codecs_read};
-ghost use Rattle.zarrs_chain_partial.specs.ChunkRead.{reads_places};
+ghost use Rattle.zarrs_chain_partial.specs.CachePlace.{cache_place, codecs_read, has_cache_place};
+ghost use Rattle.zarrs_chain_partial.specs.ChunkRead.{asks_in_part, HasForm, MadeWhereChainTaken};
 ghost use Rattle.zarrs_chain_partial.specs.ChunkSource.{source_made};
-ghost use Rattle.zarrs_chain_partial.specs.PartialDecoder.{decoder_source, form_of, handle_of, is_cached, made};
+ghost use Rattle.zarrs_chain_partial.specs.PartialDecoder.{decoder_source, form_of, handle_of, is_cached, made, MakesDecoder};
 ghost use Rattle.zarrs_chain_partial.specs.PartialEncoder.{encoder_form, encoder_handle};
 ghost use Rattle.zarrs_chain_partial.specs.RefusedFirst.{RefusedFirst};
 
@@ -61,17 +62,23 @@ impl<B: BytesToBytesCodecTraits> CodecChainPartialTraits<B> for CodecChain<B> {
         data_type: &DataType,
         fill_value: &FillValue,
     ) -> Result<ArrayPartialDecoder<'a, H, B>, Refused<H>>
-        ensures answer { Answers memory_or_fault (λ decoder. decoder_source decoder (H.state handle).value) (made result) (source_made B.functions B.reads_in_part (record { chain = plain_chain self.now; sizes = shape.now; type = data_type.now; fill = fill_value.now }) (H.state handle).value) }
-        ensures form { IfOk result (λ decoder. form_of decoder ≡ record { chain = plain_chain self.now; sizes = shape.now; type = data_type.now; fill = fill_value.now }) }
-        ensures cached { IfOk result (λ decoder. is_cached decoder ≡ is_some (cache_place (codecs_read B.reads_in_part (plain_chain self.now)))) }
+        ensures answer { MakesDecoder B.functions B.reads_in_part (plain_chain self.now)
+            (form_with shape.now data_type.now fill_value.now) (H.state handle).value result }
+        ensures form { HasForm (λ decoder. form_of decoder) (plain_chain self.now)
+            (form_with shape.now data_type.now fill_value.now) result }
+        ensures cached { IfOk result
+            (λ made. is_cached made ≡ has_cache_place B.reads_in_part (plain_chain self.now)) }
         ensures over { IfOk result (λ decoder. H.state (handle_of decoder) ≡ H.state handle) }
         ensures over_same { IfOk result (λ decoder. H.lent (handle_of decoder) ≡ H.lent handle) }
-        ensures handed_back { IfErr result (λ refused. H.state refused.handle ≡ after_reading (made result) (H.state handle)) }
+        ensures handed_back { IfErr result
+            (λ refused. H.state refused.handle ≡ after_reading (made result) (H.state handle)) }
         ensures handed_same { IfErr result (λ refused. H.lent refused.handle ≡ H.lent handle) }
-        ensures untouched { cache_place (codecs_read B.reads_in_part (plain_chain self.now)) ≡ None → is_fault (made result) ≡ false }
+        ensures untouched { cache_place (codecs_read B.reads_in_part (plain_chain self.now)) ≡
+            None → is_fault (made result) ≡ false }
         ensures measured_first { RefusedFirst (chain_representation_of B.functions
             (plain_chain self.now) shape.now data_type.now fill_value.now) (made result) }
-        ensures sure { reads_places (plain_chain self.now).outer (plain_chain self.now).codec ≡ true → is_fault (made result) ≡ false }
+        ensures sure { asks_in_part (plain_chain self.now).outer (plain_chain self.now).codec ≡
+            true → is_fault (made result) ≡ false }
     {
         let mut handle = handle;
         match ChunkReader::new(alloc, self, &mut handle, shape, data_type, fill_value) {
@@ -90,8 +97,10 @@ impl<B: BytesToBytesCodecTraits> CodecChainPartialTraits<B> for CodecChain<B> {
         data_type: &DataType,
         fill_value: &FillValue,
     ) -> Result<ArrayPartialEncoder<'a, H, B>, Refused<H>>
-        ensures answer { Gives (λ made. made) (outcome result) (seen (λ _. tt) (chain_representation_of B.functions (plain_chain self.now) shape.now data_type.now fill_value.now)) }
-        ensures form { IfOk result (λ encoder. encoder_form encoder ≡ record { chain = plain_chain self.now; sizes = shape.now; type = data_type.now; fill = fill_value.now }) }
+        ensures answer { MadeWhereChainTaken B.functions (plain_chain self.now)
+            (form_with shape.now data_type.now fill_value.now) (outcome result) }
+        ensures form { HasForm (λ encoder. encoder_form encoder) (plain_chain self.now)
+            (form_with shape.now data_type.now fill_value.now) result }
         ensures over { IfOk result (λ encoder. encoder_handle encoder ≡ handle) }
         ensures handed_back { IfErr result (λ refused. refused.handle ≡ handle) }
     {

@@ -1,4 +1,6 @@
 //! Laws over the definitions alone. The functions do nothing; their contracts are the laws.
+ghost use Rattle.zarrs_codec.specs.BytesToBytesCodec.{BytesCodecs};
+ghost use Rattle.zarrs_chain_partial.specs.ReadLaws.{StoredReadsAlike, StoredSelects};
 ghost use Rattle.zarrs_chain_partial.specs.SizeLaws.{ChunkSizesAreExact, SizesAreExact};
 
 /// Where elements all take as many bytes, with their mask bytes, a cache of a chunk has these bytes and
@@ -6,4 +8,18 @@ ghost use Rattle.zarrs_chain_partial.specs.SizeLaws.{ChunkSizesAreExact, SizesAr
 pub fn sizes_are_exact()
     ensures chunk { ChunkSizesAreExact }
     ensures law { SizesAreExact }
+{}
+
+/// Of a stored value that stands for a chunk, a read in part answers the chunk's elements that the
+/// selection means, or the selection's refusal: by the places' bytes, by the offsets of a plain `vlen`
+/// and the elements' bytes, or by the whole chunk.
+pub fn reads_select<B>()
+    ensures law { (f : BytesCodecs B) → StoredSelects f }
+{}
+
+/// Over a plain `vlen`, through whatever chain, a read rests on the length of the bytes below the bytes
+/// codecs, on the offsets there and on the bytes of the elements that are meant; whatever the other bytes
+/// are, the answer or the refusal is the same.
+pub fn reads_are_alike<B>()
+    ensures law { (f : BytesCodecs B) → StoredReadsAlike f }
 {}

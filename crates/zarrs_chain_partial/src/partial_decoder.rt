@@ -7,3 +7,4 @@ pub(crate) mod fill_runs;
 mod make_cache;
 mod slice_handle;
 pub(crate) mod vlen_partial_decoder;
+mod vlen_runs;

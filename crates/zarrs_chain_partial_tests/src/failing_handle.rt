@@ -67,9 +67,9 @@ impl FailingHandle {
 impl BytesPartialDecoderTraits for FailingHandle {
     ghost use Rattle.std.specs.Prelude.{true, None};
     ghost use Rattle.zarrs_codec.specs.StorageState.{held_bytes};
-    ghost use Rattle.zarrs_codec.specs.MemoryHandle.{handle_value as stored_bytes};
+    ghost use Rattle.zarrs_codec.specs.MemoryHandle.{accepted_count, handle_value as stored_bytes};
 
-    ghost state = { λ handle. record { value = stored_bytes handle.memory; sure = None; faults = handle.faults; failure = handle.failure; writes = handle.writes } };
+    ghost state = { λ handle. record { value = stored_bytes handle.memory; sure = None; faults = handle.faults; failure = handle.failure; writes = handle.writes; accepted_writes = accepted_count handle.memory } };
 
     ghost lent = { λ _. None };
 

@@ -58,7 +58,7 @@ fn tells<D: ArrayPartialDecoderTraits>(
         coder.supports_partial_decode(),
         coder.exists()?,
     );
-    let wanted = (row.size_held, row.planned.is_some(), row.value.is_some());
+    let wanted = (row.size_held, row.in_part, row.value.is_some());
     is(rt, row.name, "held, in part, exists", &told, &wanted);
     is(
         rt,

@@ -39,11 +39,19 @@ fn stand_again(
     Ok(())
 }
 
-/// The value is refused by whole decode as the chain may refuse one, and by a read just so where its
-/// elements aren't made of their own bytes alone.
+/// A read of the whole chunk answers elements, or finds that bytes are missing, or refuses as whole
+/// decode does.
+fn rests_on_parts(decoded: &str, read: &str) -> bool {
+    read.starts_with("ok ") || read == "error InvalidByteRange" || read == decoded
+}
+
+/// The value is refused by whole decode as the chain may refuse one, and by a read just so, but where a
+/// read in part may do without it.
 fn is_refused(rt: &impl Abort, row: &Row, value: &str, decoded: &str, read: &str) {
     is(rt, row, value, &row.refusals.contains(&decoded), &true);
-    if row.places.is_empty() {
+    if row.of_whole.contains(&decoded) {
+        is(rt, row, value, &rests_on_parts(decoded, read), &true);
+    } else {
         is(rt, row, value, &read, &decoded);
     }
 }
@@ -104,9 +112,18 @@ fn mended(alloc: Global, row: &Row, value: &str) -> Result<String, Fail> {
     Ok(format!(in alloc; "{start}{kept}{end}")?)
 }
 
+/// Nothing is damaged that each read looks at.
+fn keeps_head(row: &Row, value: &str) -> bool {
+    let head = row.head.wrapping_mul(2);
+    value.get(..head) == row.value.get(..head)
+}
+
 /// What a damaged value is answered, whole and at each place.
 fn bears(rt: &impl Abort, alloc: Global, row: &Row, value: &str) -> Result<(), Fail> {
     is_answered(rt, alloc, row, value)?;
+    if !keeps_head(row, value) {
+        return Ok(());
+    }
     let mended = mended(alloc, row, value)?;
     for place in row.places {
         reads_place(rt, alloc, row, place, value, &mended)?;

@@ -3,7 +3,8 @@
 //!
 //! Whole decode either refuses what the chain may refuse, or answers a chunk whose encoding is decoded
 //! to the same chunk. A read in part answers as the whole chunk does, or refuses as whole decode does;
-//! over `bytes` and `packbits` alone it rests on the bytes of its places, whatever the rest is.
+//! over `bytes` and `packbits` alone it rests on the bytes of its places, and of a plain `vlen` on the
+//! offsets and the bytes of its texts, whatever the rest is.
 #![tactic(auto)]
 
 #[cfg(test)]

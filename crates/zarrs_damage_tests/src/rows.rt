@@ -18,9 +18,12 @@ pub(crate) struct Row {
     pub(crate) whole: &'static str,
     /// What whole decode may answer in place of a chunk.
     pub(crate) refusals: &'static [&'static str],
-    /// Places whose elements are made of their own bytes alone. Without any, a read refuses whatever
-    /// whole decode refuses.
+    /// Those of these that a read in part may do without, as it looks at less than the whole value.
+    pub(crate) of_whole: &'static [&'static str],
+    /// Places whose elements are made of their own bytes alone.
     pub(crate) places: &'static [Place],
+    /// How many bytes at the beginning each read looks at.
+    pub(crate) head: usize,
     /// How many bytes at the beginning are no place's.
     pub(crate) lead: usize,
 }
@@ -35,6 +38,9 @@ const OF_VLEN: &'static [&'static str] = &[
     "error IndexLength",
     "error InvalidOffsets",
 ];
+
+/// Of texts as plain bytes, each of which is read by the offsets and its own bytes.
+const OF_PLAIN_TEXTS: &'static [&'static str] = &["error InvalidBytesLength"];
 
 /// Of texts whose bytes are packed: as many bits as the last offset tells may be more than 64 bits count.
 const OF_PACKED_TEXTS: &'static [&'static str] = &[
@@ -68,6 +74,7 @@ pub(crate) const FIXED: &'static [Row] = &[
         value: "000301040205",
         whole: r#"{"ranges":[[0,2],[0,3]]}"#,
         refusals: OF_BYTES,
+        of_whole: OF_BYTES,
         places: &[
             Place {
                 indices: "[0,1]",
@@ -85,6 +92,7 @@ pub(crate) const FIXED: &'static [Row] = &[
                 needs: 6,
             },
         ],
+        head: 0,
         lead: 0,
     },
     Row {
@@ -93,6 +101,7 @@ pub(crate) const FIXED: &'static [Row] = &[
         value: "0000000000000001000000040000000500000002000000030000000600000007",
         whole: r#"{"ranges":[[0,2],[0,2],[0,2]]}"#,
         refusals: OF_BYTES,
+        of_whole: OF_BYTES,
         places: &[
             Place {
                 indices: "[0,1,0]",
@@ -105,6 +114,7 @@ pub(crate) const FIXED: &'static [Row] = &[
                 needs: 28,
             },
         ],
+        head: 0,
         lead: 0,
     },
     Row {
@@ -113,6 +123,7 @@ pub(crate) const FIXED: &'static [Row] = &[
         value: "4992244992",
         whole: r#"{"ranges":[[0,8],[0,5]]}"#,
         refusals: OF_PACKBITS,
+        of_whole: OF_PACKBITS,
         places: &[
             Place {
                 indices: "[1,2]",
@@ -130,6 +141,7 @@ pub(crate) const FIXED: &'static [Row] = &[
                 needs: 5,
             },
         ],
+        head: 0,
         lead: 0,
     },
     Row {
@@ -138,6 +150,7 @@ pub(crate) const FIXED: &'static [Row] = &[
         value: "06e402",
         whole: r#"{"ranges":[[0,5]]}"#,
         refusals: OF_PACKBITS,
+        of_whole: OF_PACKBITS,
         places: &[
             Place {
                 indices: "[0]",
@@ -155,6 +168,7 @@ pub(crate) const FIXED: &'static [Row] = &[
                 needs: 3,
             },
         ],
+        head: 0,
         lead: 1,
     },
     Row {
@@ -163,6 +177,7 @@ pub(crate) const FIXED: &'static [Row] = &[
         value: "3b01",
         whole: r#"{"ranges":[[0,3]]}"#,
         refusals: OF_PACKBITS,
+        of_whole: OF_PACKBITS,
         places: &[
             Place {
                 indices: "[1]",
@@ -175,6 +190,7 @@ pub(crate) const FIXED: &'static [Row] = &[
                 needs: 2,
             },
         ],
+        head: 0,
         lead: 0,
     },
     Row {
@@ -183,7 +199,9 @@ pub(crate) const FIXED: &'static [Row] = &[
         value: "02000000000000000102",
         whole: r#"{"ranges":[[0,2]]}"#,
         refusals: OF_LENGTH,
+        of_whole: &[],
         places: &[],
+        head: 0,
         lead: 0,
     },
     Row {
@@ -192,7 +210,9 @@ pub(crate) const FIXED: &'static [Row] = &[
         value: "02010000000000000002",
         whole: r#"{"ranges":[[0,2]]}"#,
         refusals: OF_LENGTH,
+        of_whole: &[],
         places: &[],
+        head: 0,
         lead: 0,
     },
 ];
@@ -205,7 +225,20 @@ pub(crate) const VARIABLE: &'static [Row] = &[
         value: "1800000000000000000000000000000001000000000000000300000000000000616263",
         whole: r#"{"ranges":[[0,2]]}"#,
         refusals: OF_VLEN,
-        places: &[],
+        of_whole: OF_PLAIN_TEXTS,
+        places: &[
+            Place {
+                indices: "[0]",
+                number: 0,
+                needs: 33,
+            },
+            Place {
+                indices: "[1]",
+                number: 1,
+                needs: 35,
+            },
+        ],
+        head: 32,
         lead: 0,
     },
     Row {
@@ -214,7 +247,9 @@ pub(crate) const VARIABLE: &'static [Row] = &[
         value: "6162630000000001000000030000000c00000000000000",
         whole: r#"{"ranges":[[0,2]]}"#,
         refusals: OF_VLEN,
+        of_whole: OF_PLAIN_TEXTS,
         places: &[],
+        head: 0,
         lead: 0,
     },
     Row {
@@ -223,7 +258,9 @@ pub(crate) const VARIABLE: &'static [Row] = &[
         value: "656463626132317362613230736463626131317361313073636261303173303073000000000000002100000000000000190000000000000014000000000000000d0000000000000009000000000000000300000000000000000000000000000038",
         whole: r#"{"ranges":[[0,2],[0,3]]}"#,
         refusals: OF_VLEN,
+        of_whole: OF_PLAIN_TEXTS,
         places: &[],
+        head: 0,
         lead: 0,
     },
     Row {
@@ -232,7 +269,9 @@ pub(crate) const VARIABLE: &'static [Row] = &[
         value: "01000000000000000c616263",
         whole: r#"{"ranges":[[0,1]]}"#,
         refusals: OF_VLEN,
+        of_whole: &[],
         places: &[],
+        head: 0,
         lead: 0,
     },
     Row {
@@ -241,7 +280,9 @@ pub(crate) const VARIABLE: &'static [Row] = &[
         value: "180000000000000000000000000000000100000000000000020000000000000021",
         whole: r#"{"ranges":[[0,2]]}"#,
         refusals: OF_PACKED_TEXTS,
+        of_whole: &[],
         places: &[],
+        head: 0,
         lead: 0,
     },
     Row {
@@ -250,7 +291,9 @@ pub(crate) const VARIABLE: &'static [Row] = &[
         value: "030000000000000002000000000000000100010507",
         whole: r#"{"ranges":[[0,3]]}"#,
         refusals: OF_OPTIONAL,
+        of_whole: &[],
         places: &[],
+        head: 0,
         lead: 0,
     },
     Row {
@@ -259,7 +302,9 @@ pub(crate) const VARIABLE: &'static [Row] = &[
         value: "030000000000000013000000000000000101000200000000000000010000000000000001002a",
         whole: r#"{"ranges":[[0,3]]}"#,
         refusals: OF_OPTIONAL,
+        of_whole: &[],
         places: &[],
+        head: 0,
         lead: 0,
     },
     Row {
@@ -268,7 +313,9 @@ pub(crate) const VARIABLE: &'static [Row] = &[
         value: "01000000000000001a00000000000000011000000000000000000000000000000002000000000000006869",
         whole: r#"{"ranges":[[0,2]]}"#,
         refusals: OF_OPTIONAL_TEXTS,
+        of_whole: &[],
         places: &[],
+        head: 0,
         lead: 0,
     },
 ];

@@ -1,10 +1,10 @@
 -- The metadata of a codec, as a JSON tree.
-use Rattle.std.specs.Prelude.{◌≡◌, ℕ, Bool, true, false, not, ◌&&◌, List, Option, Some, None, option_and_then, is_some, Result, Ok, Err, codes, if◌then◌else◌}
+use Rattle.std.specs.Prelude.{◌≡◌, ℕ, Bool, true, false, not, ◌&&◌, List, Option, Some, None, is_some, Result, Ok, Err, codes, if◌then◌else◌}
 use Rattle.serde_json.specs.Data.{Data, null, boolean, number, string, array, object, Members, no_members, member}
-use Rattle.serde_json.specs.Find.{as_bool, as_object, as_str, get_member}
+use Rattle.serde_json.specs.Find.{as_bool, as_object, get_member}
 use Rattle.serde_json.specs.Written.{has_float, members_have_float}
 use Rattle.zarrs_chunk.specs.Answer.{◌>>=◌, demand}
-use Rattle.zarrs_metadata.specs.Trees.{needed, optional_key}
+use Rattle.zarrs_metadata.specs.Trees.{needed_text, optional_key}
 use Rattle.zarrs_metadata.specs.declared.plugin_create_error.PluginCreateError.{PluginCreateError}
 use Rattle.zarrs_metadata.specs.declared.plugin_create_error.PluginCreateError.TheVariants.{InvalidConfiguration}
 
@@ -22,17 +22,25 @@ unless_false (Some truth) = truth
 -- the metadata of an object: its name, and optionally a configuration and whether it has to be understood
 abbrev pub metadata_in : Members → Result Metadata PluginCreateError
 metadata_in members = do
-  name ← needed (option_and_then as_str (get_member (codes "name") members))
+  name ← needed_text (get_member (codes "name") members)
   configuration ← optional_key as_object (get_member (codes "configuration") members)
   must_understand ← optional_key as_bool (get_member (codes "must_understand") members)
   Ok (record { name = name; configuration = configuration; must_understand = unless_false must_understand })
+
+-- the metadata of a name alone, which has to be understood
+abbrev pub metadata_named : List ℕ → Metadata
+metadata_named name = record { name = name; configuration = None; must_understand = true }
+
+-- the same metadata, which has to be understood or need not be
+abbrev pub with_understanding : Bool → Metadata → Metadata
+with_understanding must_understand m = record { name = m.name; configuration = m.configuration; must_understand = must_understand }
 
 -- the metadata of a tree, which is the name alone or an object
 abbrev pub metadata_of : Data → Result Metadata PluginCreateError
 metadata_of null = Err InvalidConfiguration
 metadata_of (boolean truth) = Err InvalidConfiguration
 metadata_of (number value) = Err InvalidConfiguration
-metadata_of (string name) = Ok (record { name = name; configuration = None; must_understand = true })
+metadata_of (string name) = Ok (metadata_named name)
 metadata_of (array items) = Err InvalidConfiguration
 metadata_of (object members) = metadata_in members
 

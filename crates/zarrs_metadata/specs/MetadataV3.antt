@@ -1,5 +1,6 @@
 -- What contracts see of a configuration and of a metadata.
-use Rattle.std.specs.Prelude.{option_map, string_bytes, String, Result, Ok}
+use Rattle.std.specs.Prelude.{List, Vec, map, Option, option_map, string_bytes, String, Result, Ok}
+use Rattle.std.proofs.Common.{Bor}
 use Rattle.std.specs.declared.collections.BTreeMap.{BTreeMap}
 use Rattle.std.specs.declared.alloc.Global.{Global}
 use Rattle.serde_json.specs.Data.{Members}
@@ -14,6 +15,14 @@ use Rattle.zarrs_metadata.specs.declared.metadata_v3.MetadataV3.{MetadataV3}
 abbrev pub configuration_seen : BTreeMap (String Global) Value Global → Members
 configuration_seen configuration = members_view configuration.entries
 
+-- the members of a lent configuration, where there is one
+abbrev pub lent_members : Option (Bor (BTreeMap (String Global) Value Global)) → Option Members
+lent_members configuration = option_map (λ members. configuration_seen members.now) configuration
+
+-- what a reading of members says of those of a configuration
+abbrev pub read_by : {A : Type 0} → (Members → A) → BTreeMap (String Global) Value Global → A
+read_by reading configuration = reading (configuration_seen configuration)
+
 -- the configuration that is written has these members
 abbrev pub Writes : Result (BTreeMap (String Global) Value Global) PluginCreateError → Members → Type 0
 Writes result members = Makes configuration_seen result (Ok members)
@@ -21,3 +30,11 @@ Writes result members = Makes configuration_seen result (Ok members)
 -- its name, its configuration's members, and whether it has to be understood
 abbrev pub metadata_seen : MetadataV3 → Metadata
 metadata_seen m = record { name = string_bytes m.name; configuration = option_map configuration_seen m.configuration; must_understand = m.must_understand }
+
+-- each metadata of a list as contracts see it
+abbrev pub metadatas_seen : List MetadataV3 → List Metadata
+metadatas_seen list = map metadata_seen list
+
+-- the same of a vector
+abbrev pub metadatas_in : Vec MetadataV3 Global → List Metadata
+metadatas_in list = metadatas_seen list.items

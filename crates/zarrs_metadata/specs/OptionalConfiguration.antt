@@ -1,10 +1,10 @@
 -- The configuration of codec `optional`.
-use Rattle.std.specs.Prelude.{◌≡◌, true, List, map, Result, Ok, codes}
+use Rattle.std.specs.Prelude.{◌≡◌, true, List, Result, Ok, codes}
 use Rattle.serde_json.specs.Data.{Members, no_members, member}
 use Rattle.zarrs_chunk.specs.Answer.{◌>>=◌}
 use Rattle.zarrs_metadata.specs.Metadata.{Metadata}
 use Rattle.zarrs_metadata.specs.MetadataList.{metadata_at, metadata_list_tree, have_no_float}
-use Rattle.zarrs_metadata.specs.MetadataV3.{metadata_seen}
+use Rattle.zarrs_metadata.specs.MetadataV3.{metadatas_in}
 use Rattle.zarrs_metadata.specs.Trees.{without_floats}
 use Rattle.zarrs_metadata.specs.declared.configuration.optional.OptionalCodecConfiguration.{OptionalCodecConfiguration}
 use Rattle.zarrs_metadata.specs.declared.configuration.optional.OptionalCodecConfiguration.TheVariants.{V1}
@@ -17,7 +17,7 @@ pub record OptionalChains : Type 0 where
 
 -- contracts see both
 abbrev pub optional_seen : OptionalCodecConfiguration → OptionalChains
-optional_seen (V1 c) = record { mask_codecs = map metadata_seen c.mask_codecs.items; data_codecs = map metadata_seen c.data_codecs.items }
+optional_seen (V1 c) = record { mask_codecs = metadatas_in c.mask_codecs; data_codecs = metadatas_in c.data_codecs }
 
 -- the chains of a configuration, or the first cause why there are none
 abbrev pub read_optional : Members → Result OptionalChains PluginCreateError

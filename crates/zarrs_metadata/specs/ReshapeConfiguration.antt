@@ -55,9 +55,13 @@ dim_tree (size n) = number (unsigned n)
 dim_tree auto = number (negative (negsuc zero))
 dim_tree (input_dims axes) = numbers_tree axes
 
+-- how a list of sizes is written
+abbrev pub dims_tree : List Dim → Data
+dims_tree dims = array (items_of (map dim_tree dims))
+
 -- how sizes are written
 abbrev pub write_reshape : List Dim → Members
-write_reshape dims = member (codes "shape") (array (items_of (map dim_tree dims))) no_members
+write_reshape dims = member (codes "shape") (dims_tree dims) no_members
 
 -- what is written of sizes is read as those sizes
 abbrev pub ReshapeReadsBack : Type 0

@@ -1,12 +1,18 @@
 -- What is read from JSON trees, and written as them.
-use Rattle.std.specs.Prelude.{ℕ, not, List, [], ◌∷◌, Option, Some, None, map, option_and_then, is_some, ok_or, Result, Ok, if◌then◌else◌}
+use Rattle.std.specs.Prelude.{ℕ, not, List, [], ◌∷◌, Option, Some, None, map, option_map, option_and_then, is_some, ok_or, Result, Ok, if◌then◌else◌}
+use Rattle.std.proofs.Common.{Bor}
 use Rattle.serde_json.specs.Data.{Data, unsigned, number, array, Items, no_items, item, Members}
-use Rattle.serde_json.specs.Find.{as_array, as_null, as_number, as_u64}
-use Rattle.serde_json.specs.View.{items_of}
+use Rattle.serde_json.specs.Find.{as_array, as_null, as_number, as_str, as_u64}
+use Rattle.serde_json.specs.View.{view, items_of}
 use Rattle.serde_json.specs.Written.{members_have_float}
+use Rattle.serde_json.specs.declared.value.Value.{Value}
 use Rattle.zarrs_chunk.specs.Answer.{◌>>=◌, demand, seen}
 use Rattle.zarrs_metadata.specs.declared.plugin_create_error.PluginCreateError.{PluginCreateError}
 use Rattle.zarrs_metadata.specs.declared.plugin_create_error.PluginCreateError.TheVariants.{InvalidConfiguration}
+
+-- the JSON tree of a lent value, where there is one
+abbrev pub lent_tree : Option (Bor Value) → Option Data
+lent_tree value = option_map (λ v. view v.now) value
 
 -- no number of the configuration, at any depth, may be a float
 abbrev pub without_floats : Members → Result (Unit {0}) PluginCreateError
@@ -15,6 +21,10 @@ without_floats configuration = demand (not (members_have_float configuration)) I
 -- something that a configuration has to have
 abbrev pub needed : {A : Type 0} → Option A → Result A PluginCreateError
 needed found = ok_or found InvalidConfiguration
+
+-- a text that has to be there
+abbrev pub needed_text : Option Data → Result (List ℕ) PluginCreateError
+needed_text tree = needed (option_and_then as_str tree)
 
 -- the value at a key that may be missing, where null counts as missing too; a value of another kind is refused
 abbrev pub optional_key : {A : Type 0} → (Data → Option A) → Option Data → Result (Option A) PluginCreateError

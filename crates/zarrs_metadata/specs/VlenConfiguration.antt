@@ -1,12 +1,12 @@
 -- The configuration of codec `vlen`.
-use Rattle.std.specs.Prelude.{◌≡◌, ℕ, true, List, Option, Some, None, map, option_and_then, Result, Ok, codes, if◌then◌else◌}
+use Rattle.std.specs.Prelude.{◌≡◌, ℕ, true, List, Option, Some, None, option_and_then, Result, Ok, codes, if◌then◌else◌}
 use Rattle.std.specs.Str.{bytes_eq}
 use Rattle.serde_json.specs.Data.{Data, string, Members, no_members, member}
 use Rattle.serde_json.specs.Find.{as_str, get_member}
 use Rattle.zarrs_chunk.specs.Answer.{◌>>=◌, seen}
 use Rattle.zarrs_metadata.specs.Metadata.{Metadata}
 use Rattle.zarrs_metadata.specs.MetadataList.{metadata_at, metadata_list_tree, have_no_float}
-use Rattle.zarrs_metadata.specs.MetadataV3.{metadata_seen}
+use Rattle.zarrs_metadata.specs.MetadataV3.{metadatas_seen}
 use Rattle.zarrs_metadata.specs.Trees.{needed, without_floats}
 use Rattle.zarrs_metadata.specs.declared.codec.vlen.VlenIndexDataType.{VlenIndexDataType}
 use Rattle.zarrs_metadata.specs.declared.codec.vlen.VlenIndexDataType.TheVariants.{UInt32, UInt64}
@@ -14,6 +14,7 @@ use Rattle.zarrs_metadata.specs.declared.codec.vlen.VlenIndexLocation.{VlenIndex
 use Rattle.zarrs_metadata.specs.declared.codec.vlen.VlenIndexLocation.TheVariants.{Start, End}
 use Rattle.zarrs_metadata.specs.declared.configuration.vlen.VlenCodecConfiguration.{VlenCodecConfiguration}
 use Rattle.zarrs_metadata.specs.declared.configuration.vlen.VlenCodecConfiguration.TheVariants.{V0, V0_1}
+use Rattle.zarrs_metadata.specs.declared.metadata_v3.MetadataV3.{MetadataV3}
 use Rattle.zarrs_metadata.specs.declared.plugin_create_error.PluginCreateError.{PluginCreateError}
 
 -- The metadata of two chains, that of the offsets and that of the elements' bytes; as which type the offsets are stored; and where, which version 0 doesn't say.
@@ -23,12 +24,16 @@ pub record VlenParts : Type 0 where
   pub index_data_type : VlenIndexDataType
   pub index_location : Option VlenIndexLocation
 
+-- the parts of two lists of metadata, a type of offsets and their place, where it is said
+abbrev pub vlen_parts : List MetadataV3 → List MetadataV3 → VlenIndexDataType → Option VlenIndexLocation → VlenParts
+vlen_parts index_codecs data_codecs index_data_type index_location =
+    record { index_codecs = metadatas_seen index_codecs; data_codecs = metadatas_seen data_codecs; index_data_type = index_data_type; index_location = index_location }
+
 -- contracts see these four
 abbrev pub vlen_seen : VlenCodecConfiguration → VlenParts
-vlen_seen (V0 c) =
-    record { index_codecs = map metadata_seen c.index_codecs.items; data_codecs = map metadata_seen c.data_codecs.items; index_data_type = c.index_data_type; index_location = None }
+vlen_seen (V0 c) = vlen_parts c.index_codecs.items c.data_codecs.items c.index_data_type None
 vlen_seen (V0_1 c) =
-    record { index_codecs = map metadata_seen c.index_codecs.items; data_codecs = map metadata_seen c.data_codecs.items; index_data_type = c.index_data_type; index_location = Some c.index_location }
+    vlen_parts c.index_codecs.items c.data_codecs.items c.index_data_type (Some c.index_location)
 
 -- a type of offsets by its name
 abbrev pub index_data_type_named : List ℕ → Option VlenIndexDataType

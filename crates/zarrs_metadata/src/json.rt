@@ -1,11 +1,11 @@
 //! What metadata reads from JSON trees, and writes as them.
 ghost use Rattle.zarrs_metadata.specs.MetadataV3.{configuration_seen};
-ghost use Rattle.std.specs.Prelude.{◌≡◌, option_map, IfOk};
+ghost use Rattle.std.specs.Prelude.{◌≡◌, IfOk};
 ghost use Rattle.serde_json.specs.Written.{has_float, items_have_float, members_have_float};
-ghost use Rattle.serde_json.specs.View.{view, items_view, members_view};
+ghost use Rattle.serde_json.specs.View.{view, items_view};
 ghost use Rattle.serde_json.specs.Find.{get_member};
 ghost use Rattle.zarrs_metadata.specs.PluginCreateError.{Makes};
-ghost use Rattle.zarrs_metadata.specs.Trees.{needed, whole_number, numbers_in, number_list, numbers_tree};
+ghost use Rattle.zarrs_metadata.specs.Trees.{lent_tree, needed, whole_number, numbers_in, number_list, numbers_tree};
 
 use crate::metadata_v3::Configuration;
 use crate::plugin_create_error::PluginCreateError;
@@ -54,14 +54,14 @@ pub(crate) fn members_hold_float(members: &Configuration) -> bool
 
 /// The value at a key of an object.
 pub(crate) fn member<'v>(members: &'v Configuration, key: &str) -> Option<&'v Value>
-    ensures value { option_map (λ value. view value.now) result ≡ get_member key.now (configuration_seen members.now) }
+    ensures value { lent_tree result ≡ get_member key.now (configuration_seen members.now) }
 {
     members.get(key)
 }
 
 /// An object with the same members.
 pub(crate) fn copied(members: &Configuration, alloc: Global) -> Result<Configuration, AllocError>
-    ensures copy { IfOk result (λ copies. members_view copies.entries ≡ configuration_seen members.now) }
+    ensures copy { IfOk result (λ copy. configuration_seen copy ≡ configuration_seen members.now) }
 {
     let mut copies = Map::new(alloc);
     for (key, member) in members.iter() {

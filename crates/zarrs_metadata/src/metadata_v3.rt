@@ -1,11 +1,12 @@
-ghost use Rattle.std.specs.Prelude.{◌≡◌, true, false, Ok, Some, None, option_map, option_and_then};
-ghost use Rattle.serde_json.specs.Find.{as_bool, as_object, as_str};
-ghost use Rattle.serde_json.specs.View.{view, members_view};
+ghost use Rattle.std.specs.Prelude.{◌≡◌, Ok, option_map};
+ghost use Rattle.serde_json.specs.Find.{as_bool, as_object};
+ghost use Rattle.serde_json.specs.View.{view};
 ghost use Rattle.zarrs_chunk.specs.Answer.{seen};
-ghost use Rattle.zarrs_metadata.specs.Metadata.{metadata_in, metadata_of, read_metadata, write_metadata, metadata_members, unless_false};
-ghost use Rattle.zarrs_metadata.specs.MetadataV3.{metadata_seen, configuration_seen, Writes};
+ghost use Rattle.zarrs_metadata.specs.CodecMetadata.{codec_metadata};
+ghost use Rattle.zarrs_metadata.specs.Metadata.{metadata_in, metadata_named, metadata_of, read_metadata, with_understanding, write_metadata, metadata_members, unless_false};
+ghost use Rattle.zarrs_metadata.specs.MetadataV3.{metadata_seen, configuration_seen, lent_members, Writes};
 ghost use Rattle.zarrs_metadata.specs.PluginCreateError.{Makes};
-ghost use Rattle.zarrs_metadata.specs.Trees.{needed, optional_key};
+ghost use Rattle.zarrs_metadata.specs.Trees.{lent_tree, needed_text, optional_key};
 
 use crate::json::{copied, holds_float, member};
 use crate::plugin_create_error::PluginCreateError;
@@ -25,7 +26,7 @@ pub struct MetadataV3 {
 }
 
 fn name_of(value: Option<&Value>) -> Result<&str, PluginCreateError>
-    ensures { seen (λ name. name.now) result ≡ needed (option_and_then as_str (option_map (λ v. view v.now) value.entry)) }
+    ensures { seen (λ name. name.now) result ≡ needed_text (lent_tree value.entry) }
 {
     match value {
         Some(Value::String(name)) => Ok(name.as_str()),
@@ -34,7 +35,7 @@ fn name_of(value: Option<&Value>) -> Result<&str, PluginCreateError>
 }
 
 fn configuration_of(value: Option<&Value>) -> Result<Option<&Configuration>, PluginCreateError>
-    ensures { seen (option_map (λ members. configuration_seen members.now)) result ≡ optional_key as_object (option_map (λ v. view v.now) value.entry) }
+    ensures { seen lent_members result ≡ optional_key as_object (lent_tree value.entry) }
 {
     match value {
         None => Ok(None),
@@ -45,7 +46,7 @@ fn configuration_of(value: Option<&Value>) -> Result<Option<&Configuration>, Plu
 }
 
 fn must_understand_of(value: Option<&Value>) -> Result<bool, PluginCreateError>
-    ensures { result ≡ seen unless_false (optional_key as_bool (option_map (λ v. view v.now) value.entry)) }
+    ensures { result ≡ seen unless_false (optional_key as_bool (lent_tree value.entry)) }
 {
     match value {
         None => Ok(true),
@@ -59,7 +60,7 @@ fn copied_where_there(
     configuration: Option<&Configuration>,
     alloc: Global,
 ) -> Result<Option<Configuration>, PluginCreateError>
-    ensures { Makes (option_map configuration_seen) result (Ok (option_map (λ members. configuration_seen members.now) configuration.entry)) }
+    ensures { Makes (option_map configuration_seen) result (Ok (lent_members configuration.entry)) }
 {
     match configuration {
         None => Ok(None),
@@ -84,7 +85,7 @@ impl MetadataV3 {
     /// The metadata of this name, without configuration, which has to be understood. Refusals:
     /// `OutOfMemory`.
     pub fn new(alloc: Global, name: &str) -> Result<MetadataV3, PluginCreateError>
-        ensures made { Makes metadata_seen result (Ok (record { name = name.now; configuration = None; must_understand = true })) }
+        ensures made { Makes metadata_seen result (Ok (metadata_named name.now)) }
     {
         Ok(MetadataV3 {
             name: String::from_str(alloc, name)?,
@@ -100,7 +101,8 @@ impl MetadataV3 {
         name: &str,
         configuration: Configuration,
     ) -> Result<MetadataV3, PluginCreateError>
-        ensures made { Makes metadata_seen result (Ok (record { name = name.now; configuration = Some (members_view configuration.entries); must_understand = true })) }
+        ensures made { Makes metadata_seen result
+            (Ok (codec_metadata name.now (configuration_seen configuration))) }
     {
         Ok(MetadataV3 {
             name: String::from_str(alloc, name)?,
@@ -111,7 +113,8 @@ impl MetadataV3 {
 
     /// The same, which has to be understood or need not be.
     pub fn with_must_understand(mut self, must_understand: bool) -> MetadataV3
-        ensures made { metadata_seen result ≡ record { name = (metadata_seen self).name; configuration = (metadata_seen self).configuration; must_understand = must_understand } }
+        ensures made { metadata_seen result
+            ≡ with_understanding must_understand (metadata_seen self) }
     {
         self.must_understand = must_understand;
         self
@@ -126,7 +129,7 @@ impl MetadataV3 {
 
     /// The codec's configuration, where it has one.
     pub fn configuration(&self) -> Option<&Configuration>
-        ensures value { option_map (λ c. members_view c.now.entries) result ≡ (metadata_seen self.now).configuration }
+        ensures value { lent_members result ≡ (metadata_seen self.now).configuration }
     {
         self.configuration.as_ref()
     }

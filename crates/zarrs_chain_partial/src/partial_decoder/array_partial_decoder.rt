@@ -1,9 +1,10 @@
+ghost use Rattle.zarrs_chain_partial.specs.PartialDecoder.{DecoderReads, KeepsCache};
 ghost use Rattle.std.specs.Prelude.{◌≡◌, ◌<◌, ◌&&◌, Ok, IsOkAnd, None, option_map, is_some, true, false};
 ghost use Rattle.std.proofs.Props.{props};
 ghost use Rattle.zarrs_chunk.specs.Answer.{Answers, fault, memory, is_fault, GivesBy};
 ghost use Rattle.zarrs_chunk.specs.Indexer.{selection_of};
 ghost use Rattle.zarrs_chain_parts.specs.Chain.{chain_reads};
-ghost use Rattle.zarrs_chain_partial.specs.ChunkRead.{IsReadPlan, planned_places, ReadsChunk};
+ghost use Rattle.zarrs_chain_partial.specs.ChunkRead.{IsReadPlan, planned_places, ReadsChunk, PlansRead, form_decodes_parts};
 ghost use Rattle.zarrs_chain_partial.specs.ChunkSource.{IsSizeOf, source_made};
 ghost use Rattle.zarrs_chain_partial.specs.ElementCode.{Chunk-set};
 ghost use Rattle.zarrs_chain_partial.specs.ChunkReader.{IsFilledFrom, reader_form, reader_is_cached, reader_source};
@@ -57,7 +58,8 @@ impl<'a, H: BytesPartialDecoderTraits, B: BytesToBytesCodecTraits> ArrayPartialD
         alloc: Global,
         indexer: &Indexer,
     ) -> Result<ArrayBytes<'static>, CodecError>
-        ensures reads { ReadsChunk B.functions (form_of self.old) (H.state (handle_of self.old)) (selection_of indexer.now) result }
+        ensures reads { DecoderReads H.state B.functions self.old
+            (selection_of indexer.now) result }
         ensures calm { is_cached self.old ≡ true → is_fault result ≡ false }
         ensures left { DecoderLeaves H.state H.lent self.old self.new result }
     {
@@ -68,8 +70,10 @@ impl<'a, H: BytesPartialDecoderTraits, B: BytesToBytesCodecTraits> ArrayPartialD
     /// Refusals: `Storage`, but never of a decoder that has a cache, nor where the handle has sure
     /// bytes.
     pub fn exists(&mut self) -> Result<bool, CodecError>
-        ensures answer { Answers fault (λ there. there) result (Ok (is_some (H.state (handle_of self.old)).value)) }
-        ensures sure { is_some (H.state (handle_of self.old)).sure ≡ true → is_fault result ≡ false }
+        ensures answer { Answers fault (λ there. there) result
+            (Ok (is_some (H.state (handle_of self.old)).value)) }
+        ensures sure { is_some (H.state (handle_of self.old)).sure ≡ true →
+            is_fault result ≡ false }
         ensures calm { is_cached self.old ≡ true → is_fault result ≡ false }
         ensures left { DecoderLeaves H.state H.lent self.old self.new result }
     {
@@ -79,7 +83,7 @@ impl<'a, H: BytesPartialDecoderTraits, B: BytesToBytesCodecTraits> ArrayPartialD
     /// How many bytes are kept in memory: the cache's alone, or without a cache the handle's.
     pub fn size_held(&self) -> usize
         ensures handle { is_cached self.now ≡ false → result ≡ H.held (handle_of self.now) }
-        ensures cache { is_cached self.now ≡ true → IsOkAnd (source_made B.functions B.reads_in_part (form_of self.now) (H.state (handle_of self.now)).value) (λ source. IsSizeOf (form_of self.now).type source result) }
+        ensures cache { KeepsCache H.state B.functions B.reads_in_part self.now result }
         ensures value { result ≡ decoder_held self.now (H.held (handle_of self.now)) }
     {
         self.reader.size_held(&self.handle)
@@ -93,7 +97,7 @@ impl<'a, H: BytesPartialDecoderTraits, B: BytesToBytesCodecTraits> ArrayPartialD
         alloc: Global,
         indexer: &Indexer,
     ) -> Result<Option<Vec<ByteRange>>, CodecError>
-        ensures plan { GivesBy (λ ranges places. IsReadPlan B.functions (form_of self.now) (option_map (λ v. v.items) ranges) places) result (planned_places (form_of self.now) (selection_of indexer.now)) }
+        ensures plan { PlansRead B.functions (form_of self.now) (selection_of indexer.now) result }
     {
         self.reader.planned_ranges(alloc, indexer)
     }
@@ -101,7 +105,8 @@ impl<'a, H: BytesPartialDecoderTraits, B: BytesToBytesCodecTraits> ArrayPartialD
     /// Whether a part is read without the rest: where all codecs of the chain decode a part, and the
     /// handle reads ranges by themselves.
     pub fn supports_partial_decode(&self) -> bool
-        ensures value { result ≡ (chain_reads B.reads_in_part (form_of self.now).chain).partial_decode && H.reads_ranges }
+        ensures value { result ≡
+            form_decodes_parts B.reads_in_part (form_of self.now) && H.reads_ranges }
     {
         self.reader.decodes_parts() && self.handle.supports_partial_decode()
     }

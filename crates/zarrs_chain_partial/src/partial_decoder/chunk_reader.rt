@@ -1,4 +1,6 @@
 //! Reading a chunk in part through a chain, over a handle that the caller keeps.
+ghost use Rattle.zarrs_data_type.specs.Form.{form_of};
+ghost use Rattle.zarrs_chain_partial.specs.ChunkReader.{MeasuresReader, MakesReader, reader_reads_parts, stored_source, kept_source, GivesSource, ReadsSource, GivesOpened, SureSource, reader_read, is_reader_cache, ReadsSelection};
 ghost use Rattle.std.specs.Prelude.{◌≡◌, ◌<◌, ◌≤◌, ◌+◌, ◌^◌, All, Ok, Err, IfOk, IfErr, Some, None, length, option_map, is_ok, is_some, true, false};
 ghost use Rattle.zarrs_chunk.specs.Answer.{Answers, AnswersBy, fault, memory, memory_or_fault, is_fault, seen, Gives, GivesBy};
 ghost use Rattle.zarrs_chunk.specs.ChunkShape.{product};
@@ -13,14 +15,16 @@ ghost use Rattle.zarrs_array_bytes.specs.Validity.{Holds};
 ghost use Rattle.zarrs_codec.specs.StorageState.{after_reading, are_sure};
 ghost use Rattle.zarrs_chain_parts.specs.Chain.{chain_reads, codec_reads as codec_reads_of, taken_form as taken_form_of};
 ghost use Rattle.zarrs_codec_chain.specs.ChainView.{plain_chain};
-ghost use Rattle.zarrs_chain_partial.specs.ChunkRead.{codec_place_bytes, encoded_places, IsReadPlan, planned_places, reads_places, WhereSure, ReadsChunk};
-ghost use Rattle.zarrs_chain_partial.specs.ChunkSource.{bytes_above, cache_fits, cache_stage as cache_stage_of, chunk_below, has_cache, held_by, is_kept, is_there, opened_chunk, source_made, source_places, source_read};
+ghost use Rattle.zarrs_chain_partial.specs.ChunkRead.{asks_in_part, codec_rests_on, encoded_places, IsReadPlan, planned_places, reads_places, WhereSure, ReadsChunk, HasForm, form_places, RefusedAtSelection, PlansRead};
+ghost use Rattle.zarrs_chain_partial.specs.ChunkSource.{bytes_above, cache_fits, cache_stage as cache_stage_of, chunk_below, has_cache, held_by, is_kept, is_there, opened_chunk, source_made, source_places, source_read, wants_cache};
 ghost use Rattle.zarrs_chain_partial.specs.RefusedFirst.{RefusedFirst};
 ghost use Rattle.zarrs_chain_parts.specs.Laws.{IsChainOfMappings};
 ghost use Rattle.zarrs_chain_parts.specs.Representation.{codec_representation};
 
 use crate::partial_decoder::cache::{Cache, CacheStage};
-use crate::partial_decoder::codec_read::{planned_runs, read_runs, read_runs_of_bytes};
+use crate::partial_decoder::codec_read::{
+    planned_runs, plans_reads, read_runs, read_runs_of_bytes,
+};
 use crate::partial_decoder::encoded_runs::encoded_runs;
 use crate::partial_decoder::fill_runs::fill_runs;
 use crate::partial_decoder::make_cache::{
@@ -67,8 +71,10 @@ impl<'a, B: BytesToBytesCodecTraits> ChunkReader<'a, B> {
         data_type: &DataType,
         fill_value: &FillValue,
     ) -> Result<ChunkReader<'a, B>, CodecError>
-        ensures answer { Gives (λ reader. (reader.encoded, reader.representation)) result (taken_form_of B.functions (plain_chain chain.now) shape.now data_type.now fill_value.now) }
-        ensures form { IfOk result (λ reader. reader_form reader ≡ record { chain = plain_chain chain.now; sizes = shape.now; type = data_type.now; fill = fill_value.now }) }
+        ensures answer { MeasuresReader B.functions (plain_chain chain.now)
+            (form_of shape.now data_type.now fill_value.now) result }
+        ensures form { HasForm (λ reader. reader_form reader) (plain_chain chain.now)
+            (form_of shape.now data_type.now fill_value.now) result }
         ensures uncached { IfOk result (λ reader. reader_is_cached reader ≡ false) }
     {
         let shape = shape.clone()?;
@@ -97,13 +103,18 @@ impl<'a, B: BytesToBytesCodecTraits> ChunkReader<'a, B> {
         data_type: &DataType,
         fill_value: &FillValue,
     ) -> Result<ChunkReader<'a, B>, CodecError>
-        ensures answer { Answers memory_or_fault (λ reader. reader_source reader (H.state handle.old).value) result (source_made B.functions B.reads_in_part (record { chain = plain_chain chain.now; sizes = shape.now; type = data_type.now; fill = fill_value.now }) (H.state handle.old).value) }
-        ensures form { IfOk result (λ reader. reader_form reader ≡ record { chain = plain_chain chain.now; sizes = shape.now; type = data_type.now; fill = fill_value.now }) }
-        ensures cached { IfOk result (λ reader. is_kept reader.cache ≡ has_cache (cache_stage_of B.reads_in_part (plain_chain chain.now))) }
-        ensures untouched { cache_stage_of B.reads_in_part (plain_chain chain.now) ≡ CacheStage.Nowhere → is_fault result ≡ false }
+        ensures answer { MakesReader B.functions B.reads_in_part (plain_chain chain.now)
+            (form_of shape.now data_type.now fill_value.now) (H.state handle.old).value result }
+        ensures form { HasForm (λ reader. reader_form reader) (plain_chain chain.now)
+            (form_of shape.now data_type.now fill_value.now) result }
+        ensures cached { IfOk result
+            (λ reader. is_kept reader.cache ≡ wants_cache B.reads_in_part (plain_chain chain.now)) }
+        ensures untouched { cache_stage_of B.reads_in_part (plain_chain chain.now) ≡
+            CacheStage.Nowhere → is_fault result ≡ false }
         ensures measured_first { RefusedFirst (taken_form_of B.functions (plain_chain chain.now)
             shape.now data_type.now fill_value.now) result }
-        ensures filled { IfOk result (λ reader. IsFilledFrom B.functions reader (H.state handle.old).value) }
+        ensures filled { IfOk result
+            (λ reader. IsFilledFrom B.functions reader (H.state handle.old).value) }
         ensures left { H.state handle.new ≡ after_reading result (H.state handle.old) }
         ensures same_reference { H.lent handle.new ≡ H.lent handle.old }
     {
@@ -142,7 +153,8 @@ impl<'a, B: BytesToBytesCodecTraits> ChunkReader<'a, B> {
 
     /// Whether all codecs of the chain decode a part.
     pub(crate) fn decodes_parts(&self) -> bool
-        ensures value { result ≡ (chain_reads B.reads_in_part (reader_form self.now).chain).partial_decode }
+        ensures value { result ≡
+            (chain_reads B.reads_in_part (reader_form self.now).chain).partial_decode }
     {
         self.chain.partial_decoder_capability().partial_decode
     }
@@ -163,9 +175,11 @@ impl<'a, B: BytesToBytesCodecTraits> ChunkReader<'a, B> {
         alloc: Global,
         indexer: &Indexer,
     ) -> Result<Vec<(u64, u64)>, CodecError>
-        ensures answer { Gives (λ runs. joined_runs runs.items) result (encoded_places self.now.data_type (plain_chain self.now.chain.now).arrays self.now.shape (selection_of indexer.now)) }
+        ensures answer { Gives (λ runs. joined_runs runs.items) result
+            (form_places (reader_form self.now) (selection_of indexer.now)) }
         ensures filled { IfOk result (λ runs. All (λ run. 0 < run.1) runs.items) }
-        ensures inside { IfOk result (λ runs. All (λ run. run.0 + run.1 ≤ product self.now.encoded) runs.items) }
+        ensures inside { IfOk result
+            (λ runs. All (λ run. run.0 + run.1 ≤ product self.now.encoded) runs.items) }
         ensures count { IfOk result (λ runs. length (joined_runs runs.items) < 2 ^ 64) }
         ensures apart { IfOk result (λ runs. AreApart runs.items) }
     {
@@ -188,11 +202,13 @@ impl<'a, B: BytesToBytesCodecTraits> ChunkReader<'a, B> {
         below: usize,
         runs: &[(u64, u64)],
     ) -> Result<ArrayBytes<'static>, CodecError>
-        requires in_part { (codec_reads_of (plain_chain self.now.chain.now).codec).partial_decode ≡ true }
+        requires in_part { reader_reads_parts self.now ≡ true }
         requires known { below ≤ length (plain_chain self.now.chain.now).outer }
         requires filled { All (λ run. 0 < run.1) runs.now }
         requires inside { All (λ run. run.0 + run.1 ≤ product self.now.encoded) runs.now }
-        ensures answer { GivesBy (Holds self.now.data_type) result (source_places B.functions (plain_chain self.now.chain.now) self.now.encoded self.now.data_type self.now.fill_value self.now.representation (bytes_above below (option_map (λ bytes. (items_of bytes)) value.entry)) (joined_runs runs.now)) }
+        requires count { length (joined_runs runs.now) < 2 ^ 64 }
+        ensures answer { GivesSource B.functions self.now
+            (bytes_above below (option_map (λ bytes. items_of bytes) value.entry)) runs.now result }
     {
         match value {
             None => read_runs_of_bytes::<B>(
@@ -220,19 +236,21 @@ impl<'a, B: BytesToBytesCodecTraits> ChunkReader<'a, B> {
         }
     }
 
-    /// The same, by what the handle keeps. Without bytes codecs the handle is asked for the places'
-    /// bytes alone, and else for the whole value.
+    /// The same, by what the handle keeps. Without bytes codecs the handle is asked for what the places
+    /// rest on alone, and else for the whole value.
     fn read_stored<H: BytesPartialDecoderTraits>(
         &self,
         alloc: Global,
         handle: &mut H,
         runs: &[(u64, u64)],
     ) -> Result<ArrayBytes<'static>, CodecError>
-        requires in_part { (codec_reads_of (plain_chain self.now.chain.now).codec).partial_decode ≡ true }
+        requires in_part { reader_reads_parts self.now ≡ true }
         requires filled { All (λ run. 0 < run.1) runs.now }
         requires inside { All (λ run. run.0 + run.1 ≤ product self.now.encoded) runs.now }
-        ensures answer { AnswersBy memory_or_fault (Holds self.now.data_type) result (source_places B.functions (plain_chain self.now.chain.now) self.now.encoded self.now.data_type self.now.fill_value self.now.representation (bytes_above (length (plain_chain self.now.chain.now).outer) (H.state handle.old).value) (joined_runs runs.now)) }
-        ensures sure { reads_places (plain_chain self.now.chain.now).outer (plain_chain self.now.chain.now).codec ≡ true → IfOk (codec_place_bytes (plain_chain self.now.chain.now).codec self.now.encoded self.now.data_type self.now.fill_value (joined_runs runs.now)) (λ numbers. are_sure (H.state handle.old).sure numbers ≡ true → is_fault result ≡ false) }
+        requires count { length (joined_runs runs.now) < 2 ^ 64 }
+        ensures answer { ReadsSource B.functions self.now
+            (stored_source self.now (H.state handle.old).value) runs.now result }
+        ensures sure { SureSource self.now (H.state handle.old) runs.now result }
         ensures left { H.state handle.new ≡ after_reading result (H.state handle.old) }
         ensures same_reference { H.lent handle.new ≡ H.lent handle.old }
     {
@@ -262,10 +280,11 @@ impl<'a, B: BytesToBytesCodecTraits> ChunkReader<'a, B> {
         handle: &mut H,
         runs: &[(u64, u64)],
     ) -> Result<ArrayBytes<'static>, CodecError>
-        requires whole { (codec_reads_of (plain_chain self.now.chain.now).codec).partial_decode ≡ false }
+        requires whole { reader_reads_parts self.now ≡ false }
         requires inside { All (λ run. run.0 + run.1 ≤ product self.now.encoded) runs.now }
         requires count { length (joined_runs runs.now) < 2 ^ 64 }
-        ensures answer { AnswersBy memory_or_fault (Holds self.now.data_type) result (source_places B.functions (plain_chain self.now.chain.now) self.now.encoded self.now.data_type self.now.fill_value self.now.representation (bytes_above (length (plain_chain self.now.chain.now).outer) (H.state handle.old).value) (joined_runs runs.now)) }
+        ensures answer { ReadsSource B.functions self.now
+            (stored_source self.now (H.state handle.old).value) runs.now result }
         ensures left { H.state handle.new ≡ after_reading result (H.state handle.old) }
         ensures same_reference { H.lent handle.new ≡ H.lent handle.old }
     {
@@ -283,7 +302,7 @@ impl<'a, B: BytesToBytesCodecTraits> ChunkReader<'a, B> {
         runs: &[(u64, u64)],
     ) -> Result<ArrayBytes<'static>, CodecError>
         requires inside { All (λ run. run.0 + run.1 ≤ product self.now.encoded) runs.now }
-        ensures answer { GivesBy (Holds self.now.data_type) result (seen (λ chunk. select chunk (joined_runs runs.now)) (opened_chunk B.functions (plain_chain self.now.chain.now) self.now.encoded self.now.data_type self.now.fill_value self.now.representation value.items)) }
+        ensures answer { GivesOpened B.functions self.now value.items runs.now result }
     {
         let held = chunk_of_value(
             alloc,
@@ -305,10 +324,11 @@ impl<'a, B: BytesToBytesCodecTraits> ChunkReader<'a, B> {
         chunk: &Option<ArrayBytes<'static>>,
         runs: &[(u64, u64)],
     ) -> Result<ArrayBytes<'static>, CodecError>
-        requires fits { cache_fits (codec_reads_of (plain_chain self.now.chain.now).codec) self.now.data_type (product self.now.encoded) (length (plain_chain self.now.chain.now).outer) (Cache.Chunk chunk.now) ≡ true }
+        requires fits { is_reader_cache self.now (Cache.Chunk chunk.now) ≡ true }
         requires inside { All (λ run. run.0 + run.1 ≤ product self.now.encoded) runs.now }
         requires count { length (joined_runs runs.now) < 2 ^ 64 }
-        ensures answer { GivesBy (Holds self.now.data_type) result (source_places B.functions (plain_chain self.now.chain.now) self.now.encoded self.now.data_type self.now.fill_value self.now.representation (chunk_below (option_map (elements self.now.data_type (product self.now.encoded)) chunk.now)) (joined_runs runs.now)) }
+        ensures answer { GivesSource B.functions self.now
+            (kept_source self.now chunk.now) runs.now result }
     {
         match chunk {
             None => fill_runs(alloc, &self.data_type, &self.fill_value, runs),
@@ -329,8 +349,9 @@ impl<'a, B: BytesToBytesCodecTraits> ChunkReader<'a, B> {
         requires filled { All (λ run. 0 < run.1) runs.now }
         requires inside { All (λ run. run.0 + run.1 ≤ product self.now.encoded) runs.now }
         requires count { length (joined_runs runs.now) < 2 ^ 64 }
-        ensures answer { AnswersBy memory_or_fault (Holds self.now.data_type) result (source_places B.functions (plain_chain self.now.chain.now) self.now.encoded self.now.data_type self.now.fill_value self.now.representation (reader_source self.now (H.state handle.old).value) (joined_runs runs.now)) }
-        ensures sure { reads_places (plain_chain self.now.chain.now).outer (plain_chain self.now.chain.now).codec ≡ true → IfOk (codec_place_bytes (plain_chain self.now.chain.now).codec self.now.encoded self.now.data_type self.now.fill_value (joined_runs runs.now)) (λ numbers. are_sure (H.state handle.old).sure numbers ≡ true → is_fault result ≡ false) }
+        ensures answer { ReadsSource B.functions self.now
+            (reader_source self.now (H.state handle.old).value) runs.now result }
+        ensures sure { SureSource self.now (H.state handle.old) runs.now result }
         ensures left { H.state handle.new ≡ after_reading result (H.state handle.old) }
         ensures same_reference { H.lent handle.new ≡ H.lent handle.old }
         ensures calm { is_kept self.now.cache ≡ true → is_fault result ≡ false }
@@ -357,9 +378,12 @@ impl<'a, B: BytesToBytesCodecTraits> ChunkReader<'a, B> {
         handle: &mut H,
         indexer: &Indexer,
     ) -> Result<ArrayBytes<'static>, CodecError>
-        ensures answer { AnswersBy memory_or_fault (Holds self.now.data_type) result (source_read B.functions (reader_form self.now) self.now.encoded self.now.representation (reader_source self.now (H.state handle.old).value) (selection_of indexer.now)) }
-        ensures indexer_first { IfErr (bounds_of (selection_of indexer.now) self.now.shape) (λ cause. AnswersBy memory (Holds self.now.data_type) result (Err cause)) }
-        ensures sure { WhereSure B.functions (reader_form self.now) (selection_of indexer.now) (H.state handle.old).sure (is_fault result ≡ false) }
+        ensures answer { ReadsSelection B.functions self.now
+            (H.state handle.old).value (selection_of indexer.now) result }
+        ensures indexer_first { RefusedAtSelection self.now.shape self.now.data_type
+            (selection_of indexer.now) result }
+        ensures sure { WhereSure B.functions (reader_form self.now) (H.state handle.old)
+            (selection_of indexer.now) (is_fault result ≡ false) }
         ensures left { H.state handle.new ≡ after_reading result (H.state handle.old) }
         ensures same_reference { H.lent handle.new ≡ H.lent handle.old }
         ensures calm { is_kept self.now.cache ≡ true → is_fault result ≡ false }
@@ -378,7 +402,8 @@ impl<'a, B: BytesToBytesCodecTraits> ChunkReader<'a, B> {
         indexer: &Indexer,
     ) -> Result<ArrayBytes<'static>, CodecError>
         requires filled { IsFilledFrom B.functions self.now (H.state handle.old).value }
-        ensures reads { ReadsChunk B.functions (reader_form self.now) (H.state handle.old) (selection_of indexer.now) result }
+        ensures reads { ReadsChunk B.functions (reader_form self.now) (H.state handle.old)
+            (selection_of indexer.now) result }
         ensures calm { reader_is_cached self.now ≡ true → is_fault result ≡ false }
         ensures left { H.state handle.new ≡ after_reading result (H.state handle.old) }
         ensures same_reference { H.lent handle.new ≡ H.lent handle.old }
@@ -392,7 +417,8 @@ impl<'a, B: BytesToBytesCodecTraits> ChunkReader<'a, B> {
         &self,
         handle: &mut H,
     ) -> Result<bool, CodecError>
-        ensures answer { Answers fault (λ there. there) result (Ok (is_there (reader_source self.now (H.state handle.old).value))) }
+        ensures answer { Answers fault (λ there. there) result
+            (Ok (is_there (reader_source self.now (H.state handle.old).value))) }
         ensures sure { is_some (H.state handle.old).sure ≡ true → is_fault result ≡ false }
         ensures left { H.state handle.new ≡ after_reading result (H.state handle.old) }
         ensures same_reference { H.lent handle.new ≡ H.lent handle.old }
@@ -425,7 +451,8 @@ impl<'a, B: BytesToBytesCodecTraits> ChunkReader<'a, B> {
         alloc: Global,
         indexer: &Indexer,
     ) -> Result<Option<Vec<ByteRange>>, CodecError>
-        ensures plan { GivesBy (λ ranges places. IsReadPlan B.functions (reader_form self.now) (option_map (λ v. v.items) ranges) places) result (planned_places (reader_form self.now) (selection_of indexer.now)) }
+        ensures plan { PlansRead B.functions (reader_form self.now)
+            (selection_of indexer.now) result }
     {
         let runs = self.runs(alloc, indexer)?;
         if !asks_for_places(self.chain) {
@@ -445,17 +472,19 @@ impl<'a, B: BytesToBytesCodecTraits> ChunkReader<'a, B> {
 
 /// Whether a read asks for the bytes of its places alone.
 fn asks_for_places<B: BytesToBytesCodecTraits>(chain: &CodecChain<B>) -> bool
-    ensures value { result ≡ reads_places (plain_chain chain.now).outer (plain_chain chain.now).codec }
+    ensures value { result ≡
+        reads_places (plain_chain chain.now).outer (plain_chain chain.now).codec }
 {
     match chain.bytes_to_bytes_codecs() {
-        [] => codec_reads(chain).partial_decode,
+        [] => plans_reads(chain.array_to_bytes_codec()),
         _ => false,
     }
 }
 
 /// The bytes that are kept, lent.
 fn lent_bytes(value: &Option<Vec<u8>>) -> Option<ArrayBytesRaw<'_>>
-    ensures value { option_map (λ bytes. (items_of bytes)) result ≡ option_map (λ items. items.items) value.now }
+    ensures value { option_map (λ bytes. (items_of bytes)) result ≡
+        option_map (λ items. items.items) value.now }
 {
     match value {
         None => None,

@@ -20,9 +20,11 @@ pub(crate) fn encoded_runs(
     shape: &ChunkShape,
     indexer: &Indexer,
 ) -> Result<Vec<(u64, u64)>, CodecError>
-    ensures answer { Gives (λ runs. joined_runs runs.items) result (chained_places (map mapping_of codecs.now) (selection_of indexer.now) shape.now) }
+    ensures answer { Gives (λ runs. joined_runs runs.items) result
+        (chained_places (map mapping_of codecs.now) (selection_of indexer.now) shape.now) }
     ensures filled { IfOk result (λ runs. All (λ run. 0 < run.1) runs.items) }
-    ensures below { IfOk result (λ runs. All (λ run. run.0 + run.1 ≤ product shape.now) runs.items) }
+    ensures below { IfOk result
+        (λ runs. All (λ run. run.0 + run.1 ≤ product shape.now) runs.items) }
     ensures count { IfOk result (λ runs. length (joined_runs runs.items) < 2 ^ 64) }
     ensures apart { IfOk result (λ runs. AreApart runs.items) }
 {

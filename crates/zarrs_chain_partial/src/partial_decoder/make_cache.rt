@@ -1,4 +1,6 @@
 //! What a partial decoder keeps of the stored value when it is made.
+ghost use Rattle.zarrs_data_type.specs.Form.{form_of};
+ghost use Rattle.zarrs_chain_partial.specs.ChunkRead.{TakenBy};
 ghost use Rattle.std.specs.Prelude.{◌≡◌, ◌≤◌, ℕ, IfOk, Ok, Some, is_ok, length, map, take, drop, true, false};
 ghost use Rattle.zarrs_chunk.specs.Answer.{Answers, memory_or_fault, is_fault, Gives, GivesBy};
 ghost use Rattle.zarrs_chunk.specs.ChunkShape.{product};
@@ -9,7 +11,7 @@ ghost use Rattle.zarrs_chain_parts.specs.BytesStages.{outer_bytes, outer_represe
 ghost use Rattle.zarrs_chain_parts.specs.Chain.{codec_reads as codec_reads_of};
 ghost use Rattle.zarrs_chain_parts.specs.Representation.{codec_representation};
 ghost use Rattle.zarrs_codec_chain.specs.ChainView.{plain_chain};
-ghost use Rattle.zarrs_chain_partial.specs.ChunkSource.{bytes_left, cache_fits, cache_stage as cache_stage_of, has_cache, is_kept, kept_stage, opened_chunk, source_at, source_of, stage_by, stage_fits};
+ghost use Rattle.zarrs_chain_partial.specs.ChunkSource.{bytes_left, cache_fits, cache_stage as cache_stage_of, has_cache, is_kept, kept_stage, opened_chunk, source_at, source_of, stage_by, stage_fits, is_stage_of, upper_bytes, OpensChunk, FillsCache, is_cache_of};
 
 use crate::partial_decoder::cache::{Cache, CacheStage};
 use std::alloc::Global;
@@ -76,7 +78,7 @@ pub(crate) fn codec_reads<B: BytesToBytesCodecTraits>(
 /// Where the cache of a chain stands.
 pub(crate) fn cache_stage<B: BytesToBytesCodecTraits>(chain: &CodecChain<B>) -> CacheStage
     ensures value { result ≡ cache_stage_of B.reads_in_part (plain_chain chain.now) }
-    ensures fits { stage_fits (codec_reads_of (plain_chain chain.now).codec) (length (plain_chain chain.now).outer) result ≡ true }
+    ensures fits { is_stage_of (plain_chain chain.now) result ≡ true }
 {
     let codec = codec_reads(chain);
     stage_of(codec, codecs_left(chain.bytes_to_bytes_codecs()))
@@ -102,7 +104,8 @@ fn bytes_above<B: BytesToBytesCodecTraits>(
     value: Vec<u8>,
 ) -> Result<Vec<u8>, CodecError>
     requires known { below ≤ length codecs.now }
-    ensures answer { Gives (λ items. items.items) result (outer_bytes B.functions (drop below codecs.now) (outer_representation_of B.functions (take below codecs.now) representation) value.items) }
+    ensures answer { Gives (λ items. items.items) result
+        (upper_bytes B.functions codecs.now below representation value.items) }
 {
     let above = outer_representation(&codecs[..below], representation);
     let bytes = decode_bytes(alloc, &codecs[below..], &above, CowSlice::Owned(value))?;
@@ -120,8 +123,10 @@ pub(crate) fn chunk_below<B: BytesToBytesCodecTraits>(
     representation: &BytesRepresentation,
     value: Vec<u8>,
 ) -> Result<ArrayBytes<'static>, CodecError>
-    requires taken { is_ok (codec_representation B.functions (plain_chain chain.now).codec encoded.now data_type.now fill_value.now) ≡ true }
-    ensures answer { GivesBy (Holds data_type.now) result (opened_chunk B.functions (plain_chain chain.now) encoded.now data_type.now fill_value.now representation.now value.items) }
+    requires taken { TakenBy B.functions (plain_chain chain.now).codec
+        (form_of encoded.now data_type.now fill_value.now) }
+    ensures answer { OpensChunk B.functions (plain_chain chain.now)
+        (form_of encoded.now data_type.now fill_value.now) representation.now value.items result }
 {
     let bytes = decode_bytes(
         alloc,
@@ -152,10 +157,13 @@ pub(crate) fn make_cache<H: BytesPartialDecoderTraits, B: BytesToBytesCodecTrait
     fill_value: &FillValue,
     representation: BytesRepresentation,
 ) -> Result<Cache, CodecError>
-    requires taken { is_ok (codec_representation B.functions (plain_chain chain.now).codec encoded.now data_type.now fill_value.now) ≡ true }
-    requires stage { stage_fits (codec_reads_of (plain_chain chain.now).codec) (length (plain_chain chain.now).outer) stage ≡ true }
-    ensures answer { Answers memory_or_fault (source_of data_type.now (product encoded.now) (length (plain_chain chain.now).outer) (H.state handle.old).value) result (source_at B.functions (plain_chain chain.now) encoded.now data_type.now fill_value.now representation stage (H.state handle.old).value) }
-    ensures fits { IfOk result (λ cache. cache_fits (codec_reads_of (plain_chain chain.now).codec) data_type.now (product encoded.now) (length (plain_chain chain.now).outer) cache ≡ true) }
+    requires taken { TakenBy B.functions (plain_chain chain.now).codec
+        (form_of encoded.now data_type.now fill_value.now) }
+    requires stage { is_stage_of (plain_chain chain.now) stage ≡ true }
+    ensures answer { FillsCache B.functions (plain_chain chain.now) representation stage
+        (form_of encoded.now data_type.now fill_value.now) (H.state handle.old).value result }
+    ensures fits { IfOk result
+        (λ cache. is_cache_of (plain_chain chain.now) encoded.now data_type.now cache ≡ true) }
     ensures stage { IfOk result (λ cache. kept_stage cache ≡ stage) }
     ensures left { H.state handle.new ≡ after_reading result (H.state handle.old) }
     ensures same_reference { H.lent handle.new ≡ H.lent handle.old }

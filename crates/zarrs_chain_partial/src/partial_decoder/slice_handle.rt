@@ -1,4 +1,5 @@
 //! Bytes in memory as a handle.
+ghost use Rattle.zarrs_chain_partial.specs.SliceHandle.{IsPiece, IsBehind};
 ghost use Rattle.std.specs.Prelude.{◌≡◌, ◌++◌, IfOk, IfErr, Some, None, true, false, length, nat_le, option_map};
 ghost use Rattle.std.specs.List.{between};
 ghost use Rattle.zarrs_chunk.specs.Answer.{memory, Gives};
@@ -16,8 +17,8 @@ pub(crate) struct SliceHandle<'a> {
 
 /// A range's bytes of a value.
 fn piece_of<'a>(value: &'a [u8], range: &ByteRange) -> Result<&'a [u8], CodecError>
-    ensures inside { IfOk result (λ piece. (piece.now ≡ between range.now.start range.now.end value.now) × (nat_le range.now.end (length value.now) ≡ true)) }
-    ensures outside { IfErr result (λ error. (error ≡ CodecError.InvalidByteRange) × (nat_le range.now.end (length value.now) ≡ false)) }
+    ensures inside { IfOk result (λ piece. IsPiece range.now value.now piece.now) }
+    ensures outside { IfErr result (λ error. IsBehind range.now value.now error) }
 {
     let start = range.start() as usize;
     let end = range.end() as usize;

@@ -1,3 +1,7 @@
+ghost use Rattle.zarrs_data_type.specs.Form.{form_of};
+ghost use Rattle.zarrs_chain_parts.specs.CallAnswers.{codec_represented};
+ghost use Rattle.zarrs_chain_partial.specs.ChunkRead.{TakenBy, MadeWhereTaken};
+ghost use Rattle.zarrs_chain_partial.specs.VlenPartialDecoder.{VlenReads, VlenRefusedAtSelection, SureVlen, VlenSelects, VlenFills, HasCodecForm};
 ghost use Rattle.std.specs.Prelude.{◌≡◌, ◌<◌, ◌≤◌, ◌+◌, ◌^◌, ◌&&◌, ℕ, List, Ok, Err, IfOk, IfErr, All, Some, None, is_ok, is_some, length, map, option_map, true, false};
 ghost use Rattle.zarrs_chunk.specs.Answer.{Answers, AnswersBy, fault, memory, memory_or_fault, is_fault, seen, Gives, GivesBy};
 ghost use Rattle.zarrs_chunk.specs.ChunkShape.{product};
@@ -12,28 +16,28 @@ ghost use Rattle.zarrs_codec.specs.Refused.{outcome};
 ghost use Rattle.zarrs_codec.specs.StorageState.{after_reading};
 ghost use Rattle.zarrs_chain_parts.specs.Chain.{codec_reads};
 ghost use Rattle.zarrs_codec_chain.specs.ChainView.{plain_vlen};
-ghost use Rattle.zarrs_chain_partial.specs.ChunkRead.{codec_read};
-ghost use Rattle.zarrs_chain_parts.specs.Decode.{codec_chunk};
 ghost use Rattle.zarrs_chain_parts.specs.Representation.{codec_representation};
 ghost use Rattle.zarrs_chain_parts.specs.Stands.{CodecStands};
 
-use crate::partial_decoder::fill_runs::fill_runs;
+use crate::partial_decoder::vlen_runs::vlen_runs;
 use std::alloc::Global;
-use std::borrow::CowSlice;
 use zarrs_array_bytes::ArrayBytes;
 use zarrs_chunk::{ChunkShape, CodecError, Indexer};
 use zarrs_codec::{
-    ArrayPartialDecoderTraits, BytesPartialDecoderTraits, BytesToBytesCodecTraits, Refused,
+    ArrayPartialDecoderTraits, BytesPartialDecoderTraits, BytesToBytesCodecTraits, CodecTraits,
+    Refused,
 };
 use zarrs_codec_chain::VlenCodec;
-use zarrs_codec_chain::stages::{vlen_decode, vlen_is_sound};
+use zarrs_codec_chain::stages::vlen_is_sound;
 use zarrs_data_type::{DataType, FillValue};
 
 /// Reads a chunk of a [`VlenCodec`] in part, over a storage handle that it owns. The codec is
 /// borrowed.
 ///
-/// Each read asks the handle for the whole value, decodes it, and takes out the elements that are
-/// meant. Nothing is kept in between.
+/// Where the codec is plain, its index chain `bytes` with a byte order and its data chain `bytes`, both
+/// alone, each read asks the handle for the offsets and for the bytes of the elements that are meant,
+/// whatever else is stored. Else it asks for the whole value, decodes it, and takes these elements out.
+/// Nothing is kept in between.
 #[derive(Drop)]
 pub struct VlenPartialDecoder<'a, H: BytesPartialDecoderTraits, B: BytesToBytesCodecTraits> {
     handle: H,
@@ -46,59 +50,6 @@ pub struct VlenPartialDecoder<'a, H: BytesPartialDecoderTraits, B: BytesToBytesC
     ghost counted: { product shape < 2 ^ 64 },
 }
 
-/// The chunk that a value stands for, in a container of its own. Refusals: those of
-/// `VlenCodec::decode`.
-fn decoded<B: BytesToBytesCodecTraits>(
-    alloc: Global,
-    codec: &VlenCodec<B>,
-    value: Vec<u8>,
-    shape: &ChunkShape,
-    data_type: &DataType,
-    fill_value: &FillValue,
-) -> Result<ArrayBytes<'static>, CodecError>
-    requires taken { is_ok (codec_representation B.functions (plain_vlen codec.now) shape.now data_type.now fill_value.now) ≡ true }
-    ensures answer { Gives (elements data_type.now (product shape.now)) result (codec_chunk B.functions (plain_vlen codec.now) shape.now data_type.now fill_value.now value.items) }
-    ensures valid { IfOk result (λ held. validity data_type.now (product shape.now) held ≡ Ok tt) }
-{
-    vlen_decode(
-        alloc,
-        codec,
-        CowSlice::Owned(value),
-        shape,
-        data_type,
-        fill_value,
-    )
-}
-
-/// The elements at the places of these runs of a chunk that the codec takes, by its whole value: the
-/// fill value at each place where there is none. Refusals: those of `VlenCodec::decode`.
-#[tactic(auto, using(crate::proofs::VlenReads::vlen_reads))]
-fn read_runs<B: BytesToBytesCodecTraits>(
-    alloc: Global,
-    codec: &VlenCodec<B>,
-    value: Option<Vec<u8>>,
-    shape: &ChunkShape,
-    data_type: &DataType,
-    fill_value: &FillValue,
-    runs: &[(u64, u64)],
-) -> Result<ArrayBytes<'static>, CodecError>
-    requires taken { is_ok (codec_representation B.functions (plain_vlen codec.now) shape.now data_type.now fill_value.now) ≡ true }
-    requires filling { fill_fits data_type.now fill_value.now ≡ true }
-    requires counted { product shape.now < 2 ^ 64 }
-    requires inside { All (λ run. run.0 + run.1 ≤ product shape.now) runs.now }
-    requires count { length (joined_runs runs.now) < 2 ^ 64 }
-    ensures answer { GivesBy (Holds data_type.now) result (codec_read B.functions (plain_vlen codec.now) shape.now data_type.now fill_value.now (option_map (λ items. items.items) value) (joined_runs runs.now)) }
-{
-    match value {
-        None => fill_runs(alloc, data_type, fill_value, runs),
-        Some(value) => {
-            let chunk = decoded(alloc, codec, value, shape, data_type, fill_value)?;
-            let count = shape.num_elements()?;
-            chunk.extract_runs(alloc, runs, count, data_type)
-        }
-    }
-}
-
 /// What a partial decoder keeps of a chunk that the codec takes. Refusals: those of
 /// `encoded_representation`.
 fn parts_of_decoder<B: BytesToBytesCodecTraits>(
@@ -107,8 +58,12 @@ fn parts_of_decoder<B: BytesToBytesCodecTraits>(
     data_type: &DataType,
     fill_value: &FillValue,
 ) -> Result<(ChunkShape, DataType, FillValue), CodecError>
-    ensures answer { Gives (λ parts. parts) result (seen (λ _. (shape.now, data_type.now, fill_value.now)) (codec_representation B.functions (plain_vlen codec.now) shape.now data_type.now fill_value.now)) }
-    ensures taken { IfOk result (λ parts. is_ok (codec_representation B.functions (plain_vlen codec.now) parts.0 parts.1 parts.2) ≡ true) }
+    ensures answer { Gives (λ parts. parts) result
+        (seen (λ _. (shape.now, data_type.now, fill_value.now))
+        (codec_represented B.functions (plain_vlen codec.now)
+        (form_of shape.now data_type.now fill_value.now))) }
+    ensures taken { IfOk result
+        (λ parts. TakenBy B.functions (plain_vlen codec.now) (form_of parts.0 parts.1 parts.2)) }
     ensures filling { IfOk result (λ parts. fill_fits parts.1 parts.2 ≡ true) }
     ensures counted { IfOk result (λ parts. product parts.0 < 2 ^ 64) }
 {
@@ -146,8 +101,10 @@ impl<B: BytesToBytesCodecTraits> VlenCodecPartialTraits<B> for VlenCodec<B> {
         data_type: &DataType,
         fill_value: &FillValue,
     ) -> Result<VlenPartialDecoder<'a, H, B>, Refused<H>>
-        ensures answer { Gives (λ made. made) (outcome result) (seen (λ _. tt) (codec_representation B.functions (plain_vlen self.now) shape.now data_type.now fill_value.now)) }
-        ensures form { IfOk result (λ decoder. vlen_form_of decoder ≡ record { codec = plain_vlen self.now; sizes = shape.now; type = data_type.now; fill = fill_value.now }) }
+        ensures answer { MadeWhereTaken B.functions (plain_vlen self.now)
+            (form_of shape.now data_type.now fill_value.now) (outcome result) }
+        ensures form { HasCodecForm (λ decoder. vlen_form_of decoder) (plain_vlen self.now)
+            (form_of shape.now data_type.now fill_value.now) result }
         ensures over { IfOk result (λ decoder. vlen_handle_of decoder ≡ handle) }
         ensures handed_back { IfErr result (λ refused. refused.handle ≡ handle) }
     {
@@ -165,7 +122,7 @@ impl<B: BytesToBytesCodecTraits> VlenCodecPartialTraits<B> for VlenCodec<B> {
 }
 
 impl<'a, H: BytesPartialDecoderTraits, B: BytesToBytesCodecTraits> VlenPartialDecoder<'a, H, B> {
-    ghost use Rattle.zarrs_chain_partial.specs.VlenPartialDecoder.{codec_stored_read, vlen_form_of, vlen_handle_of};
+    ghost use Rattle.zarrs_chain_partial.specs.VlenPartialDecoder.{codec_stored_read, CodecWhereSure, vlen_form_of, vlen_handle_of};
 
     /// The type of the elements.
     pub fn data_type(&self) -> &DataType
@@ -174,20 +131,23 @@ impl<'a, H: BytesPartialDecoderTraits, B: BytesToBytesCodecTraits> VlenPartialDe
         &self.data_type
     }
 
-    /// The elements that the indexer means, by the whole value that the handle keeps.
+    /// The elements that the indexer means, by what the handle keeps.
     fn read(&mut self, alloc: Global, indexer: &Indexer) -> Result<ArrayBytes<'static>, CodecError>
-        ensures answer { AnswersBy memory_or_fault (Holds (vlen_form_of self.old).type) result (codec_stored_read B.functions (vlen_form_of self.old) (H.state (vlen_handle_of self.old)).value (selection_of indexer.now)) }
-        ensures indexer_first { IfErr (bounds_of (selection_of indexer.now) (vlen_form_of self.old).sizes) (λ cause. AnswersBy memory (Holds (vlen_form_of self.old).type) result (Err cause)) }
-        ensures left { H.state (vlen_handle_of self.new) ≡ after_reading result (H.state (vlen_handle_of self.old)) }
-        ensures same_reference { H.lent (vlen_handle_of self.new) ≡ H.lent (vlen_handle_of self.old) }
+        ensures answer { VlenReads H.state B.functions self.old
+            (selection_of indexer.now) result }
+        ensures indexer_first { VlenRefusedAtSelection self.old (selection_of indexer.now) result }
+        ensures sure { SureVlen H.state self.old (selection_of indexer.now) result }
+        ensures left { H.state (vlen_handle_of self.new) ≡ after_reading result
+            (H.state (vlen_handle_of self.old)) }
+        ensures same_reference { H.lent (vlen_handle_of self.new) ≡
+            H.lent (vlen_handle_of self.old) }
         ensures form_kept { vlen_form_of self.new ≡ vlen_form_of self.old }
     {
         let runs = indexer.runs(alloc, &self.shape)?;
-        let value = self.handle.decode(alloc)?;
-        read_runs(
+        vlen_runs(
             alloc,
             self.codec,
-            value,
+            &mut self.handle,
             &self.shape,
             &self.data_type,
             &self.fill_value,
@@ -196,21 +156,29 @@ impl<'a, H: BytesPartialDecoderTraits, B: BytesToBytesCodecTraits> VlenPartialDe
     }
 
     /// The elements that the indexer means, in its order: those of the chunk that the stored value
-    /// stands for, and the fill value at each place where nothing is stored.
+    /// stands for, and the fill value at each place where nothing is stored. Of a plain codec the
+    /// answer rests on the value's length, its offsets and the bytes of these elements alone.
     ///
-    /// Refusals, the first that holds, `OutOfMemory` aside: those of `Indexer::check`; `Storage`; those
-    /// of `VlenCodec::decode`.
+    /// Refusals, the first that holds, `OutOfMemory` aside: those of `Indexer::check`; `Storage`, but
+    /// never of a plain codec where all the bytes that the answer rests on are sure; of a plain codec
+    /// those of `zarrs_plain_vlen::read_runs`, also where the indexer means no place; of any other
+    /// those of `VlenCodec::decode`.
     pub fn partial_decode(
         &mut self,
         alloc: Global,
         indexer: &Indexer,
     ) -> Result<ArrayBytes<'static>, CodecError>
-        ensures selected { let form = vlen_form_of self.old in (value : List ℕ) (chunk : Chunk) → (H.state (vlen_handle_of self.old)).value ≡ Some value → CodecStands B.functions form.codec form.sizes form.type form.fill value chunk → AnswersBy memory_or_fault (Holds form.type) result (seen (select chunk) (places_of (selection_of indexer.now) form.sizes)) }
-        ensures unstored { let form = vlen_form_of self.old in (H.state (vlen_handle_of self.old)).value ≡ None → AnswersBy memory_or_fault (Holds form.type) result (seen (map (λ _. fill_element form.type form.fill)) (places_of (selection_of indexer.now) form.sizes)) }
-        ensures answer { AnswersBy memory_or_fault (Holds (vlen_form_of self.old).type) result (codec_stored_read B.functions (vlen_form_of self.old) (H.state (vlen_handle_of self.old)).value (selection_of indexer.now)) }
-        ensures indexer_first { IfErr (bounds_of (selection_of indexer.now) (vlen_form_of self.old).sizes) (λ cause. AnswersBy memory (Holds (vlen_form_of self.old).type) result (Err cause)) }
-        ensures left { H.state (vlen_handle_of self.new) ≡ after_reading result (H.state (vlen_handle_of self.old)) }
-        ensures same_reference { H.lent (vlen_handle_of self.new) ≡ H.lent (vlen_handle_of self.old) }
+        ensures selected { VlenSelects H.state B.functions self.old
+            (selection_of indexer.now) result }
+        ensures unstored { VlenFills H.state self.old (selection_of indexer.now) result }
+        ensures answer { VlenReads H.state B.functions self.old
+            (selection_of indexer.now) result }
+        ensures indexer_first { VlenRefusedAtSelection self.old (selection_of indexer.now) result }
+        ensures sure { SureVlen H.state self.old (selection_of indexer.now) result }
+        ensures left { H.state (vlen_handle_of self.new) ≡ after_reading result
+            (H.state (vlen_handle_of self.old)) }
+        ensures same_reference { H.lent (vlen_handle_of self.new) ≡
+            H.lent (vlen_handle_of self.old) }
         ensures form_kept { vlen_form_of self.new ≡ vlen_form_of self.old }
     {
         vlen_is_sound(self.codec);
@@ -220,10 +188,14 @@ impl<'a, H: BytesPartialDecoderTraits, B: BytesToBytesCodecTraits> VlenPartialDe
 
     /// Whether a value is stored. Refusals: `Storage`, but never where the handle has sure bytes.
     pub fn exists(&mut self) -> Result<bool, CodecError>
-        ensures answer { Answers fault (λ there. there) result (Ok (is_some (H.state (vlen_handle_of self.old)).value)) }
-        ensures sure { is_some (H.state (vlen_handle_of self.old)).sure ≡ true → is_fault result ≡ false }
-        ensures left { H.state (vlen_handle_of self.new) ≡ after_reading result (H.state (vlen_handle_of self.old)) }
-        ensures same_reference { H.lent (vlen_handle_of self.new) ≡ H.lent (vlen_handle_of self.old) }
+        ensures answer { Answers fault (λ there. there) result
+            (Ok (is_some (H.state (vlen_handle_of self.old)).value)) }
+        ensures sure { is_some (H.state (vlen_handle_of self.old)).sure ≡ true →
+            is_fault result ≡ false }
+        ensures left { H.state (vlen_handle_of self.new) ≡ after_reading result
+            (H.state (vlen_handle_of self.old)) }
+        ensures same_reference { H.lent (vlen_handle_of self.new) ≡
+            H.lent (vlen_handle_of self.old) }
         ensures form_kept { vlen_form_of self.new ≡ vlen_form_of self.old }
     {
         self.handle.exists()
@@ -236,12 +208,14 @@ impl<'a, H: BytesPartialDecoderTraits, B: BytesToBytesCodecTraits> VlenPartialDe
         self.handle.size_held()
     }
 
-    /// Whether a part is read without the rest: never, as each read asks for the whole value.
-    #[tactic(auto, using(zarrs_codec_chain::specs::ChainView::plain_vlen_at))]
+    /// Whether a part is read without the rest: where the codec is plain, and the handle reads ranges
+    /// by themselves.
     pub fn supports_partial_decode(&self) -> bool
-        ensures value { result ≡ (codec_reads (vlen_form_of self.now).codec).partial_decode && H.reads_ranges }
+        ensures value { result ≡
+            (codec_reads (vlen_form_of self.now).codec).partial_decode && H.reads_ranges }
     {
-        false
+        self.codec.partial_decoder_capability().partial_decode
+            && self.handle.supports_partial_decode()
     }
 
     /// The handle, as it stands.

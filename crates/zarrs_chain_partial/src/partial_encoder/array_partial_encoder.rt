@@ -1,10 +1,11 @@
+ghost use Rattle.zarrs_chain_partial.specs.PartialEncoder.{EncoderGives, EncoderLeaves};
 ghost use Rattle.std.specs.Prelude.{◌≡◌, ◌<◌, ◌&&◌, All, Ok, None, option_map, is_some, true, false};
 ghost use Rattle.zarrs_chunk.specs.Answer.{Answers, fault, memory, is_fault, GivesBy};
 ghost use Rattle.zarrs_chunk.specs.Indexer.{selection_of};
 ghost use Rattle.zarrs_codec.specs.BytesToBytesCodec.{AreBytes};
 ghost use Rattle.zarrs_chain_parts.specs.Chain.{chain_reads, chain_writes};
-ghost use Rattle.zarrs_chain_partial.specs.ChunkWrite.{EditsChunk};
-ghost use Rattle.zarrs_chain_partial.specs.ChunkRead.{IsReadPlan, planned_places, ReadsChunk};
+ghost use Rattle.zarrs_chain_partial.specs.ChunkWrite.{EditsChunk, form_encodes_parts};
+ghost use Rattle.zarrs_chain_partial.specs.ChunkRead.{IsReadPlan, planned_places, ReadsChunk, PlansRead, form_decodes_parts};
 ghost use Rattle.zarrs_chain_partial.specs.ChunkReader.{reader_is_cached};
 ghost use Rattle.zarrs_chain_parts.specs.Laws.{IsChainOfMappings};
 
@@ -69,7 +70,8 @@ impl<'a, H: BytesPartialEncoderTraits, B: BytesToBytesCodecTraits> ArrayPartialE
         alloc: Global,
         indexer: &Indexer,
     ) -> Result<ArrayBytes<'static>, CodecError>
-        ensures reads { ReadsChunk B.functions (encoder_form self.old) (H.state (encoder_handle self.old)) (selection_of indexer.now) result }
+        ensures reads { EncoderGives H.state B.functions self.old
+            (selection_of indexer.now) result }
         ensures left { EncoderReads H.state H.lent self.old self.new result }
     {
         self.reader.read_chunk(alloc, &mut self.handle, indexer)
@@ -77,8 +79,10 @@ impl<'a, H: BytesPartialEncoderTraits, B: BytesToBytesCodecTraits> ArrayPartialE
 
     /// Whether a value is stored. Refusals: `Storage`, but never where the handle has sure bytes.
     pub fn exists(&mut self) -> Result<bool, CodecError>
-        ensures answer { Answers fault (λ there. there) result (Ok (is_some (H.state (encoder_handle self.old)).value)) }
-        ensures sure { is_some (H.state (encoder_handle self.old)).sure ≡ true → is_fault result ≡ false }
+        ensures answer { Answers fault (λ there. there) result
+            (Ok (is_some (H.state (encoder_handle self.old)).value)) }
+        ensures sure { is_some (H.state (encoder_handle self.old)).sure ≡ true →
+            is_fault result ≡ false }
         ensures left { EncoderReads H.state H.lent self.old self.new result }
     {
         self.handle.exists()
@@ -99,7 +103,8 @@ impl<'a, H: BytesPartialEncoderTraits, B: BytesToBytesCodecTraits> ArrayPartialE
         alloc: Global,
         indexer: &Indexer,
     ) -> Result<Option<Vec<ByteRange>>, CodecError>
-        ensures plan { GivesBy (λ ranges places. IsReadPlan B.functions (encoder_form self.now) (option_map (λ v. v.items) ranges) places) result (planned_places (encoder_form self.now) (selection_of indexer.now)) }
+        ensures plan { PlansRead B.functions (encoder_form self.now)
+            (selection_of indexer.now) result }
     {
         self.reader.planned_ranges(alloc, indexer)
     }
@@ -107,7 +112,8 @@ impl<'a, H: BytesPartialEncoderTraits, B: BytesToBytesCodecTraits> ArrayPartialE
     /// Whether a part is read without the rest: where all codecs of the chain decode a part, and the
     /// handle reads ranges by themselves.
     pub fn supports_partial_decode(&self) -> bool
-        ensures value { result ≡ (chain_reads B.reads_in_part (encoder_form self.now).chain).partial_decode && H.reads_ranges }
+        ensures value { result ≡
+            form_decodes_parts B.reads_in_part (encoder_form self.now) && H.reads_ranges }
     {
         self.reader.decodes_parts() && self.handle.supports_partial_decode()
     }
@@ -133,7 +139,8 @@ impl<'a, H: BytesPartialEncoderTraits, B: BytesToBytesCodecTraits> ArrayPartialE
         indexer: &Indexer,
         elements: &ArrayBytes<'_>,
     ) -> Result<(), CodecError>
-        ensures edits { EditsChunk B.functions (encoder_form self.old) (H.state (encoder_handle self.old)) (H.state (encoder_handle self.new)) (selection_of indexer.now) elements.now result }
+        ensures edits { EncoderLeaves H.state B.functions self.old self.new
+            (selection_of indexer.now) elements.now result }
         ensures left { EncoderWrites H.state H.lent H.atomic self.old self.new result }
     {
         self.reader.is_sound();
@@ -153,7 +160,8 @@ impl<'a, H: BytesPartialEncoderTraits, B: BytesToBytesCodecTraits> ArrayPartialE
     /// Whether a part is written without the rest: where all codecs of the chain write a part, and the
     /// handle writes pieces by themselves.
     pub fn supports_partial_encode(&self) -> bool
-        ensures value { result ≡ (chain_writes B.writes_in_part (encoder_form self.now).chain).partial_encode && H.writes_ranges }
+        ensures value { result ≡
+            form_encodes_parts B.writes_in_part (encoder_form self.now) && H.writes_ranges }
     {
         self.reader.encodes_parts() && self.handle.supports_partial_encode()
     }

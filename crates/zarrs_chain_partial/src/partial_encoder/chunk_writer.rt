@@ -7,7 +7,7 @@ ghost use Rattle.zarrs_codec.specs.ArrayWriter.{IsRefusedWrite};
 ghost use Rattle.zarrs_codec.specs.ChunkEdits.{data_checked};
 ghost use Rattle.zarrs_codec.specs.StorageState.{after_writing, apart_from_value};
 ghost use Rattle.zarrs_chain_parts.specs.Chain.{chain_writes};
-ghost use Rattle.zarrs_chain_partial.specs.ChunkWrite.{stored_written};
+ghost use Rattle.zarrs_chain_partial.specs.ChunkWrite.{stored_written, WritesStored, WriteRefusedAtSelection, RefusedAtData, UntouchedAtData, form_encodes_parts};
 
 use crate::partial_decoder::chunk_reader::ChunkReader;
 use crate::partial_encoder::place_writer::codec_in_place;
@@ -28,13 +28,20 @@ impl<'a, B: BytesToBytesCodecTraits> ChunkReader<'a, B> {
         indexer: &Indexer,
         elements: &ArrayBytes<'_>,
     ) -> Result<(), CodecError>
-        ensures answer { Answers memory_or_fault (λ _. (H.state handle.new).value) result (seen Some (stored_written B.functions (reader_form self.now) (H.state handle.old).value (selection_of indexer.now) elements.now)) }
-        ensures indexer_first { IfErr (bounds_of (selection_of indexer.now) (reader_form self.now).sizes) (λ cause. Answers memory (λ done. done) result (Err cause)) }
-        ensures checked_first { IfErr (data_checked (reader_form self.now).sizes (reader_form self.now).type (selection_of indexer.now) elements.now) (λ cause. Answers memory (λ done. done) result (Err cause)) }
-        ensures untouched { IfErr (data_checked (reader_form self.now).sizes (reader_form self.now).type (selection_of indexer.now) elements.now) (λ _. H.state handle.new ≡ H.state handle.old) }
-        ensures one_write { OnOk result (apart_from_value (H.state handle.new) ≡ after_writing result (H.state handle.old)) }
-        ensures refused { OnErr result (IsRefusedWrite result (H.state handle.old) (H.state handle.new)) }
-        ensures kept_if_atomic { OnErr result (H.atomic ≡ true → (H.state handle.new).value ≡ (H.state handle.old).value) }
+        ensures answer { WritesStored B.functions (reader_form self.now) (H.state handle.old)
+            (H.state handle.new) (selection_of indexer.now) elements.now result }
+        ensures indexer_first { WriteRefusedAtSelection (reader_form self.now)
+            (selection_of indexer.now) result }
+        ensures checked_first { RefusedAtData (reader_form self.now)
+            (selection_of indexer.now) elements.now result }
+        ensures untouched { UntouchedAtData (reader_form self.now)
+            (selection_of indexer.now) elements.now (H.state handle.old) (H.state handle.new) }
+        ensures one_write { OnOk result
+            (apart_from_value (H.state handle.new) ≡ after_writing result (H.state handle.old)) }
+        ensures refused { OnErr result
+            (IsRefusedWrite result (H.state handle.old) (H.state handle.new)) }
+        ensures kept_if_atomic { OnErr result
+            (H.atomic ≡ true → (H.state handle.new).value ≡ (H.state handle.old).value) }
         ensures same_reference { H.lent handle.new ≡ H.lent handle.old }
     {
         match codec_in_place(self.chain) {
@@ -45,7 +52,7 @@ impl<'a, B: BytesToBytesCodecTraits> ChunkReader<'a, B> {
 
     /// Whether all codecs of the chain write a part.
     pub(crate) fn encodes_parts(&self) -> bool
-        ensures value { result ≡ (chain_writes B.writes_in_part (reader_form self.now).chain).partial_encode }
+        ensures value { result ≡ form_encodes_parts B.writes_in_part (reader_form self.now) }
     {
         self.chain.partial_encoder_capability().partial_encode
     }

@@ -10,7 +10,7 @@ ghost use Rattle.zarrs_codec.specs.ArrayWriter.{IsRefusedWrite};
 ghost use Rattle.zarrs_codec.specs.ChunkEdits.{data_checked};
 ghost use Rattle.zarrs_codec.specs.StorageState.{after_writing, apart_from_value};
 ghost use Rattle.zarrs_codec_chain.specs.ChainView.{plain_chain, plain_codec};
-ghost use Rattle.zarrs_chain_partial.specs.ChunkWrite.{order_in_place, selection_left, written_places};
+ghost use Rattle.zarrs_chain_partial.specs.ChunkWrite.{order_in_place, selection_left, written_places, WritesSelection, WriteRefusedAtSelection, RefusedAtData, UntouchedAtData, form_written, form_checked, FitsRuns, form_in_place};
 
 use crate::partial_decoder::chunk_reader::ChunkReader;
 use crate::partial_encoder::whole_writer::check_data;
@@ -24,7 +24,8 @@ use zarrs_codec_chain::{ArrayToBytesCodec, CodecChain};
 /// The codec `bytes`, where this is one.
 #[tactic(auto, unfolding(zarrs_codec_chain::specs::ChainView::plain_codec), using(zarrs_codec_chain::specs::ChainView::plain_vlen_at, zarrs_codec_chain::specs::ChainView::plain_optional_at))]
 fn as_bytes<B>(codec: &ArrayToBytesCodec<B>) -> Option<&BytesCodec>
-    ensures value { option_map (λ codec. codec.now) result ≡ order_in_place {B = B} [] (plain_codec codec.now) }
+    ensures value { option_map (λ codec. codec.now) result ≡
+        order_in_place {B = B} [] (plain_codec codec.now) }
 {
     match codec {
         ArrayToBytesCodec::Bytes(codec) => Some(codec),
@@ -36,7 +37,8 @@ fn as_bytes<B>(codec: &ArrayToBytesCodec<B>) -> Option<&BytesCodec>
 
 /// The codec `bytes`, where the chain has no bytes codecs around it.
 pub(crate) fn codec_in_place<B>(chain: &CodecChain<B>) -> Option<&BytesCodec>
-    ensures value { option_map (λ codec. codec.now) result ≡ order_in_place (plain_chain chain.now).outer (plain_chain chain.now).codec }
+    ensures value { option_map (λ codec. codec.now) result ≡
+        order_in_place (plain_chain chain.now).outer (plain_chain chain.now).codec }
 {
     match chain.bytes_to_bytes_codecs() {
         [] => as_bytes(chain.array_to_bytes_codec()),
@@ -56,11 +58,15 @@ impl<'a, B: BytesToBytesCodecTraits> ChunkReader<'a, B> {
         indexer: &Indexer,
         elements: &ArrayBytes<'_>,
     ) -> Result<Vec<(u64, u64)>, CodecError>
-        ensures answer { Gives (λ runs. joined_runs runs.items) result (written_places (reader_form self.now).type (reader_form self.now).chain.arrays (reader_form self.now).sizes (selection_of indexer.now) elements.now) }
-        ensures checked { Answers memory (λ _. tt) result (data_checked (reader_form self.now).sizes (reader_form self.now).type (selection_of indexer.now) elements.now) }
+        ensures answer { Gives (λ runs. joined_runs runs.items) result
+            (form_written (reader_form self.now) (selection_of indexer.now) elements.now) }
+        ensures checked { Answers memory (λ _. tt) result
+            (form_checked (reader_form self.now) (selection_of indexer.now) elements.now) }
         ensures filled { IfOk result (λ runs. All (λ run. 0 < run.1) runs.items) }
-        ensures inside { IfOk result (λ runs. All (λ run. run.0 + run.1 ≤ product self.now.encoded) runs.items) }
-        ensures fit { IfOk result (λ runs. data_fit (reader_form self.now).type (length (joined_runs runs.items)) elements.now ≡ Ok tt) }
+        ensures inside { IfOk result
+            (λ runs. All (λ run. run.0 + run.1 ≤ product self.now.encoded) runs.items) }
+        ensures fit { IfOk result
+            (λ runs. FitsRuns (reader_form self.now) runs.items elements.now) }
     {
         let runs = self.runs(alloc, indexer)?;
         check_data(elements, runs.as_slice(), &self.data_type)?;
@@ -78,14 +84,22 @@ impl<'a, B: BytesToBytesCodecTraits> ChunkReader<'a, B> {
         indexer: &Indexer,
         elements: &ArrayBytes<'_>,
     ) -> Result<(), CodecError>
-        requires in_place { order_in_place (reader_form self.now).chain.outer (reader_form self.now).chain.codec ≡ Some codec.now }
-        ensures answer { Answers memory_or_fault (λ _. (H.state handle.new).value) result (seen Some (selection_left B.functions (reader_form self.now) (Some codec.now) (H.state handle.old).value (selection_of indexer.now) elements.now)) }
-        ensures indexer_first { IfErr (bounds_of (selection_of indexer.now) (reader_form self.now).sizes) (λ cause. Answers memory (λ done. done) result (Err cause)) }
-        ensures checked_first { IfErr (data_checked (reader_form self.now).sizes (reader_form self.now).type (selection_of indexer.now) elements.now) (λ cause. Answers memory (λ done. done) result (Err cause)) }
-        ensures untouched { IfErr (data_checked (reader_form self.now).sizes (reader_form self.now).type (selection_of indexer.now) elements.now) (λ _. H.state handle.new ≡ H.state handle.old) }
-        ensures one_write { OnOk result (apart_from_value (H.state handle.new) ≡ after_writing result (H.state handle.old)) }
-        ensures refused { OnErr result (IsRefusedWrite result (H.state handle.old) (H.state handle.new)) }
-        ensures kept_if_atomic { OnErr result (H.atomic ≡ true → (H.state handle.new).value ≡ (H.state handle.old).value) }
+        requires in_place { form_in_place (reader_form self.now) ≡ Some codec.now }
+        ensures answer { WritesSelection B.functions (reader_form self.now) (Some codec.now)
+            (H.state handle.old) (H.state handle.new)
+            (selection_of indexer.now) elements.now result }
+        ensures indexer_first { WriteRefusedAtSelection (reader_form self.now)
+            (selection_of indexer.now) result }
+        ensures checked_first { RefusedAtData (reader_form self.now)
+            (selection_of indexer.now) elements.now result }
+        ensures untouched { UntouchedAtData (reader_form self.now)
+            (selection_of indexer.now) elements.now (H.state handle.old) (H.state handle.new) }
+        ensures one_write { OnOk result
+            (apart_from_value (H.state handle.new) ≡ after_writing result (H.state handle.old)) }
+        ensures refused { OnErr result
+            (IsRefusedWrite result (H.state handle.old) (H.state handle.new)) }
+        ensures kept_if_atomic { OnErr result
+            (H.atomic ≡ true → (H.state handle.new).value ≡ (H.state handle.old).value) }
         ensures same_reference { H.lent handle.new ≡ H.lent handle.old }
     {
         self.is_sound();

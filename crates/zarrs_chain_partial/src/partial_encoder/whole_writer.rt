@@ -11,7 +11,7 @@ ghost use Rattle.zarrs_array_bytes.specs.Validity.{Holds, data_fit, validity};
 ghost use Rattle.zarrs_codec.specs.ArrayWriter.{IsRefusedWrite};
 ghost use Rattle.zarrs_codec.specs.ChunkEdits.{data_checked, data_places};
 ghost use Rattle.zarrs_codec.specs.StorageState.{after_reading, after_writing, apart_from_value};
-ghost use Rattle.zarrs_chain_partial.specs.ChunkWrite.{edited_value, selection_left, started_chunk, value_left};
+ghost use Rattle.zarrs_chain_partial.specs.ChunkWrite.{edited_value, selection_left, started_chunk, value_left, WritesSelection, WriteRefusedAtSelection, RefusedAtData, UntouchedAtData, IsWhole, RunsInside, FitsRuns, GivesEdited, ReadsNewValue, WritesRuns};
 
 use crate::partial_decoder::chunk_reader::ChunkReader;
 use crate::partial_decoder::fill_runs::count_places;
@@ -46,9 +46,12 @@ fn checked_runs(
     data_type: &DataType,
     elements: &ArrayBytes<'_>,
 ) -> Result<Vec<(u64, u64)>, CodecError>
-    ensures answer { Gives (λ runs. joined_runs runs.items) result (data_places shape.now data_type.now (selection_of indexer.now) elements.now) }
-    ensures below { IfOk result (λ runs. All (λ run. run.0 + run.1 ≤ product shape.now) runs.items) }
-    ensures fit { IfOk result (λ runs. data_fit data_type.now (length (joined_runs runs.items)) elements.now ≡ Ok tt) }
+    ensures answer { Gives (λ runs. joined_runs runs.items) result
+        (data_places shape.now data_type.now (selection_of indexer.now) elements.now) }
+    ensures below { IfOk result
+        (λ runs. All (λ run. run.0 + run.1 ≤ product shape.now) runs.items) }
+    ensures fit { IfOk result
+        (λ runs. data_fit data_type.now (length (joined_runs runs.items)) elements.now ≡ Ok tt) }
 {
     let runs = indexer.runs(alloc, shape)?;
     check_data(elements, runs.as_slice(), data_type)?;
@@ -66,7 +69,8 @@ impl<'a, B: BytesToBytesCodecTraits> ChunkReader<'a, B> {
         alloc: Global,
         handle: &mut H,
     ) -> Result<ArrayBytes<'static>, CodecError>
-        ensures answer { AnswersBy memory_or_fault (Holds (reader_form self.now).type) result (started_chunk B.functions (reader_form self.now) (H.state handle.old).value) }
+        ensures answer { AnswersBy memory_or_fault (Holds (reader_form self.now).type) result
+            (started_chunk B.functions (reader_form self.now) (H.state handle.old).value) }
         ensures left { H.state handle.new ≡ after_reading result (H.state handle.old) }
         ensures same_reference { H.lent handle.new ≡ H.lent handle.old }
     {
@@ -94,10 +98,11 @@ impl<'a, B: BytesToBytesCodecTraits> ChunkReader<'a, B> {
         runs: &[(u64, u64)],
         elements: &ArrayBytes<'_>,
     ) -> Result<ArrayBytesRaw<'static>, CodecError>
-        requires valid { validity (reader_form self.now).type (product (reader_form self.now).sizes) chunk ≡ Ok tt }
-        requires below { All (λ run. run.0 + run.1 ≤ product (reader_form self.now).sizes) runs.now }
-        requires fit { data_fit (reader_form self.now).type (length (joined_runs runs.now)) elements.now ≡ Ok tt }
-        ensures answer { let form = reader_form self.now in Gives items_of result (edited_value B.functions form (elements_of form.type (product form.sizes) chunk.entry) (joined_runs runs.now) elements.now) }
+        requires valid { IsWhole (reader_form self.now) chunk }
+        requires below { RunsInside (reader_form self.now) runs.now }
+        requires fit { FitsRuns (reader_form self.now) runs.now elements.now }
+        ensures answer { GivesEdited B.functions (reader_form self.now)
+            chunk.entry runs.now elements.now result }
     {
         let count = self.shape.num_elements()?;
         let edited = update_runs(alloc, chunk, count, runs, elements, &self.data_type)?;
@@ -119,9 +124,10 @@ impl<'a, B: BytesToBytesCodecTraits> ChunkReader<'a, B> {
         runs: &[(u64, u64)],
         elements: &ArrayBytes<'_>,
     ) -> Result<ArrayBytesRaw<'static>, CodecError>
-        requires below { All (λ run. run.0 + run.1 ≤ product (reader_form self.now).sizes) runs.now }
-        requires fit { data_fit (reader_form self.now).type (length (joined_runs runs.now)) elements.now ≡ Ok tt }
-        ensures answer { Answers memory_or_fault items_of result (value_left B.functions (reader_form self.now) None (H.state handle.old).value (joined_runs runs.now) elements.now) }
+        requires below { RunsInside (reader_form self.now) runs.now }
+        requires fit { FitsRuns (reader_form self.now) runs.now elements.now }
+        ensures answer { ReadsNewValue B.functions (reader_form self.now)
+            (H.state handle.old).value runs.now elements.now result }
         ensures left { H.state handle.new ≡ after_reading result (H.state handle.old) }
         ensures same_reference { H.lent handle.new ≡ H.lent handle.old }
     {
@@ -138,12 +144,16 @@ impl<'a, B: BytesToBytesCodecTraits> ChunkReader<'a, B> {
         runs: &[(u64, u64)],
         elements: &ArrayBytes<'_>,
     ) -> Result<(), CodecError>
-        requires below { All (λ run. run.0 + run.1 ≤ product (reader_form self.now).sizes) runs.now }
-        requires fit { data_fit (reader_form self.now).type (length (joined_runs runs.now)) elements.now ≡ Ok tt }
-        ensures answer { Answers memory_or_fault (λ _. (H.state handle.new).value) result (seen Some (value_left B.functions (reader_form self.now) None (H.state handle.old).value (joined_runs runs.now) elements.now)) }
-        ensures one_write { OnOk result (apart_from_value (H.state handle.new) ≡ after_writing result (H.state handle.old)) }
-        ensures refused { OnErr result (IsRefusedWrite result (H.state handle.old) (H.state handle.new)) }
-        ensures kept_if_atomic { OnErr result (H.atomic ≡ true → (H.state handle.new).value ≡ (H.state handle.old).value) }
+        requires below { RunsInside (reader_form self.now) runs.now }
+        requires fit { FitsRuns (reader_form self.now) runs.now elements.now }
+        ensures answer { WritesRuns B.functions (reader_form self.now)
+            (H.state handle.old) (H.state handle.new) runs.now elements.now result }
+        ensures one_write { OnOk result
+            (apart_from_value (H.state handle.new) ≡ after_writing result (H.state handle.old)) }
+        ensures refused { OnErr result
+            (IsRefusedWrite result (H.state handle.old) (H.state handle.new)) }
+        ensures kept_if_atomic { OnErr result
+            (H.atomic ≡ true → (H.state handle.new).value ≡ (H.state handle.old).value) }
         ensures same_reference { H.lent handle.new ≡ H.lent handle.old }
     {
         let value = self.new_value(alloc, handle, runs, elements)?;
@@ -159,13 +169,21 @@ impl<'a, B: BytesToBytesCodecTraits> ChunkReader<'a, B> {
         indexer: &Indexer,
         elements: &ArrayBytes<'_>,
     ) -> Result<(), CodecError>
-        ensures answer { Answers memory_or_fault (λ _. (H.state handle.new).value) result (seen Some (selection_left B.functions (reader_form self.now) None (H.state handle.old).value (selection_of indexer.now) elements.now)) }
-        ensures indexer_first { IfErr (bounds_of (selection_of indexer.now) (reader_form self.now).sizes) (λ cause. Answers memory (λ done. done) result (Err cause)) }
-        ensures checked_first { IfErr (data_checked (reader_form self.now).sizes (reader_form self.now).type (selection_of indexer.now) elements.now) (λ cause. Answers memory (λ done. done) result (Err cause)) }
-        ensures untouched { IfErr (data_checked (reader_form self.now).sizes (reader_form self.now).type (selection_of indexer.now) elements.now) (λ _. H.state handle.new ≡ H.state handle.old) }
-        ensures one_write { OnOk result (apart_from_value (H.state handle.new) ≡ after_writing result (H.state handle.old)) }
-        ensures refused { OnErr result (IsRefusedWrite result (H.state handle.old) (H.state handle.new)) }
-        ensures kept_if_atomic { OnErr result (H.atomic ≡ true → (H.state handle.new).value ≡ (H.state handle.old).value) }
+        ensures answer { WritesSelection B.functions (reader_form self.now) None
+            (H.state handle.old) (H.state handle.new)
+            (selection_of indexer.now) elements.now result }
+        ensures indexer_first { WriteRefusedAtSelection (reader_form self.now)
+            (selection_of indexer.now) result }
+        ensures checked_first { RefusedAtData (reader_form self.now)
+            (selection_of indexer.now) elements.now result }
+        ensures untouched { UntouchedAtData (reader_form self.now)
+            (selection_of indexer.now) elements.now (H.state handle.old) (H.state handle.new) }
+        ensures one_write { OnOk result
+            (apart_from_value (H.state handle.new) ≡ after_writing result (H.state handle.old)) }
+        ensures refused { OnErr result
+            (IsRefusedWrite result (H.state handle.old) (H.state handle.new)) }
+        ensures kept_if_atomic { OnErr result
+            (H.atomic ≡ true → (H.state handle.new).value ≡ (H.state handle.old).value) }
         ensures same_reference { H.lent handle.new ≡ H.lent handle.old }
     {
         let runs = checked_runs(alloc, indexer, &self.shape, &self.data_type, elements)?;

@@ -1,9 +1,8 @@
-ghost use Rattle.zarrs_metadata.specs.MetadataV3.{configuration_seen, Writes};
-ghost use Rattle.std.specs.Prelude.{◌≡◌, Ok, option_map};
-ghost use Rattle.serde_json.specs.View.{view};
+ghost use Rattle.zarrs_metadata.specs.MetadataV3.{read_by, Writes};
+ghost use Rattle.std.specs.Prelude.{◌≡◌, Ok};
 ghost use Rattle.zarrs_chunk.specs.Answer.{seen};
 ghost use Rattle.zarrs_metadata.specs.BytesConfiguration.{bytes_seen, endianness_named, endianness_in, endianness_name, read_bytes, write_bytes};
-ghost use Rattle.zarrs_metadata.specs.Trees.{optional_key};
+ghost use Rattle.zarrs_metadata.specs.Trees.{lent_tree, optional_key};
 
 use crate::json::{member, members_hold_float};
 use crate::metadata_v3::Configuration;
@@ -37,7 +36,7 @@ fn endianness_by_name(name: &str) -> Option<Endianness>
 }
 
 fn endianness_of(value: Option<&Value>) -> Result<Option<Endianness>, PluginCreateError>
-    ensures { result ≡ optional_key endianness_in (option_map (λ v. view v.now) value.entry) }
+    ensures { result ≡ optional_key endianness_in (lent_tree value.entry) }
 {
     match value {
         None => Ok(None),
@@ -66,7 +65,7 @@ impl BytesCodecConfiguration {
     pub fn from_configuration(
         configuration: &Configuration,
     ) -> Result<BytesCodecConfiguration, PluginCreateError>
-        ensures answer { seen bytes_seen result ≡ read_bytes (configuration_seen configuration.now) }
+        ensures answer { seen bytes_seen result ≡ read_by read_bytes configuration.now }
     {
         if members_hold_float(configuration) {
             return Err(PluginCreateError::InvalidConfiguration);

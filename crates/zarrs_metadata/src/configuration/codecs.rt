@@ -1,8 +1,8 @@
 //! Lists of metadata inside a configuration, which nested chains are made from.
-ghost use Rattle.std.specs.Prelude.{◌≡◌, Ok, map};
+ghost use Rattle.std.specs.Prelude.{Ok};
 ghost use Rattle.serde_json.specs.View.{view, items_view};
 ghost use Rattle.zarrs_metadata.specs.MetadataList.{metadata_among, metadata_at, metadata_list_tree};
-ghost use Rattle.zarrs_metadata.specs.MetadataV3.{metadata_seen, configuration_seen};
+ghost use Rattle.zarrs_metadata.specs.MetadataV3.{metadatas_seen, metadatas_in, read_by};
 ghost use Rattle.zarrs_metadata.specs.PluginCreateError.{Makes};
 
 use crate::json::member;
@@ -12,7 +12,7 @@ use serde_json::Value;
 use std::alloc::Global;
 
 fn among(alloc: Global, items: &Vec<Value>) -> Result<Vec<MetadataV3>, PluginCreateError>
-    ensures { Makes (λ v. map metadata_seen v.items) result (metadata_among (items_view items.now.items)) }
+    ensures { Makes metadatas_in result (metadata_among (items_view items.now.items)) }
 {
     let mut list = Vec::with_capacity(alloc, items.len())?;
     for item in items {
@@ -28,7 +28,7 @@ pub(crate) fn codecs_at(
     configuration: &Configuration,
     key: &str,
 ) -> Result<Vec<MetadataV3>, PluginCreateError>
-    ensures answer { Makes (λ v. map metadata_seen v.items) result (metadata_at key.now (configuration_seen configuration.now)) }
+    ensures answer { Makes metadatas_in result (read_by (metadata_at key.now) configuration.now) }
 {
     let Some(Value::Array(items)) = member(configuration, key) else {
         return Err(PluginCreateError::InvalidConfiguration);
@@ -38,7 +38,7 @@ pub(crate) fn codecs_at(
 
 /// The list of metadata, written. Refusals: `OutOfMemory`.
 pub(crate) fn tree_of_codecs(alloc: Global, list: &[MetadataV3]) -> Result<Value, PluginCreateError>
-    ensures answer { Makes view result (Ok (metadata_list_tree (map metadata_seen list.now))) }
+    ensures answer { Makes view result (Ok (metadata_list_tree (metadatas_seen list.now))) }
 {
     let mut items = Vec::with_capacity(alloc, list.len())?;
     for metadata in list {

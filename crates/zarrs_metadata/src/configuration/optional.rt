@@ -1,4 +1,4 @@
-ghost use Rattle.zarrs_metadata.specs.MetadataV3.{configuration_seen, Writes};
+ghost use Rattle.zarrs_metadata.specs.MetadataV3.{read_by, Writes};
 ghost use Rattle.std.specs.Prelude.{◌≡◌, Ok};
 ghost use Rattle.zarrs_metadata.specs.OptionalConfiguration.{optional_seen, read_optional, write_optional};
 ghost use Rattle.zarrs_metadata.specs.PluginCreateError.{Makes};
@@ -34,7 +34,7 @@ impl OptionalCodecConfiguration {
         alloc: Global,
         configuration: &Configuration,
     ) -> Result<OptionalCodecConfiguration, PluginCreateError>
-        ensures answer { Makes optional_seen result (read_optional (configuration_seen configuration.now)) }
+        ensures answer { Makes optional_seen result (read_by read_optional configuration.now) }
     {
         if members_hold_float(configuration) {
             return Err(PluginCreateError::InvalidConfiguration);

@@ -1,9 +1,9 @@
-ghost use Rattle.zarrs_metadata.specs.MetadataV3.{configuration_seen, Writes};
-ghost use Rattle.std.specs.Prelude.{◌≡◌, Ok, option_map, IfOk};
+ghost use Rattle.zarrs_metadata.specs.MetadataV3.{read_by, Writes};
+ghost use Rattle.std.specs.Prelude.{◌≡◌, Ok};
 ghost use Rattle.serde_json.specs.View.{view};
 ghost use Rattle.zarrs_chunk.specs.Answer.{seen};
 ghost use Rattle.zarrs_metadata.specs.PackBitsConfiguration.{packbits_seen, padding_named, padding_in, padding_or_none, padding_name, bit_tree, are_bits_in_order, read_packbits, write_packbits};
-ghost use Rattle.zarrs_metadata.specs.Trees.{optional_key, whole_number};
+ghost use Rattle.zarrs_metadata.specs.Trees.{lent_tree, optional_key, whole_number};
 
 use crate::codec::packbits::PackBitsPaddingEncoding;
 use crate::json::{member, members_hold_float};
@@ -42,7 +42,7 @@ fn padding_by_name(name: &str) -> Option<PackBitsPaddingEncoding>
 }
 
 fn padding_of(value: Option<&Value>) -> Result<Option<PackBitsPaddingEncoding>, PluginCreateError>
-    ensures { result ≡ optional_key padding_in (option_map (λ v. view v.now) value.entry) }
+    ensures { result ≡ optional_key padding_in (lent_tree value.entry) }
 {
     match value {
         None => Ok(None),
@@ -56,7 +56,7 @@ fn padding_of(value: Option<&Value>) -> Result<Option<PackBitsPaddingEncoding>, 
 }
 
 fn bit_of(value: Option<&Value>) -> Result<Option<u64>, PluginCreateError>
-    ensures { result ≡ optional_key whole_number (option_map (λ v. view v.now) value.entry) }
+    ensures { result ≡ optional_key whole_number (lent_tree value.entry) }
 {
     match value {
         None => Ok(None),
@@ -114,7 +114,7 @@ impl PackBitsCodecConfiguration {
     pub fn from_configuration(
         configuration: &Configuration,
     ) -> Result<PackBitsCodecConfiguration, PluginCreateError>
-        ensures answer { seen packbits_seen result ≡ read_packbits (configuration_seen configuration.now) }
+        ensures answer { seen packbits_seen result ≡ read_by read_packbits configuration.now }
     {
         if members_hold_float(configuration) {
             return Err(PluginCreateError::InvalidConfiguration);

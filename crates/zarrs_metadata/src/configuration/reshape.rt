@@ -1,10 +1,9 @@
-ghost use Rattle.zarrs_metadata.specs.MetadataV3.{configuration_seen, Writes};
+ghost use Rattle.zarrs_metadata.specs.MetadataV3.{read_by, Writes};
 ghost use Rattle.std.specs.Prelude.{◌≡◌, Ok, map, IfOk};
-ghost use Rattle.serde_json.specs.View.{view, items_of, items_view, number_view};
-ghost use Rattle.serde_json.specs.Data.{array};
+ghost use Rattle.serde_json.specs.View.{view, items_view, number_view};
 ghost use Rattle.zarrs_chunk.specs.Answer.{seen};
 ghost use Rattle.zarrs_metadata.specs.PluginCreateError.{Makes};
-ghost use Rattle.zarrs_metadata.specs.ReshapeConfiguration.{reshape_seen, dim_of_number, dim_in, dims_in, dim_tree, read_reshape, write_reshape};
+ghost use Rattle.zarrs_metadata.specs.ReshapeConfiguration.{reshape_seen, dim_of_number, dim_in, dims_in, dim_tree, dims_tree, read_reshape, write_reshape};
 ghost use Rattle.zarrs_metadata.specs.ReshapeShape.{dim_of};
 ghost use Rattle.zarrs_metadata.specs.Trees.{needed, numbers_tree};
 
@@ -74,7 +73,7 @@ fn tree_of_dim(alloc: Global, dim: &ReshapeDim) -> Result<Value, AllocError>
 }
 
 fn tree_of_dims(alloc: Global, dims: &[ReshapeDim]) -> Result<Value, AllocError>
-    ensures { IfOk result (λ tree. view tree ≡ array (items_of (map dim_tree (map dim_of dims.now)))) }
+    ensures { IfOk result (λ tree. view tree ≡ dims_tree (map dim_of dims.now)) }
 {
     let mut items = Vec::with_capacity(alloc, dims.len())?;
     for dim in dims {
@@ -91,7 +90,7 @@ impl ReshapeCodecConfiguration {
         alloc: Global,
         configuration: &Configuration,
     ) -> Result<ReshapeCodecConfiguration, PluginCreateError>
-        ensures answer { Makes reshape_seen result (read_reshape (configuration_seen configuration.now)) }
+        ensures answer { Makes reshape_seen result (read_by read_reshape configuration.now) }
     {
         if members_hold_float(configuration) {
             return Err(PluginCreateError::InvalidConfiguration);

@@ -1,4 +1,4 @@
-ghost use Rattle.zarrs_metadata.specs.MetadataV3.{configuration_seen};
+ghost use Rattle.zarrs_metadata.specs.MetadataV3.{read_by};
 ghost use Rattle.std.specs.Prelude.{◌≡◌};
 ghost use Rattle.serde_json.specs.View.{members_view};
 ghost use Rattle.zarrs_chunk.specs.Answer.{seen};
@@ -27,7 +27,7 @@ impl SqueezeCodecConfiguration {
     pub fn from_configuration(
         configuration: &Configuration,
     ) -> Result<SqueezeCodecConfiguration, PluginCreateError>
-        ensures answer { seen (λ _. tt) result ≡ read_squeeze (configuration_seen configuration.now) }
+        ensures answer { seen (λ _. tt) result ≡ read_by read_squeeze configuration.now }
     {
         if members_hold_float(configuration) {
             return Err(PluginCreateError::InvalidConfiguration);

@@ -1,4 +1,4 @@
-ghost use Rattle.zarrs_metadata.specs.MetadataV3.{configuration_seen, Writes};
+ghost use Rattle.zarrs_metadata.specs.MetadataV3.{read_by, Writes};
 ghost use Rattle.std.specs.Prelude.{◌≡◌, Ok, IfOk};
 ghost use Rattle.serde_json.specs.View.{view};
 ghost use Rattle.zarrs_metadata.specs.PluginCreateError.{Makes};
@@ -62,7 +62,7 @@ impl TransposeCodecConfiguration {
         alloc: Global,
         configuration: &Configuration,
     ) -> Result<TransposeCodecConfiguration, PluginCreateError>
-        ensures answer { Makes transpose_seen result (read_transpose (configuration_seen configuration.now)) }
+        ensures answer { Makes transpose_seen result (read_by read_transpose configuration.now) }
     {
         if members_hold_float(configuration) {
             return Err(PluginCreateError::InvalidConfiguration);

@@ -1,8 +1,8 @@
-ghost use Rattle.std.specs.Prelude.{◌≡◌, Ok, map, option_map, IfOk};
-ghost use Rattle.serde_json.specs.View.{view};
-ghost use Rattle.zarrs_metadata.specs.MetadataV3.{metadata_seen, configuration_seen, Writes};
+ghost use Rattle.std.specs.Prelude.{◌≡◌, Ok};
+ghost use Rattle.zarrs_metadata.specs.MetadataV3.{read_by, Writes};
 ghost use Rattle.zarrs_metadata.specs.PluginCreateError.{Makes};
-ghost use Rattle.zarrs_metadata.specs.VlenConfiguration.{vlen_seen, index_data_type_named, index_location_named, index_data_type_in, index_location_in, index_data_type_name, index_location_name, read_vlen, write_vlen};
+ghost use Rattle.zarrs_metadata.specs.Trees.{lent_tree};
+ghost use Rattle.zarrs_metadata.specs.VlenConfiguration.{vlen_parts, vlen_seen, index_data_type_named, index_location_named, index_data_type_in, index_location_in, index_data_type_name, index_location_name, read_vlen, write_vlen};
 
 use crate::codec::vlen::{VlenIndexDataType, VlenIndexLocation};
 use crate::configuration::codecs::{codecs_at, tree_of_codecs};
@@ -56,7 +56,7 @@ fn index_data_type_by_name(name: &str) -> Option<VlenIndexDataType>
 }
 
 fn index_data_type_of(value: Option<&Value>) -> Result<VlenIndexDataType, PluginCreateError>
-    ensures { result ≡ index_data_type_in (option_map (λ v. view v.now) value.entry) }
+    ensures { result ≡ index_data_type_in (lent_tree value.entry) }
 {
     match value {
         Some(Value::String(name)) => {
@@ -77,7 +77,7 @@ fn index_location_by_name(name: &str) -> Option<VlenIndexLocation>
 }
 
 fn index_location_of(value: Option<&Value>) -> Result<Option<VlenIndexLocation>, PluginCreateError>
-    ensures { result ≡ index_location_in (option_map (λ v. view v.now) value.entry) }
+    ensures { result ≡ index_location_in (lent_tree value.entry) }
 {
     match value {
         None => Ok(None),
@@ -114,7 +114,8 @@ fn of_parts(
     index_data_type: VlenIndexDataType,
     index_location: Option<VlenIndexLocation>,
 ) -> VlenCodecConfiguration
-    ensures { vlen_seen result ≡ record { index_codecs = map metadata_seen index_codecs.items; data_codecs = map metadata_seen data_codecs.items; index_data_type = index_data_type; index_location = index_location } }
+    ensures { vlen_seen result
+        ≡ vlen_parts index_codecs.items data_codecs.items index_data_type index_location }
 {
     match index_location {
         None => VlenCodecConfiguration::V0(VlenCodecConfigurationV0 {
@@ -138,7 +139,8 @@ fn members_of(
     index_data_type: VlenIndexDataType,
     index_location: Option<VlenIndexLocation>,
 ) -> Result<Configuration, PluginCreateError>
-    ensures { Writes result (write_vlen (record { index_codecs = map metadata_seen index_codecs.now; data_codecs = map metadata_seen data_codecs.now; index_data_type = index_data_type; index_location = index_location })) }
+    ensures { Writes result
+        (write_vlen (vlen_parts index_codecs.now data_codecs.now index_data_type index_location)) }
 {
     let index = tree_of_codecs(alloc, index_codecs)?;
     let elements = tree_of_codecs(alloc, data_codecs)?;
@@ -163,7 +165,7 @@ impl VlenCodecConfiguration {
         alloc: Global,
         configuration: &Configuration,
     ) -> Result<VlenCodecConfiguration, PluginCreateError>
-        ensures answer { Makes vlen_seen result (read_vlen (configuration_seen configuration.now)) }
+        ensures answer { Makes vlen_seen result (read_by read_vlen configuration.now) }
     {
         if members_hold_float(configuration) {
             return Err(PluginCreateError::InvalidConfiguration);

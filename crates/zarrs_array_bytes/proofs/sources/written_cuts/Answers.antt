@@ -29,8 +29,8 @@ gather_sources-requires-clause-known c =
     let count : length ps ≡ length c.args.new_offsets.now - 1 = omega (arith, c.requires.enough) in
     subst (λ m. All (IsSourceOf n m) c.as_slice-2.result.now) count (subst (λ (xs : List Source). All (IsSourceOf n (length ps)) xs) from (sources_known n ps))
 
-pub returns-clause-exact : goal.returns-clause-exact
-returns-clause-exact c =
+pub returns : goal.returns
+returns c =
     let n = length c.args.old_offsets.now - 1 in
     let ps = joined_runs c.args.runs.now in
     let places : ps ≡ c.in_ok-places.places.items = cc (c.in_ok-places.ensures.exact.is) in
@@ -40,4 +40,9 @@ returns-clause-exact c =
     let bytes_of = source_bytes (cut c.args.old_offsets.now c.args.old.now) (cut c.args.new_offsets.now c.args.new.now) in
     let all : bytes_with_offsets bytes_of c.as_slice-2.result.now ≡ cuts_update c.args.old_offsets.now c.args.old.now c.args.new_offsets.now c.args.new.now ps =
     ap (bytes_with_offsets bytes_of) from ∙ cuts_update-sources c.args.old_offsets.now c.args.old.now c.args.new_offsets.now c.args.new.now ps c.requires.enough in
-    subst (λ (parts : List ℕ × List ℕ). Answers memory (λ (p : Vec ℕ Global × Vec ℕ Global). (p.0.items, p.1.items)) c.gather_sources.result (Ok parts)) all c.gather_sources.ensures.exact
+    record {
+      exact = record {
+        is = subst (λ (parts : List ℕ × List ℕ). Answers memory (λ (p : Vec ℕ Global × Vec ℕ Global). (p.0.items, p.1.items)) c.gather_sources.result (Ok parts)) all c.gather_sources.ensures.exact.is;
+        no_fault = c.gather_sources.ensures.exact.no_fault;
+      };
+    }

@@ -1,4 +1,4 @@
-use Rattle.std.proofs.Common.{◌≡◌, ◌-◌, [], Ok, length, get_or, drop, arith, sym, ap, ◌∙◌}
+use Rattle.std.proofs.Common.{rules, ◌≡◌, ◌-◌, [], Ok, length, get_or, drop, arith, sym, ap, ◌∙◌}
 use Rattle.std.specs.List.{range_with_len}
 use Rattle.std.proofs.lemmas.List.{drop_all}
 use Rattle.zarrs_array_bytes.specs.Elements.{cut}
@@ -34,8 +34,8 @@ loop-run-preserved c =
       left = omega (arith, left_of_runs 1 runs i c.loop-run-test.true, c.loop-run.invariant.left);
     }
 
-pub returns-clause-exact : goal.returns-clause-exact
-returns-clause-exact c =
+pub returns : goal.returns
+returns c =
     let runs = c.args.runs.now in
     let os = c.args.old_offsets.now in
     let n = length os - 1 in
@@ -43,7 +43,8 @@ returns-clause-exact c =
     let g = cut c.args.new_offsets.now c.args.new.now in
     let last = with_parts_is f (range_with_len c.loop-run.at (n - c.loop-run.at)) c.loop-run.bytes.items c.loop-run.ends.items c.append_cuts-2.new.out.items c.append_cuts-2.new.ends.items c.in_ok-append_cuts-3.ensures.bytes c.in_ok-append_cuts-3.ensures.ends in
     let none : drop c.loop-run.run-index runs ≡ [] = drop_all c.loop-run.run-index runs (omega arith) in
-    ap Ok (cuts_update-spliced os c.args.old.now c.args.new_offsets.now c.args.new.now runs c.requires.enough c.requires.rising c.requires.inside
+    let is = cuts_update-spliced os c.args.old.now c.args.new_offsets.now c.args.new.now runs c.requires.enough c.requires.rising c.requires.inside
     ∙ sym c.loop-run.invariant.told
     ∙ ap (λ rs. with_parts (c.loop-run.bytes.items, c.loop-run.ends.items) (spliced f g n c.loop-run.at c.loop-run.done rs)) none
-    ∙ sym last)
+    ∙ sym last in
+    record { exact = record { is = ap Ok is; no_fault = search rules } }

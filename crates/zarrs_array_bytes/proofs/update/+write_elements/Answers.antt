@@ -25,8 +25,8 @@ write_variable-requires-clause-enough t c =
     let kind : IsOk (variable_part c.args.new.now) = variable_too InvalidBytesLength data_mismatch c.args.data_type.now c.args.count (length (joined_runs c.args.runs.now)) _ _ c.args.new.now (rw seen at c.requires.valid) c.requires.data_valid in
     variable_count data_mismatch c.args.data_type.now (length (joined_runs c.args.runs.now)) c.args.new.now c.requires.data_valid kind
 
-pub returns-in-Fixed-clause-exact : goal.returns-in-Fixed-clause-exact
-returns-in-Fixed-clause-exact t c =
+pub returns-in-Fixed : goal.returns-in-Fixed
+returns-in-Fixed t c =
     let old = raw_of c.in-Fixed.old in
     let type = c.args.data_type.now in
     let new = c.args.new.now in
@@ -36,10 +36,15 @@ returns-in-Fixed-clause-exact t c =
     let are : flen (owned_bytes (with_runs c.unwrap-size.result old.items runs (bytes_in new))) ≡ container_update type c.args.count c.args.array (length (joined_runs runs)) new (joined_runs runs) =
     sym (ap (λ h. container_update type c.args.count h (length (joined_runs runs)) new (joined_runs runs)) seen
     ∙ written_fixed InvalidBytesLength data_mismatch type c.args.count old new runs c.unwrap-size.result (rw seen at c.requires.valid) c.requires.data_valid size c.requires.inside) in
-    subst (λ (h : Held). Answers memory (λ (a : Held). a) c.write_fixed.result (Ok h)) (ap (λ b. flen (owned_bytes (with_runs c.unwrap-size.result (raw_of b).items runs (bytes_in new)))) c.in-Fixed.old-is ∙ are) c.write_fixed.ensures.exact.is
+    record {
+      exact = record {
+        is = subst (λ (h : Held). Answers memory (λ (a : Held). a) c.write_fixed.result (Ok h)) (ap (λ b. flen (owned_bytes (with_runs c.unwrap-size.result (raw_of b).items runs (bytes_in new)))) c.in-Fixed.old-is ∙ are) c.write_fixed.ensures.exact.is;
+        no_fault = c.write_fixed.ensures.exact.no_fault;
+      };
+    }
 
-pub returns-in-Variable-clause-exact : goal.returns-in-Variable-clause-exact
-returns-in-Variable-clause-exact t c =
+pub returns-in-Variable : goal.returns-in-Variable
+returns-in-Variable t c =
     let old = raw_of c.in-Variable.old in
     let type = c.args.data_type.now in
     let new = c.args.new.now in
@@ -48,5 +53,10 @@ returns-in-Variable-clause-exact t c =
     let are : variable_of (cuts_update c.in-Variable.offsets old.items (offsets_in new) (bytes_in new) places) ≡ container_update type c.args.count c.args.array (length places) new places =
     sym (ap (λ h. container_update type c.args.count h (length places) new places) seen
     ∙ written_variable InvalidBytesLength data_mismatch type c.args.count old c.in-Variable.offsets new places (rw seen at c.requires.valid) c.requires.data_valid) in
-    subst (λ (h : Held). Answers memory (λ (a : Held). a) c.write_variable.result (Ok h))
-    (ap₂ (λ b os. variable_of (cuts_update os (raw_of b).items (offsets_in new) (bytes_in new) places)) c.in-Variable.old-is c.in-Variable.offsets-is ∙ are) c.write_variable.ensures.exact
+    record {
+      exact = record {
+        is = subst (λ (h : Held). Answers memory (λ (a : Held). a) c.write_variable.result (Ok h))
+            (ap₂ (λ b os. variable_of (cuts_update os (raw_of b).items (offsets_in new) (bytes_in new) places)) c.in-Variable.old-is c.in-Variable.offsets-is ∙ are) c.write_variable.ensures.exact.is;
+        no_fault = c.write_variable.ensures.exact.no_fault;
+      };
+    }

@@ -16,6 +16,6 @@ pub returns : goal.returns
 returns c =
     let fit = sym (c.in_ok-check_update.ensures {u = tt}).exact in
     record {
-      answer = record { is = runs_answers c.args.data_type.now c.args.count c.args.array c.args.new.now (joined_runs c.args.runs.now) c.write_elements.result fit c.write_elements.ensures.exact; no_fault = search rules };
-      blank = updated_blank c.args.data_type.now c.args.count c.args.array c.args.new.now (joined_runs c.args.runs.now) c.write_elements.result fit c.write_elements.ensures.exact;
+      answer = record { is = runs_answers c.args.data_type.now c.args.count c.args.array c.args.new.now (joined_runs c.args.runs.now) c.write_elements.result fit c.write_elements.ensures.exact.is; no_fault = search rules };
+      blank = updated_blank c.args.data_type.now c.args.count c.args.array c.args.new.now (joined_runs c.args.runs.now) c.write_elements.result fit c.write_elements.ensures.exact.is;
     }

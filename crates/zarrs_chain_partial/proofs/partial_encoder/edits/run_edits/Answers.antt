@@ -2,7 +2,7 @@ use Rattle.std.proofs.Common.{◌≡◌, ◌<◌, false, length, take, Ok, Err, 
 use Rattle.std.specs.List.{All}
 use Rattle.std.proofs.lemmas.List.{take_all}
 use Rattle.std.proofs.lemmas.List.Elements.{All-more}
-use Rattle.zarrs_chain_partial.specs.Edits.{edited_store, edit_excuse, excuse_at, stores_edited, EditHasBytes}
+use Rattle.zarrs_chain_partial.specs.Edits.{edited_store, excuse_at, stores_edited, EditHasBytes}
 use Rattle.zarrs_chain_partial.specs.PartialEncoder.{encoder_form, encoder_handle}
 use Rattle.zarrs_chain_partial.proofs.EditLaws.{edits_accepted, edits_more, edits_written, excuse_is, more_refused}
 use Rattle.zarrs_chain_partial.proofs.EditRuns.{left_more, refused_left, unwritten_left}

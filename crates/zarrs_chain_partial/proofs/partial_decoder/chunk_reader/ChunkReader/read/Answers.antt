@@ -17,7 +17,7 @@ pub returns-in_err-runs-clause-sure : goal.returns-in_err-runs-clause-sure
 returns-in_err-runs-clause-sure g c =
     let form = reader_form c.args.self.now in
     let p = err_from_is_err_and c.from_residual.result c.from_residual.ensures.1 in
-    rw (p.1, p.2) (sure_anyway g.B.BytesToBytesCodecTraits.functions form (selection_of c.args.indexer.now) (g.H.BytesPartialDecoderTraits.state c.args.handle.now).sure _ c.in_err-runs.ensures.answer.no_fault)
+    rw (p.1, p.2) (sure_anyway g.B.BytesToBytesCodecTraits.functions form (g.H.BytesPartialDecoderTraits.state c.args.handle.now) (selection_of c.args.indexer.now) _ c.in_err-runs.ensures.answer.no_fault)
 
 pub returns-clause-indexer_first : goal.returns-clause-indexer_first
 returns-clause-indexer_first g c =
@@ -28,4 +28,4 @@ pub returns-clause-sure : goal.returns-clause-sure
 returns-clause-sure g c =
     let k = c.args.self.now in
     let places = c.in_ok-runs.ensures.answer.is ∙ ap (λ rs. ok (joined_runs rs)) (sym c.deref.ensures.value) in
-    where_sure g.B.BytesToBytesCodecTraits.functions (reader_form k) (selection_of c.args.indexer.now) (g.H.BytesPartialDecoderTraits.state c.args.handle.now).sure _ k.encoded k.representation (joined_runs c.deref.result.now) places k.taken c.read_runs.ensures.sure
+    where_sure g.B.BytesToBytesCodecTraits.functions (reader_form k) (g.H.BytesPartialDecoderTraits.state c.args.handle.now) (selection_of c.args.indexer.now) _ k.encoded k.representation (joined_runs c.deref.result.now) places k.taken c.read_runs.ensures.sure

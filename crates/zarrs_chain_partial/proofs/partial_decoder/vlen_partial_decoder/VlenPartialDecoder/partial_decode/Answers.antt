@@ -23,5 +23,5 @@ returns-clause-unstored g c here =
     let d = c.args.self.now in
     let selection = selection_of c.args.indexer.now in
     subst (λ expected. AnswersBy memory_or_fault (Holds d.data_type) c.read.result expected)
-    (ap (λ stored. codec_stored_read f (vlen_form_of d) stored selection) here ∙ vlen_fills f d.codec.now d.shape d.data_type d.fill_value selection)
+    (ap (λ stored. codec_stored_read f (vlen_form_of d) stored selection) here ∙ vlen_fills f d.codec.now d.shape d.data_type d.fill_value selection d.taken)
     c.read.ensures.answer

@@ -4,7 +4,7 @@ use Rattle.zarrs_chunk.specs.ChunkShape.{product}
 use Rattle.zarrs_chunk.specs.Runs.{joined_runs}
 use Rattle.zarrs_array_bytes.specs.Validity.{Holds}
 use Rattle.zarrs_chain_partial.proofs.VlenReads.{count_is, vlen_chosen}
-use Rattle.zarrs_chain_partial.proofs.partial_decoder.vlen_partial_decoder.read_runs.Goals as goal
+use Rattle.zarrs_chain_partial.proofs.partial_decoder.vlen_runs.runs_of_value.Goals as goal
 
 pub returns-in_ok-count-in-Some : goal.returns-in_ok-count-in-Some
 returns-in_ok-count-in-Some g c =

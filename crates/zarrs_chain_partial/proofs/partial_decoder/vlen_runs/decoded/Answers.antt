@@ -1,6 +1,6 @@
 use Rattle.std.proofs.Common.{rules}
 use Rattle.zarrs_chain_partial.proofs.VlenReads.{vlen_decoded, vlen_valid}
-use Rattle.zarrs_chain_partial.proofs.partial_decoder.vlen_partial_decoder.decoded.Goals as goal
+use Rattle.zarrs_chain_partial.proofs.partial_decoder.vlen_runs.decoded.Goals as goal
 
 pub returns-clause-answer : goal.returns-clause-answer
 returns-clause-answer g c =
