@@ -28,6 +28,8 @@ mod metadata;
 #[cfg(test)]
 mod refusals;
 #[cfg(test)]
+mod regions;
+#[cfg(test)]
 mod stages;
 #[cfg(test)]
 mod tables;

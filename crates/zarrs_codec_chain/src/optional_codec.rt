@@ -183,7 +183,8 @@ fn content_encode<'a, B: BytesToBytesCodecTraits>(
     requires valid { validity (optional inner.now) (product shape.now) elements ≡ Ok tt }
     requires counted { checked_u64 (product shape.now) ≡ Ok (product shape.now) }
     ensures answer { Gives items_of result
-        (optional_content B.functions (plain_optional codec.now) shape.now inner.now elements.entry) }
+        (optional_content B.functions (plain_optional codec.now)
+        shape.now inner.now elements.entry) }
 {
     let (inside, mask, count) = masked_parts(elements)?;
     let present = inside.extract_present(alloc, lent(&mask), inner)?;

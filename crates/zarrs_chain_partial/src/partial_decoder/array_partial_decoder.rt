@@ -1,4 +1,4 @@
-ghost use Rattle.zarrs_chain_partial.specs.PartialDecoder.{DecoderReads, KeepsCache};
+ghost use Rattle.zarrs_chain_partial.specs.ChunkReader.{IsFilledFrom, reader_form, reader_is_cached, reader_source};
 ghost use Rattle.std.specs.Prelude.{◌≡◌, ◌<◌, ◌&&◌, Ok, IsOkAnd, None, option_map, is_some, true, false};
 ghost use Rattle.std.proofs.Props.{props};
 ghost use Rattle.zarrs_chunk.specs.Answer.{Answers, fault, memory, is_fault, GivesBy};
@@ -7,7 +7,6 @@ ghost use Rattle.zarrs_chain_parts.specs.Chain.{chain_reads};
 ghost use Rattle.zarrs_chain_partial.specs.ChunkRead.{IsReadPlan, planned_places, ReadsChunk, PlansRead, form_decodes_parts};
 ghost use Rattle.zarrs_chain_partial.specs.ChunkSource.{IsSizeOf, source_made};
 ghost use Rattle.zarrs_chain_partial.specs.ElementCode.{Chunk-set};
-ghost use Rattle.zarrs_chain_partial.specs.ChunkReader.{IsFilledFrom, reader_form, reader_is_cached, reader_source};
 
 use crate::partial_decoder::chunk_reader::ChunkReader;
 use std::alloc::Global;
@@ -36,7 +35,7 @@ pub struct ArrayPartialDecoder<'a, H: BytesPartialDecoderTraits, B: BytesToBytes
 }
 
 impl<'a, H: BytesPartialDecoderTraits, B: BytesToBytesCodecTraits> ArrayPartialDecoder<'a, H, B> {
-    ghost use Rattle.zarrs_chain_partial.specs.PartialDecoder.{decoder_held, form_of, handle_of, is_cached, DecoderLeaves};
+    ghost use Rattle.zarrs_chain_partial.specs.PartialDecoder.{decoder_held, form_of, handle_of, is_cached, DecoderLeaves, DecoderReads, KeepsCache};
 
     /// The type of the elements.
     pub fn data_type(&self) -> &DataType

@@ -1,6 +1,5 @@
 //! Reading a chunk in part through a chain, over a handle that the caller keeps.
 ghost use Rattle.zarrs_data_type.specs.Form.{form_of};
-ghost use Rattle.zarrs_chain_partial.specs.ChunkReader.{MeasuresReader, MakesReader, reader_reads_parts, stored_source, kept_source, GivesSource, ReadsSource, GivesOpened, SureSource, reader_read, is_reader_cache, ReadsSelection};
 ghost use Rattle.std.specs.Prelude.{◌≡◌, ◌<◌, ◌≤◌, ◌+◌, ◌^◌, All, Ok, Err, IfOk, IfErr, Some, None, length, option_map, is_ok, is_some, true, false};
 ghost use Rattle.zarrs_chunk.specs.Answer.{Answers, AnswersBy, fault, memory, memory_or_fault, is_fault, seen, Gives, GivesBy};
 ghost use Rattle.zarrs_chunk.specs.ChunkShape.{product};
@@ -61,7 +60,7 @@ pub(crate) struct ChunkReader<'a, B: BytesToBytesCodecTraits> {
 }
 
 impl<'a, B: BytesToBytesCodecTraits> ChunkReader<'a, B> {
-    ghost use Rattle.zarrs_chain_partial.specs.ChunkReader.{IsFilledFrom, reader_form, reader_is_cached, reader_source};
+    ghost use Rattle.zarrs_chain_partial.specs.ChunkReader.{IsFilledFrom, reader_form, reader_is_cached, reader_source, MeasuresReader, MakesReader, reader_reads_parts, stored_source, kept_source, GivesSource, ReadsSource, GivesOpened, SureSource, is_reader_cache, ReadsSelection};
 
     /// A reader of such a chunk without a cache. Refusals: those of the chain's representation.
     pub(crate) fn uncached(

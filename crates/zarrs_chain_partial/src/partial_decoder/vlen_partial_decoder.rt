@@ -1,7 +1,6 @@
 ghost use Rattle.zarrs_data_type.specs.Form.{form_of};
 ghost use Rattle.zarrs_chain_parts.specs.CallAnswers.{codec_represented};
 ghost use Rattle.zarrs_chain_partial.specs.ChunkRead.{TakenBy, MadeWhereTaken};
-ghost use Rattle.zarrs_chain_partial.specs.VlenPartialDecoder.{VlenReads, VlenRefusedAtSelection, SureVlen, VlenSelects, VlenFills, HasCodecForm};
 ghost use Rattle.std.specs.Prelude.{◌≡◌, ◌<◌, ◌≤◌, ◌+◌, ◌^◌, ◌&&◌, ℕ, List, Ok, Err, IfOk, IfErr, All, Some, None, is_ok, is_some, length, map, option_map, true, false};
 ghost use Rattle.zarrs_chunk.specs.Answer.{Answers, AnswersBy, fault, memory, memory_or_fault, is_fault, seen, Gives, GivesBy};
 ghost use Rattle.zarrs_chunk.specs.ChunkShape.{product};
@@ -89,7 +88,7 @@ pub trait VlenCodecPartialTraits<B: BytesToBytesCodecTraits> {
 }
 
 impl<B: BytesToBytesCodecTraits> VlenCodecPartialTraits<B> for VlenCodec<B> {
-    ghost use Rattle.zarrs_chain_partial.specs.VlenPartialDecoder.{vlen_form_of, vlen_handle_of};
+    ghost use Rattle.zarrs_chain_partial.specs.VlenPartialDecoder.{vlen_form_of, vlen_handle_of, HasCodecForm};
 
     /// A decoder of a chunk in part, over a handle. Refusals, the first that holds: those of
     /// `encoded_representation`; `OutOfMemory`. A refusal hands the handle back as it was.
@@ -122,7 +121,7 @@ impl<B: BytesToBytesCodecTraits> VlenCodecPartialTraits<B> for VlenCodec<B> {
 }
 
 impl<'a, H: BytesPartialDecoderTraits, B: BytesToBytesCodecTraits> VlenPartialDecoder<'a, H, B> {
-    ghost use Rattle.zarrs_chain_partial.specs.VlenPartialDecoder.{codec_stored_read, CodecWhereSure, vlen_form_of, vlen_handle_of};
+    ghost use Rattle.zarrs_chain_partial.specs.VlenPartialDecoder.{codec_stored_read, CodecWhereSure, vlen_form_of, vlen_handle_of, VlenReads, VlenRefusedAtSelection, SureVlen, VlenSelects, VlenFills};
 
     /// The type of the elements.
     pub fn data_type(&self) -> &DataType

@@ -1,4 +1,4 @@
-ghost use Rattle.zarrs_chain_partial.specs.PartialEncoder.{EncoderGives, EncoderLeaves};
+ghost use Rattle.zarrs_chain_partial.specs.ChunkReader.{reader_is_cached};
 ghost use Rattle.std.specs.Prelude.{◌≡◌, ◌<◌, ◌&&◌, All, Ok, None, option_map, is_some, true, false};
 ghost use Rattle.zarrs_chunk.specs.Answer.{Answers, fault, memory, is_fault, GivesBy};
 ghost use Rattle.zarrs_chunk.specs.Indexer.{selection_of};
@@ -6,7 +6,6 @@ ghost use Rattle.zarrs_codec.specs.BytesToBytesCodec.{AreBytes};
 ghost use Rattle.zarrs_chain_parts.specs.Chain.{chain_reads, chain_writes};
 ghost use Rattle.zarrs_chain_partial.specs.ChunkWrite.{EditsChunk, form_encodes_parts};
 ghost use Rattle.zarrs_chain_partial.specs.ChunkRead.{IsReadPlan, planned_places, ReadsChunk, PlansRead, form_decodes_parts};
-ghost use Rattle.zarrs_chain_partial.specs.ChunkReader.{reader_is_cached};
 ghost use Rattle.zarrs_chain_parts.specs.Laws.{IsChainOfMappings};
 
 use crate::partial_decoder::array_partial_decoder::ArrayPartialDecoder;
@@ -38,7 +37,7 @@ pub struct ArrayPartialEncoder<'a, H: BytesPartialEncoderTraits, B: BytesToBytes
 
 impl<'a, H: BytesPartialEncoderTraits, B: BytesToBytesCodecTraits> ArrayPartialEncoder<'a, H, B> {
     ghost use Rattle.zarrs_chain_partial.specs.PartialDecoder.{form_of, handle_of, is_cached};
-    ghost use Rattle.zarrs_chain_partial.specs.PartialEncoder.{encoder_form, encoder_handle, encoder_value, EncoderReads, EncoderWrites, EncoderWritesOnce};
+    ghost use Rattle.zarrs_chain_partial.specs.PartialEncoder.{encoder_form, encoder_handle, encoder_value, EncoderReads, EncoderWrites, EncoderWritesOnce, EncoderGives, EncoderLeaves};
 
     /// What the chain, the shape and the fill value are made of holds.
     pub(crate) fn is_sound(&self)

@@ -1,0 +1,94 @@
+-- The last window of a region with its elements, encoded from those of the region.
+use Rattle.std.proofs.Common.{◌≡◌, ℕ, List, length, Result, Ok, Err, refl, ap, ap₂, ◌∙◌, sym, subst}
+use Rattle.std.specs.Prelude.{IfOk}
+use Rattle.zarrs_chunk.specs.Answer.{GivesBy}
+use Rattle.zarrs_chunk.specs.ChunkShape.{product}
+use Rattle.zarrs_chunk.specs.Region.{Region}
+use Rattle.zarrs_chunk.specs.declared.codec_error.CodecError.{CodecError}
+use Rattle.zarrs_data_type.specs.Element.{Chunk}
+use Rattle.zarrs_data_type.specs.ElementType.{ElementType}
+use Rattle.zarrs_array_bytes.specs.Elements.{elements}
+use Rattle.zarrs_array_bytes.specs.Held.{Held}
+use Rattle.zarrs_array_bytes.specs.Validity.{Holds, validity}
+use Rattle.zarrs_codec.specs.CoordinateMap.{IsCoordinateMap, moved_chunk}
+use Rattle.zarrs_array_to_array.specs.ArrayToArrayCodec.{ArrayMapping, transpose, reshape, squeeze}
+use Rattle.zarrs_array_to_array.proofs.CoordinateMaps.{kept_places, length-moved, moved_twice, same_places_map, composed_map}
+use Rattle.zarrs_array_regions.specs.declared.window.Window.{Window}
+use Rattle.zarrs_array_regions.specs.Parts.{part_encoded}
+use Rattle.zarrs_array_regions.specs.Windows.{IsWindow, window_of, part_map, region_map, encoded_of, IsEncodedWindow}
+use Rattle.zarrs_array_regions.proofs.WindowCalls.{WindowStep, WindowStays}
+use Rattle.zarrs_array_regions.proofs.HeldElements.{length-elements, holds_own}
+
+-- the elements of the next window are those of the region, moved
+part_is_encoded : (codec : ArrayMapping) (type : ElementType) (sizes : List ℕ) (region : Region) (held : Held) → product (part_map codec (window_of sizes region)).encoded ≡ product region.lengths
+    → part_encoded codec type region held ≡ moved_chunk (part_map codec (window_of sizes region)) (elements type (product region.lengths) held)
+part_is_encoded (transpose order) type sizes region held n = refl
+part_is_encoded (reshape dims) type sizes region held n = sym (kept_places region.lengths (elements type (product region.lengths) held) (length-elements type (product region.lengths) held))
+part_is_encoded squeeze type sizes region held n = sym (kept_places (part_map squeeze (window_of sizes region)).encoded (elements type (product region.lengths) held) (length-elements type (product region.lengths) held ∙ sym n))
+
+-- where the window stays, so do its elements
+pub encoded_stay : (all : List ArrayMapping) (sizes : List ℕ) (region : Region) (type : ElementType) (window : Window) (held : Held) → WindowStays all sizes region → window ≡ window_of sizes region → validity type (product region.lengths) held ≡ Ok tt → IsEncodedWindow type (window, held) (encoded_of all type (window_of sizes region) held)
+encoded_stay all sizes region type window held s is v = (
+  is ∙ sym s.last_is,
+  subst (Holds type held)
+      (sym (kept_places region.lengths (elements type (product region.lengths) held) (length-elements type (product region.lengths) held)) ∙ sym (ap (λ m. moved_chunk m (elements type (product region.lengths) held)) s.map_is))
+      (holds_own type (product region.lengths) held v),
+)
+
+pub map_stays : (all : List ArrayMapping) (sizes : List ℕ) (region : Region) → WindowStays all sizes region → IsCoordinateMap region.lengths (region_map all (window_of sizes region))
+map_stays all sizes region s = subst (IsCoordinateMap region.lengths) (sym s.map_is) (same_places_map region.lengths region.lengths refl (λ p. p))
+
+module _ (all codecs : List ArrayMapping) (codec : ArrayMapping) (sizes : List ℕ) (region : Region) (next : Window) (s : WindowStep all codecs codec sizes region next) where
+  map_goes : IsCoordinateMap next.region.lengths (region_map codecs next) → IsCoordinateMap region.lengths (region_map all (window_of sizes region))
+  map_goes is =
+      subst (IsCoordinateMap region.lengths) (sym s.map_is)
+      (composed_map region.lengths (part_map codec (window_of sizes region)) (region_map codecs next) s.part_is (subst (λ ls. IsCoordinateMap ls (region_map codecs next)) (sym s.encoded) is))
+
+  pub map_goes_on : {T : Type 0} (r : Result T CodecError) → IfOk r (λ _. IsCoordinateMap next.region.lengths (region_map codecs next)) → IfOk r (λ _. IsCoordinateMap region.lengths (region_map all (window_of sizes region)))
+  map_goes_on (Ok x) is = map_goes is
+  map_goes_on (Err e) is = tt
+
+  module _ (type : ElementType) (held above : Held) (encoded : Holds type above (part_encoded codec type region held)) where
+    abbrev moved : Chunk
+    moved = moved_chunk (part_map codec (window_of sizes region)) (elements type (product region.lengths) held)
+
+    holds_moved : Holds type above moved
+    holds_moved = subst (Holds type above) (part_is_encoded codec type sizes region held (ap product s.encoded ∙ s.count)) encoded
+
+    counted : length moved ≡ product next.region.lengths
+    counted = length-moved (part_map codec (window_of sizes region)) (elements type (product region.lengths) held) ∙ ap product s.encoded
+
+    pub above_valid : validity type (product next.region.lengths) above ≡ Ok tt
+    above_valid = subst (λ n. validity type n above ≡ Ok tt) counted holds_moved.valid
+
+    encoded_is : IsCoordinateMap next.region.lengths (region_map codecs next) → encoded_of codecs type next above ≡ encoded_of all type (window_of sizes region) held
+    encoded_is rest_is =
+        let own : elements type (product next.region.lengths) above ≡ moved = ap (λ n. elements type n above) (sym counted) ∙ holds_moved.elements_are in
+        let there : IsCoordinateMap (part_map codec (window_of sizes region)).encoded (region_map codecs next) = subst (λ ls. IsCoordinateMap ls (region_map codecs next)) (sym s.encoded) rest_is in
+        let chunk : Chunk = elements type (product region.lengths) held in
+        let same : moved_chunk (region_map codecs next) (elements type (product next.region.lengths) above) ≡ moved_chunk (region_map all (window_of sizes region)) chunk
+        = ap (moved_chunk (region_map codecs next)) own
+        ∙ sym (moved_twice region.lengths (part_map codec (window_of sizes region)) (region_map codecs next) chunk s.part_is there)
+        ∙ sym (ap (λ m. moved_chunk m chunk) s.map_is) in
+        ap₂ (λ (w : Window) (c : Chunk). pair w c) (sym s.last_is) same
+      where
+        pair : Window → Chunk → Window × Chunk
+        pair w c = (w, c)
+
+    pub encoded_here : (r : Result (Window × Held) CodecError) → GivesBy (IsEncodedWindow type) r (Ok (encoded_of codecs type next above)) → IfOk r (λ _. IsCoordinateMap next.region.lengths (region_map codecs next)) → GivesBy (IsEncodedWindow type) r (Ok (encoded_of all type (window_of sizes region) held))
+    encoded_here (Ok x) g is = subst (λ (e : Window × Chunk). GivesBy (IsEncodedWindow type) (Ok x) (Ok e)) (encoded_is is) g
+    encoded_here (Err e) g is = refused e g
+      where
+        bad : (v : Window × Chunk) (e : CodecError) → ◌≡◌ {A = Result (Window × Chunk) CodecError} (Ok v) (Err e) → ⊥
+        bad v e x = cc
+
+        refused : (e : CodecError) → GivesBy {T = Window × Held} (IsEncodedWindow type) (Err e) (Ok (encoded_of codecs type next above)) → GivesBy {T = Window × Held} (IsEncodedWindow type) (Err e) (Ok (encoded_of all type (window_of sizes region) held))
+        refused e g = record { is = λ m. absurd (bad (encoded_of codecs type next above) e (g.is m)); no_fault = g.no_fault }
+
+-- ---- answers of calls
+
+pub window_is : (x y : Window) → ◌≡◌ {A = Result Window CodecError} (Ok x) (Ok y) → y ≡ x
+window_is x y e = cc
+
+pub inside_here : (r : Result (Window × Held) CodecError) (count other : ℕ) → count ≡ other → IfOk r (λ answer. IsWindow count answer.0) → IfOk r (λ answer. IsWindow other answer.0)
+inside_here r count other e h = subst (λ n. IfOk r (λ answer. IsWindow n answer.0)) e h

@@ -1,0 +1,103 @@
+-- Chains of codecs keep regions.
+use Rattle.std.proofs.Common.{◌≡◌, ◌==◌, ℕ, suc, ◌<◌, true, Option, Some, None, List, [], ◌∷◌, length, Ok, arith, refl, ap, ◌∙◌, sym, subst}
+use Rattle.std.specs.List.{All, list_all}
+use Rattle.std.proofs.lemmas.Bool.{and_parts}
+use Rattle.zarrs_chunk.specs.Answer.{◌>>=◌, demand}
+use Rattle.zarrs_chunk.specs.ChunkShape.{product}
+use Rattle.zarrs_chunk.specs.Region.{Region}
+use Rattle.zarrs_chunk.specs.Tuples.{is_box_inside}
+use Rattle.zarrs_chunk.specs.declared.codec_error.CodecError.TheVariants.{IncompatibleDimensionality}
+use Rattle.zarrs_codec.specs.CoordinateMap.{CoordinateMap, same_places, composition}
+use Rattle.zarrs_array_to_array.specs.ArrayToArrayCodec.{ArrayMapping, transpose, reshape, squeeze, IsMapping, coordinates, chained}
+use Rattle.zarrs_array_to_array.specs.Reshape.{reshaped}
+use Rattle.zarrs_array_to_array.specs.Squeeze.{squeezed}
+use Rattle.zarrs_array_to_array.specs.Transpose.{transposition}
+use Rattle.zarrs_array_to_array.proofs.AnswerSteps.{step_ok}
+use Rattle.zarrs_array_to_array.proofs.Chains.{codec_map}
+use Rattle.zarrs_array_regions.specs.declared.window.Window.{Window}
+use Rattle.zarrs_array_regions.specs.KeptRegions.{keeps_places, keeps_regions}
+use Rattle.zarrs_array_regions.specs.Windows.{KeepsWindow, window_of, next_window, part_map, behind, last_window, region_map}
+use Rattle.zarrs_array_regions.proofs.WindowMaps.{windows_compose, here_is}
+use Rattle.zarrs_array_regions.proofs.KeptWindows.{codec_keeps, same_keeps, map_is}
+
+-- ---- places that stay
+
+place_stays : (codec : ArrayMapping) (sizes : List ℕ) (m : CoordinateMap) (place : ℕ) → keeps_places codec ≡ true → coordinates codec sizes ≡ Ok m → m.to place ≡ place
+place_stays (transpose order) sizes m place h e = absurd (cc)
+place_stays (reshape dims) sizes m place h e =
+    let found = step_ok (reshaped dims sizes) (λ encoded. Ok (same_places encoded)) m e in
+    ap (λ (x : CoordinateMap). x.to place) (sym (map_is m (same_places found.0) found.2))
+place_stays squeeze sizes m place h e = ap (λ (x : CoordinateMap). x.to place) (sym (map_is m (same_places (squeezed sizes)) e))
+
+pub places_stay : (codecs : List ArrayMapping) (sizes : List ℕ) (m : CoordinateMap) (place : ℕ) → list_all keeps_places codecs ≡ true → chained codecs sizes ≡ Ok m → m.to place ≡ place
+places_stay [] sizes m place h e = ap (λ (x : CoordinateMap). x.to place) (sym (map_is m (same_places sizes) e))
+places_stay (codec ∷ codecs) sizes m place h e =
+    let both = and_parts (keeps_places codec) (list_all keeps_places codecs) h in
+    let first = step_ok (coordinates codec sizes) (λ f. chained codecs f.encoded >>= λ rest. Ok (composition f rest)) m e in
+    let rest = step_ok (chained codecs first.0.encoded) (λ rest. Ok (composition first.0 rest)) m first.2 in
+    ap (λ (x : CoordinateMap). x.to place) (sym (map_is m (composition first.0 rest.0) rest.2))
+    ∙ places_stay codecs first.0.encoded rest.0 (first.0.to place) both.1 rest.1
+    ∙ place_stays codec sizes first.0 place both.0 first.1
+
+-- ---- the next window has the sizes of the encoded chunk
+
+pub next_sizes : (codec : ArrayMapping) (sizes : List ℕ) (region : Region) (m : CoordinateMap) (next : Window) → coordinates codec sizes ≡ Ok m → next_window codec (window_of sizes region) ≡ Some next → m.encoded ≡ next.sizes
+next_sizes (transpose order) sizes region m next h e =
+    let step = step_ok (demand (length order == length sizes) IncompatibleDimensionality) (λ _. Ok (transposition order sizes)) m h in
+    ap (λ (x : CoordinateMap). x.encoded) (sym (map_is m (transposition order sizes) step.2)) ∙ ap (λ (o : Option Window). behind o sizes (λ w. w.sizes)) e
+next_sizes (reshape dims) sizes region m next h e = absurd (cc)
+next_sizes squeeze sizes region m next h e =
+    ap (λ (x : CoordinateMap). x.encoded) (sym (map_is m (same_places (squeezed sizes)) h)) ∙ ap (λ (o : Option Window). behind o sizes (λ w. w.sizes)) e
+
+-- codecs behind one that has a next window
+rest_keeps : (codec : ArrayMapping) (codecs : List ArrayMapping) (window next : Window) → next_window codec window ≡ Some next → keeps_regions (codec ∷ codecs) ≡ true → keeps_regions codecs ≡ true
+rest_keeps (transpose order) codecs window next e h = h
+rest_keeps (reshape dims) codecs window next e h = absurd (cc)
+rest_keeps squeeze codecs window next e h = h
+
+-- a codec without one, and all behind it, leave places where they are
+all_stay : (codec : ArrayMapping) (codecs : List ArrayMapping) (window : Window) → next_window codec window ≡ None → keeps_regions (codec ∷ codecs) ≡ true → list_all keeps_places (codec ∷ codecs) ≡ true
+all_stay (transpose order) codecs window e h = absurd (cc)
+all_stay (reshape dims) codecs window e h = h
+all_stay squeeze codecs window e h = absurd (cc)
+
+-- ---- chains
+
+-- what is to be shown of a region and codecs that do this
+abbrev pub ChainKeeps : List ArrayMapping → List ℕ → CoordinateMap → Region → Type 0
+ChainKeeps codecs sizes m region = KeepsWindow (product sizes) m (window_of sizes region) (last_window codecs (window_of sizes region)) (region_map codecs (window_of sizes region))
+
+-- one codec before others
+module _ (codec : ArrayMapping) (codecs : List ArrayMapping) (sizes : List ℕ) (m : CoordinateMap) (region : Region) (mapping : IsMapping codec) (positive : All (λ size. 0 < size) sizes) (h : chained (codec ∷ codecs) sizes ≡ Ok m) (kept : keeps_regions (codec ∷ codecs) ≡ true) (inside : is_box_inside sizes region.starts region.lengths ≡ true)
+    (more : (next_sizes : List ℕ) (rest : CoordinateMap) (next : Region) → All (λ size. 0 < size) next_sizes → chained codecs next_sizes ≡ Ok rest → keeps_regions codecs ≡ true → is_box_inside next_sizes next.starts next.lengths ≡ true → ChainKeeps codecs next_sizes rest next) where
+  stays_here : next_window codec (window_of sizes region) ≡ None → KeepsWindow (product sizes) m (window_of sizes region) (window_of sizes region) (same_places region.lengths)
+  stays_here e =
+      let is = here_is sizes region inside in
+      same_keeps (product sizes) m (window_of sizes region) (window_of sizes region) (λ place. places_stay (codec ∷ codecs) sizes m place (all_stay codec codecs (window_of sizes region) e kept) h) is is refl
+
+  goes_on : (next : Window) → next_window codec (window_of sizes region) ≡ Some next → KeepsWindow (product sizes) m (window_of sizes region) (last_window codecs next) (composition (part_map codec (window_of sizes region)) (region_map codecs next))
+  goes_on next e =
+      let first = step_ok (coordinates codec sizes) (λ f. chained codecs f.encoded >>= λ rest. Ok (composition f rest)) m h in
+      let rest = step_ok (chained codecs first.0.encoded) (λ rest. Ok (composition first.0 rest)) m first.2 in
+      let one = codec_map codec sizes first.0 mapping positive first.1 in
+      let keeps = codec_keeps codec sizes region first.0 next mapping first.1 inside e in
+      let same : first.0.encoded ≡ next.sizes = next_sizes codec sizes region first.0 next first.1 e in
+      let there : chained codecs next.sizes ≡ Ok rest.0 = ap (chained codecs) (sym same) ∙ rest.1 in
+      let then = more next.sizes rest.0 next.region (subst (All (λ size. 0 < size)) same (one.positive positive)) there (rest_keeps codec codecs (window_of sizes region) next e kept) keeps.next_is.inside in
+      let both = windows_compose (product sizes) first.0 rest.0 (window_of sizes region) next (last_window codecs next) (part_map codec (window_of sizes region)) (region_map codecs next) keeps (subst (λ n. KeepsWindow n rest.0 next (last_window codecs next) (region_map codecs next)) keeps.next_is.count_is then) in
+      subst (λ x. KeepsWindow (product sizes) x (window_of sizes region) (last_window codecs next) (composition (part_map codec (window_of sizes region)) (region_map codecs next))) (map_is m (composition first.0 rest.0) rest.2) both
+
+  one_more : (o : Option Window) → next_window codec (window_of sizes region) ≡ o
+      → KeepsWindow (product sizes) m (window_of sizes region) (behind o (window_of sizes region) (last_window codecs)) (behind o (same_places region.lengths) (λ next. composition (part_map codec (window_of sizes region)) (region_map codecs next)))
+  one_more None e = stays_here e
+  one_more (Some next) e = goes_on next e
+
+pub chain_keeps : (codecs : List ArrayMapping) (sizes : List ℕ) (m : CoordinateMap) (region : Region) → All IsMapping codecs → All (λ size. 0 < size) sizes → chained codecs sizes ≡ Ok m → keeps_regions codecs ≡ true → is_box_inside sizes region.starts region.lengths ≡ true → ChainKeeps codecs sizes m region
+chain_keeps [] sizes m region are positive h kept inside =
+    let window = window_of sizes region in
+    let is = here_is sizes region inside in
+    same_keeps (product sizes) m window window (λ place. places_stay [] sizes m place refl h) is is refl
+chain_keeps (codec ∷ codecs) sizes m region are positive h kept inside =
+    one_more codec codecs sizes m region (are 0 codec (omega arith)) positive h kept inside
+    (λ next_sizes rest next. chain_keeps codecs next_sizes rest next (λ k d l. are (suc k) d (omega arith)))
+    (next_window codec (window_of sizes region)) refl

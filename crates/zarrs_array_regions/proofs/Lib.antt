@@ -1,0 +1,11 @@
+pub mod Rearranged
+pub mod WindowMaps
+pub mod KeptWindows
+pub mod KeptChains
+pub mod PlaceReads
+pub mod KeptRegions
+pub mod HeldElements
+pub mod PlaceWrites
+pub mod WindowCalls
+pub mod DecodedWindows
+pub mod EncodedWindows

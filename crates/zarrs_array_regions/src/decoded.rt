@@ -1,0 +1,96 @@
+//! The elements of a region from those of its last window.
+ghost use Rattle.std.specs.Prelude.{◌≡◌, ◌<◌, ◌^◌, Ok, true, map};
+ghost use Rattle.zarrs_chunk.specs.Answer.{Gives};
+ghost use Rattle.zarrs_chunk.specs.ChunkShape.{product};
+ghost use Rattle.zarrs_array_bytes.specs.Validity.{validity};
+ghost use Rattle.zarrs_array_to_array.specs.CodecAnswers.{type_taken};
+ghost use Rattle.zarrs_array_to_array.specs.Mapping.{mapping_of};
+ghost use Rattle.zarrs_array_regions.specs.Windows.{TakesRegion, TakeType, window_of, DecodesWindow};
+ghost use Rattle.zarrs_array_regions.specs.Parts.{FitsRegion, DecodesPart};
+
+use crate::next::next_window;
+use std::alloc::Global;
+use zarrs_array_bytes::ArrayBytes;
+use zarrs_array_to_array::ArrayToArrayCodec;
+use zarrs_chunk::{ArraySubset, ChunkShape, CodecError};
+use zarrs_codec::ArrayToArrayCodecTraits;
+use zarrs_data_type::{DataType, FillValue};
+
+/// The shape that a region with elements has as a chunk. Refusals: `OutOfMemory`.
+pub(crate) fn region_shape(alloc: Global, region: &ArraySubset) -> Result<ChunkShape, CodecError>
+    requires { 0 < product region.now.lengths }
+    ensures { Gives (λ shape. shape) result (Ok region.now.lengths) }
+{
+    let lengths = Vec::from_slice(alloc, region.shape())?;
+    Ok(ChunkShape::new(lengths).unwrap())
+}
+
+/// The elements of a region, decoded at its own lengths from those of the window behind one codec.
+fn decoded_part<'a>(
+    alloc: Global,
+    codec: &ArrayToArrayCodec,
+    region: &ArraySubset,
+    held: ArrayBytes<'a>,
+    data_type: &DataType,
+    fill_value: &FillValue,
+) -> Result<ArrayBytes<'a>, CodecError>
+    requires axes { FitsRegion (mapping_of codec.now) region.now }
+    requires filled { 0 < product region.now.lengths }
+    requires counted { product region.now.lengths < 2 ^ 64 }
+    requires takes { type_taken (mapping_of codec.now) data_type.now ≡ Ok tt }
+    requires valid { validity data_type.now (product region.now.lengths) held ≡ Ok tt }
+    ensures { DecodesPart (mapping_of codec.now) data_type.now region.now held.entry result }
+{
+    match codec {
+        ArrayToArrayCodec::Transpose(codec) => {
+            let shape = region_shape(alloc, region)?;
+            codec.decode(alloc, held, &shape, data_type, fill_value)
+        }
+        ArrayToArrayCodec::Reshape(_) => Ok(held),
+        ArrayToArrayCodec::Squeeze(_) => Ok(held),
+    }
+}
+
+/// The elements of a region of a chunk of this shape from those of the window that the codecs take it
+/// to, decoded codec by codec, each at the region's lengths before it: `transpose` moves them, and the
+/// others leave them as they are. The codecs take the chunk and its type, the region has elements, and
+/// there is one in `held` for each. Refusals: `OutOfMemory`.
+pub fn decoded_window<'a>(
+    alloc: Global,
+    codecs: &[ArrayToArrayCodec],
+    shape: &ChunkShape,
+    region: &ArraySubset,
+    held: ArrayBytes<'a>,
+    data_type: &DataType,
+    fill_value: &FillValue,
+) -> Result<ArrayBytes<'a>, CodecError>
+    requires region { TakesRegion (map mapping_of codecs.now) shape.now region.now }
+    requires takes { TakeType (map mapping_of codecs.now) data_type.now }
+    requires filled { 0 < product region.now.lengths }
+    requires valid { validity data_type.now (product region.now.lengths) held ≡ Ok tt }
+    ensures decoded { DecodesWindow (map mapping_of codecs.now) data_type.now
+        (window_of shape.now region.now) held.entry result }
+{
+    match codecs {
+        [] => Ok(held),
+        [last] => decoded_part(alloc, last, region, held, data_type, fill_value),
+        [first, rest @ ..] => {
+            first.is_sound();
+            match next_window(alloc, first, shape, region)? {
+                None => Ok(held),
+                Some(next) => {
+                    let held = decoded_window(
+                        alloc,
+                        rest,
+                        &next.sizes,
+                        &next.region,
+                        held,
+                        data_type,
+                        fill_value,
+                    )?;
+                    decoded_part(alloc, first, region, held, data_type, fill_value)
+                }
+            }
+        }
+    }
+}

@@ -1,0 +1,74 @@
+//! Where a region goes through array codecs as a region.
+ghost use Rattle.std.specs.Prelude.{◌≡◌, map, IfSome, option_map};
+ghost use Rattle.std.specs.List.{list_all};
+ghost use Rattle.zarrs_chunk.specs.Indexer.{selection_of};
+ghost use Rattle.zarrs_array_to_array.specs.Mapping.{mapping_of};
+ghost use Rattle.zarrs_array_regions.specs.KeptRegions.{keeps_places as keeps_places_of, keeps_regions as keeps_regions_of, is_filled as is_filled_of, kept_region as kept_region_of, IsKept};
+
+use zarrs_array_to_array::ArrayToArrayCodec;
+use zarrs_chunk::{ArraySubset, ChunkShape, Indexer};
+
+/// Whether the codec leaves each place where it is.
+fn keeps_places(codec: &ArrayToArrayCodec) -> bool
+    ensures { result ≡ keeps_places_of (mapping_of codec.now) }
+{
+    match codec {
+        ArrayToArrayCodec::Transpose(_) => false,
+        ArrayToArrayCodec::Reshape(_) | ArrayToArrayCodec::Squeeze(_) => true,
+    }
+}
+
+/// Whether each of the codecs does.
+fn keep_places(codecs: &[ArrayToArrayCodec]) -> bool
+    ensures { result ≡ list_all keeps_places_of (map mapping_of codecs.now) }
+{
+    match codecs {
+        [] => true,
+        [first, rest @ ..] => keeps_places(first) && keep_places(rest),
+    }
+}
+
+/// Whether the codecs take every region to a region: no transposition stands behind a reshape.
+fn keeps_regions(codecs: &[ArrayToArrayCodec]) -> bool
+    ensures { result ≡ keeps_regions_of (map mapping_of codecs.now) }
+{
+    match codecs {
+        [] => true,
+        [first, rest @ ..] => match first {
+            ArrayToArrayCodec::Reshape(_) => keep_places(rest),
+            ArrayToArrayCodec::Transpose(_) | ArrayToArrayCodec::Squeeze(_) => keeps_regions(rest),
+        },
+    }
+}
+
+/// Whether no length of the box is zero.
+fn is_filled(region: &ArraySubset) -> bool
+    ensures { result ≡ is_filled_of region.now }
+{
+    !region.shape().contains(&0)
+}
+
+/// The box that the indexer means, where it goes through the codecs as a box: it lies inside a chunk of
+/// this shape and has elements, and there are codecs, with no `transpose` behind a `reshape`. Nothing is
+/// refused: what isn't such a box goes place by place.
+pub fn kept_region<'i>(
+    codecs: &[ArrayToArrayCodec],
+    shape: &ChunkShape,
+    indexer: &'i Indexer,
+) -> Option<&'i ArraySubset>
+    ensures region { option_map (λ region. region.now) result
+        ≡ kept_region_of (map mapping_of codecs.now) shape.now (selection_of indexer.now) }
+    ensures kept { IfSome result (λ region.
+        IsKept (map mapping_of codecs.now) shape.now (selection_of indexer.now) region.now) }
+{
+    let Indexer::Subset(region) = indexer else {
+        return None;
+    };
+    if codecs.is_empty() || indexer.check(shape).is_err() {
+        return None;
+    }
+    if is_filled(region) && keeps_regions(codecs) {
+        return Some(region);
+    }
+    None
+}

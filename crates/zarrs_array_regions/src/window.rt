@@ -1,0 +1,47 @@
+//! Windows.
+ghost use Rattle.std.specs.Prelude.{◌≡◌, ◌<◌, ◌≤◌, ◌+◌, ◌^◌, Ok, length, All, IfOk};
+ghost use Rattle.zarrs_chunk.specs.Answer.{Gives};
+ghost use Rattle.zarrs_chunk.specs.ChunkShape.{product};
+ghost use Rattle.zarrs_chunk.specs.Runs.{joined_runs, AreApart};
+
+use std::alloc::Global;
+use zarrs_chunk::{ArraySubset, ChunkShape, CodecError, Indexer};
+
+/// A region, and the sizes under which it is one. Places count, and not sizes: a chunk of other sizes
+/// and as many elements has the region's at the same places.
+#[derive(Debug, Drop)]
+pub struct Window {
+    pub sizes: ChunkShape,
+    pub region: ArraySubset,
+}
+
+impl Window {
+    ghost use Rattle.zarrs_array_regions.specs.Windows.{IsWindow, window_places, window_of};
+
+    /// The window of a region of a chunk of this shape. Refusals: `OutOfMemory`.
+    pub(crate) fn new(shape: &ChunkShape, region: &ArraySubset) -> Result<Window, CodecError>
+        ensures { Gives (λ window. window) result (Ok (window_of shape.now region.now)) }
+    {
+        let sizes = shape.clone()?;
+        let region = region.clone()?;
+        Ok(Window { sizes, region })
+    }
+
+    /// The places of the window's elements in row-major order, as runs of a start and a length: none
+    /// is empty, and none starts where the one before it ends. The region lies inside the sizes, of
+    /// which 64 bits count the elements. Refusals: `OutOfMemory`.
+    pub fn into_runs(self, alloc: Global) -> Result<Vec<(u64, u64)>, CodecError>
+        requires inside { IsWindow (product self.sizes) self }
+        requires counted { product self.sizes < 2 ^ 64 }
+        ensures places { Gives (λ runs. joined_runs runs.items) result (Ok (window_places self)) }
+        ensures filled { IfOk result (λ runs. All (λ run. 0 < run.1) runs.items) }
+        ensures below { IfOk result (λ runs.
+            All (λ run. run.0 + run.1 ≤ product self.sizes) runs.items) }
+        ensures count { IfOk result (λ runs. length (joined_runs runs.items) < 2 ^ 64) }
+        ensures apart { IfOk result (λ runs. AreApart runs.items) }
+    {
+        let sizes = self.sizes;
+        let indexer = Indexer::Subset(self.region);
+        indexer.runs(alloc, &sizes)
+    }
+}
