@@ -53,10 +53,14 @@ components_at tree = do
   members ← ok_or (as_object tree) Syntax
   components_in members
 
+-- the members of the object that stands alone under its key
+abbrev pub components_alone : Members → Result Members Refusal
+components_alone members = ok_or (option_and_then as_object (only_member (codes "components") members)) Syntax
+
 -- the same, by an object with its key alone
 abbrev pub components_among : Members → Result ElementType Refusal
 components_among members = do
-  inner ← ok_or (option_and_then as_object (only_member (codes "components") members)) Syntax
+  inner ← components_alone members
   components_in inner
 
 -- The type that a tree names: a text; {"optional":T}, with the type of the elements that are present; or {"components":..}.

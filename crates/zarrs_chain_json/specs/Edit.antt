@@ -1,7 +1,7 @@
 -- Edits as JSON: {"at":INDEXER,"data":ELEMENTS}.
 use Rattle.std.specs.Prelude.{◌==◌, ok_or, Result, Ok, codes}
 use Rattle.serde_json.specs.Data.{Data, Members}
-use Rattle.serde_json.specs.Find.{as_object, get_member}
+use Rattle.serde_json.specs.Find.{as_object}
 use Rattle.zarrs_chunk.specs.Answer.{◌>>=◌, demand, seen}
 use Rattle.zarrs_chunk.specs.Indexer.{selection_of}
 use Rattle.zarrs_chunk.specs.Selection.{Selection}
@@ -10,7 +10,7 @@ use Rattle.zarrs_array_bytes.specs.Held.{Held}
 use Rattle.zarrs_chain_json.specs.declared.edits.Edit.{Edit}
 use Rattle.zarrs_chain_json.specs.declared.refusal.Refusal.{Refusal}
 use Rattle.zarrs_chain_json.specs.declared.refusal.Refusal.TheVariants.{Syntax}
-use Rattle.zarrs_chain_json.specs.Json.{member_count}
+use Rattle.zarrs_chain_json.specs.Json.{needed_member, member_count}
 use Rattle.zarrs_chain_json.specs.Elements.{elements_of}
 use Rattle.zarrs_chain_json.specs.Containers.{container_of}
 use Rattle.zarrs_chain_json.specs.Indexer.{selection_in}
@@ -39,8 +39,8 @@ edit_at type at elements = do
 abbrev pub edit_among : ElementType → Members → Result PlainEdit Refusal
 edit_among type members = do
   _ ← demand (member_count members == 2) Syntax
-  at ← ok_or (get_member (codes "at") members) Syntax
-  elements ← ok_or (get_member (codes "data") members) Syntax
+  at ← needed_member (codes "at") members
+  elements ← needed_member (codes "data") members
   edit_at type at elements
 
 -- the edit that a tree says

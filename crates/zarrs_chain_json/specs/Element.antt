@@ -1,6 +1,7 @@
 -- What an element that was read is seen as.
-use Rattle.std.specs.Prelude.{Option, Some, None, List, map}
+use Rattle.std.specs.Prelude.{Option, Some, None, List, Vec, map}
 use Rattle.std.proofs.Common.{Bor}
+use Rattle.std.specs.declared.alloc.Global.{Global}
 use Rattle.zarrs_data_type.specs.Element.{Element, plain, absent, present, Chunk}
 use Rattle.zarrs_chain_json.specs.declared.element.Element.{Element as Read, Plain, Absent, Present'}
 
@@ -9,6 +10,10 @@ abbrev pub element_seen : Read → Element
 element_seen (Plain bytes) = plain bytes.items
 element_seen Absent = absent
 element_seen (Present' p element) = present (element_seen element)
+
+-- the elements
+abbrev pub chunk_seen : Vec Read Global → Chunk
+chunk_seen elements = map element_seen elements.items
 
 -- what stands at a place: an element, or none where the one above it is absent
 abbrev pub slot_seen : Option (Bor Read) → Element

@@ -1,5 +1,6 @@
 -- Elements as JSON: a list of them, each by the type.
 use Rattle.std.specs.Prelude.{ℕ, List, [], ◌∷◌, ◌==◌, length, map, Option, Some, None, ok_or, Result, Ok, Err}
+use Rattle.std.specs.List.{range_with_len}
 use Rattle.std.specs.Result.{result_ok}
 use Rattle.hex.specs.Hex.{decode_of}
 use Rattle.serde_json.specs.Data.{Data, null, boolean, number, string, array, object, Items, no_items, item}
@@ -9,6 +10,8 @@ use Rattle.zarrs_chunk.specs.Answer.{◌>>=◌, demand, seen}
 use Rattle.zarrs_chunk.specs.declared.codec_error.CodecError.TheVariants.{ArrayBytesKind, InvalidBytesLength}
 use Rattle.zarrs_data_type.specs.Element.{Element, plain, absent, present, Chunk}
 use Rattle.zarrs_data_type.specs.ElementType.{ElementType, fixed, text, bytes, optional, fixed_size_of}
+use Rattle.zarrs_array_bytes.specs.Elements.{element_at}
+use Rattle.zarrs_array_bytes.specs.Held.{Held}
 use Rattle.zarrs_chain_json.specs.declared.refusal.Refusal.{Refusal}
 use Rattle.zarrs_chain_json.specs.declared.refusal.Refusal.TheVariants.{Syntax, Codec}
 use Rattle.zarrs_chain_json.specs.Json.{hex_tree, lone_item}
@@ -74,6 +77,14 @@ abbrev pub element_tree : Element → Data
 element_tree (plain items) = hex_tree items
 element_tree absent = null
 element_tree (present element) = array (item (element_tree element) no_items)
+
+-- the element at a place of a container as JSON
+abbrev pub tree_at : ElementType → Held → ℕ → Data
+tree_at type held place = element_tree (element_at type held place)
+
+-- the first `count` elements of a container as JSON
+abbrev pub trees_of : ElementType → Held → ℕ → List Data
+trees_of type held count = map (tree_at type held) (range_with_len 0 count)
 
 -- the elements of a chunk as JSON
 abbrev pub chunk_tree : Chunk → Data

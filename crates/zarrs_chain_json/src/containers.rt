@@ -1,12 +1,10 @@
 //! Containers of elements that were read.
 ghost use Rattle.std.specs.Prelude.{◌≡◌, ◌++◌, Ok, IfOk, OnOk, map, option_map, replicate};
-ghost use Rattle.std.specs.List.{flat_map};
 ghost use Rattle.zarrs_data_type.specs.ElementType.{text};
 ghost use Rattle.zarrs_array_bytes.specs.Held.{owned_bytes};
 ghost use Rattle.zarrs_array_bytes.specs.Parts.{with_mask};
-ghost use Rattle.zarrs_array_bytes.specs.Pieces.{bytes_with_offsets};
 ghost use Rattle.zarrs_array_bytes.specs.Present.{mask_of, presence};
-ghost use Rattle.zarrs_chain_json.specs.Containers.{plain_bytes as plain_bytes_of, bytes_or_zeros, under_mask, container_of, variable_answer};
+ghost use Rattle.zarrs_chain_json.specs.Containers.{plain_bytes as plain_bytes_of, bytes_or_zeros, chunk_bytes, chunk_cuts, under_mask, container_of, variable_answer};
 ghost use Rattle.zarrs_chain_json.specs.Element.{slot_seen, slots_seen};
 ghost use Rattle.zarrs_chain_json.specs.Refusal.{codec_answer, Reads};
 
@@ -38,7 +36,8 @@ fn append_zeros(out: &mut Vec<u8>, size: usize) -> Result<(), AllocError>
 
 /// Appends the bytes of an element, or zeros where there is none.
 fn append_element(out: &mut Vec<u8>, size: usize, slot: Slot<'_>) -> Result<(), AllocError>
-    ensures { OnOk result (out.new.items ≡ out.old.items ++ bytes_or_zeros size (slot_seen slot.entry)) }
+    ensures { OnOk result
+        (out.new.items ≡ out.old.items ++ bytes_or_zeros size (slot_seen slot.entry)) }
 {
     match plain_bytes(slot) {
         Some(bytes) => out.extend_from_slice(bytes),
@@ -48,7 +47,7 @@ fn append_element(out: &mut Vec<u8>, size: usize, slot: Slot<'_>) -> Result<(), 
 
 /// The bytes of elements of one size, one after another.
 fn fixed_bytes(alloc: Global, size: usize, slots: &[Slot<'_>]) -> Result<Vec<u8>, AllocError>
-    ensures { IfOk result (λ bytes. bytes.items ≡ flat_map (bytes_or_zeros size) (slots_seen slots.now)) }
+    ensures { IfOk result (λ bytes. bytes.items ≡ chunk_bytes size (slots_seen slots.now)) }
 {
     let mut bytes = Vec::new(alloc);
     for slot in slots {
@@ -59,7 +58,8 @@ fn fixed_bytes(alloc: Global, size: usize, slots: &[Slot<'_>]) -> Result<Vec<u8>
 
 /// The bytes of elements of any length, one after another, and their offsets.
 fn variable_parts(alloc: Global, slots: &[Slot<'_>]) -> Result<(Vec<u8>, Vec<usize>), AllocError>
-    ensures { IfOk result (λ parts. (parts.0.items, parts.1.items) ≡ bytes_with_offsets (bytes_or_zeros 0) (slots_seen slots.now)) }
+    ensures { IfOk result
+        (λ parts. (parts.0.items, parts.1.items) ≡ chunk_cuts (slots_seen slots.now)) }
 {
     let mut bytes = Vec::new(alloc);
     let mut offsets = Vec::new(alloc);
@@ -102,7 +102,7 @@ fn inside(slot: Slot<'_>) -> Slot<'_>
 
 /// What stands under the mask of elements that may be absent.
 fn slots_inside<'e>(alloc: Global, slots: &[Slot<'e>]) -> Result<Vec<Slot<'e>>, AllocError>
-    ensures { IfOk result (λ inner. slots_seen inner.items ≡ map under_mask (slots_seen slots.now)) }
+    ensures { IfOk result (λ v. slots_seen v.items ≡ map under_mask (slots_seen slots.now)) }
 {
     let mut inner = Vec::with_capacity(alloc, slots.len())?;
     for slot in slots {

@@ -1,12 +1,11 @@
 //! Data types read from JSON.
-ghost use Rattle.std.specs.Prelude.{◌≡◌, Result, option_and_then, ok_or, codes};
-ghost use Rattle.serde_json.specs.Find.{as_object};
-ghost use Rattle.serde_json.specs.View.{view, members_view};
+ghost use Rattle.std.specs.Prelude.{◌≡◌, Result, ok_or};
+ghost use Rattle.serde_json.specs.View.{view};
 ghost use Rattle.zarrs_chunk.specs.Answer.{seen};
 ghost use Rattle.zarrs_data_type.specs.ElementType.{ElementType, optional as optional_of};
-ghost use Rattle.zarrs_chain_json.specs.Json.{only_member as only_member_of};
+ghost use Rattle.zarrs_chain_json.specs.Json.{members_seen, lent_object};
 ghost use Rattle.zarrs_chain_json.specs.Refusal.{Reads};
-ghost use Rattle.zarrs_chain_json.specs.DataType.{type_named, number_at, truth_at, components_in, components_among, type_in};
+ghost use Rattle.zarrs_chain_json.specs.DataType.{type_named, number_at, truth_at, components_in, components_alone, components_among, type_in};
 
 use crate::json::{Members, member, only_member};
 use crate::refusal::Refusal;
@@ -38,7 +37,7 @@ fn type_by_name(name: &str) -> Option<DataType>
 }
 
 fn number(members: &Members, key: &str) -> Result<u64, Refusal>
-    ensures { result ≡ ok_or (number_at key.now (members_view members.now.entries)) Refusal.Syntax }
+    ensures { result ≡ ok_or (number_at key.now (members_seen members.now)) Refusal.Syntax }
 {
     match member(members, key) {
         Some(Value::Number(number)) => number.as_u64().ok_or(Refusal::Syntax),
@@ -47,7 +46,7 @@ fn number(members: &Members, key: &str) -> Result<u64, Refusal>
 }
 
 fn truth(members: &Members, key: &str) -> Result<bool, Refusal>
-    ensures { result ≡ ok_or (truth_at key.now (members_view members.now.entries)) Refusal.Syntax }
+    ensures { result ≡ ok_or (truth_at key.now (members_seen members.now)) Refusal.Syntax }
 {
     match member(members, key) {
         Some(Value::Bool(truth)) => Ok(*truth),
@@ -57,7 +56,7 @@ fn truth(members: &Members, key: &str) -> Result<bool, Refusal>
 
 #[tactic(auto, using(crate::proofs::JsonLemmas::member_count_of_view))]
 fn components(members: &Members) -> Result<DataType, Refusal>
-    ensures { result ≡ components_in (members_view members.now.entries) }
+    ensures { result ≡ components_in (members_seen members.now) }
 {
     if members.len() != 3 {
         return Err(Refusal::Syntax);
@@ -70,8 +69,7 @@ fn components(members: &Members) -> Result<DataType, Refusal>
 }
 
 fn components_of(members: &Members) -> Result<&Members, Refusal>
-    ensures { seen (λ inner. members_view inner.now.entries) result
-        ≡ ok_or (option_and_then as_object (only_member_of (codes "components") (members_view members.now.entries))) Refusal.Syntax }
+    ensures { seen lent_object result ≡ components_alone (members_seen members.now) }
 {
     match only_member(members, "components") {
         Some(Value::Object(inner)) => Ok(inner),
@@ -80,7 +78,7 @@ fn components_of(members: &Members) -> Result<&Members, Refusal>
 }
 
 fn several(members: &Members) -> Result<DataType, Refusal>
-    ensures { Reads result (components_among (members_view members.now.entries)) }
+    ensures { Reads result (components_among (members_seen members.now)) }
 {
     components(components_of(members)?)
 }

@@ -1,9 +1,9 @@
 //! Edits read from JSON: new elements, and where they go.
-ghost use Rattle.std.specs.Prelude.{◌≡◌, ok_or};
-ghost use Rattle.serde_json.specs.Find.{get_member};
-ghost use Rattle.serde_json.specs.View.{view, members_view};
+ghost use Rattle.std.specs.Prelude.{◌≡◌};
+ghost use Rattle.serde_json.specs.View.{view};
 ghost use Rattle.zarrs_chunk.specs.Answer.{seen};
 ghost use Rattle.zarrs_chain_json.specs.Edit.{edit_at, edit_among as edit_among_members, edit_in, edit_seen};
+ghost use Rattle.zarrs_chain_json.specs.Json.{members_seen, needed_member};
 ghost use Rattle.zarrs_chain_json.specs.Refusal.{ReadsAs};
 
 use crate::element_lists::elements;
@@ -24,7 +24,8 @@ pub struct Edit {
 }
 
 fn value_at<'v>(members: &'v Members, key: &str) -> Result<&'v Value, Refusal>
-    ensures { seen (λ value. view value.now) result ≡ ok_or (get_member key.now (members_view members.now.entries)) Refusal.Syntax }
+    ensures { seen (λ value. view value.now) result
+        ≡ needed_member key.now (members_seen members.now) }
 {
     member(members, key).ok_or(Refusal::Syntax)
 }
@@ -40,7 +41,8 @@ fn edit_of(alloc: Global, data_type: &DataType, at: &Value, items: &Value) -> Re
 
 #[tactic(auto, using(crate::proofs::JsonLemmas::member_count_of_view))]
 fn edit_among(alloc: Global, data_type: &DataType, members: &Members) -> Result<Edit, Refusal>
-    ensures { ReadsAs edit_seen result (edit_among_members data_type.now (members_view members.now.entries)) }
+    ensures { ReadsAs edit_seen result
+        (edit_among_members data_type.now (members_seen members.now)) }
 {
     if members.len() != 2 {
         return Err(Refusal::Syntax);

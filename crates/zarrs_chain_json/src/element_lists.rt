@@ -1,11 +1,10 @@
 //! Elements read from JSON.
 ghost use Rattle.std.specs.Prelude.{◌≡◌, Some, IfOk, map};
 ghost use Rattle.serde_json.specs.View.{view, items_view};
-ghost use Rattle.zarrs_chunk.specs.Answer.{seen};
 ghost use Rattle.zarrs_chain_json.specs.Refusal.{Reads, ReadsAs};
-ghost use Rattle.zarrs_chain_json.specs.Elements.{elements_in, elements_of};
-ghost use Rattle.zarrs_chain_json.specs.Containers.{container_of};
-ghost use Rattle.zarrs_chain_json.specs.Element.{element_seen, slots_seen};
+ghost use Rattle.zarrs_chain_json.specs.Edit.{container_in};
+ghost use Rattle.zarrs_chain_json.specs.Elements.{elements_in};
+ghost use Rattle.zarrs_chain_json.specs.Element.{element_seen, chunk_seen, slots_seen};
 
 use crate::containers::container;
 use crate::element::{Element, read_element};
@@ -20,7 +19,7 @@ fn elements_among(
     data_type: &DataType,
     items: &Vec<Value>,
 ) -> Result<Vec<Element>, Refusal>
-    ensures { ReadsAs (λ elements. map element_seen elements.items) result (elements_in data_type.now (items_view items.now.items)) }
+    ensures { ReadsAs chunk_seen result (elements_in data_type.now (items_view items.now.items)) }
 {
     let mut elements = Vec::new(alloc);
     for item in items {
@@ -48,7 +47,7 @@ pub fn elements(
     data_type: &DataType,
     tree: &Value,
 ) -> Result<ArrayBytes<'static>, Refusal>
-    ensures answer { Reads result (seen (container_of data_type.now) (elements_of data_type.now (view tree.now))) }
+    ensures answer { Reads result (container_in data_type.now (view tree.now)) }
 {
     match tree {
         Value::Array(items) => {

@@ -1,7 +1,8 @@
 //! Indexers read from JSON.
-ghost use Rattle.std.specs.Prelude.{◌≡◌, map};
+ghost use Rattle.std.specs.Prelude.{◌≡◌};
 ghost use Rattle.serde_json.specs.View.{view, items_view};
 ghost use Rattle.zarrs_chunk.specs.Indexer.{selection_of};
+ghost use Rattle.zarrs_chunk.specs.Selection.{tuples_seen};
 ghost use Rattle.zarrs_chain_json.specs.Refusal.{Reads, ReadsAs};
 ghost use Rattle.zarrs_chain_json.specs.Indexer.{range_between, range_in, ranges_in, tuples_in, ranges_selection, indices_selection, selection_in};
 
@@ -40,7 +41,7 @@ fn ranges_among(alloc: Global, items: &Vec<Value>) -> Result<Vec<Range<u64>>, Re
 }
 
 fn tuples_among(alloc: Global, items: &Vec<Value>) -> Result<Vec<ArrayIndices>, Refusal>
-    ensures { ReadsAs (λ v. map (λ tuple. tuple.items) v.items) result (tuples_in (items_view items.now.items)) }
+    ensures { ReadsAs (λ v. tuples_seen v.items) result (tuples_in (items_view items.now.items)) }
 {
     let mut tuples = Vec::new(alloc);
     for item in items {

@@ -1,11 +1,12 @@
 //! JSON texts read and shown.
-ghost use Rattle.std.specs.Prelude.{◌≡◌, option_map, option_and_then, ok_or, IfOk, false};
+ghost use Rattle.std.specs.Prelude.{◌≡◌, option_and_then, ok_or, IfOk, false};
 ghost use Rattle.serde_json.specs.Written.{has_float, items_have_float, members_have_float};
-ghost use Rattle.serde_json.specs.View.{view, items_view, members_view};
+ghost use Rattle.serde_json.specs.View.{view, items_view};
 ghost use Rattle.serde_json.specs.Find.{as_number, as_object, as_u64, get_member};
 ghost use Rattle.zarrs_chunk.specs.Answer.{seen};
+ghost use Rattle.zarrs_metadata.specs.Trees.{lent_tree};
 ghost use Rattle.zarrs_chain_json.specs.Refusal.{ReadsAs};
-ghost use Rattle.zarrs_chain_json.specs.Json.{tree_of, number_list, numbers_in, hex_of, only_member as only_member_of, ok_line as line_of, hex_tree as hex_tree_of, lone_item};
+ghost use Rattle.zarrs_chain_json.specs.Json.{members_seen, lent_object, tree_of, number_list, numbers_in, hex_of, only_member as only_member_of, ok_line as line_of, hex_tree as hex_tree_of, lone_item};
 
 use crate::refusal::Refusal;
 use hex::FromHexError;
@@ -43,7 +44,7 @@ fn items_hold_float(items: &Vec<Value>) -> bool
 
 #[cycle(floats)]
 fn members_hold_float(members: &Members) -> bool
-    ensures { result ≡ members_have_float (members_view members.now.entries) }
+    ensures { result ≡ members_have_float (members_seen members.now) }
 {
     for (key, member) in members.iter() {
         if holds_float(member) {
@@ -78,7 +79,7 @@ pub fn tree(alloc: Global, text: &[u8]) -> Result<Value, Refusal>
 
 /// The members of an object. Refusals: `Syntax` for any other tree.
 pub fn object(tree: &Value) -> Result<&Members, Refusal>
-    ensures answer { seen (λ members. members_view members.now.entries) result ≡ ok_or (as_object (view tree.now)) Refusal.Syntax }
+    ensures answer { seen lent_object result ≡ ok_or (as_object (view tree.now)) Refusal.Syntax }
 {
     match tree {
         Value::Object(members) => Ok(members),
@@ -88,14 +89,14 @@ pub fn object(tree: &Value) -> Result<&Members, Refusal>
 
 /// The value at a key of an object.
 pub fn member<'v>(members: &'v Members, name: &str) -> Option<&'v Value>
-    ensures value { option_map (λ value. view value.now) result ≡ get_member name.now (members_view members.now.entries) }
+    ensures value { lent_tree result ≡ get_member name.now (members_seen members.now) }
 {
     members.get(name)
 }
 
 /// The value at a key of an object that has no other key.
 pub fn only_member<'v>(members: &'v Members, name: &str) -> Option<&'v Value>
-    ensures value { option_map (λ value. view value.now) result ≡ only_member_of name.now (members_view members.now.entries) }
+    ensures value { lent_tree result ≡ only_member_of name.now (members_seen members.now) }
 {
     if members.len() == 1 {
         member(members, name)
@@ -106,7 +107,7 @@ pub fn only_member<'v>(members: &'v Members, name: &str) -> Option<&'v Value>
 
 /// The only item of a list.
 pub fn lone(items: &Vec<Value>) -> Option<&Value>
-    ensures value { option_map (λ value. view value.now) result ≡ lone_item (items_view items.now.items) }
+    ensures value { lent_tree result ≡ lone_item (items_view items.now.items) }
 {
     if items.len() == 1 {
         Some(&items[0])

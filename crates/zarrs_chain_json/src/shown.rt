@@ -1,17 +1,14 @@
 //! Elements shown as JSON.
-ghost use Rattle.std.specs.Prelude.{◌≡◌, ◌<◌, ◌+◌, ◌*◌, ◌≤◌, ℕ, Ok, length, map, true};
-ghost use Rattle.std.specs.List.{range_with_len};
+ghost use Rattle.std.specs.Prelude.{◌≡◌, ◌<◌, ◌+◌, ◌*◌, ◌≤◌, ℕ, Ok, length, true};
 ghost use Rattle.serde_json.specs.Data.{array, item, no_items};
 ghost use Rattle.serde_json.specs.View.{view};
-ghost use Rattle.zarrs_chunk.specs.Answer.{seen};
-ghost use Rattle.zarrs_chunk.specs.declared.codec_error.CodecError.TheVariants.{InvalidBytesLength};
 ghost use Rattle.zarrs_data_type.specs.Element.{Chunk};
-ghost use Rattle.zarrs_array_bytes.specs.Elements.{piece, cut, element_at};
+ghost use Rattle.zarrs_array_bytes.specs.Elements.{piece, cut};
 ghost use Rattle.zarrs_array_bytes.specs.Offsets.{is_offsets, last_of};
-ghost use Rattle.zarrs_array_bytes.specs.Validity.{Holds, levels_fit};
+ghost use Rattle.zarrs_array_bytes.specs.Validity.{Holds, HasElements};
 ghost use Rattle.zarrs_chain_json.specs.Refusal.{ReadsAs};
-ghost use Rattle.zarrs_chain_json.specs.Json.{hex_tree, ok_line as line_of};
-ghost use Rattle.zarrs_chain_json.specs.Elements.{element_tree, chunk_tree};
+ghost use Rattle.zarrs_chain_json.specs.Json.{trees_in, hex_tree, ok_line as line_of};
+ghost use Rattle.zarrs_chain_json.specs.Elements.{tree_at, trees_of, chunk_tree};
 ghost use Rattle.zarrs_chain_json.specs.Shown.{HasElement, HoldsSome};
 
 use crate::json::ok_line;
@@ -70,7 +67,7 @@ fn value_at(
     place: usize,
 ) -> Result<Value, Refusal>
     requires { HasElement data_type.now elements.now place }
-    ensures { ReadsAs view result (Ok (element_tree (element_at data_type.now elements.now place))) }
+    ensures { ReadsAs view result (Ok (tree_at data_type.now elements.now place)) }
 {
     if let Some(inner_type) = data_type.as_optional() {
         let (inner, mask) = elements.as_optional()?;
@@ -92,7 +89,8 @@ fn value_at(
 /// How many elements of the type a container has. Refusals: `ArrayBytesKind` where it has another
 /// kind.
 fn count(data_type: &DataType, elements: &ArrayBytes<'_>) -> Result<usize, CodecError>
-    ensures counted { (count : ℕ) → levels_fit InvalidBytesLength data_type.now count elements.now ≡ Ok tt → result ≡ Ok count }
+    ensures counted { (count : ℕ) → HasElements data_type.now count elements.now
+        → result ≡ Ok count }
 {
     if data_type.is_optional() {
         let (_, mask) = elements.as_optional()?;
@@ -113,8 +111,8 @@ fn values(
     elements: &ArrayBytes<'_>,
     count: usize,
 ) -> Result<Vec<Value>, Refusal>
-    requires { levels_fit InvalidBytesLength data_type.now count elements.now ≡ Ok tt }
-    ensures { ReadsAs (λ values. map view values.items) result (Ok (map (λ place. element_tree (element_at data_type.now elements.now place)) (range_with_len 0 count))) }
+    requires { HasElements data_type.now count elements.now }
+    ensures { ReadsAs trees_in result (Ok (trees_of data_type.now elements.now count)) }
 {
     let mut values = Vec::with_capacity(alloc, count)?;
     for place in 0..count {
@@ -131,7 +129,8 @@ pub fn ok_elements(
     elements: &ArrayBytes<'_>,
 ) -> Result<Vec<u8>, Refusal>
     requires held { HoldsSome data_type.now elements.now }
-    ensures answer { (chunk : Chunk) → Holds data_type.now elements.now chunk → ReadsAs (λ v. v.items) result (Ok (line_of (chunk_tree chunk))) }
+    ensures answer { (chunk : Chunk) → Holds data_type.now elements.now chunk
+        → ReadsAs (λ v. v.items) result (Ok (line_of (chunk_tree chunk))) }
 {
     let count = count(data_type, elements)?;
     let values = values(alloc, data_type, elements, count)?;

@@ -217,8 +217,8 @@ StoresEdit before after edit result =
 
 -- the same of a chunk of this form through a chain
 abbrev pub GivesChunkPart : PlainChain SampleBytesCodec → Form → Option (List ℕ) → Selection → Result Held CodecError → Type 0
-GivesChunkPart chain form value selection result =
-    AnswersBy memory (Holds form.type) result (chunk_part (chunk_form chain form) value selection)
+GivesChunkPart chain form stored selection result =
+    AnswersBy memory (Holds form.type) result (chunk_part (chunk_form chain form) stored selection)
 
 -- and of new elements in it
 abbrev pub StoresChunkEdit : PlainChain SampleBytesCodec → Form → Option (List ℕ) → Option (List ℕ) → PlainEdit → Result (Unit {0}) CodecError → Type 0

@@ -18,6 +18,7 @@ use Rattle.zarrs_array_bytes.specs.Elements.{select}
 use Rattle.zarrs_array_bytes.specs.Held.{Held}
 use Rattle.zarrs_array_bytes.specs.Validity.{Holds}
 use Rattle.zarrs_chain_parts.specs.Stands.{CodecStands}
+use Rattle.zarrs_codec.specs.CodersOverHandles.{OnlyReads}
 
 -- the chunk that is read: through which codec to bytes, its sizes, its type and its fill value
 pub record CodecForm (B : Type 0) : Type 0 where
@@ -74,19 +75,6 @@ abbrev pub VlenReads : {H B : Type 0} {h : _} {b : _} → (H → StorageState) �
 VlenReads state f decoder selection result =
     AnswersBy memory_or_fault (Holds (vlen_form_of decoder).type) result (codec_stored_read f (vlen_form_of decoder) (state (vlen_handle_of decoder)).value selection)
 
--- of a stored value that stands for a chunk they are that chunk's
-abbrev pub VlenSelects : {H B : Type 0} {h : _} {b : _} → (H → StorageState) → BytesCodecs B → VlenPartialDecoder H B h b → Selection → Result Held CodecError → Type 0
-VlenSelects state f decoder selection result =
-    (value : List ℕ) (chunk : Chunk) → (state (vlen_handle_of decoder)).value ≡ Some value
-    → CodecStands f (vlen_form_of decoder).codec (vlen_form_of decoder).sizes (vlen_form_of decoder).type (vlen_form_of decoder).fill value chunk
-    → AnswersBy memory_or_fault (Holds (vlen_form_of decoder).type) result (seen (select chunk) (places_of selection (vlen_form_of decoder).sizes))
-
--- where nothing is stored they are fill elements
-abbrev pub VlenFills : {H B : Type 0} {h : _} {b : _} → (H → StorageState) → VlenPartialDecoder H B h b → Selection → Result Held CodecError → Type 0
-VlenFills state decoder selection result =
-    (state (vlen_handle_of decoder)).value ≡ None
-    → AnswersBy memory_or_fault (Holds (vlen_form_of decoder).type) result (seen (map (λ _. fill_element (vlen_form_of decoder).type (vlen_form_of decoder).fill)) (places_of selection (vlen_form_of decoder).sizes))
-
 -- where the selection is refused, this is what is answered, or a want of memory
 abbrev pub VlenRefusedAtSelection : {H B : Type 0} {h : _} {b : _} → VlenPartialDecoder H B h b → Selection → Result Held CodecError → Type 0
 VlenRefusedAtSelection decoder selection result =
@@ -96,3 +84,22 @@ VlenRefusedAtSelection decoder selection result =
 abbrev pub SureVlen : {H B : Type 0} {h : _} {b : _} → (H → StorageState) → VlenPartialDecoder H B h b → Selection → Result Held CodecError → Type 0
 SureVlen state decoder selection result =
     CodecWhereSure (vlen_form_of decoder) (state (vlen_handle_of decoder)) selection (is_fault result ≡ false)
+
+-- What a read gives: the elements at the selected places, of the chunk that the stored value stands for, or of fill elements where nothing is stored; or the first refusal. Only a want of memory or a failure of the handle may come in its place, a failure behind the refusals of the selection, and never where the codec is plain and the bytes are sure that the answer rests on.
+pub record ReadsVlen {B : Type 0} (f : BytesCodecs B) (form : CodecForm B) (before : StorageState) (selection : Selection) (result : Result Held CodecError) : Type 0 where
+  pub selected : (value : List ℕ) (chunk : Chunk) → before.value ≡ Some value → CodecStands f form.codec form.sizes form.type form.fill value chunk
+      → AnswersBy memory_or_fault (Holds form.type) result (seen (select chunk) (places_of selection form.sizes))
+  pub unstored : before.value ≡ None
+      → AnswersBy memory_or_fault (Holds form.type) result (seen (map (λ _. fill_element form.type form.fill)) (places_of selection form.sizes))
+  pub exact : AnswersBy memory_or_fault (Holds form.type) result (codec_stored_read f form before.value selection)
+  pub indexer_first : IfErr (bounds_of selection form.sizes) (λ cause. AnswersBy memory (Holds form.type) result (Err cause))
+  pub sure : CodecWhereSure form before selection (is_fault result ≡ false)
+
+-- that of a decoder
+abbrev pub VlenGives : {H B : Type 0} {h : _} {b : _} → (H → StorageState) → BytesCodecs B → VlenPartialDecoder H B h b → Selection → Result Held CodecError → Type 0
+VlenGives state f decoder selection result = ReadsVlen f (vlen_form_of decoder) (state (vlen_handle_of decoder)) selection result
+
+-- that a reading call of a decoder changes nothing (`state` says what a handle keeps)
+abbrev pub VlenLeaves : {H B T L : Type 0} {h : _} {b : _} → (H → StorageState) → (H → L) → VlenPartialDecoder H B h b → VlenPartialDecoder H B h b → Result T CodecError → Type 0
+VlenLeaves state lent before after result =
+    OnlyReads (λ decoder. state (vlen_handle_of decoder)) (λ decoder. lent (vlen_handle_of decoder)) vlen_form_of before after result

@@ -121,7 +121,7 @@ impl<B: BytesToBytesCodecTraits> VlenCodecPartialTraits<B> for VlenCodec<B> {
 }
 
 impl<'a, H: BytesPartialDecoderTraits, B: BytesToBytesCodecTraits> VlenPartialDecoder<'a, H, B> {
-    ghost use Rattle.zarrs_chain_partial.specs.VlenPartialDecoder.{codec_stored_read, CodecWhereSure, vlen_form_of, vlen_handle_of, VlenReads, VlenRefusedAtSelection, SureVlen, VlenSelects, VlenFills};
+    ghost use Rattle.zarrs_chain_partial.specs.VlenPartialDecoder.{codec_stored_read, CodecWhereSure, vlen_form_of, vlen_handle_of, VlenGives, VlenLeaves, VlenReads, VlenRefusedAtSelection, SureVlen};
 
     /// The type of the elements.
     pub fn data_type(&self) -> &DataType
@@ -136,11 +136,7 @@ impl<'a, H: BytesPartialDecoderTraits, B: BytesToBytesCodecTraits> VlenPartialDe
             (selection_of indexer.now) result }
         ensures indexer_first { VlenRefusedAtSelection self.old (selection_of indexer.now) result }
         ensures sure { SureVlen H.state self.old (selection_of indexer.now) result }
-        ensures left { H.state (vlen_handle_of self.new) ≡ after_reading result
-            (H.state (vlen_handle_of self.old)) }
-        ensures same_reference { H.lent (vlen_handle_of self.new) ≡
-            H.lent (vlen_handle_of self.old) }
-        ensures form_kept { vlen_form_of self.new ≡ vlen_form_of self.old }
+        ensures left { VlenLeaves H.state H.lent self.old self.new result }
     {
         let runs = indexer.runs(alloc, &self.shape)?;
         vlen_runs(
@@ -167,18 +163,8 @@ impl<'a, H: BytesPartialDecoderTraits, B: BytesToBytesCodecTraits> VlenPartialDe
         alloc: Global,
         indexer: &Indexer,
     ) -> Result<ArrayBytes<'static>, CodecError>
-        ensures selected { VlenSelects H.state B.functions self.old
-            (selection_of indexer.now) result }
-        ensures unstored { VlenFills H.state self.old (selection_of indexer.now) result }
-        ensures answer { VlenReads H.state B.functions self.old
-            (selection_of indexer.now) result }
-        ensures indexer_first { VlenRefusedAtSelection self.old (selection_of indexer.now) result }
-        ensures sure { SureVlen H.state self.old (selection_of indexer.now) result }
-        ensures left { H.state (vlen_handle_of self.new) ≡ after_reading result
-            (H.state (vlen_handle_of self.old)) }
-        ensures same_reference { H.lent (vlen_handle_of self.new) ≡
-            H.lent (vlen_handle_of self.old) }
-        ensures form_kept { vlen_form_of self.new ≡ vlen_form_of self.old }
+        ensures reads { VlenGives H.state B.functions self.old (selection_of indexer.now) result }
+        ensures left { VlenLeaves H.state H.lent self.old self.new result }
     {
         vlen_is_sound(self.codec);
         self.shape.as_slice();
@@ -191,11 +177,7 @@ impl<'a, H: BytesPartialDecoderTraits, B: BytesToBytesCodecTraits> VlenPartialDe
             (Ok (is_some (H.state (vlen_handle_of self.old)).value)) }
         ensures sure { is_some (H.state (vlen_handle_of self.old)).sure ≡ true →
             is_fault result ≡ false }
-        ensures left { H.state (vlen_handle_of self.new) ≡ after_reading result
-            (H.state (vlen_handle_of self.old)) }
-        ensures same_reference { H.lent (vlen_handle_of self.new) ≡
-            H.lent (vlen_handle_of self.old) }
-        ensures form_kept { vlen_form_of self.new ≡ vlen_form_of self.old }
+        ensures left { VlenLeaves H.state H.lent self.old self.new result }
     {
         self.handle.exists()
     }

@@ -7,21 +7,22 @@ use Rattle.zarrs_chain_partial.specs.VlenPartialDecoder.{codec_stored_read, vlen
 use Rattle.zarrs_chain_partial.proofs.VlenReads.{vlen_fills, vlen_selects}
 use Rattle.zarrs_chain_partial.proofs.partial_decoder.vlen_partial_decoder.VlenPartialDecoder.partial_decode.Goals as goal
 
-pub returns-clause-selected : goal.returns-clause-selected
-returns-clause-selected g c value chunk here stands =
+pub returns-clause-reads : goal.returns-clause-reads
+returns-clause-reads g c =
     let f = g.B.BytesToBytesCodecTraits.functions in
     let d = c.args.self.now in
     let selection = selection_of c.args.indexer.now in
     let positive = subst (All (λ size. 0 < size)) c.as_slice.ensures.sizes c.as_slice.ensures.positive in
-    subst (λ expected. AnswersBy memory_or_fault (Holds d.data_type) c.read.result expected)
-    (ap (λ stored. codec_stored_read f (vlen_form_of d) stored selection) here ∙ vlen_selects f d.codec.now d.shape d.data_type d.fill_value value chunk selection c.vlen_is_sound.ensures.mappings positive stands)
-    c.read.ensures.answer
-
-pub returns-clause-unstored : goal.returns-clause-unstored
-returns-clause-unstored g c here =
-    let f = g.B.BytesToBytesCodecTraits.functions in
-    let d = c.args.self.now in
-    let selection = selection_of c.args.indexer.now in
-    subst (λ expected. AnswersBy memory_or_fault (Holds d.data_type) c.read.result expected)
-    (ap (λ stored. codec_stored_read f (vlen_form_of d) stored selection) here ∙ vlen_fills f d.codec.now d.shape d.data_type d.fill_value selection d.taken)
-    c.read.ensures.answer
+    record {
+      selected = (λ value chunk here stands.
+          subst (λ expected. AnswersBy memory_or_fault (Holds d.data_type) c.read.result expected)
+          (ap (λ stored. codec_stored_read f (vlen_form_of d) stored selection) here ∙ vlen_selects f d.codec.now d.shape d.data_type d.fill_value value chunk selection c.vlen_is_sound.ensures.mappings positive stands)
+          c.read.ensures.answer);
+      unstored = (λ here.
+          subst (λ expected. AnswersBy memory_or_fault (Holds d.data_type) c.read.result expected)
+          (ap (λ stored. codec_stored_read f (vlen_form_of d) stored selection) here ∙ vlen_fills f d.codec.now d.shape d.data_type d.fill_value selection d.taken)
+          c.read.ensures.answer);
+      exact = c.read.ensures.answer;
+      indexer_first = c.read.ensures.indexer_first;
+      sure = c.read.ensures.sure;
+    }
