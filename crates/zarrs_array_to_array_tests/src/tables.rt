@@ -1,8 +1,8 @@
 //! Codecs of metadata, through the enum of the codecs: what is written of them, and shapes and indexers
 //! of encoded chunks, where they are of another kind than in the examples.
 
-use crate::calls::maps;
-use crate::checks::Asked;
+use crate::calls::{has_shape, maps};
+use crate::checks::{Asked, shape};
 use crate::examples::Mapped;
 use crate::forms::{SQUEEZE, TURN, codec, metadata};
 use crate::metadata::{SQUEEZE_WRITTEN, is_written};
@@ -226,6 +226,74 @@ fn is_mapped(rt: &impl Abort, alloc: Global, row: &Row) -> Result<(), Fail> {
 fn codecs_are_written_and_map(rt: HostRuntime) -> Result<(), Fail> {
     for row in ROWS.iter() {
         is_mapped(&rt, rt.alloc(), row)?;
+    }
+    Ok(())
+}
+
+/// A codec by its metadata, the sizes of a chunk, and those of the encoded chunk.
+struct Shaped {
+    codec: &'static str,
+    sizes: &'static [u64],
+    encoded: Result<&'static [u64], CodecError>,
+}
+
+const SHAPED: &'static [Shaped] = &[
+    Shaped {
+        codec: r#"{"name":"reshape","configuration":{"shape":[[0,1],[2],3]}}"#,
+        sizes: &[5, 4, 4, 3],
+        encoded: Ok(&[20, 4, 3]),
+    },
+    Shaped {
+        codec: r#"{"name":"reshape","configuration":{"shape":[[0,1],[2],-1]}}"#,
+        sizes: &[5, 4, 4, 3],
+        encoded: Ok(&[20, 4, 3]),
+    },
+    Shaped {
+        codec: r#"{"name":"reshape","configuration":{"shape":[[0,1,2],3]}}"#,
+        sizes: &[5, 4, 4, 3],
+        encoded: Ok(&[80, 3]),
+    },
+    Shaped {
+        codec: r#"{"name":"reshape","configuration":{"shape":[[0],-1,[2,3]]}}"#,
+        sizes: &[5, 4, 4, 3],
+        encoded: Ok(&[5, 4, 12]),
+    },
+    Shaped {
+        codec: r#"{"name":"reshape","configuration":{"shape":[-1,2,2,[3]]}}"#,
+        sizes: &[5, 4, 4, 3],
+        encoded: Ok(&[20, 2, 2, 3]),
+    },
+    Shaped {
+        codec: r#"{"name":"reshape","configuration":{"shape":[]}}"#,
+        sizes: &[1, 1],
+        encoded: Ok(&[]),
+    },
+    Shaped {
+        codec: r#"{"name":"reshape","configuration":{"shape":[]}}"#,
+        sizes: &[2],
+        encoded: Err(CodecError::ReshapeElements),
+    },
+];
+
+fn is_shaped(
+    rt: &impl Abort,
+    alloc: Global,
+    codec: &ArrayToArrayCodec,
+    row: &Shaped,
+) -> Result<(), CodecError> {
+    let shape = shape(alloc, row.sizes)?;
+    has_shape(rt, alloc, row.codec, codec, &shape, &row.encoded)
+}
+
+fn gets_shape(rt: &impl Abort, alloc: Global, row: &Shaped) -> Result<(), Fail> {
+    let codec = codec(alloc, row.codec)?;
+    Ok(is_shaped(rt, alloc, &codec, row)?)
+}
+
+#[test]
+fn chunks_get_other_shapes(rt: HostRuntime) -> Result<(), Fail> {
+    for row in SHAPED.iter() {
+        gets_shape(&rt, rt.alloc(), row)?;
     }
     Ok(())
 }

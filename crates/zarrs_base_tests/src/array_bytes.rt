@@ -73,6 +73,15 @@ const SIZED: &'static [Sized] = &[
         size: 19,
     },
     Sized {
+        name: "bytes under a mask",
+        held: Held {
+            masks: &[&[1, 0, 1]],
+            bytes: &[5, 9, 7],
+            offsets: None,
+        },
+        size: 6,
+    },
+    Sized {
         name: "two masks",
         held: Held {
             masks: &[&[1, 0, 0], &[1, 1, 0]],

@@ -12,6 +12,7 @@ pub(crate) type Elements = Result<ArrayBytes<'static>, CodecError>;
 
 /// A type. A pair is two components of 12 bits, with a sign. What is optional twice has bytes inside.
 pub(crate) enum Type {
+    Byte,
     Pair,
     Text,
     AnyBytes,
@@ -22,6 +23,7 @@ pub(crate) enum Type {
 
 pub(crate) fn data_type(alloc: Global, told: &Type) -> Result<DataType, CodecError> {
     match told {
+        Type::Byte => Ok(DataType::uint8()),
         Type::Pair => DataType::components(12, 2, true),
         Type::Text => Ok(DataType::string()),
         Type::AnyBytes => Ok(DataType::bytes()),

@@ -26,6 +26,58 @@ struct Row {
 
 const ROWS: &'static [Row] = &[
     Row {
+        name: "bytes, and a place twice",
+        data_type: Type::Byte,
+        chunk: Held {
+            masks: &[],
+            bytes: &[1, 2, 3, 4],
+            offsets: None,
+        },
+        sizes: &[2, 2],
+        at: Tuples(&[&[1, 1], &[0, 0], &[1, 1]]),
+        selected: Held {
+            masks: &[],
+            bytes: &[4, 1, 4],
+            offsets: None,
+        },
+        new: Held {
+            masks: &[],
+            bytes: &[9, 8, 7],
+            offsets: None,
+        },
+        updated: Held {
+            masks: &[],
+            bytes: &[8, 2, 3, 7],
+            offsets: None,
+        },
+    },
+    Row {
+        name: "bytes under a mask, and a place twice",
+        data_type: Type::OptionalByte,
+        chunk: Held {
+            masks: &[&[1, 0, 1]],
+            bytes: &[5, 9, 7],
+            offsets: None,
+        },
+        sizes: &[3],
+        at: Tuples(&[&[2], &[0], &[2]]),
+        selected: Held {
+            masks: &[&[1, 1, 1]],
+            bytes: &[7, 5, 7],
+            offsets: None,
+        },
+        new: Held {
+            masks: &[&[1, 0, 1]],
+            bytes: &[6, 4, 8],
+            offsets: None,
+        },
+        updated: Held {
+            masks: &[&[0, 0, 1]],
+            bytes: &[4, 9, 8],
+            offsets: None,
+        },
+    },
+    Row {
         name: "texts under a mask",
         data_type: Type::OptionalText,
         chunk: Held {

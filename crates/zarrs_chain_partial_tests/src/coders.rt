@@ -1,14 +1,16 @@
-//! Coders of chunks over a handle that may fail: the decoders and encoders of chains, and the decoder of
-//! a `vlen` codec by itself.
+//! Coders of chunks over handles of tests: the decoders and encoders of chains, and the decoder of a
+//! `vlen` codec by itself.
 
 use crate::chunks::{Chunk, Form};
-use crate::failing_handle::FailingHandle;
-use std::alloc::Global;
+use std::alloc::{AllocError, Global};
 use zarrs_chain_partial::{
     ArrayPartialDecoder, ArrayPartialEncoder, CodecChainPartialTraits, VlenCodecPartialTraits,
     VlenPartialDecoder,
 };
-use zarrs_codec::{Refused, SampleBytesCodec};
+use zarrs_codec::testing::FailingHandle;
+use zarrs_codec::{
+    BytesPartialDecoderTraits, BytesPartialEncoderTraits, Refused, SampleBytesCodec,
+};
 use zarrs_codec_chain::VlenCodec;
 
 /// Whose coder it is: a chain's decoder or encoder, or the decoder of the chain's `vlen` codec.
@@ -18,16 +20,34 @@ pub(crate) enum Kind {
     OfVlen,
 }
 
-pub(crate) type Decoder<'a> = ArrayPartialDecoder<'a, FailingHandle, SampleBytesCodec>;
+pub(crate) type Decoder<'a, H> = ArrayPartialDecoder<'a, H, SampleBytesCodec>;
 
-pub(crate) type Encoder<'a> = ArrayPartialEncoder<'a, FailingHandle, SampleBytesCodec>;
+pub(crate) type Encoder<'a, H> = ArrayPartialEncoder<'a, H, SampleBytesCodec>;
 
 pub(crate) type VlenDecoder<'a> = VlenPartialDecoder<'a, FailingHandle, SampleBytesCodec>;
 
-/// What comes of making one: a refusal hands the handle back.
-pub(crate) type Made<T> = Result<T, Refused<FailingHandle>>;
+/// The bytes that a handle is to keep, or nothing.
+pub(crate) fn stored(alloc: Global, value: Option<&[u8]>) -> Result<Option<Vec<u8>>, AllocError> {
+    match value {
+        None => Ok(None),
+        Some(bytes) => Ok(Some(bytes.to_vec(alloc)?)),
+    }
+}
 
-pub(crate) fn decoder(alloc: Global, chunk: &Chunk, handle: FailingHandle) -> Made<Decoder<'_>> {
+/// A handle that keeps these bytes, or nothing, and fails at the call of this number, or never at 0.
+pub(crate) fn failing(
+    alloc: Global,
+    value: Option<&[u8]>,
+    call: u32,
+) -> Result<FailingHandle, AllocError> {
+    Ok(FailingHandle::new(stored(alloc, value)?, call))
+}
+
+pub(crate) fn decoder<'a, H: BytesPartialDecoderTraits>(
+    alloc: Global,
+    chunk: &'a Chunk,
+    handle: H,
+) -> Result<Decoder<'a, H>, Refused<H>> {
     let Form {
         shape,
         data_type,
@@ -38,7 +58,11 @@ pub(crate) fn decoder(alloc: Global, chunk: &Chunk, handle: FailingHandle) -> Ma
         .partial_decoder(alloc, handle, shape, data_type, fill_value)
 }
 
-pub(crate) fn encoder(alloc: Global, chunk: &Chunk, handle: FailingHandle) -> Made<Encoder<'_>> {
+pub(crate) fn encoder<'a, H: BytesPartialEncoderTraits>(
+    alloc: Global,
+    chunk: &'a Chunk,
+    handle: H,
+) -> Result<Encoder<'a, H>, Refused<H>> {
     let Form {
         shape,
         data_type,
@@ -54,7 +78,7 @@ pub(crate) fn vlen_decoder<'a>(
     codec: &'a VlenCodec<SampleBytesCodec>,
     form: &Form,
     handle: FailingHandle,
-) -> Made<VlenDecoder<'a>> {
+) -> Result<VlenDecoder<'a>, Refused<FailingHandle>> {
     let Form {
         shape,
         data_type,

@@ -1,15 +1,17 @@
-//! Lists of edits, over a handle that fails in the middle of them, or not at all.
+//! Lists of edits, over handles of which each call in turn fails: one that keeps its value then, and one
+//! that tears it.
 
 use crate::checks::{is, is_cause};
 use crate::chunks::{BYTES, Chunk, WITH_LENGTH, chunk_of, part_of};
 use crate::coders::{Encoder, encoder};
-use crate::failing_handle::{FAILED, FailingHandle, over};
 use std::alloc::Global;
 use std::process::Abort;
 use std::test::Fail;
 use zarrs_chain_json::Refusal;
 use zarrs_chain_partial::{Edit, EditOutcome, run_edits};
-use zarrs_chunk::CodecError;
+use zarrs_chunk::{CodecError, StorageError};
+use zarrs_codec::BytesPartialEncoderTraits;
+use zarrs_codec::testing::{FailingHandle, TornHandle};
 
 /// Where elements are written and which, or nothing where all is erased. The fourth edit has an element
 /// too many.
@@ -21,12 +23,14 @@ const LIST: &'static [Option<&'static str>] = &[
     None,
 ];
 
-/// A chunk, and what is stored of it after none of the edits, after the first one, after two and after
-/// three.
+/// A chunk; what is stored of it after none of the edits, after the first one, after two and after three;
+/// and what is torn where the writing call of the first edit fails, that of the second and that of the
+/// third.
 struct Row {
     name: &'static str,
     chunk: &'static str,
     after: &'static [Option<&'static [u8]>],
+    torn: &'static [&'static [u8]],
 }
 
 const ROWS: &'static [Row] = &[
@@ -34,6 +38,7 @@ const ROWS: &'static [Row] = &[
         name: "bytes",
         chunk: BYTES,
         after: &[None, Some(b"\x01\x02\0\0"), None, Some(b"\0\0\0\x09")],
+        torn: &[b"\x01\x02", b"\x01\x02", b"\0\0"],
     },
     Row {
         name: "bytes under a length",
@@ -44,6 +49,7 @@ const ROWS: &'static [Row] = &[
             None,
             Some(b"\x04\0\0\0\0\0\0\0\0\0\0\x09"),
         ],
+        torn: &[b"\x04\0\0\0\0\0", b"\x04\0\0\0\0\0", b"\x04\0\0\0\0\0"],
     },
 ];
 
@@ -75,16 +81,54 @@ fn edits(alloc: Global, chunk: &Chunk) -> Result<Vec<Edit<'static>>, Refusal> {
     Ok(all)
 }
 
-/// The refusal is the handle's where one of its calls failed. Else the first three edits are accepted,
-/// and the fourth is refused before the handle is asked.
+/// What is left of a handle: its value, how many calls failed, how many writing calls there were, and how
+/// many of these were accepted.
+#[derive(Clone, Copy)]
+struct Left<'a> {
+    value: Option<&'a [u8]>,
+    faults: u64,
+    writes: u64,
+    accepted: u64,
+}
+
+/// A handle that says what is left of it.
+trait Counted: BytesPartialEncoderTraits {
+    fn left(&self) -> Left<'_>;
+}
+
+impl Counted for FailingHandle {
+    fn left(&self) -> Left<'_> {
+        Left {
+            value: self.value(),
+            faults: self.faults(),
+            writes: self.write_calls(),
+            accepted: self.accepted_writes(),
+        }
+    }
+}
+
+impl Counted for TornHandle {
+    fn left(&self) -> Left<'_> {
+        Left {
+            value: self.value(),
+            faults: self.faults(),
+            writes: self.write_calls(),
+            accepted: self.accepted_writes(),
+        }
+    }
+}
+
+/// The refusal is the handle's where its call of this number failed. Else the first three edits are
+/// accepted, and the fourth is refused before the handle is asked.
 fn is_refused(
     rt: &impl Abort,
     row: &Row,
     outcome: &EditOutcome,
     has_failed: bool,
+    call: u32,
 ) -> Result<(), CodecError> {
     let cause = if has_failed {
-        FAILED
+        CodecError::Storage(StorageError { code: call })
     } else {
         CodecError::DataMismatch
     };
@@ -93,61 +137,60 @@ fn is_refused(
     Ok(())
 }
 
-/// Each accepted edit made one writing call; the refused one made none, or the one that failed, which
-/// the memory didn't count. So no more edits are accepted than calls passed: behind none, none is. The
-/// handle keeps what so many edits leave.
-fn is_left(rt: &impl Abort, row: &Row, done: usize, handle: &FailingHandle, calls_before: u64) {
-    let passed = handle.memory.write_calls();
-    let failed = handle.writes.wrapping_sub(passed);
-    let came = (
-        passed,
-        failed <= handle.faults,
-        passed <= calls_before,
-        handle.memory.value(),
-    );
-    let left = row.after.get(done).copied().flatten();
-    let wanted = (done as u64, true, true, left);
+/// Each accepted edit made one writing call; the refused one made none, or the one that failed. The value
+/// is what the accepted edits leave, or what is torn of it where a writing call failed and the handle
+/// isn't atomic.
+fn is_left(rt: &impl Abort, row: &Row, done: usize, left: &Left<'_>, is_atomic: bool) {
+    let failed = left.writes.wrapping_sub(left.accepted);
+    let value = if is_atomic || failed == 0 {
+        row.after.get(done).copied().flatten()
+    } else {
+        row.torn.get(done).copied()
+    };
+    let came = (left.accepted, failed <= left.faults, left.value);
+    let wanted = (done as u64, true, value);
     is(rt, row.name, "writes and value", &came, &wanted);
 }
 
-/// What is left of the edits, and how often the handle failed.
-fn ends(
+/// What is left of the edits and of the handle, and how often it failed.
+fn ends<H: Counted>(
     rt: &impl Abort,
     row: &Row,
     outcome: &EditOutcome,
-    handle: &FailingHandle,
-    calls_before: u64,
+    handle: &H,
+    call: u32,
 ) -> Result<u64, CodecError> {
-    is_refused(rt, row, outcome, handle.faults == 1)?;
-    is_left(rt, row, outcome.done, handle, calls_before);
-    Ok(handle.faults)
+    let left = handle.left();
+    is_refused(rt, row, outcome, left.faults == 1, call)?;
+    is_left(rt, row, outcome.done, &left, handle.is_atomic());
+    Ok(left.faults)
 }
 
-fn runs(
+fn runs<H: Counted + Drop>(
     rt: &impl Abort,
     alloc: Global,
-    mut encoder: Encoder<'_>,
+    mut encoder: Encoder<'_, H>,
     edits: &[Edit<'static>],
     row: &Row,
-    calls_before: u64,
+    call: u32,
 ) -> Result<u64, CodecError> {
     let outcome = run_edits(alloc, &mut encoder, edits);
-    ends(rt, row, &outcome, &encoder.into_handle(), calls_before)
+    ends(rt, row, &outcome, &encoder.into_handle(), call)
 }
 
-/// Runs the edits over a handle that keeps nothing yet, and fails behind so many calls. The answer is
+/// Runs the edits over a handle that keeps nothing yet, and whose call of this number fails. The answer is
 /// how often it failed.
-fn fails_behind(
+fn fails_at<H: Counted + Drop>(
     rt: &impl Abort,
     alloc: Global,
     chunk: &Chunk,
     edits: &[Edit<'static>],
     row: &Row,
-    calls_before: u64,
+    handle: H,
+    call: u32,
 ) -> Result<u64, CodecError> {
-    let handle = over(alloc, None, calls_before)?;
     match encoder(alloc, chunk, handle) {
-        Ok(encoder) => runs(rt, alloc, encoder, edits, row, calls_before),
+        Ok(encoder) => runs(rt, alloc, encoder, edits, row, call),
         Err(refused) => Err(refused.error),
     }
 }
@@ -160,11 +203,22 @@ fn fails_at_each(
     edits: &[Edit<'static>],
     row: &Row,
 ) -> Result<(), CodecError> {
-    let mut faults = 1;
-    for calls_before in 0..8 {
-        faults = fails_behind(rt, alloc, chunk, edits, row, calls_before)?;
+    let mut faults = (1, 1);
+    for call in 1..9 {
+        let failing = FailingHandle::new(None, call);
+        let kept = fails_at(rt, alloc, chunk, edits, row, failing, call)?;
+        let torn = fails_at(
+            rt,
+            alloc,
+            chunk,
+            edits,
+            row,
+            TornHandle::new(None, call),
+            call,
+        )?;
+        faults = (kept, torn);
     }
-    is(rt, row.name, "faults of the last run", &faults, &0);
+    is(rt, row.name, "faults of the last runs", &faults, &(0, 0));
     Ok(())
 }
 

@@ -3,15 +3,15 @@
 
 use crate::checks::{is, is_cause, is_plan};
 use crate::chunks::{Chunk, Part, chunk_of, part_of};
-use crate::coders::{Decoder, Encoder, Kind, VlenDecoder, decoder, encoder, vlen_decoder};
-use crate::failing_handle::{FAILED, FailingHandle, over};
+use crate::coders::{Decoder, Encoder, Kind, VlenDecoder, decoder, encoder, failing, vlen_decoder};
 use crate::rows::{ENCODERS, FAILING, NEVER_MADE, OF_VLEN, Row, WITH_CACHE, WITHOUT_CACHE};
 use std::alloc::Global;
 use std::process::Abort;
 use std::test::Fail;
 use zarrs_array_bytes::ArrayBytes;
 use zarrs_chain_json::Refusal;
-use zarrs_chunk::CodecError;
+use zarrs_chunk::{CodecError, StorageError};
+use zarrs_codec::testing::FailingHandle;
 use zarrs_codec::{ArrayPartialDecoderTraits, ByteRange, Refused, SampleBytesCodec};
 use zarrs_codec_chain::{ArrayToBytesCodec, VlenCodec};
 
@@ -34,7 +34,7 @@ fn is_read(
 }
 
 /// Reads the part.
-fn reads<D: ArrayPartialDecoderTraits>(
+pub(crate) fn reads<D: ArrayPartialDecoderTraits>(
     rt: &impl Abort,
     alloc: Global,
     coder: &mut D,
@@ -105,9 +105,10 @@ fn is_kept(
     handle: &FailingHandle,
     row: &Row,
 ) -> Result<(), CodecError> {
-    let length = handle.memory.value().unwrap_or(&[]).len();
-    let came = (length, handle.memory.write_calls(), handle.faults == 1);
-    let has_failed = row.refusals.contains(&Some(FAILED));
+    let length = handle.value().unwrap_or(&[]).len();
+    let came = (length, handle.write_calls(), handle.faults() == 1);
+    let failed = CodecError::Storage(StorageError { code: row.fails_at });
+    let has_failed = row.refusals.contains(&Some(failed));
     let wanted = (row.value.unwrap_or(&[]).len(), 0, has_failed);
     if done.is_ok() {
         is(rt, row.name, "kept, written, failed", &came, &wanted);
@@ -129,7 +130,7 @@ fn is_refused(
 fn asks_decoder(
     rt: &impl Abort,
     alloc: Global,
-    decoder: &mut Decoder<'_>,
+    decoder: &mut Decoder<'_, FailingHandle>,
     chunk: &Chunk,
     part: &Part,
     row: &Row,
@@ -141,7 +142,7 @@ fn asks_decoder(
 fn decodes(
     rt: &impl Abort,
     alloc: Global,
-    mut decoder: Decoder<'_>,
+    mut decoder: Decoder<'_, FailingHandle>,
     chunk: &Chunk,
     part: &Part,
     row: &Row,
@@ -157,7 +158,7 @@ fn by_decoder(
     part: &Part,
     row: &Row,
 ) -> Result<(), CodecError> {
-    let handle = over(alloc, row.value, row.fails_behind)?;
+    let handle = failing(alloc, row.value, row.fails_at)?;
     match decoder(alloc, chunk, handle) {
         Ok(decoder) => decodes(rt, alloc, decoder, chunk, part, row),
         Err(refused) => is_refused(rt, refused, row),
@@ -167,7 +168,7 @@ fn by_decoder(
 fn asks_encoder(
     rt: &impl Abort,
     alloc: Global,
-    encoder: &mut Encoder<'_>,
+    encoder: &mut Encoder<'_, FailingHandle>,
     chunk: &Chunk,
     part: &Part,
     row: &Row,
@@ -179,7 +180,7 @@ fn asks_encoder(
 fn decodes_by_encoder(
     rt: &impl Abort,
     alloc: Global,
-    mut encoder: Encoder<'_>,
+    mut encoder: Encoder<'_, FailingHandle>,
     chunk: &Chunk,
     part: &Part,
     row: &Row,
@@ -195,7 +196,7 @@ fn by_encoder(
     part: &Part,
     row: &Row,
 ) -> Result<(), CodecError> {
-    let handle = over(alloc, row.value, row.fails_behind)?;
+    let handle = failing(alloc, row.value, row.fails_at)?;
     match encoder(alloc, chunk, handle) {
         Ok(encoder) => decodes_by_encoder(rt, alloc, encoder, chunk, part, row),
         Err(refused) => is_refused(rt, refused, row),
@@ -223,7 +224,7 @@ fn by_vlen(
     part: &Part,
     row: &Row,
 ) -> Result<(), CodecError> {
-    let handle = over(alloc, row.value, row.fails_behind)?;
+    let handle = failing(alloc, row.value, row.fails_at)?;
     match vlen_decoder(alloc, codec, &chunk.form, handle) {
         Ok(decoder) => decodes_by_vlen(rt, alloc, decoder, chunk, part, row),
         Err(refused) => is_refused(rt, refused, row),

@@ -1,6 +1,6 @@
 //! Tests of chains and of the codecs with chains inside, `vlen` and `optional`: how many bytes a value
-//! has, encoding, decoding, also into a target, making a value shorter, what a chain is made of and does
-//! in part, and the metadata that is written of it. Without tests the crate is empty.
+//! has, encoding, decoding, also into a target, re-encoding, making a value shorter, what a chain is made
+//! of and does in part, and the metadata that is written of it. Without tests the crate is empty.
 //!
 //! What the line tool shows of chains stands in `zarrs_transcripts`. Here is the rest: sizes, containers
 //! with bytes that no element has, what a refusal carries, and calls that the tool doesn't make. Chains
@@ -22,6 +22,8 @@ mod nested;
 mod nested_rows;
 #[cfg(test)]
 mod parts;
+#[cfg(test)]
+mod reencoding;
 #[cfg(test)]
 mod refusals;
 #[cfg(test)]

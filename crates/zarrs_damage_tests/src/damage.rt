@@ -1,7 +1,7 @@
 //! Each value damaged in each way, and what is answered to it.
 
 use crate::lines::{answer, asked};
-use crate::rows::{FIXED, Place, Row, VARIABLE};
+use crate::rows::{FIXED, PACKED, Place, Row, VARIABLE};
 use std::alloc::Global;
 use std::fmt::Debug;
 use std::process::Abort;
@@ -102,14 +102,15 @@ fn reads_place(
     Ok(())
 }
 
-/// The value with its beginning, and behind its end what stands there in the value that was damaged: of
-/// the right length, and so a chunk's.
+/// The value mended outside the bytes of the places, and where it ends too soon filled up with those of
+/// the value that was damaged: of the right length, and so a chunk's.
 fn mended(alloc: Global, row: &Row, value: &str) -> Result<String, Fail> {
-    let lead = row.lead.wrapping_mul(2).min(value.len());
-    let kept = value.get(lead..).unwrap_or("");
-    let start = row.value.get(..lead).unwrap_or("");
-    let end = row.value.get(value.len()..).unwrap_or("");
-    Ok(format!(in alloc; "{start}{kept}{end}")?)
+    let start = row.front.len();
+    let end = row.value.len().wrapping_sub(row.back.len());
+    let cut = value.len().max(start).min(end);
+    let kept = value.get(start..cut).unwrap_or("");
+    let lost = row.value.get(cut..end).unwrap_or("");
+    Ok(format!(in alloc; "{}{kept}{lost}{}", row.front, row.back)?)
 }
 
 /// Nothing is damaged that each read looks at.
@@ -167,6 +168,11 @@ fn all_bear(rt: &impl Abort, alloc: Global, rows: &[Row]) -> Result<(), Fail> {
 #[test]
 fn of_elements_of_one_size(rt: HostRuntime) -> Result<(), Fail> {
     all_bear(&rt, rt.alloc(), FIXED)
+}
+
+#[test]
+fn of_packed_elements(rt: HostRuntime) -> Result<(), Fail> {
+    all_bear(&rt, rt.alloc(), PACKED)
 }
 
 #[test]

@@ -1,7 +1,12 @@
 //! What the line tool answers.
 
 use std::alloc::{AllocError, Global};
-use zarrs_chain_lines::run::run;
+use zarrs_chain_lines::run::{RunEnd, run};
+
+/// Over memory a run ends as a fault for want of memory alone.
+fn wants_memory(end: RunEnd, lines: &str) -> bool {
+    end == RunEnd::Fault || lines.contains("error OutOfMemory")
+}
 
 /// The lines that come back to the header, a stored value, in hex, and a command.
 pub(crate) fn asked(
@@ -14,10 +19,14 @@ pub(crate) fn asked(
     let lines = format!(in alloc; "{header}\nload \"{value}\"\n{command}{argument}\n")?;
     let mut reader: &[u8] = lines.as_bytes();
     let mut written = Vec::new(alloc);
-    run(alloc, &mut reader, &mut written);
-    String::from_utf8_lossy(alloc, &written)?
+    let end = run(alloc, &mut reader, &mut written);
+    let answered = String::from_utf8_lossy(alloc, &written)?
         .as_str()
-        .to_string(alloc)
+        .to_string(alloc)?;
+    if wants_memory(end, answered.as_str()) {
+        return Err(AllocError);
+    }
+    Ok(answered)
 }
 
 /// The answer to the command, which stands below that to the stored value.

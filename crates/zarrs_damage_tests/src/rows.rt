@@ -24,8 +24,9 @@ pub(crate) struct Row {
     pub(crate) places: &'static [Place],
     /// How many bytes at the beginning each read looks at.
     pub(crate) head: usize,
-    /// How many bytes at the beginning are no place's.
-    pub(crate) lead: usize,
+    /// What stands before the bytes of all places, and what behind them, in a value of a chunk, in hex.
+    pub(crate) front: &'static str,
+    pub(crate) back: &'static str,
 }
 
 /// Of `bytes` without bytes codecs.
@@ -56,6 +57,14 @@ const OF_OPTIONAL: &'static [&'static str] = &[
     "error MaskValue",
 ];
 
+/// Bytes that may be absent, which have one axis where they are there, and should have two.
+const OF_TURNED_OPTIONAL: &'static [&'static str] = &[
+    "error InvalidBytesLength",
+    "error HeaderOverflow",
+    "error MaskValue",
+    "error IncompatibleDimensionality",
+];
+
 /// Texts that may be absent.
 const OF_OPTIONAL_TEXTS: &'static [&'static str] = &[
     "error InvalidBytesLength",
@@ -68,6 +77,29 @@ const OF_LENGTH: &'static [&'static str] = &["error BytesCodec"];
 
 /// Elements of one size.
 pub(crate) const FIXED: &'static [Row] = &[
+    Row {
+        name: "bytes",
+        header: r#"{"shape":[4,4],"data_type":"uint8","fill_value":"00","codecs":["bytes"]}"#,
+        value: "000102030405060708090a0b0c0d0e0f",
+        whole: r#"{"ranges":[[0,4],[0,4]]}"#,
+        refusals: OF_BYTES,
+        of_whole: OF_BYTES,
+        places: &[
+            Place {
+                indices: "[1,0]",
+                number: 4,
+                needs: 5,
+            },
+            Place {
+                indices: "[2,0]",
+                number: 8,
+                needs: 9,
+            },
+        ],
+        head: 0,
+        front: "",
+        back: "",
+    },
     Row {
         name: "bytes whose axes are turned",
         header: r#"{"shape":[2,3],"data_type":"uint8","fill_value":"00","codecs":[{"name":"transpose","configuration":{"order":[1,0]}},"bytes"]}"#,
@@ -93,7 +125,8 @@ pub(crate) const FIXED: &'static [Row] = &[
             },
         ],
         head: 0,
-        lead: 0,
+        front: "",
+        back: "",
     },
     Row {
         name: "words whose axes are turned twice",
@@ -115,8 +148,37 @@ pub(crate) const FIXED: &'static [Row] = &[
             },
         ],
         head: 0,
-        lead: 0,
+        front: "",
+        back: "",
     },
+    Row {
+        name: "bytes behind their length",
+        header: r#"{"shape":[2],"data_type":"uint8","fill_value":"00","codecs":["bytes","sample.length"]}"#,
+        value: "02000000000000000102",
+        whole: r#"{"ranges":[[0,2]]}"#,
+        refusals: OF_LENGTH,
+        of_whole: &[],
+        places: &[],
+        head: 0,
+        front: "",
+        back: "",
+    },
+    Row {
+        name: "bytes behind their length, turned round",
+        header: r#"{"shape":[2],"data_type":"uint8","fill_value":"00","codecs":["bytes","sample.length","sample.reverse"]}"#,
+        value: "02010000000000000002",
+        whole: r#"{"ranges":[[0,2]]}"#,
+        refusals: OF_LENGTH,
+        of_whole: &[],
+        places: &[],
+        head: 0,
+        front: "",
+        back: "",
+    },
+];
+
+/// Elements of one size that are packed.
+pub(crate) const PACKED: &'static [Row] = &[
     Row {
         name: "flags",
         header: r#"{"shape":[8,5],"data_type":"bool","fill_value":"00","codecs":["packbits"]}"#,
@@ -142,7 +204,8 @@ pub(crate) const FIXED: &'static [Row] = &[
             },
         ],
         head: 0,
-        lead: 0,
+        front: "",
+        back: "",
     },
     Row {
         name: "pairs of bits behind their padding byte",
@@ -169,7 +232,8 @@ pub(crate) const FIXED: &'static [Row] = &[
             },
         ],
         head: 0,
-        lead: 1,
+        front: "06",
+        back: "",
     },
     Row {
         name: "three bits of four",
@@ -191,29 +255,116 @@ pub(crate) const FIXED: &'static [Row] = &[
             },
         ],
         head: 0,
-        lead: 0,
+        front: "",
+        back: "",
     },
     Row {
-        name: "bytes behind their length",
-        header: r#"{"shape":[2],"data_type":"uint8","fill_value":"00","codecs":["bytes","sample.length"]}"#,
-        value: "02000000000000000102",
-        whole: r#"{"ranges":[[0,2]]}"#,
-        refusals: OF_LENGTH,
-        of_whole: &[],
-        places: &[],
+        name: "pairs of bits behind a padding byte that isn't theirs",
+        header: r#"{"shape":[4],"data_type":"uint2","fill_value":"00","codecs":[{"name":"packbits","configuration":{"padding_encoding":"first_byte"}}]}"#,
+        value: "01e4",
+        whole: r#"{"ranges":[[0,4]]}"#,
+        refusals: OF_PACKBITS,
+        of_whole: OF_PACKBITS,
+        places: &[
+            Place {
+                indices: "[0]",
+                number: 0,
+                needs: 2,
+            },
+            Place {
+                indices: "[3]",
+                number: 3,
+                needs: 2,
+            },
+        ],
         head: 0,
-        lead: 0,
+        front: "00",
+        back: "",
     },
     Row {
-        name: "bytes behind their length, turned round",
-        header: r#"{"shape":[2],"data_type":"uint8","fill_value":"00","codecs":["bytes","sample.length","sample.reverse"]}"#,
-        value: "02010000000000000002",
+        name: "flags before their padding byte",
+        header: r#"{"shape":[2],"data_type":"bool","fill_value":"00","codecs":[{"name":"packbits","configuration":{"padding_encoding":"last_byte"}}]}"#,
+        value: "0306",
         whole: r#"{"ranges":[[0,2]]}"#,
-        refusals: OF_LENGTH,
-        of_whole: &[],
-        places: &[],
+        refusals: OF_PACKBITS,
+        of_whole: OF_PACKBITS,
+        places: &[
+            Place {
+                indices: "[0]",
+                number: 0,
+                needs: 1,
+            },
+            Place {
+                indices: "[1]",
+                number: 1,
+                needs: 1,
+            },
+        ],
         head: 0,
-        lead: 0,
+        front: "",
+        back: "06",
+    },
+    Row {
+        name: "up to the fifth bit",
+        header: r#"{"shape":[1],"data_type":"int16","fill_value":"0000","codecs":[{"name":"packbits","configuration":{"last_bit":5}}]}"#,
+        value: "3d",
+        whole: r#"{"ranges":[[0,1]]}"#,
+        refusals: OF_PACKBITS,
+        of_whole: OF_PACKBITS,
+        places: &[Place {
+            indices: "[0]",
+            number: 0,
+            needs: 1,
+        }],
+        head: 0,
+        front: "",
+        back: "",
+    },
+    Row {
+        name: "half bytes",
+        header: r#"{"shape":[2],"data_type":"uint4","fill_value":"00","codecs":["packbits"]}"#,
+        value: "99",
+        whole: r#"{"ranges":[[0,2]]}"#,
+        refusals: OF_PACKBITS,
+        of_whole: OF_PACKBITS,
+        places: &[
+            Place {
+                indices: "[0]",
+                number: 0,
+                needs: 1,
+            },
+            Place {
+                indices: "[1]",
+                number: 1,
+                needs: 1,
+            },
+        ],
+        head: 0,
+        front: "",
+        back: "",
+    },
+    Row {
+        name: "packed words, which have no padding byte",
+        header: r#"{"shape":[2],"data_type":"uint16","fill_value":"0000","codecs":[{"name":"packbits","configuration":{"padding_encoding":"first_byte"}}]}"#,
+        value: "01000201",
+        whole: r#"{"ranges":[[0,2]]}"#,
+        refusals: OF_PACKBITS,
+        of_whole: OF_PACKBITS,
+        places: &[
+            Place {
+                indices: "[0]",
+                number: 0,
+                needs: 2,
+            },
+            Place {
+                indices: "[1]",
+                number: 1,
+                needs: 4,
+            },
+        ],
+        head: 0,
+        front: "",
+        back: "",
     },
 ];
 
@@ -239,7 +390,8 @@ pub(crate) const VARIABLE: &'static [Row] = &[
             },
         ],
         head: 32,
-        lead: 0,
+        front: "",
+        back: "",
     },
     Row {
         name: "texts before their offsets",
@@ -250,7 +402,8 @@ pub(crate) const VARIABLE: &'static [Row] = &[
         of_whole: OF_PLAIN_TEXTS,
         places: &[],
         head: 0,
-        lead: 0,
+        front: "",
+        back: "",
     },
     Row {
         name: "texts whose axes are turned, turned round",
@@ -261,7 +414,8 @@ pub(crate) const VARIABLE: &'static [Row] = &[
         of_whole: OF_PLAIN_TEXTS,
         places: &[],
         head: 0,
-        lead: 0,
+        front: "",
+        back: "",
     },
     Row {
         name: "offsets of two bits",
@@ -272,7 +426,8 @@ pub(crate) const VARIABLE: &'static [Row] = &[
         of_whole: &[],
         places: &[],
         head: 0,
-        lead: 0,
+        front: "",
+        back: "",
     },
     Row {
         name: "texts of half bytes",
@@ -283,7 +438,8 @@ pub(crate) const VARIABLE: &'static [Row] = &[
         of_whole: &[],
         places: &[],
         head: 0,
-        lead: 0,
+        front: "",
+        back: "",
     },
     Row {
         name: "bytes that may be absent",
@@ -294,7 +450,8 @@ pub(crate) const VARIABLE: &'static [Row] = &[
         of_whole: &[],
         places: &[],
         head: 0,
-        lead: 0,
+        front: "",
+        back: "",
     },
     Row {
         name: "bytes that may be absent at two levels",
@@ -305,7 +462,20 @@ pub(crate) const VARIABLE: &'static [Row] = &[
         of_whole: &[],
         places: &[],
         head: 0,
-        lead: 0,
+        front: "",
+        back: "",
+    },
+    Row {
+        name: "absent bytes, as turned axes take no others",
+        header: r#"{"shape":[2,2],"data_type":{"optional":"uint8"},"fill_value":"00","codecs":[{"name":"optional","configuration":{"mask_codecs":["bytes"],"data_codecs":[{"name":"transpose","configuration":{"order":[1,0]}},"bytes"]}}]}"#,
+        value: "0400000000000000000000000000000000000000",
+        whole: r#"{"ranges":[[0,2],[0,2]]}"#,
+        refusals: OF_TURNED_OPTIONAL,
+        of_whole: &[],
+        places: &[],
+        head: 0,
+        front: "",
+        back: "",
     },
     Row {
         name: "texts that may be absent, behind flags",
@@ -316,6 +486,7 @@ pub(crate) const VARIABLE: &'static [Row] = &[
         of_whole: &[],
         places: &[],
         head: 0,
-        lead: 0,
+        front: "",
+        back: "",
     },
 ];

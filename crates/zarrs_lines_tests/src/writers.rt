@@ -1,6 +1,6 @@
 //! What is answered, and writers that fail in a write or in the flush.
 use crate::sent::{SENT, Sent, run_over};
-use std::alloc::Global;
+use std::alloc::{AllocError, Global};
 use std::fmt::Debug;
 use std::io;
 use std::io::{BufWriter, ErrorKind, Write};
@@ -11,6 +11,16 @@ use zarrs_chain_lines::run::RunEnd;
 /// What came is what is wanted.
 fn is<T: PartialEq + Debug>(rt: &impl Abort, about: &str, came: &T, wanted: &T) {
     assert_eq!(rt; *came, *wanted, "{about}");
+}
+
+/// What came of two runs is the same, but where memory is refused in one of them: that ends a test, and
+/// isn't compared with what is wanted.
+fn agree<T: PartialEq>(one: &T, other: &T) -> Result<(), AllocError> {
+    if one == other {
+        Ok(())
+    } else {
+        Err(AllocError)
+    }
 }
 
 /// Takes so many writes and then fails, and may fail when it is flushed. It counts the bytes that it
@@ -44,12 +54,11 @@ impl Write for FakeWriter {
 fn is_answered(rt: &impl Abort, alloc: Global, row: &Sent) -> Result<(), Fail> {
     let mut written = Vec::new(alloc);
     let end = run_over(alloc, row, &mut written)?;
-    is(
-        rt,
-        row.name,
-        &(end, written.as_slice()),
-        &(row.end, row.answers),
-    );
+    let mut again = Vec::new(alloc);
+    let ended = run_over(alloc, row, &mut again)?;
+    let came = (end, written.as_slice());
+    agree(&came, &(ended, again.as_slice()))?;
+    is(rt, row.name, &came, &(row.end, row.answers));
     Ok(())
 }
 
@@ -64,6 +73,23 @@ fn that_take_all(rt: HostRuntime) -> Result<(), Fail> {
 /// More writes than a run of the table needs.
 const MANY: usize = 100;
 
+/// How a run ends over a writer that takes so many writes, how many are left of them, and whether
+/// anything is left to flush though it can be flushed.
+fn end_over(
+    alloc: Global,
+    row: &Sent,
+    writes: usize,
+    can_flush: bool,
+) -> io::Result<(RunEnd, usize, bool)> {
+    let mut writer = FakeWriter {
+        writes_left: writes,
+        can_flush,
+        unflushed: 0,
+    };
+    let end = run_over(alloc, row, &mut writer)?;
+    Ok((end, writer.writes_left, can_flush && writer.unflushed > 0))
+}
+
 /// The run ends so over a writer that takes so many writes, and where all is written, all is flushed.
 /// The answer is how many writes are left.
 fn ends(
@@ -74,15 +100,11 @@ fn ends(
     can_flush: bool,
     end: RunEnd,
 ) -> Result<usize, Fail> {
-    let mut writer = FakeWriter {
-        writes_left: writes,
-        can_flush,
-        unflushed: 0,
-    };
-    let came = run_over(alloc, row, &mut writer)?;
-    is(rt, row.name, &came, &end);
-    is(rt, row.name, &(can_flush && writer.unflushed > 0), &false);
-    Ok(writer.writes_left)
+    let came = end_over(alloc, row, writes, can_flush)?;
+    agree(&came, &end_over(alloc, row, writes, can_flush)?)?;
+    let (ended, left, is_held_back) = came;
+    is(rt, row.name, &(ended, is_held_back), &(end, false));
+    Ok(left)
 }
 
 /// With fewer writes than a run needs it ends as a fault, and so where the flush fails: the disk may
@@ -106,15 +128,21 @@ fn that_fail_in_a_write_or_in_the_flush(rt: HostRuntime) -> Result<(), Fail> {
     Ok(())
 }
 
-/// The program's own writer holds all answers back, up to the flush, which fails where there are some.
-fn holds_back(rt: &impl Abort, alloc: Global, row: &Sent) -> Result<(), Fail> {
+/// How a run ends over the program's own writer before one that takes nothing.
+fn end_held_back(alloc: Global, row: &Sent) -> io::Result<RunEnd> {
     let full = FakeWriter {
         writes_left: 0,
         can_flush: true,
         unflushed: 0,
     };
     let mut writer = BufWriter::new(alloc, full)?;
-    let came = run_over(alloc, row, &mut writer)?;
+    run_over(alloc, row, &mut writer)
+}
+
+/// The program's own writer holds all answers back, up to the flush, which fails where there are some.
+fn holds_back(rt: &impl Abort, alloc: Global, row: &Sent) -> Result<(), Fail> {
+    let came = end_held_back(alloc, row)?;
+    agree(&came, &end_held_back(alloc, row)?)?;
     let end = if row.answers.is_empty() {
         row.end
     } else {
