@@ -82,7 +82,10 @@ const OF_TEXTS: &'static [Row] = &[
         value: b"\xff\xff\xff\xff\xff\xff\xff",
         inside: &[],
         part: r#"{"at":{"ranges":[[0,1]]},"data":[]}"#,
-        refusal: Some(CodecError::InvalidBytesLength { len: 7, expected: 8 }),
+        refusal: Some(CodecError::InvalidBytesLength {
+            len: 7,
+            expected: 8,
+        }),
     },
     Row {
         name: "a length of the offsets past the end, without the rest",
@@ -98,7 +101,10 @@ const OF_TEXTS: &'static [Row] = &[
         value: b"\x08\0\0\0\0\0\0\0\0\0\0\0\0\0\0\0a",
         inside: &[(0, 16)],
         part: r#"{"at":{"ranges":[[0,1]]},"data":[]}"#,
-        refusal: Some(CodecError::InvalidBytesLength { len: 8, expected: 24 }),
+        refusal: Some(CodecError::InvalidBytesLength {
+            len: 8,
+            expected: 24,
+        }),
     },
     Row {
         name: "the second text, before the offsets",
