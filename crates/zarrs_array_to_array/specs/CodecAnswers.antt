@@ -5,9 +5,11 @@ use Rattle.zarrs_chunk.specs.declared.codec_error.CodecError.{CodecError}
 use Rattle.zarrs_chunk.specs.declared.codec_error.CodecError.TheVariants.{UnsupportedDataType}
 use Rattle.zarrs_chunk.specs.declared.codec_error.CodecName.TheVariants.{Transpose}
 use Rattle.zarrs_data_type.specs.ElementType.{ElementType, inner_of}
+use Rattle.zarrs_data_type.specs.Form.{Form}
 use Rattle.zarrs_array_bytes.specs.Held.{Held}
 use Rattle.zarrs_array_bytes.specs.Validity.{Holds}
-use Rattle.zarrs_array_to_array.specs.ArrayToArrayCodec.{ArrayMapping, transpose, reshape, squeeze}
+use Rattle.zarrs_codec.specs.MappedChunk.{encoded_form, EncodesMoved, DecodesMoved}
+use Rattle.zarrs_array_to_array.specs.ArrayToArrayCodec.{ArrayMapping, transpose, reshape, squeeze, coordinates}
 use Rattle.zarrs_array_to_array.specs.TransposeCodec.{transposed_back_sizes, transpose_encoded, transpose_decoded}
 
 -- the codec takes elements of the type: transposition of those that are not optional, the others of all
@@ -35,3 +37,18 @@ DecodesHeld (transpose order) type sizes held result =
     GivesBy (Holds type) result (transpose_decoded order type sizes held)
 DecodesHeld (reshape dims) type sizes held result = result ≡ Ok held
 DecodesHeld squeeze type sizes held result = result ≡ Ok held
+
+-- the sizes, the type and the fill value of the encoded chunk of such a one, or the first cause why the codec doesn't take it
+abbrev pub moved_form : ArrayMapping → Form → Result (List ℕ × ElementType × List ℕ) CodecError
+moved_form codec form =
+    encoded_form (type_taken codec form.type) (coordinates codec form.sizes) form.type form.fill
+
+-- where the codec takes such chunks and the container holds one, the answer is a container of the chunk moved, or a want of memory
+abbrev pub MovesChunk : ArrayMapping → ElementType → List ℕ → Held → Result Held CodecError → Type 0
+MovesChunk codec type sizes held result =
+    EncodesMoved (type_taken codec) (coordinates codec) type sizes held result
+
+-- the same of the chunk moved back
+abbrev pub MovesBack : ArrayMapping → ElementType → List ℕ → Held → Result Held CodecError → Type 0
+MovesBack codec type sizes held result =
+    DecodesMoved (type_taken codec) (coordinates codec) type sizes held result

@@ -1,10 +1,13 @@
 -- Which elements of an encoded chunk are those that are meant of the decoded one.
-use Rattle.std.specs.Prelude.{◌==◌, ◌&&◌, ℕ, Bool, List, map, length, replicate, if◌then◌else◌}
+use Rattle.std.specs.Prelude.{◌==◌, ◌&&◌, ℕ, Bool, List, map, length, replicate, Result, if◌then◌else◌}
 use Rattle.std.specs.List.{list_any, zip}
 use Rattle.zarrs_chunk.specs.Region.{Region}
 use Rattle.zarrs_chunk.specs.Selection.{Selection, subset, indices, tuples_of}
 use Rattle.zarrs_chunk.specs.Tuples.{row_major}
-use Rattle.zarrs_array_to_array.specs.ArrayToArrayCodec.{ArrayMapping, transpose, reshape, squeeze}
+use Rattle.zarrs_chunk.specs.declared.codec_error.CodecError.{CodecError}
+use Rattle.zarrs_chunk.specs.declared.indexer.Indexer.{Indexer}
+use Rattle.zarrs_codec.specs.MappedSelection.{AsksImage, KeepsPlaces}
+use Rattle.zarrs_array_to_array.specs.ArrayToArrayCodec.{ArrayMapping, transpose, reshape, squeeze, coordinates}
 use Rattle.zarrs_array_to_array.specs.Orders.{permuted}
 use Rattle.zarrs_array_to_array.specs.Squeeze.{kept_indices, or_zero, or_one, squeezed_tuple}
 use Rattle.zarrs_chunk.specs.Indices.{tuple_of_number}
@@ -32,3 +35,11 @@ selection_in (reshape dims) sizes encoded selection =
     indices (map (tuple_of_number encoded) (map (row_major sizes) (tuples_of selection)))
 selection_in squeeze sizes encoded (subset region) = subset (squeezed_region sizes region)
 selection_in squeeze sizes encoded (indices tuples) = indices (map (squeezed_tuple sizes) tuples)
+
+-- the answer is the indexer of what the codec asks for of the encoded chunk, or the first refusal
+abbrev pub MovesIndexer : ArrayMapping → List ℕ → Indexer → Result Indexer CodecError → Type 0
+MovesIndexer codec sizes indexer result = AsksImage (coordinates codec) (selection_in codec) sizes indexer result
+
+-- the indexer that is answered means of the encoded chunk, in the same order, the elements that the given one means
+abbrev pub MovesPlaces : ArrayMapping → List ℕ → Indexer → Result Indexer CodecError → Type 0
+MovesPlaces codec sizes indexer result = KeepsPlaces (coordinates codec) sizes indexer result

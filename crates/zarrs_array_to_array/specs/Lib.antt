@@ -24,3 +24,4 @@ pub mod WriterLaws
 pub use Rattle.zarrs_codec.specs.ArrayWriter
 pub use Rattle.zarrs_codec.specs.ChunkEdits
 pub mod Axes
+pub mod Stages

@@ -1,13 +1,12 @@
-ghost use Rattle.std.specs.Prelude.{◌≡◌, ◌&&◌, ℕ, List, Ok, Err, IfOk, IfErr};
-ghost use Rattle.zarrs_chunk.specs.Answer.{Answers, memory, seen, Gives};
+ghost use Rattle.std.specs.Prelude.{◌≡◌, ◌&&◌, Ok, IfOk, IfErr};
+ghost use Rattle.zarrs_chunk.specs.Answer.{seen};
 ghost use Rattle.zarrs_codec.specs.ArrayReader.{mapped_reader};
 ghost use Rattle.zarrs_codec.specs.ArrayWriter.{mapped_writer};
 ghost use Rattle.zarrs_array_to_array.specs.ArrayToArrayCodecPartial.{codec_of, input_of, sizes_of};
 ghost use Rattle.zarrs_codec.specs.Refused.{outcome};
-ghost use Rattle.zarrs_codec.specs.MappedChunk.{encoded_form};
-ghost use Rattle.zarrs_array_to_array.specs.ArrayToArrayCodec.{ArrayMapping, coordinates as coordinates_of};
-ghost use Rattle.zarrs_array_to_array.specs.CodecAnswers.{type_taken};
 ghost use Rattle.zarrs_array_to_array.specs.Mapping.{mapping_of};
+ghost use Rattle.zarrs_array_to_array.specs.Stages.{MakesParts, MakesStage, IsStageOfMapping};
+ghost use Rattle.zarrs_data_type.specs.Form.{form_of};
 
 use crate::array_to_array_codec::ArrayToArrayCodec;
 use std::alloc::Global;
@@ -147,7 +146,8 @@ impl ArrayToArrayCodec {
         data_type: &DataType,
         fill_value: &FillValue,
     ) -> Result<(ArrayToArrayCodec, ChunkShape), CodecError>
-        ensures { Answers {V = ArrayMapping × List ℕ} memory (λ parts. (mapping_of parts.0, parts.1)) result (seen (λ _. (mapping_of self.now, shape.now)) (encoded_form (type_taken (mapping_of self.now) data_type.now) (coordinates_of (mapping_of self.now) shape.now) data_type.now fill_value.now)) }
+        ensures { MakesParts mapping_of self.now (mapping_of self.now)
+            (form_of shape.now data_type.now fill_value.now) result }
     {
         self.encoded_representation(alloc, shape, data_type, fill_value)?;
         let codec = self.clone()?;
@@ -165,8 +165,9 @@ impl ArrayToArrayCodec {
         data_type: &DataType,
         fill_value: &FillValue,
     ) -> Result<ArrayToArrayCodecPartial<ArrayToArrayCodec, I>, Refused<I>>
-        ensures answer { Gives (λ made. made) (outcome result) (seen (λ _. tt) (encoded_form (type_taken (mapping_of self.now) data_type.now) (coordinates_of (mapping_of self.now) shape.now) data_type.now fill_value.now)) }
-        ensures form { IfOk result (λ stage. (mapping_of (codec_of stage) ≡ mapping_of self.now) × (sizes_of stage ≡ shape.now)) }
+        ensures answer { MakesStage (mapping_of self.now)
+            (form_of shape.now data_type.now fill_value.now) result }
+        ensures form { IfOk result (IsStageOfMapping (mapping_of self.now) shape.now) }
         ensures over { IfOk result (λ stage. input_of stage ≡ input) }
         ensures handed_back { IfErr result (λ refused. refused.handle ≡ input) }
     {
@@ -185,8 +186,9 @@ impl ArrayToArrayCodec {
         data_type: &DataType,
         fill_value: &FillValue,
     ) -> Result<ArrayToArrayCodecPartial<ArrayToArrayCodec, I>, Refused<I>>
-        ensures answer { Gives (λ made. made) (outcome result) (seen (λ _. tt) (encoded_form (type_taken (mapping_of self.now) data_type.now) (coordinates_of (mapping_of self.now) shape.now) data_type.now fill_value.now)) }
-        ensures form { IfOk result (λ stage. (mapping_of (codec_of stage) ≡ mapping_of self.now) × (sizes_of stage ≡ shape.now)) }
+        ensures answer { MakesStage (mapping_of self.now)
+            (form_of shape.now data_type.now fill_value.now) result }
+        ensures form { IfOk result (IsStageOfMapping (mapping_of self.now) shape.now) }
         ensures over { IfOk result (λ stage. input_of stage ≡ input) }
         ensures handed_back { IfErr result (λ refused. refused.handle ≡ input) }
     {

@@ -1,8 +1,6 @@
-ghost use Rattle.std.specs.Prelude.{◌≡◌, ◌<◌, ◌≤◌, ◌^◌, ◌+◌, ◌*◌, ◌-◌, ◌++◌, ◌∷◌, [], ℕ, length, All, IfOk, IfSome, OnOk};
+ghost use Rattle.std.specs.Prelude.{◌≡◌, ◌<◌, ◌≤◌, ◌^◌, ◌+◌, ◌*◌, ◌++◌, ◌∷◌, [], length, All, IfOk, IfSome, OnOk};
 ghost use Rattle.zarrs_chunk.specs.ChunkShape.{product};
-ghost use Rattle.zarrs_array_to_array.specs.Axes.{behind, reach, axes_of};
-ghost use Rattle.zarrs_array_to_array.specs.Orders.{permuted as permuted_of};
-ghost use Rattle.zarrs_array_to_array.specs.Strides.{next_rows, strides as strides_of, stepped, last_tuple, all_stepped};
+ghost use Rattle.zarrs_array_to_array.specs.Axes.{behind, reach, axes_of, axes_places, HaveBehind, ReachBehind, ordered_places, last_ordered_place};
 
 use crate::strides::{strides, write_rows};
 use std::alloc::{AllocError, Global};
@@ -35,8 +33,8 @@ fn joined(first: Axis, second: Axis) -> Option<Axis>
 /// One axis more, behind the others. One of a single index is passed over, and one that goes on where
 /// the last one ends is joined to it.
 fn push_axis(axes: &mut Vec<Axis>, axis: Axis) -> Result<(), AllocError>
-    ensures places { OnOk result (behind axes.new.items (0 ∷ []) ≡ next_rows axis.step axis.size (behind axes.old.items (0 ∷ []))) }
-    ensures reach { OnOk result (reach axes.new.items ≤ reach axes.old.items + (axis.size - 1) * axis.step) }
+    ensures places { OnOk result (HaveBehind axis axes.old.items axes.new.items) }
+    ensures reach { OnOk result (ReachBehind axis axes.old.items axes.new.items) }
     ensures count { OnOk result (length axes.old.items ≤ length axes.new.items) }
 {
     if axis.size == 1 {
@@ -57,8 +55,8 @@ fn push_one(axes: &mut Vec<Axis>, axis: Axis) -> Result<(), AllocError>
 
 /// Two axes more, or the one that they are together.
 fn push_behind(axes: &mut Vec<Axis>, first: Axis, second: Axis) -> Result<(), AllocError>
-    ensures places { OnOk result (behind axes.new.items (0 ∷ []) ≡ next_rows second.step second.size (behind (axes.old.items ++ first ∷ []) (0 ∷ []))) }
-    ensures reach { OnOk result (reach axes.new.items ≤ reach (axes.old.items ++ first ∷ []) + (second.size - 1) * second.step) }
+    ensures places { OnOk result (HaveBehind second (axes.old.items ++ first ∷ []) axes.new.items) }
+    ensures reach { OnOk result (ReachBehind second (axes.old.items ++ first ∷ []) axes.new.items) }
     ensures count { OnOk result (length axes.old.items + 1 ≤ length axes.new.items) }
 {
     match joined(first, second) {
@@ -86,8 +84,10 @@ fn axes_in_order(
 ) -> Result<Vec<Axis>, AllocError>
     requires sizes { All (λ axis. axis < length sizes.now) order.now }
     requires steps { All (λ axis. axis < length steps.now) order.now }
-    ensures places { IfOk result (λ v. behind v.items (0 ∷ []) ≡ behind (axes_of sizes.now steps.now order.now) (0 ∷ [])) }
-    ensures reach { IfOk result (λ v. reach v.items ≤ reach (axes_of sizes.now steps.now order.now)) }
+    ensures places { IfOk result
+        (λ v. axes_places v.items ≡ axes_places (axes_of sizes.now steps.now order.now)) }
+    ensures reach { IfOk result
+        (λ v. reach v.items ≤ reach (axes_of sizes.now steps.now order.now)) }
     ensures plane { IfOk result (λ v. 2 ≤ length v.items) }
 {
     let mut axes = vec![in alloc; Axis { size: 1, step: 0 }; 2]?;
@@ -110,8 +110,8 @@ pub(crate) fn ordered_axes(
     requires order { All (λ axis. axis < length sizes.now) order.now }
     requires positive { All (λ size. 0 < size) sizes.now }
     requires fits { product sizes.now < 2 ^ 64 }
-    ensures places { IfOk result (λ v. behind v.items (0 ∷ []) ≡ all_stepped (permuted_of order.now sizes.now) (permuted_of order.now (strides_of sizes.now))) }
-    ensures reach { IfOk result (λ v. reach v.items ≤ stepped (permuted_of order.now (strides_of sizes.now)) (last_tuple (permuted_of order.now sizes.now))) }
+    ensures places { IfOk result (λ v. axes_places v.items ≡ ordered_places order.now sizes.now) }
+    ensures reach { IfOk result (λ v. reach v.items ≤ last_ordered_place order.now sizes.now) }
     ensures plane { IfOk result (λ v. 2 ≤ length v.items) }
 {
     let steps = strides(alloc, sizes)?;

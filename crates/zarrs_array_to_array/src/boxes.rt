@@ -1,9 +1,9 @@
-ghost use Rattle.std.specs.Prelude.{◌≡◌, ◌<◌, ◌^◌, ◌+◌, Ok, length, map, All, IfOk};
+ghost use Rattle.std.specs.Prelude.{◌≡◌, ◌<◌, Ok, length, map, All, IfOk};
 ghost use Rattle.zarrs_chunk.specs.Answer.{Gives};
 ghost use Rattle.zarrs_chunk.specs.ChunkShape.{product};
 ghost use Rattle.zarrs_chunk.specs.Tuples.{box_tuples};
 ghost use Rattle.zarrs_chunk.specs.Indices.{indices_behind as indices_behind_of, box_tuple as box_tuple_of, tuple_of_number};
-ghost use Rattle.zarrs_array_to_array.specs.Boxes.{EndsFit};
+ghost use Rattle.zarrs_array_to_array.specs.Boxes.{EndsFit, tuples_in};
 ghost use Rattle.zarrs_array_to_array.specs.Orders.{permuted as permuted_of};
 
 use std::alloc::{AllocError, Global};
@@ -27,7 +27,7 @@ pub(crate) fn tuples_at(
     shape: &ChunkShape,
 ) -> Result<Vec<ArrayIndices>, CodecError>
     requires { All (λ number. number < product shape.now) numbers.now }
-    ensures answer { Gives (λ v. map (λ tuple. tuple.items) v.items) result (Ok (map (tuple_of_number shape.now) numbers.now)) }
+    ensures answer { Gives tuples_in result (Ok (map (tuple_of_number shape.now) numbers.now)) }
 {
     let mut tuples = Vec::with_capacity(alloc, numbers.len())?;
     for number in numbers {
@@ -46,7 +46,8 @@ fn indices_behind(
     requires order { All (λ axis. axis < length starts.now) order.now }
     requires axes { length tuple.now ≡ length starts.now }
     requires fits { EndsFit starts.now tuple.now }
-    ensures { IfOk result (λ v. v.items ≡ permuted_of order.now (indices_behind_of starts.now tuple.now)) }
+    ensures { IfOk result
+        (λ v. v.items ≡ permuted_of order.now (indices_behind_of starts.now tuple.now)) }
 {
     let mut indices = Vec::with_capacity(alloc, order.len())?;
     for axis in order {
@@ -67,7 +68,8 @@ fn box_tuple(
     requires axes { length lengths.now ≡ length starts.now }
     requires fits { EndsFit starts.now lengths.now }
     requires known { number < product lengths.now }
-    ensures answer { Gives (λ tuple. tuple.items) result (Ok (permuted_of order.now (box_tuple_of starts.now lengths.now number))) }
+    ensures answer { Gives (λ tuple. tuple.items) result
+        (Ok (permuted_of order.now (box_tuple_of starts.now lengths.now number))) }
 {
     let tuple = tuple_at(alloc, number, lengths)?;
     let indices = indices_behind(alloc, order, starts, tuple.as_slice())?;
@@ -86,7 +88,8 @@ fn first_tuples(
     requires axes { length lengths.now ≡ length starts.now }
     requires fits { EndsFit starts.now lengths.now }
     requires known { product lengths.now ≡ count }
-    ensures answer { Gives (λ v. map (λ tuple. tuple.items) v.items) result (Ok (map (permuted_of order.now) (box_tuples starts.now lengths.now))) }
+    ensures answer { Gives tuples_in result
+        (Ok (map (permuted_of order.now) (box_tuples starts.now lengths.now))) }
 {
     let mut tuples = Vec::with_capacity(alloc, count as usize)?;
     for number in 0..count {
@@ -105,7 +108,8 @@ pub(crate) fn ordered_box(
     requires order { All (λ axis. axis < length subset.now.starts) order.now }
     requires fits { EndsFit subset.now.starts subset.now.lengths }
     requires known { product subset.now.lengths ≡ count }
-    ensures answer { Gives (λ v. map (λ tuple. tuple.items) v.items) result (Ok (map (permuted_of order.now) (box_tuples subset.now.starts subset.now.lengths))) }
+    ensures answer { Gives tuples_in result
+        (Ok (map (permuted_of order.now) (box_tuples subset.now.starts subset.now.lengths))) }
 {
     let lengths = subset.shape();
     if count == 0 {

@@ -1,9 +1,9 @@
 //! The codecs made from their configurations and their metadata.
 ghost use Rattle.std.specs.Prelude.{◌≡◌, Ok, IsOk};
-ghost use Rattle.zarrs_chunk.specs.Answer.{Answers, seen};
+ghost use Rattle.zarrs_chunk.specs.Answer.{seen};
 ghost use Rattle.zarrs_metadata.specs.CodecMetadata.{transpose_made, reshape_made, is_squeeze_name, squeeze_made};
 ghost use Rattle.zarrs_metadata.specs.MetadataV3.{metadata_seen};
-ghost use Rattle.zarrs_metadata.specs.PluginCreateError.{plugin_memory};
+ghost use Rattle.zarrs_metadata.specs.PluginCreateError.{Makes};
 ghost use Rattle.zarrs_metadata.specs.ReshapeConfiguration.{reshape_seen};
 ghost use Rattle.zarrs_metadata.specs.TransposeConfiguration.{transpose_seen};
 ghost use Rattle.zarrs_array_to_array.specs.Mapping.{mapping_of};
@@ -25,7 +25,7 @@ impl TransposeCodec {
         _alloc: Global,
         configuration: &TransposeCodecConfiguration,
     ) -> Result<TransposeCodec, PluginCreateError>
-        ensures made { Answers plugin_memory (λ codec. codec) result (Ok (transpose_seen configuration.now)) }
+        ensures made { Makes (λ codec. codec) result (Ok (transpose_seen configuration.now)) }
     {
         let TransposeCodecConfiguration::V1(configuration) = configuration;
         Ok(TransposeCodec::new(configuration.order.clone()?))
@@ -36,7 +36,8 @@ impl TransposeCodec {
     /// aside: `UnknownName` for another name; those of
     /// `TransposeCodecConfiguration::from_configuration`.
     pub fn create(alloc: Global, metadata: &MetadataV3) -> Result<TransposeCodec, PluginCreateError>
-        ensures answer { Answers plugin_memory (λ codec. codec) result (transpose_made (metadata_seen metadata.now)) }
+        ensures answer { Makes (λ codec. codec) result
+            (transpose_made (metadata_seen metadata.now)) }
     {
         if metadata.name() != "transpose" {
             return Err(PluginCreateError::UnknownName);
@@ -56,7 +57,7 @@ impl ReshapeCodec {
         _alloc: Global,
         configuration: &ReshapeCodecConfiguration,
     ) -> Result<ReshapeCodec, PluginCreateError>
-        ensures made { Answers plugin_memory (λ codec. codec) result (Ok (reshape_seen configuration.now)) }
+        ensures made { Makes (λ codec. codec) result (Ok (reshape_seen configuration.now)) }
     {
         let ReshapeCodecConfiguration::V1(configuration) = configuration;
         Ok(ReshapeCodec::new(configuration.shape.clone()?))
@@ -67,7 +68,8 @@ impl ReshapeCodec {
     /// aside: `UnknownName` for another name; those of
     /// `ReshapeCodecConfiguration::from_configuration`.
     pub fn create(alloc: Global, metadata: &MetadataV3) -> Result<ReshapeCodec, PluginCreateError>
-        ensures answer { Answers plugin_memory (λ codec. codec) result (reshape_made (metadata_seen metadata.now)) }
+        ensures answer { Makes (λ codec. codec) result
+            (reshape_made (metadata_seen metadata.now)) }
     {
         if metadata.name() != "reshape" {
             return Err(PluginCreateError::UnknownName);
@@ -123,7 +125,7 @@ impl ArrayToArrayCodec {
         alloc: Global,
         metadata: &MetadataV3,
     ) -> Result<ArrayToArrayCodec, PluginCreateError>
-        ensures answer { Answers plugin_memory mapping_of result (mapping_made (metadata_seen metadata.now)) }
+        ensures answer { Makes mapping_of result (mapping_made (metadata_seen metadata.now)) }
     {
         match metadata.name() {
             "transpose" => Ok(ArrayToArrayCodec::Transpose(TransposeCodec::create(

@@ -1,9 +1,7 @@
 //! The elements of a chunk, appended row by row and plane by plane.
-ghost use Rattle.std.specs.Prelude.{◌≡◌, ◌<◌, ◌≤◌, ◌+◌, ◌*◌, ◌-◌, ◌^◌, ◌++◌, ◌∷◌, [], ℕ, length, OnOk, IfOk};
-ghost use Rattle.std.specs.List.{flat_map};
-ghost use Rattle.zarrs_array_bytes.specs.Elements.{piece};
+ghost use Rattle.std.specs.Prelude.{◌≡◌, ◌<◌, ◌≤◌, ◌+◌, ◌*◌, ◌∷◌, [], length, IfOk};
 ghost use Rattle.zarrs_array_to_array.specs.Strides.{row, next_rows};
-ghost use Rattle.zarrs_array_to_array.specs.Axes.{behind, reach, stretch};
+ghost use Rattle.zarrs_array_to_array.specs.Axes.{behind, reach, axes_places, plane_places, plane_end, stretches_at, pieces_at, Appends};
 
 use crate::axis::Axis;
 use crate::row_groups::append_row;
@@ -22,7 +20,8 @@ fn append_columns(
 ) -> Result<(), AllocError>
     requires sized { 0 < size }
     requires whole { length block.now ≡ count * (width * size) }
-    ensures { OnOk result (out.new.items ≡ out.old.items ++ flat_map (piece size block.now) (next_rows width count (row 0 1 width))) }
+    ensures { Appends out.old out.new result
+        (pieces_at size block.now (next_rows width count (row 0 1 width))) }
 {
     for column in 0..width {
         let axis = Axis {
@@ -46,7 +45,8 @@ fn append_stretches(
     requires sized { 0 < size }
     requires axes { 1 ≤ length axes.now }
     requires inside { (front + reach axes.now) * size + len ≤ length bytes.now }
-    ensures { OnOk result (out.new.items ≡ out.old.items ++ flat_map (stretch len size bytes.now) (behind axes.now (front ∷ []))) }
+    ensures { Appends out.old out.new result
+        (stretches_at len size bytes.now (behind axes.now (front ∷ []))) }
 {
     let first = axes[0];
     if axes.len() == 1 {
@@ -81,7 +81,8 @@ fn append_turned(
     requires axes { 1 ≤ length axes.now }
     requires wide { 0 < width }
     requires inside { (front + reach axes.now) * size + width * size ≤ length bytes.now }
-    ensures { OnOk result (out.new.items ≡ out.old.items ++ flat_map (piece size bytes.now) (behind axes.now (row front 1 width))) }
+    ensures { Appends out.old out.new result
+        (pieces_at size bytes.now (behind axes.now (row front 1 width))) }
 {
     let len = width * size;
     block.clear();
@@ -105,7 +106,8 @@ fn append_blocks(
     requires axes { 1 ≤ length axes.now }
     requires wide { 0 < wide }
     requires inside { (front + reach axes.now + count) * size ≤ length bytes.now }
-    ensures { OnOk result (out.new.items ≡ out.old.items ++ flat_map (piece size bytes.now) (behind axes.now (row front 1 count))) }
+    ensures { Appends out.old out.new result
+        (pieces_at size bytes.now (behind axes.now (row front 1 count))) }
 {
     let mut done = 0;
     while done < count {
@@ -126,8 +128,9 @@ fn append_rows(
     columns: Axis,
 ) -> Result<(), AllocError>
     requires sized { 0 < size }
-    requires inside { (front + (rows.size - 1) * rows.step + (columns.size - 1) * columns.step + 1) * size ≤ length bytes.now }
-    ensures { OnOk result (out.new.items ≡ out.old.items ++ flat_map (piece size bytes.now) (next_rows columns.step columns.size (row front rows.step rows.size))) }
+    requires inside { plane_end front rows columns * size ≤ length bytes.now }
+    ensures { Appends out.old out.new result
+        (pieces_at size bytes.now (plane_places front rows columns)) }
 {
     for index in 0..rows.size {
         append_row(out, bytes, size, front + index * rows.step, columns, size)?;
@@ -146,8 +149,9 @@ fn append_plane(
     columns: Axis,
 ) -> Result<(), AllocError>
     requires sized { 0 < size }
-    requires inside { (front + (rows.size - 1) * rows.step + (columns.size - 1) * columns.step + 1) * size ≤ length bytes.now }
-    ensures { OnOk result (out.new.items ≡ out.old.items ++ flat_map (piece size bytes.now) (next_rows columns.step columns.size (row front rows.step rows.size))) }
+    requires inside { plane_end front rows columns * size ≤ length bytes.now }
+    ensures { Appends out.old out.new result
+        (pieces_at size bytes.now (plane_places front rows columns)) }
 {
     if columns.step == 1 {
         return append_row(out, bytes, size, front, rows, columns.size * size);
@@ -169,7 +173,8 @@ fn append_axes(
     requires sized { 0 < size }
     requires plane { 2 ≤ length axes.now }
     requires inside { (front + reach axes.now + 1) * size ≤ length bytes.now }
-    ensures { OnOk result (out.new.items ≡ out.old.items ++ flat_map (piece size bytes.now) (behind axes.now (front ∷ []))) }
+    ensures { Appends out.old out.new result
+        (pieces_at size bytes.now (behind axes.now (front ∷ []))) }
 {
     let first = axes[0];
     let wide = (BLOCK / size).min(first.size / 2);
@@ -202,7 +207,7 @@ pub(crate) fn gather_axes(
     requires sized { 0 < size }
     requires plane { 2 ≤ length axes.now }
     requires inside { (reach axes.now + 1) * size ≤ length bytes.now }
-    ensures { IfOk result (λ v. v.items ≡ flat_map (piece size bytes.now) (behind axes.now (0 ∷ []))) }
+    ensures { IfOk result (λ v. v.items ≡ pieces_at size bytes.now (axes_places axes.now)) }
 {
     let mut out = Vec::with_capacity(alloc, bytes.len())?;
     let mut block = Vec::new(alloc);

@@ -1,7 +1,6 @@
 //! The elements of a row, appended in groups: many small moves into an array, and one append a group.
-ghost use Rattle.std.specs.Prelude.{◌≡◌, ◌<◌, ◌≤◌, ◌+◌, ◌*◌, ◌^◌, ◌++◌, ℕ, length, OnOk};
-ghost use Rattle.std.specs.List.{flat_map};
-ghost use Rattle.zarrs_array_to_array.specs.Axes.{stretch};
+ghost use Rattle.std.specs.Prelude.{◌≡◌, ◌<◌, ◌≤◌, ◌*◌, ◌^◌, length};
+ghost use Rattle.zarrs_array_to_array.specs.Axes.{stretches_at, RowInside, Appends};
 ghost use Rattle.zarrs_array_to_array.specs.Strides.{row};
 
 use crate::axis::Axis;
@@ -15,8 +14,8 @@ const GROUP: usize = 16;
 fn put_row(items: &mut [u8], bytes: &[u8], size: usize, front: usize, axis: Axis, len: usize)
     requires len { length items.old ≡ axis.size * len }
     requires sized { 0 < size }
-    requires inside { (k : ℕ) → k < axis.size → (front + k * axis.step) * size + len ≤ length bytes.now }
-    ensures { items.new ≡ flat_map (stretch len size bytes.now) (row front axis.step axis.size) }
+    requires inside { RowInside len size front axis.step axis.size bytes.now }
+    ensures { items.new ≡ stretches_at len size bytes.now (row front axis.step axis.size) }
 {
     for index in 0..axis.size {
         let start = index * len;
@@ -38,8 +37,9 @@ fn append_group<const BYTES: usize>(
     requires room { BYTES ≡ 16 * len }
     requires short { len ≤ 16 }
     requires sized { 0 < size }
-    requires inside { (k : ℕ) → k < 16 → (front + k * step) * size + len ≤ length bytes.now }
-    ensures { OnOk result (out.new.items ≡ out.old.items ++ flat_map (stretch len size bytes.now) (row front step 16)) }
+    requires inside { RowInside len size front step 16 bytes.now }
+    ensures { Appends out.old out.new result
+        (stretches_at len size bytes.now (row front step 16)) }
 {
     let mut group = [0u8; BYTES];
     let axis = Axis { size: GROUP, step };
@@ -62,8 +62,9 @@ fn append_groups<const BYTES: usize>(
     requires short { len ≤ 16 }
     requires fits { groups * 16 < 2 ^ 64 }
     requires sized { 0 < size }
-    requires inside { (k : ℕ) → k < groups * 16 → (front + k * step) * size + len ≤ length bytes.now }
-    ensures { OnOk result (out.new.items ≡ out.old.items ++ flat_map (stretch len size bytes.now) (row front step (groups * 16))) }
+    requires inside { RowInside len size front step (groups * 16) bytes.now }
+    ensures { Appends out.old out.new result
+        (stretches_at len size bytes.now (row front step (groups * 16))) }
 {
     for index in 0..groups {
         append_group::<BYTES>(out, bytes, size, front + index * GROUP * step, step, len)?;
@@ -82,8 +83,9 @@ fn append_row_of(
     len: usize,
 ) -> Result<(), AllocError>
     requires sized { 0 < size }
-    requires inside { (k : ℕ) → k < axis.size → (front + k * axis.step) * size + len ≤ length bytes.now }
-    ensures { OnOk result (out.new.items ≡ out.old.items ++ flat_map (stretch len size bytes.now) (row front axis.step axis.size)) }
+    requires inside { RowInside len size front axis.step axis.size bytes.now }
+    ensures { Appends out.old out.new result
+        (stretches_at len size bytes.now (row front axis.step axis.size)) }
 {
     for index in 0..axis.size {
         let from = (front + index * axis.step) * size;
@@ -106,8 +108,9 @@ fn append_grouped_row<const BYTES: usize>(
     requires room { BYTES ≡ 16 * len }
     requires short { len ≤ 16 }
     requires sized { 0 < size }
-    requires inside { (k : ℕ) → k < axis.size → (front + k * axis.step) * size + len ≤ length bytes.now }
-    ensures { OnOk result (out.new.items ≡ out.old.items ++ flat_map (stretch len size bytes.now) (row front axis.step axis.size)) }
+    requires inside { RowInside len size front axis.step axis.size bytes.now }
+    ensures { Appends out.old out.new result
+        (stretches_at len size bytes.now (row front axis.step axis.size)) }
 {
     let groups = axis.size / GROUP;
     append_groups::<BYTES>(out, bytes, size, front, axis.step, groups, len)?;
@@ -133,8 +136,9 @@ pub(crate) fn append_row(
     len: usize,
 ) -> Result<(), AllocError>
     requires sized { 0 < size }
-    requires inside { (k : ℕ) → k < axis.size → (front + k * axis.step) * size + len ≤ length bytes.now }
-    ensures { OnOk result (out.new.items ≡ out.old.items ++ flat_map (stretch len size bytes.now) (row front axis.step axis.size)) }
+    requires inside { RowInside len size front axis.step axis.size bytes.now }
+    ensures { Appends out.old out.new result
+        (stretches_at len size bytes.now (row front axis.step axis.size)) }
 {
     match len {
         1 => append_grouped_row::<16>(out, bytes, size, front, axis, 1),

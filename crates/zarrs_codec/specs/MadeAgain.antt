@@ -6,6 +6,6 @@ use Rattle.zarrs_metadata.specs.Metadata.{Metadata}
 use Rattle.zarrs_metadata.specs.declared.plugin_create_error.PluginCreateError.{PluginCreateError}
 
 -- the configuration that is written, seen as its members, makes an equal codec under this name
-abbrev pub MadeAgain : {C W : Type 0} → (W → Members) → (Metadata → Result C PluginCreateError) → List ℕ → C → Result (Option W) PluginCreateError → Type 0
-MadeAgain members made name codec result =
+abbrev pub MadeAgain : {C W : Type 0} → (W → Members) → Result (Option W) PluginCreateError → (Metadata → Result C PluginCreateError) → List ℕ → C → Type 0
+MadeAgain members result made name codec =
     IfOk result (λ written. IfSome written (λ configuration. made (codec_metadata name (members configuration)) ≡ Ok codec))

@@ -3,7 +3,7 @@ use Rattle.std.specs.List.{flat_map, range_with_len}
 use Rattle.zarrs_packbits.specs.Bits.{field}
 use Rattle.zarrs_packbits.specs.KeptBits.{component_bits}
 use Rattle.zarrs_packbits.specs.declared.layout.PackedLayout.{PackedLayout}
-use Rattle.std.specs.Prelude.{ℕ, zero, suc, ◌+◌, ◌-◌, ◌*◌, ◌/◌, ◌%◌, ◌^◌, List, [], ◌∷◌, bit_xor}
+use Rattle.std.specs.Prelude.{ℕ, zero, suc, ◌+◌, ◌-◌, ◌*◌, ◌/◌, ◌%◌, ◌^◌, List, [], ◌∷◌, bit_xor, length}
 
 -- the fields of so many bits each of a number, the lowest first
 abbrev pub fields_of : ℕ → ℕ → ℕ → List ℕ
@@ -22,3 +22,12 @@ cut_byte first count byte = byte / 2 ^ first % 2 ^ count
 abbrev pub stream_before : PackedLayout → ℕ → List ℕ → List ℕ
 stream_before l parts bytes =
     flat_map (λ part. field l.first l.count (component_bits l.size bytes part)) (range_with_len 0 parts)
+
+-- how many of these bytes stand in whole blocks of 64
+abbrev pub blocks_len : List ℕ → ℕ
+blocks_len bytes = 64 * (length bytes / 64)
+
+-- so many bits, from bit `first` on, of each of the first bytes
+abbrev pub byte_fields : ℕ → ℕ → ℕ → List ℕ → List ℕ
+byte_fields first count parts bytes =
+    flat_map (λ part. field first count (component_bits 1 bytes part)) (range_with_len 0 parts)

@@ -3,6 +3,7 @@ pub mod BlockBits
 pub mod BitStream
 pub mod DivRem8Bit
 pub mod KeptBits
+pub mod LaneBits
 pub mod Laws
 pub mod NormalForm
 pub mod PackBitsCodec
@@ -36,3 +37,9 @@ pub use Rattle.zarrs_codec.specs.Grammar
 pub use Rattle.zarrs_codec.specs.Refused
 pub use Rattle.zarrs_codec.specs.StorageState
 pub use Rattle.zarrs_bytes.specs.BytesCodec
+pub use Rattle.zarrs_codec.specs.ChunkCodec
+pub use Rattle.zarrs_bytes.specs.GivenBytes
+pub use Rattle.zarrs_codec.specs.HandleCalls
+pub use Rattle.zarrs_codec.specs.MadeAgain
+pub use Rattle.zarrs_bytes.specs.MadeCoders
+pub use Rattle.zarrs_bytes.specs.PlannedRanges

@@ -1,20 +1,23 @@
 -- What the codec `packbits` answers, for which chunk a value stands, and which value is written for a chunk.
 use Rattle.std.specs.Prelude.{◌≡◌, ℕ, ◌==◌, true, List, length, drop, map, Result, Ok}
 use Rattle.std.specs.List.{range_with_len}
+use Rattle.std.proofs.Common.{Global}
+use Rattle.std.specs.declared.borrow.CowSlice.{CowSlice}
 use Rattle.zarrs_chunk.specs.Answer.{◌>>=◌, demand}
 use Rattle.zarrs_chunk.specs.ChunkShape.{product}
 use Rattle.zarrs_chunk.specs.declared.codec_error.CodecError.{CodecError}
 use Rattle.zarrs_chunk.specs.declared.codec_error.CodecError.TheVariants.{InvalidBytesLength, PaddingByte}
 use Rattle.zarrs_data_type.specs.Element.{Chunk}
 use Rattle.zarrs_array_bytes.specs.Elements.{elements}
-use Rattle.zarrs_array_bytes.specs.Held.{Held}
+use Rattle.zarrs_array_bytes.specs.Held.{Held, items_of}
 use Rattle.zarrs_array_bytes.specs.Validity.{validity}
 use Rattle.zarrs_data_type.specs.Form.{Form}
 use Rattle.zarrs_bytes.specs.BytesCodec.{IsChunk}
+use Rattle.zarrs_bytes.specs.GivenBytes.{EncodesNow, DecodesNow}
 use Rattle.zarrs_packbits.specs.Bits.{bits_of, field}
 use Rattle.zarrs_packbits.specs.BitStream.{chunk_stream, packed_element}
 use Rattle.zarrs_packbits.specs.NormalForm.{normal_chunk}
-use Rattle.zarrs_packbits.specs.PackBitsSettings.{PackBitsSettings, packed_layout}
+use Rattle.zarrs_packbits.specs.PackBitsSettings.{PackBitsSettings, packed_layout, KeepsAllBytes}
 use Rattle.zarrs_packbits.specs.declared.layout.PackedLayout.{PackedLayout}
 use Rattle.zarrs_packbits.specs.PackedLayout.{bits_in}
 use Rattle.zarrs_packbits.specs.PaddingByte.{lead, value_len, padding_holds, value_with}
@@ -54,3 +57,13 @@ packbits_chunk settings form value = do
   _ ← demand (length value == value_len l) (InvalidBytesLength (length value) (value_len l))
   _ ← demand (padding_holds l value) PaddingByte
   Ok (map (packed_element l value) (range_with_len 0 (product form.sizes)))
+
+-- where all bits of whole bytes are kept, the value of a container's chunk is answered in no new memory, or the first refusal
+abbrev pub EncodesInPlace : PackBitsSettings → Form → Held → Result (CowSlice ℕ Global) CodecError → Type 0
+EncodesInPlace settings form held result =
+    KeepsAllBytes settings form → EncodesNow (packbits_value settings) form held result
+
+-- where all bits of whole bytes are kept, a container of a value's chunk is answered in no new memory, or the first refusal
+abbrev pub DecodesInPlace : PackBitsSettings → Form → CowSlice ℕ Global → Result Held CodecError → Type 0
+DecodesInPlace settings form given result =
+    KeepsAllBytes settings form → DecodesNow (packbits_chunk settings) form (items_of given) result

@@ -1,15 +1,20 @@
 -- What a partial decoder of `packbits` is made of, and what it reads of a chunk.
-use Rattle.std.specs.Prelude.{◌≡◌, ℕ, Bool, Option, is_some, List, Result}
+use Rattle.std.specs.Prelude.{◌≡◌, ℕ, Bool, Option, is_some, List, Result, IfOk, Vec}
+use Rattle.std.proofs.Common.{Global}
+use Rattle.zarrs_chunk.specs.Answer.{GivesBy}
 use Rattle.zarrs_chunk.specs.Indexer.{selection_of}
 use Rattle.zarrs_chunk.specs.declared.codec_error.CodecError.{CodecError}
 use Rattle.zarrs_chunk.specs.declared.indexer.Indexer.{Indexer}
 use Rattle.zarrs_data_type.specs.ElementType.{ElementType}
 use Rattle.zarrs_array_bytes.specs.Held.{Held}
 use Rattle.zarrs_codec.specs.ArrayReader.{ArrayReader}
+use Rattle.zarrs_codec.specs.ByteSpan.{ByteSpan}
 use Rattle.zarrs_codec.specs.StorageState.{StorageState}
+use Rattle.zarrs_codec.specs.declared.refused.Refused.{Refused}
 use Rattle.zarrs_data_type.specs.Form.{Form, form_of}
 use Rattle.zarrs_packbits.specs.PackBitsSettings.{PackBitsSettings}
-use Rattle.zarrs_packbits.specs.PartialRead.{packbits_read}
+use Rattle.zarrs_packbits.specs.PartialRead.{packbits_places, packbits_read}
+use Rattle.zarrs_packbits.specs.ReadPlan.{IsPlan}
 use Rattle.zarrs_codec.specs.CodersOverHandles.{ReadsPart, OnlyReads}
 use Rattle.zarrs_packbits.specs.PackBitsGrammar.{packbits_grammar, packbits_reads_part}
 use Rattle.zarrs_packbits.specs.declared.packbits_partial_decoder.PackBitsPartialDecoder.{PackBitsPartialDecoder}
@@ -34,6 +39,19 @@ packbits_form_of decoder =
 abbrev pub packbits_handle_of : {H : Type 0} → PackBitsPartialDecoder H → H
 packbits_handle_of decoder = decoder.handle
 
+-- what is seen of a decoder's handle
+abbrev pub decoder_state : {H : Type 0} → (H → StorageState) → PackBitsPartialDecoder H → StorageState
+decoder_state state decoder = state (packbits_handle_of decoder)
+
+-- the value that a decoder's handle keeps, or none
+abbrev pub stored_in : {H : Type 0} → (H → StorageState) → PackBitsPartialDecoder H → Option (List ℕ)
+stored_in state decoder = (decoder_state state decoder).value
+
+-- a decoder that is made has these settings, and is one of chunks of this form
+abbrev pub HasForm : {H : Type 0} → PackBitsSettings → Form → Result (PackBitsPartialDecoder H) (Refused H) → Type 0
+HasForm settings form result =
+    IfOk result (λ decoder. packbits_form_of decoder ≡ record { settings = settings; sizes = form.sizes; type = form.type; fill = form.fill })
+
 -- what a decoder reads at a selection by its grammar (`state` says what a handle keeps)
 abbrev pub Reads : {H : Type 0} → (H → StorageState) → PackBitsPartialDecoder H → Indexer → Result Held CodecError → Type 0
 Reads state decoder indexer result =
@@ -42,7 +60,12 @@ Reads state decoder indexer result =
 -- that a call of a decoder changes nothing
 abbrev pub Leaves : {H T L : Type 0} → (H → StorageState) → (H → L) → PackBitsPartialDecoder H → PackBitsPartialDecoder H → Result T CodecError → Type 0
 Leaves state lent before after result =
-    OnlyReads (λ decoder. state (packbits_handle_of decoder)) (λ decoder. lent (packbits_handle_of decoder)) packbits_form_of before after result
+    OnlyReads (decoder_state state) (λ decoder. lent (packbits_handle_of decoder)) packbits_form_of before after result
+
+-- the ranges that a decoder plans are a plan of a read of the places that the indexer means, or the first refusal is answered
+abbrev pub Plans : {H : Type 0} → PackBitsPartialDecoder H → Indexer → Result (Vec ByteSpan Global) CodecError → Type 0
+Plans decoder indexer result =
+    GivesBy (λ ranges read. IsPlan read.1 read.0 ranges.items) result (packbits_places decoder.codec (form_of decoder.shape decoder.data_type decoder.fill_value) (selection_of indexer))
 
 -- the reader of a chunk of this form, where this value or none is stored: it answers of a selection what `packbits_read` says
 abbrev pub packbits_reader : PackBitsForm → Option (List ℕ) → Bool → ArrayReader

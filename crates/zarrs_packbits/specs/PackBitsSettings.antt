@@ -1,17 +1,19 @@
 -- Which bits a codec `packbits` keeps, and how it packs the chunks that it takes.
-use Rattle.std.specs.Prelude.{ℕ, ◌+◌, ◌-◌, ◌*◌, ◌==◌, ◌&&◌, nat_le, nat_lt, Bool, false, not, Option, Some, None, Result, Ok, Err, if◌then◌else◌}
-use Rattle.zarrs_chunk.specs.Answer.{◌>>=◌, demand, checked_u64, seen}
+use Rattle.std.specs.Prelude.{◌≡◌, ℕ, ◌+◌, ◌-◌, ◌*◌, ◌==◌, ◌&&◌, nat_le, nat_lt, Bool, true, false, not, Option, Some, None, List, Result, Ok, Err, is_ok, if◌then◌else◌}
+use Rattle.zarrs_chunk.specs.Answer.{◌>>=◌, Gives, demand, checked_u64, seen}
 use Rattle.zarrs_chunk.specs.ChunkShape.{product}
 use Rattle.zarrs_chunk.specs.declared.codec_error.CodecError.{CodecError}
 use Rattle.zarrs_chunk.specs.declared.codec_error.CodecError.TheVariants.{UnsupportedDataType, InvalidFillValue, BitRange, Overflow}
 use Rattle.zarrs_chunk.specs.declared.codec_error.CodecName.TheVariants as codec
-use Rattle.zarrs_data_type.specs.ElementType.{fixed, text, bytes, optional, component_bytes}
+use Rattle.zarrs_data_type.specs.ElementType.{ElementType, fixed, text, bytes, optional, component_bytes}
 use Rattle.zarrs_data_type.specs.FillValue.{fill_fits}
 use Rattle.zarrs_metadata.specs.declared.codec.packbits.PackBitsPaddingEncoding.{PackBitsPaddingEncoding}
 use Rattle.zarrs_metadata.specs.declared.codec.packbits.PackBitsPaddingEncoding.TheVariants as padding
 use Rattle.zarrs_metadata.specs.declared.plugin_create_error.PluginCreateError.{PluginCreateError}
 use Rattle.zarrs_metadata.specs.declared.plugin_create_error.PluginCreateError.TheVariants.{BitOrder}
 use Rattle.zarrs_data_type.specs.Form.{Form}
+use Rattle.zarrs_codec.specs.declared.bytes_representation.BytesRepresentation.{BytesRepresentation}
+use Rattle.zarrs_codec.specs.declared.bytes_representation.BytesRepresentation.TheVariants.{FixedSize}
 use Rattle.zarrs_packbits.specs.declared.layout.PackedLayout.{PackedLayout}
 use Rattle.zarrs_packbits.specs.PackedLayout.{is_in_reach, is_whole}
 use Rattle.zarrs_packbits.specs.PaddingByte.{value_len}
@@ -21,6 +23,10 @@ pub record PackBitsSettings : Type 0 where
   pub padding : PackBitsPaddingEncoding
   pub first_bit : Option ℕ
   pub last_bit : Option ℕ
+
+-- the settings that keep all bits, without a padding byte
+abbrev pub all_bits : PackBitsSettings
+all_bits = record { padding = padding.None; first_bit = None; last_bit = None }
 
 -- the number that is given, or else this one
 abbrev pub or_else : Option ℕ → ℕ → ℕ
@@ -91,7 +97,28 @@ packed_layout settings form = elim form.type [
 abbrev pub packbits_length : PackBitsSettings → Form → Result ℕ CodecError
 packbits_length settings form = seen value_len (packed_layout settings form)
 
+-- the representation of the value of such a chunk, or the first cause why the codec doesn't take such chunks
+abbrev pub packbits_represented : PackBitsSettings → Form → Result BytesRepresentation CodecError
+packbits_represented settings form = seen FixedSize (packbits_length settings form)
+
+-- the codec takes such chunks
+abbrev pub PackBitsTakes : PackBitsSettings → Form → Type 0
+PackBitsTakes settings form = is_ok (packed_layout settings form) ≡ true
+
+-- such chunks are packed so
+abbrev pub IsLayoutFor : PackBitsSettings → Form → PackedLayout → Type 0
+IsLayoutFor settings form layout = packed_layout settings form ≡ Ok layout
+
+-- what such a chunk is made of is given, where the codec takes such chunks, or the first refusal
+abbrev pub Copies : PackBitsSettings → Form → Result (List ℕ × ElementType × List ℕ) CodecError → Type 0
+Copies settings form result =
+    Gives (λ parts. parts) result (seen (λ _. (form.sizes, form.type, form.fill)) (packed_layout settings form))
+
 -- all bits of whole bytes are kept of the chunks that are packed so
 abbrev pub keeps_all_bytes : Result PackedLayout CodecError → Bool
 keeps_all_bytes (Ok l) = is_whole l
 keeps_all_bytes (Err e) = false
+
+-- the codec takes such chunks, and keeps all bits of whole bytes of them
+abbrev pub KeepsAllBytes : PackBitsSettings → Form → Type 0
+KeepsAllBytes settings form = keeps_all_bytes (packed_layout settings form) ≡ true

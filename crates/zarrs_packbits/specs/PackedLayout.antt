@@ -1,5 +1,5 @@
 -- How the components of a chunk are packed.
-use Rattle.std.specs.Prelude.{◌≡◌, ℕ, ◌+◌, ◌*◌, ◌^◌, ◌<◌, Bool, true, false, ◌&&◌, ◌||◌, nat_lt, ◌==◌}
+use Rattle.std.specs.Prelude.{◌≡◌, ℕ, ◌+◌, ◌*◌, ◌/◌, ◌^◌, ◌<◌, ◌≤◌, Bool, true, false, ◌&&◌, ◌||◌, nat_lt, ◌==◌}
 use Rattle.zarrs_metadata.specs.declared.codec.packbits.PackBitsPaddingEncoding.TheVariants as padding
 use Rattle.zarrs_packbits.specs.Packing.{spare_bits}
 use Rattle.zarrs_packbits.specs.declared.layout.PackedLayout.{PackedLayout}
@@ -27,6 +27,14 @@ spare_of l = spare_bits (bits_in l)
 -- 64 bits count the chunk's bytes, and where not all bits of whole bytes are kept also the kept bits
 abbrev pub is_in_reach : PackedLayout → Bool
 is_in_reach l = nat_lt (parts_of l * l.size) (2 ^ 64) && (is_whole l || nat_lt (bits_in l) (2 ^ 64))
+
+-- of a component one bit is kept, or two, or four
+abbrev pub IsOneTwoOrFour : ℕ → Type 0
+IsOneTwoOrFour count = (count ≡ 1 → ⊥) → (count ≡ 2 → ⊥) → count ≡ 4
+
+-- each of so many first components has eight of these bytes, so many in number, from where its kept bits begin
+abbrev pub ReachWords : PackedLayout → ℕ → ℕ → Type 0
+ReachWords l parts len = parts * l.size + l.first / 8 + 8 ≤ len + l.size
 
 -- A layout: some bits of a component are kept, an element has a component, the bits of a component are those of its bytes, 64 bits count what has to be counted, and where all bits of whole bytes are kept there is no padding byte.
 pub record IsPackedLayout (l : PackedLayout) : Type 0 where

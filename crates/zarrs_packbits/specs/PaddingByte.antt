@@ -18,6 +18,14 @@ bytes_behind None spare = []
 bytes_behind FirstByte spare = []
 bytes_behind LastByte spare = spare ∷ []
 
+-- the padding byte of a chunk's value, where it stands before the packed bytes
+abbrev pub padding_before : PackedLayout → List ℕ
+padding_before l = bytes_before l.padding (spare_of l)
+
+-- the padding byte of a chunk's value, where it stands behind them
+abbrev pub padding_behind : PackedLayout → List ℕ
+padding_behind l = bytes_behind l.padding (spare_of l)
+
 -- how many bytes stand before the packed ones
 abbrev pub lead : PackedLayout → ℕ
 lead l = length (bytes_before l.padding 0)
@@ -42,4 +50,4 @@ padding_holds l value = padding_is l.padding (spare_of l) value
 
 -- the value with these bits packed, and the padding byte where it belongs
 abbrev pub value_with : PackedLayout → List ℕ → List ℕ
-value_with l bits = bytes_before l.padding (spare_of l) ++ (packing bits ++ bytes_behind l.padding (spare_of l))
+value_with l bits = padding_before l ++ (packing bits ++ padding_behind l)

@@ -1,13 +1,18 @@
 -- What a read in part answers, by the bits of the places that are asked for alone.
-use Rattle.std.specs.Prelude.{ℕ, ◌+◌, ◌-◌, ◌*◌, ◌/◌, Bool, nat_lt, Option, Some, None, List, length, map, Result, Ok, Err, if◌then◌else◌}
+use Rattle.std.specs.Prelude.{ℕ, ◌+◌, ◌-◌, ◌*◌, ◌/◌, Bool, nat_lt, Option, Some, None, List, length, map, Result, Ok, Err, IfOk, if◌then◌else◌}
 use Rattle.std.specs.List.{flat_map, list_all, range_with_len}
-use Rattle.zarrs_chunk.specs.Answer.{◌>>=◌, demand}
+use Rattle.zarrs_chunk.specs.Answer.{◌>>=◌, AnswersBy, demand, memory_or_fault}
+use Rattle.zarrs_chunk.specs.Runs.{joined_runs}
 use Rattle.zarrs_chunk.specs.Selection.{Selection, places_of}
 use Rattle.zarrs_chunk.specs.declared.codec_error.CodecError.{CodecError}
 use Rattle.zarrs_chunk.specs.declared.codec_error.CodecError.TheVariants.{InvalidByteRange}
 use Rattle.zarrs_data_type.specs.Element.{Chunk, fill_element}
 use Rattle.zarrs_data_type.specs.ElementType.{ElementType}
 use Rattle.zarrs_data_type.specs.Form.{Form}
+use Rattle.zarrs_array_bytes.specs.Held.{Held}
+use Rattle.zarrs_array_bytes.specs.Validity.{Holds}
+use Rattle.zarrs_codec.specs.StorageState.{StorageState, are_sure}
+use Rattle.zarrs_codec.specs.HandleCalls.{NeverFailsIf}
 use Rattle.zarrs_packbits.specs.BitStream.{element_bits, packed_element}
 use Rattle.zarrs_packbits.specs.PackBitsSettings.{PackBitsSettings, packed_layout}
 use Rattle.zarrs_packbits.specs.declared.layout.PackedLayout.{PackedLayout}
@@ -30,6 +35,10 @@ packed_place_bytes l place = range_with_len (span_start l place) (span_end l pla
 -- the numbers of the bytes of these places, place by place
 abbrev pub packed_places_bytes : PackedLayout → List ℕ → List ℕ
 packed_places_bytes l places = flat_map (packed_place_bytes l) places
+
+-- all bytes of the places of these runs are sure to be read
+abbrev pub runs_are_sure : PackedLayout → StorageState → List (ℕ × ℕ) → Bool
+runs_are_sure l before runs = are_sure before.sure (packed_places_bytes l (joined_runs runs))
 
 -- all these numbers are below a count
 abbrev pub all_below : ℕ → List ℕ → Bool
@@ -54,6 +63,11 @@ read_places_of settings form stored places = do
   l ← packed_layout settings form
   read_packed_places l form.type form.fill stored places
 
+-- The answer is a container of the elements at the places of these runs, each a start and a length: those of the stored value, where it has all their bytes; the fill element at each, where nothing is stored. Only a want of memory or a failure of the handle may come in its place.
+abbrev pub ReadsRuns : PackBitsSettings → Form → StorageState → List (ℕ × ℕ) → Result Held CodecError → Type 0
+ReadsRuns settings form before runs result =
+    AnswersBy memory_or_fault (Holds form.type) result (read_places_of settings form before.value (joined_runs runs))
+
 -- the elements that a selection means, of what is stored, or the first refusal
 abbrev pub packbits_read : PackBitsSettings → Form → Option (List ℕ) → Selection → Result Chunk CodecError
 packbits_read settings form stored selection = do
@@ -65,6 +79,11 @@ abbrev pub bytes_of_places : PackBitsSettings → Form → List ℕ → Result (
 bytes_of_places settings form places = do
   l ← packed_layout settings form
   Ok (packed_places_bytes l places)
+
+-- Where all bytes of the places of these runs are sure, no failure of the handle comes.
+abbrev pub ReadsRunsSurely : {T : Type 0} → PackBitsSettings → Form → StorageState → List (ℕ × ℕ) → Result T CodecError → Type 0
+ReadsRunsSurely settings form before runs result =
+    IfOk (bytes_of_places settings form (joined_runs runs)) (λ numbers. NeverFailsIf (are_sure before.sure numbers) result)
 
 -- the numbers of the bytes that such a read rests on, or the first refusal
 abbrev pub packbits_plan : PackBitsSettings → Form → Selection → Result (List ℕ) CodecError

@@ -1,9 +1,11 @@
 -- The bytes of runs of places that follow one another, and the plan of a read.
-use Rattle.std.specs.Prelude.{◌≡◌, ℕ, ◌+◌, ◌-◌, ◌*◌, ◌/◌, ◌%◌, ◌<◌, List, [], ◌∷◌, ◌++◌, map, length, take, drop, Bool, true}
-use Rattle.std.specs.List.{All, list_all, sum_by}
+use Rattle.std.specs.Prelude.{◌≡◌, ℕ, ◌+◌, ◌-◌, ◌*◌, ◌/◌, ◌%◌, ◌<◌, List, [], ◌∷◌, ◌++◌, map, length, take, drop, Bool, true, Vec}
+use Rattle.std.proofs.Common.{Global}
+use Rattle.std.specs.List.{All, list_all}
 use Rattle.zarrs_chunk.specs.Runs.{joined_runs}
 use Rattle.zarrs_codec.specs.ByteRanges.{range_indices}
 use Rattle.zarrs_codec.specs.ByteSpan.{ByteSpan}
+use Rattle.zarrs_bytes.specs.PlannedRanges.{ranges_len}
 use Rattle.zarrs_packbits.specs.Bits.{bits_of}
 use Rattle.zarrs_packbits.specs.BitStream.{components_from}
 use Rattle.zarrs_packbits.specs.declared.layout.PackedLayout.{PackedLayout}
@@ -38,7 +40,11 @@ pub record IsPlan (l : PackedLayout) (places : List ℕ) (ranges : List ByteSpan
   pub joined : joined_runs runs ≡ places
   pub each : spans ranges ≡ map (run_span l) runs
   pub bytes : SameNumbers (range_indices ranges) (packed_places_bytes l places)
-  pub sum : is_whole l ≡ true → sum_by (λ range. range.end - range.start) ranges ≡ length places * (l.group * l.size)
+  pub sum : is_whole l ≡ true → ranges_len ranges ≡ length places * (l.group * l.size)
+
+-- the ranges are a plan of a read of the places of these runs
+abbrev pub IsPlanOf : List (ℕ × ℕ) → Vec ByteSpan Global → PackedLayout → Type 0
+IsPlanOf runs ranges layout = IsPlan layout (joined_runs runs) ranges.items
 
 -- the components of the elements of these runs, made of the runs' bytes joined
 abbrev pub run_bits : PackedLayout → List ℕ → List (ℕ × ℕ) → List ℕ

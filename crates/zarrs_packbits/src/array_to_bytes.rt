@@ -7,17 +7,16 @@ use zarrs_codec::{ArrayToBytesCodecTraits, BytesRepresentation};
 use zarrs_data_type::{DataType, FillValue};
 
 impl ArrayToBytesCodecTraits for PackBitsCodec {
-    ghost use Rattle.std.specs.Prelude.{◌≡◌, Ok, IfOk, true};
-    ghost use Rattle.zarrs_chunk.specs.Answer.{AnswersBy, Gives, GivesBy, never, seen};
-    ghost use Rattle.zarrs_chunk.specs.ChunkShape.{product};
+    ghost use Rattle.std.specs.Prelude.{◌≡◌, Ok};
+    ghost use Rattle.zarrs_chunk.specs.Answer.{seen};
     ghost use Rattle.zarrs_data_type.specs.Form.{form_of};
-    ghost use Rattle.zarrs_array_bytes.specs.Held.{flen, items_of, raw_of};
-    ghost use Rattle.zarrs_array_bytes.specs.Validity.{Holds, validity};
-    ghost use Rattle.zarrs_codec.specs.declared.bytes_representation.BytesRepresentation.TheVariants.{FixedSize};
-    ghost use Rattle.zarrs_packbits.specs.PackBitsCodec.{packbits_value, packbits_chunk};
-    ghost use Rattle.zarrs_packbits.specs.PackBitsSettings.{keeps_all_bytes, packbits_length, packed_layout};
+    ghost use Rattle.zarrs_array_bytes.specs.Held.{items_of};
+    ghost use Rattle.zarrs_codec.specs.ChunkCodec.{RepresentsBy, EncodesBy, DecodesBy, GivesValid};
+    ghost use Rattle.zarrs_bytes.specs.GivenBytes.{IsGiven, HoldsGiven};
+    ghost use Rattle.zarrs_packbits.specs.PackBitsCodec.{packbits_value, packbits_chunk, EncodesInPlace, DecodesInPlace};
+    ghost use Rattle.zarrs_packbits.specs.PackBitsSettings.{packbits_length, packbits_represented, KeepsAllBytes};
 
-    ghost represented = { λ settings form. seen FixedSize (packbits_length settings form) };
+    ghost represented = { λ settings form. packbits_represented settings form };
 
     ghost encoded = { λ settings form held. packbits_value settings form held };
 
@@ -32,8 +31,10 @@ impl ArrayToBytesCodecTraits for PackBitsCodec {
         data_type: &DataType,
         fill_value: &FillValue,
     ) -> Result<BytesRepresentation, CodecError>
-        ensures answer { Gives (λ representation. representation) result (seen FixedSize (packbits_length self.now (form_of shape.now data_type.now fill_value.now))) }
-        ensures in_place { result ≡ seen FixedSize (packbits_length self.now (form_of shape.now data_type.now fill_value.now)) }
+        ensures answer { RepresentsBy (packbits_represented self.now)
+            (form_of shape.now data_type.now fill_value.now) result }
+        ensures in_place { result
+            ≡ packbits_represented self.now (form_of shape.now data_type.now fill_value.now) }
     {
         let layout = self.layout(shape, data_type, fill_value)?;
         Ok(BytesRepresentation::FixedSize(layout.value_len()))
@@ -47,9 +48,12 @@ impl ArrayToBytesCodecTraits for PackBitsCodec {
         data_type: &DataType,
         fill_value: &FillValue,
     ) -> Result<ArrayBytesRaw<'a>, CodecError>
-        ensures answer { Gives items_of result (packbits_value self.now (form_of shape.now data_type.now fill_value.now) elements.entry) }
-        ensures in_place { keeps_all_bytes (packed_layout self.now (form_of shape.now data_type.now fill_value.now)) ≡ true → seen items_of result ≡ packbits_value self.now (form_of shape.now data_type.now fill_value.now) elements.entry }
-        ensures kept { keeps_all_bytes (packed_layout self.now (form_of shape.now data_type.now fill_value.now)) ≡ true → IfOk result (λ value. elements.entry ≡ flen (raw_of value)) }
+        ensures answer { EncodesBy (packbits_value self.now)
+            (form_of shape.now data_type.now fill_value.now) elements.entry result }
+        ensures in_place { EncodesInPlace self.now
+            (form_of shape.now data_type.now fill_value.now) elements.entry result }
+        ensures kept { KeepsAllBytes self.now (form_of shape.now data_type.now fill_value.now)
+            → IsGiven elements.entry result }
     {
         PackBitsCodec::encode(self, alloc, elements, shape, data_type, fill_value)
     }
@@ -63,10 +67,13 @@ impl ArrayToBytesCodecTraits for PackBitsCodec {
         data_type: &DataType,
         fill_value: &FillValue,
     ) -> Result<ArrayBytes<'a>, CodecError>
-        ensures answer { GivesBy (Holds data_type.now) result (packbits_chunk self.now (form_of shape.now data_type.now fill_value.now) (items_of value.entry)) }
-        ensures valid { IfOk result (λ elements. validity data_type.now (product shape.now) elements ≡ Ok tt) }
-        ensures in_place { keeps_all_bytes (packed_layout self.now (form_of shape.now data_type.now fill_value.now)) ≡ true → AnswersBy never (Holds data_type.now) result (packbits_chunk self.now (form_of shape.now data_type.now fill_value.now) (items_of value.entry)) }
-        ensures kept { keeps_all_bytes (packed_layout self.now (form_of shape.now data_type.now fill_value.now)) ≡ true → IfOk result (λ elements. elements ≡ flen (raw_of value.entry)) }
+        ensures answer { DecodesBy (packbits_chunk self.now)
+            (form_of shape.now data_type.now fill_value.now) (items_of value.entry) result }
+        ensures valid { GivesValid data_type.now shape.now result }
+        ensures in_place { DecodesInPlace self.now
+            (form_of shape.now data_type.now fill_value.now) value.entry result }
+        ensures kept { KeepsAllBytes self.now (form_of shape.now data_type.now fill_value.now)
+            → HoldsGiven value.entry result }
     {
         PackBitsCodec::decode(self, alloc, value, shape, data_type, fill_value)
     }

@@ -1,12 +1,12 @@
 //! Bits that are put one behind another.
 ghost use Rattle.std.specs.Prelude.{◌≡◌, ℕ, ◌+◌, ◌*◌, ◌/◌, ◌%◌, ◌^◌, ◌<◌, ◌≤◌, List, [], ◌++◌, length, replicate, IfOk, slice_index};
 ghost use Rattle.zarrs_packbits.specs.Bits.{low_bits, bits_of, field, bit_of};
-ghost use Rattle.zarrs_packbits.specs.BitStream.{stream_of_bytes, components_from};
-ghost use Rattle.zarrs_packbits.specs.BlockBits.{stream_before};
+ghost use Rattle.zarrs_packbits.specs.BitStream.{stream_of_bytes, components_in};
+ghost use Rattle.zarrs_packbits.specs.BlockBits.{blocks_len, stream_before};
 ghost use Rattle.zarrs_packbits.specs.KeptBits.{full_component};
-ghost use Rattle.zarrs_packbits.specs.PackedLayout.{IsPackedLayout, parts_of};
+ghost use Rattle.zarrs_packbits.specs.PackedLayout.{IsOneTwoOrFour, IsPackedLayout, ReachWords, parts_of};
 ghost use Rattle.zarrs_packbits.specs.Packing.{packing, spare_bits};
-ghost use Rattle.zarrs_packbits.specs.WrittenBits.{flags_of, written_bits, IsPartlyFilled};
+ghost use Rattle.zarrs_packbits.specs.WrittenBits.{flags_of, written_bits, AppendsBits, AppendsComponents, GivesBits, IsPartlyFilled, LeavesBits, LeavesFirst, LeavesMore, LeavesUpTo, Puts};
 
 use crate::blocks::{
     append_bits_spread, append_halves_joined, append_halves_spread, append_quarters_joined,
@@ -41,7 +41,8 @@ fn repeated(bit: bool, count: u64) -> u64
 fn flushed(mut out: Vec<u8>, word: u64, filled: u32) -> Result<Vec<u8>, AllocError>
     requires filled { filled < 64 }
     requires word { word < 2 ^ filled }
-    ensures { IfOk result (λ v. bits_of v.items ≡ written_bits out.items word filled ++ replicate (spare_bits filled) 0) }
+    ensures { GivesBits result
+        (written_bits out.items word filled ++ replicate (spare_bits filled) 0) }
 {
     let used = (filled as usize + 7) / 8;
     out.extend_from_slice(&word.to_le_bytes()[..used])?;
@@ -73,7 +74,8 @@ fn append_components(
     requires fits { layout.now.first + layout.now.count + layout.now.above ≤ 64 }
     requires inside { at + parts * layout.now.count ≤ 8 * length bytes.now }
     requires at { at + parts * layout.now.count < 2 ^ 64 }
-    ensures bits { IfOk result (λ left. written_bits out.new.items left.0 left.1 ≡ written_bits out.old.items word filled ++ components_from layout.now at parts (bits_of bytes.now)) }
+    ensures bits { LeavesMore out.new.items result (written_bits out.old.items word filled)
+        (components_in layout.now at parts bytes.now) }
     ensures left { IfOk result (λ left. IsPartlyFilled left.0 left.1) }
 {
     let PackedLayout {
@@ -115,7 +117,8 @@ fn append_by_lanes(
     requires lanes { lanes * width ≡ 64 }
     requires inside { at + parts * layout.now.count ≤ 8 * length bytes.now }
     requires at { at + parts * layout.now.count < 2 ^ 64 }
-    ensures bits { IfOk result (λ left. written_bits out.new.items left.0 left.1 ≡ written_bits out.old.items word filled ++ components_from layout.now at parts (bits_of bytes.now)) }
+    ensures bits { LeavesMore out.new.items result (written_bits out.old.items word filled)
+        (components_in layout.now at parts bytes.now) }
     ensures left { IfOk result (λ left. IsPartlyFilled left.0 left.1) }
 {
     let groups = parts / lanes;
@@ -144,7 +147,8 @@ fn append_narrow(
     requires fits { layout.now.first + layout.now.count + layout.now.above ≤ 64 }
     requires inside { at + parts * layout.now.count ≤ 8 * length bytes.now }
     requires at { at + parts * layout.now.count < 2 ^ 64 }
-    ensures bits { IfOk result (λ left. written_bits out.new.items left.0 left.1 ≡ written_bits out.old.items word filled ++ components_from layout.now at parts (bits_of bytes.now)) }
+    ensures bits { LeavesMore out.new.items result (written_bits out.old.items word filled)
+        (components_in layout.now at parts bytes.now) }
     ensures left { IfOk result (λ left. IsPartlyFilled left.0 left.1) }
 {
     match layout.first + layout.count + layout.above {
@@ -170,7 +174,8 @@ fn append_kept(
     requires count { layout.now.count ≤ 64 }
     requires len { length bytes.now ≡ parts_of layout.now * layout.now.size }
     requires begin { begin ≤ parts_of layout.now }
-    ensures bits { IfOk result (λ left. (front : List ℕ) → written_bits out.old.items word filled ≡ front ++ stream_before layout.now begin bytes.now → written_bits out.new.items left.0 left.1 ≡ front ++ stream_of_bytes layout.now bytes.now) }
+    ensures bits { LeavesUpTo out.new.items result (written_bits out.old.items word filled)
+        layout.now bytes.now begin (parts_of layout.now) }
     ensures left { IfOk result (λ left. IsPartlyFilled left.0 left.1) }
 {
     let PackedLayout {
@@ -199,7 +204,7 @@ fn parts_by_words(layout: &PackedLayout, len: usize, begin: u64) -> u64
     requires begin { begin ≤ parts_of layout.now }
     ensures from { begin ≤ result }
     ensures within { result ≤ parts_of layout.now }
-    ensures reach { begin < result → result * layout.now.size + layout.now.first / 8 + 8 ≤ len + layout.now.size }
+    ensures reach { begin < result → ReachWords layout.now result len }
     ensures fits { begin < result → layout.now.first % 8 + layout.now.count ≤ 64 }
 {
     let skip = layout.first / 8;
@@ -226,9 +231,10 @@ fn append_by_words(
     requires len { length bytes.now ≡ parts_of layout.now * layout.now.size }
     requires begin { begin ≤ end }
     requires end { end ≤ parts_of layout.now }
-    requires reach { begin < end → end * layout.now.size + layout.now.first / 8 + 8 ≤ length bytes.now + layout.now.size }
+    requires reach { begin < end → ReachWords layout.now end (length bytes.now) }
     requires fits { begin < end → layout.now.first % 8 + layout.now.count ≤ 64 }
-    ensures bits { IfOk result (λ left. (front : List ℕ) → written_bits out.old.items word filled ≡ front ++ stream_before layout.now begin bytes.now → written_bits out.new.items left.0 left.1 ≡ front ++ stream_before layout.now end bytes.now) }
+    ensures bits { LeavesUpTo out.new.items result (written_bits out.old.items word filled)
+        layout.now bytes.now begin end }
     ensures left { IfOk result (λ left. IsPartlyFilled left.0 left.1) }
 {
     let PackedLayout {
@@ -253,7 +259,7 @@ fn append_by_words(
 /// partly filled then, and how far.
 fn leveled(out: &mut Vec<u8>, word: u64, filled: u32) -> Result<(u64, u32), AllocError>
     requires begun { IsPartlyFilled word filled }
-    ensures bits { IfOk result (λ left. written_bits out.new.items left.0 left.1 ≡ written_bits out.old.items word filled) }
+    ensures bits { LeavesBits out.new.items result (written_bits out.old.items word filled) }
     ensures left { IfOk result (λ left. IsPartlyFilled left.0 left.1) }
 {
     if filled < 8 {
@@ -269,7 +275,8 @@ fn append_joined(out: &mut Vec<u8>, layout: &PackedLayout, bytes: &[u8]) -> Resu
     requires size { layout.now.size ≡ 1 }
     requires within { layout.now.first + layout.now.count ≤ 8 }
     requires count { (layout.now.count ≡ 4 → ⊥) → layout.now.count ≡ 2 }
-    ensures { IfOk result (λ _. bits_of out.new.items ≡ bits_of out.old.items ++ stream_before layout.now (64 * (length bytes.now / 64)) bytes.now) }
+    ensures { AppendsBits out.old.items out.new.items result
+        (stream_before layout.now (blocks_len bytes.now) bytes.now) }
 {
     if layout.count == 4 {
         append_halves_joined(out, bytes, layout.first)
@@ -290,7 +297,8 @@ fn append_words(
     requires begun { IsPartlyFilled word filled }
     requires layout { IsPackedLayout layout.now }
     requires len { length bytes.now ≡ parts_of layout.now * layout.now.size }
-    ensures bits { IfOk result (λ left. written_bits out.new.items left.0 left.1 ≡ written_bits out.old.items word filled ++ stream_before layout.now left.2 bytes.now) }
+    ensures bits { LeavesFirst out.new.items result (written_bits out.old.items word filled)
+        layout.now bytes.now }
     ensures left { IfOk result (λ left. IsPartlyFilled left.0 left.1) }
     ensures within { IfOk result (λ left. left.2 ≤ parts_of layout.now) }
 {
@@ -314,7 +322,8 @@ fn append_first(
     requires begun { IsPartlyFilled word filled }
     requires layout { IsPackedLayout layout.now }
     requires len { length bytes.now ≡ parts_of layout.now * layout.now.size }
-    ensures bits { IfOk result (λ left. written_bits out.new.items left.0 left.1 ≡ written_bits out.old.items word filled ++ stream_before layout.now left.2 bytes.now) }
+    ensures bits { LeavesFirst out.new.items result (written_bits out.old.items word filled)
+        layout.now bytes.now }
     ensures left { IfOk result (λ left. IsPartlyFilled left.0 left.1) }
     ensures within { IfOk result (λ left. left.2 ≤ parts_of layout.now) }
 {
@@ -338,9 +347,9 @@ fn append_spread(
     parts: u64,
 ) -> Result<(), AllocError>
     requires size { layout.now.first + layout.now.count + layout.now.above ≡ 8 }
-    requires count { (layout.now.count ≡ 1 → ⊥) → (layout.now.count ≡ 2 → ⊥) → layout.now.count ≡ 4 }
+    requires count { IsOneTwoOrFour layout.now.count }
     requires inside { parts * layout.now.count ≤ 8 * length bytes.now }
-    ensures { IfOk result (λ _. bits_of out.new.items ≡ bits_of out.old.items ++ components_from layout.now 0 parts (bits_of bytes.now)) }
+    ensures { AppendsComponents layout.now parts bytes.now out.old.items out.new.items result }
 {
     if layout.count == 1 {
         append_bits_spread(out, layout, bytes, parts)
@@ -365,10 +374,11 @@ fn append_bytes(
     requires begun { IsPartlyFilled word filled }
     requires some { 0 < layout.now.count }
     requires size { layout.now.first + layout.now.count + layout.now.above ≡ 8 }
-    requires count { (layout.now.count ≡ 1 → ⊥) → (layout.now.count ≡ 2 → ⊥) → layout.now.count ≡ 4 }
+    requires count { IsOneTwoOrFour layout.now.count }
     requires inside { at + parts * layout.now.count ≤ 8 * length bytes.now }
     requires at { at + parts * layout.now.count < 2 ^ 64 }
-    ensures bits { IfOk result (λ left. written_bits out.new.items left.0 left.1 ≡ written_bits out.old.items word filled ++ components_from layout.now at parts (bits_of bytes.now)) }
+    ensures bits { LeavesMore out.new.items result (written_bits out.old.items word filled)
+        (components_in layout.now at parts bytes.now) }
     ensures left { IfOk result (λ left. IsPartlyFilled left.0 left.1) }
 {
     let head = ((8 - at % 8) % 8 / layout.count).min(parts);
@@ -411,7 +421,7 @@ impl BitWriter {
     pub(crate) fn put(&mut self, bits: u64, count: u32) -> Result<(), AllocError>
         requires count { count ≤ 64 }
         requires bits { bits < 2 ^ count }
-        ensures { IfOk result (λ _. self.new ≡ self.old ++ low_bits count bits) }
+        ensures { Puts self.old self.new result (low_bits count bits) }
     {
         let (word, filled) = append_bits(&mut self.out, self.word, self.filled, bits, count)?;
         self.word = word;
@@ -423,7 +433,7 @@ impl BitWriter {
     fn put_field(&mut self, bytes: &[u8], at: u64, count: u64) -> Result<(), AllocError>
         requires inside { at + count ≤ 8 * length bytes.now }
         requires at { at + count < 2 ^ 64 }
-        ensures { IfOk result (λ _. self.new ≡ self.old ++ field at count (bits_of bytes.now)) }
+        ensures { Puts self.old self.new result (field at count (bits_of bytes.now)) }
     {
         let mut done = 0;
         while done < count {
@@ -437,7 +447,7 @@ impl BitWriter {
 
     /// Puts one bit so many times, a word at a time.
     fn put_repeated(&mut self, bit: bool, count: u64) -> Result<(), AllocError>
-        ensures { IfOk result (λ _. self.new ≡ self.old ++ replicate count (bit_of bit)) }
+        ensures { Puts self.old self.new result (replicate count (bit_of bit)) }
     {
         let mut done = 0;
         while done < count {
@@ -462,7 +472,8 @@ impl BitWriter {
         requires some { 0 < count }
         requires inside { at + count ≤ 8 * length bytes.now }
         requires at { at + count < 2 ^ 64 }
-        ensures { IfOk result (λ _. self.new ≡ self.old ++ full_component first above sign (field at count (bits_of bytes.now))) }
+        ensures { Puts self.old self.new result
+            (full_component first above sign (field at count (bits_of bytes.now))) }
     {
         self.put_repeated(false, first)?;
         self.put_field(bytes, at, count)?;
@@ -473,7 +484,7 @@ impl BitWriter {
     /// Puts one bit of each of these bytes, 64 bytes at a time.
     fn put_flags(&mut self, bytes: &[u8], bit: u64) -> Result<(), AllocError>
         requires bit { bit < 8 }
-        ensures { IfOk result (λ _. self.new ≡ self.old ++ flags_of bit bytes.now) }
+        ensures { Puts self.old self.new result (flags_of bit bytes.now) }
     {
         let mut done = 0;
         while done < bytes.len() {
@@ -495,7 +506,7 @@ impl BitWriter {
         requires layout { IsPackedLayout layout.now }
         requires last { layout.now.first + layout.now.count < 2 ^ 64 }
         requires len { length bytes.now ≡ parts_of layout.now * layout.now.size }
-        ensures { IfOk result (λ _. self.new ≡ self.old ++ stream_of_bytes layout.now bytes.now) }
+        ensures { Puts self.old self.new result (stream_of_bytes layout.now bytes.now) }
     {
         if layout.size == 1 && layout.count == 1 {
             return self.put_flags(bytes, layout.first);
@@ -516,7 +527,7 @@ impl BitWriter {
         requires last { layout.now.first + layout.now.count < 2 ^ 64 }
         requires count { layout.now.count ≤ 64 }
         requires len { length bytes.now ≡ parts_of layout.now * layout.now.size }
-        ensures { IfOk result (λ _. self.new ≡ self.old ++ stream_of_bytes layout.now bytes.now) }
+        ensures { Puts self.old self.new result (stream_of_bytes layout.now bytes.now) }
     {
         let (part, reached, begin) = append_first(
             &mut self.out,
@@ -551,10 +562,10 @@ impl BitWriter {
     ) -> Result<(), AllocError>
         requires some { 0 < layout.now.count }
         requires size { layout.now.first + layout.now.count + layout.now.above ≡ 8 }
-        requires count { (layout.now.count ≡ 1 → ⊥) → (layout.now.count ≡ 2 → ⊥) → layout.now.count ≡ 4 }
+        requires count { IsOneTwoOrFour layout.now.count }
         requires inside { at + parts * layout.now.count ≤ 8 * length bytes.now }
         requires at { at + parts * layout.now.count < 2 ^ 64 }
-        ensures { IfOk result (λ _. self.new ≡ self.old ++ components_from layout.now at parts (bits_of bytes.now)) }
+        ensures { Puts self.old self.new result (components_in layout.now at parts bytes.now) }
     {
         let (word, filled) = append_bytes(
             &mut self.out,
@@ -582,7 +593,7 @@ impl BitWriter {
         requires fits { layout.now.first + layout.now.count + layout.now.above ≤ 64 }
         requires inside { at + parts * layout.now.count ≤ 8 * length bytes.now }
         requires at { at + parts * layout.now.count < 2 ^ 64 }
-        ensures { IfOk result (λ _. self.new ≡ self.old ++ components_from layout.now at parts (bits_of bytes.now)) }
+        ensures { Puts self.old self.new result (components_in layout.now at parts bytes.now) }
     {
         let (word, filled) = append_narrow(
             &mut self.out,
@@ -609,7 +620,7 @@ impl BitWriter {
         requires some { 0 < layout.now.count }
         requires inside { at + parts * layout.now.count ≤ 8 * length bytes.now }
         requires at { at + parts * layout.now.count < 2 ^ 64 }
-        ensures { IfOk result (λ _. self.new ≡ self.old ++ components_from layout.now at parts (bits_of bytes.now)) }
+        ensures { Puts self.old self.new result (components_in layout.now at parts bytes.now) }
     {
         if layout.is_spread() {
             return self.put_spread(layout, bytes, at, parts);

@@ -1,10 +1,9 @@
 //! Components of one byte each, 64 of them at a time.
-ghost use Rattle.std.specs.Prelude.{◌≡◌, ℕ, ◌+◌, ◌*◌, ◌/◌, ◌^◌, ◌<◌, ◌≤◌, ◌++◌, All, IfOk, length, map};
-ghost use Rattle.std.specs.List.{flat_map, range_with_len};
-ghost use Rattle.zarrs_packbits.specs.Bits.{bits_of, field, low_bits};
-ghost use Rattle.zarrs_packbits.specs.BitStream.{components_from};
-ghost use Rattle.zarrs_packbits.specs.BlockBits.{cut_byte, fields_of, lifted_byte};
-ghost use Rattle.zarrs_packbits.specs.KeptBits.{component_bits, sign_weight};
+ghost use Rattle.std.specs.Prelude.{◌≡◌, ◌+◌, ◌*◌, ◌/◌, ◌^◌, ◌<◌, ◌≤◌, All, length, map};
+ghost use Rattle.std.specs.List.{flat_map};
+ghost use Rattle.zarrs_packbits.specs.Bits.{bits_of, low_bits};
+ghost use Rattle.zarrs_packbits.specs.BlockBits.{blocks_len, byte_fields, cut_byte, fields_of, lifted_byte};
+ghost use Rattle.zarrs_packbits.specs.WrittenBits.{AppendsBits, AppendsComponents};
 
 use crate::layout::PackedLayout;
 use crate::words::weight_of_sign;
@@ -110,7 +109,7 @@ fn append_last_bits(
     requires size { layout.now.first + layout.now.count + layout.now.above ≡ 8 }
     requires some { parts ≤ 64 }
     requires inside { parts * layout.now.count ≤ 8 * length bytes.now }
-    ensures { IfOk result (λ _. bits_of out.new.items ≡ bits_of out.old.items ++ components_from layout.now 0 parts (bits_of bytes.now)) }
+    ensures { AppendsComponents layout.now parts bytes.now out.old.items out.new.items result }
 {
     let left = (parts + 7) / 8;
     let mut from = [0u8; 8];
@@ -131,7 +130,7 @@ pub(crate) fn append_bits_spread(
     requires count { layout.now.count ≡ 1 }
     requires size { layout.now.first + layout.now.count + layout.now.above ≡ 8 }
     requires inside { parts * layout.now.count ≤ 8 * length bytes.now }
-    ensures { IfOk result (λ _. bits_of out.new.items ≡ bits_of out.old.items ++ components_from layout.now 0 parts (bits_of bytes.now)) }
+    ensures { AppendsComponents layout.now parts bytes.now out.old.items out.new.items result }
 {
     let PackedLayout {
         first,
@@ -164,7 +163,7 @@ fn append_last_halves(
     requires size { layout.now.first + layout.now.count + layout.now.above ≡ 8 }
     requires some { parts ≤ 128 }
     requires inside { parts * layout.now.count ≤ 8 * length bytes.now }
-    ensures { IfOk result (λ _. bits_of out.new.items ≡ bits_of out.old.items ++ components_from layout.now 0 parts (bits_of bytes.now)) }
+    ensures { AppendsComponents layout.now parts bytes.now out.old.items out.new.items result }
 {
     let left = (parts + 1) / 2;
     let mut from = [0u8; 64];
@@ -185,7 +184,7 @@ pub(crate) fn append_halves_spread(
     requires count { layout.now.count ≡ 4 }
     requires size { layout.now.first + layout.now.count + layout.now.above ≡ 8 }
     requires inside { parts * layout.now.count ≤ 8 * length bytes.now }
-    ensures { IfOk result (λ _. bits_of out.new.items ≡ bits_of out.old.items ++ components_from layout.now 0 parts (bits_of bytes.now)) }
+    ensures { AppendsComponents layout.now parts bytes.now out.old.items out.new.items result }
 {
     let PackedLayout {
         first,
@@ -240,7 +239,8 @@ pub(crate) fn append_halves_joined(
     first: u64,
 ) -> Result<(), AllocError>
     requires { first + 4 ≤ 8 }
-    ensures { IfOk result (λ _. bits_of out.new.items ≡ bits_of out.old.items ++ flat_map (λ part. field first 4 (component_bits 1 bytes.now part)) (range_with_len 0 (64 * (length bytes.now / 64)))) }
+    ensures { AppendsBits out.old.items out.new.items result
+        (byte_fields first 4 (blocks_len bytes.now) bytes.now) }
 {
     let whole = bytes.len() / 64;
     for block in 0..whole {
@@ -271,7 +271,7 @@ fn append_last_quarters(
     requires size { layout.now.first + layout.now.count + layout.now.above ≡ 8 }
     requires some { parts ≤ 64 }
     requires inside { parts * layout.now.count ≤ 8 * length bytes.now }
-    ensures { IfOk result (λ _. bits_of out.new.items ≡ bits_of out.old.items ++ components_from layout.now 0 parts (bits_of bytes.now)) }
+    ensures { AppendsComponents layout.now parts bytes.now out.old.items out.new.items result }
 {
     let left = (parts + 3) / 4;
     let mut from = [0u8; 16];
@@ -292,7 +292,7 @@ pub(crate) fn append_quarters_spread(
     requires count { layout.now.count ≡ 2 }
     requires size { layout.now.first + layout.now.count + layout.now.above ≡ 8 }
     requires inside { parts * layout.now.count ≤ 8 * length bytes.now }
-    ensures { IfOk result (λ _. bits_of out.new.items ≡ bits_of out.old.items ++ components_from layout.now 0 parts (bits_of bytes.now)) }
+    ensures { AppendsComponents layout.now parts bytes.now out.old.items out.new.items result }
 {
     let PackedLayout {
         first,
@@ -350,7 +350,8 @@ pub(crate) fn append_quarters_joined(
     first: u64,
 ) -> Result<(), AllocError>
     requires { first + 2 ≤ 8 }
-    ensures { IfOk result (λ _. bits_of out.new.items ≡ bits_of out.old.items ++ flat_map (λ part. field first 2 (component_bits 1 bytes.now part)) (range_with_len 0 (64 * (length bytes.now / 64)))) }
+    ensures { AppendsBits out.old.items out.new.items result
+        (byte_fields first 2 (blocks_len bytes.now) bytes.now) }
 {
     let whole = bytes.len() / 64;
     for block in 0..whole {

@@ -1,11 +1,10 @@
 //! Components that stand side by side in a word of 64 bits, so many lanes of one width each.
-ghost use Rattle.std.specs.Prelude.{◌≡◌, ℕ, ◌+◌, ◌*◌, ◌^◌, ◌<◌, ◌≤◌, ◌++◌, length, IfOk};
-ghost use Rattle.std.specs.List.{flat_map, range_with_len};
-ghost use Rattle.zarrs_packbits.specs.Bits.{low_bits, bits_of, field};
-ghost use Rattle.zarrs_packbits.specs.BitStream.{components_from};
-ghost use Rattle.zarrs_packbits.specs.BlockBits.{stream_before};
+ghost use Rattle.std.specs.Prelude.{◌≡◌, ◌+◌, ◌*◌, ◌^◌, ◌<◌, ◌≤◌, length, IfOk};
+ghost use Rattle.zarrs_packbits.specs.Bits.{low_bits};
+ghost use Rattle.zarrs_packbits.specs.BitStream.{components_from, components_in};
+ghost use Rattle.zarrs_packbits.specs.LaneBits.{lane_fields};
 ghost use Rattle.zarrs_packbits.specs.PackedLayout.{IsPackedLayout, parts_of};
-ghost use Rattle.zarrs_packbits.specs.WrittenBits.{written_bits, IsPartlyFilled};
+ghost use Rattle.zarrs_packbits.specs.WrittenBits.{written_bits, IsPartlyFilled, LeavesFirst, LeavesMore};
 
 use crate::layout::PackedLayout;
 use crate::words::{append_bits, component_word, lowest, read_bits, read_within};
@@ -17,7 +16,7 @@ fn joined_word(word: u64, first: u64, count: u64, lanes: u64, width: u64) -> u64
     requires some { 0 < count }
     requires within { first + count ≤ width }
     requires lanes { lanes * width ≡ 64 }
-    ensures bits { low_bits (lanes * count) result ≡ flat_map (λ lane. field (lane * width + first) count (low_bits 64 word)) (range_with_len 0 lanes) }
+    ensures bits { low_bits (lanes * count) result ≡ lane_fields first count lanes width word }
     ensures below { result < 2 ^ (lanes * count) }
 {
     let low = word >> first;
@@ -36,7 +35,8 @@ fn spread_word(kept: u64, layout: PackedLayout, lanes: u64, width: u64) -> u64
     requires some { 0 < layout.count }
     requires size { layout.first + layout.count + layout.above ≡ width }
     requires lanes { lanes * width ≡ 64 }
-    ensures { low_bits 64 result ≡ components_from layout 0 lanes (low_bits (lanes * layout.count) kept) }
+    ensures { low_bits 64 result
+        ≡ components_from layout 0 lanes (low_bits (lanes * layout.count) kept) }
 {
     let mut word = 0u64;
     for lane in 0..lanes {
@@ -64,7 +64,8 @@ pub(crate) fn append_joined_lanes(
     requires len { length bytes.now ≡ parts_of layout.now * layout.now.size }
     requires size { 8 * layout.now.size ≡ width }
     requires lanes { lanes * width ≡ 64 }
-    ensures bits { IfOk result (λ left. written_bits out.new.items left.0 left.1 ≡ written_bits out.old.items word filled ++ stream_before layout.now left.2 bytes.now) }
+    ensures bits { LeavesFirst out.new.items result (written_bits out.old.items word filled)
+        layout.now bytes.now }
     ensures left { IfOk result (λ left. IsPartlyFilled left.0 left.1) }
     ensures within { IfOk result (λ left. left.2 ≤ parts_of layout.now) }
 {
@@ -101,7 +102,8 @@ pub(crate) fn append_spread_lanes(
     requires lanes { lanes * width ≡ 64 }
     requires inside { at + groups * (lanes * layout.count) ≤ 8 * length bytes.now }
     requires at { at + groups * (lanes * layout.count) < 2 ^ 64 }
-    ensures bits { IfOk result (λ left. written_bits out.new.items left.0 left.1 ≡ written_bits out.old.items word filled ++ components_from layout at (groups * lanes) (bits_of bytes.now)) }
+    ensures bits { LeavesMore out.new.items result (written_bits out.old.items word filled)
+        (components_in layout at (groups * lanes) bytes.now) }
     ensures left { IfOk result (λ left. IsPartlyFilled left.0 left.1) }
 {
     let taken = lanes * layout.count;

@@ -1,5 +1,5 @@
 ghost use Rattle.std.specs.Prelude.{IsTrue, ◌<◌, ◌≤◌, ◌+◌, ◌≡◌, length};
-ghost use Rattle.zarrs_packbits.specs.PackedLayout.{IsPackedLayout, is_whole, is_in_reach, spare_of};
+ghost use Rattle.zarrs_packbits.specs.PackedLayout.{IsOneTwoOrFour, IsPackedLayout, is_whole, is_in_reach, spare_of};
 ghost use Rattle.zarrs_packbits.specs.PaddingByte.{lead, trail, value_len, padding_holds};
 ghost use Rattle.zarrs_packbits.specs.ReadPlan.{run_start, run_end};
 
@@ -47,7 +47,7 @@ impl PackedLayout {
     /// Whether a component is one byte, of which one bit is kept, or two or four.
     pub(crate) fn is_spread(&self) -> bool
         ensures size { IsTrue result → self.now.first + self.now.count + self.now.above ≡ 8 }
-        ensures count { IsTrue result → (self.now.count ≡ 1 → ⊥) → (self.now.count ≡ 2 → ⊥) → self.now.count ≡ 4 }
+        ensures count { IsTrue result → IsOneTwoOrFour self.now.count }
     {
         self.first < 8
             && (self.count == 1 || self.count == 2 || self.count == 4)

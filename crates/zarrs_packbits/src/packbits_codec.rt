@@ -1,24 +1,24 @@
 ghost use Rattle.zarrs_data_type.specs.Form.{form_of};
-ghost use Rattle.zarrs_array_bytes.specs.Held.{items_of, flen, raw_of};
+ghost use Rattle.zarrs_array_bytes.specs.Held.{items_of};
 ghost use Rattle.zarrs_codec.specs.Grammar.{Encodes, Decodes};
 ghost use Rattle.zarrs_packbits.specs.PackBitsGrammar.{packbits_grammar};
-ghost use Rattle.std.specs.Prelude.{◌≡◌, ℕ, ◌+◌, ◌*◌, ◌^◌, ◌<◌, ◌++◌, IfOk, IfSome, Ok, Some, drop, length, true, false, option_map, slice_index};
-ghost use Rattle.zarrs_chunk.specs.Answer.{Answers, AnswersBy, is_fault, memory, never, seen, Gives};
+ghost use Rattle.std.specs.Prelude.{◌≡◌, ℕ, ◌+◌, ◌*◌, ◌^◌, ◌<◌, ◌++◌, IfOk, Ok, Some, length, true, false, option_map, slice_index};
+ghost use Rattle.zarrs_chunk.specs.Answer.{Answers, is_fault, memory, Gives};
 ghost use Rattle.zarrs_chunk.specs.ChunkShape.{product};
-ghost use Rattle.zarrs_array_bytes.specs.Validity.{Holds};
-ghost use Rattle.zarrs_metadata.specs.CodecMetadata.{codec_metadata, packbits_name};
+ghost use Rattle.zarrs_metadata.specs.CodecMetadata.{packbits_name};
 ghost use Rattle.zarrs_metadata.specs.MetadataV3.{configuration_seen};
 ghost use Rattle.zarrs_metadata.specs.PluginCreateError.{plugin_memory};
 ghost use Rattle.zarrs_codec.specs.declared.capabilities.PartialDecoderCapability.{PartialDecoderCapability};
 ghost use Rattle.zarrs_codec.specs.declared.capabilities.PartialEncoderCapability.{PartialEncoderCapability};
+ghost use Rattle.zarrs_bytes.specs.GivenBytes.{EncodesNow, DecodesNow, IsGiven, HoldsGiven};
+ghost use Rattle.zarrs_codec.specs.MadeAgain.{MadeAgain};
 ghost use Rattle.zarrs_packbits.specs.Bits.{bits_of};
-ghost use Rattle.zarrs_packbits.specs.BitStream.{components_from, stream_of_bytes};
-ghost use Rattle.zarrs_packbits.specs.PackBitsCodec.{packbits_value, packbits_chunk};
-ghost use Rattle.zarrs_packbits.specs.PackBitsSettings.{is_reversed, packbits_settings, keeps_all_bytes, packed_layout, packbits_length, first_of, last_of, padding_for};
-ghost use Rattle.zarrs_packbits.specs.PackedLayout.{IsPackedLayout, is_whole, parts_of, spare_of};
-ghost use Rattle.zarrs_packbits.specs.Packing.{packing};
+ghost use Rattle.zarrs_packbits.specs.BitStream.{bytes_packed, bytes_unpacked};
+ghost use Rattle.zarrs_packbits.specs.PackBitsCodec.{packbits_value, packbits_chunk, EncodesInPlace, DecodesInPlace};
+ghost use Rattle.zarrs_packbits.specs.PackBitsSettings.{all_bits, is_reversed, packbits_settings, packbits_represented, packed_layout, first_of, last_of, padding_for, KeepsAllBytes};
+ghost use Rattle.zarrs_packbits.specs.PackedLayout.{IsPackedLayout, is_whole, parts_of};
 ghost use Rattle.zarrs_packbits.specs.SettingsMetadata.{settings_made, write_settings};
-ghost use Rattle.zarrs_packbits.specs.PaddingByte.{bytes_before, bytes_behind, lead, value_len, value_with};
+ghost use Rattle.zarrs_packbits.specs.PaddingByte.{padding_before, padding_behind, value_len};
 
 use crate::bit_writer::BitWriter;
 use crate::layout::PackedLayout;
@@ -72,7 +72,7 @@ pub(crate) fn bytes_are(_bytes: &[u8])
 /// Puts the padding byte, where it stands first.
 fn begun(alloc: Global, layout: &PackedLayout, room: usize) -> Result<BitWriter, AllocError>
     requires { IsPackedLayout layout.now }
-    ensures { IfOk result (λ w. w ≡ bits_of (bytes_before layout.now.padding (spare_of layout.now))) }
+    ensures { IfOk result (λ w. w ≡ bits_of (padding_before layout.now)) }
 {
     let mut writer = BitWriter::with_capacity(alloc, room)?;
     match layout.padding {
@@ -85,7 +85,7 @@ fn begun(alloc: Global, layout: &PackedLayout, room: usize) -> Result<BitWriter,
 /// Puts the padding byte, where it stands last.
 fn ended(layout: &PackedLayout, mut value: Vec<u8>) -> Result<Vec<u8>, AllocError>
     requires { IsPackedLayout layout.now }
-    ensures { IfOk result (λ v. v.items ≡ value.items ++ bytes_behind layout.now.padding (spare_of layout.now)) }
+    ensures { IfOk result (λ v. v.items ≡ value.items ++ padding_behind layout.now) }
 {
     match layout.padding {
         PackBitsPaddingEncoding::LastByte => value.push(layout.spare())?,
@@ -99,7 +99,7 @@ fn packed_value(alloc: Global, layout: &PackedLayout, bytes: &[u8]) -> Result<Ve
     requires layout { IsPackedLayout layout.now }
     requires last { layout.now.first + layout.now.count < 2 ^ 64 }
     requires len { length bytes.now ≡ parts_of layout.now * layout.now.size }
-    ensures { IfOk result (λ v. v.items ≡ value_with layout.now (stream_of_bytes layout.now bytes.now)) }
+    ensures { IfOk result (λ v. v.items ≡ bytes_packed layout.now bytes.now) }
 {
     let mut writer = begun(alloc, layout, layout.value_len() as usize)?;
     writer.put_stream(layout, bytes)?;
@@ -112,7 +112,7 @@ fn unpacked_bytes(alloc: Global, layout: &PackedLayout, value: &[u8]) -> Result<
     requires layout { IsPackedLayout layout.now }
     requires in_part { is_whole layout.now ≡ false }
     requires len { length value.now ≡ value_len layout.now }
-    ensures { IfOk result (λ v. v.items ≡ packing (components_from layout.now 0 (parts_of layout.now) (bits_of (drop (lead layout.now) value.now)))) }
+    ensures { IfOk result (λ v. v.items ≡ bytes_unpacked layout.now value.now) }
 {
     let parts = layout.elements * layout.group;
     let mut writer = BitWriter::with_capacity(alloc, (parts * layout.size) as usize)?;
@@ -129,7 +129,7 @@ fn packed_raw<'a>(
     requires layout { IsPackedLayout layout.now }
     requires last { layout.now.first + layout.now.count < 2 ^ 64 }
     requires len { length (items_of raw) ≡ parts_of layout.now * layout.now.size }
-    ensures exact { Gives items_of result (Ok (value_with layout.now (stream_of_bytes layout.now (items_of raw.entry)))) }
+    ensures exact { Gives items_of result (Ok (bytes_packed layout.now (items_of raw.entry))) }
 {
     let value = packed_value(alloc, layout, &raw)?;
     Ok(CowSlice::Owned(value))
@@ -144,7 +144,7 @@ fn unpacked_raw<'a>(
     requires layout { IsPackedLayout layout.now }
     requires in_part { is_whole layout.now ≡ false }
     requires len { length (items_of value) ≡ value_len layout.now }
-    ensures exact { Gives items_of result (Ok (packing (components_from layout.now 0 (parts_of layout.now) (bits_of (drop (lead layout.now) (items_of value.entry)))))) }
+    ensures exact { Gives items_of result (Ok (bytes_unpacked layout.now (items_of value.entry))) }
 {
     let bytes = unpacked_bytes(alloc, layout, &value)?;
     Ok(CowSlice::Owned(bytes))
@@ -216,7 +216,8 @@ impl PackBitsCodec {
         data_type: &DataType,
         fill_value: &FillValue,
     ) -> Result<PackedLayout, CodecError>
-        ensures answer { result ≡ packed_layout self.now (form_of shape.now data_type.now fill_value.now) }
+        ensures answer { result
+            ≡ packed_layout self.now (form_of shape.now data_type.now fill_value.now) }
         ensures sound { IfOk result IsPackedLayout }
         ensures last { IfOk result (λ layout. layout.first + layout.count < 2 ^ 64) }
         ensures elements { IfOk result (λ layout. layout.elements ≡ product shape.now) }
@@ -264,7 +265,8 @@ impl PackBitsCodec {
         data_type: &DataType,
         fill_value: &FillValue,
     ) -> Result<BytesRepresentation, CodecError>
-        ensures answer { result ≡ seen BytesRepresentation.FixedSize (packbits_length self.now (form_of shape.now data_type.now fill_value.now)) }
+        ensures answer { result
+            ≡ packbits_represented self.now (form_of shape.now data_type.now fill_value.now) }
     {
         let layout = self.layout(shape, data_type, fill_value)?;
         Ok(BytesRepresentation::FixedSize(layout.value_len()))
@@ -280,9 +282,10 @@ impl PackBitsCodec {
         data_type: &DataType,
         fill_value: &FillValue,
     ) -> Result<ArrayBytesRaw<'a>, CodecError>
-        requires whole { keeps_all_bytes (packed_layout self.now (form_of shape.now data_type.now fill_value.now)) ≡ true }
-        ensures exact { seen items_of result ≡ packbits_value self.now (form_of shape.now data_type.now fill_value.now) elements.entry }
-        ensures kept { IfOk result (λ value. elements.entry ≡ flen (raw_of value)) }
+        requires whole { KeepsAllBytes self.now (form_of shape.now data_type.now fill_value.now) }
+        ensures exact { EncodesNow (packbits_value self.now)
+            (form_of shape.now data_type.now fill_value.now) elements.entry result }
+        ensures kept { IsGiven elements.entry result }
         ensures no_fault { is_fault result ≡ false }
     {
         let value = BytesCodec::little().encode(alloc, elements, shape, data_type, fill_value)?;
@@ -300,9 +303,10 @@ impl PackBitsCodec {
         data_type: &DataType,
         fill_value: &FillValue,
     ) -> Result<ArrayBytes<'a>, CodecError>
-        requires whole { keeps_all_bytes (packed_layout self.now (form_of shape.now data_type.now fill_value.now)) ≡ true }
-        ensures exact { AnswersBy never (Holds data_type.now) result (packbits_chunk self.now (form_of shape.now data_type.now fill_value.now) (items_of value.entry)) }
-        ensures kept { IfOk result (λ elements. elements ≡ flen (raw_of value.entry)) }
+        requires whole { KeepsAllBytes self.now (form_of shape.now data_type.now fill_value.now) }
+        ensures exact { DecodesNow (packbits_chunk self.now)
+            (form_of shape.now data_type.now fill_value.now) (items_of value.entry) result }
+        ensures kept { HoldsGiven value.entry result }
         ensures no_fault { is_fault result ≡ false }
     {
         bytes_are(&value);
@@ -321,9 +325,12 @@ impl PackBitsCodec {
         data_type: &DataType,
         fill_value: &FillValue,
     ) -> Result<ArrayBytesRaw<'a>, CodecError>
-        ensures encodes { Encodes (packbits_grammar self.now) (form_of shape.now data_type.now fill_value.now) elements.entry result }
-        ensures in_place { keeps_all_bytes (packed_layout self.now (form_of shape.now data_type.now fill_value.now)) ≡ true → seen items_of result ≡ packbits_value self.now (form_of shape.now data_type.now fill_value.now) elements.entry }
-        ensures kept { keeps_all_bytes (packed_layout self.now (form_of shape.now data_type.now fill_value.now)) ≡ true → IfOk result (λ value. elements.entry ≡ flen (raw_of value)) }
+        ensures encodes { Encodes (packbits_grammar self.now)
+            (form_of shape.now data_type.now fill_value.now) elements.entry result }
+        ensures in_place { EncodesInPlace self.now
+            (form_of shape.now data_type.now fill_value.now) elements.entry result }
+        ensures kept { KeepsAllBytes self.now (form_of shape.now data_type.now fill_value.now)
+            → IsGiven elements.entry result }
     {
         let layout = self.layout(shape, data_type, fill_value)?;
         if layout.is_whole() {
@@ -347,9 +354,12 @@ impl PackBitsCodec {
         data_type: &DataType,
         fill_value: &FillValue,
     ) -> Result<ArrayBytes<'a>, CodecError>
-        ensures decodes { Decodes (packbits_grammar self.now) (form_of shape.now data_type.now fill_value.now) (items_of value.entry) result }
-        ensures in_place { keeps_all_bytes (packed_layout self.now (form_of shape.now data_type.now fill_value.now)) ≡ true → AnswersBy never (Holds data_type.now) result (packbits_chunk self.now (form_of shape.now data_type.now fill_value.now) (items_of value.entry)) }
-        ensures kept { keeps_all_bytes (packed_layout self.now (form_of shape.now data_type.now fill_value.now)) ≡ true → IfOk result (λ elements. elements ≡ flen (raw_of value.entry)) }
+        ensures decodes { Decodes (packbits_grammar self.now)
+            (form_of shape.now data_type.now fill_value.now) (items_of value.entry) result }
+        ensures in_place { DecodesInPlace self.now
+            (form_of shape.now data_type.now fill_value.now) value.entry result }
+        ensures kept { KeepsAllBytes self.now (form_of shape.now data_type.now fill_value.now)
+            → HoldsGiven value.entry result }
     {
         let layout = self.layout(shape, data_type, fill_value)?;
         if layout.is_whole() {
@@ -374,7 +384,7 @@ impl PackBitsCodec {
 impl Default for PackBitsCodec {
     /// The codec that keeps all bits, without a padding byte.
     fn default() -> PackBitsCodec
-        ensures made { result ≡ record { padding = PackBitsPaddingEncoding.None; first_bit = None; last_bit = None } }
+        ensures made { result ≡ all_bits }
     {
         PackBitsCodec {
             padding_encoding: PackBitsPaddingEncoding::None,
@@ -402,8 +412,10 @@ impl CodecTraits for PackBitsCodec {
     /// codec. Refusals: `OutOfMemory`.
     #[tactic(auto, using(crate::proofs::MadeAgain::settings_made_again))]
     fn configuration(&self, alloc: Global) -> Result<Option<Configuration>, PluginCreateError>
-        ensures answer { Answers plugin_memory (option_map configuration_seen) result (Ok (Some (write_settings self.now))) }
-        ensures made_again { IfOk result (λ written. IfSome written (λ c. settings_made (codec_metadata packbits_name (configuration_seen c)) ≡ Ok self.now)) }
+        ensures answer { Answers plugin_memory (option_map configuration_seen) result
+            (Ok (Some (write_settings self.now))) }
+        ensures made_again { MadeAgain configuration_seen
+            settings_made packbits_name self.now result }
     {
         let configuration = PackBitsCodecConfiguration::V1(PackBitsCodecConfigurationV1 {
             padding_encoding: Some(self.padding_encoding),

@@ -1,15 +1,14 @@
 ghost use Rattle.zarrs_data_type.specs.Form.{form_of};
-ghost use Rattle.std.specs.Prelude.{◌≡◌, ◌<◌, ◌≤◌, ◌+◌, ℕ, true, false, None, Ok, IfOk, IfErr, All, is_some, is_ok, slice_index};
-ghost use Rattle.zarrs_chunk.specs.Answer.{Answers, AnswersBy, fault, is_fault, memory, memory_or_fault, seen, Gives, GivesBy};
-ghost use Rattle.zarrs_chunk.specs.Indexer.{selection_of};
-ghost use Rattle.zarrs_chunk.specs.Runs.{joined_runs};
+ghost use Rattle.std.specs.Prelude.{◌≡◌, ◌<◌, ◌≤◌, ◌+◌, ℕ, None, Ok, IfOk, IfErr, All, is_some, slice_index};
+ghost use Rattle.zarrs_chunk.specs.Answer.{GivesBy};
 ghost use Rattle.zarrs_array_bytes.specs.Held.{Raw, flen};
-ghost use Rattle.zarrs_array_bytes.specs.Validity.{Holds};
-ghost use Rattle.zarrs_codec.specs.Refused.{outcome};
-ghost use Rattle.zarrs_codec.specs.StorageState.{after_reading, are_sure};
-ghost use Rattle.zarrs_packbits.specs.PackBitsSettings.{keeps_all_bytes, packed_layout};
-ghost use Rattle.zarrs_packbits.specs.PartialRead.{bytes_of_places, packbits_places, read_places_of};
-ghost use Rattle.zarrs_packbits.specs.ReadPlan.{IsPlan};
+ghost use Rattle.zarrs_codec.specs.StorageState.{after_reading};
+ghost use Rattle.zarrs_codec.specs.HandleCalls.{NeverFailsIf, Tells};
+ghost use Rattle.zarrs_bytes.specs.MadeCoders.{GivesCoder};
+ghost use Rattle.zarrs_bytes.specs.PlannedRanges.{NoneIsEmpty};
+ghost use Rattle.zarrs_packbits.specs.PackBitsSettings.{packed_layout, Copies, IsLayoutFor, KeepsAllBytes, PackBitsTakes};
+ghost use Rattle.zarrs_packbits.specs.PartialRead.{ReadsRuns, ReadsRunsSurely};
+ghost use Rattle.zarrs_packbits.specs.ReadPlan.{IsPlanOf};
 ghost use Rattle.zarrs_packbits.specs.PackedLayout.{IsPackedLayout};
 ghost use Rattle.zarrs_chunk.specs.ChunkShape.{product};
 
@@ -34,7 +33,7 @@ pub struct PackBitsPartialDecoder<H> {
     shape: ChunkShape,
     data_type: DataType,
     fill_value: FillValue,
-    ghost taken: { is_ok (packed_layout codec (form_of shape data_type fill_value)) ≡ true },
+    ghost taken: { PackBitsTakes codec (form_of shape data_type fill_value) },
 }
 
 /// The bytes of elements of one size are below 256, as all bytes are.
@@ -47,7 +46,7 @@ fn elements_are_bytes(elements: &ArrayBytes<'_>)
 }
 
 impl PackBitsCodec {
-    ghost use Rattle.zarrs_packbits.specs.PackBitsPartialDecoder.{packbits_form_of, packbits_handle_of};
+    ghost use Rattle.zarrs_packbits.specs.PackBitsPartialDecoder.{packbits_handle_of, HasForm};
 
     /// How a chunk is packed that the codec takes.
     fn taken_layout(
@@ -56,8 +55,8 @@ impl PackBitsCodec {
         data_type: &DataType,
         fill_value: &FillValue,
     ) -> PackedLayout
-        requires taken { is_ok (packed_layout self.now (form_of shape.now data_type.now fill_value.now)) ≡ true }
-        ensures is { packed_layout self.now (form_of shape.now data_type.now fill_value.now) ≡ Ok result }
+        requires taken { PackBitsTakes self.now (form_of shape.now data_type.now fill_value.now) }
+        ensures is { IsLayoutFor self.now (form_of shape.now data_type.now fill_value.now) result }
         ensures sound { IsPackedLayout result }
         ensures elements { result.elements ≡ product shape.now }
     {
@@ -78,11 +77,13 @@ impl PackBitsCodec {
         fill_value: &FillValue,
         runs: &[(u64, u64)],
     ) -> Result<ArrayBytes<'static>, CodecError>
-        requires whole { keeps_all_bytes (packed_layout self.now (form_of shape.now data_type.now fill_value.now)) ≡ true }
+        requires whole { KeepsAllBytes self.now (form_of shape.now data_type.now fill_value.now) }
         requires filled { All (λ run. 0 < run.1) runs.now }
         requires below { All (λ run. run.0 + run.1 ≤ product shape.now) runs.now }
-        ensures answer { AnswersBy memory_or_fault (Holds data_type.now) result (read_places_of self.now (form_of shape.now data_type.now fill_value.now) (H.state handle.old).value (joined_runs runs.now)) }
-        ensures sure { IfOk (bytes_of_places self.now (form_of shape.now data_type.now fill_value.now) (joined_runs runs.now)) (λ numbers. are_sure (H.state handle.old).sure numbers ≡ true → is_fault result ≡ false) }
+        ensures answer { ReadsRuns self.now (form_of shape.now data_type.now fill_value.now)
+            (H.state handle.old) runs.now result }
+        ensures sure { ReadsRunsSurely self.now (form_of shape.now data_type.now fill_value.now)
+            (H.state handle.old) runs.now result }
         ensures left { H.state handle.new ≡ after_reading result (H.state handle.old) }
         ensures same_reference { H.lent handle.new ≡ H.lent handle.old }
     {
@@ -106,11 +107,13 @@ impl PackBitsCodec {
         fill_value: &FillValue,
         runs: &[(u64, u64)],
     ) -> Result<ArrayBytes<'static>, CodecError>
-        requires taken { is_ok (packed_layout self.now (form_of shape.now data_type.now fill_value.now)) ≡ true }
+        requires taken { PackBitsTakes self.now (form_of shape.now data_type.now fill_value.now) }
         requires filled { All (λ run. 0 < run.1) runs.now }
         requires below { All (λ run. run.0 + run.1 ≤ product shape.now) runs.now }
-        ensures answer { AnswersBy memory_or_fault (Holds data_type.now) result (read_places_of self.now (form_of shape.now data_type.now fill_value.now) (H.state handle.old).value (joined_runs runs.now)) }
-        ensures sure { IfOk (bytes_of_places self.now (form_of shape.now data_type.now fill_value.now) (joined_runs runs.now)) (λ numbers. are_sure (H.state handle.old).sure numbers ≡ true → is_fault result ≡ false) }
+        ensures answer { ReadsRuns self.now (form_of shape.now data_type.now fill_value.now)
+            (H.state handle.old) runs.now result }
+        ensures sure { ReadsRunsSurely self.now (form_of shape.now data_type.now fill_value.now)
+            (H.state handle.old) runs.now result }
         ensures left { H.state handle.new ≡ after_reading result (H.state handle.old) }
         ensures same_reference { H.lent handle.new ≡ H.lent handle.old }
     {
@@ -135,11 +138,12 @@ impl PackBitsCodec {
         fill_value: &FillValue,
         runs: &[(u64, u64)],
     ) -> Result<Vec<ByteRange>, CodecError>
-        requires taken { is_ok (packed_layout self.now (form_of shape.now data_type.now fill_value.now)) ≡ true }
+        requires taken { PackBitsTakes self.now (form_of shape.now data_type.now fill_value.now) }
         requires filled { All (λ run. 0 < run.1) runs.now }
         requires below { All (λ run. run.0 + run.1 ≤ product shape.now) runs.now }
-        ensures plan { GivesBy (λ ranges layout. IsPlan layout (joined_runs runs.now) ranges.items) result (packed_layout self.now (form_of shape.now data_type.now fill_value.now)) }
-        ensures filled { IfOk result (λ ranges. All (λ range. range.start < range.end) ranges.items) }
+        ensures plan { GivesBy (IsPlanOf runs.now) result
+            (packed_layout self.now (form_of shape.now data_type.now fill_value.now)) }
+        ensures filled { IfOk result (λ ranges. NoneIsEmpty ranges.items) }
     {
         let layout = self.taken_layout(shape, data_type, fill_value);
         let planned = run_ranges(alloc, &layout, runs)?;
@@ -153,8 +157,8 @@ impl PackBitsCodec {
         data_type: &DataType,
         fill_value: &FillValue,
     ) -> Result<(ChunkShape, DataType, FillValue), CodecError>
-        ensures answer { Gives (λ parts. parts) result (seen (λ _. (shape.now, data_type.now, fill_value.now)) (packed_layout self.now (form_of shape.now data_type.now fill_value.now))) }
-        ensures taken { IfOk result (λ parts. is_ok (packed_layout self.now (form_of parts.0 parts.1 parts.2)) ≡ true) }
+        ensures answer { Copies self.now (form_of shape.now data_type.now fill_value.now) result }
+        ensures taken { IfOk result (λ all. PackBitsTakes self.now (form_of all.0 all.1 all.2)) }
     {
         self.layout(shape, data_type, fill_value)?;
         let shape = shape.clone()?;
@@ -173,8 +177,9 @@ impl PackBitsCodec {
         data_type: &DataType,
         fill_value: &FillValue,
     ) -> Result<PackBitsPartialDecoder<H>, Refused<H>>
-        ensures answer { Gives (λ made. made) (outcome result) (seen (λ _. tt) (packed_layout self.now (form_of shape.now data_type.now fill_value.now))) }
-        ensures form { IfOk result (λ decoder. packbits_form_of decoder ≡ record { settings = self.now; sizes = shape.now; type = data_type.now; fill = fill_value.now }) }
+        ensures answer { GivesCoder result
+            (packed_layout self.now (form_of shape.now data_type.now fill_value.now)) }
+        ensures form { HasForm self.now (form_of shape.now data_type.now fill_value.now) result }
         ensures over { IfOk result (λ decoder. packbits_handle_of decoder ≡ handle) }
         ensures handed_back { IfErr result (λ refused. refused.handle ≡ handle) }
     {
@@ -192,7 +197,7 @@ impl PackBitsCodec {
 }
 
 impl<H: BytesPartialDecoderTraits> PackBitsPartialDecoder<H> {
-    ghost use Rattle.zarrs_packbits.specs.PackBitsPartialDecoder.{form_in, packbits_form_of, packbits_handle_of, Reads, Leaves};
+    ghost use Rattle.zarrs_packbits.specs.PackBitsPartialDecoder.{packbits_form_of, packbits_handle_of, decoder_state, stored_in, Reads, Plans, Leaves};
 
     /// The type of the elements.
     pub fn data_type(&self) -> &DataType
@@ -234,8 +239,8 @@ impl<H: BytesPartialDecoderTraits> PackBitsPartialDecoder<H> {
         alloc: Global,
         indexer: &Indexer,
     ) -> Result<Vec<ByteRange>, CodecError>
-        ensures plan { let form = packbits_form_of self.now in GivesBy (λ ranges read. IsPlan read.1 read.0 ranges.items) result (packbits_places form.settings (form_in form) (selection_of indexer.now)) }
-        ensures filled { IfOk result (λ ranges. All (λ range. range.start < range.end) ranges.items) }
+        ensures plan { Plans self.now indexer.now result }
+        ensures filled { IfOk result (λ ranges. NoneIsEmpty ranges.items) }
     {
         let asked = indexer.runs(alloc, &self.shape)?;
         let layout = self
@@ -247,8 +252,8 @@ impl<H: BytesPartialDecoderTraits> PackBitsPartialDecoder<H> {
 
     /// Whether a value is stored. Refusals: `Storage`, but never where the handle has sure bytes.
     pub fn exists(&mut self) -> Result<bool, CodecError>
-        ensures answer { Answers fault (λ there. there) result (Ok (is_some (H.state (packbits_handle_of self.old)).value)) }
-        ensures sure { is_some (H.state (packbits_handle_of self.old)).sure ≡ true → is_fault result ≡ false }
+        ensures answer { Tells result (is_some (stored_in H.state self.old)) }
+        ensures sure { NeverFailsIf (is_some (decoder_state H.state self.old).sure) result }
         ensures left { Leaves H.state H.lent self.old self.new result }
     {
         self.handle.exists()

@@ -1,13 +1,16 @@
 //! Reading runs of places.
-ghost use Rattle.std.specs.Prelude.{◌≡◌, ℕ, ◌+◌, ◌-◌, ◌*◌, ◌^◌, ◌<◌, ◌≤◌, ◌++◌, true, false, All, IfOk, Ok, List, length, map, min};
+ghost use Rattle.std.specs.Prelude.{◌≡◌, ◌+◌, ◌-◌, ◌*◌, ◌^◌, ◌<◌, ◌≤◌, false, All, IfOk, Ok, List, length, map, min};
 ghost use Rattle.std.specs.List.{flat_map};
-ghost use Rattle.zarrs_chunk.specs.Answer.{Answers, memory_or_fault, is_fault};
+ghost use Rattle.zarrs_chunk.specs.Answer.{Answers, memory_or_fault};
 ghost use Rattle.zarrs_chunk.specs.Runs.{joined_runs};
-ghost use Rattle.zarrs_codec.specs.StorageState.{after_reading, are_sure};
+ghost use Rattle.zarrs_codec.specs.StorageState.{after_reading};
+ghost use Rattle.zarrs_codec.specs.HandleCalls.{NeverFailsIf};
+ghost use Rattle.zarrs_bytes.specs.PlannedRanges.{NoneIsEmpty};
 ghost use Rattle.zarrs_packbits.specs.PackedLayout.{IsPackedLayout, is_whole};
 ghost use Rattle.zarrs_packbits.specs.Packing.{packing};
-ghost use Rattle.zarrs_packbits.specs.PartialRead.{packed_places_bytes, read_packed_bytes};
+ghost use Rattle.zarrs_packbits.specs.PartialRead.{read_packed_bytes, runs_are_sure};
 ghost use Rattle.zarrs_packbits.specs.ReadPlan.{run_span, run_bits, runs_len, spans};
+ghost use Rattle.zarrs_packbits.specs.WrittenBits.{Puts};
 
 use crate::bit_writer::BitWriter;
 use crate::layout::PackedLayout;
@@ -26,7 +29,7 @@ pub(crate) fn run_ranges(
     requires filled { All (λ run. 0 < run.1) runs.now }
     requires below { All (λ run. run.0 + run.1 ≤ layout.now.elements) runs.now }
     ensures spans { IfOk result (λ v. map (run_span layout.now) runs.now ≡ spans v.items) }
-    ensures filled { IfOk result (λ v. All (λ range. range.start < range.end) v.items) }
+    ensures filled { IfOk result (λ v. NoneIsEmpty v.items) }
 {
     let mut ranges = Vec::with_capacity(alloc, runs.len())?;
     for (start, len) in runs {
@@ -51,7 +54,7 @@ fn put_runs(
     requires filled { All (λ run. 0 < run.1) runs.now }
     requires below { All (λ run. run.0 + run.1 ≤ layout.now.elements) runs.now }
     requires len { length bytes.now ≡ runs_len layout.now runs.now }
-    ensures { IfOk result (λ _. writer.new ≡ writer.old ++ run_bits layout.now bytes.now runs.now) }
+    ensures { Puts writer.old writer.new result (run_bits layout.now bytes.now runs.now) }
 {
     let mut at = 0;
     for (start, len) in runs {
@@ -123,8 +126,9 @@ pub(crate) fn read_runs<H: BytesPartialDecoderTraits>(
     requires fill { 0 < length fill.now }
     requires filled { All (λ run. 0 < run.1) runs.now }
     requires below { All (λ run. run.0 + run.1 ≤ layout.now.elements) runs.now }
-    ensures answer { Answers memory_or_fault (λ v. v.items) result (read_packed_bytes layout.now (H.state handle.old).value fill.now (joined_runs runs.now)) }
-    ensures sure { are_sure (H.state handle.old).sure (packed_places_bytes layout.now (joined_runs runs.now)) ≡ true → is_fault result ≡ false }
+    ensures answer { Answers memory_or_fault (λ v. v.items) result
+        (read_packed_bytes layout.now (H.state handle.old).value fill.now (joined_runs runs.now)) }
+    ensures sure { NeverFailsIf (runs_are_sure layout.now (H.state handle.old) runs.now) result }
     ensures left { H.state handle.new ≡ after_reading result (H.state handle.old) }
     ensures same_reference { H.lent handle.new ≡ H.lent handle.old }
 {

@@ -1,8 +1,8 @@
 //! Bits that are read and written through words of 64.
-ghost use Rattle.std.specs.Prelude.{◌≡◌, ℕ, ◌+◌, ◌*◌, ◌%◌, ◌^◌, ◌<◌, ◌≤◌, ◌++◌, length, IfOk};
+ghost use Rattle.std.specs.Prelude.{◌≡◌, ◌+◌, ◌*◌, ◌%◌, ◌^◌, ◌<◌, ◌≤◌, length, IfOk};
 ghost use Rattle.zarrs_packbits.specs.Bits.{low_bits, bits_of, field};
 ghost use Rattle.zarrs_packbits.specs.KeptBits.{full_component, sign_weight};
-ghost use Rattle.zarrs_packbits.specs.WrittenBits.{flags_of};
+ghost use Rattle.zarrs_packbits.specs.WrittenBits.{flags_of, written_bits, IsWordFrom, LeavesMore};
 
 use std::alloc::AllocError;
 
@@ -20,7 +20,8 @@ pub(crate) fn append_bits(
     requires word { word < 2 ^ filled }
     requires count { count ≤ 64 }
     requires bits { bits < 2 ^ count }
-    ensures bits { IfOk result (λ left. bits_of out.new.items ++ low_bits left.1 left.0 ≡ (bits_of out.old.items ++ low_bits filled word) ++ low_bits count bits) }
+    ensures bits { LeavesMore out.new.items result (written_bits out.old.items word filled)
+        (low_bits count bits) }
     ensures filled { IfOk result (λ left. left.1 < 64) }
     ensures word { IfOk result (λ left. left.0 < 2 ^ left.1) }
 {
@@ -101,7 +102,7 @@ fn last_word(bytes: &[u8]) -> u64
 #[inline(always)]
 fn word_from(bytes: &[u8], start: usize) -> u64
     requires start { start ≤ length bytes.now }
-    ensures { (n : ℕ) → n ≤ 64 → 8 * start + n ≤ 8 * length bytes.now → low_bits n result ≡ field (8 * start) n (bits_of bytes.now) }
+    ensures { IsWordFrom bytes.now start result }
 {
     if bytes.len() - start < 8 {
         return last_word(&bytes[start..]);
@@ -161,7 +162,8 @@ pub(crate) fn component_word(kept: u64, first: u64, count: u64, above: u64, sign
     requires some { 0 < count }
     requires fits { first + count + above ≤ 64 }
     requires kept { kept < 2 ^ count }
-    ensures bits { low_bits (first + count + above) result ≡ full_component first above sign (low_bits count kept) }
+    ensures bits { low_bits (first + count + above) result
+        ≡ full_component first above sign (low_bits count kept) }
     ensures below { result < 2 ^ (first + count + above) }
 {
     let weight = weight_of_sign(count, sign);

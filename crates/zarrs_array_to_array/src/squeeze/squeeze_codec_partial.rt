@@ -1,10 +1,8 @@
-ghost use Rattle.std.specs.Prelude.{◌≡◌, Ok, IfOk, IfErr};
-ghost use Rattle.zarrs_chunk.specs.Answer.{Answers, memory, seen, Gives};
-ghost use Rattle.zarrs_codec.specs.MappedChunk.{encoded_form};
-ghost use Rattle.zarrs_codec.specs.Refused.{outcome};
-ghost use Rattle.zarrs_array_to_array.specs.ArrayToArrayCodec.{coordinates as coordinates_of, squeeze};
-ghost use Rattle.zarrs_array_to_array.specs.ArrayToArrayCodecPartial.{codec_of, input_of, sizes_of};
-ghost use Rattle.zarrs_array_to_array.specs.CodecAnswers.{type_taken};
+ghost use Rattle.std.specs.Prelude.{◌≡◌, IfOk, IfErr};
+ghost use Rattle.zarrs_array_to_array.specs.ArrayToArrayCodec.{squeeze};
+ghost use Rattle.zarrs_array_to_array.specs.ArrayToArrayCodecPartial.{input_of};
+ghost use Rattle.zarrs_array_to_array.specs.Stages.{MakesParts, MakesStage, IsStageOf};
+ghost use Rattle.zarrs_data_type.specs.Form.{form_of};
 
 use crate::array_to_array_codec_partial::{ArrayToArrayCodecPartial, partial_decoder_of};
 use crate::squeeze::squeeze_codec::SqueezeCodec;
@@ -28,7 +26,8 @@ impl SqueezeCodec {
         data_type: &DataType,
         fill_value: &FillValue,
     ) -> Result<(SqueezeCodec, ChunkShape), CodecError>
-        ensures { Answers memory (λ parts. parts) result (seen (λ _. (self.now, shape.now)) (encoded_form (type_taken squeeze data_type.now) (coordinates_of squeeze shape.now) data_type.now fill_value.now)) }
+        ensures { MakesParts (λ codec. codec) self.now squeeze
+            (form_of shape.now data_type.now fill_value.now) result }
     {
         self.encoded_representation(alloc, shape, data_type, fill_value)?;
         let codec = *self;
@@ -46,8 +45,9 @@ impl SqueezeCodec {
         data_type: &DataType,
         fill_value: &FillValue,
     ) -> Result<ArrayToArrayCodecPartial<SqueezeCodec, I>, Refused<I>>
-        ensures answer { Gives (λ made. made) (outcome result) (seen (λ _. tt) (encoded_form (type_taken squeeze data_type.now) (coordinates_of squeeze shape.now) data_type.now fill_value.now)) }
-        ensures form { IfOk result (λ stage. (codec_of stage ≡ self.now) × (sizes_of stage ≡ shape.now)) }
+        ensures answer { MakesStage squeeze
+            (form_of shape.now data_type.now fill_value.now) result }
+        ensures form { IfOk result (IsStageOf self.now shape.now) }
         ensures over { IfOk result (λ stage. input_of stage ≡ input) }
         ensures handed_back { IfErr result (λ refused. refused.handle ≡ input) }
     {
@@ -66,8 +66,9 @@ impl SqueezeCodec {
         data_type: &DataType,
         fill_value: &FillValue,
     ) -> Result<ArrayToArrayCodecPartial<SqueezeCodec, I>, Refused<I>>
-        ensures answer { Gives (λ made. made) (outcome result) (seen (λ _. tt) (encoded_form (type_taken squeeze data_type.now) (coordinates_of squeeze shape.now) data_type.now fill_value.now)) }
-        ensures form { IfOk result (λ stage. (codec_of stage ≡ self.now) × (sizes_of stage ≡ shape.now)) }
+        ensures answer { MakesStage squeeze
+            (form_of shape.now data_type.now fill_value.now) result }
+        ensures form { IfOk result (IsStageOf self.now shape.now) }
         ensures over { IfOk result (λ stage. input_of stage ≡ input) }
         ensures handed_back { IfErr result (λ refused. refused.handle ≡ input) }
     {

@@ -1,12 +1,9 @@
 ghost use Rattle.std.specs.Prelude.{◌≡◌, ◌<◌, ◌*◌, ◌^◌, Ok, true, length, All, IfOk};
-ghost use Rattle.std.specs.List.{flat_map};
-ghost use Rattle.zarrs_array_bytes.specs.Elements.{piece};
 ghost use Rattle.zarrs_array_bytes.specs.Held.{flen, owned_bytes};
 ghost use Rattle.zarrs_chunk.specs.Answer.{Gives};
 ghost use Rattle.zarrs_chunk.specs.ChunkShape.{product};
-ghost use Rattle.zarrs_codec.specs.CoordinateMap.{origins};
 ghost use Rattle.zarrs_metadata.specs.Orders.{is_order};
-ghost use Rattle.zarrs_array_to_array.specs.Transpose.{transposition};
+ghost use Rattle.zarrs_array_to_array.specs.Transpose.{transposed_bytes};
 
 use crate::axis::ordered_axes;
 use crate::planes::gather_axes;
@@ -29,7 +26,7 @@ fn transposed_pieces(
     requires fits { product sizes.now < 2 ^ 64 }
     requires sized { 0 < size }
     requires whole { length bytes.now ≡ product sizes.now * size }
-    ensures { IfOk result (λ v. v.items ≡ flat_map (piece size bytes.now) (origins (transposition order.now sizes.now))) }
+    ensures { IfOk result (λ v. v.items ≡ transposed_bytes size order.now sizes.now bytes.now) }
 {
     let axes = ordered_axes(alloc, order, sizes)?;
     gather_axes(alloc, bytes, size, axes.as_slice())
@@ -49,7 +46,8 @@ pub(crate) fn transposed_fixed<'b>(
     requires fits { product sizes.now < 2 ^ 64 }
     requires sized { 0 < size }
     requires whole { length bytes.now ≡ product sizes.now * size }
-    ensures exact { Gives (λ array. array) result (Ok (flen (owned_bytes (flat_map (piece size bytes.now) (origins (transposition order.now sizes.now)))))) }
+    ensures exact { Gives (λ array. array) result
+        (Ok (flen (owned_bytes (transposed_bytes size order.now sizes.now bytes.now)))) }
 {
     let bytes = transposed_pieces(alloc, bytes, size, order, sizes)?;
     Ok(ArrayBytes::new_flen(CowSlice::Owned(bytes)))
