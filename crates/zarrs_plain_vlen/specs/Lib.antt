@@ -1,4 +1,5 @@
 pub mod VlenLayout
+pub mod StoredBytes
 pub mod IndexSteps
 pub mod Layout
 pub mod Elements

@@ -59,6 +59,10 @@ abbrev pub numbers_in : Result (List ℕ) CodecError → List ℕ
 numbers_in (Ok numbers) = numbers
 numbers_in (Err cause) = []
 
+-- the numbers of the bytes of the index's length, where a value of so many bytes has them
+abbrev pub head_numbers : Bool → ℕ → List ℕ
+head_numbers at_end size = numbers_in (seen span_numbers (head_of at_end size))
+
 -- the numbers of the bytes of the elements at places, of data that begin at `start`
 abbrev pub element_numbers : ℕ → List ℕ → List ℕ → List ℕ
 element_numbers start offsets places =
@@ -74,7 +78,7 @@ elements_at form count value places = do
 -- The numbers of the bytes that a read of these places rests on: those of the index's length, those of the index and those of the elements; of a value that is refused, those of the parts that it has.
 abbrev pub rests_on : PlainForm → ℕ → List ℕ → List ℕ → List ℕ
 rests_on form count value places =
-    numbers_in (seen span_numbers (head_of form.at_end (length value)))
+    head_numbers form.at_end (length value)
     ++ (numbers_in (seen (λ layout. span_numbers layout.index) (layout_of form.at_end value)) ++ numbers_in (elements_at form count value places))
 
 -- the same of what is stored: of nothing it rests on no bytes

@@ -1,19 +1,17 @@
 //! The elements at runs of places, of which the offsets are known.
-ghost use Rattle.std.specs.Prelude.{◌≡◌, ◌≤◌, ◌<◌, ◌+◌, ◌-◌, ◌*◌, ◌^◌, ◌∷◌, ◌++◌, [], true, false, All, Ok, IfOk, OnOk, is_some, length, map, min, nat_le, slice_index};
-ghost use Rattle.std.specs.List.{flat_map, list_all, range_with_len};
-ghost use Rattle.zarrs_chunk.specs.Answer.{Answers, AnswersBy, is_fault, memory, memory_or_fault};
+ghost use Rattle.std.specs.Prelude.{◌≡◌, ◌≤◌, ◌<◌, ◌+◌, ◌-◌, ◌^◌, true, All, Ok, IfOk, OnOk, is_some, length, min};
+ghost use Rattle.std.specs.List.{list_all, range_with_len};
+ghost use Rattle.zarrs_chunk.specs.Answer.{AnswersBy, memory_or_fault};
 ghost use Rattle.zarrs_chunk.specs.Runs.{joined_runs};
 ghost use Rattle.zarrs_data_type.specs.ElementType.{is_variable};
-ghost use Rattle.zarrs_array_bytes.specs.Elements.{cut};
 ghost use Rattle.zarrs_array_bytes.specs.Held.{vlen, owned_bytes};
 ghost use Rattle.zarrs_array_bytes.specs.Offsets.{is_offsets, last_of};
-ghost use Rattle.zarrs_array_bytes.specs.Pieces.{ends as ends_of};
 ghost use Rattle.zarrs_array_bytes.specs.Validity.{Holds};
-ghost use Rattle.zarrs_codec.specs.ByteRanges.{range_indices};
-ghost use Rattle.zarrs_codec.specs.StorageState.{after_reading, are_sure, value_or_empty};
-ghost use Rattle.zarrs_plain_vlen.specs.Elements.{blank_element, bytes_read};
-ghost use Rattle.zarrs_plain_vlen.specs.VlenLayout.{span_bytes};
-ghost use Rattle.zarrs_plain_vlen.specs.VlenRead.{is_there, elements_read, element_numbers};
+ghost use Rattle.zarrs_codec.specs.StorageState.{after_reading};
+ghost use Rattle.zarrs_plain_vlen.specs.Elements.{AddsEnds, AddsMoved, AddsNumbers, AddsRun, EndsBelow64Bits, PlansRuns, ReadsContent, data_numbers, joined_offsets, joined_size, run_size, stored_elements};
+ghost use Rattle.zarrs_plain_vlen.specs.StoredBytes.{SureAt, stored_bytes};
+ghost use Rattle.zarrs_plain_vlen.specs.VlenLayout.{span_numbers};
+ghost use Rattle.zarrs_plain_vlen.specs.VlenRead.{is_there};
 
 use crate::handle_reads::read_inside;
 use crate::layout::range_of;
@@ -39,7 +37,8 @@ fn run_is_there(offsets: &[usize], size: u64, first: usize, count: usize) -> boo
 fn are_there(offsets: &[usize], size: u64, runs: &[(u64, u64)]) -> bool
     requires rising { is_offsets offsets.now ≡ true }
     requires known { All (λ run. run.0 + run.1 < length offsets.now) runs.now }
-    ensures value { result ≡ list_all (λ run. list_all (is_there offsets.now size) (range_with_len run.0 run.1)) runs.now }
+    ensures value { result ≡
+        list_all (λ run. list_all (is_there offsets.now size) (range_with_len run.0 run.1)) runs.now }
 {
     for (first, count) in runs {
         if !run_is_there(offsets, size, *first as usize, *count as usize) {
@@ -53,7 +52,7 @@ fn are_there(offsets: &[usize], size: u64, runs: &[(u64, u64)]) -> bool
 fn push_joined(ranges: &mut Vec<ByteRange>, range: ByteRange) -> Result<(), AllocError>
     requires some { range.start < range.end }
     requires filled { All (λ range. range.start < range.end) ranges.old.items }
-    ensures numbers { OnOk result (range_indices ranges.new.items ≡ range_indices ranges.old.items ++ range_with_len range.start (range.end - range.start)) }
+    ensures numbers { OnOk result (AddsNumbers (span_numbers range) ranges.old ranges.new) }
     ensures filled { OnOk result (All (λ range. range.start < range.end) ranges.new.items) }
 {
     match ranges.pop() {
@@ -81,9 +80,9 @@ fn plan_run(
 ) -> Result<(), AllocError>
     requires rising { is_offsets offsets.now ≡ true }
     requires known { first + count < length offsets.now }
-    requires ends { slice_index offsets.now first < slice_index offsets.now (first + count) → start + slice_index offsets.now (first + count) < 2 ^ 64 }
+    requires ends { EndsBelow64Bits start offsets.now first (first + count) }
     requires filled { All (λ range. range.start < range.end) ranges.old.items }
-    ensures numbers { OnOk result (range_indices ranges.new.items ≡ range_indices ranges.old.items ++ element_numbers start offsets.now (range_with_len first count)) }
+    ensures numbers { OnOk result (AddsRun start offsets.now first count ranges.old ranges.new) }
     ensures filled { OnOk result (All (λ range. range.start < range.end) ranges.new.items) }
 {
     let from = offsets[first];
@@ -107,7 +106,7 @@ fn plan_runs(
     requires known { All (λ run. run.0 + run.1 < length offsets.now) runs.now }
     requires there { list_all (is_there offsets.now size) (joined_runs runs.now) ≡ true }
     requires fits { start + size < 2 ^ 64 }
-    ensures numbers { IfOk result (λ ranges. range_indices ranges.items ≡ element_numbers start offsets.now (joined_runs runs.now)) }
+    ensures numbers { IfOk result (λ ranges. PlansRuns start offsets.now runs.now ranges) }
     ensures filled { IfOk result (λ ranges. All (λ range. range.start < range.end) ranges.items) }
 {
     let mut ranges = Vec::with_capacity(alloc, runs.len())?;
@@ -132,7 +131,7 @@ fn append_moved(
 ) -> Result<(), AllocError>
     requires behind { All (λ offset. from ≤ offset) offsets.now }
     requires fits { All (λ offset. offset - from + start < 2 ^ 64) offsets.now }
-    ensures appended { OnOk result (out.new.items ≡ out.old.items ++ map (λ offset. offset - from + start) offsets.now) }
+    ensures appended { OnOk result (AddsMoved from start offsets.now out.old out.new) }
 {
     out.extend(offsets.iter().map(|offset| *offset - from + start))
 }
@@ -147,8 +146,8 @@ fn append_ends(
 ) -> Result<(), AllocError>
     requires rising { is_offsets offsets.now ≡ true }
     requires known { first + count < length offsets.now }
-    requires fits { start + (slice_index offsets.now (first + count) - slice_index offsets.now first) < 2 ^ 64 }
-    ensures ends { OnOk result (ends.new.items ≡ ends.old.items ++ ends_of start (map (blank_element offsets.now) (range_with_len first count))) }
+    requires fits { start + run_size offsets.now first count < 2 ^ 64 }
+    ensures ends { OnOk result (AddsEnds start offsets.now first count ends.old ends.new) }
 {
     let from = offsets[first];
     append_moved(ends, &offsets[first + 1..first + count + 1], from, start)
@@ -173,9 +172,9 @@ fn ends_of_runs(
 ) -> Result<Vec<usize>, AllocError>
     requires rising { is_offsets offsets.now ≡ true }
     requires known { All (λ run. run.0 + run.1 < length offsets.now) runs.now }
-    requires fits { length (flat_map (blank_element offsets.now) (joined_runs runs.now)) < 2 ^ 64 }
+    requires fits { joined_size offsets.now runs.now < 2 ^ 64 }
     ensures small { IfOk result (λ ends. length ends.items < 2 ^ 64) }
-    ensures ends { IfOk result (λ ends. ends.items ≡ 0 ∷ ends_of 0 (map (blank_element offsets.now) (joined_runs runs.now))) }
+    ensures ends { IfOk result (λ ends. ends.items ≡ joined_offsets offsets.now runs.now) }
 {
     let room = (count_places(runs) as usize).saturating_add(1);
     let mut ends = Vec::with_capacity(alloc, room)?;
@@ -199,12 +198,12 @@ fn read_bytes<H: BytesPartialDecoderTraits>(
     runs: &[(u64, u64)],
 ) -> Result<Vec<u8>, CodecError>
     requires stored { is_some (H.state handle.old).value ≡ true }
-    requires inside { content.end ≤ length (value_or_empty (H.state handle.old).value) }
+    requires inside { content.end ≤ length (stored_bytes (H.state handle.old)) }
     requires rising { is_offsets offsets.now ≡ true }
     requires known { All (λ run. run.0 + run.1 < length offsets.now) runs.now }
-    ensures answer { Answers memory_or_fault (λ bytes. bytes.items) result (bytes_read offsets.now (span_bytes (value_or_empty (H.state handle.old).value) content) (joined_runs runs.now)) }
-    ensures lengths { IfOk result (λ bytes. length bytes.items ≡ length (flat_map (blank_element offsets.now) (joined_runs runs.now))) }
-    ensures sure { are_sure (H.state handle.old).sure (element_numbers content.start offsets.now (joined_runs runs.now)) ≡ true → is_fault result ≡ false }
+    ensures answer { ReadsContent offsets.now content (H.state handle.old) runs.now result }
+    ensures lengths { IfOk result (λ bytes. length bytes.items ≡ joined_size offsets.now runs.now) }
+    ensures sure { SureAt (H.state handle.old) (data_numbers offsets.now content runs.now) result }
     ensures left { H.state handle.new ≡ after_reading result (H.state handle.old) }
     ensures same_reference { H.lent handle.new ≡ H.lent handle.old }
 {
@@ -237,12 +236,13 @@ pub(crate) fn read_elements<H: BytesPartialDecoderTraits>(
     runs: &[(u64, u64)],
 ) -> Result<ArrayBytes<'static>, CodecError>
     requires stored { is_some (H.state handle.old).value ≡ true }
-    requires inside { content.end ≤ length (value_or_empty (H.state handle.old).value) }
+    requires inside { content.end ≤ length (stored_bytes (H.state handle.old)) }
     requires rising { is_offsets offsets.now ≡ true }
     requires known { All (λ run. run.0 + run.1 < length offsets.now) runs.now }
     requires variable { is_variable data_type.now ≡ true }
-    ensures answer { AnswersBy memory_or_fault (Holds data_type.now) result (elements_read offsets.now (span_bytes (value_or_empty (H.state handle.old).value) content) (joined_runs runs.now)) }
-    ensures sure { are_sure (H.state handle.old).sure (element_numbers content.start offsets.now (joined_runs runs.now)) ≡ true → is_fault result ≡ false }
+    ensures answer { AnswersBy memory_or_fault (Holds data_type.now) result
+        (stored_elements offsets.now content (H.state handle.old) runs.now) }
+    ensures sure { SureAt (H.state handle.old) (data_numbers offsets.now content runs.now) result }
     ensures left { H.state handle.new ≡ after_reading result (H.state handle.old) }
     ensures same_reference { H.lent handle.new ≡ H.lent handle.old }
 {

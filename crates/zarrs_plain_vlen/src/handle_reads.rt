@@ -1,10 +1,9 @@
 //! Bytes that a handle keeps, by ranges that are known to lie inside.
-ghost use Rattle.std.specs.Prelude.{◌≡◌, ◌≤◌, ◌+◌, true, false, Ok, IfOk, is_some, length, nat_le};
-ghost use Rattle.std.specs.List.{list_all};
-ghost use Rattle.zarrs_chunk.specs.Answer.{Answers, is_fault, memory_or_fault};
-ghost use Rattle.zarrs_codec.specs.ByteRanges.{bytes_in_ranges, range_indices};
-ghost use Rattle.zarrs_codec.specs.StorageState.{after_reading, are_sure, value_or_empty};
-ghost use Rattle.zarrs_plain_vlen.specs.VlenLayout.{span_bytes, span_numbers};
+ghost use Rattle.std.specs.Prelude.{◌≡◌, ◌≤◌, ◌+◌, true, IfOk, is_some, length};
+ghost use Rattle.zarrs_codec.specs.ByteRanges.{range_indices};
+ghost use Rattle.zarrs_codec.specs.StorageState.{after_reading};
+ghost use Rattle.zarrs_plain_vlen.specs.StoredBytes.{ReadsRange, ReadsRanges, SureAt, are_inside, stored_bytes};
+ghost use Rattle.zarrs_plain_vlen.specs.VlenLayout.{span_numbers};
 
 use std::alloc::Global;
 use zarrs_chunk::CodecError;
@@ -18,9 +17,9 @@ pub(crate) fn read_inside<H: BytesPartialDecoderTraits>(
     ranges: &[ByteRange],
 ) -> Result<Vec<u8>, CodecError>
     requires stored { is_some (H.state handle.old).value ≡ true }
-    requires inside { list_all (λ range. nat_le range.end (length (value_or_empty (H.state handle.old).value))) ranges.now ≡ true }
-    ensures answer { Answers memory_or_fault (λ bytes. bytes.items) result (Ok (bytes_in_ranges (value_or_empty (H.state handle.old).value) ranges.now)) }
-    ensures sure { are_sure (H.state handle.old).sure (range_indices ranges.now) ≡ true → is_fault result ≡ false }
+    requires inside { are_inside (stored_bytes (H.state handle.old)) ranges.now ≡ true }
+    ensures answer { ReadsRanges (H.state handle.old) ranges.now result }
+    ensures sure { SureAt (H.state handle.old) (range_indices ranges.now) result }
     ensures left { H.state handle.new ≡ after_reading result (H.state handle.old) }
     ensures same_reference { H.lent handle.new ≡ H.lent handle.old }
 {
@@ -40,10 +39,10 @@ pub(crate) fn read_range<H: BytesPartialDecoderTraits>(
     range: ByteRange,
 ) -> Result<Vec<u8>, CodecError>
     requires stored { is_some (H.state handle.old).value ≡ true }
-    requires inside { range.end ≤ length (value_or_empty (H.state handle.old).value) }
-    ensures answer { Answers memory_or_fault (λ bytes. bytes.items) result (Ok (span_bytes (value_or_empty (H.state handle.old).value) range)) }
+    requires inside { range.end ≤ length (stored_bytes (H.state handle.old)) }
+    ensures answer { ReadsRange (H.state handle.old) range result }
     ensures long { IfOk result (λ bytes. range.start + length bytes.items ≡ range.end) }
-    ensures sure { are_sure (H.state handle.old).sure (span_numbers range) ≡ true → is_fault result ≡ false }
+    ensures sure { SureAt (H.state handle.old) (span_numbers range) result }
     ensures left { H.state handle.new ≡ after_reading result (H.state handle.old) }
     ensures same_reference { H.lent handle.new ≡ H.lent handle.old }
 {

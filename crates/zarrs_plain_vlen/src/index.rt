@@ -1,16 +1,13 @@
 //! The offsets of a value.
-ghost use Rattle.std.specs.Prelude.{◌≡◌, ◌≤◌, ◌<◌, ◌+◌, ◌-◌, ◌*◌, ◌∷◌, [], true, false, Ok, Some, IfOk, is_some, length};
-ghost use Rattle.zarrs_chunk.specs.Answer.{Answers, AnswersBy, is_fault, memory, memory_or_fault};
-ghost use Rattle.zarrs_array_bytes.specs.Validity.{Holds};
-ghost use Rattle.zarrs_bytes.specs.BytesCodec.{bytes_chunk};
-ghost use Rattle.zarrs_codec.specs.StorageState.{after_reading, are_sure, value_or_empty};
-ghost use Rattle.zarrs_chain_parts.specs.Representation.{offset_type as offset_type_of};
+ghost use Rattle.std.specs.Prelude.{◌≡◌, ◌≤◌, ◌<◌, ◌∷◌, [], true, false, Ok, IfOk, is_some, length};
+ghost use Rattle.zarrs_chunk.specs.Answer.{Answers, is_fault, memory};
+ghost use Rattle.zarrs_codec.specs.StorageState.{after_reading};
+ghost use Rattle.zarrs_chain_parts.specs.PlainVlen.{plain_form};
 ghost use Rattle.zarrs_chain_parts.specs.VlenSettings.{is_wide};
 ghost use Rattle.zarrs_chain_parts.specs.VlenSteps.{offset_size as offset_size_of};
-ghost use Rattle.zarrs_plain_vlen.specs.IndexSteps.{index_count};
-ghost use Rattle.zarrs_chain_parts.specs.PlainVlen.{plain_form};
-ghost use Rattle.zarrs_plain_vlen.specs.VlenLayout.{span_bytes, span_numbers};
-ghost use Rattle.zarrs_plain_vlen.specs.VlenRead.{index_form, offsets_of_index, offsets_read};
+ghost use Rattle.zarrs_plain_vlen.specs.IndexSteps.{GivesIndex, GivesOffsets, ReadsOffsets, index_count};
+ghost use Rattle.zarrs_plain_vlen.specs.StoredBytes.{SureAt, stored_bytes};
+ghost use Rattle.zarrs_plain_vlen.specs.VlenLayout.{span_numbers};
 
 use crate::handle_reads::read_range;
 use std::alloc::Global;
@@ -74,7 +71,7 @@ fn index_rows(
     index: Vec<u8>,
 ) -> Result<ArrayBytes<'static>, CodecError>
     requires some { 0 < count }
-    ensures answer { let form = plain_form codec in AnswersBy memory (Holds (offset_type_of form.wide)) result (bytes_chunk (Some form.order) (index_form form.wide count) index.items) }
+    ensures answer { GivesIndex (plain_form codec) count index.items result }
     ensures no_fault { is_fault result ≡ false }
 {
     let shape = row_of(alloc, count)?;
@@ -97,7 +94,7 @@ fn decode_index(
     index: Vec<u8>,
 ) -> Result<ArrayBytesOffsets, CodecError>
     requires some { 0 < count }
-    ensures answer { Answers memory (λ offsets. offsets) result (offsets_of_index (plain_form codec) count index.items) }
+    ensures answer { GivesOffsets (plain_form codec) count index.items result }
     ensures no_fault { is_fault result ≡ false }
 {
     let rows = index_rows(alloc, codec, count, index)?;
@@ -115,9 +112,9 @@ pub(crate) fn read_index<H: BytesPartialDecoderTraits>(
     index: ByteRange,
 ) -> Result<ArrayBytesOffsets, CodecError>
     requires stored { is_some (H.state handle.old).value ≡ true }
-    requires inside { index.end ≤ length (value_or_empty (H.state handle.old).value) }
-    ensures answer { Answers memory_or_fault (λ offsets. offsets) result (offsets_read (plain_form codec) count (span_bytes (value_or_empty (H.state handle.old).value) index)) }
-    ensures sure { are_sure (H.state handle.old).sure (span_numbers index) ≡ true → is_fault result ≡ false }
+    requires inside { index.end ≤ length (stored_bytes (H.state handle.old)) }
+    ensures answer { ReadsOffsets (plain_form codec) count index (H.state handle.old) result }
+    ensures sure { SureAt (H.state handle.old) (span_numbers index) result }
     ensures left { H.state handle.new ≡ after_reading result (H.state handle.old) }
     ensures same_reference { H.lent handle.new ≡ H.lent handle.old }
 {

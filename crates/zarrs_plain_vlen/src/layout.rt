@@ -1,11 +1,12 @@
 //! Where the parts of a value stand.
 ghost use Rattle.std.specs.Prelude.{◌≡◌, ◌≤◌, ◌+◌, true, false, IfOk, is_some, length};
-ghost use Rattle.zarrs_chunk.specs.Answer.{Answers, is_fault, memory_or_fault, seen};
-ghost use Rattle.zarrs_codec.specs.StorageState.{after_reading, are_sure, value_or_empty};
+ghost use Rattle.zarrs_chunk.specs.Answer.{is_fault, seen};
+ghost use Rattle.zarrs_codec.specs.StorageState.{after_reading};
 ghost use Rattle.zarrs_chain_parts.specs.VlenSettings.{is_at_end};
-ghost use Rattle.zarrs_plain_vlen.specs.Layout.{vlen_layout};
-ghost use Rattle.zarrs_plain_vlen.specs.VlenLayout.{head_of, layout_within, layout_of, span_numbers};
-ghost use Rattle.zarrs_plain_vlen.specs.VlenRead.{numbers_in};
+ghost use Rattle.zarrs_plain_vlen.specs.Layout.{FindsLayout, vlen_layout};
+ghost use Rattle.zarrs_plain_vlen.specs.StoredBytes.{SureAt, stored_bytes};
+ghost use Rattle.zarrs_plain_vlen.specs.VlenLayout.{head_of, layout_within};
+ghost use Rattle.zarrs_plain_vlen.specs.VlenRead.{head_numbers};
 
 use crate::handle_reads::read_range;
 use std::alloc::Global;
@@ -87,11 +88,11 @@ pub(crate) fn read_layout<H: BytesPartialDecoderTraits>(
     location: VlenIndexLocation,
 ) -> Result<Layout, CodecError>
     requires stored { is_some (H.state handle.old).value ≡ true }
-    requires sized { length (value_or_empty (H.state handle.old).value) ≡ size }
-    ensures answer { Answers memory_or_fault vlen_layout result (layout_of (is_at_end location) (value_or_empty (H.state handle.old).value)) }
+    requires sized { length (stored_bytes (H.state handle.old)) ≡ size }
+    ensures answer { FindsLayout (is_at_end location) (H.state handle.old) result }
     ensures index_inside { IfOk result (λ layout. layout.index.end ≤ size) }
     ensures content_inside { IfOk result (λ layout. layout.content.end ≤ size) }
-    ensures sure { are_sure (H.state handle.old).sure (numbers_in (seen span_numbers (head_of (is_at_end location) size))) ≡ true → is_fault result ≡ false }
+    ensures sure { SureAt (H.state handle.old) (head_numbers (is_at_end location) size) result }
     ensures left { H.state handle.new ≡ after_reading result (H.state handle.old) }
     ensures same_reference { H.lent handle.new ≡ H.lent handle.old }
 {

@@ -1,13 +1,9 @@
 //! A read of elements by runs of places.
-ghost use Rattle.std.specs.Prelude.{◌≡◌, ◌≤◌, ◌+◌, true, false, All, is_some, length};
-ghost use Rattle.zarrs_chunk.specs.Answer.{AnswersBy, is_fault, memory_or_fault};
-ghost use Rattle.zarrs_chunk.specs.Runs.{joined_runs};
+ghost use Rattle.std.specs.Prelude.{◌≡◌, ◌≤◌, ◌+◌, true, All, is_some, length};
 ghost use Rattle.zarrs_data_type.specs.ElementType.{is_variable};
-ghost use Rattle.zarrs_array_bytes.specs.Validity.{Holds};
-ghost use Rattle.zarrs_codec.specs.StorageState.{after_reading, are_sure, value_or_empty};
-ghost use Rattle.zarrs_plain_vlen.specs.VlenRead.{rests_on, stored_rests_on, stored_vlen_read, vlen_read};
-ghost use Rattle.zarrs_plain_vlen.specs.StoredElements.{HoldsStored};
-ghost use Rattle.zarrs_chain_parts.specs.PlainVlen.{plain_form};
+ghost use Rattle.zarrs_codec.specs.StorageState.{after_reading};
+ghost use Rattle.zarrs_plain_vlen.specs.StoredBytes.{stored_bytes};
+ghost use Rattle.zarrs_plain_vlen.specs.StoredElements.{ReadsRuns, ReadsValue, SureRuns, SureValue};
 
 use crate::elements::read_elements;
 use crate::index::read_index;
@@ -31,11 +27,11 @@ fn read_stored<H: BytesPartialDecoderTraits>(
     runs: &[(u64, u64)],
 ) -> Result<ArrayBytes<'static>, CodecError>
     requires stored { is_some (H.state handle.old).value ≡ true }
-    requires sized { length (value_or_empty (H.state handle.old).value) ≡ size }
+    requires sized { length (stored_bytes (H.state handle.old)) ≡ size }
     requires variable { is_variable data_type.now ≡ true }
     requires inside { All (λ run. run.0 + run.1 ≤ count) runs.now }
-    ensures answer { AnswersBy memory_or_fault (Holds data_type.now) result (vlen_read (plain_form codec) count (value_or_empty (H.state handle.old).value) (joined_runs runs.now)) }
-    ensures sure { are_sure (H.state handle.old).sure (rests_on (plain_form codec) count (value_or_empty (H.state handle.old).value) (joined_runs runs.now)) ≡ true → is_fault result ≡ false }
+    ensures answer { ReadsValue codec count data_type.now (H.state handle.old) runs.now result }
+    ensures sure { SureValue codec count (H.state handle.old) runs.now result }
     ensures left { H.state handle.new ≡ after_reading result (H.state handle.old) }
     ensures same_reference { H.lent handle.new ≡ H.lent handle.old }
 {
@@ -71,8 +67,8 @@ pub fn read_runs<H: BytesPartialDecoderTraits>(
 ) -> Result<Option<ArrayBytes<'static>>, CodecError>
     requires variable { is_variable data_type.now ≡ true }
     requires inside { All (λ run. run.0 + run.1 ≤ count) runs.now }
-    ensures answer { AnswersBy memory_or_fault (HoldsStored data_type.now) result (stored_vlen_read (plain_form codec) count (H.state handle.old).value (joined_runs runs.now)) }
-    ensures sure { are_sure (H.state handle.old).sure (stored_rests_on (plain_form codec) count (H.state handle.old).value (joined_runs runs.now)) ≡ true → is_fault result ≡ false }
+    ensures answer { ReadsRuns codec count data_type.now (H.state handle.old) runs.now result }
+    ensures sure { SureRuns codec count (H.state handle.old) runs.now result }
     ensures left { H.state handle.new ≡ after_reading result (H.state handle.old) }
     ensures same_reference { H.lent handle.new ≡ H.lent handle.old }
 {
