@@ -11,3 +11,4 @@ pub mod SureReads
 pub mod SizeLaw
 pub mod Making
 pub mod ReadLaws
+pub mod RegionReads

@@ -1,6 +1,8 @@
 -- What a reader of chunks is made of.
 use Rattle.std.specs.Prelude.{◌≡◌, ℕ, Bool, Option, List, length, Ok, true, option_map, IfOk, Result, false}
 use Rattle.zarrs_chunk.specs.ChunkShape.{product}
+use Rattle.zarrs_array_regions.specs.KeptRegions.{IsKept}
+use Rattle.zarrs_chunk.specs.Region.{Region}
 use Rattle.zarrs_codec_chain.specs.ChainView.{plain_chain}
 use Rattle.zarrs_codec.specs.BytesToBytesCodec.{BytesCodecs}
 use Rattle.zarrs_chain_partial.specs.ChunkRead.{ChunkForm, asks_in_part, chunk_form, codec_rests_on}
@@ -100,3 +102,7 @@ is_reader_cache reader cache = is_cache_of (plain_chain reader.chain.now) reader
 -- a container of them is read, or the first refusal
 abbrev pub ReadsSelection : {B : Type 0} {b : _} → BytesCodecs B → ChunkReader B b → Option (List ℕ) → Selection → Result Held CodecError → Type 0
 ReadsSelection f reader stored selection result = AnswersBy memory_or_fault (Holds reader.data_type) result (reader_read f reader stored selection)
+
+-- the selection means this region, which goes through the array codecs of the reader's chain as a region
+abbrev pub IsKeptRegion : {B : Type 0} {b : _} → ChunkReader B b → Selection → Region → Type 0
+IsKeptRegion reader selection region = IsKept (plain_chain reader.chain.now).arrays reader.shape selection region

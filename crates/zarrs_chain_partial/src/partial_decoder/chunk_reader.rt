@@ -1,17 +1,19 @@
 //! Reading a chunk in part through a chain, over a handle that the caller keeps.
 ghost use Rattle.zarrs_data_type.specs.Form.{form_of};
-ghost use Rattle.std.specs.Prelude.{◌≡◌, ◌<◌, ◌≤◌, ◌+◌, ◌^◌, All, Ok, Err, IfOk, IfErr, Some, None, length, option_map, is_ok, is_some, true, false};
+ghost use Rattle.std.specs.Prelude.{◌≡◌, ◌<◌, ◌≤◌, ◌+◌, ◌^◌, All, Ok, Err, IfOk, IfErr, IfSome, Some, None, length, option_map, is_ok, is_some, true, false};
 ghost use Rattle.zarrs_chunk.specs.Answer.{Answers, AnswersBy, fault, memory, memory_or_fault, is_fault, seen, Gives, GivesBy};
 ghost use Rattle.zarrs_chunk.specs.ChunkShape.{product};
 ghost use Rattle.zarrs_chunk.specs.Indexer.{selection_of};
 ghost use Rattle.zarrs_chunk.specs.Runs.{joined_runs, AreApart};
-ghost use Rattle.zarrs_chunk.specs.Selection.{bounds_of};
+ghost use Rattle.zarrs_chunk.specs.Selection.{subset as subset_of, bounds_of};
+ghost use Rattle.zarrs_chunk.specs.Tuples.{is_box_inside};
 ghost use Rattle.zarrs_data_type.specs.Element.{Chunk};
 ghost use Rattle.zarrs_data_type.specs.FillValue.{fill_fits};
 ghost use Rattle.zarrs_array_bytes.specs.Elements.{elements, select};
 ghost use Rattle.zarrs_array_bytes.specs.Held.{items_of};
 ghost use Rattle.zarrs_array_bytes.specs.Validity.{Holds};
 ghost use Rattle.zarrs_codec.specs.StorageState.{after_reading, are_sure};
+ghost use Rattle.zarrs_array_regions.specs.KeptRegions.{keeps_regions};
 ghost use Rattle.zarrs_chain_parts.specs.Chain.{chain_reads, codec_reads as codec_reads_of, taken_form as taken_form_of};
 ghost use Rattle.zarrs_codec_chain.specs.ChainView.{plain_chain};
 ghost use Rattle.zarrs_chain_partial.specs.ChunkRead.{asks_in_part, codec_rests_on, encoded_places, IsReadPlan, planned_places, reads_places, WhereSure, ReadsChunk, HasForm, form_places, RefusedAtSelection, PlansRead};
@@ -32,7 +34,8 @@ use crate::partial_decoder::make_cache::{
 use std::alloc::Global;
 use std::borrow::CowSlice;
 use zarrs_array_bytes::{ArrayBytes, ArrayBytesRaw};
-use zarrs_chunk::{ChunkShape, CodecError, Indexer};
+use zarrs_array_regions::{decoded_window, kept_region, last_window};
+use zarrs_chunk::{ArraySubset, ChunkShape, CodecError, Indexer};
 use zarrs_codec::{
     ByteRange, BytesPartialDecoderTraits, BytesRepresentation, BytesToBytesCodecTraits, CodecTraits,
 };
@@ -60,7 +63,7 @@ pub(crate) struct ChunkReader<'a, B: BytesToBytesCodecTraits> {
 }
 
 impl<'a, B: BytesToBytesCodecTraits> ChunkReader<'a, B> {
-    ghost use Rattle.zarrs_chain_partial.specs.ChunkReader.{IsFilledFrom, reader_form, reader_is_cached, reader_source, MeasuresReader, MakesReader, reader_reads_parts, stored_source, kept_source, GivesSource, ReadsSource, GivesOpened, SureSource, is_reader_cache, ReadsSelection};
+    ghost use Rattle.zarrs_chain_partial.specs.ChunkReader.{IsFilledFrom, reader_form, reader_is_cached, reader_source, MeasuresReader, MakesReader, reader_reads_parts, stored_source, kept_source, GivesSource, ReadsSource, GivesOpened, SureSource, is_reader_cache, ReadsSelection, IsKeptRegion};
 
     /// A reader of such a chunk without a cache. Refusals: those of the chain's representation.
     pub(crate) fn uncached(
@@ -368,6 +371,51 @@ impl<'a, B: BytesToBytesCodecTraits> ChunkReader<'a, B> {
         }
     }
 
+    /// The box that the indexer means, where it goes through the array codecs as a box.
+    pub(crate) fn kept_region<'i>(&self, indexer: &'i Indexer) -> Option<&'i ArraySubset>
+        ensures kept { IfSome result
+            (λ region. IsKeptRegion self.now (selection_of indexer.now) region.now) }
+    {
+        kept_region(self.chain.array_to_array_codecs(), &self.shape, indexer)
+    }
+
+    /// The elements of a region that goes through the array codecs as one, in row-major order: those of
+    /// its window in the encoded chunk are read, by the window's own runs, and decoded. Refusals, the
+    /// first that holds, `OutOfMemory` aside: `Storage`; those of the bytes codecs that a cache leaves,
+    /// and of the codec to bytes.
+    fn read_region<H: BytesPartialDecoderTraits>(
+        &self,
+        alloc: Global,
+        handle: &mut H,
+        region: &ArraySubset,
+    ) -> Result<ArrayBytes<'static>, CodecError>
+        requires inside { is_box_inside self.now.shape region.now.starts region.now.lengths ≡ true }
+        requires filled { 0 < product region.now.lengths }
+        requires kept { keeps_regions (plain_chain self.now.chain.now).arrays ≡ true }
+        ensures answer { ReadsSelection B.functions self.now
+            (H.state handle.old).value (subset_of region.now) result }
+        ensures sure { WhereSure B.functions (reader_form self.now) (H.state handle.old)
+            (subset_of region.now) (is_fault result ≡ false) }
+        ensures left { H.state handle.new ≡ after_reading result (H.state handle.old) }
+        ensures same_reference { H.lent handle.new ≡ H.lent handle.old }
+        ensures calm { is_kept self.now.cache ≡ true → is_fault result ≡ false }
+    {
+        self.is_sound();
+        let codecs = self.chain.array_to_array_codecs();
+        let window = last_window(alloc, codecs, &self.shape, region)?;
+        let runs = window.into_runs(alloc)?;
+        let held = self.read_runs(alloc, handle, &runs)?;
+        decoded_window(
+            alloc,
+            codecs,
+            &self.shape,
+            region,
+            held,
+            &self.data_type,
+            &self.fill_value,
+        )
+    }
+
     /// The elements that the indexer means, in its order. Refusals, the first that holds, `OutOfMemory`
     /// aside: those of `Indexer::check`; `Storage`; those of the bytes codecs that a cache leaves, and
     /// of the codec to bytes.
@@ -387,6 +435,9 @@ impl<'a, B: BytesToBytesCodecTraits> ChunkReader<'a, B> {
         ensures same_reference { H.lent handle.new ≡ H.lent handle.old }
         ensures calm { is_kept self.now.cache ≡ true → is_fault result ≡ false }
     {
+        if let Some(region) = self.kept_region(indexer) {
+            return self.read_region(alloc, handle, region);
+        }
         let runs = self.runs(alloc, indexer)?;
         self.read_runs(alloc, handle, &runs)
     }

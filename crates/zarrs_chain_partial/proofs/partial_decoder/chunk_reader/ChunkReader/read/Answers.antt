@@ -4,8 +4,14 @@ use Rattle.zarrs_chunk.specs.Indexer.{selection_of}
 use Rattle.zarrs_chunk.specs.Runs.{joined_runs}
 use Rattle.zarrs_chain_partial.specs.ChunkReader.{reader_form}
 use Rattle.zarrs_chain_parts.proofs.ArraySteps.{ok}
+use Rattle.zarrs_chain_partial.proofs.RegionReads.{kept_bounds}
 use Rattle.zarrs_chain_partial.proofs.SureReads.{in_bounds, out_of_bounds, sure_anyway, where_sure}
 use Rattle.zarrs_chain_partial.proofs.partial_decoder.chunk_reader.ChunkReader.read.Goals as goal
+
+pub returns-in-Some-clause-indexer_first : goal.returns-in-Some-clause-indexer_first
+returns-in-Some-clause-indexer_first g c =
+    let form = reader_form c.args.self.now in
+    kept_bounds form.chain.arrays form.sizes (selection_of c.args.indexer.now) c.in-Some.region.now ((c.in-Some.ensures {u = tt}).kept) _
 
 pub returns-in_err-runs-clause-indexer_first : goal.returns-in_err-runs-clause-indexer_first
 returns-in_err-runs-clause-indexer_first g c =
