@@ -159,7 +159,7 @@ pub(crate) fn has_shape<C: ArrayToArrayCodecTraits>(
     about: &str,
     codec: &C,
     shape: &ChunkShape,
-    wanted: &Result<&[u64], CodecError>,
+    wanted: &Result<&'static [u64], CodecError>,
 ) -> Result<(), CodecError> {
     let encoded = codec.encoded_shape(alloc, shape);
     let came = match &encoded {

@@ -73,7 +73,7 @@ impl CodecTraits for BytesCodec {
     fn configuration(&self, alloc: Global) -> Result<Option<Configuration>, PluginCreateError>
         ensures answer { Answers plugin_memory (option_map configuration_seen) result
             (Ok (Some (write_bytes self.now))) }
-        ensures made_again { MadeAgain configuration_seen bytes_made bytes_name self.now result }
+        ensures made_again { MadeAgain configuration_seen result bytes_made bytes_name self.now }
     {
         let configuration = BytesCodecConfiguration::V1(BytesCodecConfigurationV1 {
             endian: self.endianness,

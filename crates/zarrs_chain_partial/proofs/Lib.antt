@@ -12,3 +12,4 @@ pub mod SizeLaw
 pub mod Making
 pub mod ReadLaws
 pub mod RegionReads
+pub mod RegionWrites

@@ -1,6 +1,6 @@
 -- Reads of regions that go through array codecs as regions.
-use Rattle.std.proofs.Common.{◌≡◌, ◌^◌, ◌<◌, ◌+◌, ◌-◌, ◌*◌, ◌&&◌, ℕ, true, Bool, Option, Some, None, List, [], ◌∷◌, ◌++◌, length, get_or, map, Result, Ok, Err, IfOk, arith, refl, ap, sym, ◌∙◌, subst}
-use Rattle.std.specs.Prelude.{is_ok, slice_index, IfErr, IsOkAnd}
+use Rattle.std.proofs.Common.{◌≡◌, ◌^◌, ◌<◌, ◌+◌, ◌-◌, ◌*◌, ◌&&◌, ℕ, true, Bool, Option, Some, None, List, [], ◌∷◌, ◌++◌, length, get_or, map, Result, Ok, Err, IfOk, refl, ap, sym, ◌∙◌, subst}
+use Rattle.std.specs.Prelude.{slice_index, IfErr, IsOkAnd}
 use Rattle.std.specs.List.{All, flat_map, list_all, range_with_len}
 use Rattle.std.proofs.lemmas.List.Elements.{All-cons, All-nil}
 use Rattle.std.proofs.lemmas.List.Folds.{list_all-append}
@@ -8,7 +8,7 @@ use Rattle.zarrs_chunk.specs.Answer.{◌>>=◌, seen, AnswersBy, memory, memory_
 use Rattle.zarrs_chunk.specs.ChunkShape.{product}
 use Rattle.zarrs_chunk.specs.Region.{Region}
 use Rattle.zarrs_chunk.specs.Runs.{joined_runs}
-use Rattle.zarrs_chunk.specs.Selection.{Selection, subset, bounds_of, places_of}
+use Rattle.zarrs_chunk.specs.Selection.{Selection, subset, bounds_of}
 use Rattle.zarrs_chunk.specs.Tuples.{is_box_inside}
 use Rattle.zarrs_chunk.specs.declared.codec_error.CodecError.{CodecError}
 use Rattle.zarrs_chunk.specs.declared.codec_error.CodecError.TheVariants.{InvalidByteRange}
@@ -43,7 +43,7 @@ use Rattle.zarrs_chain_parts.specs.PlainChain.{PlainCodec, bytes_codec, packbits
 use Rattle.zarrs_chain_parts.specs.PlainVlen.{PlainForm, plain_form_of}
 use Rattle.zarrs_chain_parts.proofs.ArraySteps.{ok, bind_ok, ok_no_err}
 use Rattle.zarrs_chain_parts.proofs.NestedStages.{chained_of}
-use Rattle.zarrs_chain_partial.specs.ChunkRead.{ChunkForm, WhereSure, asks_in_part, codec_read, codec_rests_on, encoded_places, form_rests_on, outer_stored, read_by_form, whole_read}
+use Rattle.zarrs_chain_partial.specs.ChunkRead.{ChunkForm, WhereSure, asks_in_part, codec_read, codec_rests_on, encoded_places, form_rests_on, read_by_form, whole_read}
 use Rattle.zarrs_chain_partial.specs.ChunkSource.{Source, bytes_above, chunk_below, source_places, source_read}
 use Rattle.zarrs_chain_partial.proofs.PartialReads.{IsReadable}
 use Rattle.zarrs_chain_partial.proofs.PlaceWrites.{memory_too}
@@ -217,3 +217,6 @@ pub kept_bounds : (codecs : List ArrayMapping) (sizes : List ℕ) (selection : S
 kept_bounds codecs sizes selection region k Q =
     let here : IfErr (bounds_of (subset region) sizes) Q = rw (bounds_from sizes region k.inside) tt in
     subst (λ s. IfErr (bounds_of s sizes) Q) (sym k.selection_is) here
+
+pub window_ok : (here there : Window) → here ≡ there → ◌≡◌ {A = Result Window CodecError} (Ok there) (Ok here)
+window_ok here there e = ap (λ w. let r : Result Window CodecError = Ok w in r) (sym e)

@@ -3,8 +3,10 @@ use Rattle.zarrs_codec.specs.StorageState.{StorageState}
 use Rattle.std.specs.Prelude.{◌≡◌, ℕ, Bool, Option, Some, None, List, [], ◌∷◌, length, map, Result, Ok, Err, IfErr, OnOk, IsOkAnd, ◌+◌, ◌≤◌, All}
 use Rattle.zarrs_chunk.specs.Answer.{◌>>=◌, Answers, memory, memory_or_fault, seen, Gives}
 use Rattle.zarrs_chunk.specs.ChunkShape.{product}
+use Rattle.zarrs_chunk.specs.Region.{Region}
 use Rattle.zarrs_chunk.specs.Selection.{Selection, bounds_of}
 use Rattle.zarrs_chunk.specs.declared.codec_error.CodecError.{CodecError}
+use Rattle.zarrs_data_type.specs.Form.{form_of}
 use Rattle.zarrs_data_type.specs.Element.{Chunk}
 use Rattle.zarrs_data_type.specs.declared.endianness.Endianness.{Endianness}
 use Rattle.zarrs_data_type.specs.ElementType.{ElementType}
@@ -17,7 +19,7 @@ use Rattle.zarrs_codec.specs.ChunkEdits.{data_checked, data_places, with_element
 use Rattle.zarrs_array_to_array.specs.ArrayToArrayCodec.{ArrayMapping}
 use Rattle.zarrs_bytes.specs.BytesCodec.{spelling}
 use Rattle.zarrs_bytes.specs.PartialRead.{place_size}
-use Rattle.zarrs_bytes.specs.PartialWrite.{filled_chunk, with_place_bytes}
+use Rattle.zarrs_bytes.specs.PartialWrite.{bytes_left, filled_chunk, with_place_bytes}
 use Rattle.zarrs_chain_parts.specs.ArrayStages.{arrays_map}
 use Rattle.zarrs_chain_partial.specs.ChunkRead.{ChunkForm}
 use Rattle.zarrs_chain_parts.specs.Decode.{chain_chunk}
@@ -173,3 +175,14 @@ RefusedAtData form selection new result = IfErr (form_checked form selection new
 -- and the handle is as it was
 abbrev pub UntouchedAtData : {B : Type 0} → ChunkForm B → Selection → Held → (before after : StorageState) → Type 0
 UntouchedAtData form selection new before after = IfErr (form_checked form selection new) (λ _. after ≡ before)
+
+-- one new element for each place of a region is lent: they fit, and so do those that are lent, which are the same
+pub record LendsData (type : ElementType) (region : Region) (new lent : Held) : Type 0 where
+  pub fit : data_fit type (product region.lengths) new ≡ Ok tt
+  pub valid : validity type (product region.lengths) lent ≡ Ok tt
+  pub same : elements type (product region.lengths) lent ≡ elements type (product region.lengths) new
+
+-- whatever is stored, new elements at a selection leave what these leave at the places of these runs of the chunk that the codec to bytes gets, which has these sizes
+abbrev pub LeavesThere : {B : Type 0} → BytesCodecs B → ChunkForm B → List ℕ → Option Endianness → Selection → Held → List (ℕ × ℕ) → Held → Type 0
+LeavesThere f form encoded order selection new runs held =
+    (stored : Option (List ℕ)) → selection_left f form (Some order) stored selection new ≡ Ok (bytes_left order (form_of encoded form.type form.fill) stored (joined_runs runs) held)

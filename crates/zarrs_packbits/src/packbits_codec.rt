@@ -414,8 +414,8 @@ impl CodecTraits for PackBitsCodec {
     fn configuration(&self, alloc: Global) -> Result<Option<Configuration>, PluginCreateError>
         ensures answer { Answers plugin_memory (option_map configuration_seen) result
             (Ok (Some (write_settings self.now))) }
-        ensures made_again { MadeAgain configuration_seen
-            settings_made packbits_name self.now result }
+        ensures made_again { MadeAgain configuration_seen result
+            settings_made packbits_name self.now }
     {
         let configuration = PackBitsCodecConfiguration::V1(PackBitsCodecConfigurationV1 {
             padding_encoding: Some(self.padding_encoding),

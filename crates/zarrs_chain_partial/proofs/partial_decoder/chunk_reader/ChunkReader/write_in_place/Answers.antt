@@ -6,8 +6,14 @@ use Rattle.zarrs_chunk.specs.Indexer.{selection_of}
 use Rattle.zarrs_chunk.specs.Runs.{joined_runs}
 use Rattle.zarrs_chain_partial.specs.ChunkReader.{reader_form}
 use Rattle.zarrs_chain_partial.proofs.PartialReads.{is_readable}
+use Rattle.zarrs_chain_partial.proofs.RegionReads.{kept_bounds}
 use Rattle.zarrs_chain_partial.proofs.PlaceWrites.{answer_by, in_place_taken, left_unchecked, memory_too, selection_in_place}
 use Rattle.zarrs_chain_partial.proofs.partial_decoder.chunk_reader.ChunkReader.write_in_place.Goals as goal
+
+pub returns-in-Some-clause-indexer_first : goal.returns-in-Some-clause-indexer_first
+returns-in-Some-clause-indexer_first g c =
+    let form = reader_form c.args.self.now in
+    kept_bounds form.chain.arrays form.sizes (selection_of c.args.indexer.now) c.in-Some.region.now ((c.in-Some.ensures {u = tt}).kept) _
 
 pub returns-in_err-runs-clause-answer : goal.returns-in_err-runs-clause-answer
 returns-in_err-runs-clause-answer g c =
