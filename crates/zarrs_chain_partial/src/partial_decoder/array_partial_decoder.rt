@@ -23,9 +23,11 @@ use zarrs_data_type::{DataType, FillValue};
 /// borrowed.
 ///
 /// Without bytes codecs, over `bytes` and `packbits`, a read looks at the bytes of the places that are
-/// asked for and at no others: it checks neither the value's length nor what else stands there. Where a
-/// codec can't read or decode a part, what it makes is kept in a cache, which is filled once, when the
-/// decoder is made; after that the handle is left alone.
+/// asked for and at no others: it checks neither the value's length nor what else stands there. Over a
+/// plain `vlen`, whose index chain is `bytes` with a byte order and whose data chain is `bytes`, both
+/// alone, it looks at the offsets and at the bytes of the elements that are asked for. Where a codec
+/// can't read or decode a part, what it makes is kept in a cache, which is filled once, when the decoder
+/// is made; after that the handle is left alone.
 #[derive(Drop)]
 pub struct ArrayPartialDecoder<'a, H: BytesPartialDecoderTraits, B: BytesToBytesCodecTraits> {
     pub(crate) handle: H,
@@ -46,12 +48,14 @@ impl<'a, H: BytesPartialDecoderTraits, B: BytesToBytesCodecTraits> ArrayPartialD
 
     /// The elements that the indexer means, in its order: those of the chunk that the stored value
     /// stands for, and the fill value at each place where nothing is stored. Without bytes codecs, over
-    /// `bytes` and `packbits`, the answer rests on the places' bytes alone, whatever else is stored.
+    /// `bytes` and `packbits`, the answer rests on the places' bytes alone, and over a plain `vlen` on
+    /// the value's length, the offsets and the elements' bytes, whatever else is stored.
     ///
     /// Refusals, the first that holds, `OutOfMemory` aside: those of `Indexer::check`; `Storage`, but
-    /// never of a decoder that has a cache, nor where the answer rests on the places' bytes alone and
-    /// all of these are sure; `BytesCodec` of the last bytes codec, then of the one before;
-    /// `InvalidByteRange` where a place's bytes lie past the end.
+    /// never of a decoder that has a cache, nor where the answer rests on such bytes alone and all of
+    /// these are sure; `BytesCodec` of the last bytes codec, then of the one before; over `bytes` and
+    /// `packbits` `InvalidByteRange` where a place's bytes lie past the end; over a plain `vlen` those
+    /// of `zarrs_plain_vlen::read_runs`, also where the indexer means no place.
     pub fn partial_decode(
         &mut self,
         alloc: Global,

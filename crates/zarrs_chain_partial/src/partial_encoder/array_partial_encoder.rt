@@ -58,12 +58,14 @@ impl<'a, H: BytesPartialEncoderTraits, B: BytesToBytesCodecTraits> ArrayPartialE
 
     /// The elements that the indexer means, in its order: those of the chunk that the stored value
     /// stands for, and the fill value at each place where nothing is stored. Without bytes codecs, over
-    /// `bytes` and `packbits`, the answer rests on the places' bytes alone, whatever else is stored.
+    /// `bytes` and `packbits`, the answer rests on the places' bytes alone, and over a plain `vlen` on
+    /// the value's length, the offsets and the elements' bytes, whatever else is stored.
     ///
     /// Refusals, the first that holds, `OutOfMemory` aside: those of `Indexer::check`; `Storage`, but
-    /// never where the answer rests on the places' bytes alone and all of these are sure; `BytesCodec`
-    /// of the last bytes codec, then of the one before; `InvalidByteRange` where a place's bytes lie
-    /// past the end, or what whole decode refuses.
+    /// never where the answer rests on such bytes alone and all of these are sure; `BytesCodec` of the
+    /// last bytes codec, then of the one before; over `bytes` and `packbits` `InvalidByteRange` where a
+    /// place's bytes lie past the end; over a plain `vlen` those of `zarrs_plain_vlen::read_runs`, also
+    /// where the indexer means no place; over any other codec what whole decode refuses.
     pub fn partial_decode(
         &mut self,
         alloc: Global,
