@@ -152,23 +152,6 @@ fn is_decoded_whole<C: ArrayToArrayCodecTraits>(
     Ok(())
 }
 
-/// The shape of the encoded chunk.
-pub(crate) fn has_shape<C: ArrayToArrayCodecTraits>(
-    rt: &impl Abort,
-    alloc: Global,
-    about: &str,
-    codec: &C,
-    shape: &ChunkShape,
-    wanted: &Result<&'static [u64], CodecError>,
-) -> Result<(), CodecError> {
-    let encoded = codec.encoded_shape(alloc, shape);
-    let came = match &encoded {
-        Ok(shape) => Ok(shape.as_slice()),
-        Err(cause) => Err(*cause),
-    };
-    answers(rt, about, &came, wanted)
-}
-
 /// The shape of the encoded chunk, and of the chunk whose encoded one has this shape.
 fn shapes<C: ArrayToArrayCodecTraits>(
     rt: &impl Abort,
@@ -178,7 +161,12 @@ fn shapes<C: ArrayToArrayCodecTraits>(
     shape: &ChunkShape,
     mapped: &Mapped,
 ) -> Result<(), CodecError> {
-    has_shape(rt, alloc, about, codec, shape, &mapped.encoded)?;
+    let encoded = codec.encoded_shape(alloc, shape);
+    let came = match &encoded {
+        Ok(shape) => Ok(shape.as_slice()),
+        Err(cause) => Err(*cause),
+    };
+    answers(rt, about, &came, &mapped.encoded)?;
     let decoded = codec.decoded_shape(alloc, shape);
     let came = match &decoded {
         Ok(told) => Ok(told.as_ref().map(ChunkShape::as_slice)),

@@ -1,8 +1,8 @@
 //! Codecs of metadata, through the enum of the codecs: what is written of them, and shapes and indexers
 //! of encoded chunks, where they are of another kind than in the examples.
 
-use crate::calls::{has_shape, maps};
-use crate::checks::{Asked, shape};
+use crate::calls::maps;
+use crate::checks::{Asked, answers, shape};
 use crate::examples::Mapped;
 use crate::forms::{SQUEEZE, TURN, codec, metadata};
 use crate::metadata::{SQUEEZE_WRITTEN, is_written};
@@ -11,6 +11,7 @@ use std::process::Abort;
 use std::test::Fail;
 use zarrs_array_to_array::ArrayToArrayCodec;
 use zarrs_chunk::CodecError;
+use zarrs_codec::ArrayToArrayCodecTraits;
 use zarrs_metadata::PluginCreateError;
 
 const AXES: CodecError = CodecError::IncompatibleDimensionality;
@@ -281,8 +282,13 @@ fn is_shaped(
     codec: &ArrayToArrayCodec,
     row: &Shaped,
 ) -> Result<(), CodecError> {
-    let shape = shape(alloc, row.sizes)?;
-    has_shape(rt, alloc, row.codec, codec, &shape, &row.encoded)
+    let decoded = shape(alloc, row.sizes)?;
+    let encoded = codec.encoded_shape(alloc, &decoded);
+    let came = match &encoded {
+        Ok(shape) => Ok(shape.as_slice()),
+        Err(cause) => Err(*cause),
+    };
+    answers(rt, row.codec, &came, &row.encoded)
 }
 
 fn gets_shape(rt: &impl Abort, alloc: Global, row: &Shaped) -> Result<(), Fail> {
