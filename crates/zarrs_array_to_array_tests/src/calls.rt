@@ -11,7 +11,9 @@ use zarrs_codec::{ArrayToArrayCodecTraits, PartialDecoderCapability, PartialEnco
 use zarrs_data_type::{DataType, FillValue};
 
 /// A container's bytes or a refusal, as plain data.
-fn bytes_of<'a>(came: &'a Result<ArrayBytes<'_>, CodecError>) -> Result<&'a [u8], CodecError> {
+pub(crate) fn bytes_of<'a>(
+    came: &'a Result<ArrayBytes<'_>, CodecError>,
+) -> Result<&'a [u8], CodecError> {
     match came {
         Ok(elements) => elements.as_fixed(),
         Err(cause) => Err(*cause),

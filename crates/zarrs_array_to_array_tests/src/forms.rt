@@ -27,11 +27,13 @@ pub(crate) fn codec(alloc: Global, text: &str) -> Result<ArrayToArrayCodec, Plug
     ArrayToArrayCodec::create(alloc, &metadata(alloc, text)?)
 }
 
-/// A type of elements.
+/// A type of elements: one of so many bytes has one component without a sign.
+#[derive(Drop)]
 pub(crate) enum Type {
     Byte,
     Word,
     Long,
+    Bytes(u64),
     Text,
     OptionalByte,
 }
@@ -41,12 +43,14 @@ fn data_type(alloc: Global, told: &Type) -> Result<DataType, CodecError> {
         Type::Byte => Ok(DataType::uint8()),
         Type::Word => Ok(DataType::uint16()),
         Type::Long => Ok(DataType::uint32()),
+        Type::Bytes(size) => DataType::components(size.wrapping_mul(8), 1, false),
         Type::Text => Ok(DataType::string()),
         Type::OptionalByte => DataType::optional(alloc, DataType::uint8()),
     }
 }
 
 /// A chunk: its sizes, the type of its elements, and its fill value.
+#[derive(Drop)]
 pub(crate) struct Chunk<'a> {
     pub(crate) sizes: &'a [u64],
     pub(crate) data_type: Type,

@@ -4,9 +4,10 @@
 //! What the line tool shows of them stands in `zarrs_transcripts`: whole chunks, and parts that are read
 //! and written through a chain. Here is the rest: each codec by itself and behind the enum, with all
 //! calls of the traits, stages over an input of `bytes`, what is refused, with the input handed back,
-//! and metadata. Chunks whose sizes lie on both sides of a block's edge stand in `zarrs_comparison_tests`.
-//! Answers are written by hand, from what the formats say. A want of memory ends a test with that error
-//! and is never compared, so a run in which an allocation fails shows each answer that changes otherwise.
+//! metadata, and the fast body of transpositions beside a plain one, for sizes on both sides of a
+//! block's edge too. Other answers are written by hand, from what the formats say. A want of memory
+//! ends a test with that error and is never compared, so a run in which an allocation fails shows each
+//! answer that changes otherwise.
 //!
 //! The check proves a test before it runs. So examples stand in tables of constants, which cost it
 //! nothing, and what is done with them in functions over the traits, which are proved once for all
@@ -33,3 +34,5 @@ mod regions;
 mod stages;
 #[cfg(test)]
 mod tables;
+#[cfg(test)]
+mod transpositions;

@@ -26,8 +26,8 @@ pub(crate) fn is_written<C: CodecTraits>(
     codec: &C,
     wanted: &MetadataV3,
 ) -> Result<(), PluginCreateError> {
-    let configuration = codec.configuration(alloc)?;
     is(rt, about, &codec.name_v3(), &Some(wanted.name()));
+    let configuration = codec.configuration(alloc)?;
     is(rt, about, &configuration.as_ref(), &wanted.configuration());
     Ok(())
 }

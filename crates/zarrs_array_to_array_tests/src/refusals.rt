@@ -133,20 +133,17 @@ const LINE: Chunk<'static> = Chunk {
 
 const PART: Asked<'static> = Asked::Ranges(&[1..3]);
 
-/// The cause is this one, and the input that is handed back reads the line.
-fn hands_back(
+/// The input that is handed back reads the line.
+fn reads_line(
     rt: &impl Abort,
     alloc: Global,
-    mut refused: Refused<Input>,
+    mut input: Input,
     row: &Row,
 ) -> Result<(), CodecError> {
-    let handle = &mut refused.handle;
-    let read = reads(rt, alloc, row.name, handle, &PART, &Ok(&[1, 2]));
-    answers(rt, row.name, &Err(refused.error), &row.made)?;
-    read
+    reads(rt, alloc, row.name, &mut input, &PART, &Ok(&[1, 2]))
 }
 
-/// A stage is made, or the refusal has its input.
+/// A stage is made, or the refusal has its input, for this cause.
 fn is_made(
     rt: &impl Abort,
     alloc: Global,
@@ -155,7 +152,10 @@ fn is_made(
 ) -> Result<(), CodecError> {
     match made {
         Ok(_) => answers(rt, row.name, &Ok(()), &row.made),
-        Err(refused) => hands_back(rt, alloc, refused, row),
+        Err(Refused { error, handle }) => {
+            reads_line(rt, alloc, handle, row)?;
+            answers(rt, row.name, &Err(error), &row.made)
+        }
     }
 }
 
@@ -184,6 +184,19 @@ fn is_refused(
     makes(rt, alloc, codec, &form, line, row)
 }
 
+fn each_is_refused(
+    rt: &impl Abort,
+    alloc: Global,
+    codec: &TransposeCodec,
+    line: &ChunkForm,
+    rows: &[Row],
+) -> Result<(), CodecError> {
+    for row in rows.iter() {
+        is_refused(rt, alloc, codec, line, row)?;
+    }
+    Ok(())
+}
+
 fn are_refused(
     rt: &impl Abort,
     alloc: Global,
@@ -191,10 +204,7 @@ fn are_refused(
     rows: &[Row],
 ) -> Result<(), CodecError> {
     let line = chunk_form(alloc, &LINE)?;
-    for row in rows.iter() {
-        is_refused(rt, alloc, codec, &line, row)?;
-    }
-    Ok(())
+    each_is_refused(rt, alloc, codec, &line, rows)
 }
 
 #[test]

@@ -7,11 +7,12 @@ ghost use Rattle.zarrs_array_to_array.specs.Mapping.{mapping_of};
 ghost use Rattle.zarrs_array_regions.specs.Windows.{IsWindow, TakesRegion, TakeType};
 
 use crate::calls::has_bytes;
-use crate::checks::{Asked, indexer, is};
+use crate::checks::{Asked, answers, indexer, is};
 use crate::forms::{Chunk, ChunkForm, SQUEEZE, Type, chunk_form, codec, lent};
 use std::alloc::Global;
 use std::process::Abort;
 use std::test::Fail;
+use zarrs_array_bytes::ArrayBytes;
 use zarrs_array_regions::{Window, decoded_window, encoded_window, kept_region, last_window};
 use zarrs_array_to_array::{ArrayToArrayCodec, encoded_places};
 use zarrs_chunk::{ArraySubset, CodecError, Indexer};
@@ -92,8 +93,9 @@ fn comes_back(
     requires takes { TakeType (map mapping_of codecs.now) form.now.data_type }
     requires filled { 0 < product region.now.lengths }
 {
+    let count = region.num_elements()?;
     let held = lent(MOVED);
-    held.validate(region.num_elements()?, &form.data_type)?;
+    held.validate(count, &form.data_type)?;
     let came = decoded_window(
         alloc,
         codecs,
@@ -104,6 +106,12 @@ fn comes_back(
         &form.fill_value,
     );
     has_bytes(rt, "decoded", came, &Ok(ELEMENTS))
+}
+
+/// The window is the region's, and these are its elements.
+fn is_moved(rt: &impl Abort, window: &Window, held: &ArrayBytes<'_>) -> Result<(), CodecError> {
+    is_window(rt, window);
+    answers(rt, "encoded", &held.as_fixed(), &Ok(MOVED))
 }
 
 /// Its own elements are encoded to those of its window.
@@ -118,8 +126,9 @@ fn goes_along(
     requires takes { TakeType (map mapping_of codecs.now) form.now.data_type }
     requires filled { 0 < product region.now.lengths }
 {
+    let count = region.num_elements()?;
     let held = lent(ELEMENTS);
-    held.validate(region.num_elements()?, &form.data_type)?;
+    held.validate(count, &form.data_type)?;
     let (window, held) = encoded_window(
         alloc,
         codecs,
@@ -129,8 +138,7 @@ fn goes_along(
         &form.data_type,
         &form.fill_value,
     )?;
-    is_window(rt, &window);
-    has_bytes(rt, "encoded", Ok(held), &Ok(MOVED))
+    is_moved(rt, &window, &held)
 }
 
 fn goes_and_comes(
@@ -167,11 +175,27 @@ fn is_kept(
     }
 }
 
+fn region_is_kept(
+    rt: &impl Abort,
+    alloc: Global,
+    codecs: &[ArrayToArrayCodec],
+    form: &ChunkForm,
+) -> Result<(), CodecError> {
+    let indexer = indexer(alloc, REGION)?;
+    is_kept(rt, alloc, codecs, form, &indexer)
+}
+
+fn chunk_is_kept(
+    rt: &impl Abort,
+    alloc: Global,
+    codecs: &[ArrayToArrayCodec],
+) -> Result<(), CodecError> {
+    let form = chunk_form(alloc, CHUNK)?;
+    region_is_kept(rt, alloc, codecs, &form)
+}
+
 #[test]
 fn a_region_goes_through_codecs(rt: HostRuntime) -> Result<(), Fail> {
-    let alloc = rt.alloc();
-    let codecs = codecs(alloc, &[LAST_FIRST, SQUEEZE, FLAT])?;
-    let form = chunk_form(alloc, CHUNK)?;
-    let indexer = indexer(alloc, REGION)?;
-    Ok(is_kept(&rt, alloc, &codecs, &form, &indexer)?)
+    let codecs = codecs(rt.alloc(), &[LAST_FIRST, SQUEEZE, FLAT])?;
+    Ok(chunk_is_kept(&rt, rt.alloc(), codecs.as_slice())?)
 }

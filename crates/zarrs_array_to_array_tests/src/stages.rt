@@ -9,7 +9,7 @@ use std::alloc::Global;
 use std::process::Abort;
 use zarrs_array_to_array::ArrayToArrayCodecPartial;
 use zarrs_bytes::{BytesCodec, BytesCodecPartial};
-use zarrs_chunk::CodecError;
+use zarrs_chunk::{CodecError, Indexer};
 use zarrs_codec::{
     ArrayPartialDecoderTraits, ArrayPartialEncoderTraits, ArrayToArrayCodecTraits, MemoryHandle,
     Refused,
@@ -58,6 +58,19 @@ pub(crate) fn reads<D: ArrayPartialDecoderTraits>(
     has_bytes(rt, about, decoder.partial_decode(alloc, &asked), wanted)
 }
 
+fn writes_at<E: ArrayPartialEncoderTraits>(
+    rt: &impl Abort,
+    alloc: Global,
+    about: &str,
+    encoder: &mut E,
+    at: &Indexer,
+    elements: &[u8],
+    wanted: &Result<(), CodecError>,
+) -> Result<(), CodecError> {
+    let came = encoder.partial_encode(alloc, at, &lent(elements));
+    answers(rt, about, &came, wanted)
+}
+
 /// A write of these elements has this answer.
 fn writes<E: ArrayPartialEncoderTraits>(
     rt: &impl Abort,
@@ -69,8 +82,18 @@ fn writes<E: ArrayPartialEncoderTraits>(
     wanted: &Result<(), CodecError>,
 ) -> Result<(), CodecError> {
     let at = indexer(alloc, at)?;
-    let came = encoder.partial_encode(alloc, &at, &lent(elements));
-    answers(rt, about, &came, wanted)
+    writes_at(rt, alloc, about, encoder, &at, elements, wanted)
+}
+
+/// The value goes.
+fn erases<E: ArrayPartialEncoderTraits>(
+    rt: &impl Abort,
+    about: &str,
+    stage: &mut E,
+) -> Result<(), CodecError> {
+    stage.erase()?;
+    is(rt, about, &stage.exists()?, &false);
+    Ok(())
 }
 
 /// What a stage tells without reading.
@@ -106,11 +129,7 @@ fn does<E: ArrayPartialEncoderTraits>(
             elements,
             answer,
         } => writes(rt, alloc, about, stage, at, elements, answer),
-        Step::Erase => {
-            stage.erase()?;
-            is(rt, about, &stage.exists()?, &false);
-            Ok(())
-        }
+        Step::Erase => erases(rt, about, stage),
     }
 }
 

@@ -80,6 +80,13 @@ pub(crate) struct Chunk {
 /// Places of a chunk, and elements that are read or written there.
 pub(crate) type Part = zarrs_chain_json::Edit;
 
+/// A chunk and a part of it, as one value: each that a function owns makes it dearer to prove.
+#[derive(Drop)]
+pub(crate) struct Case {
+    pub(crate) chunk: Chunk,
+    pub(crate) part: Part,
+}
+
 fn at_key<'v>(header: &'v Value, name: &str) -> Result<&'v Value, Refusal> {
     member(object(header)?, name).ok_or(Refusal::Syntax)
 }
@@ -133,6 +140,13 @@ fn chunk_among(alloc: Global, header: &Value) -> Result<Chunk, Refusal> {
 pub(crate) fn chunk_of(alloc: Global, header: &str) -> Result<Chunk, Refusal> {
     let header = tree(alloc, header.as_bytes())?;
     chunk_among(alloc, &header)
+}
+
+/// The chunk of a header, and the part of it that a writing line names.
+pub(crate) fn case_of(alloc: Global, header: &str, part: &str) -> Result<Case, Refusal> {
+    let chunk = chunk_of(alloc, header)?;
+    let part = part_of(alloc, &chunk, part)?;
+    Ok(Case { chunk, part })
 }
 
 /// The part of a chunk that a writing line names.

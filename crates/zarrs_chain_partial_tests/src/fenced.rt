@@ -2,16 +2,18 @@
 //! nothing else.
 
 use crate::checks::{is, is_cause};
-use crate::chunks::{A_AND_BC, BYTES, Chunk, Form, HALF_BYTES, Part, TEXTS, chunk_of, part_of};
+use crate::chunks::{A_AND_BC, BYTES, Chunk, Form, HALF_BYTES, Part, TEXTS, TURNED_TWICE, case_of};
+use crate::coders::{Decoder, decoder};
+use crate::reads::is_read;
 use std::alloc::Global;
 use std::process::Abort;
 use std::test::Fail;
 use zarrs_array_bytes::ArrayBytes;
 use zarrs_chain_json::Refusal;
-use zarrs_chain_partial::{CodecChainPartialTraits, VlenCodecPartialTraits};
+use zarrs_chain_partial::VlenCodecPartialTraits;
 use zarrs_chunk::CodecError;
 use zarrs_codec::testing::FencedHandle;
-use zarrs_codec::{ByteRange, SampleBytesCodec, StorageError};
+use zarrs_codec::{ByteRange, Refused, SampleBytesCodec, StorageError};
 use zarrs_codec_chain::{ArrayToBytesCodec, VlenCodec};
 
 /// A chunk and its value, the part that is asked for, and the elements that are read there.
@@ -132,6 +134,9 @@ const OF_TEXTS: &'static [Row] = &[
     },
 ];
 
+const WORDS: &'static [u8] =
+    b"\0\0\0\0\0\0\0\x01\0\0\0\x04\0\0\0\x05\0\0\0\x02\0\0\0\x03\0\0\0\x06\0\0\0\x07";
+
 /// Array codecs say where the places go; bytes codecs need the whole value.
 const THROUGH_CHAINS: &'static [Row] = &[
     Row {
@@ -158,6 +163,30 @@ const THROUGH_CHAINS: &'static [Row] = &[
         part: r#"{"at":{"ranges":[[0,1]]},"data":[]}"#,
         refusal: FENCED,
     },
+    Row {
+        name: "two words of turned axes",
+        chunk: TURNED_TWICE,
+        value: WORDS,
+        inside: &[(16, 20), (24, 28)],
+        part: r#"{"at":{"ranges":[[0,2],[1,2],[0,1]]},"data":["02000000","06000000"]}"#,
+        refusal: None,
+    },
+    Row {
+        name: "two words, of which a byte is held back",
+        chunk: TURNED_TWICE,
+        value: WORDS,
+        inside: &[(16, 20), (25, 28)],
+        part: r#"{"at":{"ranges":[[0,2],[1,2],[0,1]]},"data":[]}"#,
+        refusal: FENCED,
+    },
+    Row {
+        name: "flags, of which the last bytes are held back",
+        chunk: r#"{"shape":[8,5],"data_type":"bool","fill_value":"00","codecs":["packbits"]}"#,
+        value: b"\x49\x92\x24\x49\x92",
+        inside: &[(0, 3)],
+        part: r#"{"at":{"ranges":[[1,4],[1,4]]},"data":["01","00","00","00","01","00","00","00","01"]}"#,
+        refusal: None,
+    },
 ];
 
 fn byte_ranges(alloc: Global, ends: &[(u64, u64)]) -> Result<Vec<ByteRange>, CodecError> {
@@ -173,28 +202,68 @@ fn handle_of(alloc: Global, row: &Row) -> Result<FencedHandle, CodecError> {
     Ok(FencedHandle::new(row.value.to_vec(alloc)?, inside))
 }
 
-/// What is read of the part by a decoder of the chain, or why it isn't made or nothing is read.
-fn read_by_chain(
+/// Once the part is read, or refused as the row says, the handle failed where a byte outside was asked
+/// for.
+fn has_failed(
+    rt: &impl Abort,
+    done: Result<(), CodecError>,
+    handle: &FencedHandle,
+    row: &Row,
+) -> Result<(), CodecError> {
+    let came = handle.faults() == 1;
+    if done.is_ok() {
+        is(rt, row.name, "failed", &came, &(row.refusal == FENCED));
+    }
+    done
+}
+
+fn reads_part(
+    rt: &impl Abort,
+    alloc: Global,
+    decoder: &mut Decoder<'_, FencedHandle>,
+    part: &Part,
+    row: &Row,
+) -> Result<(), CodecError> {
+    let came = decoder.partial_decode(alloc, &part.indexer);
+    is_read(rt, row.name, &came, &part.elements, &row.refusal)
+}
+
+fn decodes(
+    rt: &impl Abort,
+    alloc: Global,
+    mut decoder: Decoder<'_, FencedHandle>,
+    part: &Part,
+    row: &Row,
+) -> Result<(), CodecError> {
+    let done = reads_part(rt, alloc, &mut decoder, part, row);
+    has_failed(rt, done, &decoder.into_handle(), row)
+}
+
+/// The decoder isn't made for the row's cause.
+fn is_refused(
+    rt: &impl Abort,
+    refused: Refused<FencedHandle>,
+    row: &Row,
+) -> Result<(), CodecError> {
+    let done = is_cause(rt, row.name, Some(refused.error), &row.refusal);
+    has_failed(rt, done, &refused.handle, row)
+}
+
+/// The part is read by a decoder of the chain, or it isn't made or reads nothing.
+fn by_chain(
+    rt: &impl Abort,
     alloc: Global,
     chunk: &Chunk,
     part: &Part,
-    handle: FencedHandle,
-) -> Result<ArrayBytes<'static>, CodecError> {
-    let Form {
-        shape,
-        data_type,
-        fill_value,
-    } = &chunk.form;
-    match chunk
-        .chain
-        .partial_decoder(alloc, handle, shape, data_type, fill_value)
-    {
-        Ok(mut decoder) => decoder.partial_decode(alloc, &part.indexer),
-        Err(refused) => Err(refused.error),
+    row: &Row,
+) -> Result<(), CodecError> {
+    match decoder(alloc, chunk, handle_of(alloc, row)?) {
+        Ok(decoder) => decodes(rt, alloc, decoder, part, row),
+        Err(refused) => is_refused(rt, refused, row),
     }
 }
 
-/// The same by a decoder of the codec.
+/// What is read of the part by a decoder of the codec, or why it isn't made or nothing is read.
 fn read_by_vlen(
     alloc: Global,
     codec: &VlenCodec<SampleBytesCodec>,
@@ -226,37 +295,25 @@ fn read_by_codec(
     }
 }
 
-/// What was read is what is wanted.
-fn is_read(
+fn by_codec(
     rt: &impl Abort,
+    alloc: Global,
+    chunk: &Chunk,
+    part: &Part,
     row: &Row,
-    came: &Result<ArrayBytes<'static>, CodecError>,
-    wanted: &ArrayBytes<'static>,
 ) -> Result<(), CodecError> {
-    match came {
-        Ok(elements) => {
-            is(rt, row.name, "refusal", &None, &row.refusal);
-            is(rt, row.name, "elements", elements, wanted);
-            Ok(())
-        }
-        Err(cause) => is_cause(rt, row.name, Some(*cause), &row.refusal),
-    }
+    let came = read_by_codec(alloc, chunk, part, handle_of(alloc, row)?);
+    is_read(rt, row.name, &came, &part.elements, &row.refusal)
 }
 
 fn reads_through_chain(rt: &impl Abort, alloc: Global, row: &Row) -> Result<(), Refusal> {
-    let chunk = chunk_of(alloc, row.chunk)?;
-    let part = part_of(alloc, &chunk, row.part)?;
-    let handle = handle_of(alloc, row)?;
-    let came = read_by_chain(alloc, &chunk, &part, handle);
-    Ok(is_read(rt, row, &came, &part.elements)?)
+    let case = case_of(alloc, row.chunk, row.part)?;
+    Ok(by_chain(rt, alloc, &case.chunk, &case.part, row)?)
 }
 
 fn reads_through_codec(rt: &impl Abort, alloc: Global, row: &Row) -> Result<(), Refusal> {
-    let chunk = chunk_of(alloc, row.chunk)?;
-    let part = part_of(alloc, &chunk, row.part)?;
-    let handle = handle_of(alloc, row)?;
-    let came = read_by_codec(alloc, &chunk, &part, handle);
-    Ok(is_read(rt, row, &came, &part.elements)?)
+    let case = case_of(alloc, row.chunk, row.part)?;
+    Ok(by_codec(rt, alloc, &case.chunk, &case.part, row)?)
 }
 
 fn all_through_chains(rt: &impl Abort, alloc: Global, rows: &[Row]) -> Result<(), Refusal> {

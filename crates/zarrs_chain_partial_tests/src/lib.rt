@@ -22,8 +22,6 @@ mod edits;
 #[cfg(test)]
 mod fenced;
 #[cfg(test)]
-mod fences;
-#[cfg(test)]
 mod reads;
 #[cfg(test)]
 mod rows;

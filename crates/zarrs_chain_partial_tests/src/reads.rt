@@ -2,7 +2,7 @@
 //! themselves.
 
 use crate::checks::{is, is_cause, is_plan};
-use crate::chunks::{Chunk, Part, chunk_of, part_of};
+use crate::chunks::{Chunk, Part, case_of};
 use crate::coders::{Decoder, Encoder, Kind, VlenDecoder, decoder, encoder, failing, vlen_decoder};
 use crate::rows::{ENCODERS, FAILING, NEVER_MADE, OF_VLEN, Row, WITH_CACHE, WITHOUT_CACHE};
 use std::alloc::Global;
@@ -16,7 +16,7 @@ use zarrs_codec::{ArrayPartialDecoderTraits, ByteRange, Refused, SampleBytesCode
 use zarrs_codec_chain::{ArrayToBytesCodec, VlenCodec};
 
 /// What was read is what is wanted.
-fn is_read(
+pub(crate) fn is_read(
     rt: &impl Abort,
     name: &str,
     came: &Result<ArrayBytes<'static>, CodecError>,
@@ -34,7 +34,7 @@ fn is_read(
 }
 
 /// Reads the part.
-pub(crate) fn reads<D: ArrayPartialDecoderTraits>(
+fn reads<D: ArrayPartialDecoderTraits>(
     rt: &impl Abort,
     alloc: Global,
     coder: &mut D,
@@ -260,9 +260,8 @@ fn reads_of(
 }
 
 fn reads_row(rt: &impl Abort, alloc: Global, row: &Row) -> Result<(), Refusal> {
-    let chunk = chunk_of(alloc, row.chunk)?;
-    let part = part_of(alloc, &chunk, row.part)?;
-    Ok(reads_of(rt, alloc, &chunk, &part, row)?)
+    let case = case_of(alloc, row.chunk, row.part)?;
+    Ok(reads_of(rt, alloc, &case.chunk, &case.part, row)?)
 }
 
 fn reads_rows(rt: &impl Abort, alloc: Global, rows: &[Row]) -> Result<(), Refusal> {

@@ -4,8 +4,7 @@
 
 use crate::checks::{is, is_cause};
 use crate::chunks::{
-    A_AND_BC, BYTES, Chunk, FOUR_BITS, OPTIONAL, Part, TEXTS, TURNED_TWICE, WITH_LENGTH, chunk_of,
-    part_of,
+    A_AND_BC, BYTES, Chunk, FOUR_BITS, OPTIONAL, Part, TEXTS, TURNED_TWICE, WITH_LENGTH, case_of,
 };
 use crate::coders::{Encoder, encoder, stored};
 use std::alloc::Global;
@@ -226,9 +225,8 @@ fn by_encoder(
 }
 
 fn writes_row(rt: &impl Abort, alloc: Global, row: &Row) -> Result<(), Refusal> {
-    let chunk = chunk_of(alloc, row.chunk)?;
-    let part = part_of(alloc, &chunk, row.part)?;
-    Ok(by_encoder(rt, alloc, &chunk, &part, row)?)
+    let case = case_of(alloc, row.chunk, row.part)?;
+    Ok(by_encoder(rt, alloc, &case.chunk, &case.part, row)?)
 }
 
 #[test]

@@ -1,7 +1,7 @@
 //! Each call of a codec of chunks to bytes: of `vlen` and `optional` by themselves, of the codec to
 //! bytes that is one of them, and of the chain that has no other codec.
 
-use crate::forms::{ChunkForm, made};
+use crate::forms::{Case, ChunkForm, made};
 use crate::nested_rows::NESTED;
 use crate::parts::{is_capable, is_whole};
 use crate::targets::{Into, is_compacted, is_decoded_into};
@@ -53,13 +53,22 @@ fn alone_answers(
     }
 }
 
-fn each_answers(rt: &impl Abort, alloc: Global, nested: &Nested) -> Result<(), Refusal> {
-    let case = made(alloc, nested.row.codecs, &nested.row.chunk)?;
+/// The codec by itself, the codec to bytes that is this one, and the chain.
+fn all_answer(
+    rt: &impl Abort,
+    alloc: Global,
+    case: &Case,
+    nested: &Nested,
+) -> Result<(), CodecError> {
     let codec = case.chain.array_to_bytes_codec();
     alone_answers(rt, alloc, codec, &case.form, nested)?;
     answers(rt, alloc, codec, &case.form, nested)?;
-    answers(rt, alloc, &case.chain, &case.form, nested)?;
-    Ok(())
+    answers(rt, alloc, &case.chain, &case.form, nested)
+}
+
+fn each_answers(rt: &impl Abort, alloc: Global, nested: &Nested) -> Result<(), Refusal> {
+    let case = made(alloc, nested.row.codecs, &nested.row.chunk)?;
+    Ok(all_answer(rt, alloc, &case, nested)?)
 }
 
 #[test]

@@ -5,6 +5,7 @@ use crate::forms::{Case, Chain, Chunk, ChunkForm, chain, made};
 use std::alloc::Global;
 use std::process::Abort;
 use std::test::Fail;
+use zarrs_chain_json::Refusal;
 use zarrs_chunk::CodecError;
 use zarrs_codec_chain::reencode::reencode;
 
@@ -27,6 +28,12 @@ fn is_reencoded(rt: &impl Abort, alloc: Global, from: &Case, to: &Chain) -> Resu
     Ok(())
 }
 
+/// The same by a chain of a list.
+fn is_reencoded_by_list(rt: &impl Abort, alloc: Global, from: &Case) -> Result<(), Refusal> {
+    let to = chain(alloc, r#"["bytes","sample.reverse"]"#)?;
+    Ok(is_reencoded(rt, alloc, from, &to)?)
+}
+
 #[test]
 fn a_value_is_written_by_another_chain(rt: HostRuntime) -> Result<(), Fail> {
     let from = made(
@@ -34,6 +41,5 @@ fn a_value_is_written_by_another_chain(rt: HostRuntime) -> Result<(), Fail> {
         r#"[{"name":"transpose","configuration":{"order":[1,0]}},"bytes"]"#,
         &GRID,
     )?;
-    let to = chain(rt.alloc(), r#"["bytes","sample.reverse"]"#)?;
-    Ok(is_reencoded(&rt, rt.alloc(), &from, &to)?)
+    Ok(is_reencoded_by_list(&rt, rt.alloc(), &from)?)
 }

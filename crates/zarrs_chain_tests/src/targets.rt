@@ -187,6 +187,30 @@ fn decode_into<C: ArrayToBytesCodecTraits>(
     )
 }
 
+/// The array and each mask are so afterwards.
+fn are_left(rt: &impl Abort, about: &str, target: &ArrayBytesDecodeIntoTarget<'_>, into: &Into) {
+    are(rt, about, target.values.as_slice(), into.values);
+    for view in &target.masks {
+        are(rt, about, view.as_slice(), into.mask);
+    }
+}
+
+fn is_decoded_there<C: ArrayToBytesCodecTraits>(
+    rt: &impl Abort,
+    alloc: Global,
+    codec: &C,
+    form: &ChunkForm,
+    about: &str,
+    value: &[u8],
+    into: &Into,
+    target: &mut ArrayBytesDecodeIntoTarget<'_>,
+) -> Result<(), CodecError> {
+    let came = decode_into(alloc, codec, form, value, target);
+    answers(rt, about, &came, &into.answer)?;
+    are_left(rt, about, target, into);
+    Ok(())
+}
+
 pub(crate) fn is_decoded_into<C: ArrayToBytesCodecTraits>(
     rt: &impl Abort,
     alloc: Global,
@@ -199,13 +223,7 @@ pub(crate) fn is_decoded_into<C: ArrayToBytesCodecTraits>(
     let mut bytes = [9u8; 6];
     let mut flags = [9u8; 6];
     let mut target = target(alloc, &mut bytes, &mut flags, into)?;
-    let came = decode_into(alloc, codec, form, value, &mut target);
-    answers(rt, about, &came, &into.answer)?;
-    are(rt, about, target.values.as_slice(), into.values);
-    for view in &target.masks {
-        are(rt, about, view.as_slice(), into.mask);
-    }
-    Ok(())
+    is_decoded_there(rt, alloc, codec, form, about, value, into, &mut target)
 }
 
 fn chain_decodes_into(rt: &impl Abort, alloc: Global, row: &Row) -> Result<(), Refusal> {

@@ -1,9 +1,21 @@
-//! Tests of `run` over what no transcript shows: bytes that are no text, readers that fail, and
-//! writers that fail or are flushed. Without tests the crate is empty.
+//! Tests of `run` over what no transcript shows: damaged values, bytes that are no text, readers that
+//! fail, and writers that fail or are flushed. Without tests the crate is empty.
 //!
 //! What lines are answered is in the transcripts of `zarrs_transcripts`.
+//!
+//! Each damaged value, cut at every length and changed in every byte to 0, 1 and 255, is decoded whole
+//! and read in part. Whole decode either refuses what the chain may refuse, or answers a chunk whose
+//! encoding is decoded to the same chunk. A read in part answers as the whole chunk does, or refuses as
+//! whole decode does; over `bytes` and `packbits` alone it rests on the bytes of its places, and of a
+//! plain `vlen` on the offsets and the bytes of its texts, whatever the rest is.
 #![tactic(auto)]
 
+#[cfg(test)]
+mod damage;
+#[cfg(test)]
+mod lines;
+#[cfg(test)]
+mod rows;
 #[cfg(test)]
 mod sent;
 #[cfg(test)]

@@ -15,7 +15,7 @@ use zarrs_codec::{
 /// The elements of a chunk and its value, where the padding byte comes first.
 struct Coded {
     name: &'static str,
-    chunk: Chunk,
+    chunk: Chunk<'static>,
     elements: &'static [u8],
     value: &'static [u8],
     /// An array of two rows of three elements, of which each byte was 0: the chunk is decoded into its

@@ -13,7 +13,7 @@ pub(crate) fn is<T: PartialEq + Debug>(rt: &impl Abort, about: &str, came: &T, w
 
 /// The items that came are those that are wanted.
 pub(crate) fn are<T: PartialEq + Debug>(rt: &impl Abort, about: &str, came: &[T], wanted: &[T]) {
-    assert_eq!(rt; came, wanted, "{about}");
+    is(rt, about, &came, &wanted);
 }
 
 /// The container that came has these bytes, in elements of one size.

@@ -9,6 +9,7 @@ use zarrs_metadata::PackBitsPaddingEncoding;
 use zarrs_packbits::{PackBitsCodec, PackBitsPartialDecoder};
 
 /// The settings of a codec.
+#[derive(Drop)]
 pub(crate) struct Settings {
     pub(crate) padding: PackBitsPaddingEncoding,
     pub(crate) first_bit: Option<u64>,
@@ -45,16 +46,17 @@ pub(crate) fn codec(settings: &Settings) -> Result<PackBitsCodec, CodecError> {
 }
 
 /// A chunk: its sizes, the components of its elements, and its fill value.
-pub(crate) struct Chunk {
-    pub(crate) sizes: &'static [u64],
+#[derive(Drop)]
+pub(crate) struct Chunk<'a> {
+    pub(crate) sizes: &'a [u64],
     pub(crate) bits: u64,
     pub(crate) components: u64,
     pub(crate) signed: bool,
-    pub(crate) fill: &'static [u8],
+    pub(crate) fill: &'a [u8],
 }
 
 /// Two elements of one bit.
-pub(crate) const FLAGS: Chunk = Chunk {
+pub(crate) const FLAGS: Chunk<'static> = Chunk {
     sizes: &[2],
     bits: 1,
     components: 1,
@@ -63,13 +65,13 @@ pub(crate) const FLAGS: Chunk = Chunk {
 };
 
 /// Eight rows of five elements of one bit.
-pub(crate) const GRID: Chunk = Chunk {
+pub(crate) const GRID: Chunk<'static> = Chunk {
     sizes: &[8, 5],
     ..FLAGS
 };
 
 /// Two elements of sixteen bits.
-pub(crate) const WORDS: Chunk = Chunk {
+pub(crate) const WORDS: Chunk<'static> = Chunk {
     sizes: &[2],
     bits: 16,
     components: 1,
@@ -85,7 +87,7 @@ pub(crate) struct ChunkForm {
     pub(crate) fill_value: FillValue,
 }
 
-pub(crate) fn chunk_form(alloc: Global, chunk: &Chunk) -> Result<ChunkForm, CodecError> {
+pub(crate) fn chunk_form(alloc: Global, chunk: &Chunk<'_>) -> Result<ChunkForm, CodecError> {
     let shape = ChunkShape::new(chunk.sizes.to_vec(alloc)?).ok_or(CodecError::OutOfBounds)?;
     let data_type = DataType::components(chunk.bits, chunk.components, chunk.signed)?;
     let fill_value = FillValue::new(chunk.fill.to_vec(alloc)?);
@@ -112,18 +114,28 @@ fn made_decoder(
     )
 }
 
+/// The same decoder, or the refusal alone.
+pub(crate) fn decoder_of(
+    alloc: Global,
+    codec: PackBitsCodec,
+    form: &ChunkForm,
+    handle: MemoryHandle,
+) -> Result<PackBitsPartialDecoder<MemoryHandle>, CodecError> {
+    match made_decoder(alloc, codec, form, handle) {
+        Ok(decoder) => Ok(decoder),
+        Err(refused) => Err(refused.error),
+    }
+}
+
 /// A decoder of a chunk in part, over a handle.
 pub(crate) fn decoder(
     alloc: Global,
     codec: PackBitsCodec,
-    chunk: &Chunk,
+    chunk: &Chunk<'_>,
     handle: MemoryHandle,
 ) -> Result<PackBitsPartialDecoder<MemoryHandle>, CodecError> {
     let form = chunk_form(alloc, chunk)?;
-    match made_decoder(alloc, codec, &form, handle) {
-        Ok(decoder) => Ok(decoder),
-        Err(refused) => Err(refused.error),
-    }
+    decoder_of(alloc, codec, &form, handle)
 }
 
 pub(crate) fn subset(alloc: Global, ranges: &[Range<u64>]) -> Result<Indexer, CodecError> {

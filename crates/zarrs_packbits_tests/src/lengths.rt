@@ -13,7 +13,7 @@ use zarrs_metadata::PackBitsPaddingEncoding;
 use zarrs_packbits::PackBitsCodec;
 
 /// One element of 65 bits.
-const LONG: Chunk = Chunk {
+const LONG: Chunk<'static> = Chunk {
     sizes: &[1],
     bits: 65,
     components: 1,
@@ -25,7 +25,7 @@ const LONG: Chunk = Chunk {
 struct Length {
     name: &'static str,
     settings: Settings,
-    chunk: Chunk,
+    chunk: Chunk<'static>,
     bytes: Result<u64, CodecError>,
 }
 

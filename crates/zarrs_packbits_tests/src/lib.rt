@@ -3,9 +3,10 @@
 //!
 //! What the line tool shows of the codec stands in `zarrs_transcripts`: what it writes, what is
 //! decoded and read of it, and what it refuses. Here is the rest: the lengths of values, the bytes
-//! that a read asks for, metadata that is written again, and calls by hand. Answers are written by
-//! hand. A want of memory ends a test with that error and is never compared, so a run in which an
-//! allocation fails shows each answer that changes otherwise.
+//! that a read asks for, metadata that is written again, calls by hand, and the codec's fast body
+//! beside a plain one, which moves one bit at a time. Other answers are written by hand. A want of
+//! memory ends a test with that error and is never compared, so a run in which an allocation fails
+//! shows each answer that changes otherwise.
 //!
 //! The check proves a test before it runs. So examples stand in tables of constants, which cost it
 //! nothing, and a test goes over its table by a function that takes one row.
@@ -13,6 +14,8 @@
 
 #[cfg(test)]
 mod bit_places;
+#[cfg(test)]
+mod bits;
 #[cfg(test)]
 mod by_traits;
 #[cfg(test)]

@@ -2,17 +2,16 @@
 //! component up to 70 bits, all first and last bits, all paddings and both signs, whole and in part.
 //! Chunks are long enough for the blocks and words in which the codec moves narrow components.
 
-use crate::checks::{ChunkForm, are, fill_by_formula, form_of, has_bytes, head, part};
+use crate::checks::is;
+use crate::forms::{Chunk, ChunkForm, Settings, chunk_form, codec, decoder_of, subset};
+use crate::reads::{Decoder, handle};
 use std::alloc::Global;
 use std::borrow::CowSlice;
 use std::process::Abort;
-use std::test::Fail;
 use zarrs_array_bytes::ArrayBytes;
-use zarrs_chunk::{ArraySubset, CodecError, Indexer};
-use zarrs_codec::{MemoryHandle, Refused};
-use zarrs_data_type::DataType;
+use zarrs_chunk::{CodecError, Indexer};
 use zarrs_metadata::PackBitsPaddingEncoding;
-use zarrs_packbits::{PackBitsCodec, PackBitsPartialDecoder};
+use zarrs_packbits::PackBitsCodec;
 
 /// The widest component, in bits.
 const WIDEST: u64 = 70;
@@ -25,6 +24,25 @@ const MIDDLE: u64 = 16;
 
 /// Room for the elements of a chunk, and for its value.
 const ROOM: usize = 256;
+
+/// As many bytes as the widest component has, for a fill value.
+const ZEROS: &'static [u8] = &[0; 9];
+
+/// The first so many items.
+fn head(items: &[u8], len: u64) -> &[u8] {
+    items.get(..len as usize).unwrap_or(&[])
+}
+
+/// Some bytes, by a formula.
+fn fill_by_formula(seed: u64, bytes: &mut [u8]) {
+    let mut state = seed;
+    for byte in bytes.iter_mut() {
+        state = state
+            .wrapping_mul(6364136223846793005)
+            .wrapping_add(1442695040888963407);
+        *byte = (state / 1099511627776 % 256) as u8;
+    }
+}
 
 /// How many elements of one component a chunk has, the width of a component, the bits of it that are
 /// kept, and how they are packed. Where a case is shown, it is by its width, its first and its last bit
@@ -161,6 +179,25 @@ fn seed_of(case: &Case) -> u64 {
         .wrapping_add(case.last)
 }
 
+/// The bytes that came are those of the plain body: if not, the case is shown.
+fn are_plain(rt: &impl Abort, about: &str, case: &Case, came: &[u8], wanted: &[u8]) {
+    if came != wanted {
+        is(rt, about, &Some(case.shown), &None);
+    }
+}
+
+/// The container that came has the bytes of the plain body.
+fn has_plain(
+    rt: &impl Abort,
+    about: &str,
+    case: &Case,
+    came: &ArrayBytes<'_>,
+    wanted: &[u8],
+) -> Result<(), CodecError> {
+    are_plain(rt, about, case, came.as_fixed()?, wanted);
+    Ok(())
+}
+
 fn encodes(
     rt: &impl Abort,
     alloc: Global,
@@ -177,7 +214,7 @@ fn encodes(
         &form.data_type,
         &form.fill_value,
     )?;
-    are(rt, "encoded", &case.shown, &encoded, value);
+    are_plain(rt, "encoded", case, &encoded, value);
     Ok(())
 }
 
@@ -196,30 +233,20 @@ fn decodes(
         &form.shape,
         &form.data_type,
         &form.fill_value,
-    );
-    has_bytes(rt, "decoded", &case.shown, came, decoded)
+    )?;
+    has_plain(rt, "decoded", case, &came, decoded)
 }
 
-type Decoder = PackBitsPartialDecoder<MemoryHandle>;
-
-fn decoder(
+fn reads_part(
+    rt: &impl Abort,
     alloc: Global,
-    codec: &PackBitsCodec,
-    form: &ChunkForm,
-    value: &[u8],
-) -> Result<Decoder, CodecError> {
-    let handle = MemoryHandle::with_value(value.to_vec(alloc)?);
-    let made = codec.partial_decoder(
-        alloc,
-        handle,
-        &form.shape,
-        &form.data_type,
-        &form.fill_value,
-    );
-    match made {
-        Ok(decoder) => Ok(decoder),
-        Err(Refused { error, handle: _ }) => Err(error),
-    }
+    decoder: &mut Decoder,
+    case: &Case,
+    asked: &Indexer,
+    wanted: &[u8],
+) -> Result<(), CodecError> {
+    let came = decoder.partial_decode(alloc, asked)?;
+    has_plain(rt, "read", case, &came, wanted)
 }
 
 /// The places from the start up to the end are read as the plain body has them.
@@ -233,10 +260,10 @@ fn reads_run(
     decoded: &[u8],
 ) -> Result<(), CodecError> {
     let size = bytes_for(case.bits);
-    let wanted = part(decoded, size.wrapping_mul(start), size.wrapping_mul(end));
-    let asked = Indexer::Subset(ArraySubset::new_with_ranges(alloc, &[start..end])?);
-    let came = decoder.partial_decode(alloc, &asked);
-    has_bytes(rt, "read", &case.shown, came, wanted)
+    let (from, to) = (size.wrapping_mul(start), size.wrapping_mul(end));
+    let wanted = decoded.get(from as usize..to as usize).unwrap_or(&[]);
+    let asked = subset(alloc, &[start..end])?;
+    reads_part(rt, alloc, decoder, case, &asked, wanted)
 }
 
 /// All places but the first and the last, and the last.
@@ -261,7 +288,7 @@ fn reads(
     value: &[u8],
     decoded: &[u8],
 ) -> Result<(), CodecError> {
-    let mut decoder = decoder(alloc, codec, form, value)?;
+    let mut decoder = decoder_of(alloc, *codec, form, handle(alloc, Some(value))?)?;
     reads_runs(rt, alloc, &mut decoder, case, decoded)
 }
 
@@ -273,12 +300,15 @@ fn does_all(
     elements: &[u8],
     value: &[u8],
     decoded: &[u8],
-) -> Result<(), Fail> {
-    let codec = PackBitsCodec::new(case.padding, Some(case.first), Some(case.last))?;
+) -> Result<(), CodecError> {
+    let codec = codec(&Settings {
+        padding: case.padding,
+        first_bit: Some(case.first),
+        last_bit: Some(case.last),
+    })?;
     encodes(rt, alloc, &codec, form, case, elements, value)?;
     decodes(rt, alloc, &codec, form, case, value, decoded)?;
-    reads(rt, alloc, &codec, form, case, value, decoded)?;
-    Ok(())
+    reads(rt, alloc, &codec, form, case, value, decoded)
 }
 
 fn does_case(
@@ -288,14 +318,20 @@ fn does_case(
     elements: &[u8],
     value: &[u8],
     decoded: &[u8],
-) -> Result<(), Fail> {
-    let data_type = DataType::components(case.bits, 1, case.signed)?;
-    let form = form_of(alloc, &[case.elements], data_type)?;
+) -> Result<(), CodecError> {
+    let chunk = Chunk {
+        sizes: &[case.elements],
+        bits: case.bits,
+        components: 1,
+        signed: case.signed,
+        fill: head(ZEROS, bytes_for(case.bits)),
+    };
+    let form = chunk_form(alloc, &chunk)?;
     does_all(rt, alloc, &form, case, elements, value, decoded)
 }
 
 /// The codec does what the plain body does.
-fn is_alike(rt: &impl Abort, alloc: Global, case: &Case) -> Result<(), Fail> {
+fn is_alike(rt: &impl Abort, alloc: Global, case: &Case) -> Result<(), CodecError> {
     let mut elements = [0u8; ROOM];
     fill_by_formula(seed_of(case), &mut elements);
     let mut value = [0u8; ROOM];
@@ -326,7 +362,13 @@ fn elements_for(bits: u64) -> u64 {
     }
 }
 
-fn are_alike(rt: &impl Abort, alloc: Global, bits: u64, first: u64, last: u64) -> Result<(), Fail> {
+fn are_alike(
+    rt: &impl Abort,
+    alloc: Global,
+    bits: u64,
+    first: u64,
+    last: u64,
+) -> Result<(), CodecError> {
     for turn in 0..6 {
         let case = Case {
             elements: elements_for(bits),
@@ -347,7 +389,7 @@ fn are_alike(rt: &impl Abort, alloc: Global, bits: u64, first: u64, last: u64) -
 }
 
 /// All bits that can be kept of such a component.
-fn are_alike_at(rt: &impl Abort, alloc: Global, bits: u64) -> Result<(), Fail> {
+fn are_alike_at(rt: &impl Abort, alloc: Global, bits: u64) -> Result<(), CodecError> {
     for first in 0..bits {
         for last in first..bits {
             are_alike(rt, alloc, bits, first, last)?;
@@ -357,7 +399,7 @@ fn are_alike_at(rt: &impl Abort, alloc: Global, bits: u64) -> Result<(), Fail> {
 }
 
 #[test]
-fn are_moved_as_one_at_a_time(rt: HostRuntime) -> Result<(), Fail> {
+fn are_moved_as_one_at_a_time(rt: HostRuntime) -> Result<(), CodecError> {
     for bits in 1..WIDEST + 1 {
         are_alike_at(&rt, rt.alloc(), bits)?;
     }

@@ -2,16 +2,18 @@
 //! to four axes whose sizes are 1 to 3, and for all orders of some longer axes, of elements of 1, 2, 3,
 //! 4, 8 and 16 bytes and of texts.
 
-use crate::checks::{ChunkForm, are, fill_by_formula, form_of, has_bytes, head, part};
+use crate::calls::bytes_of;
+use crate::checks::is;
+use crate::forms::{Chunk, ChunkForm, Type, chunk_form, lent};
 use std::alloc::Global;
 use std::borrow::CowSlice;
+use std::fmt::Debug;
 use std::process::Abort;
 use std::test::Fail;
 use zarrs_array_bytes::{ArrayBytes, ArrayBytesOffsets};
 use zarrs_array_to_array::TransposeCodec;
 use zarrs_chunk::CodecError;
 use zarrs_codec::ArrayToArrayCodecTraits;
-use zarrs_data_type::DataType;
 use zarrs_metadata::TransposeOrder;
 
 /// Room for the bytes of a chunk.
@@ -19,6 +21,9 @@ const ROOM: usize = 19200;
 
 /// Room for where each text of a chunk starts, and where the last one ends.
 const PLACES: usize = 1201;
+
+/// As many bytes as the longest element has, for a fill value.
+const ZEROS: &'static [u8] = &[0; 16];
 
 /// All orders of up to four axes.
 const ORDERS: &'static [&'static [usize]] = &[
@@ -96,6 +101,40 @@ const LONG: &'static [&'static [u64]] = &[
 
 /// How many bytes an element has, where all have as many.
 const ELEMENTS: &'static [u64] = &[1, 2, 3, 4, 8, 16];
+
+/// The items that came are those of the plain body: if not, the case is shown.
+fn are<C: Copy + PartialEq + Debug, T: PartialEq>(
+    rt: &impl Abort,
+    about: &str,
+    case: &C,
+    came: &[T],
+    wanted: &[T],
+) {
+    if came != wanted {
+        is(rt, about, &Some(*case), &None);
+    }
+}
+
+/// The first so many items.
+fn head<T>(items: &[T], len: u64) -> &[T] {
+    items.get(..len as usize).unwrap_or(&[])
+}
+
+/// The items from one place up to another.
+fn part<T>(items: &[T], start: u64, end: u64) -> &[T] {
+    items.get(start as usize..end as usize).unwrap_or(&[])
+}
+
+/// Some bytes, by a formula.
+fn fill_by_formula(seed: u64, bytes: &mut [u8]) {
+    let mut state = seed;
+    for byte in bytes.iter_mut() {
+        state = state
+            .wrapping_mul(6364136223846793005)
+            .wrapping_add(1442695040888963407);
+        *byte = (state / 1099511627776 % 256) as u8;
+    }
+}
 
 /// The sizes of a chunk, the order of its axes, and the bytes of an element, which are none for texts.
 #[derive(Drop)]
@@ -236,10 +275,6 @@ fn decoded<'a>(
     codec.decode(alloc, chunk, &form.shape, &form.data_type, &form.fill_value)
 }
 
-fn lent(bytes: &[u8]) -> ArrayBytes<'_> {
-    ArrayBytes::new_flen(CowSlice::Borrowed(bytes))
-}
-
 fn lent_texts(alloc: Global, texts: &Texts) -> Result<ArrayBytes<'_>, CodecError> {
     let offsets = ArrayBytesOffsets::new(texts.offsets().to_vec(alloc)?)?;
     ArrayBytes::new_vlen(CowSlice::Borrowed(texts.bytes()), offsets)
@@ -273,6 +308,30 @@ fn has_texts(
     }
 }
 
+/// The bytes that came, if they came, are these.
+fn are_bytes(
+    rt: &impl Abort,
+    about: &str,
+    case: &Case<'_>,
+    came: Result<&[u8], CodecError>,
+    wanted: &[u8],
+) -> Result<(), CodecError> {
+    let shown = (case.sizes, case.order, case.element);
+    are(rt, about, &shown, came?, wanted);
+    Ok(())
+}
+
+/// The container that came, if it came, has these bytes.
+fn has_bytes(
+    rt: &impl Abort,
+    about: &str,
+    case: &Case<'_>,
+    came: Result<ArrayBytes<'_>, CodecError>,
+    wanted: &[u8],
+) -> Result<(), CodecError> {
+    are_bytes(rt, about, case, bytes_of(&came), wanted)
+}
+
 fn move_bytes(
     rt: &impl Abort,
     alloc: Global,
@@ -282,11 +341,10 @@ fn move_bytes(
     elements: &[u8],
     moved: &[u8],
 ) -> Result<(), CodecError> {
-    let shown = (case.sizes, case.order, case.element);
     let came = encoded(alloc, codec, form, lent(elements));
-    has_bytes(rt, "encoded", &shown, came, moved)?;
+    has_bytes(rt, "encoded", case, came, moved)?;
     let came = decoded(alloc, codec, form, lent(moved));
-    has_bytes(rt, "decoded", &shown, came, elements)
+    has_bytes(rt, "decoded", case, came, elements)
 }
 
 fn moves_bytes(
@@ -297,8 +355,12 @@ fn moves_bytes(
     elements: &[u8],
     moved: &[u8],
 ) -> Result<(), CodecError> {
-    let data_type = DataType::components(case.element.wrapping_mul(8), 1, false)?;
-    let form = form_of(alloc, case.sizes, data_type)?;
+    let chunk = Chunk {
+        sizes: case.sizes,
+        data_type: Type::Bytes(case.element),
+        fill: head(ZEROS, case.element),
+    };
+    let form = chunk_form(alloc, &chunk)?;
     move_bytes(rt, alloc, codec, &form, case, elements, moved)
 }
 
@@ -325,7 +387,12 @@ fn moves_texts(
     texts: &Texts,
     moved: &Texts,
 ) -> Result<(), CodecError> {
-    let form = form_of(alloc, case.sizes, DataType::string())?;
+    let chunk = Chunk {
+        sizes: case.sizes,
+        data_type: Type::Text,
+        fill: &[],
+    };
+    let form = chunk_form(alloc, &chunk)?;
     move_texts(rt, alloc, codec, &form, case, texts, moved)
 }
 
