@@ -60,18 +60,18 @@ run_end_fits offsets h start size first count limit l there fits some =
     let test : (nat_le (slice_index offsets (first + count)) (slice_index offsets first) || nat_le (slice_index offsets (first + count)) size) ≡ true = sym (run_there offsets h size first count l) ∙ there in
     grind (arith, nat_tests)
 
--- the two tests of a run
-pub none_there : (offsets : List ℕ) → is_offsets offsets ≡ true → (size first count : ℕ) → first + count < length offsets → slice_index offsets (first + count) ≤ slice_index offsets first
-    → nat_le (slice_index offsets (first + count)) (slice_index offsets first) ≡ list_all (is_there offsets size) (range_with_len first count)
-none_there offsets h size first count l le =
-    let e : nat_le (slice_index offsets (first + count)) (slice_index offsets first) ≡ (nat_le (slice_index offsets (first + count)) (slice_index offsets first) || nat_le (slice_index offsets (first + count)) size) = grind (arith, nat_tests) in
-    e ∙ sym (run_there offsets h size first count l)
+-- the two tests of a run, by where it begins and ends
+pub none_there : (offsets : List ℕ) → is_offsets offsets ≡ true → (size first count from to : ℕ) → first + count < length offsets → from ≡ slice_index offsets first → to ≡ slice_index offsets (first + count) → to ≤ from
+    → nat_le to from ≡ list_all (is_there offsets size) (range_with_len first count)
+none_there offsets h size first count from to l begins ends le =
+    let e : nat_le to from ≡ (nat_le to from || nat_le to size) = grind (arith, nat_tests) in
+    e ∙ ap₂ (λ (a b : ℕ). nat_le b a || nat_le b size) begins ends ∙ sym (run_there offsets h size first count l)
 
-pub some_there : (offsets : List ℕ) → is_offsets offsets ≡ true → (size first count : ℕ) → first + count < length offsets → slice_index offsets first < slice_index offsets (first + count)
-    → nat_le (slice_index offsets (first + count)) size ≡ list_all (is_there offsets size) (range_with_len first count)
-some_there offsets h size first count l lt =
-    let e : nat_le (slice_index offsets (first + count)) size ≡ (nat_le (slice_index offsets (first + count)) (slice_index offsets first) || nat_le (slice_index offsets (first + count)) size) = grind (arith, nat_tests) in
-    e ∙ sym (run_there offsets h size first count l)
+pub some_there : (offsets : List ℕ) → is_offsets offsets ≡ true → (size first count from to : ℕ) → first + count < length offsets → from ≡ slice_index offsets first → to ≡ slice_index offsets (first + count) → from < to
+    → nat_le to size ≡ list_all (is_there offsets size) (range_with_len first count)
+some_there offsets h size first count from to l begins ends lt =
+    let e : nat_le to size ≡ (nat_le to from || nat_le to size) = grind (arith, nat_tests) in
+    e ∙ ap₂ (λ (a b : ℕ). nat_le b a || nat_le b size) begins ends ∙ sym (run_there offsets h size first count l)
 
 -- those of runs, run by run
 pub runs_there : (test : ℕ → Bool) (runs : List (ℕ × ℕ)) → list_all (λ run. list_all test (range_with_len run.0 run.1)) runs ≡ list_all test (joined_runs runs)
@@ -223,18 +223,20 @@ blank_run offsets h first (suc count) l =
 -- ---- a run's range
 
 -- a range of the bytes of a run that has some
-pub run_planned : (start : ℕ) (offsets : List ℕ) (first count : ℕ) (old new : List ℕ) → is_offsets offsets ≡ true → first + count < length offsets
-    → new ≡ old ++ range_with_len (start + slice_index offsets first) (start + slice_index offsets (first + count) - (start + slice_index offsets first))
+pub run_planned : (start : ℕ) (offsets : List ℕ) (first count from to : ℕ) (old new : List ℕ) → is_offsets offsets ≡ true → first + count < length offsets → from ≡ slice_index offsets first → to ≡ slice_index offsets (first + count)
+    → new ≡ old ++ range_with_len (start + from) (start + to - (start + from))
     → new ≡ old ++ element_numbers start offsets (range_with_len first count)
-run_planned start offsets first count old new h l e =
-    let some : start + slice_index offsets (first + count) - (start + slice_index offsets first) ≡ slice_index offsets (first + count) - slice_index offsets first = omega arith in
-    e ∙ ap (λ (n : ℕ). old ++ range_with_len (start + slice_index offsets first) n) some ∙ ap (λ (l : List ℕ). old ++ l) (sym (numbers_of_run start offsets h first count l))
+run_planned start offsets first count from to old new h l begins ends e =
+    let some : start + to - (start + from) ≡ to - from = omega arith in
+    e ∙ ap (λ (n : ℕ). old ++ range_with_len (start + from) n) some
+    ∙ ap₂ (λ (a b : ℕ). old ++ range_with_len (start + a) (b - a)) begins ends
+    ∙ ap (λ (l : List ℕ). old ++ l) (sym (numbers_of_run start offsets h first count l))
 
 -- and none, where it has none
-pub run_unplanned : (start : ℕ) (offsets : List ℕ) (first count : ℕ) (old : List ℕ) → is_offsets offsets ≡ true → first + count < length offsets
-    → slice_index offsets (first + count) ≤ slice_index offsets first → old ≡ old ++ element_numbers start offsets (range_with_len first count)
-run_unplanned start offsets first count old h l e =
-    let none : 0 ≡ slice_index offsets (first + count) - slice_index offsets first = omega arith in
+pub run_unplanned : (start : ℕ) (offsets : List ℕ) (first count from to : ℕ) (old : List ℕ) → is_offsets offsets ≡ true → first + count < length offsets → from ≡ slice_index offsets first → to ≡ slice_index offsets (first + count)
+    → to ≤ from → old ≡ old ++ element_numbers start offsets (range_with_len first count)
+run_unplanned start offsets first count from to old h l begins ends le =
+    let none : 0 ≡ slice_index offsets (first + count) - slice_index offsets first = omega (arith, begins, ends) in
     sym (append-nil old) ∙ ap (λ (n : ℕ). old ++ range_with_len (start + slice_index offsets first) n) none ∙ ap (λ (l : List ℕ). old ++ l) (sym (numbers_of_run start offsets h first count l))
 
 -- the runs so far, and one more

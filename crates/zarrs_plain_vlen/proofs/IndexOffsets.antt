@@ -157,25 +157,18 @@ offsets_long form count part offsets e =
 
 -- ---- what a call answers
 
-offsets_at : (form : PlainForm) (count : ℕ) (part : List ℕ) (held : Held) (r : Result Raw CodecError) (bytes numbers : List ℕ) → 0 < count
-    → IsOkAnd (bytes_chunk (Some form.order) (index_form form.wide count) part) (Holds (offset_type form.wide) held) → fixed_part held ≡ r → ok bytes ≡ seen (λ raw. raw.items) r → numbers ≡ read_offsets form.wide bytes
-    → offsets_of_index form count part ≡ offsets_of numbers
-offsets_at form count part held (Ok raw) bytes numbers some h is same read =
-    offsets_found form count part held raw numbers some h is (read ∙ ap (read_offsets form.wide) (ok_is bytes raw.items same))
-offsets_at form count part held (Err e) bytes numbers some h is same read = absurd cc
-
 answers_same : (r expected : Result (List ℕ) CodecError) → r ≡ expected → Answers memory (λ (x : List ℕ). x) r expected
 answers_same (Ok x) expected e = sym e
 answers_same (Err error) expected e = λ _. sym e
 
--- the offsets that are made of a container's bytes are those of the index
-pub offsets_answered : (r : Result (List ℕ) CodecError) (form : PlainForm) (count : ℕ) (part : List ℕ) (held : Held) (bytes numbers : List ℕ) → 0 < count
+-- the offsets that a container's bytes spell are those of the index
+pub offsets_answered : (r : Result (List ℕ) CodecError) (form : PlainForm) (count : ℕ) (part : List ℕ) (held : Held) (raw : Raw) → 0 < count
     → IsOkAnd (bytes_chunk (Some form.order) (index_form form.wide count) part) (Holds (offset_type form.wide) held)
-    → ok bytes ≡ seen (λ raw. raw.items) (fixed_part held) → ok (read_offsets form.wide bytes) ≡ ok numbers → r ≡ offsets_of numbers
+    → ok raw ≡ fixed_part held → r ≡ offsets_of (read_offsets form.wide raw.items)
     → Answers memory (λ (x : List ℕ). x) r (offsets_of_index form count part)
-offsets_answered r form count part held bytes numbers some h same read is =
+offsets_answered r form count part held raw some h same is =
     answers_same r (offsets_of_index form count part)
-    (is ∙ sym (offsets_at form count part held (fixed_part held) bytes numbers some h refl same (sym (ok_is (read_offsets form.wide bytes) numbers read))))
+    (is ∙ sym (offsets_found form count part held raw (read_offsets form.wide raw.items) some h (sym same) refl))
 
 -- ---- an index where it stands in a value
 

@@ -8,13 +8,14 @@ ghost use Rattle.zarrs_array_bytes.specs.Held.{vlen, owned_bytes};
 ghost use Rattle.zarrs_array_bytes.specs.Offsets.{is_offsets, last_of};
 ghost use Rattle.zarrs_array_bytes.specs.Validity.{Holds};
 ghost use Rattle.zarrs_codec.specs.StorageState.{after_reading};
-ghost use Rattle.zarrs_plain_vlen.specs.Elements.{AddsEnds, AddsMoved, AddsNumbers, AddsRun, EndsBelow64Bits, PlansRuns, ReadsContent, data_numbers, joined_offsets, joined_size, run_size, stored_elements};
+ghost use Rattle.zarrs_plain_vlen.specs.Elements.{AddsEnds, AddsNumbers, AddsRun, EndsBelow64Bits, PlansRuns, ReadsContent, data_numbers, joined_offsets, joined_size, run_size, stored_elements};
 ghost use Rattle.zarrs_plain_vlen.specs.StoredBytes.{SureAt, stored_bytes};
 ghost use Rattle.zarrs_plain_vlen.specs.VlenLayout.{span_numbers};
 ghost use Rattle.zarrs_plain_vlen.specs.VlenRead.{is_there};
 
 use crate::handle_reads::read_inside;
 use crate::layout::range_of;
+use crate::offsets::Offsets;
 use std::alloc::{AllocError, Global};
 use std::borrow::CowSlice;
 use zarrs_array_bytes::{ArrayBytes, ArrayBytesOffsets};
@@ -23,22 +24,22 @@ use zarrs_codec::{ByteRange, BytesPartialDecoderTraits};
 use zarrs_data_type::DataType;
 
 /// Whether each of the `count` elements from `first` on is empty, or ends within `size` bytes.
-fn run_is_there(offsets: &[usize], size: u64, first: usize, count: usize) -> bool
+fn run_is_there(offsets: &Offsets, size: u64, first: usize, count: usize) -> bool
     requires rising { is_offsets offsets.now ≡ true }
     requires known { first + count < length offsets.now }
     ensures value { result ≡ list_all (is_there offsets.now size) (range_with_len first count) }
 {
-    let from = offsets[first];
-    let to = offsets[first + count];
+    let from = offsets.at(first);
+    let to = offsets.at(first + count);
     to <= from || to as u64 <= size
 }
 
 /// Whether each of the elements at the runs is empty, or ends within `size` bytes.
-fn are_there(offsets: &[usize], size: u64, runs: &[(u64, u64)]) -> bool
+fn are_there(offsets: &Offsets, size: u64, runs: &[(u64, u64)]) -> bool
     requires rising { is_offsets offsets.now ≡ true }
     requires known { All (λ run. run.0 + run.1 < length offsets.now) runs.now }
-    ensures value { result ≡
-        list_all (λ run. list_all (is_there offsets.now size) (range_with_len run.0 run.1)) runs.now }
+    ensures value { result ≡ list_all
+        (λ run. list_all (is_there offsets.now size) (range_with_len run.0 run.1)) runs.now }
 {
     for (first, count) in runs {
         if !run_is_there(offsets, size, *first as usize, *count as usize) {
@@ -73,7 +74,7 @@ fn push_joined(ranges: &mut Vec<ByteRange>, range: ByteRange) -> Result<(), Allo
 /// `start`; none, where they are all empty.
 fn plan_run(
     ranges: &mut Vec<ByteRange>,
-    offsets: &[usize],
+    offsets: &Offsets,
     start: u64,
     first: usize,
     count: usize,
@@ -85,8 +86,8 @@ fn plan_run(
     ensures numbers { OnOk result (AddsRun start offsets.now first count ranges.old ranges.new) }
     ensures filled { OnOk result (All (λ range. range.start < range.end) ranges.new.items) }
 {
-    let from = offsets[first];
-    let to = offsets[first + count];
+    let from = offsets.at(first);
+    let to = offsets.at(first + count);
     if from >= to {
         return Ok(());
     }
@@ -97,7 +98,7 @@ fn plan_run(
 /// Neighbours are joined, and none is empty.
 fn plan_runs(
     alloc: Global,
-    offsets: &[usize],
+    offsets: &Offsets,
     start: u64,
     size: u64,
     runs: &[(u64, u64)],
@@ -122,24 +123,10 @@ fn plan_runs(
     Ok(ranges)
 }
 
-/// Appends the offsets, counted from `start` where they were counted from `from`.
-fn append_moved(
-    out: &mut Vec<usize>,
-    offsets: &[usize],
-    from: usize,
-    start: usize,
-) -> Result<(), AllocError>
-    requires behind { All (λ offset. from ≤ offset) offsets.now }
-    requires fits { All (λ offset. offset - from + start < 2 ^ 64) offsets.now }
-    ensures appended { OnOk result (AddsMoved from start offsets.now out.old out.new) }
-{
-    out.extend(offsets.iter().map(|offset| *offset - from + start))
-}
-
 /// Appends where each of the `count` elements from `first` on ends, behind `start` bytes.
 fn append_ends(
     ends: &mut Vec<usize>,
-    offsets: &[usize],
+    offsets: &Offsets,
     start: usize,
     first: usize,
     count: usize,
@@ -149,13 +136,13 @@ fn append_ends(
     requires fits { start + run_size offsets.now first count < 2 ^ 64 }
     ensures ends { OnOk result (AddsEnds start offsets.now first count ends.old ends.new) }
 {
-    let from = offsets[first];
-    append_moved(ends, &offsets[first + 1..first + count + 1], from, start)
+    let from = offsets.at(first);
+    offsets.append_moved(ends, first + 1, first + count + 1, from, start)
 }
 
 /// How many places the runs have, or `u64::MAX` where they have more.
 fn count_places(runs: &[(u64, u64)]) -> u64
-    ensures { result ≡ min (length (joined_runs runs.now)) (2 ^ 64 - 1) }
+    ensures value { result ≡ min (length (joined_runs runs.now)) (2 ^ 64 - 1) }
 {
     let mut count: u64 = 0;
     for (_, len) in runs {
@@ -167,7 +154,7 @@ fn count_places(runs: &[(u64, u64)]) -> u64
 /// The offsets of the elements at the runs, one behind another.
 fn ends_of_runs(
     alloc: Global,
-    offsets: &[usize],
+    offsets: &Offsets,
     runs: &[(u64, u64)],
 ) -> Result<Vec<usize>, AllocError>
     requires rising { is_offsets offsets.now ≡ true }
@@ -184,7 +171,8 @@ fn ends_of_runs(
         let first = *first as usize;
         let count = *count as usize;
         append_ends(&mut ends, offsets, start, first, count)?;
-        start += offsets[first + count] - offsets[first];
+        let from = offsets.at(first);
+        start += offsets.at(first + count) - from;
     }
     Ok(ends)
 }
@@ -193,7 +181,7 @@ fn ends_of_runs(
 fn read_bytes<H: BytesPartialDecoderTraits>(
     alloc: Global,
     handle: &mut H,
-    offsets: &[usize],
+    offsets: &Offsets,
     content: ByteRange,
     runs: &[(u64, u64)],
 ) -> Result<Vec<u8>, CodecError>
@@ -230,7 +218,7 @@ fn variable(bytes: Vec<u8>, offsets: Vec<usize>) -> Result<ArrayBytes<'static>, 
 pub(crate) fn read_elements<H: BytesPartialDecoderTraits>(
     alloc: Global,
     handle: &mut H,
-    offsets: &[usize],
+    offsets: &Offsets,
     content: ByteRange,
     data_type: &DataType,
     runs: &[(u64, u64)],

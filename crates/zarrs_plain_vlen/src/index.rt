@@ -10,12 +10,13 @@ ghost use Rattle.zarrs_plain_vlen.specs.StoredBytes.{SureAt, stored_bytes};
 ghost use Rattle.zarrs_plain_vlen.specs.VlenLayout.{span_numbers};
 
 use crate::handle_reads::read_range;
+use crate::offsets::Offsets;
 use std::alloc::Global;
 use std::borrow::CowSlice;
-use zarrs_array_bytes::{ArrayBytes, ArrayBytesOffsets};
+use zarrs_array_bytes::ArrayBytes;
 use zarrs_bytes::BytesCodec;
 use zarrs_chain_parts::plain_vlen::PlainVlen;
-use zarrs_chain_parts::vlen_offsets::{offset_fill, offset_numbers, offset_type};
+use zarrs_chain_parts::vlen_offsets::{offset_fill, offset_type};
 use zarrs_chunk::{ChunkShape, CodecError};
 use zarrs_codec::{ByteRange, BytesPartialDecoderTraits};
 use zarrs_metadata::VlenIndexDataType;
@@ -92,14 +93,13 @@ fn decode_index(
     codec: PlainVlen,
     count: u64,
     index: Vec<u8>,
-) -> Result<ArrayBytesOffsets, CodecError>
+) -> Result<Offsets, CodecError>
     requires some { 0 < count }
     ensures answer { GivesOffsets (plain_form codec) count index.items result }
     ensures no_fault { is_fault result ≡ false }
 {
     let rows = index_rows(alloc, codec, count, index)?;
-    let numbers = offset_numbers(alloc, rows.as_fixed()?, codec.index_data_type)?;
-    ArrayBytesOffsets::new(numbers)
+    Offsets::new(rows.into_fixed()?, codec.index_data_type)
 }
 
 /// The offsets of `count` elements, by the index that stands there in the stored value. An index of
@@ -110,7 +110,7 @@ pub(crate) fn read_index<H: BytesPartialDecoderTraits>(
     codec: PlainVlen,
     count: u64,
     index: ByteRange,
-) -> Result<ArrayBytesOffsets, CodecError>
+) -> Result<Offsets, CodecError>
     requires stored { is_some (H.state handle.old).value ≡ true }
     requires inside { index.end ≤ length (stored_bytes (H.state handle.old)) }
     ensures answer { ReadsOffsets (plain_form codec) count index (H.state handle.old) result }

@@ -13,6 +13,7 @@ mod handle_reads;
 mod index;
 pub mod laws;
 mod layout;
+mod offsets;
 mod runs;
 
 pub use runs::read_runs;

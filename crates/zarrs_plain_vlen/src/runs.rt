@@ -37,14 +37,7 @@ fn read_stored<H: BytesPartialDecoderTraits>(
 {
     let layout = read_layout(alloc, handle, size, codec.index_location)?;
     let offsets = read_index(alloc, handle, codec, count, layout.index)?;
-    read_elements(
-        alloc,
-        handle,
-        offsets.as_slice(),
-        layout.content,
-        data_type,
-        runs,
-    )
+    read_elements(alloc, handle, &offsets, layout.content, data_type, runs)
 }
 
 /// The elements at the places of these runs, each a start and a length, in their order, of a chunk

@@ -40,8 +40,7 @@ read_elements-requires-clause-known g c =
     let form = plain_form c.args.codec in
     let layout = c.in_ok-layout.layout in
     let value = value_or_empty (D.state c.read_layout.new.handle).value in
-    subst (λ (os : List ℕ). All (λ run. run.0 + run.1 < length os) c.args.runs.now) (sym c.as_slice.ensures.offsets)
-    (runs_known form c.args.count (span_bytes value layout.index) c.in_ok-offsets.offsets c.args.runs.now c.in_ok-offsets.ensures.answer c.requires.inside)
+    runs_known form c.args.count (span_bytes value layout.index) c.in_ok-offsets.offsets c.args.runs.now c.in_ok-offsets.ensures.answer c.requires.inside
 
 pub returns-clause-answer : goal.returns-clause-answer
 returns-clause-answer g c =
@@ -55,7 +54,6 @@ returns-clause-answer g c =
     let later = ap (λ (s : StorageState). value_or_empty s.value) c.in_ok-offsets.ensures.left ∙ same in
     let read : offsets_read form c.args.count (span_bytes value layout.index) ≡ Ok offsets = ap (λ (v : List ℕ). offsets_read form c.args.count (span_bytes v layout.index)) (sym same) ∙ c.in_ok-offsets.ensures.answer in
     subst (AnswersBy memory_or_fault (Holds c.args.data_type.now) c.read_elements.result)
-    (ap (λ (os : List ℕ). elements_read os (span_bytes (value_or_empty (D.state c.read_index.new.handle).value) layout.content) places) c.as_slice.ensures.offsets
-    ∙ ap (λ (v : List ℕ). elements_read offsets (span_bytes v layout.content) places) later
+    (ap (λ (v : List ℕ). elements_read offsets (span_bytes v layout.content) places) later
     ∙ sym (read_indexed form c.args.count value places (vlen_layout layout) offsets c.in_ok-layout.ensures.answer read))
     c.read_elements.ensures.answer
