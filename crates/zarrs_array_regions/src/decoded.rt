@@ -18,8 +18,8 @@ use zarrs_data_type::{DataType, FillValue};
 
 /// The shape that a region with elements has as a chunk. Refusals: `OutOfMemory`.
 pub(crate) fn region_shape(alloc: Global, region: &ArraySubset) -> Result<ChunkShape, CodecError>
-    requires { 0 < product region.now.lengths }
-    ensures { Gives (λ shape. shape) result (Ok region.now.lengths) }
+    requires filled { 0 < product region.now.lengths }
+    ensures answer { Gives (λ shape. shape) result (Ok region.now.lengths) }
 {
     let lengths = Vec::from_slice(alloc, region.shape())?;
     Ok(ChunkShape::new(lengths).unwrap())
@@ -39,7 +39,7 @@ fn decoded_part<'a>(
     requires counted { product region.now.lengths < 2 ^ 64 }
     requires takes { type_taken (mapping_of codec.now) data_type.now ≡ Ok tt }
     requires valid { validity data_type.now (product region.now.lengths) held ≡ Ok tt }
-    ensures { DecodesPart (mapping_of codec.now) data_type.now region.now held.entry result }
+    ensures decoded { DecodesPart (mapping_of codec.now) data_type.now region.now held.entry result }
 {
     match codec {
         ArrayToArrayCodec::Transpose(codec) => {

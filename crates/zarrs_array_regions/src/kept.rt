@@ -10,7 +10,7 @@ use zarrs_chunk::{ArraySubset, ChunkShape, Indexer};
 
 /// Whether the codec leaves each place where it is.
 fn keeps_places(codec: &ArrayToArrayCodec) -> bool
-    ensures { result ≡ keeps_places_of (mapping_of codec.now) }
+    ensures value { result ≡ keeps_places_of (mapping_of codec.now) }
 {
     match codec {
         ArrayToArrayCodec::Transpose(_) => false,
@@ -20,7 +20,7 @@ fn keeps_places(codec: &ArrayToArrayCodec) -> bool
 
 /// Whether each of the codecs does.
 fn keep_places(codecs: &[ArrayToArrayCodec]) -> bool
-    ensures { result ≡ list_all keeps_places_of (map mapping_of codecs.now) }
+    ensures value { result ≡ list_all keeps_places_of (map mapping_of codecs.now) }
 {
     match codecs {
         [] => true,
@@ -30,7 +30,7 @@ fn keep_places(codecs: &[ArrayToArrayCodec]) -> bool
 
 /// Whether the codecs take every region to a region: no transposition stands behind a reshape.
 fn keeps_regions(codecs: &[ArrayToArrayCodec]) -> bool
-    ensures { result ≡ keeps_regions_of (map mapping_of codecs.now) }
+    ensures value { result ≡ keeps_regions_of (map mapping_of codecs.now) }
 {
     match codecs {
         [] => true,
@@ -43,7 +43,7 @@ fn keeps_regions(codecs: &[ArrayToArrayCodec]) -> bool
 
 /// Whether no length of the box is zero.
 fn is_filled(region: &ArraySubset) -> bool
-    ensures { result ≡ is_filled_of region.now }
+    ensures value { result ≡ is_filled_of region.now }
 {
     !region.shape().contains(&0)
 }

@@ -23,7 +23,7 @@ fn permuted_subset(
 ) -> Result<ArraySubset, CodecError>
     requires order { is_order order.now ≡ true }
     requires axes { length order.now ≡ length subset.now.starts }
-    ensures { Gives (λ subset. subset) result (Ok (permuted_region order.now subset.now)) }
+    ensures answer { Gives (λ subset. subset) result (Ok (permuted_region order.now subset.now)) }
 {
     let lengths = subset.shape();
     let starts = permuted(alloc, order, subset.start())?;
@@ -40,7 +40,7 @@ fn transposed_window(
 ) -> Result<Window, CodecError>
     requires taken { is_ok (coordinates (transpose codec.now) shape.now) ≡ true }
     requires inside { is_box_inside shape.now region.now.starts region.now.lengths ≡ true }
-    ensures { GivesThisWindow (transpose codec.now) (window_of shape.now region.now) result }
+    ensures answer { GivesThisWindow (transpose codec.now) (window_of shape.now region.now) result }
 {
     let sizes = codec.encoded_shape(alloc, shape)?;
     let region = permuted_subset(alloc, codec.order(), region)?;
@@ -55,7 +55,7 @@ fn squeezed_window(
     region: &ArraySubset,
 ) -> Result<Window, CodecError>
     requires inside { is_box_inside shape.now region.now.starts region.now.lengths ≡ true }
-    ensures { GivesThisWindow squeeze (window_of shape.now region.now) result }
+    ensures answer { GivesThisWindow squeeze (window_of shape.now region.now) result }
 {
     let sizes = codec.encoded_shape(alloc, shape)?;
     let region = squeezed_subset(alloc, shape.as_slice(), region)?;
@@ -72,7 +72,7 @@ pub(crate) fn next_window(
 ) -> Result<Option<Window>, CodecError>
     requires taken { is_ok (coordinates (mapping_of codec.now) shape.now) ≡ true }
     requires inside { is_box_inside shape.now region.now.starts region.now.lengths ≡ true }
-    ensures { GivesNextWindow (mapping_of codec.now) (window_of shape.now region.now) result }
+    ensures answer { GivesNextWindow (mapping_of codec.now) (window_of shape.now region.now) result }
 {
     match codec {
         ArrayToArrayCodec::Transpose(codec) => {

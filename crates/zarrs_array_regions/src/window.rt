@@ -20,7 +20,7 @@ impl Window {
 
     /// The window of a region of a chunk of this shape. Refusals: `OutOfMemory`.
     pub(crate) fn new(shape: &ChunkShape, region: &ArraySubset) -> Result<Window, CodecError>
-        ensures { Gives (λ window. window) result (Ok (window_of shape.now region.now)) }
+        ensures made { Gives (λ window. window) result (Ok (window_of shape.now region.now)) }
     {
         let sizes = shape.clone()?;
         let region = region.clone()?;

@@ -16,7 +16,7 @@ decoded_window-requires t c =
     let codecs = c.args.codecs.now in
     let first = c.first-item.result in
     let next = c.in-Some.next in
-    let s = codec_step codecs first (omega arith) c.first-item.is c.args.shape.now c.args.region.now c.requires.region c.is_sound.ensures.sound _ next ((c.in_ok-next_window-in-len1-up.ensures {u = tt}).is) c.in-Some.is in
+    let s = codec_step codecs first (omega arith) c.first-item.is c.args.shape.now c.args.region.now c.requires.region c.is_sound.ensures.sound _ next ((c.in_ok-next_window-in-len1-up.ensures {u = tt}).answer.is) c.in-Some.is in
     (omega arith, (s.takes, (codecs_take codecs first (omega arith) c.first-item.is c.args.shape.now c.args.region.now c.requires.region c.args.data_type.now c.requires.takes, (omega (arith, s.count, c.requires.filled), subst (λ n. validity c.args.data_type.now n c.args.held ≡ Ok tt) (sym s.count) c.requires.valid))))
 
 pub decoded_part-requires-in-Some-clause-axes : goal.decoded_part-requires-in-Some-clause-axes
@@ -33,7 +33,7 @@ decoded_part-requires-in-Some-clause-valid t c =
     let codecs = c.args.codecs.now in
     let first = c.first-item.result in
     let next = c.in-Some.next in
-    let s = codec_step codecs first (omega arith) c.first-item.is c.args.shape.now c.args.region.now c.requires.region c.is_sound.ensures.sound _ next ((c.in_ok-next_window-in-len1-up.ensures {u = tt}).is) c.in-Some.is in
+    let s = codec_step codecs first (omega arith) c.first-item.is c.args.shape.now c.args.region.now c.requires.region c.is_sound.ensures.sound _ next ((c.in_ok-next_window-in-len1-up.ensures {u = tt}).answer.is) c.in-Some.is in
     below_valid (map mapping_of codecs) (map mapping_of (rest_of codecs)) (mapping_of first) c.args.shape.now c.args.region.now next s c.args.data_type.now c.args.held c.in_ok-held-in-Some.held ((c.in_ok-held-in-Some.ensures {u = tt}).decoded.is)
 
 pub returns-in-empty : goal.returns-in-empty
@@ -43,12 +43,12 @@ returns-in-empty t c =
 pub returns-in-len1 : goal.returns-in-len1
 returns-in-len1 t c =
     let codecs = c.args.codecs.now in
-    record { decoded = decoded_last (map mapping_of codecs) (mapping_of c.last-item.result) c.args.shape.now c.args.region.now c.args.data_type.now c.args.held c.decoded_part.result (one_mapping codecs c.last-item.result (omega arith) c.last-item.is) c.decoded_part.ensures }
+    record { decoded = decoded_last (map mapping_of codecs) (mapping_of c.last-item.result) c.args.shape.now c.args.region.now c.args.data_type.now c.args.held c.decoded_part.result (one_mapping codecs c.last-item.result (omega arith) c.last-item.is) c.decoded_part.ensures.decoded }
 
 pub returns-in-None : goal.returns-in-None
 returns-in-None t c =
     let codecs = c.args.codecs.now in
-    let stays = codec_stays codecs c.first-item.result (omega arith) c.first-item.is c.args.shape.now c.args.region.now c.requires.region _ ((c.in_ok-next_window-in-len1-up.ensures {u = tt}).is) c.in-None.is in
+    let stays = codec_stays codecs c.first-item.result (omega arith) c.first-item.is c.args.shape.now c.args.region.now c.requires.region _ ((c.in_ok-next_window-in-len1-up.ensures {u = tt}).answer.is) c.in-None.is in
     record { decoded = record { is = decoded_stay (map mapping_of codecs) c.args.shape.now c.args.region.now c.args.data_type.now c.args.held stays c.requires.valid; no_fault = search rules } }
 
 pub returns-in_ok-held-in-Some : goal.returns-in_ok-held-in-Some
@@ -56,5 +56,5 @@ returns-in_ok-held-in-Some t c =
     let codecs = c.args.codecs.now in
     let first = c.first-item.result in
     let next = c.in-Some.next in
-    let s = codec_step codecs first (omega arith) c.first-item.is c.args.shape.now c.args.region.now c.requires.region c.is_sound.ensures.sound _ next ((c.in_ok-next_window-in-len1-up.ensures {u = tt}).is) c.in-Some.is in
-    record { decoded = decoded_here (map mapping_of codecs) (map mapping_of (rest_of codecs)) (mapping_of first) c.args.shape.now c.args.region.now next s c.args.data_type.now c.args.held c.in_ok-held-in-Some.held ((c.in_ok-held-in-Some.ensures {u = tt}).decoded.is) c.decoded_part-in-Some.result c.decoded_part-in-Some.ensures }
+    let s = codec_step codecs first (omega arith) c.first-item.is c.args.shape.now c.args.region.now c.requires.region c.is_sound.ensures.sound _ next ((c.in_ok-next_window-in-len1-up.ensures {u = tt}).answer.is) c.in-Some.is in
+    record { decoded = decoded_here (map mapping_of codecs) (map mapping_of (rest_of codecs)) (mapping_of first) c.args.shape.now c.args.region.now next s c.args.data_type.now c.args.held c.in_ok-held-in-Some.held ((c.in_ok-held-in-Some.ensures {u = tt}).decoded.is) c.decoded_part-in-Some.result c.decoded_part-in-Some.ensures.decoded }

@@ -16,12 +16,12 @@ returns-in-empty-clause-map t c = map_stays (map mapping_of c.args.codecs.now) c
 pub returns-in-None-clause-encoded : goal.returns-in-None-clause-encoded
 returns-in-None-clause-encoded t c =
     let codecs = c.args.codecs.now in
-    record { is = encoded_stay (map mapping_of codecs) c.args.window.sizes c.args.window.region c.args.data_type.now c.args.window c.args.held (codec_stays codecs c.first-item.result (omega arith) c.first-item.is c.args.window.sizes c.args.window.region c.requires.region _ ((c.in_ok-next_window-in-len1-up.ensures {u = tt}).is) c.in-None.is) refl c.requires.valid; no_fault = search rules }
+    record { is = encoded_stay (map mapping_of codecs) c.args.window.sizes c.args.window.region c.args.data_type.now c.args.window c.args.held (codec_stays codecs c.first-item.result (omega arith) c.first-item.is c.args.window.sizes c.args.window.region c.requires.region _ ((c.in_ok-next_window-in-len1-up.ensures {u = tt}).answer.is) c.in-None.is) refl c.requires.valid; no_fault = search rules }
 
 pub returns-in-None-clause-map : goal.returns-in-None-clause-map
 returns-in-None-clause-map t c =
     let codecs = c.args.codecs.now in
-    map_stays (map mapping_of codecs) c.args.window.sizes c.args.window.region (codec_stays codecs c.first-item.result (omega arith) c.first-item.is c.args.window.sizes c.args.window.region c.requires.region _ ((c.in_ok-next_window-in-len1-up.ensures {u = tt}).is) c.in-None.is)
+    map_stays (map mapping_of codecs) c.args.window.sizes c.args.window.region (codec_stays codecs c.first-item.result (omega arith) c.first-item.is c.args.window.sizes c.args.window.region c.requires.region _ ((c.in_ok-next_window-in-len1-up.ensures {u = tt}).answer.is) c.in-None.is)
 
 pub encoded_part-requires-clause-axes : goal.encoded_part-requires-clause-axes
 encoded_part-requires-clause-axes t c = codec_fits c.args.codecs.now c.first-item.result (omega arith) c.first-item.is c.args.window.sizes c.args.window.region c.requires.region
@@ -37,23 +37,23 @@ encoded_through-requires t c =
     let codecs = c.args.codecs.now in
     let first = c.first-item.result in
     let next = c.in-Some.next in
-    let s = codec_step codecs first (omega arith) c.first-item.is c.args.window.sizes c.args.window.region c.requires.region c.is_sound.ensures.sound _ next ((c.in_ok-next_window-in-len1-up.ensures {u = tt}).is) c.in-Some.is in
-    (omega arith, (s.takes, (codecs_take codecs first (omega arith) c.first-item.is c.args.window.sizes c.args.window.region c.requires.region c.args.data_type.now c.requires.takes, (omega (arith, s.count, c.requires.filled), above_valid (map mapping_of codecs) (map mapping_of (rest_of codecs)) (mapping_of first) c.args.window.sizes c.args.window.region next s c.args.data_type.now c.args.held c.in_ok-held-in-Some.held ((c.in_ok-held-in-Some.ensures {u = tt}).is)))))
+    let s = codec_step codecs first (omega arith) c.first-item.is c.args.window.sizes c.args.window.region c.requires.region c.is_sound.ensures.sound _ next ((c.in_ok-next_window-in-len1-up.ensures {u = tt}).answer.is) c.in-Some.is in
+    (omega arith, (s.takes, (codecs_take codecs first (omega arith) c.first-item.is c.args.window.sizes c.args.window.region c.requires.region c.args.data_type.now c.requires.takes, (omega (arith, s.count, c.requires.filled), above_valid (map mapping_of codecs) (map mapping_of (rest_of codecs)) (mapping_of first) c.args.window.sizes c.args.window.region next s c.args.data_type.now c.args.held c.in_ok-held-in-Some.held ((c.in_ok-held-in-Some.ensures {u = tt}).encoded.is)))))
 
 pub returns-clause-encoded : goal.returns-clause-encoded
 returns-clause-encoded t c =
     let codecs = c.args.codecs.now in
     let first = c.first-item.result in
     let next = c.in-Some.next in
-    let s = codec_step codecs first (omega arith) c.first-item.is c.args.window.sizes c.args.window.region c.requires.region c.is_sound.ensures.sound _ next ((c.in_ok-next_window-in-len1-up.ensures {u = tt}).is) c.in-Some.is in
-    encoded_here (map mapping_of codecs) (map mapping_of (rest_of codecs)) (mapping_of first) c.args.window.sizes c.args.window.region next s c.args.data_type.now c.args.held c.in_ok-held-in-Some.held ((c.in_ok-held-in-Some.ensures {u = tt}).is) c.encoded_through.result c.encoded_through.ensures.encoded c.encoded_through.ensures.map
+    let s = codec_step codecs first (omega arith) c.first-item.is c.args.window.sizes c.args.window.region c.requires.region c.is_sound.ensures.sound _ next ((c.in_ok-next_window-in-len1-up.ensures {u = tt}).answer.is) c.in-Some.is in
+    encoded_here (map mapping_of codecs) (map mapping_of (rest_of codecs)) (mapping_of first) c.args.window.sizes c.args.window.region next s c.args.data_type.now c.args.held c.in_ok-held-in-Some.held ((c.in_ok-held-in-Some.ensures {u = tt}).encoded.is) c.encoded_through.result c.encoded_through.ensures.encoded c.encoded_through.ensures.map
 
 pub returns-clause-inside : goal.returns-clause-inside
 returns-clause-inside t c =
     let codecs = c.args.codecs.now in
     let first = c.first-item.result in
     let next = c.in-Some.next in
-    let s = codec_step codecs first (omega arith) c.first-item.is c.args.window.sizes c.args.window.region c.requires.region c.is_sound.ensures.sound _ next ((c.in_ok-next_window-in-len1-up.ensures {u = tt}).is) c.in-Some.is in
+    let s = codec_step codecs first (omega arith) c.first-item.is c.args.window.sizes c.args.window.region c.requires.region c.is_sound.ensures.sound _ next ((c.in_ok-next_window-in-len1-up.ensures {u = tt}).answer.is) c.in-Some.is in
     inside_here c.encoded_through.result (product next.sizes) (product c.args.window.sizes) s.next_is.count_is c.encoded_through.ensures.inside
 
 pub returns-clause-map : goal.returns-clause-map
@@ -61,5 +61,5 @@ returns-clause-map t c =
     let codecs = c.args.codecs.now in
     let first = c.first-item.result in
     let next = c.in-Some.next in
-    let s = codec_step codecs first (omega arith) c.first-item.is c.args.window.sizes c.args.window.region c.requires.region c.is_sound.ensures.sound _ next ((c.in_ok-next_window-in-len1-up.ensures {u = tt}).is) c.in-Some.is in
+    let s = codec_step codecs first (omega arith) c.first-item.is c.args.window.sizes c.args.window.region c.requires.region c.is_sound.ensures.sound _ next ((c.in_ok-next_window-in-len1-up.ensures {u = tt}).answer.is) c.in-Some.is in
     map_goes_on (map mapping_of codecs) (map mapping_of (rest_of codecs)) (mapping_of first) c.args.window.sizes c.args.window.region next s c.encoded_through.result c.encoded_through.ensures.map

@@ -9,5 +9,5 @@ pub returns-then-keeps_regions-clause-kept : goal.returns-then-keeps_regions-cla
 returns-then-keeps_regions-clause-kept c =
     is_kept_by (map mapping_of c.args.codecs.now) c.args.shape.now (selection_of c.args.indexer.now) c.in-Subset.region (ap selection_of c.in-Subset.is)
     (ap is_ok (sym c.check.ensures.answer) ∙ c.is_err.ensures.negation ∙ ap not c.if-is_err.false)
-    (sym c.is_filled.ensures ∙ c.if-is_filled.true)
-    (sym c.keeps_regions.ensures ∙ c.if-keeps_regions.true)
+    (sym c.is_filled.ensures.value ∙ c.if-is_filled.true)
+    (sym c.keeps_regions.ensures.value ∙ c.if-keeps_regions.true)
