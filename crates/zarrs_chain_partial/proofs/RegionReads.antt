@@ -212,11 +212,14 @@ runs_at arrays given window here runs lent e last at same =
     windows_same : (x y : Window) → ◌≡◌ {A = Result Window CodecError} (Ok x) (Ok y) → x ≡ y
     windows_same x y e = cc
 
--- a selection that is a region inside is in bounds
+-- a region inside is in bounds
+pub inside_bounds : (sizes : List ℕ) (region : Region) → is_box_inside sizes region.starts region.lengths ≡ true → (Q : CodecError → Type 0) → IfErr (bounds_of (subset region) sizes) Q
+inside_bounds sizes region inside Q = rw (bounds_from sizes region inside) tt
+
+-- and so is a selection that is such a region
 pub kept_bounds : (codecs : List ArrayMapping) (sizes : List ℕ) (selection : Selection) (region : Region) → IsKept codecs sizes selection region → (Q : CodecError → Type 0) → IfErr (bounds_of selection sizes) Q
 kept_bounds codecs sizes selection region k Q =
-    let here : IfErr (bounds_of (subset region) sizes) Q = rw (bounds_from sizes region k.inside) tt in
-    subst (λ s. IfErr (bounds_of s sizes) Q) (sym k.selection_is) here
+    subst (λ s. IfErr (bounds_of s sizes) Q) (sym k.selection_is) (inside_bounds sizes region k.inside Q)
 
 pub window_ok : (here there : Window) → here ≡ there → ◌≡◌ {A = Result Window CodecError} (Ok there) (Ok here)
 window_ok here there e = ap (λ w. let r : Result Window CodecError = Ok w in r) (sym e)

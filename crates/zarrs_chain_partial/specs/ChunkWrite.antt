@@ -159,11 +159,6 @@ abbrev pub WritesSelection : {B : Type 0} → BytesCodecs B → ChunkForm B → 
 WritesSelection f form order before after selection new result =
     Answers memory_or_fault (λ _. after.value) result (seen Some (selection_left f form order before.value selection new))
 
--- the same, in place where the chain writes in place
-abbrev pub WritesStored : {B : Type 0} → BytesCodecs B → ChunkForm B → (before after : StorageState) → Selection → Held → Result (Unit {0}) CodecError → Type 0
-WritesStored f form before after selection new result =
-    Answers memory_or_fault (λ _. after.value) result (seen Some (stored_written f form before.value selection new))
-
 -- where the selection is refused, this is what is answered, or a want of memory
 abbrev pub WriteRefusedAtSelection : {B : Type 0} → ChunkForm B → Selection → Result (Unit {0}) CodecError → Type 0
 WriteRefusedAtSelection form selection result = IfErr (bounds_of selection form.sizes) (λ cause. Answers memory (λ done. done) result (Err cause))
@@ -175,6 +170,13 @@ RefusedAtData form selection new result = IfErr (form_checked form selection new
 -- and the handle is as it was
 abbrev pub UntouchedAtData : {B : Type 0} → ChunkForm B → Selection → Held → (before after : StorageState) → Type 0
 UntouchedAtData form selection new before after = IfErr (form_checked form selection new) (λ _. after ≡ before)
+
+-- What a write of new elements at a selection gives, in place with this byte order or by the whole value: the value afterwards is the one that they leave, or the first refusal is answered; what the selection or the elements are refused for comes before the handle is asked, which is left as it was.
+pub record WritesChunk {B : Type 0} (f : BytesCodecs B) (form : ChunkForm B) (order : Option (Option Endianness)) (before after : StorageState) (selection : Selection) (new : Held) (result : Result (Unit {0}) CodecError) : Type 0 where
+  pub answer : WritesSelection f form order before after selection new result
+  pub indexer_first : WriteRefusedAtSelection form selection result
+  pub checked_first : RefusedAtData form selection new result
+  pub untouched : UntouchedAtData form selection new before after
 
 -- one new element for each place of a region is lent: they fit, and so do those that are lent, which are the same
 pub record LendsData (type : ElementType) (region : Region) (new lent : Held) : Type 0 where

@@ -4,10 +4,12 @@ ghost use Rattle.zarrs_chunk.specs.Answer.{Answers, memory, memory_or_fault, see
 ghost use Rattle.zarrs_chunk.specs.Indexer.{selection_of};
 ghost use Rattle.zarrs_chunk.specs.Selection.{bounds_of};
 ghost use Rattle.zarrs_codec.specs.ArrayWriter.{IsRefusedWrite};
+ghost use Rattle.zarrs_codec.specs.CodersOverHandles.{OnlyWrites};
+ghost use Rattle.zarrs_chain_partial.specs.PartialEncoder.{HandleWrites};
 ghost use Rattle.zarrs_codec.specs.ChunkEdits.{data_checked};
 ghost use Rattle.zarrs_codec.specs.StorageState.{after_writing, apart_from_value};
 ghost use Rattle.zarrs_chain_parts.specs.Chain.{chain_writes};
-ghost use Rattle.zarrs_chain_partial.specs.ChunkWrite.{stored_written, WritesStored, WriteRefusedAtSelection, RefusedAtData, UntouchedAtData, form_encodes_parts};
+ghost use Rattle.zarrs_chain_partial.specs.ChunkWrite.{stored_written, form_in_place, WritesChunk, WritesSelection, WriteRefusedAtSelection, RefusedAtData, UntouchedAtData, form_encodes_parts};
 
 use crate::partial_decoder::chunk_reader::ChunkReader;
 use crate::partial_encoder::place_writer::codec_in_place;
@@ -28,21 +30,10 @@ impl<'a, B: BytesToBytesCodecTraits> ChunkReader<'a, B> {
         indexer: &Indexer,
         elements: &ArrayBytes<'_>,
     ) -> Result<(), CodecError>
-        ensures answer { WritesStored B.functions (reader_form self.now) (H.state handle.old)
-            (H.state handle.new) (selection_of indexer.now) elements.now result }
-        ensures indexer_first { WriteRefusedAtSelection (reader_form self.now)
-            (selection_of indexer.now) result }
-        ensures checked_first { RefusedAtData (reader_form self.now)
+        ensures writes { WritesChunk B.functions (reader_form self.now)
+            (form_in_place (reader_form self.now)) (H.state handle.old) (H.state handle.new)
             (selection_of indexer.now) elements.now result }
-        ensures untouched { UntouchedAtData (reader_form self.now)
-            (selection_of indexer.now) elements.now (H.state handle.old) (H.state handle.new) }
-        ensures one_write { OnOk result
-            (apart_from_value (H.state handle.new) ≡ after_writing result (H.state handle.old)) }
-        ensures refused { OnErr result
-            (IsRefusedWrite result (H.state handle.old) (H.state handle.new)) }
-        ensures kept_if_atomic { OnErr result
-            (H.atomic ≡ true → (H.state handle.new).value ≡ (H.state handle.old).value) }
-        ensures same_reference { H.lent handle.new ≡ H.lent handle.old }
+        ensures left { HandleWrites H.state H.lent H.atomic handle.old handle.new result }
     {
         match codec_in_place(self.chain) {
             Some(codec) => self.write_in_place(alloc, codec, handle, indexer, elements),

@@ -8,10 +8,12 @@ ghost use Rattle.zarrs_chunk.specs.Selection.{subset as subset_of, bounds_of};
 ghost use Rattle.zarrs_chunk.specs.Tuples.{is_box_inside};
 ghost use Rattle.zarrs_array_bytes.specs.Validity.{data_fit};
 ghost use Rattle.zarrs_codec.specs.ArrayWriter.{IsRefusedWrite};
+ghost use Rattle.zarrs_codec.specs.CodersOverHandles.{OnlyWrites};
+ghost use Rattle.zarrs_chain_partial.specs.PartialEncoder.{HandleWrites};
 ghost use Rattle.zarrs_codec.specs.ChunkEdits.{data_checked};
 ghost use Rattle.zarrs_codec.specs.StorageState.{after_writing, apart_from_value};
 ghost use Rattle.zarrs_codec_chain.specs.ChainView.{plain_chain, plain_codec};
-ghost use Rattle.zarrs_chain_partial.specs.ChunkWrite.{order_in_place, selection_left, written_places, WritesSelection, WriteRefusedAtSelection, RefusedAtData, UntouchedAtData, form_written, form_checked, FitsRuns, form_in_place, LendsData, LeavesThere};
+ghost use Rattle.zarrs_chain_partial.specs.ChunkWrite.{order_in_place, selection_left, written_places, WritesChunk, WritesSelection, WriteRefusedAtSelection, RefusedAtData, UntouchedAtData, form_written, form_checked, FitsRuns, form_in_place, LendsData, LeavesThere};
 ghost use Rattle.zarrs_array_regions.specs.KeptRegions.{keeps_regions};
 
 use crate::partial_decoder::chunk_reader::ChunkReader;
@@ -155,20 +157,10 @@ impl<'a, B: BytesToBytesCodecTraits> ChunkReader<'a, B> {
         requires inside { is_box_inside self.now.shape region.now.starts region.now.lengths ≡ true }
         requires filled { 0 < product region.now.lengths }
         requires kept { keeps_regions (plain_chain self.now.chain.now).arrays ≡ true }
-        ensures answer { WritesSelection B.functions (reader_form self.now) (Some codec.now)
+        ensures writes { WritesChunk B.functions (reader_form self.now) (Some codec.now)
             (H.state handle.old) (H.state handle.new)
             (subset_of region.now) elements.now result }
-        ensures checked_first { RefusedAtData (reader_form self.now)
-            (subset_of region.now) elements.now result }
-        ensures untouched { UntouchedAtData (reader_form self.now)
-            (subset_of region.now) elements.now (H.state handle.old) (H.state handle.new) }
-        ensures one_write { OnOk result
-            (apart_from_value (H.state handle.new) ≡ after_writing result (H.state handle.old)) }
-        ensures refused { OnErr result
-            (IsRefusedWrite result (H.state handle.old) (H.state handle.new)) }
-        ensures kept_if_atomic { OnErr result
-            (H.atomic ≡ true → (H.state handle.new).value ≡ (H.state handle.old).value) }
-        ensures same_reference { H.lent handle.new ≡ H.lent handle.old }
+        ensures left { HandleWrites H.state H.lent H.atomic handle.old handle.new result }
     {
         let (runs, encoded) = self.encoded_region(alloc, codec, region, elements)?;
         codec.write_runs(
@@ -194,22 +186,10 @@ impl<'a, B: BytesToBytesCodecTraits> ChunkReader<'a, B> {
         elements: &ArrayBytes<'_>,
     ) -> Result<(), CodecError>
         requires in_place { form_in_place (reader_form self.now) ≡ Some codec.now }
-        ensures answer { WritesSelection B.functions (reader_form self.now) (Some codec.now)
+        ensures writes { WritesChunk B.functions (reader_form self.now) (Some codec.now)
             (H.state handle.old) (H.state handle.new)
             (selection_of indexer.now) elements.now result }
-        ensures indexer_first { WriteRefusedAtSelection (reader_form self.now)
-            (selection_of indexer.now) result }
-        ensures checked_first { RefusedAtData (reader_form self.now)
-            (selection_of indexer.now) elements.now result }
-        ensures untouched { UntouchedAtData (reader_form self.now)
-            (selection_of indexer.now) elements.now (H.state handle.old) (H.state handle.new) }
-        ensures one_write { OnOk result
-            (apart_from_value (H.state handle.new) ≡ after_writing result (H.state handle.old)) }
-        ensures refused { OnErr result
-            (IsRefusedWrite result (H.state handle.old) (H.state handle.new)) }
-        ensures kept_if_atomic { OnErr result
-            (H.atomic ≡ true → (H.state handle.new).value ≡ (H.state handle.old).value) }
-        ensures same_reference { H.lent handle.new ≡ H.lent handle.old }
+        ensures left { HandleWrites H.state H.lent H.atomic handle.old handle.new result }
     {
         if let Some(region) = self.kept_region(indexer) {
             return self.write_region(alloc, codec, handle, region, elements);

@@ -9,9 +9,11 @@ ghost use Rattle.zarrs_array_bytes.specs.Elements.{elements as elements_of};
 ghost use Rattle.zarrs_array_bytes.specs.Held.{items_of};
 ghost use Rattle.zarrs_array_bytes.specs.Validity.{Holds, data_fit, validity};
 ghost use Rattle.zarrs_codec.specs.ArrayWriter.{IsRefusedWrite};
+ghost use Rattle.zarrs_codec.specs.CodersOverHandles.{OnlyWrites};
+ghost use Rattle.zarrs_chain_partial.specs.PartialEncoder.{HandleWrites};
 ghost use Rattle.zarrs_codec.specs.ChunkEdits.{data_checked, data_places};
 ghost use Rattle.zarrs_codec.specs.StorageState.{after_reading, after_writing, apart_from_value};
-ghost use Rattle.zarrs_chain_partial.specs.ChunkWrite.{edited_value, selection_left, started_chunk, value_left, WritesSelection, WriteRefusedAtSelection, RefusedAtData, UntouchedAtData, IsWhole, RunsInside, FitsRuns, GivesEdited, ReadsNewValue, WritesRuns};
+ghost use Rattle.zarrs_chain_partial.specs.ChunkWrite.{edited_value, selection_left, started_chunk, value_left, WritesChunk, WritesSelection, WriteRefusedAtSelection, RefusedAtData, UntouchedAtData, IsWhole, RunsInside, FitsRuns, GivesEdited, ReadsNewValue, WritesRuns};
 
 use crate::partial_decoder::chunk_reader::ChunkReader;
 use crate::partial_decoder::fill_runs::count_places;
@@ -148,13 +150,7 @@ impl<'a, B: BytesToBytesCodecTraits> ChunkReader<'a, B> {
         requires fit { FitsRuns (reader_form self.now) runs.now elements.now }
         ensures answer { WritesRuns B.functions (reader_form self.now)
             (H.state handle.old) (H.state handle.new) runs.now elements.now result }
-        ensures one_write { OnOk result
-            (apart_from_value (H.state handle.new) ≡ after_writing result (H.state handle.old)) }
-        ensures refused { OnErr result
-            (IsRefusedWrite result (H.state handle.old) (H.state handle.new)) }
-        ensures kept_if_atomic { OnErr result
-            (H.atomic ≡ true → (H.state handle.new).value ≡ (H.state handle.old).value) }
-        ensures same_reference { H.lent handle.new ≡ H.lent handle.old }
+        ensures left { HandleWrites H.state H.lent H.atomic handle.old handle.new result }
     {
         let value = self.new_value(alloc, handle, runs, elements)?;
         handle.replace(alloc, value.as_slice())
@@ -169,22 +165,10 @@ impl<'a, B: BytesToBytesCodecTraits> ChunkReader<'a, B> {
         indexer: &Indexer,
         elements: &ArrayBytes<'_>,
     ) -> Result<(), CodecError>
-        ensures answer { WritesSelection B.functions (reader_form self.now) None
+        ensures writes { WritesChunk B.functions (reader_form self.now) None
             (H.state handle.old) (H.state handle.new)
             (selection_of indexer.now) elements.now result }
-        ensures indexer_first { WriteRefusedAtSelection (reader_form self.now)
-            (selection_of indexer.now) result }
-        ensures checked_first { RefusedAtData (reader_form self.now)
-            (selection_of indexer.now) elements.now result }
-        ensures untouched { UntouchedAtData (reader_form self.now)
-            (selection_of indexer.now) elements.now (H.state handle.old) (H.state handle.new) }
-        ensures one_write { OnOk result
-            (apart_from_value (H.state handle.new) ≡ after_writing result (H.state handle.old)) }
-        ensures refused { OnErr result
-            (IsRefusedWrite result (H.state handle.old) (H.state handle.new)) }
-        ensures kept_if_atomic { OnErr result
-            (H.atomic ≡ true → (H.state handle.new).value ≡ (H.state handle.old).value) }
-        ensures same_reference { H.lent handle.new ≡ H.lent handle.old }
+        ensures left { HandleWrites H.state H.lent H.atomic handle.old handle.new result }
     {
         let runs = checked_runs(alloc, indexer, &self.shape, &self.data_type, elements)?;
         self.replace_value(alloc, handle, runs.as_slice(), elements)

@@ -15,10 +15,10 @@ returns-clause-edits g c =
     let positive = c.is_sound.ensures.positive in
     let h = is_readable f form.chain form.sizes form.type form.fill k.encoded k.representation mappings.mappings positive k.taken in
     record {
-      found = edit_found f form k.encoded k.representation h mappings positive k.filling c.write.result (g.H.BytesPartialDecoderTraits.state d.handle).value _ selection c.args.elements.now c.write.ensures.answer;
-      only = edit_only f form k.encoded k.representation h mappings positive k.filling c.write.result (g.H.BytesPartialDecoderTraits.state d.handle).value _ selection c.args.elements.now c.write.ensures.answer;
-      exact = c.write.ensures.answer;
-      indexer_first = c.write.ensures.indexer_first;
-      checked_first = c.write.ensures.checked_first;
-      untouched = c.write.ensures.untouched;
+      found = edit_found f form k.encoded k.representation h mappings positive k.filling c.write.result (g.H.BytesPartialDecoderTraits.state d.handle).value _ selection c.args.elements.now c.write.ensures.writes.answer;
+      only = edit_only f form k.encoded k.representation h mappings positive k.filling c.write.result (g.H.BytesPartialDecoderTraits.state d.handle).value _ selection c.args.elements.now c.write.ensures.writes.answer;
+      exact = c.write.ensures.writes.answer;
+      indexer_first = c.write.ensures.writes.indexer_first;
+      checked_first = c.write.ensures.writes.checked_first;
+      untouched = c.write.ensures.writes.untouched;
     }
