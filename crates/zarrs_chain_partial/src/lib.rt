@@ -16,3 +16,25 @@ pub use partial_decoder::array_partial_decoder::ArrayPartialDecoder;
 pub use partial_decoder::vlen_partial_decoder::{VlenCodecPartialTraits, VlenPartialDecoder};
 pub use partial_encoder::array_partial_encoder::ArrayPartialEncoder;
 pub use partial_encoder::edits::{Edit, EditOutcome, run_edits};
+
+// What a user of chains needs of the crates below, by the one path of this crate.
+pub use zarrs_array_bytes::{
+    ArrayBytes, ArrayBytesDecodeIntoTarget, ArrayBytesFixedView, ArrayBytesOffsets, ArrayBytesRaw,
+    update_array_bytes,
+};
+pub use zarrs_array_to_array::{ArrayToArrayCodec, ReshapeCodec, SqueezeCodec, TransposeCodec};
+pub use zarrs_bytes::{BytesCodec, BytesCodecPartial};
+pub use zarrs_chunk::{ArrayIndices, ArraySubset, ChunkShape, Indexer};
+pub use zarrs_codec::{
+    ArrayCodecTraits, ArrayPartialDecoderTraits, ArrayPartialEncoderTraits,
+    ArrayToArrayCodecTraits, ArrayToBytesCodecTraits, ByteRange, BytesCodecMaker,
+    BytesPartialDecoderTraits, BytesPartialEncoderTraits, BytesRepresentation,
+    BytesToBytesCodecTraits, CodecError, CodecName, CodecTraits, MemoryHandle,
+    PartialDecoderCapability, PartialEncoderCapability, Refused, SampleBytesCodec, SampleMaker,
+    StorageError,
+};
+pub use zarrs_codec_chain::reencode::reencode;
+pub use zarrs_codec_chain::{ArrayToBytesCodec, CodecChain, OptionalCodec, VlenCodec};
+pub use zarrs_data_type::{DataType, Endianness, FillValue};
+pub use zarrs_metadata::{MetadataV3, PluginCreateError};
+pub use zarrs_packbits::{PackBitsCodec, PackBitsPartialDecoder};
