@@ -101,30 +101,14 @@ const LENGTHS: &'static [Length] = &[
     },
 ];
 
-/// Whether a value is made shorter, or why not.
-fn is_shorter(came: Result<Option<ArrayBytesRaw<'_>>, CodecError>) -> Result<bool, CodecError> {
-    match came {
-        Ok(shorter) => Ok(shorter.is_some()),
-        Err(cause) => Err(cause),
-    }
-}
-
 /// No value is made shorter.
-fn compacts<C: ArrayToBytesCodecTraits>(
+fn is_not_shorter(
     rt: &impl Abort,
-    alloc: Global,
-    codec: &C,
-    form: &ChunkForm,
     row: &Length,
+    came: Result<Option<ArrayBytesRaw<'_>>, CodecError>,
 ) {
-    let (shape, data_type, fill_value) = (&form.shape, &form.data_type, &form.fill_value);
-    let lent = CowSlice::Borrowed([1, 2].as_slice());
-    let came = is_shorter(codec.compact(alloc, lent, shape, data_type, fill_value));
-    let wanted = match row.bytes {
-        Ok(_) => Ok(false),
-        Err(cause) => Err(cause),
-    };
-    is(rt, row.name, &came, &wanted);
+    is(rt, row.name, &matches!(&came, Ok(None)), &row.bytes.is_ok());
+    is(rt, row.name, &came.err(), &row.bytes.err());
 }
 
 /// How many bytes the value has, that no value is made shorter, and that a chunk is best decoded whole, as
@@ -139,7 +123,12 @@ fn tells_of<C: ArrayCodecTraits + ArrayToBytesCodecTraits>(
     let (shape, data_type, fill_value) = (&form.shape, &form.data_type, &form.fill_value);
     let came = codec.encoded_representation(alloc, shape, data_type, fill_value);
     is(rt, row.name, &came, &row.bytes);
-    compacts(rt, alloc, codec, form, row);
+    let lent = CowSlice::Borrowed([1, 2].as_slice());
+    is_not_shorter(
+        rt,
+        row,
+        codec.compact(alloc, lent, shape, data_type, fill_value),
+    );
     let together = codec.partial_decode_granularity(alloc, shape)?;
     is(rt, row.name, &together, shape);
     Ok(())

@@ -10,14 +10,14 @@ use zarrs_codec::{ByteRange, BytesPartialDecoderTraits};
 const LAST: u64 = 18446744073709551615;
 
 /// Bytes, or none, or a refusal.
-pub(crate) type Value<'a> = Result<Option<&'a [u8]>, CodecError>;
+type Answer<'a> = Result<Option<&'a [u8]>, CodecError>;
 
 /// This is answered. A want of memory is an error of the test.
 pub(crate) fn answers_value(
     rt: &impl Abort,
     name: &str,
     came: Result<Option<Vec<u8>>, CodecError>,
-    wanted: Value<'_>,
+    wanted: Answer<'_>,
 ) -> Result<(), CodecError> {
     match came {
         Ok(value) => {
@@ -33,14 +33,14 @@ struct Row {
     name: &'static str,
     value: Option<&'static [u8]>,
     ranges: &'static [(u64, u64)],
-    bytes: Value<'static>,
+    bytes: Answer<'static>,
 }
 
 const TWENTY: Option<&'static [u8]> = Some(&[
     10, 11, 12, 13, 14, 15, 16, 17, 18, 19, 20, 21, 22, 23, 24, 25, 26, 27, 28, 29,
 ]);
 
-const PAST: Value<'static> = Err(CodecError::InvalidByteRange);
+const PAST: Answer<'static> = Err(CodecError::InvalidByteRange);
 
 const ROWS: &'static [Row] = &[
     // Where nothing is stored, ranges are not looked at.
@@ -86,10 +86,10 @@ const ROWS: &'static [Row] = &[
 fn tells<H: BytesPartialDecoderTraits>(rt: &impl Abort, handle: &mut H, row: &Row) {
     let size = row.value.map(|value| value.len() as u64);
     let held = row.value.unwrap_or(&[]).len();
-    let told = (handle.exists(), handle.size());
-    is(rt, row.name, &told, &(Ok(row.value.is_some()), Ok(size)));
-    let told = (handle.size_held(), handle.supports_partial_decode());
-    is(rt, row.name, &told, &(held, true));
+    is(rt, row.name, &handle.exists(), &Ok(row.value.is_some()));
+    is(rt, row.name, &handle.size(), &Ok(size));
+    is(rt, row.name, &handle.size_held(), &held);
+    is(rt, row.name, &handle.supports_partial_decode(), &true);
 }
 
 /// What a handle over the row's value answers.
@@ -102,8 +102,12 @@ fn asks<H: BytesPartialDecoderTraits>(
 ) -> Result<(), CodecError> {
     tells(rt, handle, row);
     answers_value(rt, row.name, handle.decode(alloc), Ok(row.value))?;
-    let came = handle.partial_decode_many(alloc, ranges);
-    answers_value(rt, row.name, came, row.bytes)
+    answers_value(
+        rt,
+        row.name,
+        handle.partial_decode_many(alloc, ranges),
+        row.bytes,
+    )
 }
 
 /// The handle is lent to the calls, and keeps its value.

@@ -3,8 +3,7 @@
 
 use crate::checks::{Answer, answers, is, refuses};
 use crate::forms::{
-    Asked, FOUR, FOUR_WORDS, Form, PAIR, THREE, WORDS, byte_ranges, decoder, indexer, repeated,
-    stored,
+    Asked, FOUR, FOUR_WORDS, Form, PAIR, THREE, WORDS, decoder, indexer, repeated, stored,
 };
 use Asked::{Ranges, Tuples};
 use CodecError::{IncompatibleDimensionality, OutOfBounds};
@@ -153,16 +152,11 @@ const ROWS: &'static [Row] = &[
 ];
 
 /// The ranges have these starts and ends.
-fn have_ends(
-    rt: &impl Abort,
-    name: &str,
-    alloc: Global,
-    ranges: &[ByteRange],
-    ends: &[(u64, u64)],
-) -> Result<(), CodecError> {
-    let wanted = byte_ranges(alloc, ends)?;
-    is(rt, name, &ranges, &wanted.as_slice());
-    Ok(())
+fn have_ends(rt: &impl Abort, name: &str, ranges: &[ByteRange], wanted: &[(u64, u64)]) {
+    is(rt, name, &ranges.len(), &wanted.len());
+    for (range, ends) in ranges.iter().zip(wanted) {
+        is(rt, name, &(range.start(), range.end()), ends);
+    }
 }
 
 /// These ranges are planned, or none for this cause.
@@ -176,8 +170,8 @@ pub(crate) fn plans<H: BytesPartialDecoderTraits>(
 ) -> Result<(), CodecError> {
     match planned(alloc, decoder, asked) {
         Ok(ranges) => {
-            refuses(rt, name, None, wanted.err())?;
-            have_ends(rt, name, alloc, ranges.as_slice(), wanted.unwrap_or(&[]))
+            have_ends(rt, name, ranges.as_slice(), wanted.unwrap_or(&[]));
+            refuses(rt, name, None, wanted.err())
         }
         Err(cause) => refuses(rt, name, Some(cause), wanted.err()),
     }
@@ -275,11 +269,17 @@ fn answers_all<H: BytesPartialDecoderTraits>(
     decoder: &mut BytesCodecPartial<H>,
 ) -> Result<(), CodecError> {
     is(rt, "type", decoder.data_type(), &DataType::uint16());
-    let told = (decoder.supports_partial_decode(), decoder.size_held());
-    is(rt, "in part, held", &told, &(true, 6));
+    is(rt, "in part", &decoder.supports_partial_decode(), &true);
+    is(rt, "held", &decoder.size_held(), &6);
     is(rt, "there", &decoder.exists(), &Ok(true));
-    let last: Answer<'static> = Ok(&[4, 3, 6, 5]);
-    reads_part(rt, "part", alloc, decoder, Ranges(&[1..3]), last)
+    reads_part(
+        rt,
+        "part",
+        alloc,
+        decoder,
+        Ranges(&[1..3]),
+        Ok(&[4, 3, 6, 5]),
+    )
 }
 
 /// A decoder over a handle, which may be lent, answers.

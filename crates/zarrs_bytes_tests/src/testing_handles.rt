@@ -2,12 +2,10 @@
 
 use crate::checks::{Answer, is, refuses};
 use crate::forms::{Asked, THREE, byte_ranges, decoder};
-use crate::memory_reads::{Value, answers_value};
+use crate::memory_reads::answers_value;
 use crate::parts::reads_part;
-use Asked::Ranges;
 use std::alloc::Global;
 use std::process::Abort;
-use zarrs_bytes::BytesCodecPartial;
 use zarrs_codec::testing::{FailingHandle, FencedHandle, TornHandle};
 use zarrs_codec::{
     ByteRange, BytesPartialDecoderTraits, BytesPartialEncoderTraits, CodecError, StorageError,
@@ -117,8 +115,9 @@ fn keeps(
 ) -> Result<(), CodecError> {
     is(rt, row.name, &handle.is_atomic(), &true);
     fails_at(rt, alloc, handle, row)?;
-    let left = (handle.value(), handle.faults(), handle.write_calls());
-    is(rt, row.name, &left, &(Some(row.kept), 1, row.write_calls));
+    is(rt, row.name, &handle.value(), &Some(row.kept));
+    is(rt, row.name, &handle.faults(), &1);
+    is(rt, row.name, &handle.write_calls(), &row.write_calls);
     Ok(())
 }
 
@@ -130,8 +129,9 @@ fn tears(
 ) -> Result<(), CodecError> {
     is(rt, row.name, &handle.is_atomic(), &false);
     fails_at(rt, alloc, handle, row)?;
-    let left = (handle.value(), handle.faults(), handle.write_calls());
-    is(rt, row.name, &left, &(Some(row.torn), 1, row.write_calls));
+    is(rt, row.name, &handle.value(), &Some(row.torn));
+    is(rt, row.name, &handle.faults(), &1);
+    is(rt, row.name, &handle.write_calls(), &row.write_calls);
     Ok(())
 }
 
@@ -196,63 +196,50 @@ fn a_torn_handle_keeps_a_value_that_no_pieces_change(rt: HostRuntime) -> Result<
     keeps_what_is_not_made(&rt, rt.alloc(), &mut TornHandle::new(value, 1))
 }
 
-const FENCED: CodecError = CodecError::Storage(StorageError { code: 1 });
+const FENCED: Answer<'static> = Err(CodecError::Storage(StorageError { code: 1 }));
+
+const PAST: Answer<'static> = Err(CodecError::InvalidByteRange);
 
 /// Ranges that are asked for, by their starts and ends, of five bytes of which those from 1 on can be read,
-/// and numbers 8 and 9 behind them; what comes of them; and how often the handle failed then.
+/// and numbers 8 and 9 behind them; and what comes of them.
 struct Read {
     name: &'static str,
     ranges: &'static [(u64, u64)],
-    bytes: Value<'static>,
-    faults: u64,
+    bytes: Answer<'static>,
 }
 
 const READS: &'static [Read] = &[
     Read {
         name: "across two of the ranges",
         ranges: &[(2, 5), (1, 2)],
-        bytes: Ok(Some(&[3, 4, 5, 2])),
-        faults: 0,
+        bytes: Ok(&[3, 4, 5, 2]),
     },
     Read {
         name: "none",
         ranges: &[(0, 0)],
-        bytes: Ok(Some(&[])),
-        faults: 0,
+        bytes: Ok(&[]),
     },
     Read {
         name: "one before the first",
         ranges: &[(1, 2), (0, 2)],
-        bytes: Err(FENCED),
-        faults: 1,
+        bytes: FENCED,
     },
     Read {
         name: "one between, past the value",
         ranges: &[(3, 9)],
-        bytes: Err(FENCED),
-        faults: 1,
+        bytes: FENCED,
     },
     Read {
         name: "inside, past the value",
         ranges: &[(8, 10)],
-        bytes: Err(CodecError::InvalidByteRange),
-        faults: 0,
+        bytes: PAST,
     },
     Read {
         name: "as far as can be",
         ranges: &[(8, 18446744073709551615)],
-        bytes: Err(FENCED),
-        faults: 1,
+        bytes: FENCED,
     },
 ];
-
-/// The handle keeps the five bytes, and failed so often.
-fn keeps_five(rt: &impl Abort, handle: &mut FencedHandle, row: &Read) {
-    let told = (handle.exists(), handle.size());
-    is(rt, row.name, &told, &(Ok(true), Ok(Some(5))));
-    is(rt, row.name, &handle.value(), &Some(FIVE));
-    is(rt, row.name, &handle.faults(), &row.faults);
-}
 
 fn reads_inside(
     rt: &impl Abort,
@@ -261,9 +248,21 @@ fn reads_inside(
     ranges: &[ByteRange],
     row: &Read,
 ) -> Result<(), CodecError> {
-    let came = handle.partial_decode_many(alloc, ranges);
-    answers_value(rt, row.name, came, row.bytes)?;
-    keeps_five(rt, handle, row);
+    let wanted = match row.bytes {
+        Ok(bytes) => Ok(Some(bytes)),
+        Err(cause) => Err(cause),
+    };
+    let faults = u64::from(row.bytes == FENCED);
+    answers_value(
+        rt,
+        row.name,
+        handle.partial_decode_many(alloc, ranges),
+        wanted,
+    )?;
+    is(rt, row.name, &handle.faults(), &faults);
+    is(rt, row.name, &handle.exists(), &Ok(true));
+    is(rt, row.name, &handle.size(), &Ok(Some(5)));
+    is(rt, row.name, &handle.value(), &Some(FIVE));
     Ok(())
 }
 
@@ -271,78 +270,39 @@ fn fenced(alloc: Global, value: &[u8], ranges: &[(u64, u64)]) -> Result<FencedHa
     Ok(FencedHandle::new(value.to_vec(alloc)?, byte_ranges(alloc, ranges)?))
 }
 
-fn reads_ranges(
-    rt: &impl Abort,
-    alloc: Global,
-    handle: &mut FencedHandle,
-    row: &Read,
-) -> Result<(), CodecError> {
-    let ranges = byte_ranges(alloc, row.ranges)?;
-    reads_inside(rt, alloc, handle, ranges.as_slice(), row)
-}
-
 #[test]
 fn a_fenced_handle_reads_inside_its_ranges(rt: HostRuntime) -> Result<(), CodecError> {
     for row in READS.iter() {
+        let ranges = byte_ranges(rt.alloc(), row.ranges)?;
         let mut handle = fenced(rt.alloc(), FIVE, &[(3, 5), (8, 10), (1, 3)])?;
-        reads_ranges(&rt, rt.alloc(), &mut handle, row)?;
+        reads_inside(&rt, rt.alloc(), &mut handle, ranges.as_slice(), row)?;
     }
     Ok(())
-}
-
-/// The ranges in which five bytes can be read, and what comes of reading them all.
-struct Whole {
-    name: &'static str,
-    ranges: &'static [(u64, u64)],
-    bytes: Value<'static>,
-}
-
-const WHOLE: &'static [Whole] = &[
-    Whole {
-        name: "inside",
-        ranges: &[(2, 9), (0, 2)],
-        bytes: Ok(Some(FIVE)),
-    },
-    Whole {
-        name: "outside",
-        ranges: &[(0, 4)],
-        bytes: Err(FENCED),
-    },
-];
-
-fn reads_whole(rt: &impl Abort, alloc: Global, row: &Whole) -> Result<(), CodecError> {
-    let mut handle = fenced(alloc, FIVE, row.ranges)?;
-    answers_value(rt, row.name, handle.decode(alloc), row.bytes)
 }
 
 #[test]
 fn a_fenced_handle_reads_a_whole_value_inside(rt: HostRuntime) -> Result<(), CodecError> {
-    for row in WHOLE.iter() {
-        reads_whole(&rt, rt.alloc(), row)?;
-    }
-    Ok(())
-}
-
-/// A decoder of three words, of which the middle one can be read.
-fn fenced_decoder(alloc: Global) -> Result<BytesCodecPartial<FencedHandle>, CodecError> {
-    let handle = fenced(alloc, &[1, 2, 3, 4, 5, 6], &[(2, 4)])?;
-    decoder(alloc, &THREE, handle)
-}
-
-fn reads_the_middle(
-    rt: &impl Abort,
-    alloc: Global,
-    decoder: &mut BytesCodecPartial<FencedHandle>,
-) -> Result<(), CodecError> {
-    let middle: Answer<'static> = Ok(&[4, 3]);
-    reads_part(rt, "the middle", alloc, decoder, Ranges(&[1..2]), middle)?;
-    let failed = Err(FENCED);
-    reads_part(rt, "the last too", alloc, decoder, Ranges(&[1..3]), failed)
+    let mut handle = fenced(rt.alloc(), FIVE, &[(2, 9), (0, 2)])?;
+    answers_value(&rt, "inside", handle.decode(rt.alloc()), Ok(Some(FIVE)))?;
+    let mut handle = fenced(rt.alloc(), FIVE, &[(0, 4)])?;
+    let failed = Err(CodecError::Storage(StorageError { code: 1 }));
+    answers_value(&rt, "outside", handle.decode(rt.alloc()), failed)
 }
 
 // The middle word of three is read where its bytes alone can be.
 #[test]
 fn a_read_in_part_asks_for_the_bytes_of_its_places(rt: HostRuntime) -> Result<(), CodecError> {
-    let mut decoder = fenced_decoder(rt.alloc())?;
-    reads_the_middle(&rt, rt.alloc(), &mut decoder)
+    let handle = fenced(rt.alloc(), &[1, 2, 3, 4, 5, 6], &[(2, 4)])?;
+    let mut decoder = decoder(rt.alloc(), &THREE, handle)?;
+    let asked = Asked::Ranges(&[1..2]);
+    reads_part(
+        &rt,
+        "the middle",
+        rt.alloc(),
+        &mut decoder,
+        asked,
+        Ok(&[4, 3]),
+    )?;
+    let asked = Asked::Ranges(&[1..3]);
+    reads_part(&rt, "the last too", rt.alloc(), &mut decoder, asked, FENCED)
 }

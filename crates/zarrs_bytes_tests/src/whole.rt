@@ -311,15 +311,11 @@ fn refuses_kind(
     is_coded(rt, row.name, came, Err(row.cause))
 }
 
-fn refuses_kinds(rt: &impl Abort, alloc: Global, form: &ChunkForm) -> Result<(), CodecError> {
-    for row in OTHER_KINDS.iter() {
-        refuses_kind(rt, alloc, form, row)?;
-    }
-    Ok(())
-}
-
 #[test]
 fn takes_elements_of_the_kind(rt: HostRuntime) -> Result<(), CodecError> {
     let form = chunk_form(rt.alloc(), &WORDS)?;
-    refuses_kinds(&rt, rt.alloc(), &form)
+    for row in OTHER_KINDS.iter() {
+        refuses_kind(&rt, rt.alloc(), &form, row)?;
+    }
+    Ok(())
 }

@@ -153,12 +153,9 @@ fn writes_words<E: ArrayPartialEncoderTraits>(
 /// What a coder of three words tells, and that the chunk is erased.
 fn erases<E: ArrayPartialEncoderTraits>(rt: &impl Abort, encoder: &mut E) {
     is(rt, "type", encoder.data_type(), &DataType::uint16());
-    let told = (
-        encoder.size_held(),
-        encoder.supports_partial_decode(),
-        encoder.supports_partial_encode(),
-    );
-    is(rt, "held, reads, writes", &told, &(6, true, true));
+    is(rt, "held", &encoder.size_held(), &6);
+    is(rt, "reads", &encoder.supports_partial_decode(), &true);
+    is(rt, "writes", &encoder.supports_partial_encode(), &true);
     is(rt, "erased", &encoder.erase(), &Ok(()));
     is(rt, "there", &encoder.exists(), &Ok(false));
 }
@@ -187,21 +184,11 @@ fn edits_last<E: ArrayPartialEncoderTraits>(
     edits(rt, alloc, encoder, &asked)
 }
 
-type Encoder = BytesCodecPartial<MemoryHandle>;
-
-fn encoder_of_three(alloc: Global) -> Result<Encoder, CodecError> {
-    let handle = stored(alloc, VALUE)?;
-    encoder(alloc, &THREE, handle)
-}
-
-fn has_two_calls(rt: &impl Abort, encoder: Encoder) {
-    is(rt, "calls", &encoder.into_handle().write_calls(), &2);
-}
-
 #[test]
 fn a_coder_is_any_coder_of_parts(rt: HostRuntime) -> Result<(), CodecError> {
-    let mut encoder = encoder_of_three(rt.alloc())?;
+    let handle = stored(rt.alloc(), VALUE)?;
+    let mut encoder = encoder(rt.alloc(), &THREE, handle)?;
     edits_last(&rt, rt.alloc(), &mut encoder)?;
-    has_two_calls(&rt, encoder);
+    is(&rt, "calls", &encoder.into_handle().write_calls(), &2);
     Ok(())
 }
