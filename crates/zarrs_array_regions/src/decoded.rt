@@ -39,8 +39,7 @@ fn decoded_part<'a>(
     requires counted { product region.now.lengths < 2 ^ 64 }
     requires takes { type_taken (mapping_of codec.now) data_type.now ≡ Ok tt }
     requires valid { validity data_type.now (product region.now.lengths) held ≡ Ok tt }
-    ensures decoded {
-        DecodesPart (mapping_of codec.now) data_type.now region.now held.entry result }
+    ensures decoded { DecodesPart (mapping_of codec.now) data_type.now region.now held.entry result }
 {
     match codec {
         ArrayToArrayCodec::Transpose(codec) => {

@@ -32,8 +32,7 @@ fn encoded_part<'a>(
     requires counted { product region.now.lengths < 2 ^ 64 }
     requires takes { type_taken (mapping_of codec.now) data_type.now ≡ Ok tt }
     requires valid { validity data_type.now (product region.now.lengths) held ≡ Ok tt }
-    ensures encoded {
-        EncodesPart (mapping_of codec.now) data_type.now region.now held.entry result }
+    ensures encoded { EncodesPart (mapping_of codec.now) data_type.now region.now held.entry result }
 {
     match codec {
         ArrayToArrayCodec::Transpose(codec) => {
