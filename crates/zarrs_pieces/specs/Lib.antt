@@ -1,0 +1,4 @@
+pub mod Joined
+pub mod LentHandle
+pub mod Pieces
+pub mod PiecesHandle

@@ -1,0 +1,17 @@
+//! Handles on bytes that a caller has in memory and lends: the whole value, or pieces of it.
+//!
+//! [`LentHandle`] is a handle on a value, or on none. [`PiecesHandle`] is one on a value of which
+//! pieces alone are at hand, as those that were fetched for a read: a read of their bytes never fails,
+//! and a read of any other byte does, so no answer rests on a byte that isn't there. [`join_ranges`]
+//! makes of the ranges that a read asks for those whose bytes are such pieces.
+#![tactic(auto)]
+
+mod joined;
+mod lent_handle;
+mod piece;
+mod pieces_handle;
+
+pub use joined::join_ranges;
+pub use lent_handle::LentHandle;
+pub use piece::Piece;
+pub use pieces_handle::PiecesHandle;
