@@ -1,0 +1,3 @@
+pub mod Codecs
+pub mod Header
+pub mod HeaderRead

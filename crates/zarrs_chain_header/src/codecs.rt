@@ -1,0 +1,39 @@
+//! The chain of a header, made of its list of metadata.
+ghost use Rattle.std.specs.Prelude.{map};
+ghost use Rattle.serde_json.specs.View.{items_view};
+ghost use Rattle.zarrs_chunk.specs.Answer.{Answers};
+ghost use Rattle.zarrs_metadata.specs.MetadataV3.{metadata_seen};
+ghost use Rattle.zarrs_metadata.specs.PluginCreateError.{plugin_memory};
+ghost use Rattle.zarrs_codec_chain.specs.ChainView.{plain_chain};
+ghost use Rattle.zarrs_chain_header.specs.Codecs.{metadata_in as metadata_among, chain_in};
+
+use serde_json::Value;
+use std::alloc::Global;
+use zarrs_codec::{SampleBytesCodec, SampleMaker};
+use zarrs_codec_chain::CodecChain;
+use zarrs_metadata::{MetadataV3, PluginCreateError};
+
+fn metadata_in(alloc: Global, items: &Vec<Value>) -> Result<Vec<MetadataV3>, PluginCreateError>
+    ensures { Answers plugin_memory (λ list. map metadata_seen list.items) result
+        (metadata_among (items_view items.now.items)) }
+{
+    let mut list = Vec::with_capacity(alloc, items.len())?;
+    for item in items {
+        list.push(MetadataV3::from_value(alloc, item)?)?;
+    }
+    Ok(list)
+}
+
+/// The chain of a list of metadata, its bytes codecs made by `SampleMaker`. Refusals, the first that
+/// holds, `OutOfMemory` aside: `InvalidConfiguration` where an entry is no metadata, wherever it
+/// stands; those of `CodecChain::from_metadata`.
+pub fn chain(
+    alloc: Global,
+    items: &Vec<Value>,
+) -> Result<CodecChain<SampleBytesCodec>, PluginCreateError>
+    ensures answer { Answers plugin_memory plain_chain result
+        (chain_in (items_view items.now.items)) }
+{
+    let list = metadata_in(alloc, items)?;
+    CodecChain::from_metadata(alloc, list.as_slice(), &SampleMaker)
+}

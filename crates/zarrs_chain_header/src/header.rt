@@ -1,0 +1,113 @@
+//! What a header says: a chunk's shape, type and fill value, and the codecs that it goes through.
+ghost use Rattle.std.specs.Prelude.{◌≡◌, option_map};
+ghost use Rattle.serde_json.specs.View.{view, members_view};
+ghost use Rattle.zarrs_chunk.specs.Answer.{Answers};
+ghost use Rattle.zarrs_codec_chain.specs.ChainView.{plain_chain};
+ghost use Rattle.zarrs_chain_json.specs.Refusal.{wants_memory};
+ghost use Rattle.zarrs_chain_header.specs.Header.{shape_at, data_type_at, fill_value_at, codecs_at, header_in, line_header, line_codecs};
+ghost use Rattle.zarrs_chain_header.specs.HeaderRead.{header_seen};
+
+use crate::codecs::chain;
+use serde_json::Value;
+use std::alloc::Global;
+use zarrs_chain_json::{Members, Refusal, data_type, hex_bytes, member, numbers, object, tree};
+use zarrs_chunk::ChunkShape;
+use zarrs_codec::SampleBytesCodec;
+use zarrs_codec_chain::CodecChain;
+use zarrs_data_type::{DataType, FillValue};
+
+/// A chunk's shape, the type of its elements and its fill value, and the chain of codecs that it goes
+/// through, which takes such chunks where [`read_header`] made this.
+#[derive(Drop)]
+pub struct ChunkHeader {
+    pub chain: CodecChain<SampleBytesCodec>,
+    pub shape: ChunkShape,
+    pub data_type: DataType,
+    pub fill_value: FillValue,
+}
+
+fn shape(alloc: Global, tree: Option<&Value>) -> Result<ChunkShape, Refusal>
+    ensures { Answers wants_memory (λ shape. shape) result
+        (shape_at (option_map (λ v. view v.now) tree.entry)) }
+{
+    let Some(tree) = tree else {
+        return Err(Refusal::Syntax);
+    };
+    let sizes = numbers(alloc, tree)?;
+    ChunkShape::new(sizes).ok_or(Refusal::Syntax)
+}
+
+fn named_type(alloc: Global, tree: Option<&Value>) -> Result<DataType, Refusal>
+    ensures { Answers wants_memory (λ data_type. data_type) result
+        (data_type_at (option_map (λ v. view v.now) tree.entry)) }
+{
+    match tree {
+        Some(tree) => data_type(alloc, tree),
+        None => Err(Refusal::Syntax),
+    }
+}
+
+fn fill_value(alloc: Global, tree: Option<&Value>) -> Result<FillValue, Refusal>
+    ensures { Answers wants_memory (λ fill. fill) result
+        (fill_value_at (option_map (λ v. view v.now) tree.entry)) }
+{
+    let Some(tree) = tree else {
+        return Err(Refusal::Syntax);
+    };
+    let bytes = hex_bytes(alloc, tree)?;
+    Ok(FillValue::new(bytes))
+}
+
+fn codecs(
+    alloc: Global,
+    tree: Option<&Value>,
+) -> Result<CodecChain<SampleBytesCodec>, Refusal>
+    ensures { Answers wants_memory plain_chain result
+        (codecs_at (option_map (λ v. view v.now) tree.entry)) }
+{
+    match tree {
+        Some(Value::Array(items)) => Ok(chain(alloc, items)?),
+        _ => Err(Refusal::Syntax),
+    }
+}
+
+fn header_among(alloc: Global, members: &Members) -> Result<ChunkHeader, Refusal>
+    ensures { Answers wants_memory header_seen result
+        (header_in (members_view members.now.entries)) }
+{
+    let shape = shape(alloc, member(members, "shape"))?;
+    let data_type = named_type(alloc, member(members, "data_type"))?;
+    let fill_value = fill_value(alloc, member(members, "fill_value"))?;
+    let chain = codecs(alloc, member(members, "codecs"))?;
+    chain.encoded_representation(alloc, &shape, &data_type, &fill_value)?;
+    Ok(ChunkHeader {
+        chain,
+        shape,
+        data_type,
+        fill_value,
+    })
+}
+
+/// The header that a text is: a JSON object with the chunk's `shape`, a list of sizes none of which is
+/// zero, its `data_type`, its `fill_value`, in hex, and `codecs`, a list of metadata whose bytes codecs
+/// are the sample ones. Other keys are passed over.
+///
+/// Refusals, the first that holds: `Syntax` where the text is no JSON object, or its `shape`,
+/// `data_type`, `fill_value` or `codecs` don't read, in this order and each with its own refusals; then
+/// those of the chain's representation; `OutOfMemory`.
+pub fn read_header(alloc: Global, text: &[u8]) -> Result<ChunkHeader, Refusal>
+    ensures answer { Answers wants_memory header_seen result (line_header text.now) }
+{
+    let tree = tree(alloc, text)?;
+    let members = object(&tree)?;
+    header_among(alloc, members)
+}
+
+/// The chain that a text lists: a JSON list of metadata, as the `codecs` of a header. Refusals: `Syntax`
+/// where the text is no JSON list; those of the chain's making; `OutOfMemory`.
+pub fn read_codecs(alloc: Global, text: &[u8]) -> Result<CodecChain<SampleBytesCodec>, Refusal>
+    ensures answer { Answers wants_memory plain_chain result (line_codecs text.now) }
+{
+    let tree = tree(alloc, text)?;
+    codecs(alloc, Some(&tree))
+}
