@@ -1,0 +1,64 @@
+-- Codes of causes.
+use Rattle.std.proofs.Common.{◌≡◌, ◌⊎◌, ℕ, true, false, Result, Ok, Err, Bool, inl, inr, refl, sym, ap, ◌∙◌}
+use Rattle.zarrs_chunk.specs.Answer.{Answers, Excused}
+use Rattle.zarrs_chunk.specs.declared.codec_error.CodecError.{CodecError}
+use Rattle.zarrs_chunk.specs.declared.codec_error.CodecError.TheVariants.{OutOfMemory, Storage, UnsupportedDataType, EndiannessMissing, ArrayBytesKind, InvalidBytesLength, IncompatibleDimensionality, OutOfBounds, Overflow, InvalidFillValue, ReshapeDimension, ReshapeElements, BitRange, PaddingByte, IndexLength, InvalidOffsets, OffsetTooLarge, OffsetNotKept, MaskValue, HeaderOverflow, InvalidByteRange, BytesCodec, DataMismatch, UnsupportedTarget, TargetMismatch, ReversedRange}
+use Rattle.zarrs_metadata.specs.declared.plugin_create_error.PluginCreateError.TheVariants as making
+use Rattle.zarrs_chain_json.specs.declared.refusal.Refusal.{Refusal}
+use Rattle.zarrs_chain_json.specs.declared.refusal.Refusal.TheVariants.{Syntax, Making, Codec}
+use Rattle.zarrs_calls.specs.Codes.{cause_code, cause_memory, answer_code, IsCode, IsRefusal}
+use Rattle.zarrs_calls.specs.declared.cause.Cause.{Cause}
+use Rattle.zarrs_calls.specs.declared.cause.Cause.TheVariants.{Argument, Refused}
+
+-- a cause that says that memory is wanting has the number 10
+wanting : (cause : Cause) → cause_memory cause ≡ true → cause_code cause ≡ 10
+wanting Argument e = cc
+wanting (Refused Syntax) e = cc
+wanting (Refused (Codec OutOfMemory)) e = refl
+wanting (Refused (Codec (Storage a))) e = cc
+wanting (Refused (Codec (UnsupportedDataType a))) e = cc
+wanting (Refused (Codec EndiannessMissing)) e = cc
+wanting (Refused (Codec ArrayBytesKind)) e = cc
+wanting (Refused (Codec (InvalidBytesLength a b))) e = cc
+wanting (Refused (Codec IncompatibleDimensionality)) e = cc
+wanting (Refused (Codec OutOfBounds)) e = cc
+wanting (Refused (Codec Overflow)) e = cc
+wanting (Refused (Codec InvalidFillValue)) e = cc
+wanting (Refused (Codec ReshapeDimension)) e = cc
+wanting (Refused (Codec ReshapeElements)) e = cc
+wanting (Refused (Codec BitRange)) e = cc
+wanting (Refused (Codec PaddingByte)) e = cc
+wanting (Refused (Codec IndexLength)) e = cc
+wanting (Refused (Codec InvalidOffsets)) e = cc
+wanting (Refused (Codec OffsetTooLarge)) e = cc
+wanting (Refused (Codec OffsetNotKept)) e = cc
+wanting (Refused (Codec MaskValue)) e = cc
+wanting (Refused (Codec HeaderOverflow)) e = cc
+wanting (Refused (Codec InvalidByteRange)) e = cc
+wanting (Refused (Codec (BytesCodec a))) e = cc
+wanting (Refused (Codec DataMismatch)) e = cc
+wanting (Refused (Codec UnsupportedTarget)) e = cc
+wanting (Refused (Codec TargetMismatch)) e = cc
+wanting (Refused (Codec ReversedRange)) e = cc
+wanting (Refused (Making making.OutOfMemory)) e = refl
+wanting (Refused (Making making.UnknownName)) e = cc
+wanting (Refused (Making making.InvalidConfiguration)) e = cc
+wanting (Refused (Making making.MissingArrayToBytes)) e = cc
+wanting (Refused (Making making.MultipleArrayToBytes)) e = cc
+wanting (Refused (Making making.BitOrder)) e = cc
+wanting (Refused (Making making.MultipleAuto)) e = cc
+wanting (Refused (Making making.ZeroSize)) e = cc
+wanting (Refused (Making making.NotAPermutation)) e = cc
+
+-- a call that is refused for a cause that is due, or for want of memory, answers its code
+pub refused : {A : Type 0} (cause : Cause) (expected : Result A Cause) → Excused (cause_memory cause) (expected ≡ Err cause) → IsRefusal expected (cause_code cause)
+refused {A} cause expected gives = by (cause_memory cause) refl
+  where
+    by : (t : Bool) → cause_memory cause ≡ t → IsRefusal expected (cause_code cause)
+    by true e = inr (wanting cause e)
+    by false e = inl (cause, gives e, refl)
+
+-- a refusal's code is the answer's
+pub coded : {A : Type 0} (code : ℕ) (expected : Result A Cause) → IsRefusal expected code → IsCode expected code
+coded code expected (inl r) = inl (r.2 ∙ ap answer_code (sym r.1))
+coded code expected (inr e) = inr e

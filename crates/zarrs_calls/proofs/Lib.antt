@@ -1,0 +1,5 @@
+pub mod AnswerLemmas
+pub mod CodeLemmas
+pub mod CrossedLemmas
+pub mod ListLemmas
+pub mod TellLemmas

@@ -1,0 +1,46 @@
+-- What is due to a call: its value, or the first cause of a refusal.
+use Rattle.std.specs.Prelude.{ℕ, Bool, if◌then◌else◌, List, length, Option, Some, None, Result, Ok}
+use Rattle.zarrs_chunk.specs.Answer.{◌>>=◌}
+use Rattle.zarrs_codec.specs.SampleBytesCodec.{sample_codecs}
+use Rattle.zarrs_codec.specs.declared.bytes_representation.BytesRepresentation.{BytesRepresentation}
+use Rattle.zarrs_chain_parts.specs.Chain.{held_value}
+use Rattle.zarrs_chain_parts.specs.Decode.{chain_chunk}
+use Rattle.zarrs_chain_parts.specs.Representation.{chain_representation}
+use Rattle.zarrs_codec_chain.specs.Reencode.{reencoded_value}
+use Rattle.zarrs_chain_header.specs.Header.{Header, line_header, line_codecs}
+use Rattle.zarrs_calls.specs.Buffers.{Buffers}
+use Rattle.zarrs_calls.specs.Codes.{refusal_answer, codec_answer}
+use Rattle.zarrs_calls.specs.Given.{elements_given}
+use Rattle.zarrs_calls.specs.Told.{Elements}
+use Rattle.zarrs_calls.specs.declared.cause.Cause.{Cause}
+
+-- the header that a text is
+abbrev pub header_given : List ℕ → Result Header Cause
+header_given text = refusal_answer (line_header text)
+
+-- how many bytes the value of a header's chunk has
+abbrev pub represented : List ℕ → Result BytesRepresentation Cause
+represented text = do
+  header ← header_given text
+  codec_answer (chain_representation sample_codecs header.chain header.sizes header.data_type header.fill)
+
+-- the value that is written for the chunk of these elements
+abbrev pub encoded : List ℕ → Buffers → Result (List ℕ) Cause
+encoded text elements = do
+  header ← header_given text
+  held ← elements_given header.data_type elements
+  codec_answer (held_value sample_codecs header.chain header.sizes header.data_type header.fill held)
+
+-- the chunk that a value stands for
+abbrev pub decoded : List ℕ → List ℕ → Result Elements Cause
+decoded text value = do
+  header ← header_given text
+  chunk ← codec_answer (chain_chunk sample_codecs header.chain header.sizes header.data_type header.fill value)
+  Ok (header.data_type, chunk)
+
+-- the value that the chain of these codecs writes for the chunk that a value stands for
+abbrev pub reencoded : List ℕ → List ℕ → List ℕ → Result (List ℕ) Cause
+reencoded text value codecs = do
+  header ← header_given text
+  to ← refusal_answer (line_codecs codecs)
+  codec_answer (reencoded_value sample_codecs header.chain sample_codecs to (record { sizes = header.sizes; type = header.data_type; fill = header.fill }) value)

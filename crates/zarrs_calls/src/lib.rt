@@ -1,0 +1,31 @@
+//! The library's calls for C: bytes, numbers and structs of numbers in and out, and a code for each
+//! refusal. The static library `zarrs_c` exports them.
+//!
+//! Each call begins with a header, the JSON text of a chunk's `shape`, `data_type`, `fill_value` and
+//! `codecs`. Elements cross in three buffers, masks, offsets and bytes ([`Sizes`]). A call answers 0
+//! where all is done, 1 where a buffer is too short, and else the code of the first cause of a refusal;
+//! a refused call leaves the caller's buffers and counts as they were.
+#![tactic(auto)]
+
+mod calls;
+mod cause;
+mod check;
+mod decode;
+mod encode;
+mod error_name;
+mod given;
+mod names;
+mod reencode;
+mod representation;
+mod sizes;
+mod tell;
+#[cfg(test)]
+mod tests;
+
+pub use check::zarrs_check;
+pub use decode::zarrs_decode;
+pub use encode::zarrs_encode;
+pub use error_name::zarrs_error_name;
+pub use reencode::zarrs_reencode;
+pub use representation::zarrs_representation;
+pub use sizes::Sizes;

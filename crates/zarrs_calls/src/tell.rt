@@ -1,0 +1,159 @@
+//! Answers written into the caller's buffers.
+ghost use Rattle.std.specs.Prelude.{◌≡◌, ◌+◌, ◌≤◌, length, min};
+ghost use Rattle.zarrs_array_bytes.specs.Update.{with_items_at};
+ghost use Rattle.zarrs_calls.specs.Buffers.{buffers, crossed, sizes_fit};
+ghost use Rattle.zarrs_calls.specs.Told.{ToldBytes, ToldParts, kind_of, size_of};
+
+use crate::sizes::Sizes;
+use zarrs_array_bytes::ArrayBytes;
+use zarrs_codec::BytesRepresentation;
+
+/// All is done.
+const DONE: u32 = 0;
+
+/// A buffer is too short: how many items are needed is told, and nothing else.
+const SHORT: u32 = 1;
+
+/// Writes bytes from here on.
+fn write(out: &mut [u8], at: usize, new: &[u8])
+    requires inside { at + length new.now ≤ length out.old }
+    ensures written { out.new ≡ with_items_at out.old at new.now }
+{
+    out[at..at + new.len()].copy_from_slice(new);
+}
+
+/// Writes bytes in front of the buffer, and tells how many they are; where it is too short, that alone.
+pub(crate) fn tell_bytes(value: &[u8], out: &mut [u8], needed: &mut usize) -> u32
+    ensures told { ToldBytes value.now result out.old out.new needed.new }
+{
+    let count = value.len();
+    *needed = count;
+    if out.len() < count {
+        return SHORT;
+    }
+    write(out, 0, value);
+    DONE
+}
+
+/// Tells how many bytes a value has.
+pub(crate) fn tell_representation(
+    representation: BytesRepresentation,
+    kind: &mut u32,
+    size: &mut u64,
+)
+    ensures kind { kind.new ≡ kind_of representation }
+    ensures size { size.new ≡ size_of representation }
+{
+    match representation {
+        BytesRepresentation::FixedSize(count) => {
+            *kind = 0;
+            *size = count;
+        }
+        BytesRepresentation::BoundedSize(count) => {
+            *kind = 1;
+            *size = count;
+        }
+        BytesRepresentation::UnboundedSize => {
+            *kind = 2;
+            *size = 0;
+        }
+    }
+}
+
+/// How many mask bytes a container has, those of all its masks.
+#[tactic(auto, using(crate::proofs::CrossedLemmas::crossed_masked, crate::proofs::CrossedLemmas::crossed_unmasked))]
+fn mask_count(elements: &ArrayBytes<'_>) -> usize
+    ensures value { result ≡ min (length (crossed elements.now).masks) usize.MAX }
+{
+    match elements.as_optional() {
+        Ok((inner, mask)) => mask.len().saturating_add(mask_count(inner)),
+        Err(_) => 0,
+    }
+}
+
+/// The bytes of a container's elements, under all masks.
+#[tactic(auto, using(crate::proofs::CrossedLemmas::crossed_masked, crate::proofs::CrossedLemmas::crossed_variable, crate::proofs::CrossedLemmas::crossed_fixed, crate::proofs::CrossedLemmas::crossed_some))]
+fn inner_bytes<'b>(elements: &'b ArrayBytes<'_>) -> &'b [u8]
+    ensures value { result.now ≡ (crossed elements.now).bytes }
+{
+    if let Ok((inner, _)) = elements.as_optional() {
+        return inner_bytes(inner);
+    }
+    if let Ok((bytes, _)) = elements.as_variable() {
+        return bytes;
+    }
+    match elements.as_fixed() {
+        Ok(bytes) => bytes,
+        Err(_) => &[],
+    }
+}
+
+/// Their offsets; none of elements of one size.
+#[tactic(auto, using(crate::proofs::CrossedLemmas::crossed_masked, crate::proofs::CrossedLemmas::crossed_variable, crate::proofs::CrossedLemmas::crossed_unvaried))]
+fn inner_offsets<'b>(elements: &'b ArrayBytes<'_>) -> &'b [usize]
+    ensures value { result.now ≡ (crossed elements.now).offsets }
+{
+    if let Ok((inner, _)) = elements.as_optional() {
+        return inner_offsets(inner);
+    }
+    match elements.as_variable() {
+        Ok((_, offsets)) => offsets.as_slice(),
+        Err(_) => &[],
+    }
+}
+
+/// Writes the masks from here on, the outermost first.
+fn write_masks(elements: &ArrayBytes<'_>, out: &mut [u8], at: usize)
+    requires inside { at + length (crossed elements.now).masks ≤ length out.old }
+    ensures written { out.new ≡ with_items_at out.old at (crossed elements.now).masks }
+{
+    if let Ok((inner, mask)) = elements.as_optional() {
+        write(out, at, mask);
+        write_masks(inner, out, at + mask.len());
+    }
+}
+
+fn write_offsets(starts: &[usize], out: &mut [u64])
+    requires inside { length starts.now ≤ length out.old }
+    ensures written { out.new ≡ with_items_at out.old 0 starts.now }
+{
+    for (place, start) in starts.iter().enumerate() {
+        out[place] = *start as u64;
+    }
+}
+
+/// Whether so many items fit into buffers of so many.
+fn fit(sizes: &Sizes, masks: usize, offsets: usize, bytes: usize) -> bool
+    ensures value { result ≡ sizes_fit sizes.now masks offsets bytes }
+{
+    sizes.masks <= masks && sizes.offsets <= offsets && sizes.bytes <= bytes
+}
+
+/// Writes a container into the caller's buffers, each part in front of its own, and tells how many items
+/// there are of each; where a buffer is too short, that alone.
+pub(crate) fn tell(
+    elements: &ArrayBytes<'_>,
+    masks: &mut [u8],
+    offsets: &mut [u64],
+    bytes: &mut [u8],
+    needed: &mut Sizes,
+) -> u32
+    ensures told { ToldParts (crossed elements.now) result
+        (buffers masks.old offsets.old bytes.old)
+        (buffers masks.new offsets.new bytes.new) needed.new }
+{
+    let starts = inner_offsets(elements);
+    let raw = inner_bytes(elements);
+    *needed = Sizes {
+        masks: mask_count(elements),
+        offsets: starts.len(),
+        bytes: raw.len(),
+    };
+    if !fit(needed, masks.len(), offsets.len(), bytes.len()) {
+        return SHORT;
+    }
+    write_masks(elements, masks, 0);
+    write_offsets(starts, offsets);
+    write(bytes, 0, raw);
+    DONE
+}
