@@ -58,10 +58,7 @@ fn fill_value(alloc: Global, tree: Option<&Value>) -> Result<FillValue, Refusal>
     Ok(FillValue::new(bytes))
 }
 
-fn codecs(
-    alloc: Global,
-    tree: Option<&Value>,
-) -> Result<CodecChain<SampleBytesCodec>, Refusal>
+fn codecs(alloc: Global, tree: Option<&Value>) -> Result<CodecChain<SampleBytesCodec>, Refusal>
     ensures { Answers wants_memory plain_chain result
         (codecs_at (option_map (λ v. view v.now) tree.entry)) }
 {
