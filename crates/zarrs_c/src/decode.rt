@@ -1,0 +1,29 @@
+//! The call `zarrs_decode`.
+ghost use Rattle.zarrs_calls.specs.Buffers.{buffers};
+ghost use Rattle.zarrs_calls.specs.Calls.{decoded};
+ghost use Rattle.zarrs_calls.specs.Told.{TellsElements};
+
+use std::alloc::Global;
+use zarrs_calls::Sizes;
+
+/// The elements of the chunk that a value stands for.
+///
+/// They stand in front of the three buffers, and `needed` says how many items each part has; where a
+/// buffer is too short, that alone, and 1 is answered. Refusals, the first that holds, `OutOfMemory` aside:
+/// those of `zarrs_check`; those of `CodecChain::decode`.
+#[unsafe(no_mangle)]
+pub extern "C" fn zarrs_decode(
+    alloc: Global,
+    text: &[u8],
+    value: &[u8],
+    masks: &mut [u8],
+    offsets: &mut [u64],
+    bytes: &mut [u8],
+    needed: &mut Sizes,
+) -> u32
+    ensures told { TellsElements (decoded text.now value.now) result
+        (buffers masks.old offsets.old bytes.old) (buffers masks.new offsets.new bytes.new)
+        needed.old needed.new }
+{
+    zarrs_calls::zarrs_decode(alloc, text, value, masks, offsets, bytes, needed)
+}

@@ -1,0 +1,26 @@
+//! The call `zarrs_reencode`.
+ghost use Rattle.zarrs_calls.specs.Calls.{reencoded};
+ghost use Rattle.zarrs_calls.specs.Told.{TellsBytes};
+
+use std::alloc::Global;
+
+/// The value that the chain of `codecs`, a JSON list as in a header, writes for the chunk that a value
+/// stands for.
+///
+/// It stands in front of `out`, and `needed` says how many bytes it has; where `out` is too short, that
+/// alone, and 1 is answered. Refusals, the first that holds, `OutOfMemory` aside: those of `zarrs_check`;
+/// those of the list and of its chain's making; those of `reencode`.
+#[unsafe(no_mangle)]
+pub extern "C" fn zarrs_reencode(
+    alloc: Global,
+    text: &[u8],
+    value: &[u8],
+    codecs: &[u8],
+    out: &mut [u8],
+    needed: &mut usize,
+) -> u32
+    ensures told { TellsBytes (reencoded text.now value.now codecs.now) result
+        out.old out.new needed.old needed.new }
+{
+    zarrs_calls::zarrs_reencode(alloc, text, value, codecs, out, needed)
+}
