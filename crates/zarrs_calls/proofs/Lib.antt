@@ -1,4 +1,3 @@
-pub mod AnswerLemmas
 pub mod CodeLemmas
 pub mod CrossedLemmas
 pub mod ListLemmas

@@ -1,5 +1,5 @@
 //! The library's calls for C: bytes, numbers and structs of numbers in and out, and a code for each
-//! refusal. A static library may export them as they are.
+//! refusal. The static library `zarrs_c` exports them.
 //!
 //! Each call begins with a header, the JSON text of a chunk's `shape`, `data_type`, `fill_value` and
 //! `codecs`. Elements cross in three buffers, masks, offsets and bytes ([`Sizes`]). A call answers 0
