@@ -1,4 +1,4 @@
-/* The array codecs of Zarr v3, proved: encode, decode and read chunks in part.
+/* The array codecs of Zarr v3, proved: encode, decode and re-encode whole chunks.
  *
  * Every call begins with a header: the JSON text of a chunk's shape, the type of its elements, its
  * fill value in hex and its codecs, as
