@@ -1,9 +1,8 @@
 -- The steps of a fill.
-use Rattle.std.proofs.Common.{◌≡◌, ℕ, zero, suc, ◌+◌, ◌-◌, ◌*◌, ◌/◌, ◌%◌, ◌∙◌, sym, ◌<◌, ◌≤◌, get_or, List, [], ◌∷◌, ◌++◌, length, map, take, replicate, nat_lt, true, refl, ap, ap₂, arith, add-one, lt-ltb}
+use Rattle.std.proofs.Common.{◌≡◌, ℕ, zero, suc, ◌+◌, ◌-◌, ◌*◌, ◌/◌, ◌%◌, ◌∙◌, sym, ◌<◌, ◌≤◌, get_or, List, [], ◌∷◌, ◌++◌, length, map, replicate, nat_lt, true, refl, ap, ap₂, arith, add-one, lt-ltb}
 use Rattle.std.specs.List.{list_all, range_with_len}
 use Rattle.std.proofs.lemmas.Nat.{div-add-mod'}
-use Rattle.std.proofs.Math.Seq.{take-append_seam}
-use Rattle.std.proofs.lemmas.List.{append-nil, append_assoc, length-append, get_or-replicate, length-replicate}
+use Rattle.std.proofs.lemmas.List.{append_assoc, length-append, get_or-replicate, length-replicate}
 use Rattle.zarrs_array_bytes.specs.Offsets.{rises, is_offsets, last_of}
 use Rattle.zarrs_array_bytes.specs.Pieces.{ends, IsLonger}
 use Rattle.zarrs_array_bytes.specs.Filled.{copies}
@@ -75,17 +74,6 @@ copies-blocks bytes block each count is =
     ∙ sym (copies-add bytes (count / each * each) (count % each))
     ∙ ap (copies bytes) (div-add-mod' count each)
 
--- one copy more, behind the others
-pub copies-next : (bytes : List ℕ) (count : ℕ) → copies bytes count ++ bytes ≡ copies bytes (count + 1)
-copies-next bytes count = ap (λ (xs : List ℕ). copies bytes count ++ xs) (sym (append-nil bytes)) ∙ sym (copies-add bytes count 1)
-
 -- what was longer, and longer again
 pub longer-twice : (old between new : List ℕ) → IsLonger old between → IsLonger between new → IsLonger old new
 longer-twice old between new first second = (first.0 ++ second.0, second.1 ∙ ap (λ (xs : List ℕ). xs ++ second.0) first.1 ∙ append_assoc old first.0 second.0)
-
-pub longer-same : (old new : List ℕ) → new ≡ old → IsLonger old new
-longer-same old new is = ([], is ∙ sym (append-nil old))
-
--- the old items again, cut off from the longer ones
-pub longer-cut : (old new : List ℕ) → IsLonger old new → take (length old) new ≡ old
-longer-cut old new more = ap (take (length old)) more.1 ∙ take-append_seam old more.0

@@ -18,6 +18,7 @@ pub mod UpdateLaw
 pub mod AnswerLemmas
 pub mod PresentLemmas
 pub mod PresentAnswers
+pub mod MaskedBytes
 pub mod TargetLemmas
 pub mod ViewLaw
 pub mod CountLaw

@@ -18,7 +18,7 @@ AllSized size (part ∷ parts) = (length part ≡ size) × AllSized size parts
 
 -- ---- one piece after another
 
-piece-behind : (size place : ℕ) (items : List ℕ) → piece size items (place + 1) ≡ piece size (drop size items) place
+pub piece-behind : (size place : ℕ) (items : List ℕ) → piece size items (place + 1) ≡ piece size (drop size items) place
 piece-behind size place items =
     let at : size + place * size ≡ (place + 1) * size = omega arith in
     piece_is size (place + 1) items ∙ ap (λ n. take size (drop n items)) (sym at)

@@ -21,14 +21,11 @@ use Rattle.zarrs_array_bytes.proofs.ExtractLemmas.{small_holds}
 use Rattle.zarrs_array_bytes.proofs.FilledLemmas.{blank_fits}
 use Rattle.zarrs_array_bytes.proofs.UpdatedLemmas.{flags, elements-flags, length-elements, updated_holds}
 use Rattle.zarrs_array_bytes.proofs.WriteLemmas.{length-update}
-use Rattle.zarrs_array_bytes.proofs.PresentLemmas.{marked, present_places-marked, present_elements-flags, flags-expanded, flags-all, present_elements-all, length-expanded, expanded-present, present-expanded, mask_of-expanded, mask_of-flags}
+use Rattle.zarrs_array_bytes.proofs.PresentLemmas.{marked, present_places-marked, count_is, present_elements-flags, flags-expanded, flags-all, present_elements-all, length-expanded, expanded-present, present-expanded, mask_of-expanded, mask_of-flags}
 
 -- the elements under a mask, by those that stand there
 under : (t : ElementType) (h : Held) (m : Raw) → elements (optional t) (length m.items) (masked h m) ≡ flags m.items (elements t (length m.items) h)
 under t h m = elements-flags t (length m.items) h m refl
-
-count_is : (mask : List ℕ) → length (present_places mask) ≡ length (marked mask)
-count_is mask = ap (λ ps. length ps) (present_places-marked mask)
 
 -- the present elements are those at the present places
 pub present_selected : (t : ElementType) (h : Held) (mask : List ℕ) → present_elements (elements (optional t) (length mask) (masked h (owned_bytes mask))) ≡ select (elements t (length mask) h) (present_places mask)

@@ -47,6 +47,9 @@ present_places-marked (suc byte ∷ mask) =
     let rest : List ℕ = filter (λ place. nat_lt 0 (slice_index (suc byte ∷ mask) place)) (range_with_len (0 + 1) (length mask)) in
     ap (λ b. cond b (0 ∷ rest) rest) (lt-ltb 0 (suc byte) (omega arith)) ∙ ap (λ ps. 0 ∷ ps) (rest_marked (suc byte) mask ∙ ap (map suc) (present_places-marked mask))
 
+pub count_is : (mask : List ℕ) → length (present_places mask) ≡ length (marked mask)
+count_is mask = ap (λ ps. length ps) (present_places-marked mask)
+
 filter-range_more : (p : ℕ → Bool) (i : ℕ) → filter p (range_with_len 0 (i + 1)) ≡ filter p (range_with_len 0 i) ++ cond (p i) (i ∷ []) []
 filter-range_more p i =
     let e : 0 + i ≡ i = omega arith in
@@ -97,7 +100,7 @@ present_elements-flags (suc byte ∷ mask) [] l = absurd (omega arith)
 present_elements-flags (zero ∷ mask) (e ∷ es) l = present_elements-flags mask es (omega arith) ∙ sym (select-suc e es (marked mask))
 present_elements-flags (suc byte ∷ mask) (e ∷ es) l = ap (λ xs. e ∷ xs) (present_elements-flags mask es (omega arith) ∙ sym (select-suc e es (marked mask)))
 
-update-suc : (e : Element) (es : Chunk) (ps : List ℕ) (ds : Chunk) → update (e ∷ es) (map suc ps) ds ≡ e ∷ update es ps ds
+pub update-suc : {A : Type 0} (e : A) (es : List A) (ps : List ℕ) (ds : List A) → update (e ∷ es) (map suc ps) ds ≡ e ∷ update es ps ds
 update-suc e es [] ds = refl
 update-suc e es (p ∷ ps) [] = refl
 update-suc e es (p ∷ ps) (d ∷ ds) = update-suc e (set es p d) ps ds

@@ -15,7 +15,7 @@ use Rattle.zarrs_array_bytes.specs.Update.{update, cuts, cuts_update, container_
 use Rattle.zarrs_array_bytes.specs.Sources.{sources, source_bytes, IsSourceOf}
 use Rattle.zarrs_array_bytes.specs.declared.sources.Source.TheVariants.{Old, New}
 use Rattle.zarrs_array_bytes.proofs.OffsetLemmas.{offsets_rise, offsets_end, both_true}
-use Rattle.zarrs_array_bytes.proofs.ValidLemmas.{raw_items, fixed_fits, variable_fits, masked_fits, inner_fits}
+use Rattle.zarrs_array_bytes.proofs.ValidLemmas.{raw_items, fixed_fits, variable_fits, inner_fits}
 use Rattle.zarrs_array_bytes.proofs.WriteLemmas.{map-update, with_runs-update}
 
 -- two containers of one type have one kind
@@ -60,11 +60,6 @@ pub variable_count : (e : LengthRefusal) (t : ElementType) (m : ℕ) (g : Held) 
 variable_count e t m (vlen q us) f i = variable_fits e t m q us f
 variable_count e t m (flen q) f i = cc
 variable_count e t m (masked g b) f i = cc
-
-pub masked_count : (e : LengthRefusal) (t : ElementType) (m : ℕ) (g : Held) → levels_fit e t m g ≡ Ok tt → IsOk (optional_part g) → length (bytes_in g) ≡ m
-masked_count e t m (masked g b) f i = masked_fits e t m g b f
-masked_count e t m (flen q) f i = cc
-masked_count e t m (vlen q us) f i = cc
 
 pub inner_count : (e : LengthRefusal) (t u : ElementType) (m : ℕ) (g : Held) → levels_fit e t m g ≡ Ok tt → IsOk (optional_part g) → inner_of t ≡ Some u → levels_fit e u m (inner_in g) ≡ Ok tt
 inner_count e t u m (masked g b) f i k = inner_fits e t u m g b f k

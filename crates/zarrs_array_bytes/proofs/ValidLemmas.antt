@@ -1,10 +1,9 @@
 -- What follows where a container has the kind and the count of a type.
-use Rattle.std.proofs.Common.{◌≡◌, ℕ, ◌+◌, ◌*◌, ◌<◌, ◌≤◌, ◌^◌, ◌==◌, zero, suc, Bool, true, false, List, [], ◌∷◌, length, map, slice_index, get_or, Global, arith, Some, Ok, Err, Result, refl, eqb-true, eq-eqb, lt-ltb}
+use Rattle.std.proofs.Common.{◌≡◌, ℕ, ◌+◌, ◌*◌, ◌<◌, ◌^◌, ◌==◌, zero, suc, Bool, true, false, List, [], ◌∷◌, length, map, slice_index, get_or, Global, arith, Some, Ok, Err, Result, refl, eqb-true, eq-eqb, lt-ltb}
 use Rattle.std.specs.List.{list_all, All}
 use Rattle.std.specs.Cow.{cow_slice_items}
 use Rattle.std.specs.declared.borrow.CowSlice.{CowSlice}
 use Rattle.std.specs.declared.borrow.CowSlice.TheVariants as cow
-use Rattle.std.proofs.Math.Nat.{mul-le-mul_right}
 use Rattle.std.proofs.lemmas.List.Elements.{All-tail}
 use Rattle.zarrs_chunk.specs.Answer.{demand, ◌>>=◌}
 use Rattle.zarrs_chunk.specs.declared.codec_error.CodecError.{CodecError}
@@ -64,13 +63,6 @@ inner_fits refusal (optional t) u n h m e i =
 pub raw_items : (b : CowSlice ℕ Global) → cow_slice_items b ≡ (raw_of b).items
 raw_items (cow.Borrowed r) = refl
 raw_items (cow.Owned v) = refl
-
--- runs of elements inside are runs of bytes inside
-pub runs_inside : (n size total : ℕ) (runs : List (ℕ × ℕ)) → All (λ run. run.0 + run.1 ≤ n) runs → total ≡ n * size → All (λ run. (run.0 + run.1) * size ≤ total) runs
-runs_inside n size total runs h e = λ k d l. rw e (mul-le-mul_right size (h k d l))
-
-pub runs_below : (n limit : ℕ) (runs : List (ℕ × ℕ)) → All (λ run. run.0 + run.1 ≤ n) runs → n < limit → All (λ run. run.0 + run.1 < limit) runs
-runs_below n limit runs h e = λ k d l. omega (arith, h k d l)
 
 -- mask bytes at places are mask bytes
 list_all-at : (test : ℕ → Bool) (xs : List ℕ) (i : ℕ) → list_all test xs ≡ true → i < length xs → test (get_or xs i 0) ≡ true

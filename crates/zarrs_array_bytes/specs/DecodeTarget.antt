@@ -5,7 +5,7 @@ use Rattle.zarrs_chunk.specs.declared.codec_error.CodecError.{CodecError}
 use Rattle.zarrs_chunk.specs.declared.codec_error.CodecError.TheVariants.{UnsupportedTarget, TargetMismatch}
 use Rattle.zarrs_data_type.specs.ElementType.{ElementType, fixed, text, bytes, optional, element_size}
 use Rattle.zarrs_data_type.specs.Element.{Chunk}
-use Rattle.zarrs_array_bytes.specs.Blank.{has_flags}
+use Rattle.zarrs_array_bytes.specs.Blank.{AbsentAreBlank, has_flags}
 use Rattle.zarrs_array_bytes.specs.FixedView.{FixedView, written_view}
 use Rattle.zarrs_array_bytes.specs.Held.{Held, flen, vlen, masked}
 use Rattle.zarrs_array_bytes.specs.Parts.{bytes_in, inner_in}
@@ -72,9 +72,10 @@ has_masks (mask ∷ masks) held = false
 abbrev pub fills : DecodeTarget → Held → Bool
 fills target held = has_masks target.masks held && has_values target.values (under_views target.masks held)
 
--- what the target was and is: it was written with a container that holds the chunk, with mask bytes of 0 and 1
+-- what the target was and is: it was written with a container that holds the chunk, with mask bytes of 0 and 1, and blank elements under absent ones
 pub record TargetHolds (type : ElementType) (before after : DecodeTarget) (chunk : Chunk) : Type 0 where
   pub held : Held
   pub holds : Holds type held chunk
   pub written : after ≡ written_target before held
   pub flags : has_flags held ≡ true
+  pub blank : AbsentAreBlank type held

@@ -90,7 +90,9 @@ impl<'a> ArrayBytes<'a> {
     }
 
     /// These elements under a mask with one byte for each: 0 for absent, 1 for present. What stands
-    /// under an absent one doesn't matter. Refusals: `MaskValue` where a byte is another number.
+    /// under an absent one doesn't matter, and how many bytes the mask has is looked at not here
+    /// but by `validate`. Refusals, the first that holds: `MaskValue` where a byte is another
+    /// number; `OutOfMemory`.
     pub fn with_optional_mask(
         self,
         alloc: Global,
@@ -195,7 +197,7 @@ impl<'a> ArrayBytes<'a> {
     pub fn as_optional(&self) -> Result<(&ArrayBytes<'a>, &[u8]), CodecError>
         ensures answer { seen lent_both result ≡ optional_items self.now }
         ensures mask { IfOk result (λ parts. list_all (λ byte. nat_lt byte 2) parts.1.now ≡ true) }
-        ensures inside { IfOk result (λ parts. mask_levels parts.0.now < mask_levels self.now) }
+        ensures shallower { IfOk result (λ parts. mask_levels parts.0.now < mask_levels self.now) }
     {
         match &self.parts {
             Parts::Optional(inner, mask) => Ok((inner, mask.as_slice())),
@@ -320,5 +322,11 @@ impl<'a> Eq for ArrayBytes<'a> {
 pub(crate) fn is_mask(mask: &[u8]) -> bool
     ensures { result ≡ list_all (λ byte. nat_lt byte 2) mask.now }
 {
-    mask.iter().all(|byte| *byte < 2)
+    let mut largest = 0;
+    for byte in mask {
+        if largest < *byte {
+            largest = *byte;
+        }
+    }
+    largest < 2
 }

@@ -17,7 +17,9 @@ use zarrs_data_type::DataType;
 /// outermost first. A mask's view has one byte for each element.
 #[derive(Debug, Drop)]
 pub struct ArrayBytesDecodeIntoTarget<'a> {
+    /// Where the elements go.
     pub values: ArrayBytesFixedView<'a>,
+    /// Where the masks go, the outermost first.
     pub masks: Vec<ArrayBytesFixedView<'a>>,
 }
 
@@ -139,7 +141,7 @@ fn write_mask<'b, 'c>(
     requires level { level < length masks.old }
     requires masks { has_masks (views_from level masks.old) elements.now ≡ true }
     ensures len { length masks.new ≡ length masks.old }
-    ensures names { map view_name masks.new ≡ map view_name masks.old }
+    ensures mask_names { map view_name masks.new ≡ map view_name masks.old }
     ensures masks { has_masks (views_from (level + 1) masks.new) result.now ≡ true }
     ensures under { under_from (level + 1) masks.new result.now
         ≡ under_from level masks.old elements.now }

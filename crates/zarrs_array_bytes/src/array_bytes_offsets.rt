@@ -48,7 +48,7 @@ impl ArrayBytesOffsets {
 
     /// The offsets, one more than elements.
     pub fn as_slice(&self) -> &[usize]
-        ensures offsets { result.now ≡ self.now }
+        ensures value { result.now ≡ self.now }
         ensures rising { is_offsets self.now ≡ true }
     {
         self.offsets.as_slice()

@@ -115,7 +115,7 @@ fn append_moved(
     from: usize,
     start: usize,
 ) -> Result<(), AllocError>
-    requires behind { All (λ offset. from ≤ offset) offsets.now }
+    requires above { All (λ offset. from ≤ offset) offsets.now }
     requires fits { All (λ offset. offset - from + start < 2 ^ 64) offsets.now }
     ensures appended { OnOk result
         (out.new.items ≡ out.old.items ++ moved_offsets from start offsets.now) }

@@ -12,6 +12,7 @@ mod extract;
 mod fill;
 mod gather;
 pub mod laws;
+mod masked_bytes;
 mod present;
 mod repeat;
 mod runs;

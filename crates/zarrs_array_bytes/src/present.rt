@@ -1,4 +1,4 @@
-ghost use Rattle.std.specs.Prelude.{◌≡◌, ◌+◌, ◌-◌, ◌≤◌, ◌++◌, Bool, true, false, All, Ok, IfOk, OnOk, length};
+ghost use Rattle.std.specs.Prelude.{◌≡◌, ◌<◌, ◌+◌, ◌-◌, ◌≤◌, ◌++◌, Bool, true, false, All, Ok, IfOk, OnOk, length};
 ghost use Rattle.std.specs.List.{range_with_len};
 ghost use Rattle.zarrs_chunk.specs.Answer.{Answers, AnswersBy, memory, seen, is_fault, Gives, GivesBy};
 ghost use Rattle.zarrs_chunk.specs.Runs.{joined_runs};
@@ -9,17 +9,20 @@ ghost use Rattle.zarrs_array_bytes.specs.Validity.{sizes_fit, levels_fit, validi
 ghost use Rattle.zarrs_array_bytes.specs.Blank.{OuterAreBlank, AbsentAreBlank, KeepsBlanks};
 ghost use Rattle.zarrs_array_bytes.specs.Present.{present_places, present_count, are_all_present, present_chunk, container_spread, container_expansion, expansion_of, expanded_chunk};
 ghost use Rattle.zarrs_chunk.specs.Runs.{places_in, EndWithin, StayWithin};
+ghost use Rattle.zarrs_array_bytes.specs.Extracted.{container_selection, IsSmall};
 ghost use Rattle.zarrs_array_bytes.specs.Given.{GivesHeld};
 ghost use Rattle.zarrs_array_bytes.specs.Held.{items_of};
 ghost use Rattle.zarrs_array_bytes.specs.Present.{IsExpansion};
 ghost use Rattle.zarrs_array_bytes.specs.Validity.{HasElements, validated};
 
-use crate::array_bytes::{ArrayBytes, is_mask};
+use crate::array_bytes::{ArrayBytes, Parts, is_mask};
 use crate::array_bytes_raw::ArrayBytesRaw;
 use crate::fill::blank_elements;
+use crate::masked_bytes::{is_word, kept_elements, spread_elements};
 use crate::update::write_elements;
 use crate::validate::check_sizes;
 use std::alloc::{AllocError, Global};
+use std::borrow::CowSlice;
 use zarrs_chunk::CodecError;
 use zarrs_data_type::DataType;
 
@@ -64,7 +67,7 @@ fn count_runs(mask: &[u8]) -> usize {
 /// Appends a run of the places from `start` up to `end`, which isn't in it; none where there is no
 /// place.
 fn push_run(runs: &mut Vec<(u64, u64)>, start: usize, end: usize) -> Result<(), AllocError>
-    requires order { start ≤ end }
+    requires ordered { start ≤ end }
     ensures places { OnOk result
         (places_in runs.new ≡ places_in runs.old ++ range_with_len start (end - start)) }
     ensures inside { OnOk result (StayWithin end runs.old.items runs.new.items) }
@@ -94,10 +97,10 @@ fn runs_of_mask(alloc: Global, mask: &[u8]) -> Result<Vec<(u64, u64)>, CodecErro
 
 impl<'a> ArrayBytes<'a> {
     /// The elements that are present under the mask, one after another, of this container of the
-    /// elements of the type that stand under it: those where its byte isn't 0. The bytes of a run of
-    /// present ones are copied at once; where all are present, the container is handed back as it is,
-    /// in no new memory. Refusals, the first that holds, `OutOfMemory` aside: those of `validate` at
-    /// the number of mask bytes.
+    /// elements of the type that stand under it: those where its byte isn't 0. Elements of 1, 2, 4, 8
+    /// or 16 bytes are moved one by one, of others the bytes of a run of present ones at once; where
+    /// all are present, the container is handed back as it is, in no new memory. Refusals, the first
+    /// that holds, `OutOfMemory` aside: those of `validate` at the number of mask bytes.
     pub fn extract_present(
         self,
         alloc: Global,
@@ -111,8 +114,36 @@ impl<'a> ArrayBytes<'a> {
         ensures blank { KeepsBlanks data_type.now self.entry result }
     {
         self.validate(mask.len() as u64, data_type)?;
-        if count_set(mask) == mask.len() {
+        let count = count_set(mask);
+        if count == mask.len() {
             return Ok(self);
+        }
+        self.at_present(alloc, mask, count, data_type)
+    }
+
+    /// The elements at the places where the mask byte isn't 0, `count` of them: those of a few bytes
+    /// one by one, others by runs.
+    #[tactic(auto, using(crate::proofs::MaskedBytes::masked_calls))]
+    fn at_present<'b>(
+        &self,
+        alloc: Global,
+        mask: &[u8],
+        count: usize,
+        data_type: &DataType,
+    ) -> Result<ArrayBytes<'b>, CodecError>
+        requires valid { HasElements data_type.now (length mask.now) self.now }
+        requires counted { count ≡ length (present_places mask.now) }
+        requires some { count < length mask.now }
+        ensures small { IfOk result IsSmall }
+        ensures exact { GivesHeld result
+            (Ok (container_selection data_type.now self.now (present_places mask.now))) }
+    {
+        if let Parts::Fixed(bytes) = &self.parts {
+            let size = data_type.fixed_size().unwrap();
+            if is_word(size) {
+                let bytes = kept_elements(alloc, bytes.as_slice(), size, mask, count)?;
+                return Ok(ArrayBytes::new_flen(CowSlice::Owned(bytes)));
+            }
         }
         let runs = runs_of_mask(alloc, mask)?;
         self.at_runs(alloc, runs.as_slice(), mask.len() as u64, data_type)
@@ -120,10 +151,10 @@ impl<'a> ArrayBytes<'a> {
 
     /// These elements of the type put back under the mask: the elements of the optional type that are
     /// present, one after another, where its byte is 1, and absent elsewhere. Absent ones stand over
-    /// zeros, empty bytes and inner masks of zero. A run of present ones is copied at once; where all
-    /// are present, the container is taken as it is. Refusals, the first that holds, `OutOfMemory`
-    /// aside: those of `count_present`; those of `validate` at that count; `Overflow` as in `validate`
-    /// at the number of mask bytes.
+    /// zeros, empty bytes and inner masks of zero. Elements of 1, 2, 4, 8 or 16 bytes are moved one by
+    /// one, of others a run of present ones at once; where all are present, the container is taken as
+    /// it is. Refusals, the first that holds, `OutOfMemory` aside: those of `count_present`; those of
+    /// `validate` at that count; `Overflow` as in `validate` at the number of mask bytes.
     pub fn expand_present(
         self,
         alloc: Global,
@@ -161,7 +192,29 @@ impl<'a> ArrayBytes<'a> {
 }
 
 /// As many blank elements as there are mask bytes, with these at the places where the byte isn't 0.
+#[tactic(auto, using(crate::proofs::MaskedBytes::masked_calls))]
 fn spread<'a>(
+    alloc: Global,
+    array: &ArrayBytes<'_>,
+    mask: &[u8],
+    data_type: &DataType,
+) -> Result<ArrayBytes<'a>, CodecError>
+    requires valid { HasElements data_type.now (length (present_places mask.now)) array.now }
+    requires sizes { sizes_fit data_type.now (length mask.now) ≡ Ok tt }
+    ensures exact { GivesHeld result (Ok (container_spread data_type.now array.now mask.now)) }
+{
+    if let Parts::Fixed(bytes) = &array.parts {
+        let size = data_type.fixed_size().unwrap();
+        if is_word(size) {
+            let bytes = spread_elements(alloc, bytes.as_slice(), size, mask)?;
+            return Ok(ArrayBytes::new_flen(CowSlice::Owned(bytes)));
+        }
+    }
+    spread_runs(alloc, array, mask, data_type)
+}
+
+/// The same, written by runs into blank elements.
+fn spread_runs<'a>(
     alloc: Global,
     array: &ArrayBytes<'_>,
     mask: &[u8],

@@ -232,7 +232,7 @@ impl<'a> ArrayBytes<'a> {
         ensures inner { result.0.now ≡ inner_in self.now }
         ensures bytes { result.1.now ≡ bytes_in self.now }
         ensures mask { list_all (λ byte. nat_lt byte 2) result.1.now ≡ true }
-        ensures inside { mask_levels result.0.now < mask_levels self.now }
+        ensures shallower { mask_levels result.0.now < mask_levels self.now }
     {
         match &self.parts {
             Parts::Fixed(_) => unreachable!(),

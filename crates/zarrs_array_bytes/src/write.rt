@@ -90,7 +90,7 @@ fn overwrite(bytes: &mut [u8], at: usize, new: &[u8])
 }
 
 #[inline(always)]
-fn copy_to(bytes: &mut [u8], at: usize, new: &[u8])
+pub(crate) fn copy_to(bytes: &mut [u8], at: usize, new: &[u8])
     requires inside { at + length new.now ≤ length bytes.old }
     ensures written { bytes.new ≡ with_items_at bytes.old at new.now }
 {

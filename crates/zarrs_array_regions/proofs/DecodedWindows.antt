@@ -40,9 +40,6 @@ part_is_moved (transpose order) type sizes region held = refl
 part_is_moved (reshape dims) type sizes region held = sym (kept_places region.lengths (elements type (product region.lengths) held) (length-elements type (product region.lengths) held))
 part_is_moved squeeze type sizes region held = sym (kept_places region.lengths (elements type (product region.lengths) held) (length-elements type (product region.lengths) held))
 
-abbrev ok : Chunk → Result Chunk CodecError
-ok c = Ok c
-
 module _ (all codecs : List ArrayMapping) (codec : ArrayMapping) (sizes : List ℕ) (region : Region) (next : Window) (s : WindowStep all codecs codec sizes region next) (type : ElementType) (held below : Held) (h : Holds type below (decoded_of codecs type next held)) where
   abbrev whole : Chunk
   whole = elements type (product next.region.lengths) held

@@ -95,10 +95,6 @@ few_places codecs sizes region takes =
     let room = Rises-room 0 (product sizes) (window_places (window_of sizes region)) (Rises-box sizes region.starts region.lengths takes.inside) in
     omega (arith, room, places_count (product sizes) (window_of sizes region) (here_is sizes region takes.inside), takes.counted)
 
-ok_is : (r : Result CoordinateMap CodecError) → is_ok r ≡ true → (m : CoordinateMap) × (r ≡ Ok m)
-ok_is (Ok m) h = (m, refl)
-ok_is (Err e) h = absurd (cc)
-
 bind_ok : (r : Result CoordinateMap CodecError) (f : CoordinateMap → Result CoordinateMap CodecError) → is_ok (r >>= f) ≡ true → (m : CoordinateMap) × (r ≡ Ok m) × (is_ok (f m) ≡ true)
 bind_ok (Ok m) f h = (m, refl, h)
 bind_ok (Err e) f h = absurd (cc)
@@ -186,9 +182,6 @@ module _ (codecs : List ArrayToArrayCodec) (first : ArrayToArrayCodec) (l : 1 �
 
   pub codec_fits : FitsRegion (mapping_of first) region
   codec_fits = first_fits (map mapping_of codecs) (map mapping_of (rest_of codecs)) (mapping_of first) sizes region are takes
-
-  pub codec_coordinates : is_ok (coordinates (mapping_of first) sizes) ≡ true
-  codec_coordinates = first_coordinates (map mapping_of codecs) (map mapping_of (rest_of codecs)) (mapping_of first) sizes region are takes
 
   pub codec_takes : (type : ElementType) → TakeType (map mapping_of codecs) type → type_taken (mapping_of first) type ≡ Ok tt
   codec_takes type = first_takes (map mapping_of codecs) (map mapping_of (rest_of codecs)) (mapping_of first) type are

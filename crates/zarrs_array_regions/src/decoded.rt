@@ -2,6 +2,7 @@
 ghost use Rattle.std.specs.Prelude.{◌≡◌, ◌<◌, ◌^◌, Ok, true, map};
 ghost use Rattle.zarrs_chunk.specs.Answer.{Gives};
 ghost use Rattle.zarrs_chunk.specs.ChunkShape.{product};
+ghost use Rattle.zarrs_array_bytes.specs.Blank.{KeepsBlanks};
 ghost use Rattle.zarrs_array_bytes.specs.Validity.{validity};
 ghost use Rattle.zarrs_array_to_array.specs.CodecAnswers.{type_taken};
 ghost use Rattle.zarrs_array_to_array.specs.Mapping.{mapping_of};
@@ -40,6 +41,7 @@ fn decoded_part<'a>(
     requires takes { type_taken (mapping_of codec.now) data_type.now ≡ Ok tt }
     requires valid { validity data_type.now (product region.now.lengths) held ≡ Ok tt }
     ensures decoded { DecodesPart (mapping_of codec.now) data_type.now region.now held.entry result }
+    ensures blank { KeepsBlanks data_type.now held.entry result }
 {
     match codec {
         ArrayToArrayCodec::Transpose(codec) => {
@@ -54,7 +56,8 @@ fn decoded_part<'a>(
 /// The elements of a region of a chunk of this shape from those of the window that the codecs take it
 /// to, decoded codec by codec, each at the region's lengths before it: `transpose` moves them, and the
 /// others leave them as they are. The codecs take the chunk and its type, the region has elements, and
-/// there is one in `held` for each. Refusals: `OutOfMemory`.
+/// there is one in `held` for each. Where blank elements stand under absent ones, they do in what is
+/// made. Refusals: `OutOfMemory`.
 pub fn decoded_window<'a>(
     alloc: Global,
     codecs: &[ArrayToArrayCodec],
@@ -70,6 +73,7 @@ pub fn decoded_window<'a>(
     requires valid { validity data_type.now (product region.now.lengths) held ≡ Ok tt }
     ensures decoded { DecodesWindow (map mapping_of codecs.now) data_type.now
         (window_of shape.now region.now) held.entry result }
+    ensures blank { KeepsBlanks data_type.now held.entry result }
 {
     match codecs {
         [] => Ok(held),

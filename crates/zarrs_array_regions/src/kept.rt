@@ -58,7 +58,7 @@ pub fn kept_region<'i>(
 ) -> Option<&'i ArraySubset>
     ensures region { option_map (λ region. region.now) result
         ≡ kept_region_of (map mapping_of codecs.now) shape.now (selection_of indexer.now) }
-    ensures kept { IfSome result (λ region.
+    ensures region_kept { IfSome result (λ region.
         IsKept (map mapping_of codecs.now) shape.now (selection_of indexer.now) region.now) }
 {
     let Indexer::Subset(region) = indexer else {

@@ -11,7 +11,9 @@ use zarrs_chunk::{ArraySubset, ChunkShape, CodecError, Indexer};
 /// and as many elements has the region's at the same places.
 #[derive(Debug, Drop)]
 pub struct Window {
+    /// The sizes of a chunk that has the region.
     pub sizes: ChunkShape,
+    /// The region, inside these sizes.
     pub region: ArraySubset,
 }
 

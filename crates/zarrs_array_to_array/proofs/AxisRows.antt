@@ -1,7 +1,7 @@
 -- The places of a chunk's elements, axis by axis.
 use Rattle.std.proofs.Common.{◌≡◌, ℕ, zero, suc, ◌+◌, ◌-◌, ◌*◌, ◌<◌, ◌≤◌, List, [], ◌∷◌, ◌++◌, length, get_or, map, take, drop, arith, refl, ap, ap₂, ◌∙◌, sym, append_assoc}
 use Rattle.std.specs.List.{flat_map, range_with_len}
-use Rattle.std.proofs.lemmas.List.{append-nil, map_more}
+use Rattle.std.proofs.lemmas.List.{map_more}
 use Rattle.std.proofs.lemmas.List.Concat.{flat_map-append}
 use Rattle.zarrs_array_to_array.specs.declared.axis.Axis.{Axis}
 use Rattle.zarrs_array_to_array.specs.Orders.{permuted}
@@ -56,10 +56,6 @@ behind_below axes front k l =
 pub reach_split : (axes : List Axis) (d : Axis) → 1 ≤ length axes → reach axes ≡ ((get_or axes 0 d).size - 1) * (get_or axes 0 d).step + reach (drop 1 axes)
 reach_split [] d l = absurd (omega arith)
 reach_split (axis ∷ axes) d l = refl
-
-pub behind_first : (axes : List Axis) (d : Axis) (front : ℕ) → 1 ≤ length axes → behind axes (front ∷ []) ≡ behind (drop 1 axes) (row front (get_or axes 0 d).step (get_or axes 0 d).size)
-behind_first [] d front l = absurd (omega arith)
-behind_first (axis ∷ axes) d front l = ap (behind axes) (append-nil (row front axis.step axis.size))
 
 -- behind one index more of the first axis
 pub more_behind : (out : List ℕ) (f : ℕ → List ℕ) (axes : List Axis) (front step n : ℕ)

@@ -139,9 +139,6 @@ reshaped_counted dims sizes encoded h =
 pub places_known : (dims : List Dim) (sizes encoded : List ℕ) (selection : Selection) → reshaped dims sizes ≡ Ok encoded → bounds_of selection sizes ≡ Ok tt → places_of selection sizes ≡ Ok (map (row_major sizes) (tuples_of selection))
 places_known dims sizes encoded selection h inside = rw (inside, (reshaped_counted dims sizes encoded h).1) refl
 
-pub image_is : (codec : ArrayMapping) (sizes : List ℕ) (m : CoordinateMap) (selection : Selection) (n : ℕ) → bounds_of selection sizes ≡ Ok tt → coordinates codec sizes ≡ Ok m → len_of selection ≡ Ok n → image_of (coordinates codec sizes) (selection_in codec sizes) sizes selection ≡ Ok (selection_in codec sizes m.encoded selection)
-image_is codec sizes m selection n inside takes count = rw (inside, takes, count) refl
-
 -- ---- a shape that a codec takes
 
 pub reshaped_seen : (dims : List Dim) (sizes : List ℕ) → seen (λ m. m.encoded) (coordinates (reshape dims) sizes) ≡ reshaped dims sizes

@@ -28,3 +28,4 @@ pub mod Readers
 pub mod BlockRows
 pub mod Writers
 pub mod WritingStages
+pub mod TransposedBlank

@@ -1,7 +1,7 @@
 -- The numbers of all tuples, row behind row.
-use Rattle.std.proofs.Common.{◌≡◌, ℕ, zero, suc, ◌+◌, ◌*◌, ◌<◌, List, [], ◌∷◌, ◌++◌, length, get_or, map, drop, arith, refl, ap, ap₂, ◌∙◌, sym}
+use Rattle.std.proofs.Common.{◌≡◌, ℕ, zero, suc, ◌+◌, ◌*◌, ◌<◌, List, [], ◌∷◌, ◌++◌, length, map, arith, refl, ap, ap₂, ◌∙◌, sym}
 use Rattle.std.specs.List.{flat_map, range_with_len}
-use Rattle.std.proofs.lemmas.List.{append-nil, map-append, drop_more}
+use Rattle.std.proofs.lemmas.List.{append-nil, map-append}
 use Rattle.std.proofs.lemmas.List.FromFn.{map-range_with_len_more}
 use Rattle.std.proofs.lemmas.List.Concat.{flat_map-append}
 use Rattle.std.proofs.lemmas.Simd.{map-map}
@@ -15,9 +15,6 @@ use Rattle.zarrs_chunk.proofs.NumberedTuples.{map_rows}
 
 pub row_more : (front step n : ℕ) → row front step (n + 1) ≡ row front step n ++ (front + n * step) ∷ []
 row_more front step n = map-range_with_len_more (λ index. front + index * step) 0 n n (omega arith)
-
-pub all_behind-more : (sizes steps fronts : List ℕ) (axis : ℕ) → axis < length sizes → axis < length steps → all_behind (drop axis sizes) (drop axis steps) fronts ≡ all_behind (drop (axis + 1) sizes) (drop (axis + 1) steps) (next_rows (get_or steps axis 0) (get_or sizes axis 0) fronts)
-all_behind-more sizes steps fronts axis p q = rw (drop_more sizes axis 0 p, drop_more steps axis 0 q) refl
 
 -- ---- what is behind fronts is behind each of them
 

@@ -12,6 +12,7 @@ pub mod TransposeCodec
 pub mod Mapping
 pub mod TupleLaws
 pub mod EncodedSelection
+pub mod CountLaws
 pub mod Boxes
 pub mod CodecAnswers
 pub mod MappingMetadata

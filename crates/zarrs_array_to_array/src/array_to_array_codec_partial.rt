@@ -76,6 +76,10 @@ impl<C: ArrayToArrayCodecTraits, I: ArrayPartialDecoderTraits> ArrayPartialDecod
 
     ghost held = { λ stage. I.held (input_of stage) };
 
+    ghost use Rattle.zarrs_codec.specs.MappedLaws.{mapped_reader-counts};
+
+    ghost counts = { λ stage. mapped_reader-counts (C.coordinates (codec_of stage) (sizes_of stage)) (C.asked (codec_of stage) (sizes_of stage)) (C.reads_in_part (codec_of stage)).partial_decode (sizes_of stage) (I.reader (input_of stage)) (C.counts (codec_of stage) (sizes_of stage)) (I.counts (input_of stage)) };
+
     fn data_type(&self) -> &DataType {
         self.input.data_type()
     }
@@ -114,6 +118,10 @@ impl<C: ArrayToArrayCodecTraits, I: ArrayPartialEncoderTraits> ArrayPartialEncod
     ghost writes_part = { λ stage. (C.writes_in_part (codec_of stage)).partial_encode && I.writes_part (input_of stage) };
 
     ghost tells = { λ stage. ap (mapped_reader (C.coordinates (codec_of stage) (sizes_of stage)) (C.asked (codec_of stage) (sizes_of stage)) (C.reads_in_part (codec_of stage)).partial_decode (sizes_of stage)) (I.tells (input_of stage)) };
+
+    ghost use Rattle.zarrs_codec.specs.MappedLaws.{mapped_writer-checks};
+
+    ghost checks_data = { λ stage. mapped_writer-checks (C.coordinates (codec_of stage) (sizes_of stage)) (C.asked (codec_of stage) (sizes_of stage)) (C.reads_in_part (codec_of stage)).partial_decode (sizes_of stage) (I.reader (input_of stage)) (I.writer (input_of stage)) (C.counts (codec_of stage) (sizes_of stage)) (I.checks_data (input_of stage)) };
 
     fn partial_encode(
         &mut self,

@@ -15,7 +15,7 @@ pub(crate) struct Axis {
 
 /// Two axes as one, where a step along the first passes all of the second.
 fn joined(first: Axis, second: Axis) -> Option<Axis>
-    ensures apart { IfSome result (λ both. first.step ≡ second.size * second.step) }
+    ensures adjoining { IfSome result (λ both. first.step ≡ second.size * second.step) }
     ensures size { IfSome result (λ both. both.size ≡ first.size * second.size) }
     ensures step { IfSome result (λ both. both.step ≡ second.step) }
 {

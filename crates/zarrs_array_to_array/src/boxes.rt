@@ -87,7 +87,7 @@ fn first_tuples(
     requires order { All (λ axis. axis < length starts.now) order.now }
     requires axes { length lengths.now ≡ length starts.now }
     requires fits { EndsFit starts.now lengths.now }
-    requires known { product lengths.now ≡ count }
+    requires count { product lengths.now ≡ count }
     ensures answer { Gives tuples_in result
         (Ok (map (permuted_of order.now) (box_tuples starts.now lengths.now))) }
 {
@@ -107,7 +107,7 @@ pub(crate) fn ordered_box(
 ) -> Result<Vec<ArrayIndices>, CodecError>
     requires order { All (λ axis. axis < length subset.now.starts) order.now }
     requires fits { EndsFit subset.now.starts subset.now.lengths }
-    requires known { product subset.now.lengths ≡ count }
+    requires count { product subset.now.lengths ≡ count }
     ensures answer { Gives tuples_in result
         (Ok (map (permuted_of order.now) (box_tuples subset.now.starts subset.now.lengths))) }
 {

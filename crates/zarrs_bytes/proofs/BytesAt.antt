@@ -46,15 +46,6 @@ pub none_if : (test : Bool) (bytes : List ℕ) (P : Type 0) → bytes_if test by
 none_if true bytes P h = absurd cc
 none_if false bytes P h = absurd cc
 
--- where something is stored, bytes are read
-pub none_stored : (size : ℕ) (stored : Option (List ℕ)) (places : List ℕ) → bytes_at size stored places ≡ Ok None → stored ≡ None
-none_stored size None places h = refl
-none_stored size (Some value) places h = none_if (has_all size value places) (concat (map (piece size value) places)) _ h
-
-pub some_stored : (size : ℕ) (stored : Option (List ℕ)) (places bytes : List ℕ) → bytes_at size stored places ≡ Ok (Some bytes) → is_some stored ≡ true
-some_stored size None places bytes h = absurd cc
-some_stored size (Some value) places bytes h = refl
-
 -- ---- in two parts
 
 item_is : (xs ys : List ℕ) → ok (Some xs) ≡ ok (Some ys) → xs ≡ ys

@@ -2,7 +2,6 @@
 use Rattle.zarrs_data_type.specs.Form.{form_of}
 use Rattle.std.proofs.Common.{◌≡◌, ℕ, suc, ◌*◌, ◌^◌, ◌==◌, Bool, true, Option, Result, Ok, Err, List, [], ◌∷◌, length, map, nat_lt, arith, refl, ap, sym, ◌∙◌, subst}
 use Rattle.std.specs.List.{concat, range_with_len}
-use Rattle.std.specs.Prelude.{IsOkAnd}
 use Rattle.std.proofs.lemmas.Simd.{map-map}
 use Rattle.std.proofs.lemmas.Bool.Decides.{nat_tests}
 use Rattle.std.proofs.lemmas.List.{length-map}
@@ -212,15 +211,3 @@ stands_length order sizes type fill value chunk len stands e =
   where
     ok_number : (n m : ℕ) → ok n ≡ ok m → n ≡ m
     ok_number n m e = cc
-
--- a container that holds what the value was decoded to
-pub holds_stands : (order : Option Endianness) (sizes : List ℕ) (type : ElementType) (fill value : List ℕ) (held : Held) → IsOkAnd (bytes_chunk order (form_of sizes type fill) value) (Holds type held) → (chunk : Chunk) × Holds type held chunk × BytesStands order (form_of sizes type fill) value chunk
-holds_stands order sizes type fill value held h = by_answer (bytes_chunk order (form_of sizes type fill) value) refl h
-  where
-    by_answer : (r : Result Chunk CodecError) → bytes_chunk order (form_of sizes type fill) value ≡ r → IsOkAnd r (Holds type held) → (chunk : Chunk) × Holds type held chunk × BytesStands order (form_of sizes type fill) value chunk
-    by_answer (Ok chunk) e h = (chunk, h, decoded_found order sizes type fill value chunk e)
-    by_answer (Err d) e h = absurd h
-
-pub holds_only : (order : Option Endianness) (sizes : List ℕ) (type : ElementType) (fill value : List ℕ) (held : Held) (chunk : Chunk) → IsOkAnd (bytes_chunk order (form_of sizes type fill) value) (Holds type held) → BytesStands order (form_of sizes type fill) value chunk → Holds type held chunk
-holds_only order sizes type fill value held chunk h stands =
-    subst (λ (r : Result Chunk CodecError). IsOkAnd r (Holds type held)) (decoded_only order sizes type fill value chunk stands) h

@@ -1,11 +1,11 @@
 -- What is written in part is what the definitions say.
 use Rattle.zarrs_data_type.specs.Form.{form_of}
-use Rattle.std.proofs.Common.{◌≡◌, ℕ, zero, suc, ◌*◌, ◌<◌, ◌^◌, ◌==◌, ◌||◌, Bool, true, false, nat_lt, Option, Some, None, Result, Ok, Err, List, [], ◌∷◌, length, map, replicate, get_or, arith, refl, ap, ap₂, sym, ◌∙◌, subst}
+use Rattle.std.proofs.Common.{◌≡◌, ℕ, zero, suc, ◌*◌, ◌<◌, ◌^◌, ◌==◌, ◌||◌, Bool, true, nat_lt, Option, Some, None, Result, Ok, Err, List, [], ◌∷◌, length, map, replicate, get_or, arith, refl, ap, ap₂, sym, ◌∙◌, subst}
 use Rattle.std.specs.List.{All, concat}
 use Rattle.std.specs.Prelude.{IsOk, IsOkAnd, OnOk, is_ok, is_some}
 use Rattle.std.proofs.lemmas.Bool.Decides.{nat_tests}
 use Rattle.std.proofs.lemmas.List.{length-map, length-replicate}
-use Rattle.zarrs_chunk.specs.Answer.{checked_u64, Answers, AnswersBy, memory, fault, memory_or_fault}
+use Rattle.zarrs_chunk.specs.Answer.{checked_u64, Answers, AnswersBy, memory_or_fault}
 use Rattle.zarrs_chunk.specs.ChunkShape.{product}
 use Rattle.zarrs_chunk.specs.Selection.{Selection}
 use Rattle.zarrs_chunk.specs.declared.codec_error.CodecError.{CodecError}
@@ -77,19 +77,6 @@ turned_spelling order sizes (fixed width components sign) fill count (masked inn
 turned_spelling order sizes text fill count new t fit = absurd cc
 turned_spelling order sizes bytes fill count new t fit = absurd cc
 turned_spelling order sizes (optional type) fill count new t fit = absurd cc
-
--- and as many as their places have
-pub spelling_length : (order : Option Endianness) (sizes : List ℕ) (type : ElementType) (fill : List ℕ) (count : ℕ) (new : Held) → is_ok (bytes_length order (form_of sizes type fill)) ≡ true → data_fit type count new ≡ Ok tt → length (spelling order type (elements type count new)) ≡ count * place_size type
-spelling_length order sizes (fixed width components sign) fill count new t fit =
-    let p = new_pieces width components count sign new fit in
-    let size = element_size width components in
-    ap (λ (c : Chunk). length (spelled_chunk order width components c)) p.are
-    ∙ ap length (spelled_chunk-plain order width components p.parts)
-    ∙ length-concat size (map (bytes_in_order order width components) p.parts) (ordered_sized order width components p.parts p.sized)
-    ∙ ap (λ k. k * size) (length-map p.parts (bytes_in_order order width components) ∙ p.number)
-spelling_length order sizes text fill count new t fit = absurd cc
-spelling_length order sizes bytes fill count new t fit = absurd cc
-spelling_length order sizes (optional type) fill count new t fit = absurd cc
 
 -- ---- an updated chunk
 
@@ -257,10 +244,6 @@ module _ (order : Option Endianness) (sizes : List ℕ) (type : ElementType) (fi
       let held = held_at type (product sizes) edited chunk long (found (update_at_places type (product sizes) places filled new) chunk (Holds type edited) (fills_updated filled h) g) in
       rw (n.1, held.valid, held.elements_are) refl
 
--- an answer that is due is no refusal
-pub not_refused : {V W : Type 0} (expected : Result V CodecError) (v : V) (wanted : Result W CodecError) (e : CodecError) → expected ≡ Ok v → (memory e ≡ false → expected ≡ Err e) → memory e ≡ false → wanted ≡ Err e
-not_refused {V} expected v wanted e is refused m = absurd (let bad : ◌≡◌ {A = Result V CodecError} (Ok v) (Err e) = sym is ∙ refused m in cc)
-
 -- ---- the whole write
 
 abbrev some_bytes : List ℕ → Result (Option (List ℕ)) CodecError
@@ -279,27 +262,9 @@ edit_answer order sizes type fill stored after chunk selection new places (Ok x)
 edit_answer order sizes type fill stored after chunk selection new places (Err e) t starts below at fit answer =
     λ m. absurd (let bad : some_bytes (bytes_left order (form_of sizes type fill) stored places new) ≡ Err e = answer m in cc)
 
--- a refusal of the data is that of the write
-pub edit_refused : (T : Type 0) (order : Option Endianness) (sizes : List ℕ) (type : ElementType) (fill : List ℕ) (after : Option (List ℕ)) (chunk : Chunk) (selection : Selection) (new : Held) (e : CodecError) → (memory e ≡ false → data_places sizes type selection new ≡ Err e)
-    → AnswersBy {T = T} memory_or_fault (λ _ edited. StoresChunk order (form_of sizes type fill) after edited) (Err e) (edited_chunk sizes type chunk selection new)
-edit_refused T order sizes type fill after chunk selection new e refused = λ m. rw (refused (first_false (memory e) (fault e) m)) refl
-  where
-    first_false : (a b : Bool) → (a || b) ≡ false → a ≡ false
-    first_false true b h = absurd (cc)
-    first_false false b h = refl
-
 -- a number that is expected is the one that is answered
 pub number_is : (expected found' : ℕ) → ◌≡◌ {A = Result ℕ CodecError} (Ok found') (Ok expected) → found' ≡ expected
 number_is expected found' e = cc
-
--- new elements of a type that the codec takes have as many bytes as their places
-pub fits_length : (order : Option Endianness) (sizes : List ℕ) (type : ElementType) (fill : List ℕ) (count : ℕ) (new : Held) → is_ok (bytes_length order (form_of sizes type fill)) ≡ true → data_fit type count new ≡ Ok tt → length (bytes_in new) ≡ count * place_size type
-fits_length order sizes (fixed width components sign) fill count (flen raw) t fit = length_found data_mismatch _ _ fit
-fits_length order sizes (fixed width components sign) fill count (vlen raw offsets) t fit = absurd cc
-fits_length order sizes (fixed width components sign) fill count (masked inner mask) t fit = absurd cc
-fits_length order sizes text fill count new t fit = absurd cc
-fits_length order sizes bytes fill count new t fit = absurd cc
-fits_length order sizes (optional type) fill count new t fit = absurd cc
 
 -- what is written over a stored value is what is left of it
 pub stored_left : (order : Option Endianness) (sizes : List ℕ) (type : ElementType) (fill : List ℕ) (stored here after : Option (List ℕ)) (size : ℕ) (places : List ℕ) (new : Held) (result : Result (Unit {0}) CodecError) → is_ok (bytes_length order (form_of sizes type fill)) ≡ true → data_fit type (length places) new ≡ Ok tt

@@ -4,6 +4,8 @@ pub mod BytesCodecPartial
 pub mod BytesGrammar
 pub mod GivenBytes
 pub mod Laws
+pub mod MemberLaws
+pub mod CountLaws
 pub mod MadeCoders
 pub mod PartialRead
 pub mod PartialWrite

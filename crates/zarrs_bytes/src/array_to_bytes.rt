@@ -7,12 +7,14 @@ use zarrs_codec::{ArrayToBytesCodecTraits, BytesRepresentation};
 use zarrs_data_type::{DataType, FillValue};
 
 impl ArrayToBytesCodecTraits for BytesCodec {
-    ghost use Rattle.std.specs.Prelude.{◌≡◌, None};
+    ghost use Rattle.std.specs.Prelude.{◌≡◌, None, IfOk};
     ghost use Rattle.zarrs_chunk.specs.Answer.{seen};
     ghost use Rattle.zarrs_data_type.specs.Form.{form_of};
+    ghost use Rattle.zarrs_array_bytes.specs.Blank.{AbsentAreBlank};
     ghost use Rattle.zarrs_array_bytes.specs.Held.{items_of};
     ghost use Rattle.zarrs_bytes.specs.BytesCodec.{bytes_represented, bytes_length, bytes_value, bytes_chunk, turn_size, EncodesInPlace, DecodesInPlace};
     ghost use Rattle.zarrs_codec.specs.ChunkCodec.{RepresentsBy, EncodesBy, DecodesBy, GivesValid};
+    ghost use Rattle.zarrs_codec.specs.CodecMembers.{DecodesAgain};
     ghost use Rattle.zarrs_bytes.specs.GivenBytes.{IsGiven, HoldsGiven};
 
     ghost represented = { λ order form. bytes_represented order form };
@@ -22,6 +24,10 @@ impl ArrayToBytesCodecTraits for BytesCodec {
     ghost decoded = { λ order form value. bytes_chunk order form value };
 
     ghost opened = { λ order form _. seen (λ _. tt) (bytes_length order form) };
+
+    ghost use Rattle.zarrs_bytes.specs.MemberLaws.{bytes_fits};
+
+    ghost fits = { bytes_fits };
 
     fn encoded_representation(
         &self,
@@ -52,11 +58,13 @@ impl ArrayToBytesCodecTraits for BytesCodec {
         ensures in_place { EncodesInPlace self.now
             (form_of shape.now data_type.now fill_value.now) elements.entry result }
         ensures kept { turn_size self.now data_type.now ≡ None → IsGiven elements.entry result }
+        ensures decoded_again { DecodesAgain (bytes_chunk self.now)
+            (form_of shape.now data_type.now fill_value.now) result }
     {
         BytesCodec::encode(self, alloc, elements, shape, data_type, fill_value)
     }
 
-    #[tactic(auto, using(crate::proofs::Counted::found_valid))]
+    #[tactic(auto, using(crate::proofs::Counted::found_valid, crate::proofs::Counted::found_blank))]
     fn decode<'a>(
         &self,
         alloc: Global,
@@ -71,6 +79,7 @@ impl ArrayToBytesCodecTraits for BytesCodec {
         ensures in_place { DecodesInPlace self.now
             (form_of shape.now data_type.now fill_value.now) value.entry result }
         ensures kept { turn_size self.now data_type.now ≡ None → HoldsGiven value.entry result }
+        ensures blank { IfOk result (AbsentAreBlank data_type.now) }
     {
         BytesCodec::decode(self, alloc, value, shape, data_type, fill_value)
     }

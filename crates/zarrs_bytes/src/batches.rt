@@ -26,7 +26,7 @@ pub fn run_ranges(
 ) -> Result<Vec<ByteRange>, AllocError>
     requires filled { All (λ run. 0 < run.1) runs.now }
     requires ends { All (λ run. (run.0 + run.1) * size < 2 ^ 64) runs.now }
-    requires positive { 0 < size }
+    requires sized { 0 < size }
     ensures bytes { IfOk result (λ ranges. range_indices ranges.items ≡ run_bytes size runs.now) }
     ensures filled { IfOk result (λ ranges. NoneIsEmpty ranges.items) }
 {
@@ -79,7 +79,7 @@ fn append_batch<H: BytesPartialDecoderTraits>(
 ) -> Result<(), CodecError>
     requires filled { All (λ run. 0 < run.1) runs.now }
     requires ends { All (λ run. (run.0 + run.1) * size < 2 ^ 64) runs.now }
-    requires positive { 0 < size }
+    requires sized { 0 < size }
     requires stored { is_some (H.state handle.old).value ≡ true }
     ensures answer { Answers memory_or_fault (λ _. Some elements.new.items) result
         (with_read elements.old.items (bytes_at_runs size (H.state handle.old) runs.now)) }
@@ -105,7 +105,7 @@ fn append_batches<H: BytesPartialDecoderTraits>(
 ) -> Result<(), CodecError>
     requires filled { All (λ run. 0 < run.1) runs.now }
     requires ends { All (λ run. (run.0 + run.1) * size < 2 ^ 64) runs.now }
-    requires positive { 0 < size }
+    requires sized { 0 < size }
     requires stored { is_some (H.state handle.old).value ≡ true }
     ensures answer { Answers memory_or_fault (λ _. Some elements.new.items) result
         (with_read elements.old.items (bytes_at_runs size (H.state handle.old) runs.now)) }
@@ -133,7 +133,7 @@ pub fn read_bytes<H: BytesPartialDecoderTraits>(
 ) -> Result<Option<Vec<u8>>, CodecError>
     requires filled { All (λ run. 0 < run.1) runs.now }
     requires ends { All (λ run. (run.0 + run.1) * size < 2 ^ 64) runs.now }
-    requires positive { 0 < size }
+    requires sized { 0 < size }
     ensures answer { ReadsBytes result (bytes_at_runs size (H.state handle.old) runs.now) }
     ensures sure { NeverFailsIf (runs_are_sure size (H.state handle.old) runs.now) result }
     ensures left { H.state handle.new ≡ after_reading result (H.state handle.old) }

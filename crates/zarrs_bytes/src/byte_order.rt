@@ -59,7 +59,7 @@ fn reverse_pieces(bytes: &mut [u8], size: usize)
 #[inline(always)]
 fn reverse_group(group: &mut [u8], size: usize)
     requires len { length group.now ≡ 16 }
-    requires positive { 0 < size }
+    requires sized { 0 < size }
     ensures { group.new ≡ turned_bytes (Some size) group.old }
 {
     match size {
@@ -100,7 +100,7 @@ fn reverse_group(group: &mut [u8], size: usize)
 /// Turns each piece of `size` bytes round, a group at a time, and those left over one by one.
 #[inline(always)]
 fn reverse_groups(bytes: &mut [u8], size: usize)
-    requires positive { 0 < size }
+    requires sized { 0 < size }
     requires divides { 16 / size * size ≡ 16 }
     ensures { bytes.new ≡ turned_bytes (Some size) bytes.old }
 {

@@ -6,6 +6,7 @@ ghost use Rattle.zarrs_chunk.specs.Indexer.{selection_of};
 ghost use Rattle.zarrs_chunk.specs.Runs.{joined_runs, EndWithin};
 ghost use Rattle.zarrs_data_type.specs.ElementType.{fixed_size_of};
 ghost use Rattle.zarrs_data_type.specs.FillValue.{fill_fits};
+ghost use Rattle.zarrs_array_bytes.specs.Blank.{AbsentAreBlank};
 ghost use Rattle.zarrs_chunk.specs.ChunkShape.{product};
 ghost use Rattle.zarrs_codec.specs.ChunkEdits.{data_places};
 ghost use Rattle.zarrs_codec.specs.StorageState.{after_reading, KeptIfAtomic, LeftByWriting};
@@ -45,10 +46,10 @@ pub struct BytesCodecPartial<H> {
 /// How many bytes an element of a fixed type has.
 pub(crate) fn element_size(data_type: &DataType, fill_value: &FillValue) -> usize
     requires fixed { is_some (fixed_size_of data_type.now) ≡ true }
-    requires fits { fill_fits data_type.now fill_value.now ≡ true }
+    requires filling { fill_fits data_type.now fill_value.now ≡ true }
     ensures size { result ≡ place_size data_type.now }
     ensures positive { 0 < result }
-    ensures filled { IsFilledType data_type.now fill_value.now }
+    ensures fill_is_element { IsFilledType data_type.now fill_value.now }
 {
     match data_type.fixed_size() {
         Some(size) => size,
@@ -79,6 +80,7 @@ impl BytesCodec {
     /// `InvalidByteRange` where a place's bytes lie past the value's end; `OutOfMemory` and
     /// `Storage`, which may come before. `Storage` never comes where all bytes of the places are
     /// sure. Many short runs are asked for in more than one call of the handle.
+    #[tactic(auto, using(zarrs_array_bytes::proofs::BlankLemmas::sized_blank))]
     pub fn read_runs<H: BytesPartialDecoderTraits>(
         &self,
         alloc: Global,
@@ -88,12 +90,13 @@ impl BytesCodec {
         runs: &[(u64, u64)],
     ) -> Result<ArrayBytes<'static>, CodecError>
         requires fixed { is_some (fixed_size_of data_type.now) ≡ true }
-        requires fits { fill_fits data_type.now fill_value.now ≡ true }
+        requires filling { fill_fits data_type.now fill_value.now ≡ true }
         requires filled { All (λ run. 0 < run.1) runs.now }
         requires ends { All (λ run. (run.0 + run.1) * place_size data_type.now < 2 ^ 64) runs.now }
         ensures answer { ReadsRuns self.now data_type.now fill_value.now
             (H.state handle.old) runs.now result }
         ensures sure { ReadsRunsSurely data_type.now (H.state handle.old) runs.now result }
+        ensures blank { IfOk result (AbsentAreBlank data_type.now) }
         ensures left { H.state handle.new ≡ after_reading result (H.state handle.old) }
         ensures same_reference { H.lent handle.new ≡ H.lent handle.old }
     {
@@ -218,6 +221,7 @@ impl<H: BytesPartialDecoderTraits> BytesCodecPartial<H> {
         indexer: &Indexer,
     ) -> Result<ArrayBytes<'static>, CodecError>
         ensures reads { Reads H.state self.old indexer.now result }
+        ensures blank { IfOk result (AbsentAreBlank (bytes_form_of self.old).type) }
         ensures left { Leaves H.state H.lent self.old self.new result }
     {
         let runs = indexer.runs(alloc, &self.shape)?;
@@ -339,6 +343,10 @@ impl<H: BytesPartialDecoderTraits> ArrayPartialDecoderTraits for BytesCodecParti
 
     ghost held = { λ decoder. H.held (bytes_handle_of decoder) };
 
+    ghost use Rattle.zarrs_bytes.specs.CountLaws.{bytes_counts};
+
+    ghost counts = { λ decoder. bytes_counts (bytes_form_of decoder) (H.state (bytes_handle_of decoder)).value H.reads_ranges };
+
     fn data_type(&self) -> &DataType {
         BytesCodecPartial::data_type(self)
     }
@@ -372,6 +380,12 @@ impl<H: BytesPartialEncoderTraits> ArrayPartialEncoderTraits for BytesCodecParti
     ghost writes_part = { λ _. H.writes_ranges };
 
     ghost tells = { λ _. refl };
+
+    ghost use Rattle.zarrs_bytes.specs.BytesCodecPartial.{bytes_form_of, bytes_handle_of, bytes_reader, form_in};
+    ghost use Rattle.zarrs_bytes.specs.PartialWrite.{bytes_written};
+    ghost use Rattle.zarrs_codec.specs.CountLaws.{checks_of_data};
+
+    ghost checks_data = { λ encoder. checks_of_data (bytes_reader (bytes_form_of encoder) (H.state (bytes_handle_of encoder)).value H.reads_ranges) (λ stored. bytes_reader (bytes_form_of encoder) stored H.reads_ranges) (bytes_written (bytes_form_of encoder).order (form_in (bytes_form_of encoder))) };
 
     fn partial_encode(
         &mut self,

@@ -27,7 +27,7 @@ impl BytesCodec {
         runs: &[(u64, u64)],
     ) -> Result<Vec<ByteRange>, CodecError>
         requires fixed { is_some (fixed_size_of data_type.now) ≡ true }
-        requires fits { fill_fits data_type.now fill_value.now ≡ true }
+        requires filling { fill_fits data_type.now fill_value.now ≡ true }
         requires filled { All (λ run. 0 < run.1) runs.now }
         requires ends { All (λ run. (run.0 + run.1) * place_size data_type.now < 2 ^ 64) runs.now }
         ensures bytes { Gives (λ ranges. range_indices ranges.items) result

@@ -43,7 +43,7 @@ fn put_runs<H: BytesPartialEncoderTraits>(
 ) -> Result<(), CodecError>
     requires filled { All (λ run. 0 < run.1) runs.items }
     requires ends { All (λ run. (run.0 + run.1) * size < 2 ^ 64) runs.items }
-    requires positive { 0 < size }
+    requires sized { 0 < size }
     requires enough { length bytes.now ≡ length (joined_runs runs.items) * size }
     ensures answer { Answers memory_or_fault (λ done. done) result (Ok tt) }
     ensures written { PutsBytes size runs.items bytes.now H.state handle.old handle.new result }
@@ -84,7 +84,7 @@ impl BytesCodec {
     ) -> Result<(), CodecError>
         requires filled { All (λ run. 0 < run.1) runs.items }
         requires ends { All (λ run. (run.0 + run.1) * size < 2 ^ 64) runs.items }
-        requires positive { 0 < size }
+        requires sized { 0 < size }
         requires kind { IsOk (fixed_part elements.now) }
         requires enough { length (bytes_in elements.now) ≡ length (joined_runs runs.items) * size }
         ensures answer { Answers memory_or_fault (λ done. done) result (Ok tt) }

@@ -17,10 +17,6 @@ use Rattle.zarrs_chain_json.specs.Json.{tree_of, without_floats, only_member, me
 pub tree_of-read : (text : List ℕ) (tree : Data) → IsUtf8 text → read text ≡ Some tree → has_float tree ≡ false → tree_of text ≡ Ok tree
 tree_of-read text tree utf8 at clean = rw (is_utf8-from_IsUtf8 text utf8, at, clean) refl
 
--- a text that reads, with a float
-pub tree_of-float : (text : List ℕ) (tree : Data) → IsUtf8 text → read text ≡ Some tree → has_float tree ≡ true → tree_of text ≡ Err Syntax
-tree_of-float text tree utf8 at floats = rw (is_utf8-from_IsUtf8 text utf8, at, floats) refl
-
 unread_by : (text : List ℕ) (b : Bool) → is_utf8 text ≡ b → (IsUtf8 text → read text ≡ None) → ok_or (cond b (option_and_then without_floats (read text)) None) Syntax ≡ Err Syntax
 unread_by text false is h = refl
 unread_by text true is h = rw (h (IsUtf8-from_is_utf8 text is)) refl

@@ -1,5 +1,5 @@
 -- The elements that a container holds, shown.
-use Rattle.std.proofs.Common.{◌≡◌, ◌∙◌, ◌+◌, ◌*◌, ◌/◌, ◌<◌, ◌≤◌, ℕ, List, [], ◌∷◌, ◌++◌, length, map, true, false, Bool, ◌||◌, Some, Result, Ok, refl, ap, sym, subst, arith}
+use Rattle.std.proofs.Common.{◌≡◌, ◌∙◌, ◌+◌, ◌*◌, ◌/◌, ◌<◌, ◌≤◌, ℕ, List, [], ◌∷◌, ◌++◌, length, map, true, false, Bool, ◌||◌, Some, Result, Ok, refl, ap, sym, arith}
 use Rattle.std.specs.Global.{Global}
 use Rattle.std.specs.Prelude.{Vec}
 use Rattle.std.specs.List.{range_with_len}
@@ -24,7 +24,7 @@ use Rattle.zarrs_array_bytes.specs.Validity.{Holds, levels_fit, sizes_fit}
 use Rattle.zarrs_array_bytes.proofs.ValidLemmas.{both_ok, fixed_fits, variable_fits, masked_fits, inner_fits}
 use Rattle.zarrs_chain_json.specs.Elements.{element_tree, chunk_tree}
 use Rattle.zarrs_chain_json.specs.Json.{ok_line}
-use Rattle.zarrs_chain_json.specs.Shown.{HasElement, HoldsSome}
+use Rattle.zarrs_chain_json.specs.Shown.{HasElement}
 
 -- a container of so many elements has one at each place below
 pub has_element : (type : ElementType) (held : Held) (count place : ℕ) → levels_fit InvalidBytesLength type count held ≡ Ok tt → place < count → HasElement type held place
@@ -98,12 +98,6 @@ levels_of type held chunk h =
 
 same_count : (found : Result ℕ CodecError) (a b : ℕ) → found ≡ Ok a → found ≡ Ok b → a ≡ b
 same_count found a b h g = cc
-
--- a count is that of the chunk
-pub counted_levels : (type : ElementType) (held : Held) (found : Result ℕ CodecError) (count : ℕ) → HoldsSome type held → ((n : ℕ) → levels_fit InvalidBytesLength type n held ≡ Ok tt → found ≡ Ok n) → found ≡ Ok count
-    → levels_fit InvalidBytesLength type count held ≡ Ok tt
-counted_levels type held found count some counted is =
-    subst (λ n. levels_fit InvalidBytesLength type n held ≡ Ok tt) (same_count found (length some.0) count (counted (length some.0) (levels_of type held some.0 some.1)) is) (levels_of type held some.0 some.1)
 
 -- the line that shows the elements of a container
 pub shown_line : (type : ElementType) (held : Held) (chunk : Chunk) (found : Result ℕ CodecError) (count : ℕ) (trees : Vec Value Global) (line : List ℕ) → Holds type held chunk

@@ -19,7 +19,9 @@ use zarrs_data_type::DataType;
 /// New elements, and where they go.
 #[derive(Drop)]
 pub struct Edit {
+    /// Where they go.
     pub indexer: Indexer,
+    /// The new elements, in the indexer's order.
     pub elements: ArrayBytes<'static>,
 }
 

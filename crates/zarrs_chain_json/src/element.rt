@@ -16,8 +16,11 @@ use zarrs_data_type::DataType;
 /// An element that was read: bytes, or one of an optional type.
 #[derive(Drop)]
 pub enum Element {
+    /// The bytes of an element of a type that isn't optional.
     Plain(Vec<u8>),
+    /// An element that isn't there.
     Absent,
+    /// An element that is there, of the type inside.
     Present(Box<Element>),
 }
 

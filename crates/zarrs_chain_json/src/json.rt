@@ -54,8 +54,9 @@ fn members_hold_float(members: &Members) -> bool
     false
 }
 
-/// The tree of a text. Refusals: `Syntax` where the text isn't UTF-8, isn't one JSON value, or has
-/// a float at any depth; `OutOfMemory`.
+/// The tree of a text. Of values of one key in an object the last one stands, and the others are no
+/// part of the tree. Refusals: `Syntax` where the text isn't UTF-8, isn't one JSON value, or its
+/// tree has a float at any depth; `OutOfMemory`.
 pub fn tree(alloc: Global, text: &[u8]) -> Result<Value, Refusal>
     ensures answer { ReadsAs view result (tree_of text.now) }
 {
@@ -157,7 +158,7 @@ pub fn hex_bytes(alloc: Global, tree: &Value) -> Result<Vec<u8>, Refusal>
     }
 }
 
-/// The answer that shows a tree without floats.
+/// The answer that shows a tree without floats. Only a want of memory refuses.
 pub fn ok_line(alloc: Global, tree: &Value) -> Result<Vec<u8>, AllocError>
     requires no_float { has_float (view tree.now) ≡ false }
     ensures value { IfOk result (λ line. line.items ≡ line_of (view tree.now)) }
@@ -168,7 +169,7 @@ pub fn ok_line(alloc: Global, tree: &Value) -> Result<Vec<u8>, AllocError>
     Ok(line)
 }
 
-/// The answer that shows bytes, in hex of lower case.
+/// The answer that shows bytes, in hex of lower case. Only a want of memory refuses.
 pub fn ok_hex(alloc: Global, bytes: &[u8]) -> Result<Vec<u8>, AllocError>
     ensures value { IfOk result (λ line. line.items ≡ line_of (hex_tree_of bytes.now)) }
 {

@@ -5,6 +5,8 @@ ghost use Rattle.zarrs_chain_json.specs.declared.refusal.Refusal.TheVariants.{Ma
 ghost use Rattle.zarrs_chunk.specs.declared.codec_error.CodecError.TheVariants.{OutOfMemory};
 
 use std::alloc::{AllocError, AllocFailed};
+use std::error::Error;
+use std::fmt;
 use zarrs_chunk::CodecError;
 use zarrs_metadata::PluginCreateError;
 
@@ -31,6 +33,18 @@ impl Refusal {
         }
     }
 }
+
+impl fmt::Display for Refusal {
+    fn fmt<W: fmt::Write>(&self, f: &mut fmt::Formatter<W>) -> fmt::Result {
+        match self {
+            Refusal::Syntax => f.write_str("Syntax"),
+            Refusal::Making(error) => write!(f, "{error}"),
+            Refusal::Codec(error) => write!(f, "{error}"),
+        }
+    }
+}
+
+impl Error for Refusal {}
 
 impl From<PluginCreateError> for Refusal {
     ghost from_gives = { λ error refusal. refusal ≡ Making error };

@@ -89,7 +89,7 @@ fn value_at(
 /// How many elements of the type a container has. Refusals: `ArrayBytesKind` where it has another
 /// kind.
 fn count(data_type: &DataType, elements: &ArrayBytes<'_>) -> Result<usize, CodecError>
-    ensures counted { (count : ℕ) → HasElements data_type.now count elements.now
+    ensures count { (count : ℕ) → HasElements data_type.now count elements.now
         → result ≡ Ok count }
 {
     if data_type.is_optional() {

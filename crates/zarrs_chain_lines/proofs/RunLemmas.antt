@@ -1,7 +1,7 @@
 -- What the loop over the commands keeps, and how a run ends.
 use Rattle.std.proofs.Common.{◌≡◌, ◌∙◌, ℕ, List, [], ◌∷◌, ◌++◌, Option, Some, None, IfSome, MatchBool, Bool, true, false, Result, Ok, Err, inl, inr, refl, sym, ap, subst, append_assoc, append-nil}
 use Rattle.std.proofs.lemmas.Bool.{false≢true}
-use Rattle.std.specs.Io.KnownBytes.{Appends, Keeps}
+use Rattle.std.specs.Io.KnownBytes.{Appends}
 use Rattle.zarrs_chunk.specs.Answer.{Excused, seen}
 use Rattle.zarrs_chunk.specs.declared.codec_error.CodecError.TheVariants.{OutOfMemory}
 use Rattle.zarrs_metadata.specs.declared.plugin_create_error.PluginCreateError.TheVariants.{OutOfMemory as NoMemory}
@@ -79,12 +79,6 @@ so_far-replied unread left after held holds grown first now next line seen reply
     (subst (λ (l : List ℕ). IsReply now l reply next) is_line replied)
     (subst (λ (l : List ℕ). Appends holds grown (output_line l)) is_reply grew)
 
-appends-kept : (a b c : Option (List ℕ)) (x : List ℕ) → Appends a b x → Keeps b c → Appends a c x
-appends-kept None b c x p q = tt
-appends-kept (Some xs) None c x p q = absurd p
-appends-kept (Some xs) (Some ys) None x p q = absurd q
-appends-kept (Some xs) (Some ys) (Some zs) x p q = q ∙ p
-
 -- ---- what a line is answered
 
 -- an answer that was given
@@ -152,12 +146,3 @@ pub ends_bad : (unread mid held holds : Option (List ℕ)) (line read output : L
 ends_bad None mid held holds line read output given is bad replied = tt
 ends_bad (Some input) mid held holds line read output (rest, at, first) is bad replied =
     (output, replied, subst (λ (commands : List (List ℕ)). IsBadHeader commands output) (sym first) (subst (λ (l : List ℕ). IsBadHeader (l ∷ filled_lines rest) output) is bad))
-
--- what is flushed stays as it was written
-pub ends_done-flushed : (unread left held holds kept : Option (List ℕ)) → EndsDone unread left held holds → Keeps holds kept → EndsDone unread left held kept
-ends_done-flushed None left held holds kept h same = tt
-ends_done-flushed (Some input) left held holds kept (read, (output, grew, all)) same = (read, (output, appends-kept held holds kept output grew same, all))
-
-pub ends_bad-flushed : (unread held holds kept : Option (List ℕ)) → EndsBad unread held holds → Keeps holds kept → EndsBad unread held kept
-ends_bad-flushed None held holds kept h same = tt
-ends_bad-flushed (Some input) held holds kept (output, grew, bad) same = (output, appends-kept held holds kept output grew same, bad)

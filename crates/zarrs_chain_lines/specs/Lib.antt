@@ -3,6 +3,7 @@ pub mod Header
 pub mod Commands
 pub mod Lines
 pub mod Run
+pub mod RunStatus
 pub mod Seen
 pub mod Session
 pub use Rattle.zarrs_chain_json.specs.Refusal

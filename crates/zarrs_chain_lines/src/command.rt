@@ -6,14 +6,23 @@ ghost use Rattle.zarrs_chain_lines.specs.Seen.{command_seen};
 /// A command and its argument.
 #[derive(Clone, Copy)]
 pub enum Command<'a> {
+    /// The value of these elements is asked for; it isn't stored.
     Encode(&'a [u8]),
+    /// This value, in hex, is stored.
     Load(&'a [u8]),
+    /// The elements at these places are asked for.
     Read(&'a [u8]),
+    /// These elements are written at these places.
     Write(&'a [u8]),
+    /// The stored value under these codecs is asked for; the stored one stays.
     Reencode(&'a [u8]),
+    /// The stored value's chunk is asked for.
     Decode,
+    /// Nothing is stored any more.
     Erase,
+    /// The stored value is asked for.
     Value,
+    /// Any other line.
     Unknown,
 }
 

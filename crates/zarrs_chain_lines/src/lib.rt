@@ -1,4 +1,4 @@
-//! Answers commands on one chunk: encodes, decodes, reads and writes it, by lines.
+//! Answers commands on one chunk: encodes, decodes, re-encodes, reads and writes it, by lines.
 //!
 //! The first line is the header, a JSON object with the chunk's `shape`, `data_type`, `fill_value`
 //! and `codecs`. Each line after it is a command, which one line answers.

@@ -1,11 +1,12 @@
 //! Lines read and written.
 ghost use Rattle.std.specs.Prelude.{◌≡◌, ℕ, List, [], ◌∷◌, Some, IfOk, OnOk, IfSome, MatchBool};
 ghost use Rattle.std.specs.Io.BufRead.{strip_last};
-ghost use Rattle.std.specs.Io.KnownBytes.{Appends};
+ghost use Rattle.std.specs.Io.KnownBytes.{Appends, Keeps};
 ghost use Rattle.zarrs_chain_lines.specs.Lines.{lines_of, filled_lines, ReadsLine, ReadsFilledLine};
 ghost use Rattle.zarrs_chain_json.specs.Refusal.{error_line};
 ghost use Rattle.zarrs_chain_lines.specs.Run.{output_line, refusal_line};
 
+use crate::run::StreamFault;
 use std::io;
 use std::io::{BufRead, ErrorKind, Write};
 use zarrs_chain_json::Refusal;
@@ -33,7 +34,7 @@ fn next_line<R: BufRead>(reader: &mut R, line: &mut Vec<u8>) -> io::Result<bool>
 }
 
 /// Reads lines until one isn't empty, or answers `false` where none is left.
-pub fn next_filled_line<R: BufRead>(reader: &mut R, line: &mut Vec<u8>) -> io::Result<bool>
+fn read_filled_line<R: BufRead>(reader: &mut R, line: &mut Vec<u8>) -> io::Result<bool>
     ensures next { IfOk result
         (ReadsFilledLine (R.remaining reader.old) (R.remaining reader.new) line.new.items) }
 {
@@ -48,8 +49,18 @@ pub fn next_filled_line<R: BufRead>(reader: &mut R, line: &mut Vec<u8>) -> io::R
     Err(ErrorKind::TimedOut.into())
 }
 
-/// Writes an answer, and the line's end.
-pub fn write_line<W: Write>(writer: &mut W, answer: &[u8]) -> io::Result<()>
+/// As `read_filled_line`; where that fails, the reader is at fault.
+pub fn next_filled_line<R: BufRead>(reader: &mut R, line: &mut Vec<u8>) -> Result<bool, StreamFault>
+    ensures next { IfOk result
+        (ReadsFilledLine (R.remaining reader.old) (R.remaining reader.new) line.new.items) }
+{
+    match read_filled_line(reader, line) {
+        Ok(is_read) => Ok(is_read),
+        Err(_) => Err(StreamFault::Reader),
+    }
+}
+
+fn append_line<W: Write>(writer: &mut W, answer: &[u8]) -> io::Result<()>
     ensures written { OnOk result
         (Appends (W.contents writer.old) (W.contents writer.new) (output_line answer.now)) }
 {
@@ -57,12 +68,43 @@ pub fn write_line<W: Write>(writer: &mut W, answer: &[u8]) -> io::Result<()>
     writer.write_all(b"\n")
 }
 
-/// Writes the answer to a line that is refused.
-pub fn write_refusal<W: Write>(writer: &mut W, refusal: Refusal) -> io::Result<()>
+fn append_refusal<W: Write>(writer: &mut W, refusal: Refusal) -> io::Result<()>
     ensures written { OnOk result
         (Appends (W.contents writer.old) (W.contents writer.new) (refusal_line refusal)) }
 {
     writer.write_all(b"error ")?;
     writer.write_all(refusal.name().as_bytes())?;
     writer.write_all(b"\n")
+}
+
+/// Writes an answer, and the line's end.
+pub fn write_line<W: Write>(writer: &mut W, answer: &[u8]) -> Result<(), StreamFault>
+    ensures written { OnOk result
+        (Appends (W.contents writer.old) (W.contents writer.new) (output_line answer.now)) }
+{
+    match append_line(writer, answer) {
+        Ok(()) => Ok(()),
+        Err(_) => Err(StreamFault::Writer),
+    }
+}
+
+/// Writes the answer to a line that is refused.
+pub fn write_refusal<W: Write>(writer: &mut W, refusal: Refusal) -> Result<(), StreamFault>
+    ensures written { OnOk result
+        (Appends (W.contents writer.old) (W.contents writer.new) (refusal_line refusal)) }
+{
+    match append_refusal(writer, refusal) {
+        Ok(()) => Ok(()),
+        Err(_) => Err(StreamFault::Writer),
+    }
+}
+
+/// Hands on all that is held back.
+pub fn flush<W: Write>(writer: &mut W) -> Result<(), StreamFault>
+    ensures kept { Keeps (W.contents writer.old) (W.contents writer.new) }
+{
+    match writer.flush() {
+        Ok(()) => Ok(()),
+        Err(_) => Err(StreamFault::Writer),
+    }
 }

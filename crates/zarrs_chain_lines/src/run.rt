@@ -3,13 +3,35 @@ ghost use Rattle.std.specs.Prelude.{◌≡◌, ℕ, List, [], Some, Ok, OnOk, If
 ghost use Rattle.std.specs.Io.KnownBytes.{Appends};
 ghost use Rattle.zarrs_chain_lines.specs.Lines.{filled_lines};
 ghost use Rattle.zarrs_chain_lines.specs.Run.{AreReplies, EndsDone, EndsBad, EndsReplied};
+ghost use Rattle.zarrs_chain_lines.specs.RunStatus.{status_of};
 ghost use Rattle.zarrs_chain_lines.specs.Session.{state_of};
 
-use crate::lines::{next_filled_line, write_line, write_refusal};
+use crate::lines::{flush, next_filled_line, write_line, write_refusal};
 use crate::session::Session;
 use std::alloc::Global;
-use std::io;
-use std::io::{BufRead, ErrorKind, Write};
+use std::error::Error;
+use std::fmt;
+use std::io::{BufRead, Write};
+
+/// Which stream failed first.
+#[derive(Clone, Copy, Debug, PartialEq, Eq)]
+pub enum StreamFault {
+    /// The reader failed, or a line of it didn't fit into memory.
+    Reader,
+    /// The writer failed.
+    Writer,
+}
+
+impl fmt::Display for StreamFault {
+    fn fmt<W: fmt::Write>(&self, f: &mut fmt::Formatter<W>) -> fmt::Result {
+        f.write_str(match self {
+            StreamFault::Reader => "reading failed, or a line didn't fit into memory",
+            StreamFault::Writer => "writing failed",
+        })
+    }
+}
+
+impl Error for StreamFault {}
 
 /// How a run ended.
 #[derive(Clone, Copy, Debug, PartialEq, Eq)]
@@ -18,8 +40,22 @@ pub enum RunEnd {
     Done,
     /// The header opened nothing; its one answer is written.
     BadHeader,
-    /// Reading or writing failed, or a line didn't fit into memory.
-    Fault,
+    /// A stream failed before that.
+    Fault(StreamFault),
+}
+
+impl RunEnd {
+    /// The exit status of a program that ends as the run did: 0 where it is done, 2 for a bad header,
+    /// 1 where a stream failed.
+    pub fn status(&self) -> u8
+        ensures value { result ≡ status_of self.now }
+    {
+        match self {
+            RunEnd::Done => 0,
+            RunEnd::BadHeader => 2,
+            RunEnd::Fault(_) => 1,
+        }
+    }
 }
 
 /// Answers the lines that are left.
@@ -29,7 +65,7 @@ fn serve<R: BufRead, W: Write>(
     reader: &mut R,
     writer: &mut W,
     line: &mut Vec<u8>,
-) -> io::Result<()>
+) -> Result<(), StreamFault>
     ensures { OnOk result
         (EndsReplied (state_of session.old) (R.remaining reader.old) (R.remaining reader.new)
         (W.contents writer.old) (W.contents writer.new)) }
@@ -43,11 +79,15 @@ fn serve<R: BufRead, W: Write>(
             Err(refusal) => write_refusal(writer, refusal)?,
         }
     }
-    Err(ErrorKind::TimedOut.into())
+    Err(StreamFault::Reader)
 }
 
 /// Answers the header and the lines after it: whether the header was good, or there was none.
-fn try_run<R: BufRead, W: Write>(alloc: Global, reader: &mut R, writer: &mut W) -> io::Result<bool>
+fn try_run<R: BufRead, W: Write>(
+    alloc: Global,
+    reader: &mut R,
+    writer: &mut W,
+) -> Result<bool, StreamFault>
     ensures done { result ≡ Ok true →
         EndsDone (R.remaining reader.old) (R.remaining reader.new)
         (W.contents writer.old) (W.contents writer.new) }
@@ -70,21 +110,23 @@ fn try_run<R: BufRead, W: Write>(alloc: Global, reader: &mut R, writer: &mut W) 
     }
 }
 
-/// As `try_run`; whatever came of it, what was written is flushed.
+/// As `try_run`; whatever came of it, what was written is flushed. The first fault is answered.
 fn run_and_flush<R: BufRead, W: Write>(
     alloc: Global,
     reader: &mut R,
     writer: &mut W,
-) -> io::Result<bool>
+) -> Result<bool, StreamFault>
     ensures done { result ≡ Ok true →
         EndsDone (R.remaining reader.old) (R.remaining reader.new)
         (W.contents writer.old) (W.contents writer.new) }
     ensures bad { result ≡ Ok false →
         EndsBad (R.remaining reader.old) (W.contents writer.old) (W.contents writer.new) }
 {
-    let is_header_good = try_run(alloc, reader, writer);
-    writer.flush()?;
-    is_header_good
+    let ended = try_run(alloc, reader, writer);
+    let flushed = flush(writer);
+    let is_header_good = ended?;
+    flushed?;
+    Ok(is_header_good)
 }
 
 /// Answers the lines of a reader up to its end, or its header alone where that is bad. Lines end in
@@ -103,6 +145,6 @@ pub fn run<R: BufRead, W: Write>(alloc: Global, reader: &mut R, writer: &mut W) 
     match run_and_flush(alloc, reader, writer) {
         Ok(true) => RunEnd::Done,
         Ok(false) => RunEnd::BadHeader,
-        Err(_) => RunEnd::Fault,
+        Err(fault) => RunEnd::Fault(fault),
     }
 }

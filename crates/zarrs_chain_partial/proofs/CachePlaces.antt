@@ -1,6 +1,6 @@
 -- Where the cache of a chain stands.
 use Rattle.std.proofs.Common.{◌≡◌, ℕ, suc, ◌-◌, ◌<◌, ◌≤◌, max, nat_le, Bool, true, false, not, if◌then◌else◌, Option, Some, None, List, [], ◌∷◌, ◌++◌, length, map, arith, refl, ap, sym, ◌∙◌}
-use Rattle.std.specs.Prelude.{option_map, is_some, is_ok, IsOkAnd, Result, Ok, Err}
+use Rattle.std.specs.Prelude.{option_map, is_ok, IsOkAnd, Result, Ok, Err}
 use Rattle.std.proofs.lemmas.Bool.Decides.{nat_tests}
 use Rattle.std.proofs.lemmas.List.{length-map}
 use Rattle.zarrs_chunk.specs.declared.codec_error.CodecError.{CodecError}
@@ -11,7 +11,7 @@ use Rattle.zarrs_array_to_array.specs.ArrayToArrayCodec.{ArrayMapping}
 use Rattle.zarrs_chain_partial.specs.CachePlace.{array_reads, codecs_read, last_without, greater, cache_place}
 use Rattle.zarrs_chain_parts.specs.Chain.{codec_reads, reads_all_if}
 use Rattle.zarrs_chain_partial.specs.ChunkRead.{asks_in_part}
-use Rattle.zarrs_chain_partial.specs.ChunkSource.{IsSizeOf, bytes_left, bytes_stage, cache_fits, cache_stage, has_cache, held_by, is_kept, source_of, stage_at, stage_by, stage_fits}
+use Rattle.zarrs_chain_partial.specs.ChunkSource.{IsSizeOf, bytes_left, bytes_stage, cache_fits, cache_stage, held_by, is_kept, source_of, stage_at, stage_by, stage_fits}
 use Rattle.zarrs_chain_parts.specs.PlainChain.{PlainCodec, bytes_codec, packbits_codec, vlen_codec, optional_codec, PlainChain}
 use Rattle.zarrs_chain_parts.specs.PlainVlen.{is_plain}
 use Rattle.zarrs_chain_partial.specs.declared.partial_decoder.cache.Cache.{Cache}
@@ -167,18 +167,6 @@ pub stage_by_fits : (codec : PartialDecoderCapability) (codecs : List PartialDec
 stage_by_fits codec codecs = fits_by codec codec.partial_decode codec.partial_read (length codecs) (bytes_left codecs) refl (left_within codecs)
 
 -- ---- whether there is a cache
-
-either_stage : (b : Bool) (below : ℕ) → has_cache (if b then stage.Bytes below else stage.Chunk) ≡ true
-either_stage true below = refl
-either_stage false below = refl
-
-stage_there : (count : ℕ) (place : Option ℕ) → has_cache (stage_at count place) ≡ is_some place
-stage_there count None = refl
-stage_there count (Some place) = either_stage (nat_le place count) (count - place)
-
--- a chain has a cache where it has a place for one
-pub cache_there : {B : Type 0} (reads_of : B → PartialDecoderCapability) (chain : PlainChain B) → has_cache (cache_stage reads_of chain) ≡ is_some (cache_place (codecs_read reads_of chain))
-cache_there reads_of chain = stage_there (length chain.outer) (cache_place (codecs_read reads_of chain))
 
 pub no_stage : {B : Type 0} (reads_of : B → PartialDecoderCapability) (chain : PlainChain B) → cache_place (codecs_read reads_of chain) ≡ None → cache_stage reads_of chain ≡ stage.Nowhere
 no_stage reads_of chain e = ap (stage_at (length chain.outer)) e

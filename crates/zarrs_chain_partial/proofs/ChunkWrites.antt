@@ -4,7 +4,7 @@ use Rattle.std.specs.List.{All}
 use Rattle.std.specs.Prelude.{IsOkAnd}
 use Rattle.std.proofs.lemmas.List.{length-replicate}
 use Rattle.std.proofs.lemmas.List.Elements.{All-replicate, All-set, All-tail}
-use Rattle.zarrs_chunk.specs.Answer.{◌>>=◌, demand, Answers, memory, fault, memory_or_fault}
+use Rattle.zarrs_chunk.specs.Answer.{demand, Answers, memory, fault, memory_or_fault}
 use Rattle.zarrs_chunk.specs.ChunkShape.{product}
 use Rattle.zarrs_chunk.specs.declared.codec_error.CodecError.{CodecError}
 use Rattle.zarrs_chunk.specs.declared.codec_error.CodecError.TheVariants.{InvalidFillValue}
@@ -21,16 +21,14 @@ use Rattle.zarrs_array_bytes.proofs.ElementLaw.{AreElements-elements}
 use Rattle.zarrs_array_bytes.proofs.WriteLemmas.{length-update}
 use Rattle.zarrs_codec.specs.BytesToBytesCodec.{BytesCodecs}
 use Rattle.zarrs_codec.specs.ChunkEdits.{with_elements}
-use Rattle.zarrs_codec.specs.declared.bytes_representation.BytesRepresentation.{BytesRepresentation}
 use Rattle.zarrs_bytes.specs.BytesCodec.{IsChunk}
 use Rattle.zarrs_bytes.specs.PartialWrite.{filled_chunk}
-use Rattle.zarrs_chain_parts.specs.Chain.{held_value, taken_form}
+use Rattle.zarrs_chain_parts.specs.Chain.{held_value}
 use Rattle.zarrs_chain_partial.specs.ChunkRead.{ChunkForm}
 use Rattle.zarrs_chain_partial.specs.ChunkWrite.{edited_value, started_chunk, value_left}
 use Rattle.zarrs_chain_parts.specs.Laws.{IsChainOfMappings}
 use Rattle.zarrs_chain_parts.proofs.ArraySteps.{ok, bind_ok, ok_is, length-elements}
 use Rattle.zarrs_chain_parts.proofs.ChainRelations.{held_value_is}
-use Rattle.zarrs_chain_parts.proofs.ChainSteps.{form_representation}
 use Rattle.zarrs_chain_parts.proofs.NestedRead.{chain_read_found}
 use Rattle.zarrs_chain_partial.proofs.PartialCalls.{held_of}
 
@@ -38,15 +36,6 @@ use Rattle.zarrs_chain_partial.proofs.PartialCalls.{held_of}
 
 updated_so : (type : ElementType) (count : ℕ) (places : List ℕ) (held new : Held) → validity type count held ≡ Ok tt → data_fit type (length places) new ≡ Ok tt → update_at_places type count places held new ≡ Ok (with_elements type (elements type count held) places new)
 updated_so type count places held new valid fit = rw (valid, fit) refl
-
--- an update that is due isn't refused
-pub never_refused : (V : Type 0) (type : ElementType) (count : ℕ) (places : List ℕ) (held new : Held) (wanted : Result V CodecError) (e : CodecError) → validity type count held ≡ Ok tt → data_fit type (length places) new ≡ Ok tt
-    → (memory e ≡ false → update_at_places type count places held new ≡ Err e) → memory e ≡ false → wanted ≡ Err e
-never_refused V type count places held new wanted e valid fit refused m =
-    absurd (no (with_elements type (elements type count held) places new) e (sym (updated_so type count places held new valid fit) ∙ refused m))
-  where
-    no : (chunk : Chunk) (e : CodecError) → ok chunk ≡ Err e → ⊥
-    no chunk e h = cc
 
 -- the value of the updated container is that of the chunk with the new elements
 pub value_answer : {B X : Type 0} (view : X → List ℕ) (result : Result X CodecError) (f : BytesCodecs B) (form : ChunkForm B) (held edited new : Held) (places : List ℕ) → validity form.type (product form.sizes) held ≡ Ok tt → data_fit form.type (length places) new ≡ Ok tt
@@ -96,26 +85,6 @@ pub left_answer : {B X : Type 0} (view : X → List ℕ) (result : Result X Code
     → Answers memory view result (edited_value f form chunk places new) → Answers memory_or_fault view result (value_left f form None stored places new)
 left_answer view result f form stored chunk places new e h =
     weaker view result (value_left f form None stored places new) (subst (λ (x : Result (List ℕ) CodecError). Answers memory view result x) (sym (left_is f form stored chunk places new e)) h)
-
-sized_so : (passed : Bool) (cause e : CodecError) (sizes : Result (Unit {0}) CodecError) (chunk : Chunk) → passed ≡ true → (demand passed cause >>= λ _. sizes >>= λ _. ok chunk) ≡ Err e → sizes ≡ Err e
-sized_so true cause e (Ok u) chunk p h = absurd (no chunk e h)
-  where
-    no : (chunk : Chunk) (e : CodecError) → ok chunk ≡ Err e → ⊥
-    no chunk e h = cc
-sized_so true cause e (Err x) chunk p h = same x e chunk h
-  where
-    same : (x e : CodecError) (chunk : Chunk) → ◌≡◌ {A = Result Chunk CodecError} (Err x) (Err e) → ◌≡◌ {A = Result (Unit {0}) CodecError} (Err x) (Err e)
-    same x e chunk h = cc
-sized_so false cause e sizes chunk p h = absurd cc
-
--- and a refusal of that chunk is the write's
-pub left_refused : {B : Type 0} (f : BytesCodecs B) (form : ChunkForm B) (encoded : List ℕ) (r : BytesRepresentation) (stored : Option (List ℕ)) (places : List ℕ) (new : Held) (e : CodecError) → taken_form f form.chain form.sizes form.type form.fill ≡ Ok (encoded, r) → fill_fits form.type form.fill ≡ true
-    → started_chunk f form stored ≡ Err e → value_left f form None stored places new ≡ Err e
-left_refused f form encoded r None places new e taken fits h =
-    let n = product form.sizes in
-    let sized = sized_so (fill_fits form.type form.fill) InvalidFillValue e (sizes_fit form.type n) (replicate n (fill_element form.type form.fill)) fits h in
-    rw (form_representation f form.chain form.sizes form.type form.fill (encoded, r) taken, sized) refl
-left_refused f form encoded r (Some value) places new e taken fits h = rw h refl
 
 -- ---- elements of a chunk with new elements
 

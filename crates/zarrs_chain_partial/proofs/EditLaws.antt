@@ -1,9 +1,9 @@
 -- Edits of stored values are edits of chunks.
 use Rattle.std.proofs.Common.{◌≡◌, ℕ, zero, suc, ◌+◌, ◌<◌, Bool, true, false, if◌then◌else◌, Option, Some, None, List, [], ◌∷◌, ◌++◌, length, take, get_or, Result, Ok, Err, arith, refl, ap, sym, ◌∙◌, subst}
-use Rattle.std.specs.List.{All, range_with_len}
-use Rattle.std.specs.Prelude.{◌↔◌, IsOkAnd, slice_index}
+use Rattle.std.specs.List.{All}
+use Rattle.std.specs.Prelude.{◌↔◌, IsOkAnd}
 use Rattle.std.proofs.lemmas.List.{take_more}
-use Rattle.std.proofs.lemmas.List.Elements.{All-take, All-drop, All-head, All-map, All-replicate, All-tail}
+use Rattle.std.proofs.lemmas.List.Elements.{All-take, All-head, All-replicate, All-tail}
 use Rattle.zarrs_chunk.specs.Answer.{◌>>=◌, seen}
 use Rattle.zarrs_chunk.specs.ChunkShape.{product}
 use Rattle.zarrs_chunk.specs.Indexer.{selection_of}
@@ -11,8 +11,8 @@ use Rattle.zarrs_chunk.specs.declared.codec_error.CodecError.{CodecError}
 use Rattle.zarrs_data_type.specs.Element.{Element, absent, present, Chunk, fill_element}
 use Rattle.zarrs_data_type.specs.ElementType.{ElementType, fixed, text, bytes, optional}
 use Rattle.zarrs_data_type.specs.FillValue.{fill_fits, front_of, is_null}
-use Rattle.zarrs_array_bytes.specs.Elements.{under_flag, element_at, elements}
-use Rattle.zarrs_array_bytes.specs.Held.{Held, flen, vlen, masked}
+use Rattle.zarrs_array_bytes.specs.Elements.{elements}
+use Rattle.zarrs_array_bytes.specs.Held.{Held}
 use Rattle.zarrs_array_bytes.specs.Update.{update}
 use Rattle.zarrs_array_bytes.specs.Validity.{data_fit}
 use Rattle.zarrs_codec.specs.BytesToBytesCodec.{AreBytes, BytesCodecs, IsLawful}
@@ -23,14 +23,16 @@ use Rattle.zarrs_bytes.specs.PartialWrite.{filled_chunk}
 use Rattle.zarrs_packbits.specs.Laws.{HasBytes}
 use Rattle.zarrs_chain_partial.specs.ChunkRead.{ChunkForm}
 use Rattle.zarrs_chain_partial.specs.ChunkWrite.{order_in_place, stored_written, value_left}
-use Rattle.zarrs_chain_partial.specs.Edits.{chunk_or_fill, edited_state, states_edited, edited_store, stores_edited, AcceptsEdits, edit_excuse, excuse_at, EditHasBytes, HeldHasBytes, IsStoredFor, IsWritable, StateHasBytes}
+use Rattle.zarrs_chain_partial.specs.Edits.{chunk_or_fill, edited_state, states_edited, edited_store, stores_edited, AcceptsEdits, edit_excuse, excuse_at, EditHasBytes, IsStoredFor, IsWritable, StateHasBytes}
 use Rattle.zarrs_chain_parts.specs.Laws.{IsChainOfMappings}
+use Rattle.zarrs_chain_parts.specs.MachineBytes.{HeldHasBytes}
 use Rattle.zarrs_chain_parts.specs.NormalForm.{normal_form}
 use Rattle.zarrs_chain_parts.specs.Written.{ChainWritten}
 use Rattle.zarrs_chain_partial.specs.declared.partial_encoder.edits.Edit.{Edit}
 use Rattle.zarrs_chain_partial.specs.declared.partial_encoder.edits.Edit.TheVariants.{Encode, Erase}
 use Rattle.zarrs_chain_parts.proofs.ArraySteps.{bind_ok}
 use Rattle.zarrs_chain_parts.proofs.ChainSteps.{seen_ok}
+use Rattle.zarrs_chain_parts.proofs.HeldBytes.{held_bytes}
 use Rattle.zarrs_chain_partial.proofs.ChunkWrites.{All-update, edited_is}
 use Rattle.zarrs_chain_parts.proofs.NestedForNormal.{written_for_normal}
 use Rattle.zarrs_chain_parts.proofs.NestedNormal.{normal_elements, normal_twice, normal_updated}
@@ -39,28 +41,6 @@ use Rattle.zarrs_chain_partial.proofs.PartialReads.{IsReadable}
 use Rattle.zarrs_chain_partial.proofs.PlaceWrites.{data_inside, left_by}
 
 -- ---- bytes of elements
-
-flag_bytes : (byte : ℕ) (element : Element) → HasBytes element → HasBytes (under_flag byte element)
-flag_bytes zero element h = tt
-flag_bytes (suc byte) element h = h
-
-element_bytes : (type : ElementType) (held : Held) (place : ℕ) → HeldHasBytes held → HasBytes (element_at type held place)
-element_bytes (fixed width components sign) (flen raw) place h =
-    All-take (λ (byte : ℕ). byte < 256) _ _ (All-drop (λ (byte : ℕ). byte < 256) _ raw.items h)
-element_bytes (fixed width components sign) (vlen raw offsets) place h = tt
-element_bytes (fixed width components sign) (masked inner mask) place h = tt
-element_bytes text (flen raw) place h = tt
-element_bytes text (vlen raw offsets) place h = All-take (λ (byte : ℕ). byte < 256) _ _ (All-drop (λ (byte : ℕ). byte < 256) _ raw.items h)
-element_bytes text (masked inner mask) place h = tt
-element_bytes bytes (flen raw) place h = tt
-element_bytes bytes (vlen raw offsets) place h = All-take (λ (byte : ℕ). byte < 256) _ _ (All-drop (λ (byte : ℕ). byte < 256) _ raw.items h)
-element_bytes bytes (masked inner mask) place h = tt
-element_bytes (optional type) (flen raw) place h = tt
-element_bytes (optional type) (vlen raw offsets) place h = tt
-element_bytes (optional type) (masked inner mask) place h = flag_bytes (slice_index mask.items place) (element_at type inner place) (element_bytes type inner place h)
-
-pub held_bytes : (type : ElementType) (count : ℕ) (held : Held) → HeldHasBytes held → All HasBytes (elements type count held)
-held_bytes type count held h = All-map HasBytes (element_at type held) (range_with_len 0 count) (λ k d l. element_bytes type held (get_or (range_with_len 0 count) k d) h)
 
 either_bytes : (b : Bool) (element : Element) → HasBytes element → HasBytes (if b then absent else present element)
 either_bytes true element h = tt

@@ -161,9 +161,6 @@ module _ {B : Type 0} (f : BytesCodecs B) (chain : PlainChain B) (encoded : List
   abbrev read_below : Result (List ℕ) CodecError → List ℕ → Result Chunk CodecError
   read_below bytes places = seen (λ b. Some b) bytes >>= λ below. codec_read f chain.codec encoded type fill below places
 
-  abbrev whole : Option (List ℕ) → List ℕ → Result Chunk CodecError
-  whole stored places = outer_stored f chain.outer r stored >>= λ below. codec_read f chain.codec encoded type fill below places
-
   pub unchanged : (s : CacheStage) (stored : Option (List ℕ)) (source : Source) (places : List ℕ) → source_at f chain encoded type fill r s stored ≡ Ok source → All (λ place. place < product encoded) places
       → source_places f chain encoded type fill r source places ≡ (outer_stored f chain.outer r stored >>= λ below. codec_read f chain.codec encoded type fill below places)
   unchanged stage.Nowhere stored source places e h =

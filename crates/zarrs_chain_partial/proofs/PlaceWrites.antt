@@ -142,36 +142,8 @@ module _ (r : Result (List ℕ) CodecError) (fit : List ℕ → Result (Unit {0}
   abbrev fitted : Result (List ℕ) CodecError
   fitted = r >>= λ ps. fit ps >>= λ _. ok ps
 
-  placed_step : (m : CoordinateMap) (there : List ℕ) → fit places ≡ Ok tt → s ≡ Ok m → ok (map m.to places) ≡ Ok there → ((fitted >>= λ ps. s >>= λ (m : CoordinateMap). ok (map m.to ps)) ≡ Ok there) × (seen (λ _. tt {0}) fitted ≡ Ok tt)
-  placed_step m there fits mapped e = (rw (is, fits, mapped) e, rw (is, fits) refl)
-
   unfit_step : (e : CodecError) → fit places ≡ Err e → ((fitted >>= λ ps. s >>= λ (m : CoordinateMap). ok (map m.to ps)) ≡ Err e) × (seen (λ _. tt {0}) fitted ≡ Err e)
   unfit_step e unfit = (rw (is, unfit) refl, rw (is, unfit) refl)
-
--- where new elements go that fit their places
-pub placed_so : (type : ElementType) (arrays : List ArrayMapping) (sizes : List ℕ) (selection : Selection) (new : Held) (there : List ℕ) → encoded_places type arrays sizes selection ≡ Ok there → data_fit type (length there) new ≡ Ok tt
-    → (written_places type arrays sizes selection new ≡ Ok there) × (data_checked sizes type selection new ≡ Ok tt)
-placed_so type arrays sizes selection new there e fit =
-    let a = bind_ok (places_of selection sizes) _ there e in
-    let b = bind_ok (arrays_map type arrays sizes) _ there a.2 in
-    let long : length there ≡ length a.0 = ap length (sym (ok_is _ there b.2)) ∙ length-map a.0 b.0.to in
-    let fits : data_fit type (length a.0) new ≡ Ok tt = subst (λ (n : ℕ). data_fit type n new ≡ Ok tt) long fit in
-    placed_step (places_of selection sizes) (λ ps. data_fit type (length ps) new) (arrays_map type arrays sizes) a.0 a.1 b.0 there fits b.1 b.2
-
-refused_first : (r : Result (List ℕ) CodecError) (s : Result CoordinateMap CodecError) (m : CoordinateMap) (e : CodecError) → s ≡ Ok m → (r >>= λ places. s >>= λ (m : CoordinateMap). ok (map m.to places)) ≡ Err e → r ≡ Err e
-refused_first (Ok places) (Ok n) m e is h = absurd (no (map n.to places) e h)
-  where
-    no : (there : List ℕ) (e : CodecError) → ok there ≡ Err e → ⊥
-    no there e h = cc
-refused_first (Ok places) (Err x) m e is h = absurd cc
-refused_first (Err x) s m e is h = h
-
--- a selection that is refused
-pub placed_refused : (type : ElementType) (arrays : List ArrayMapping) (sizes : List ℕ) (selection : Selection) (new : Held) (m : CoordinateMap) (e : CodecError) → arrays_map type arrays sizes ≡ Ok m → encoded_places type arrays sizes selection ≡ Err e
-    → (written_places type arrays sizes selection new ≡ Err e) × (data_checked sizes type selection new ≡ Err e)
-placed_refused type arrays sizes selection new m e mapped h =
-    let r = refused_first (places_of selection sizes) (arrays_map type arrays sizes) m e mapped h in
-    (rw r refl, rw r refl)
 
 -- new elements that don't fit their places
 pub unfit_refused : (type : ElementType) (arrays : List ArrayMapping) (sizes : List ℕ) (selection : Selection) (new : Held) (there : List ℕ) (e : CodecError) → encoded_places type arrays sizes selection ≡ Ok there → data_fit type (length there) new ≡ Err e

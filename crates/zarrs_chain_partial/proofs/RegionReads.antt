@@ -156,9 +156,6 @@ module _ {B : Type 0} (f : BytesCodecs B) (form : ChunkForm B) (encoded : List �
   pub region_goes : encoded_places form.type form.chain.arrays form.sizes (subset region) ≡ Ok (map h.map_is.to (window_places window))
   region_goes = rw (places_are form.sizes region inside counted, h.mapped) refl
 
-  pub region_bounds : (Q : CodecError → Type 0) → IfErr (bounds_of (subset region) form.sizes) Q
-  region_bounds Q = rw (bounds_from form.sizes region inside) tt
-
   module _ (source : Source) where
     abbrev wanted : Result Chunk CodecError
     wanted = source_read f form encoded r source (subset region)

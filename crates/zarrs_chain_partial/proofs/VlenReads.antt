@@ -1,11 +1,11 @@
 -- Reads in part of a chunk of `vlen`.
-use Rattle.std.proofs.Common.{◌≡◌, ℕ, ◌<◌, ◌^◌, nat_lt, if◌then◌else◌, Bool, true, false, Option, Some, None, List, [], map, Result, Ok, Err, IfOk, refl, ap, sym, ◌∙◌, subst}
-use Rattle.std.specs.Prelude.{is_ok, is_some, IfErr, IsOkAnd}
+use Rattle.std.proofs.Common.{◌≡◌, ℕ, ◌<◌, ◌^◌, nat_lt, if◌then◌else◌, Bool, true, false, Option, Some, None, List, map, Result, Ok, Err, IfOk, refl, ap, sym, ◌∙◌, subst}
+use Rattle.std.specs.Prelude.{is_ok, is_some, IsOkAnd}
 use Rattle.std.specs.List.{All}
 use Rattle.zarrs_chunk.specs.Answer.{◌>>=◌, Answers, AnswersBy, checked_u64, demand, memory, seen}
 use Rattle.zarrs_chunk.specs.AnswerLaws.{demand_ok}
 use Rattle.zarrs_chunk.specs.ChunkShape.{product}
-use Rattle.zarrs_chunk.specs.Selection.{Selection, bounds_of, places_of}
+use Rattle.zarrs_chunk.specs.Selection.{Selection, places_of}
 use Rattle.zarrs_chunk.specs.declared.codec_error.CodecError.{CodecError}
 use Rattle.zarrs_chunk.specs.declared.codec_error.CodecError.TheVariants.{Overflow, UnsupportedDataType}
 use Rattle.zarrs_chunk.specs.declared.codec_error.CodecName.TheVariants as codec
@@ -29,11 +29,11 @@ use Rattle.zarrs_chunk.proofs.PlaceLaws.{places_below}
 use Rattle.zarrs_chain_parts.specs.Laws.{HasMappings}
 use Rattle.zarrs_chain_parts.specs.Representation.{codec_representation, vlen_representation}
 use Rattle.zarrs_chain_parts.specs.Stands.{CodecStands}
-use Rattle.zarrs_chain_partial.specs.VlenPartialDecoder.{CodecForm, codec_selection_rests_on, codec_stored_read, CodecWhereSure}
+use Rattle.zarrs_chain_partial.specs.VlenPartialDecoder.{CodecForm, codec_stored_read, CodecWhereSure}
 use Rattle.zarrs_codec.specs.StorageState.{are_sure, StorageState}
 use Rattle.zarrs_codec_chain.specs.declared.vlen_codec.VlenCodec.{VlenCodec}
 use Rattle.zarrs_chain_parts.proofs.Answered.{from_ok}
-use Rattle.zarrs_chain_parts.proofs.ArraySteps.{ok, bind_ok, error_is, ok_is}
+use Rattle.zarrs_chain_parts.proofs.ArraySteps.{ok, bind_ok, ok_is}
 use Rattle.zarrs_chain_parts.proofs.ChainSteps.{chunk_count}
 use Rattle.zarrs_chain_parts.proofs.NestedDecode.{chunk_only}
 use Rattle.zarrs_chain_partial.proofs.PartialCalls.{counted_is, held_of, variable_fits}
@@ -174,26 +174,6 @@ vlen_fills f codec sizes type fill selection taken =
     each_place (places_of selection sizes) (All (λ place. place < product sizes)) (map (λ _. fill_element type fill)) _ (places_below selection sizes)
     (λ places inside. codec_fills f (plain_vlen codec) sizes type fill r.0 places r.1)
 
--- ---- indexers
-
-bound_ok : (b : Result (Unit {0}) CodecError) (rest : Unit {0} → Result (List ℕ) CodecError) (places : List ℕ) (Q : CodecError → Type 0) → (b >>= rest) ≡ Ok places → IfErr b Q
-bound_ok (Ok u) rest places Q e = tt
-bound_ok (Err x) rest places Q e = absurd cc
-
--- an indexer whose places are answered is in bounds
-pub in_bounds : (sizes : List ℕ) (selection : Selection) (places : List ℕ) (Q : CodecError → Type 0) → places_of selection sizes ≡ Ok places → IfErr (bounds_of selection sizes) Q
-in_bounds sizes selection places Q e = bound_ok (bounds_of selection sizes) _ places Q e
-
-bound_err : (V : Type 0) (b : Result (Unit {0}) CodecError) (rest : Unit {0} → Result (List ℕ) CodecError) (error : CodecError) → (memory error ≡ false → (b >>= rest) ≡ Err error)
-    → IfErr b (λ cause. memory error ≡ false → ◌≡◌ {A = Result V CodecError} (Err cause) (Err error))
-bound_err V (Ok u) rest error h = tt
-bound_err V (Err cause) rest error h = λ m. ap (λ (x : CodecError). let r : Result V CodecError = Err x in r) (error_is {A = List ℕ} [] cause error (h m))
-
--- the bounds' refusal is the first
-pub out_of_bounds : (V : Type 0) (sizes : List ℕ) (selection : Selection) (error : CodecError) → (memory error ≡ false → places_of selection sizes ≡ Err error)
-    → IfErr (bounds_of selection sizes) (λ cause. memory error ≡ false → ◌≡◌ {A = Result V CodecError} (Err cause) (Err error))
-out_of_bounds V sizes selection error h = bound_err V (bounds_of selection sizes) _ error h
-
 -- ---- sure bytes
 
 both_refused : (b : Result (List ℕ) CodecError) (next : List ℕ → Result (List ℕ) CodecError) (P : List ℕ → Type 0) → IfOk b (λ places. IfOk (next places) P) → IfOk (b >>= next) P
@@ -209,11 +189,3 @@ pub where_sure : {B : Type 0} (form : CodecForm B) (before : StorageState) (sele
 where_sure form before selection P places e h reads =
     both_refused (places_of selection form.sizes) (codec_rests_on form.codec form.sizes form.type form.fill before.value) (λ numbers. are_sure before.sure numbers ≡ true → P)
     (places_so (places_of selection form.sizes) places (λ ps. IfOk (codec_rests_on form.codec form.sizes form.type form.fill before.value ps) (λ numbers. are_sure before.sure numbers ≡ true → P)) e (h reads))
-
-anyway : (r : Result (List ℕ) CodecError) (sure : Option (ℕ → Bool)) (P : Type 0) → P → IfOk r (λ numbers. are_sure sure numbers ≡ true → P)
-anyway (Ok numbers) sure P h = λ s. h
-anyway (Err e) sure P h = tt
-
--- what holds anyway holds where bytes are sure
-pub sure_anyway : {B : Type 0} (form : CodecForm B) (before : StorageState) (selection : Selection) (P : Type 0) → P → CodecWhereSure form before selection P
-sure_anyway form before selection P h reads = anyway (codec_selection_rests_on form before.value selection) before.sure P h

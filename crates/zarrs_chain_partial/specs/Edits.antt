@@ -4,15 +4,15 @@ use Rattle.zarrs_chunk.specs.Answer.{◌>>=◌, Excused, fault, memory_or_fault,
 use Rattle.zarrs_chunk.specs.Indexer.{selection_of}
 use Rattle.zarrs_chunk.specs.declared.codec_error.CodecError.{CodecError}
 use Rattle.zarrs_data_type.specs.Element.{Chunk}
-use Rattle.zarrs_array_bytes.specs.Held.{Held, flen, vlen, masked}
 use Rattle.zarrs_codec.specs.ArrayWriter.{IsRefusedWrite}
-use Rattle.zarrs_codec.specs.BytesToBytesCodec.{AreBytes, BytesCodecs}
+use Rattle.zarrs_codec.specs.BytesToBytesCodec.{BytesCodecs}
 use Rattle.zarrs_codec.specs.ChunkEdits.{edited_chunk}
 use Rattle.zarrs_codec.specs.StorageState.{StorageState, count_if}
 use Rattle.zarrs_bytes.specs.PartialWrite.{filled_chunk}
 use Rattle.zarrs_packbits.specs.Laws.{HasBytes}
 use Rattle.zarrs_chain_partial.specs.ChunkRead.{ChunkForm}
 use Rattle.zarrs_chain_partial.specs.ChunkWrite.{stored_written}
+use Rattle.zarrs_chain_parts.specs.MachineBytes.{HeldHasBytes}
 use Rattle.zarrs_chain_parts.specs.Written.{ChainWritten}
 use Rattle.zarrs_chain_partial.specs.declared.partial_encoder.edits.Edit.{Edit}
 use Rattle.zarrs_chain_partial.specs.declared.partial_encoder.edits.Edit.TheVariants.{Encode, Erase}
@@ -46,13 +46,7 @@ abbrev pub StateHasBytes : Option Chunk → Type 0
 StateHasBytes None = Unit {0}
 StateHasBytes (Some chunk) = All HasBytes chunk
 
--- each number of a container's elements is a byte
-abbrev pub HeldHasBytes : Held → Type 0
-HeldHasBytes (flen raw) = AreBytes raw.items
-HeldHasBytes (vlen raw offsets) = AreBytes raw.items
-HeldHasBytes (masked inner mask) = HeldHasBytes inner
-
--- and of an edit's
+-- each number of an edit's elements is a byte
 abbrev pub EditHasBytes : Edit → Type 0
 EditHasBytes (Encode indexer new) = HeldHasBytes new
 EditHasBytes Erase = Unit {0}

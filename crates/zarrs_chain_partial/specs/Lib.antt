@@ -1,11 +1,13 @@
 pub mod CachePlace
 pub mod ChunkRead
 pub mod ChunkSource
+pub mod CacheBlank
 pub mod SizeLaws
 pub mod SliceHandle
 pub mod ChunkReader
 pub mod PartialDecoder
 pub mod VlenPartialDecoder
+pub mod CountLaws
 pub mod ChunkWrite
 pub mod PartialEncoder
 pub mod Edits

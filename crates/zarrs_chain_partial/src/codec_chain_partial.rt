@@ -27,7 +27,8 @@ use zarrs_data_type::{DataType, FillValue};
 /// What a [`CodecChain`] makes to read and to write a chunk in part. What is promised of it stands at the
 /// methods of the impl for [`CodecChain`].
 pub trait CodecChainPartialTraits<B: BytesToBytesCodecTraits> {
-    /// A decoder of a chunk in part, over a handle.
+    /// A decoder of a chunk in part, over a handle. A refusal hands the handle back; which ones
+    /// there are stands at the method of the impl.
     fn partial_decoder<'a, H: BytesPartialDecoderTraits>(
         &'a self,
         alloc: Global,
@@ -37,7 +38,8 @@ pub trait CodecChainPartialTraits<B: BytesToBytesCodecTraits> {
         fill_value: &FillValue,
     ) -> Result<ArrayPartialDecoder<'a, H, B>, Refused<H>>;
 
-    /// An encoder of a chunk in part, over a handle.
+    /// An encoder of a chunk in part, over a handle. A refusal hands the handle back; which ones
+    /// there are stands at the method of the impl.
     fn partial_encoder<'a, H: BytesPartialEncoderTraits>(
         &'a self,
         alloc: Global,
@@ -49,11 +51,19 @@ pub trait CodecChainPartialTraits<B: BytesToBytesCodecTraits> {
 }
 
 impl<B: BytesToBytesCodecTraits> CodecChainPartialTraits<B> for CodecChain<B> {
-    /// A decoder of a chunk in part, over a handle. Refusals, the first that holds, `OutOfMemory` aside:
-    /// those of `encoded_representation`, before the handle is asked; with a cache, `Storage`, and then
-    /// those of what decodes the value up to the cache: `BytesCodec` of the last bytes codec, then of the
-    /// one before; those of the codec to bytes. A refusal hands the handle back, as it stands. Without a
-    /// cache the handle isn't asked.
+    /// A decoder of a chunk in part, over a handle. Refusals, the first that holds, `OutOfMemory`
+    /// aside: those of `encoded_representation`, before the handle is asked; with a cache,
+    /// `Storage`, and then those of what decodes the value up to the cache: `BytesCodec` of the
+    /// last bytes codec, then of the one before; and where the cache holds elements, over
+    /// `optional` and over a `vlen` that isn't plain, what `CodecChain::decode` refuses of the
+    /// value of this codec:
+    ///
+    /// - of `vlen` `InvalidBytesLength`, `IndexLength`, `Overflow`, those of the index chain,
+    ///   `InvalidOffsets`, those of the data chain;
+    /// - of `optional` `InvalidBytesLength`, `HeaderOverflow`, `InvalidBytesLength`, those of the
+    ///   mask chain, `MaskValue`, those of the data chain.
+    ///
+    /// A refusal hands the handle back, as it stands. Without a cache the handle isn't asked.
     fn partial_decoder<'a, H: BytesPartialDecoderTraits>(
         &'a self,
         alloc: Global,
@@ -68,17 +78,19 @@ impl<B: BytesToBytesCodecTraits> CodecChainPartialTraits<B> for CodecChain<B> {
             (form_with shape.now data_type.now fill_value.now) result }
         ensures cached { IfOk result
             (λ made. is_cached made ≡ has_cache_place B.reads_in_part (plain_chain self.now)) }
-        ensures over { IfOk result (λ decoder. H.state (handle_of decoder) ≡ H.state handle) }
-        ensures over_same { IfOk result (λ decoder. H.lent (handle_of decoder) ≡ H.lent handle) }
-        ensures handed_back { IfErr result
+        ensures over_state { IfOk result (λ decoder. H.state (handle_of decoder) ≡ H.state handle) }
+        ensures over_reference { IfOk result
+            (λ decoder. H.lent (handle_of decoder) ≡ H.lent handle) }
+        ensures handed_left { IfErr result
             (λ refused. H.state refused.handle ≡ after_reading (made result) (H.state handle)) }
-        ensures handed_same { IfErr result (λ refused. H.lent refused.handle ≡ H.lent handle) }
-        ensures untouched { cache_place (codecs_read B.reads_in_part (plain_chain self.now)) ≡
-            None → is_fault (made result) ≡ false }
+        ensures handed_reference { IfErr result (λ refused. H.lent refused.handle ≡ H.lent handle) }
+        ensures no_fault_if_uncached { cache_place
+            (codecs_read B.reads_in_part (plain_chain self.now)) ≡ None →
+            is_fault (made result) ≡ false }
         ensures measured_first { RefusedFirst (chain_representation_of B.functions
             (plain_chain self.now) shape.now data_type.now fill_value.now) (made result) }
-        ensures sure { asks_in_part (plain_chain self.now).outer (plain_chain self.now).codec ≡
-            true → is_fault (made result) ≡ false }
+        ensures no_fault_if_in_part { asks_in_part (plain_chain self.now).outer
+            (plain_chain self.now).codec ≡ true → is_fault (made result) ≡ false }
     {
         let mut handle = handle;
         match ChunkReader::new(alloc, self, &mut handle, shape, data_type, fill_value) {

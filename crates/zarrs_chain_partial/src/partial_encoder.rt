@@ -1,6 +1,5 @@
 pub(crate) mod array_partial_encoder;
 mod chunk_writer;
 pub(crate) mod edits;
-mod machine_bytes;
 mod place_writer;
 mod whole_writer;

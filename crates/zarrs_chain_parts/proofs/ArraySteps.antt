@@ -18,7 +18,7 @@ use Rattle.zarrs_array_to_array.specs.ArrayToArrayCodec.{ArrayMapping, coordinat
 use Rattle.zarrs_array_to_array.specs.CodecAnswers.{type_taken}
 use Rattle.zarrs_array_to_array.specs.Mapping.{mapping_of}
 use Rattle.zarrs_array_to_array.specs.declared.array_to_array_codec.ArrayToArrayCodec.{ArrayToArrayCodec}
-use Rattle.zarrs_array_to_array.proofs.CoordinateMaps.{same_places_map, composed_map, undone_map, length-moved, moved_twice, kept_places}
+use Rattle.zarrs_array_to_array.proofs.CoordinateMaps.{composed_map, undone_map, length-moved, moved_twice, kept_places}
 use Rattle.zarrs_chain_parts.specs.ArrayStages.{codec_map, arrays_map, IsMapWhere}
 
 -- ---- answers
@@ -125,9 +125,6 @@ map_parts type codec codecs sizes m e =
     let b = bind_ok (type_taken codec type) _ a.0 a.1 in
     let c = bind_ok (arrays_map type codecs a.0.encoded) _ m a.2 in
     record { first = a.0; rest = c.0; taken = b.1; done = b.2; others = c.1; is = sym (ok_is (composition a.0 c.0) m c.2) }
-
-pub map_none : (type : ElementType) (sizes : List ℕ) → IsMapWhere type [] sizes
-map_none type sizes = same_places_map sizes sizes refl (λ p. p)
 
 next_is : (codec : ArrayMapping) (sizes next : List ℕ) (m : CoordinateMap) → IsMapTo (coordinates codec sizes) sizes next → coordinates codec sizes ≡ Ok m → (m.encoded ≡ next) × IsCoordinateMap sizes m
 next_is codec sizes next m h e = subst (λ (r : Result CoordinateMap CodecError). IsMapTo r sizes next) e h

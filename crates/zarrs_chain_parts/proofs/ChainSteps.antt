@@ -35,7 +35,7 @@ use Rattle.zarrs_chain_parts.specs.Encode.{offset_bytes, all_bytes, codec_value}
 use Rattle.zarrs_chain_parts.specs.Decode.{Decoder, part_chunk, offsets_in_chunk, slices, vlen_parts, vlen_chunk, optional_parts, flag_in, flags_in, count_set, under_flags, optional_chunk, around_chunk, codec_chunk, chain_chunk}
 use Rattle.zarrs_chain_parts.specs.Representation.{Measure, flag_type, byte_type, offset_type, blank_fill, codec_representation, chain_representation}
 use Rattle.zarrs_chain_parts.proofs.NestedParts.{length_under}
-use Rattle.zarrs_chain_parts.proofs.ArraySteps.{ok, err, at_ok, bind_ok, ok_is, ok_no_err, counted_so}
+use Rattle.zarrs_chain_parts.proofs.ArraySteps.{ok, err, at_ok, bind_ok, ok_is, counted_so}
 
 -- ---- what a chain takes
 
@@ -85,14 +85,6 @@ form_refused (Ok m) measure error e X g = measured_so m.encoded (measure m.encod
 pub refused_representation : {B : Type 0} (f : BytesCodecs B) (chain : PlainChain B) (sizes : List ℕ) (type : ElementType) (fill : List ℕ) (error : CodecError) → taken_form f chain sizes type fill ≡ Err error → chain_representation f chain sizes type fill ≡ Err error
 refused_representation f chain sizes type fill error e =
     form_refused (arrays_map type chain.arrays sizes) (λ s. codec_representation f chain.codec s type fill) error e BytesRepresentation (λ m r. Ok (outer_representation f chain.outer r))
-
-pub refused_chunk : {B : Type 0} (f : BytesCodecs B) (chain : PlainChain B) (sizes : List ℕ) (type : ElementType) (fill value : List ℕ) (error : CodecError) → taken_form f chain sizes type fill ≡ Err error → chain_chunk f chain sizes type fill value ≡ Err error
-refused_chunk f chain sizes type fill value error e =
-    form_refused (arrays_map type chain.arrays sizes) (λ s. codec_representation f chain.codec s type fill) error e Chunk
-    (λ m r. outer_bytes f chain.outer r value >>= (λ below. codec_chunk f chain.codec m.encoded type fill below >>= (λ chunk. Ok (moved_chunk (inverse_map sizes m) chunk))))
-
-pub refused_value : {B : Type 0} (f : BytesCodecs B) (chain : PlainChain B) (sizes : List ℕ) (type : ElementType) (fill : List ℕ) (held : Held) (error : CodecError) → taken_form f chain sizes type fill ≡ Err error → held_value f chain sizes type fill held ≡ Err error
-refused_value f chain sizes type fill held error e = rw (refused_representation f chain sizes type fill error e) refl
 
 pub form_representation : {B : Type 0} (f : BytesCodecs B) (chain : PlainChain B) (sizes : List ℕ) (type : ElementType) (fill : List ℕ) (form : List ℕ × BytesRepresentation) → taken_form f chain sizes type fill ≡ Ok form → chain_representation f chain sizes type fill ≡ Ok (outer_representation f chain.outer form.1)
 form_representation f chain sizes type fill form e =
@@ -164,7 +156,7 @@ both_ok : (r s : Result (Unit {0}) CodecError) → r >>= (λ _. s) ≡ Ok tt →
 both_ok (Ok u) s h = refl
 both_ok (Err e) s h = absurd cc
 
-validity_fits : (type : ElementType) (count : ℕ) (held : Held) → validity type count held ≡ Ok tt → sizes_fit type count ≡ Ok tt
+pub validity_fits : (type : ElementType) (count : ℕ) (held : Held) → validity type count held ≡ Ok tt → sizes_fit type count ≡ Ok tt
 validity_fits type count held e = both_ok (sizes_fit type count) _ e
 
 pub encoded_so : {B : Type 0} (f : BytesCodecs B) (chain : PlainChain B) (sizes : List ℕ) (type : ElementType) (fill : List ℕ) (held : Held) (encoded : List ℕ) (r : BytesRepresentation) (t : IsTaken f chain sizes type fill encoded r) → validity type (product sizes) held ≡ Ok tt
@@ -173,28 +165,11 @@ encoded_so f chain sizes type fill held encoded r t valid =
     let fits = validity_fits type (product sizes) held valid in
     rw (t.mapped, t.measured, valid, fits) refl
 
--- a container that isn't the chunk's is refused
-pub invalid_value : {B : Type 0} (f : BytesCodecs B) (chain : PlainChain B) (sizes : List ℕ) (type : ElementType) (fill : List ℕ) (form : List ℕ × BytesRepresentation) (held : Held) (error : CodecError)
-    → taken_form f chain sizes type fill ≡ Ok form → validity type (product sizes) held ≡ Err error → held_value f chain sizes type fill held ≡ Err error
-invalid_value f chain sizes type fill form held error e invalid =
-    rw (form_representation f chain sizes type fill form e, invalid) refl
-
 -- the container that the array codecs make holds the moved chunk
 moved_held : {B : Type 0} (f : BytesCodecs B) (chain : PlainChain B) (sizes : List ℕ) (type : ElementType) (fill : List ℕ) (held : Held) (encoded : List ℕ) (r : BytesRepresentation) (t : IsTaken f chain sizes type fill encoded r)
     → checked_u64 (product sizes) ≡ Ok (product sizes) → validity type (product sizes) held ≡ Ok tt
     → encoded_chunk (Ok tt) (arrays_map type chain.arrays sizes) type sizes held ≡ Ok (moved_chunk t.map_is (elements type (product sizes) held))
 moved_held f chain sizes type fill held encoded r t counted valid = rw (t.mapped, counted, valid) refl
-
--- a want of memory is all that array codecs refuse of it
-pub moving_refused : {B : Type 0} (f : BytesCodecs B) (chain : PlainChain B) (sizes : List ℕ) (type : ElementType) (fill : List ℕ) (form : List ℕ × BytesRepresentation) (held : Held) (error : CodecError) (P : Type 0)
-    → taken_form f chain sizes type fill ≡ Ok form → checked_u64 (product sizes) ≡ Ok (product sizes) → validity type (product sizes) held ≡ Ok tt
-    → IfOk (encoded_chunk (Ok tt) (arrays_map type chain.arrays sizes) type sizes held) (λ chunk. AnswersBy memory (Holds type) (Err error) (Ok chunk))
-    → memory error ≡ false → P
-moving_refused f chain sizes type fill form held error P e counted valid found ne =
-    let t = is_taken f chain sizes type fill form e in
-    let chunk = moved_chunk t.map_is (elements type (product sizes) held) in
-    let answers : AnswersBy memory (Holds type) (Err error) (Ok chunk) = at_ok (encoded_chunk (Ok tt) (arrays_map type chain.arrays sizes) type sizes held) (λ (c : Chunk). AnswersBy memory (Holds type) (Err error) (Ok c)) chunk (moved_held f chain sizes type fill held form.0 form.1 t counted valid) found in
-    absurd (ok_no_err chunk error (answers ne))
 
 -- the value is what the codec to bytes answers of that container, through the bytes codecs
 pub value_through : {B : Type 0} (f : BytesCodecs B) (chain : PlainChain B) (sizes : List ℕ) (type : ElementType) (fill : List ℕ) (form : List ℕ × BytesRepresentation) (held made : Held)
@@ -296,14 +271,6 @@ chunk_count f (optional_codec ma mx mb da dx db) sizes (optional type) fill valu
 chunk_count f (optional_codec ma mx mb da dx db) sizes (fixed width components sign) fill value chunk e = absurd cc
 chunk_count f (optional_codec ma mx mb da dx db) sizes text fill value chunk e = absurd cc
 chunk_count f (optional_codec ma mx mb da dx db) sizes bytes fill value chunk e = absurd cc
-
-pub bytes_refused : {B : Type 0} (f : BytesCodecs B) (chain : PlainChain B) (sizes : List ℕ) (type : ElementType) (fill : List ℕ) (form : List ℕ × BytesRepresentation) (value : List ℕ) (error : CodecError)
-    → taken_form f chain sizes type fill ≡ Ok form → outer_bytes f chain.outer form.1 value ≡ Err error → chain_chunk f chain sizes type fill value ≡ Err error
-bytes_refused f chain sizes type fill form value error e refusal = chunk_through f chain sizes type fill form value e ∙ rw refusal refl
-
-pub content_refused : {B : Type 0} (f : BytesCodecs B) (chain : PlainChain B) (sizes : List ℕ) (type : ElementType) (fill : List ℕ) (form : List ℕ × BytesRepresentation) (value below : List ℕ) (error : CodecError)
-    → taken_form f chain sizes type fill ≡ Ok form → outer_bytes f chain.outer form.1 value ≡ Ok below → codec_chunk f chain.codec form.0 type fill below ≡ Err error → chain_chunk f chain sizes type fill value ≡ Err error
-content_refused f chain sizes type fill form value below error e opened refusal = chunk_through f chain sizes type fill form value e ∙ rw (opened, refusal) refl
 
 -- the container of the chunk that the codec to bytes reads is one that the array codecs move back
 moved_back_held : {B : Type 0} (f : BytesCodecs B) (chain : PlainChain B) (sizes : List ℕ) (type : ElementType) (fill : List ℕ) (held : Held) (chunk : Chunk) (encoded : List ℕ) (r : BytesRepresentation) (t : IsTaken f chain sizes type fill encoded r)

@@ -19,6 +19,7 @@ pub mod NestedEncode
 pub mod NestedFound
 pub mod NestedDecode
 pub mod NestedRead
+pub mod HeldBytes
 pub mod OptionalFlags
 pub mod ChainRelations
 pub mod OptionalSteps

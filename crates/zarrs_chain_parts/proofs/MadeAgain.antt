@@ -192,5 +192,5 @@ pub list_makes_again : {A B : Type 0} (excuse : PluginCreateError → Bool) (vie
 unfolding metadatas_in
 list_makes_again excuse view (Ok list) described chain answer m r = λ makes o.
     ap (λ x. chain_made makes (metadatas_in (λ l. l) x)) (sym answer)
-    ∙ chains_made_again described makes chain (record { arrays = m.mappings; codec = codecs-held (IsMadeAgain described makes) chain.codec m.inside r o.inside; outer = o.outer })
+    ∙ chains_made_again described makes chain (record { arrays = m.mappings; codec = codecs-held (IsMadeAgain described makes) chain.codec m.inner_mappings r o.inside; outer = o.outer })
 list_makes_again excuse view (Err e) described chain answer m r = tt

@@ -190,7 +190,7 @@ inner_stands : {B : Type 0} (f : BytesCodecs B) → IsLawful f → (arrays : Lis
     → StandsKept (WrittenThrough f arrays (codec_representation f codec) (CodecWritten f codec) outer) (StandsThrough f arrays (codec_representation f codec) (CodecStands f codec) outer) (normal_element codec)
 inner_stands f lawful arrays codec outer mappings has law = through_stands f lawful arrays (codec_representation f codec) (CodecWritten f codec) (CodecStands f codec) outer codec mappings (codec_keeps f lawful codec has) law
 
-codec_stands : {B : Type 0} (f : BytesCodecs B) → IsLawful f → (codec : PlainCodec B) → HasMappings codec → StandsTaken (CodecWritten f codec) (CodecStands f codec) (codec_representation f codec) (normal_element codec)
+pub codec_stands : {B : Type 0} (f : BytesCodecs B) → IsLawful f → (codec : PlainCodec B) → HasMappings codec → StandsTaken (CodecWritten f codec) (CodecStands f codec) (codec_representation f codec) (normal_element codec)
 unfolding CodecWritten CodecStands codec_representation normal_element
 codec_stands f lawful (bytes_codec order) has sizes type fill value chunk r positive each h room e w = subst (BytesStands order (form_of sizes type fill) value) (sym (map-id chunk)) (written_stands order sizes type fill value chunk w)
 codec_stands f lawful (packbits_codec settings) has sizes type fill value chunk r positive each h room e w = packbits.written_stands settings sizes type fill value chunk w
@@ -203,7 +203,7 @@ codec_stands f lawful (optional_codec ma mx mb da dx db) has sizes type fill val
 
 -- what is written for a chunk stands for its normal form
 pub chain_stands : {B : Type 0} (f : BytesCodecs B) (chain : PlainChain B) → IsLawful f → IsChainOfMappings chain → StandsKept (ChainWritten f chain) (ChainStands f chain) (normal_element chain.codec)
-chain_stands f chain lawful is = inner_stands f lawful chain.arrays chain.codec chain.outer is.mappings is.inside (codec_stands f lawful chain.codec is.inside)
+chain_stands f chain lawful is = inner_stands f lawful chain.arrays chain.codec chain.outer is.mappings is.inner_mappings (codec_stands f lawful chain.codec is.inner_mappings)
 
 -- two chunks are written alike exactly if their normal forms are equal
 pub chain_alike : {B : Type 0} (f : BytesCodecs B) (chain : PlainChain B) (sizes : List ℕ) (type : ElementType) (fill value other_value : List ℕ) (chunk other : Chunk) → IsLawful f → IsChainOfMappings chain → All HasBytes chunk → All HasBytes other → All (λ size. 0 < size) sizes

@@ -1,5 +1,5 @@
 -- Mask bytes as flags, and elements under a mask as the chain's definitions say them.
-use Rattle.std.proofs.Common.{◌≡◌, ℕ, zero, suc, ◌*◌, ◌<◌, ◌^◌, nat_eq, nat_lt, ◌&&◌, Bool, true, false, List, [], ◌∷◌, length, map, Result, Ok, Err, arith, refl, ap, sym, subst, ◌∙◌}
+use Rattle.std.proofs.Common.{◌≡◌, ℕ, zero, suc, ◌*◌, ◌<◌, ◌^◌, nat_eq, nat_lt, ◌&&◌, Bool, true, false, List, [], ◌∷◌, length, map, Result, Ok, Err, arith, refl, ap, sym, ◌∙◌}
 use Rattle.std.specs.List.{list_all}
 use Rattle.std.proofs.lemmas.Bool.{eq-eqb, eqb-true}
 use Rattle.std.proofs.lemmas.Bool.Decides.{nat_tests}
@@ -7,7 +7,7 @@ use Rattle.std.proofs.lemmas.List.{length-map}
 use Rattle.zarrs_chunk.specs.Answer.{◌>>=◌, demand}
 use Rattle.zarrs_chunk.specs.declared.codec_error.CodecError.{CodecError}
 use Rattle.zarrs_chunk.specs.declared.codec_error.CodecError.TheVariants.{MaskValue, Overflow, InvalidBytesLength}
-use Rattle.zarrs_data_type.specs.ElementType.{ElementType, optional, element_size}
+use Rattle.zarrs_data_type.specs.ElementType.{element_size}
 use Rattle.zarrs_data_type.specs.Element.{plain, absent, present, Chunk}
 use Rattle.zarrs_array_bytes.specs.Elements.{elements}
 use Rattle.zarrs_array_bytes.specs.Held.{Raw, Held, flen, vlen, masked}
@@ -16,7 +16,6 @@ use Rattle.zarrs_array_bytes.specs.Pieces.{pieces}
 use Rattle.zarrs_array_bytes.specs.Present.{present_elements, mask_of, expansion, present_places}
 use Rattle.zarrs_array_bytes.specs.Validity.{sizes_fit, levels_fit, validity, Holds}
 use Rattle.zarrs_array_bytes.proofs.Pieces.{pieces-suc, elements-pieces}
-use Rattle.zarrs_array_bytes.proofs.PresentAnswers.{present_held}
 use Rattle.zarrs_array_bytes.proofs.PresentLemmas.{marked, present_places-marked}
 use Rattle.zarrs_array_bytes.proofs.ValidLemmas.{both_ok, then_ok}
 use Rattle.zarrs_bytes.proofs.Coding.{demand_ok}
@@ -109,19 +108,6 @@ flags_valid raw small =
     let fits : sizes_fit flag_type n ≡ Ok tt = ap (λ (b : Bool). demand b Overflow) (to_nat_lt (n * element_size 1 1) (2 ^ 64) (omega (arith, one, small))) in
     let long : levels_fit InvalidBytesLength flag_type n (flen raw) ≡ Ok tt = ap (λ (b : Bool). demand b (InvalidBytesLength n (n * element_size 1 1))) (eq-eqb n (n * element_size 1 1) (sym one)) in
     then_ok (sizes_fit flag_type n) (levels_fit InvalidBytesLength flag_type n (flen raw)) fits long
-
--- a container of mask bytes holds the flags of the chunk under the mask
-pub flags_held : (type : ElementType) (inner : Held) (mask raw : Raw) (chunk : Chunk) → Holds (optional type) (masked inner mask) chunk → list_all (λ byte. nat_lt byte 2) mask.items ≡ true → raw.items ≡ mask.items → length chunk < 2 ^ 64
-    → Holds flag_type (flen raw) (map flag_of chunk)
-flags_held type inner mask raw chunk holds flags same small =
-    let known = present_held type inner mask chunk holds flags in
-    let bytes_are : map flag_of chunk ≡ byte_elements raw.items = flags_bytes chunk ∙ ap byte_elements (known.mask ∙ sym same) in
-    let long : length raw.items ≡ length (map flag_of chunk) = sym (ap (λ (c : Chunk). length c) bytes_are ∙ length-map raw.items (λ byte. plain (byte ∷ []))) in
-    let count : length raw.items ≡ length chunk = long ∙ length-map chunk flag_of in
-    record {
-      valid = subst (λ (n : ℕ). validity flag_type n (flen raw) ≡ Ok tt) long (flags_valid raw (omega (arith, count, small)));
-      elements_are = flag_elements raw (length (map flag_of chunk)) long ∙ sym bytes_are;
-    }
 
 -- a container that holds flags has their bytes
 pub flags_in_bytes : (held : Held) (raw : Raw) (chunk : Chunk) → Holds flag_type held chunk → fixed_part held ≡ Ok raw → chunk ≡ byte_elements raw.items

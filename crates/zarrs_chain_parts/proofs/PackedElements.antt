@@ -200,16 +200,6 @@ packed_bytes settings sizes (optional type) fill value chunk w = absurd (let e =
 
 -- ---- chunks
 
-pub elements_are : (settings : PackBitsSettings) (type : ElementType) (chunk : Chunk) → AreElements type chunk → AreElements type (normal_chunk settings type chunk)
-elements_are settings type [] h = All-nil (IsElement type)
-elements_are settings type (element ∷ chunk) h =
-    All-cons (IsElement type) (normal_element settings type element) (normal_chunk settings type chunk) (element_is settings type element (All-head (IsElement type) element chunk h)) (elements_are settings type chunk (All-tail (IsElement type) element chunk h))
-
-pub elements_again : (settings : PackBitsSettings) (type : ElementType) (chunk : Chunk) → AreElements type chunk → normal_chunk settings type (normal_chunk settings type chunk) ≡ normal_chunk settings type chunk
-elements_again settings type [] h = refl
-elements_again settings type (element ∷ chunk) h =
-    λ i. element_again settings type element (All-head (IsElement type) element chunk h) i ∷ elements_again settings type chunk (All-tail (IsElement type) element chunk h) i
-
 absent_test : (test : Bool) → (if test then absent else absent) ≡ absent
 absent_test true = refl
 absent_test false = refl

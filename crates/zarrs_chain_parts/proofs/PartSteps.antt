@@ -1,8 +1,8 @@
 -- A row of elements through a chain: the part that is written of it, and the part that it is read of.
-use Rattle.std.proofs.Common.{◌≡◌, ℕ, zero, suc, ◌*◌, ◌^◌, ◌==◌, nat_lt, true, false, List, [], ◌∷◌, None, Some, Result, Ok, arith, refl, sym, subst}
+use Rattle.std.proofs.Common.{◌≡◌, ℕ, zero, suc, ◌*◌, ◌^◌, ◌==◌, nat_lt, true, false, List, [], ◌∷◌, None, Result, Ok, arith, refl, subst}
 use Rattle.std.proofs.lemmas.Bool.Decides.{nat_tests}
 use Rattle.zarrs_chunk.specs.ChunkShape.{shape_of}
-use Rattle.zarrs_chunk.specs.Answer.{demand, Answers, AnswersBy, memory}
+use Rattle.zarrs_chunk.specs.Answer.{demand, AnswersBy, memory}
 use Rattle.zarrs_chunk.specs.declared.codec_error.CodecError.{CodecError}
 use Rattle.zarrs_chunk.specs.declared.codec_error.CodecError.TheVariants.{Overflow}
 use Rattle.zarrs_data_type.specs.ElementType.{ElementType, fixed, text, bytes, optional, element_size}
@@ -11,9 +11,7 @@ use Rattle.zarrs_data_type.specs.FillValue.{fill_fits}
 use Rattle.zarrs_array_bytes.specs.Chunks.{fill_chunk}
 use Rattle.zarrs_array_bytes.specs.Held.{Held}
 use Rattle.zarrs_array_bytes.specs.Validity.{sizes_fit, Holds}
-use Rattle.zarrs_codec.specs.BytesToBytesCodec.{BytesCodecs}
-use Rattle.zarrs_chain_parts.specs.PlainChain.{PlainChain}
-use Rattle.zarrs_chain_parts.specs.Chain.{row_sizes, held_value, held_part}
+use Rattle.zarrs_chain_parts.specs.Chain.{row_sizes}
 use Rattle.zarrs_chain_parts.specs.Decode.{Decoder, part_chunk}
 use Rattle.zarrs_chain_parts.proofs.ArraySteps.{ok}
 
@@ -23,25 +21,6 @@ test_of_suc count = grind (arith, nat_tests)
 pub row_shape : (count : ℕ) → shape_of (count ∷ []) ≡ row_sizes count
 row_shape zero = refl
 row_shape (suc count) = rw (test_of_suc count) refl
-
-row_is : (count : ℕ) (row : List ℕ) → ok (Some (suc count ∷ [])) ≡ ok (Some row) → suc count ∷ [] ≡ row
-row_is count row e = cc
-
-pub part_of_row : {B X : Type 0} (view : X → List ℕ) (result : Result X CodecError) (f : BytesCodecs B) (chain : PlainChain B) (count : ℕ) (row : List ℕ) (type : ElementType) (fill : List ℕ) (held : Held)
-    → ok (row_sizes count) ≡ ok (Some row) → Answers memory view result (held_value f chain row type fill held) → Answers memory view result (held_part f chain count type fill held)
-part_of_row view result f chain zero row type fill held e h = absurd cc
-part_of_row view result f chain (suc count) row type fill held e h =
-    subst (λ sizes. Answers memory view result (held_value f chain sizes type fill held)) (sym (row_is count row e)) h
-
-pub part_of_none : {B : Type 0} (f : BytesCodecs B) (chain : PlainChain B) (count : ℕ) (type : ElementType) (fill : List ℕ) (held : Held) → ok (row_sizes count) ≡ ok None → held_part f chain count type fill held ≡ Ok []
-part_of_none f chain zero type fill held e = refl
-part_of_none f chain (suc count) type fill held e = absurd cc
-
-pub chunk_of_row : (result : Result Held CodecError) (decode : Decoder) (count : ℕ) (row : List ℕ) (type : ElementType) (fill part : List ℕ)
-    → ok (row_sizes count) ≡ ok (Some row) → AnswersBy memory (Holds type) result (decode row type fill part) → AnswersBy memory (Holds type) result (part_chunk decode type fill count part)
-chunk_of_row result decode zero row type fill part e h = absurd cc
-chunk_of_row result decode (suc count) row type fill part e h =
-    subst (λ sizes. AnswersBy memory (Holds type) result (decode sizes type fill part)) (sym (row_is count row e)) h
 
 none_small : (size : ℕ) → demand {E = CodecError} (nat_lt (0 * size) (2 ^ 64)) Overflow ≡ Ok tt
 none_small size =

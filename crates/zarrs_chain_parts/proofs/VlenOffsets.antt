@@ -2,7 +2,7 @@
 use Rattle.std.proofs.Common.{◌≡◌, ℕ, ◌+◌, ◌-◌, ◌*◌, ◌/◌, ◌<◌, ◌≤◌, ◌^◌, Bool, true, false, if◌then◌else◌, List, [], ◌∷◌, ◌++◌, length, map, take, drop, get_or, slice_index, Ok, Err, arith, refl, ap, sym, subst, ◌∙◌}
 use Rattle.std.specs.Prelude.{IsOkAnd}
 use Rattle.std.specs.List.{All, concat, flat_map, range_with_len}
-use Rattle.std.proofs.lemmas.List.{append_assoc, append-nil, length-append, length-take, length-map, take_at, drop_at, drop_all, take_all, drop-drop, ext_get_or}
+use Rattle.std.proofs.lemmas.List.{length-map, take_all, ext_get_or}
 use Rattle.std.proofs.lemmas.List.Concat.{flat_map-append}
 use Rattle.std.proofs.lemmas.List.FromFn.{length-map-range_with_len, get_or-map-range_with_len}
 use Rattle.std.proofs.lemmas.Grind.{get_or_default_zero}
@@ -10,7 +10,6 @@ use Rattle.std.proofs.lemmas.Simd.{map-map}
 use Rattle.zarrs_chunk.specs.Answer.{◌>>=◌, demand}
 use Rattle.zarrs_chunk.specs.declared.codec_error.CodecError.{CodecError}
 use Rattle.zarrs_chunk.specs.declared.codec_error.CodecError.TheVariants.{OffsetTooLarge, InvalidBytesLength}
-use Rattle.zarrs_chunk.proofs.BoxTuples.{flat_map-take_more}
 use Rattle.zarrs_data_type.specs.Element.{Chunk, plain}
 use Rattle.zarrs_data_type.specs.ElementType.{element_size}
 use Rattle.zarrs_array_bytes.specs.Elements.{piece}
@@ -35,38 +34,6 @@ pub offset_long : (wide : Bool) (offset : ℕ) → length (offset_bytes wide off
 unfolding offset_bytes
 offset_long true offset = refl
 offset_long false offset = refl
-
-rows_long : {X : Type 0} (f : X → List ℕ) (size : ℕ) (xs : List X) → ((x : X) → length (f x) ≡ size) → length (flat_map f xs) ≡ length xs * size
-rows_long f size [] each = omega arith
-rows_long f size (x ∷ xs) each = omega (arith, length-append (f x) (flat_map f xs), each x, rows_long f size xs each)
-
-pub from_long : (wide : Bool) (first : ℕ) (offsets : List ℕ) → length (bytes_from wide first offsets) ≡ length offsets * offset_size wide
-from_long wide first offsets = rows_long (λ offset. offset_bytes wide (offset - first)) (offset_size wide) offsets (λ offset. offset_long wide (offset - first))
-
-taken_long : {X : Type 0} (xs : List X) (i : ℕ) → i < length xs → length (take i xs) ≡ i
-taken_long xs i l = omega (arith, length-take i xs)
-
--- one row more is written over what stood there
-pub row_put : {X : Type 0} (f : X → List ℕ) (size i : ℕ) (xs : List X) (d : X) (front now next row : List ℕ) → ((x : X) → length (f x) ≡ size) → i < length xs
-    → now ≡ flat_map f (take i xs) ++ drop (i * size) front → row ≡ f (get_or xs i d) → next ≡ take (i * size) now ++ (row ++ drop (i * size + size) now)
-    → next ≡ flat_map f (take (i + 1) xs) ++ drop ((i + 1) * size) front
-row_put f size i xs d front now next row each l was is put =
-    let done = flat_map f (take i xs) in
-    let left = drop (i * size) front in
-    let long : length done ≡ i * size = rows_long f size (take i xs) each ∙ ap (λ n. n * size) (taken_long xs i l) in
-    let head : take (i * size) now ≡ done = ap (take (i * size)) was ∙ take_at done left (i * size) long in
-    let behind : drop (i * size) now ≡ left = ap (drop (i * size)) was ∙ drop_at done left (i * size) long in
-    let at : i * size + size ≡ (i + 1) * size = omega arith in
-    let rest : drop (i * size + size) now ≡ drop ((i + 1) * size) front =
-    sym (drop-drop size (i * size) now) ∙ ap (drop size) behind ∙ drop-drop size (i * size) front ∙ ap (λ n. drop n front) at in
-    put ∙ (λ k. head k ++ (is k ++ rest k)) ∙ sym (append_assoc done (f (get_or xs i d)) (drop ((i + 1) * size) front))
-    ∙ ap (λ (ys : List ℕ). ys ++ drop ((i + 1) * size) front) (sym (flat_map-take_more f xs i d l))
-
--- all rows are written
-pub rows_put : {X : Type 0} (f : X → List ℕ) (size : ℕ) (xs : List X) (front : List ℕ) → length front ≡ length xs * size → flat_map f (take (length xs) xs) ++ drop (length xs * size) front ≡ flat_map f xs
-rows_put f size xs front h =
-    ap (λ ys. flat_map f (take (length xs) xs) ++ ys) (drop_all (length xs * size) front (omega (arith, h)))
-    ∙ append-nil (flat_map f (take (length xs) xs)) ∙ ap (flat_map f) (take_all (length xs) xs (omega arith))
 
 -- numbers that are those of the pieces, place by place
 pub numbers_are : (f : List ℕ → ℕ) (size count : ℕ) (items numbers : List ℕ) → length numbers ≡ count → ((k : ℕ) → k < count → get_or numbers k 0 ≡ f (piece size items k)) → numbers ≡ map f (pieces size count items)

@@ -28,7 +28,7 @@ HasMappings (optional_codec ma mx mb da dx db) = All IsMapping ma × HasMappings
 -- a chain whose array codecs, and those of all chains inside, are what their types hold to
 pub record IsChainOfMappings {B : Type 0} (chain : PlainChain B) : Type 0 where
   pub mappings : All IsMapping chain.arrays
-  pub inside : HasMappings chain.codec
+  pub inner_mappings : HasMappings chain.codec
 
 -- What is written for a chunk stands for its normal form.
 abbrev pub WrittenStands : {B : Type 0} → BytesCodecs B → Type 0

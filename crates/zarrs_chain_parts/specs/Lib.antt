@@ -17,6 +17,7 @@ pub mod CodecNames
 pub mod MadeChain
 pub mod WrittenMetadata
 pub mod MadeAgain
+pub mod MachineBytes
 pub mod Laws
 pub use Rattle.zarrs_chunk.specs.Answer
 pub use Rattle.zarrs_data_type.specs.Element

@@ -1,6 +1,7 @@
 //! The array codecs of a chain, one after another.
 ghost use Rattle.std.specs.Prelude.{◌≡◌, Ok, IfOk, map, false};
 ghost use Rattle.zarrs_chunk.specs.Answer.{AnswersBy, memory, is_fault, seen, Gives};
+ghost use Rattle.zarrs_array_bytes.specs.Blank.{KeepsBlanks};
 ghost use Rattle.zarrs_array_bytes.specs.Validity.{Holds};
 ghost use Rattle.zarrs_codec.specs.CoordinateMap.{IsMapTo};
 ghost use Rattle.zarrs_codec.specs.MappedChunk.{encoded_chunk, decoded_chunk};
@@ -55,7 +56,8 @@ pub fn shape_through(
     }
 }
 
-/// The chunk that the codecs make of this one, where they take it.
+/// The chunk that the codecs make of this one, where they take it. Refusals, the first that holds,
+/// of each codec in order: those of its `encoded_shape`; those of its `encode`; `OutOfMemory`.
 pub fn encode_arrays<'a>(
     alloc: Global,
     codecs: &[ArrayToArrayCodec],
@@ -64,7 +66,7 @@ pub fn encode_arrays<'a>(
     data_type: &DataType,
     fill_value: &FillValue,
 ) -> Result<ArrayBytes<'a>, CodecError>
-    ensures found { EncodesThrough data_type.now codecs.now shape.now chunk.entry result }
+    ensures moved { EncodesThrough data_type.now codecs.now shape.now chunk.entry result }
     ensures map { IfOk result
         (λ _. IsMapWhere data_type.now (map mapping_of codecs.now) shape.now) }
     ensures no_fault { is_fault result ≡ false }
@@ -79,7 +81,9 @@ pub fn encode_arrays<'a>(
     }
 }
 
-/// The chunk of this shape that the codecs make the given one of, where they take such chunks.
+/// The chunk of this shape that the codecs make the given one of, where they take such chunks. Where
+/// blank elements stand under absent ones, they do in what is made. Refusals, of each codec: those
+/// of its `encoded_shape`; those of its `decode`; `OutOfMemory`.
 pub fn decode_arrays<'a>(
     alloc: Global,
     codecs: &[ArrayToArrayCodec],
@@ -88,7 +92,8 @@ pub fn decode_arrays<'a>(
     data_type: &DataType,
     fill_value: &FillValue,
 ) -> Result<ArrayBytes<'a>, CodecError>
-    ensures found { DecodesThrough data_type.now codecs.now shape.now chunk.entry result }
+    ensures moved { DecodesThrough data_type.now codecs.now shape.now chunk.entry result }
+    ensures blank { KeepsBlanks data_type.now chunk.entry result }
     ensures map { IfOk result
         (λ _. IsMapWhere data_type.now (map mapping_of codecs.now) shape.now) }
     ensures no_fault { is_fault result ≡ false }

@@ -24,7 +24,7 @@ pub fn outer_representation<B: BytesToBytesCodecTraits>(
     }
 }
 
-/// The last codec's bytes, each codec's being made of those before.
+/// The last codec's bytes, each codec's being made of those before. Refusals: `OutOfMemory`.
 pub fn encode_bytes<'a, B: BytesToBytesCodecTraits>(
     alloc: Global,
     codecs: &[B],

@@ -44,9 +44,9 @@ pub fn vlen_configuration(
 ) -> Result<VlenCodecConfiguration, PluginCreateError>
     ensures answer { Answers plugin_memory vlen_seen result
         (made_of is_vlen_name read_vlen (metadata_seen metadata.now)) }
-    ensures index { IfOk result
+    ensures index_depth { IfOk result
         (λ c. depth_all (vlen_seen c).index_codecs < depth_of (metadata_seen metadata.now)) }
-    ensures content { IfOk result
+    ensures content_depth { IfOk result
         (λ c. depth_all (vlen_seen c).data_codecs < depth_of (metadata_seen metadata.now)) }
 {
     read_vlen_configuration(alloc, metadata)
@@ -118,9 +118,9 @@ pub fn optional_configuration(
 ) -> Result<OptionalCodecConfiguration, PluginCreateError>
     ensures answer { Answers plugin_memory optional_seen result
         (made_of is_optional_name read_optional (metadata_seen metadata.now)) }
-    ensures mask { IfOk result
+    ensures mask_depth { IfOk result
         (λ c. depth_all (optional_seen c).mask_codecs < depth_of (metadata_seen metadata.now)) }
-    ensures content { IfOk result
+    ensures content_depth { IfOk result
         (λ c. depth_all (optional_seen c).data_codecs < depth_of (metadata_seen metadata.now)) }
 {
     read_optional_configuration(alloc, metadata)

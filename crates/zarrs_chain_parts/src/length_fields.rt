@@ -5,7 +5,7 @@ ghost use Rattle.zarrs_chain_parts.specs.Decode.{length_of};
 /// The number that the first 8 bytes spell, the lowest first.
 #[tactic(auto, unfolding(crate::specs::Decode::length_of))]
 pub fn read_length(bytes: &[u8]) -> u64
-    requires long { 8 ≤ length bytes.now }
+    requires len { 8 ≤ length bytes.now }
     ensures value { result ≡ length_of (take 8 bytes.now) }
 {
     u64::from_le_bytes([

@@ -11,6 +11,7 @@ pub mod codec_name;
 pub mod configurations;
 pub mod laws;
 pub mod length_fields;
+pub mod machine_bytes;
 pub mod optional_parts;
 pub mod plain_vlen;
 pub mod vlen_offsets;

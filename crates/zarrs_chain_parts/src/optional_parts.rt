@@ -39,7 +39,7 @@ pub fn inner_type(data_type: &DataType) -> Result<&DataType, CodecError>
 #[tactic(auto, using(crate::proofs::OptionalSteps::blank_fits))]
 pub fn blank_fill(alloc: Global, data_type: &DataType) -> Result<FillValue, CodecError>
     ensures answer { Gives (λ fill. fill) result (Ok (blank_fill_of data_type.now)) }
-    ensures fits { fill_fits data_type.now (blank_fill_of data_type.now) ≡ true }
+    ensures filling { fill_fits data_type.now (blank_fill_of data_type.now) ≡ true }
 {
     if data_type.is_optional() {
         return FillValue::new_optional_null(alloc);
@@ -59,8 +59,8 @@ pub fn masked_parts(
     ensures parts { IfOk result (λ parts. elements.entry ≡ masked parts.0 (raw_of parts.1)) }
     ensures flags { IfOk result
         (λ parts. list_all (λ byte. nat_lt byte 2) (items_of parts.1) ≡ true) }
-    ensures counted { IfOk result (λ parts. present_count (items_of parts.1) ≡ Ok parts.2) }
-    ensures refused { IfErr result (λ cause. optional_part elements.entry ≡ Err cause) }
+    ensures count { IfOk result (λ parts. present_count (items_of parts.1) ≡ Ok parts.2) }
+    ensures cause { IfErr result (λ cause. optional_part elements.entry ≡ Err cause) }
     ensures no_fault { is_fault result ≡ false }
 {
     let count = count_present(elements.as_optional()?.1)?;

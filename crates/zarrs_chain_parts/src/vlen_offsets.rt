@@ -108,8 +108,8 @@ fn narrow_items(alloc: Global, offsets: &[usize], first: usize) -> Result<Vec<u8
     Ok(items)
 }
 
-/// The bytes of offsets, counted from the first of them. Refusals: `OffsetTooLarge` where the last
-/// doesn't fit its type.
+/// The bytes of offsets, counted from the first of them. Refusals, the first that holds:
+/// `OffsetTooLarge` where the last doesn't fit its type; `OutOfMemory`.
 pub fn offset_items(
     alloc: Global,
     offsets: &[usize],
@@ -140,7 +140,7 @@ pub fn offset_type(data_type: VlenIndexDataType) -> DataType
     }
 }
 
-/// The fill value of such elements: zero.
+/// The fill value of such elements: zero. Refusals: `OutOfMemory`.
 #[tactic(auto, unfolding(crate::specs::Encode::offset_bytes))]
 pub fn offset_fill(alloc: Global, data_type: VlenIndexDataType) -> Result<FillValue, CodecError>
     ensures answer { Gives (λ fill. fill) result (Ok (offset_bytes (is_wide data_type) 0)) }
@@ -167,7 +167,8 @@ pub fn index_elements<'a>(
     Ok(ArrayBytes::new_flen(CowSlice::Owned(items)))
 }
 
-/// The offsets that the bytes of elements spell.
+/// The offsets that the bytes of elements spell, of 4 or 8 bytes each, the lowest first; bytes at
+/// the end that are no whole offset are left out. Refusals: `OutOfMemory`.
 pub fn offset_numbers(
     alloc: Global,
     items: &[u8],
@@ -212,7 +213,7 @@ fn narrow_numbers(alloc: Global, items: &[u8]) -> Result<Vec<usize>, AllocError>
 /// The number that eight bytes spell, the lowest first.
 #[tactic(auto, unfolding(crate::specs::Decode::offset_of))]
 pub fn read_wide(bytes: &[u8]) -> u64
-    requires long { length bytes.now ≡ 8 }
+    requires len { length bytes.now ≡ 8 }
     ensures value { result ≡ offset_of true bytes.now }
 {
     u64::from_le_bytes([
@@ -223,7 +224,7 @@ pub fn read_wide(bytes: &[u8]) -> u64
 /// The number that four bytes spell, the lowest first.
 #[tactic(auto, unfolding(crate::specs::Decode::offset_of))]
 pub fn read_narrow(bytes: &[u8]) -> u32
-    requires long { length bytes.now ≡ 4 }
+    requires len { length bytes.now ≡ 4 }
     ensures value { result ≡ offset_of false bytes.now }
 {
     u32::from_le_bytes([bytes[0], bytes[1], bytes[2], bytes[3]])

@@ -22,7 +22,7 @@ const LENGTH_SIZE: usize = 8;
 
 /// How many bytes the index has, of the bytes that spell it and how many others there are.
 fn index_size(head: &[u8], others: usize) -> Result<usize, CodecError>
-    requires long { length head.now ≡ 8 }
+    requires len { length head.now ≡ 8 }
     ensures answer { result ≡ index_length head.now others }
 {
     let size = read_length(head);
@@ -156,7 +156,7 @@ fn joined(alloc: Global, first: &[u8], second: &[u8], third: &[u8]) -> Result<Ve
     Ok(value)
 }
 
-/// The value of an index and data.
+/// The value of an index and data. Refusals: `OutOfMemory`.
 #[tactic(auto, unfolding(crate::specs::Encode::length_bytes))]
 pub fn join(
     alloc: Global,

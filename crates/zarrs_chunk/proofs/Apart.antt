@@ -82,14 +82,6 @@ pub AreApart-set : (runs : List (ℕ × ℕ)) (n start len more : ℕ) → n ≡
 AreApart-set runs n start len more e some there apart =
     rw (last_set runs n (start, len) (start, more) e some there) (AreApart-grow (take (n - 1) runs) start len more (rw (← last_behind runs n (start, len) e some there) apart))
 
-pub EndsElsewhere-last : (runs : List (ℕ × ℕ)) (n place : ℕ) (last : ℕ × ℕ) → n ≡ length runs → 0 < n → last ≡ get_or runs (n - 1) last → last.0 + last.1 ≢ place → EndsElsewhere runs place
-EndsElsewhere-last runs n place last e some there ends =
-    rw (last_behind runs n last e some there) (EndsElsewhere-push (take (n - 1) runs) last place ends)
-
-pub EndsElsewhere-none : (runs : List (ℕ × ℕ)) (place : ℕ) → length runs ≡ 0 → EndsElsewhere runs place
-EndsElsewhere-none [] place e = tt
-EndsElsewhere-none (run ∷ runs) place e = absurd (omega arith)
-
 -- rows of an axis that they don't cover
 row_apart : (size start len whole front next : ℕ) → 0 < len → len < size → 0 < whole → (front * size + start) * whole + len * whole ≢ (next * size + start) * whole
 row_apart size start len whole front next some short rest = λ e.

@@ -98,7 +98,7 @@ impl ArraySubset {
 
     /// How long each range is. There is a length for each start, and their sum is below `2^64`.
     pub fn shape(&self) -> &[u64]
-        ensures lengths { result.now ≡ self.now.lengths }
+        ensures value { result.now ≡ self.now.lengths }
         ensures axes { length self.now.starts ≡ length self.now.lengths }
         ensures ends { EndBelow64Bits self.now.starts self.now.lengths }
     {

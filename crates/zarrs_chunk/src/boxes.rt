@@ -105,7 +105,7 @@ fn box_fronts(
     requires inside { box_inside sizes.now starts.now lengths.now ≡ true }
     requires positive { All (λ size. 0 < size) sizes.now }
     requires fits { product sizes.now < 2 ^ 64 }
-    ensures level { IfOk result (λ v. AreFronts axes sizes.now starts.now lengths.now v.items) }
+    ensures fronts { IfOk result (λ v. AreFronts axes sizes.now starts.now lengths.now v.items) }
     ensures fits { IfOk result (λ v. FrontsFit axes sizes.now v.items) }
 {
     let mut fronts = vec![in alloc; 0]?;

@@ -39,7 +39,7 @@ impl ChunkShape {
 
     /// The sizes, one an axis.
     pub fn as_slice(&self) -> &[u64]
-        ensures sizes { result.now ≡ self.now }
+        ensures value { result.now ≡ self.now }
         ensures positive { All (λ size. 0 < size) result.now }
     {
         self.sizes.as_slice()

@@ -9,18 +9,26 @@ use std::fmt;
 /// What a storage handle answers where it fails: a number of its own.
 #[derive(Clone, Copy, Debug, PartialEq, Eq)]
 pub struct StorageError {
+    /// The number, which means what the handle says.
     pub code: u32,
 }
 
 /// The seven array codecs, as a refusal of a data type names them.
 #[derive(Clone, Copy, Debug, PartialEq, Eq)]
 pub enum CodecName {
+    /// `transpose`.
     Transpose,
+    /// `reshape`.
     Reshape,
+    /// `zarrs.squeeze`.
     Squeeze,
+    /// `bytes`.
     Bytes,
+    /// `packbits`.
     PackBits,
+    /// `zarrs.vlen`.
     Vlen,
+    /// `zarrs.optional`.
     Optional,
 }
 
@@ -58,7 +66,7 @@ pub enum CodecError {
     BitRange,
     /// The padding byte isn't the number of spare bits.
     PaddingByte,
-    /// The length of a `vlen` index passes what stands behind it.
+    /// The length of a `vlen` index passes the bytes that are left beside it.
     IndexLength,
     /// Offsets are missing, fall, or don't end at the bytes' end.
     InvalidOffsets,
@@ -70,7 +78,8 @@ pub enum CodecError {
     MaskValue,
     /// The two lengths of an `optional` value pass `2^64 - 1` with their 16 bytes.
     HeaderOverflow,
-    /// A range ends past the stored bytes.
+    /// A range ends past the bytes that it is one of: the stored value, what its bytes codecs gave,
+    /// or the data part of a `vlen`.
     InvalidByteRange,
     /// The caller's bytes codec refused, with its number.
     BytesCodec(u32),

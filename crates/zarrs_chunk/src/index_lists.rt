@@ -44,7 +44,7 @@ pub fn check_indices(sizes: &[u64], tuples: &[ArrayIndices]) -> Result<(), Codec
 /// elements. Where they don't, a tuple outside is refused first.
 fn check_countable(sizes: &[u64], tuples: &[ArrayIndices]) -> Result<(), CodecError>
     ensures countable { OnOk result (AreCountable sizes.now tuples.now) }
-    ensures refused { IfErr result (λ e. places_of (indices_of tuples.now) sizes.now ≡ Err e) }
+    ensures cause { IfErr result (λ e. places_of (indices_of tuples.now) sizes.now ≡ Err e) }
 {
     if !have_axes(sizes.len(), tuples) {
         return Err(CodecError::IncompatibleDimensionality);

@@ -31,18 +31,6 @@ pub from_fence : (test : ℕ → Bool) (at fence end : ℕ) → at < fence → l
 from_fence test at fence end further all =
     passed test (fence - at) (end - at) at fence (end - fence) (omega arith) (omega arith) all
 
--- a first byte that fails fails them all
-failed : (test : ℕ → Bool) (n at : ℕ) → 0 < n → test at ≡ false → list_all test (range_with_len at n) ≡ false
-failed test zero at some fails = absurd (omega arith)
-failed test (suc n) at some fails = rw fails refl
-
-pub first_fails : (test : ℕ → Bool) (at end : ℕ) → at < end → test at ≡ false → list_all test (range_with_len at (end - at)) ≡ false
-first_fails test at end some fails = failed test (end - at) at (omega arith) fails
-
--- no byte is left
-pub none_left : (test : ℕ → Bool) (at end : ℕ) → end ≤ at → list_all test (range_with_len at (end - at)) ≡ true
-none_left test at end done = let e : end - at ≡ 0 = omega arith in rw e refl
-
 counted : (test : ℕ → Bool) (n at : ℕ) → ((byte : ℕ) → at ≤ byte → byte < at + n → test byte ≡ true) → list_all test (range_with_len at n) ≡ true
 counted test zero at each = refl
 counted test (suc n) at each =

@@ -1,8 +1,8 @@
 -- What contracts see of a partial decoder of chunks.
-use Rattle.std.specs.Prelude.{ℕ, Bool, ◌&&◌, List, Result, Err, IfErr}
+use Rattle.std.specs.Prelude.{◌≡◌, ℕ, Bool, ◌&&◌, List, length, Result, Ok, Err, IfErr}
 use Rattle.zarrs_chunk.specs.Answer.{◌>>=◌, AnswersBy, memory, memory_or_fault}
 use Rattle.zarrs_chunk.specs.Indexer.{selection_of}
-use Rattle.zarrs_chunk.specs.Selection.{Selection, bounds_of}
+use Rattle.zarrs_chunk.specs.Selection.{Selection, bounds_of, tuples_of}
 use Rattle.zarrs_chunk.specs.declared.codec_error.CodecError.{CodecError}
 use Rattle.zarrs_chunk.specs.declared.indexer.Indexer.{Indexer}
 use Rattle.zarrs_data_type.specs.ElementType.{ElementType}
@@ -39,3 +39,12 @@ ReadsSelection reader selection result =
 abbrev pub IndexerFirstOfRead : ArrayReader → Indexer → Result Held CodecError → Type 0
 IndexerFirstOfRead reader indexer result =
     IfErr (bounds_of (selection_of indexer) reader.sizes) (λ cause. AnswersBy memory (Holds reader.type) result (Err cause))
+
+-- What is answered of a selection is of tuples inside the chunk, and has an element for each.
+pub record CountsTuples (reader : ArrayReader) (selection : Selection) (chunk : Chunk) : Type 0 where
+  pub inside : bounds_of selection reader.sizes ≡ Ok tt
+  pub count : length chunk ≡ length (tuples_of selection)
+
+-- so of every selection
+abbrev pub IsCounted : ArrayReader → Type 0
+IsCounted reader = (selection : Selection) (chunk : Chunk) → reader.answer selection ≡ Ok chunk → CountsTuples reader selection chunk

@@ -1,12 +1,13 @@
 -- What contracts see of a partial encoder of chunks.
-use Rattle.std.specs.Prelude.{◌≡◌, ◌⊎◌, ℕ, Bool, false, Option, Some, is_some, List, [], Result, Ok, Err, IfErr}
+use Rattle.std.specs.Prelude.{◌≡◌, ◌⊎◌, ℕ, Bool, false, Option, Some, is_some, List, [], length, Result, Ok, Err, IfErr}
 use Rattle.zarrs_chunk.specs.Answer.{◌>>=◌, Answers, memory, no_refusal, seen}
 use Rattle.zarrs_chunk.specs.Indexer.{selection_of}
-use Rattle.zarrs_chunk.specs.Selection.{Selection, bounds_of}
+use Rattle.zarrs_chunk.specs.Selection.{Selection, bounds_of, tuples_of}
 use Rattle.zarrs_chunk.specs.declared.codec_error.CodecError.{CodecError}
 use Rattle.zarrs_chunk.specs.declared.indexer.Indexer.{Indexer}
 use Rattle.zarrs_data_type.specs.ElementType.{bytes}
 use Rattle.zarrs_array_bytes.specs.Held.{Held}
+use Rattle.zarrs_array_bytes.specs.Validity.{data_fit}
 use Rattle.zarrs_codec.specs.ArrayReader.{ArrayReader, mapped_reader}
 use Rattle.zarrs_codec.specs.CoordinateMap.{CoordinateMap}
 use Rattle.zarrs_codec.specs.MappedSelection.{image_of}
@@ -33,6 +34,11 @@ mapped_writer coordinates asked in_part sizes input = record {
   checks = λ selection new. image_of coordinates asked sizes selection >>= λ image. input.checks image new;
   written = λ stored selection new. image_of coordinates asked sizes selection >>= λ image. input.written stored image new;
 }
+
+-- What a writer checks of a selection and new elements: that the selection is inside the chunk, which comes first, and that there is a new element of the type for each of its tuples.
+pub record ChecksData (reader : ArrayReader) (writer : ArrayWriter) : Type 0 where
+  pub bounds : (selection : Selection) (new : Held) → IfErr (bounds_of selection reader.sizes) (λ cause. writer.checks selection new ≡ Err cause)
+  pub fit : (selection : Selection) (new : Held) → writer.checks selection new ≡ Ok tt → data_fit reader.type (length (tuples_of selection)) new ≡ Ok tt
 
 -- what a refused write leaves of the handle: nothing was written, and all is as a reading call leaves it that answers the same; or the one writing call that was made was refused
 abbrev pub IsRefusedWrite : {T : Type 0} → Result T CodecError → StorageState → StorageState → Type 0

@@ -28,7 +28,7 @@ pub record ReadsPart (G : Grammar) (P : PartialReads) (form : Form) (before : St
   pub unstored : before.value ≡ None
       → AnswersBy memory_or_fault (Holds form.type) result (seen (map (λ _. fill_element form.type form.fill)) (places_of selection form.sizes))
   pub exact : AnswersBy memory_or_fault (Holds form.type) result (P.read form before.value selection)
-  pub indexer_first : is_ok (places_of selection form.sizes) ≡ false → is_fault result ≡ false
+  pub no_fault_if_refused : is_ok (places_of selection form.sizes) ≡ false → is_fault result ≡ false
   pub sure : IfOk (P.plan form selection) (λ numbers. are_sure before.sure numbers ≡ true → is_fault result ≡ false)
 
 -- A reading call of a coder with this handle answered so: of the handle's state all is as it was, but for the failure that is answered; the reference that is lent and what the coder is made of are the same.
@@ -65,3 +65,7 @@ pub record OnlyWrites {C T L F : Type 0} (state : C → StorageState) (lent : C 
   pub kept_if_atomic : OnErr result (atomic ≡ true → (state after).value ≡ (state before).value)
   pub same_reference : lent after ≡ lent before
   pub form_kept : form after ≡ form before
+
+-- The same of a call that is given the handle alone.
+abbrev pub HandleWrites : {H T L : Type 0} → (H → StorageState) → (H → L) → Bool → (before after : H) → Result T CodecError → Type 0
+HandleWrites state lent atomic before after result = OnlyWrites {F = Unit {0}} state lent (λ _. tt) atomic before after result

@@ -7,7 +7,9 @@ pub mod BytesRepresentation
 pub mod BytesToBytesCodec
 pub mod ChunkCodec
 pub mod ChunkEdits
+pub mod CodecMembers
 pub mod CodersOverHandles
+pub mod CountLaws
 pub mod FailingCall
 pub mod FailingHandle
 pub mod FencedHandle
@@ -26,6 +28,7 @@ pub mod DecodeInto
 pub mod CoordinateMap
 pub mod MappedChunk
 pub mod MappedSelection
+pub mod MappedLaws
 pub use Rattle.zarrs_array_bytes.specs.Elements
 pub use Rattle.zarrs_array_bytes.specs.Validity
 pub use Rattle.zarrs_chunk.specs.Selection

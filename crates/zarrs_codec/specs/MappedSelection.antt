@@ -1,5 +1,5 @@
 -- The places of a selection in an encoded chunk.
-use Rattle.std.specs.Prelude.{◌≡◌, ℕ, List, map, Result, Ok, IfOk, IsOkAnd}
+use Rattle.std.specs.Prelude.{◌≡◌, ℕ, List, length, map, Result, Ok, IfOk, IsOkAnd}
 use Rattle.zarrs_chunk.specs.Answer.{◌>>=◌, Gives}
 use Rattle.zarrs_chunk.specs.Indexer.{selection_of}
 use Rattle.zarrs_chunk.specs.Selection.{Selection, tuples_of, bounds_of, len_of}
@@ -34,3 +34,7 @@ AsksImage coordinates asked sizes indexer result =
 abbrev pub KeepsPlaces : (List ℕ → Result CoordinateMap CodecError) → List ℕ → Indexer → Result Indexer CodecError → Type 0
 KeepsPlaces coordinates sizes indexer result =
     IfOk result (λ encoded. IsImageBy (coordinates sizes) sizes (selection_of indexer) (selection_of encoded))
+
+-- each selection that is made of another one has as many tuples
+abbrev pub KeepsCount : (Selection → Result Selection CodecError) → Type 0
+KeepsCount made = (selection image : Selection) → made selection ≡ Ok image → length (tuples_of image) ≡ length (tuples_of selection)

@@ -1,7 +1,8 @@
-ghost use Rattle.std.specs.Prelude.{◌≡◌, ℕ, Option};
+ghost use Rattle.std.specs.Prelude.{◌≡◌, ℕ, Option, IfOk};
 ghost use Rattle.std.specs.Borrow.{GName};
 ghost use Rattle.zarrs_chunk.specs.Indexer.{selection_of};
-ghost use Rattle.zarrs_codec.specs.ArrayReader.{ArrayReader, ReadsSelection, IndexerFirstOfRead};
+ghost use Rattle.zarrs_array_bytes.specs.Blank.{AbsentAreBlank};
+ghost use Rattle.zarrs_codec.specs.ArrayReader.{ArrayReader, IsCounted, ReadsSelection, IndexerFirstOfRead};
 ghost use Rattle.zarrs_codec.specs.ArrayWriter.{ArrayWriter, no_writer};
 ghost use Rattle.zarrs_codec.specs.HandleCalls.{Tells};
 ghost use Rattle.zarrs_codec.specs.StorageState.{StorageState, after_reading};
@@ -46,9 +47,9 @@ pub trait ArrayPartialDecoderTraits {
     fn size_held(&self) -> usize
         ensures value { result ≡ held self.now };
 
-    /// The elements that the indexer means, in its order. Refusals: those of `Indexer::check` at the
-    /// chunk's shape come before the handle is asked; `Storage`, `OutOfMemory`, and those of the
-    /// codecs.
+    /// The elements that the indexer means, in its order, with blank elements under absent ones.
+    /// Refusals: those of `Indexer::check` at the chunk's shape come before the handle is asked;
+    /// `Storage`, `OutOfMemory`, and those of the codecs.
     fn partial_decode(
         &mut self,
         alloc: Global,
@@ -56,6 +57,7 @@ pub trait ArrayPartialDecoderTraits {
     ) -> Result<ArrayBytes<'static>, CodecError>
         ensures answer { ReadsSelection (reader self.old) (selection_of indexer.now) result }
         ensures indexer_first { IndexerFirstOfRead (reader self.old) indexer.now result }
+        ensures blank { IfOk result (AbsentAreBlank (reader self.old).type) }
         ensures left { state self.new ≡ after_reading result (state self.old) }
         ensures same_reference { lent self.new ≡ lent self.old }
         ensures reader_kept { reader self.new ≡ reader self.old }
@@ -64,4 +66,7 @@ pub trait ArrayPartialDecoderTraits {
     /// Whether a part is read without the rest of the chunk.
     fn supports_partial_decode(&self) -> bool
         ensures value { result ≡ (reader self.now).in_part };
+
+    // What is answered is of places inside the chunk, and has an element for each.
+    ghost counts: { (decoder : Self) → IsCounted (reader decoder) };
 }

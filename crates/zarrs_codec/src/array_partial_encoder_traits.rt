@@ -1,6 +1,6 @@
 ghost use Rattle.std.specs.Prelude.{◌≡◌, Bool, None, Ok, OnOk, OnErr};
 ghost use Rattle.zarrs_chunk.specs.Answer.{Answers, fault, memory_or_fault};
-ghost use Rattle.zarrs_codec.specs.ArrayWriter.{ChecksFirst, IndexerFirst, LeftByRefusal, edit_check, written_value};
+ghost use Rattle.zarrs_codec.specs.ArrayWriter.{ChecksData, ChecksFirst, IndexerFirst, LeftByRefusal, edit_check, written_value};
 ghost use Rattle.zarrs_codec.specs.StorageState.{KeptIfAtomic, LeftByWriting};
 
 use crate::array_partial_decoder_traits::ArrayPartialDecoderTraits;
@@ -58,4 +58,8 @@ pub trait ArrayPartialEncoderTraits: ArrayPartialDecoderTraits {
 
     // What is read is what the stored value tells.
     ghost tells: { (encoder : Self) → Self.reader encoder ≡ (Self.writer encoder).reads (Self.state encoder).value };
+
+    // What is refused whatever is stored are selections that aren't inside the chunk, and new elements
+    // that don't fit.
+    ghost checks_data: { (encoder : Self) → ChecksData (Self.reader encoder) (Self.writer encoder) };
 }

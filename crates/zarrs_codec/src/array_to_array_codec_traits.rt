@@ -4,9 +4,10 @@ ghost use Rattle.zarrs_chunk.specs.Selection.{Selection};
 ghost use Rattle.zarrs_chunk.specs.declared.codec_error.CodecError.{CodecError};
 ghost use Rattle.zarrs_data_type.specs.ElementType.{ElementType};
 ghost use Rattle.zarrs_data_type.specs.Form.{form_of};
+ghost use Rattle.zarrs_array_bytes.specs.Blank.{KeepsBlanks};
 ghost use Rattle.zarrs_codec.specs.CoordinateMap.{CoordinateMap, MapsSizes};
 ghost use Rattle.zarrs_codec.specs.MappedChunk.{encoded_type, GivesSizes, EncodesForm, MapsForm, IsSource, EncodesMoved, DecodesMoved};
-ghost use Rattle.zarrs_codec.specs.MappedSelection.{AsksImage, KeepsPlaces};
+ghost use Rattle.zarrs_codec.specs.MappedSelection.{AsksImage, KeepsCount, KeepsPlaces, image_of};
 
 use crate::codec_traits::{ArrayCodecTraits, CodecTraits};
 use std::alloc::Global;
@@ -93,7 +94,8 @@ pub trait ArrayToArrayCodecTraits: ArrayCodecTraits {
     }
 
     /// The encoded chunk of a decoded one of this shape, type and fill value. Where the codec takes
-    /// them and the container holds a chunk, `OutOfMemory` alone is refused.
+    /// them and the container holds a chunk, `OutOfMemory` alone is refused. Where blank elements
+    /// stand under absent ones, they do in what is made.
     fn encode<'a>(
         &self,
         alloc: Global,
@@ -102,11 +104,13 @@ pub trait ArrayToArrayCodecTraits: ArrayCodecTraits {
         decoded_data_type: &DataType,
         decoded_fill_value: &FillValue,
     ) -> Result<ArrayBytes<'a>, CodecError>
-        ensures found { EncodesMoved (takes self.now) (coordinates self.now)
+        ensures moved { EncodesMoved (takes self.now) (coordinates self.now)
             decoded_data_type.now decoded_shape.now bytes.entry result }
+        ensures blank { KeepsBlanks decoded_data_type.now bytes.entry result }
         ensures no_fault { is_fault result ≡ false };
 
-    /// The decoded chunk, of this shape, type and fill value, of an encoded one. Refusals as `encode`.
+    /// The decoded chunk, of this shape, type and fill value, of an encoded one. Refusals, and
+    /// blank elements, as `encode`.
     fn decode<'a>(
         &self,
         alloc: Global,
@@ -115,8 +119,9 @@ pub trait ArrayToArrayCodecTraits: ArrayCodecTraits {
         decoded_data_type: &DataType,
         decoded_fill_value: &FillValue,
     ) -> Result<ArrayBytes<'a>, CodecError>
-        ensures found { DecodesMoved (takes self.now) (coordinates self.now)
+        ensures moved { DecodesMoved (takes self.now) (coordinates self.now)
             decoded_data_type.now decoded_shape.now bytes.entry result }
+        ensures blank { KeepsBlanks decoded_data_type.now bytes.entry result }
         ensures no_fault { is_fault result ≡ false };
 
     /// The indexer of the encoded chunk: its places there are those where the indexer's elements go,
@@ -131,4 +136,7 @@ pub trait ArrayToArrayCodecTraits: ArrayCodecTraits {
         ensures answer { AsksImage (coordinates self.now) (asked self.now)
             decoded_shape.now indexer.now result }
         ensures places { KeepsPlaces (coordinates self.now) decoded_shape.now indexer.now result };
+
+    // What is asked for of the encoded chunk are as many tuples as are meant.
+    ghost counts: { (codec : Self) (sizes : List ℕ) → KeepsCount (image_of (coordinates codec sizes) (asked codec sizes) sizes) };
 }

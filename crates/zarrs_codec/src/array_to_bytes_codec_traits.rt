@@ -1,11 +1,13 @@
-ghost use Rattle.std.specs.Prelude.{◌≡◌, ℕ, List, Result, OnErr, false};
+ghost use Rattle.std.specs.Prelude.{◌≡◌, ℕ, List, Result, Ok, IfOk, OnErr, false};
 ghost use Rattle.zarrs_chunk.specs.Answer.{is_fault};
 ghost use Rattle.zarrs_chunk.specs.declared.codec_error.CodecError.{CodecError};
 ghost use Rattle.zarrs_data_type.specs.Element.{Chunk};
 ghost use Rattle.zarrs_data_type.specs.Form.{Form, form_of};
 ghost use Rattle.zarrs_array_bytes.specs.ArrayBytesDecodeIntoTarget.{target_of, target_names};
+ghost use Rattle.zarrs_array_bytes.specs.Blank.{AbsentAreBlank};
 ghost use Rattle.zarrs_array_bytes.specs.Held.{Held, items_of};
 ghost use Rattle.zarrs_codec.specs.ChunkCodec.{RepresentsBy, EncodesBy, DecodesBy, GivesValid, CompactsNone};
+ghost use Rattle.zarrs_codec.specs.CodecMembers.{FitsForm, DecodesAgain};
 ghost use Rattle.zarrs_codec.specs.DecodeInto.{DecodesInto};
 ghost use Rattle.zarrs_codec.specs.declared.bytes_representation.BytesRepresentation.{BytesRepresentation};
 
@@ -44,8 +46,9 @@ pub trait ArrayToBytesCodecTraits: ArrayCodecTraits {
         ensures answer { RepresentsBy (represented self.now)
             (form_of shape.now data_type.now fill_value.now) result };
 
-    /// The value of the chunk that `elements` hold. Refusals, the first that holds, `OutOfMemory`
-    /// aside: those of `encoded_representation`; those of `ArrayBytes::validate`; the codec's own.
+    /// The value of the chunk that `elements` hold, which `decode` takes. Refusals, the first that
+    /// holds, `OutOfMemory` aside: those of `encoded_representation`; those of
+    /// `ArrayBytes::validate`; the codec's own, which its `encode` names.
     fn encode<'a>(
         &self,
         alloc: Global,
@@ -55,10 +58,13 @@ pub trait ArrayToBytesCodecTraits: ArrayCodecTraits {
         fill_value: &FillValue,
     ) -> Result<ArrayBytesRaw<'a>, CodecError>
         ensures answer { EncodesBy (encoded self.now)
-            (form_of shape.now data_type.now fill_value.now) elements.entry result };
+            (form_of shape.now data_type.now fill_value.now) elements.entry result }
+        ensures decoded_again { DecodesAgain (decoded self.now)
+            (form_of shape.now data_type.now fill_value.now) result };
 
-    /// The chunk that a value stands for. Refusals, the first that holds, `OutOfMemory` aside: those
-    /// of `encoded_representation`; the codec's own.
+    /// The chunk that a value stands for, with blank elements under absent ones. Refusals, the
+    /// first that holds, `OutOfMemory` aside: those of `encoded_representation`; the codec's own,
+    /// which its `decode` names.
     fn decode<'a>(
         &self,
         alloc: Global,
@@ -69,7 +75,8 @@ pub trait ArrayToBytesCodecTraits: ArrayCodecTraits {
     ) -> Result<ArrayBytes<'a>, CodecError>
         ensures answer { DecodesBy (decoded self.now)
             (form_of shape.now data_type.now fill_value.now) (items_of value.entry) result }
-        ensures valid { GivesValid data_type.now shape.now result };
+        ensures valid { GivesValid data_type.now shape.now result }
+        ensures blank { IfOk result (AbsentAreBlank data_type.now) };
 
     /// Writes the chunk that a value stands for at the target's places, in row-major order; all other
     /// bytes of the target stay. It takes no memory for the elements beyond that of `decode`. Refusals,
@@ -112,4 +119,7 @@ pub trait ArrayToBytesCodecTraits: ArrayCodecTraits {
     ) -> Result<Option<ArrayBytesRaw<'a>>, CodecError>
         ensures answer { CompactsNone (opened self.now)
             (form_of shape.now data_type.now fill_value.now) (items_of value.entry) result };
+
+    // What is decoded is of chunks that the codec takes, and has as many elements as they have.
+    ghost fits: { (codec : Self) (form : Form) (value : List ℕ) (chunk : Chunk) → decoded codec form value ≡ Ok chunk → FitsForm (represented codec form) form chunk };
 }

@@ -1,5 +1,6 @@
-//! What all codecs share: storage handles and ranges of their bytes, and how long encoded bytes
-//! are.
+//! What all codecs share: the traits of codecs, of coders in part and of makers of bytes codecs;
+//! how long encoded bytes are; what can be done in part; storage handles and ranges of their bytes;
+//! and two codecs of bytes as samples.
 //!
 //! A coder that reads a chunk in part does so over a storage handle, a
 //! [`BytesPartialDecoderTraits`], and one that writes over a [`BytesPartialEncoderTraits`].

@@ -126,7 +126,7 @@ impl MemoryHandle {
     pub(crate) fn halve(&mut self)
         ensures halved { handle_value self.new ≡ option_map first_half (handle_value self.old) }
         ensures count { write_count self.new ≡ write_count self.old }
-        ensures accepted { accepted_count self.new ≡ accepted_count self.old }
+        ensures accepted_kept { accepted_count self.new ≡ accepted_count self.old }
     {
         if let Some(value) = &mut self.value {
             value.truncate(value.len() / 2);
@@ -154,7 +154,7 @@ impl MemoryHandle {
 
     /// Counts a writing call that was accepted.
     fn accept_write(&mut self)
-        ensures value { handle_value self.new ≡ handle_value self.old }
+        ensures value_kept { handle_value self.new ≡ handle_value self.old }
         ensures count { write_count self.new ≡ write_count self.old }
         ensures accepted { accepted_count self.new ≡ count_if true (accepted_count self.old) }
     {

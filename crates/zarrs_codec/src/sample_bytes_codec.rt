@@ -21,9 +21,12 @@ const LENGTH_SIZE: usize = 8;
 /// Two codecs of bytes as samples of what a caller may bring.
 #[derive(Clone, Copy, Debug, PartialEq, Eq)]
 pub enum SampleBytesCodec {
-    /// The bytes in reverse (`sample.reverse`).
+    /// The bytes in reverse (`sample.reverse`), as many of them. Only a want of memory refuses.
     Reverse,
-    /// The bytes behind how many they are, as 8 bytes with the lowest first (`sample.length`).
+    /// The bytes behind how many they are, as 8 bytes with the lowest first (`sample.length`): 8
+    /// bytes more, and no bound where 64 bits don't count them. Refusals of decoding:
+    /// `BytesCodec(1)` for fewer than 8 bytes; `BytesCodec(2)` where the length isn't that of the
+    /// rest.
     Length,
 }
 
@@ -65,7 +68,7 @@ fn with_length(alloc: Global, bytes: &[u8]) -> Result<Vec<u8>, CodecError>
 /// The length that stands before the bytes.
 #[tactic(auto, unfolding(crate::specs::SampleBytesCodec::stored_length))]
 fn stored_length(encoded: &[u8]) -> u64
-    requires long { 8 ≤ length encoded.now }
+    requires len { 8 ≤ length encoded.now }
     ensures value { result ≡ stored_length_of encoded.now }
 {
     u64::from_le_bytes([
@@ -77,7 +80,7 @@ fn stored_length(encoded: &[u8]) -> u64
 /// That the bytes stand behind their length.
 fn check_length(encoded: &[u8]) -> Result<(), CodecError>
     ensures answer { seen (λ _. drop 8 encoded.now) result ≡ behind_length_of encoded.now }
-    ensures long { IfOk result (λ _. 8 ≤ length encoded.now) }
+    ensures len { IfOk result (λ _. 8 ≤ length encoded.now) }
 {
     if encoded.len() < LENGTH_SIZE {
         return Err(CodecError::BytesCodec(1));

@@ -60,7 +60,7 @@ codec_small f (optional_codec ma mx mb da dx db) sizes type fill value chunk has
     optional_small (around_value f ma (codec_representation f mx) (codec_value f mx) mb) (around_value f da (codec_representation f dx) (codec_value f dx) db) sizes type value chunk e
 
 -- what is answered of a container is written for the chunk that it holds
-value_written : {B : Type 0} (f : BytesCodecs B) (codec : PlainCodec B) (form : Form) (held : Held) (value : List ℕ)
+pub value_written : {B : Type 0} (f : BytesCodecs B) (codec : PlainCodec B) (form : Form) (held : Held) (value : List ℕ)
     → HasChains codec → HasMappings codec → All (λ size. 0 < size) form.sizes → codec_held_value f codec form.sizes form.type form.fill held ≡ Ok value
     → (chunk : Chunk) × Holds form.type held chunk × TakenWritten f codec form value chunk
 value_written f codec form held value has is positive e =

@@ -7,6 +7,8 @@ pub mod OptionalRoom
 pub mod CodecRelations
 pub mod MakeSteps
 pub mod Counted
+pub mod TakenBlank
+pub mod EncodedAgain
 pub mod WrittenAt
 pub mod ReencodeSteps
 pub mod ReencodeLaws

@@ -1,7 +1,6 @@
 -- A list of metadata, codec by codec.
-use Rattle.std.proofs.Common.{◌≡◌, ◌∙◌, ℕ, zero, suc, ◌+◌, ◌<◌, ◌≤◌, length, List, [], ◌∷◌, Ok, Err, Bool, true, false, ◌||◌, if◌then◌else◌, Option, map, drop, get_or, refl, ap, sym, subst, arith}
+use Rattle.std.proofs.Common.{◌≡◌, ◌∙◌, ℕ, zero, suc, ◌+◌, ◌<◌, ◌≤◌, length, List, [], ◌∷◌, Ok, Err, Bool, ◌||◌, Option, map, drop, get_or, ap, sym, arith}
 use Rattle.std.specs.Prelude.{Result}
-use Rattle.std.proofs.lemmas.Bool.{false≢true}
 use Rattle.std.proofs.lemmas.List.{at_drop_more, at_drop_all}
 use Rattle.zarrs_chunk.specs.Answer.{◌>>=◌, Answers, Excused, seen}
 use Rattle.zarrs_metadata.specs.Metadata.{Metadata}
@@ -10,24 +9,9 @@ use Rattle.zarrs_metadata.specs.PluginCreateError.{plugin_memory}
 use Rattle.zarrs_metadata.specs.declared.metadata_v3.MetadataV3.{MetadataV3}
 use Rattle.zarrs_metadata.specs.declared.plugin_create_error.PluginCreateError.{PluginCreateError}
 use Rattle.zarrs_codec_chain.specs.ChainView.{plain_chain}
-use Rattle.zarrs_chain_parts.specs.MadeChain.{CodecMade, Gathered, codec_made, joined, gathered, finished, nothing_gathered, chain_made, depth_of, depth_all}
+use Rattle.zarrs_chain_parts.specs.MadeChain.{Gathered, codec_made, joined, gathered, finished, nothing_gathered, chain_made, depth_of, depth_all}
 use Rattle.zarrs_codec_chain.specs.declared.codec_chain.CodecChain.{CodecChain}
 use Rattle.zarrs_chain_parts.proofs.MadeAlike.{chain_made_at}
-
--- ---- a metadata that makes nothing
-
-passed : {B : Type 0} (expected : Result (CodecMade B) PluginCreateError) (so_far : Gathered B) (refusal : PluginCreateError) (must_understand memory : Bool) → plugin_memory refusal ≡ memory → Excused memory (expected ≡ Err refusal)
-    → (result : Result (Unit {0}) PluginCreateError) → result ≡ (if must_understand || memory then Err refusal else Ok tt) → Answers plugin_memory (λ _. so_far) result (joined expected must_understand so_far)
-passed expected so_far refusal true memory is h result e =
-    subst (λ r. Answers plugin_memory (λ _. so_far) r (joined expected true so_far)) (sym e) (λ none. ap (λ r. joined r true so_far) (h (sym is ∙ none)))
-passed expected so_far refusal false true is h result e =
-    subst (λ r. Answers plugin_memory (λ _. so_far) r (joined expected false so_far)) (sym e) (λ none. absurd (false≢true (sym none ∙ is)))
-passed expected so_far refusal false false is h result e =
-    subst (λ r. Answers plugin_memory (λ _. so_far) r (joined expected false so_far)) (sym e) (ap (λ r. joined r false so_far) (h refl))
-
-pub refusal_joins : {B : Type 0} (expected : Result (CodecMade B) PluginCreateError) (so_far : Gathered B) (refusal : PluginCreateError) (must_understand : Bool) (result : Result (Unit {0}) PluginCreateError)
-    → Excused (plugin_memory refusal) (expected ≡ Err refusal) → result ≡ (if must_understand || plugin_memory refusal then Err refusal else Ok tt) → Answers plugin_memory (λ _. so_far) result (joined expected must_understand so_far)
-refusal_joins expected so_far refusal must_understand result h e = passed expected so_far refusal must_understand (plugin_memory refusal) refl h result e
 
 -- ---- a list
 
@@ -48,11 +32,6 @@ turn : {B : Type 0} (makes : Metadata → Result (Option B) PluginCreateError) (
 turn makes ms i m so_far within is =
     at_drop_more (λ xs. gathered (chain_made makes) makes (map metadata_seen xs) so_far) ms i m within
     ∙ ap (λ x. joined (codec_made (chain_made makes) makes (metadata_seen x)) (metadata_seen x).must_understand so_far >>= gathered (chain_made makes) makes (map metadata_seen (drop (i + 1) ms))) (sym is)
-
-pub goes_on : {B : Type 0} (makes : Metadata → Result (Option B) PluginCreateError) (ms : List MetadataV3) (i : ℕ) (m : MetadataV3) (so_far next : Gathered B) → i < length ms → m ≡ get_or ms i m
-    → GoesOn makes ms i so_far → joined (codec_made (chain_made makes) makes (metadata_seen m)) (metadata_seen m).must_understand so_far ≡ Ok next → GoesOn makes ms (i + 1) next
-goes_on makes ms i m so_far next within is before step =
-    ap (λ r. r >>= gathered (chain_made makes) makes (map metadata_seen (drop (i + 1) ms))) (sym step) ∙ sym (turn makes ms i m so_far within is) ∙ before
 
 pub ends_refused : {B : Type 0} (makes : Metadata → Result (Option B) PluginCreateError) (ms : List MetadataV3) (i : ℕ) (m : MetadataV3) (so_far : Gathered B) (refusal : PluginCreateError) → i < length ms → m ≡ get_or ms i m
     → GoesOn makes ms i so_far → Excused (plugin_memory refusal) (joined (codec_made (chain_made makes) makes (metadata_seen m)) (metadata_seen m).must_understand so_far ≡ Err refusal)

@@ -1,6 +1,7 @@
 -- One level of the codec `optional`, as the code opens it.
 use Rattle.std.proofs.Common.{◌≡◌, ℕ, nat_lt, true, List, [], ◌∷◌, Result, Ok, Err, refl, ap, sym, subst, ◌∙◌}
 use Rattle.std.specs.List.{list_all}
+use Rattle.std.specs.Prelude.{IfOk}
 use Rattle.zarrs_chunk.specs.Answer.{◌>>=◌, demand, checked_u64, Answers, AnswersBy, memory}
 use Rattle.zarrs_chunk.specs.ChunkShape.{product}
 use Rattle.zarrs_chunk.specs.declared.codec_error.CodecError.{CodecError}
@@ -8,6 +9,7 @@ use Rattle.zarrs_chunk.specs.declared.codec_error.CodecError.TheVariants.{Invali
 use Rattle.zarrs_data_type.specs.ElementType.{ElementType, optional}
 use Rattle.zarrs_data_type.specs.Element.{Chunk}
 use Rattle.zarrs_data_type.specs.FillValue.{fill_fits}
+use Rattle.zarrs_array_bytes.specs.Blank.{AbsentAreBlank}
 use Rattle.zarrs_array_bytes.specs.Elements.{elements}
 use Rattle.zarrs_array_bytes.specs.Held.{Raw, Held, masked}
 use Rattle.zarrs_array_bytes.specs.Present.{present_count, present_chunk}
@@ -125,3 +127,7 @@ pub chunk_at : {B : Type 0} (result : Result Held CodecError) (f : BytesCodecs B
 chunk_at result f codec sizes type inner fill value mask_part data_part flags e parts read gives =
     subst (λ (x : PlainCodec _). AnswersBy memory (Holds type) result (codec_chunk f x sizes type fill value)) (sym (plain_optional_at codec))
     (chunk_answers result f (plain_chain (out-OptionalCodec _ codec).mask_codecs.value) (plain_chain (out-OptionalCodec _ codec).data_codecs.value) sizes type inner fill value mask_part data_part flags e parts read gives)
+
+-- what stands under absent elements of the type inside stands under those of the type
+pub blank_at : (result : Result Held CodecError) (type inner : ElementType) → Ok inner ≡ optional_inner type → IfOk result (AbsentAreBlank (optional inner)) → IfOk result (AbsentAreBlank type)
+blank_at result type inner e blank = subst (λ (t : ElementType). IfOk result (AbsentAreBlank t)) (sym (inner_is type inner (sym e))) blank

@@ -97,11 +97,6 @@ offsets_found f chain wide count part held raw numbers some h is read =
     rw whole (ap (λ (ns : List ℕ). demand (rises ns) InvalidOffsets >>= λ _. ok ns) same
     ∙ ap (λ b. demand b InvalidOffsets >>= λ _. ok numbers) (sym (rises_are numbers (omega (arith, long, some)))))
 
-pub offsets_refused : {B : Type 0} (f : BytesCodecs B) (chain : PlainChain B) (wide : Bool) (count : ℕ) (part : List ℕ) (error : CodecError) → 0 < count
-    → part_chunk (chain_chunk f chain) (offset_type wide) (offset_bytes wide 0) count part ≡ Err error → index_offsets f chain wide count part ≡ Err error
-offsets_refused f chain wide count part error some e =
-    rw (sym (some_chunk (chain_chunk f chain) (offset_type wide) (offset_bytes wide 0) count part some) ∙ e) refl
-
 -- ---- the data
 
 -- the bytes of single bytes
@@ -263,22 +258,12 @@ next_ok r x g a = rw a refl
 next_err : {A C : Type 0} (r : Result A CodecError) (error : CodecError) (g : A → Result C CodecError) → r ≡ Err error → r >>= g ≡ Err error
 next_err r error g a = rw a refl
 
-pub read_parts_refused : {B : Type 0} (f : BytesCodecs B) (codec : PlainCodec B) (index content : PlainChain B) (wide at_end : Bool) (sizes : List ℕ) (type : ElementType) (fill value : List ℕ) (error : CodecError)
-    → codec ≡ vlen_codec_of index content wide at_end → err error ≡ vlen_parts at_end value → codec_chunk f codec sizes type fill value ≡ Err error
-read_parts_refused f codec index content wide at_end sizes type fill value error e h =
-    read_is f codec index content wide at_end sizes type fill value e ∙ next_err (vlen_parts at_end value) error _ (sym h)
-
 -- past the parts
 past_parts : {B : Type 0} (f : BytesCodecs B) (codec : PlainCodec B) (index content : PlainChain B) (wide at_end : Bool) (sizes : List ℕ) (type : ElementType) (fill value i d : List ℕ)
     → codec ≡ vlen_codec_of index content wide at_end → ok (i, d) ≡ vlen_parts at_end value
     → codec_chunk f codec sizes type fill value ≡ checked_u64 (product sizes + 1) >>= (λ _. index_offsets f index wide (product sizes + 1) i >>= λ offsets. content_bytes f content (last_of offsets) d >>= λ items. ok (slices (product sizes) offsets items))
 past_parts f codec index content wide at_end sizes type fill value i d e h =
     read_is f codec index content wide at_end sizes type fill value e ∙ next_ok (vlen_parts at_end value) (i, d) _ (sym h)
-
-pub read_count_refused : {B : Type 0} (f : BytesCodecs B) (codec : PlainCodec B) (index content : PlainChain B) (wide at_end : Bool) (sizes : List ℕ) (type : ElementType) (fill value i d : List ℕ) (error : CodecError)
-    → codec ≡ vlen_codec_of index content wide at_end → ok (i, d) ≡ vlen_parts at_end value → checked_u64 (product sizes + 1) ≡ Err error → codec_chunk f codec sizes type fill value ≡ Err error
-read_count_refused f codec index content wide at_end sizes type fill value i d error e h k =
-    past_parts f codec index content wide at_end sizes type fill value i d e h ∙ next_err (checked_u64 (product sizes + 1)) error _ k
 
 counted_so : (n : ℕ) → n < 2 ^ 64 → checked_u64 n ≡ Ok n
 counted_so n l = let t : nat_lt n (2 ^ 64) ≡ true = grind (arith, nat_tests) in rw t refl

@@ -246,19 +246,12 @@ index_rest f chain wide offsets rows =
 fits_so : {B : Type 0} (f : BytesCodecs B) (chain : PlainChain B) (wide : Bool) (offsets : List ℕ) → offsets_fit wide offsets ≡ true → index_part f chain wide offsets ≡ index_rest f chain wide offsets (offset_elements wide (from_first offsets))
 fits_so f chain wide offsets fits = rw fits refl
 
-pub index_elements_refused : {B : Type 0} (f : BytesCodecs B) (chain : PlainChain B) (wide : Bool) (offsets : List ℕ) (error : CodecError) → index_elements wide offsets ≡ Err error → index_part f chain wide offsets ≡ Err error
-index_elements_refused f chain wide offsets error e = next_err (index_elements wide offsets) error (index_rest f chain wide offsets) e
-
 pub index_refused : {B : Type 0} (f : BytesCodecs B) (chain : PlainChain B) (wide : Bool) (offsets : List ℕ) (held : Held) (error : CodecError) → is_offsets offsets ≡ true → IsOkAnd (index_elements wide offsets) (Holds (offset_type wide) held)
     → held_part f chain (length offsets) (offset_type wide) (offset_bytes wide 0) held ≡ Err error → index_part f chain wide offsets ≡ Err error
 index_refused f chain wide offsets held error rising h e =
     let so = elements_so wide offsets (Holds (offset_type wide) held) h in
     let rows = offset_elements wide (from_first offsets) in
     fits_so f chain wide offsets so.0 ∙ next_err (chain_value f chain (length rows ∷ []) (offset_type wide) (offset_bytes wide 0) rows) error (λ part. demand (keeps_offsets chain.codec wide offsets) OffsetNotKept >>= λ _. ok part) (sym (index_is f chain wide offsets held rising so.1) ∙ e)
-
-kept_steps : (test : Bool) (part : List ℕ) (X : Type 0) (view : X → List ℕ) (x : X) → view x ≡ part → demand test OffsetNotKept ≡ Ok tt → (demand test OffsetNotKept >>= λ _. ok part) ≡ Ok (view x)
-kept_steps true part X view x e h = ap ok (sym e)
-kept_steps false part X view x e h = absurd cc
 
 kept_error : (test : Bool) (part : List ℕ) (error : CodecError) → demand test OffsetNotKept ≡ Err error → (demand test OffsetNotKept >>= λ _. ok part) ≡ Err error
 kept_error true part error h = absurd cc
@@ -270,11 +263,6 @@ index_goes f chain wide offsets held part rising h e =
     let so = elements_so wide offsets (Holds (offset_type wide) held) h in
     let rows = offset_elements wide (from_first offsets) in
     fits_so f chain wide offsets so.0 ∙ next_ok (chain_value f chain (length rows ∷ []) (offset_type wide) (offset_bytes wide 0) rows) part (λ part. demand (keeps_offsets chain.codec wide offsets) OffsetNotKept >>= λ _. ok part) (sym (index_is f chain wide offsets held rising so.1) ∙ e)
-
-pub index_kept : {B : Type 0} (f : BytesCodecs B) (chain : PlainChain B) (wide : Bool) (offsets : List ℕ) (held : Held) (part : List ℕ) → is_offsets offsets ≡ true → IsOkAnd (index_elements wide offsets) (Holds (offset_type wide) held)
-    → held_part f chain (length offsets) (offset_type wide) (offset_bytes wide 0) held ≡ Ok part → demand (keeps_offsets chain.codec wide offsets) OffsetNotKept ≡ Ok tt → index_part f chain wide offsets ≡ Ok part
-index_kept f chain wide offsets held part rising h e kept =
-    index_goes f chain wide offsets held part rising h e ∙ kept_steps (keeps_offsets chain.codec wide offsets) part (List ℕ) (λ x. x) part refl kept
 
 pub index_not_kept : {B : Type 0} (f : BytesCodecs B) (chain : PlainChain B) (wide : Bool) (offsets : List ℕ) (held : Held) (part : List ℕ) (error : CodecError) → is_offsets offsets ≡ true → IsOkAnd (index_elements wide offsets) (Holds (offset_type wide) held)
     → held_part f chain (length offsets) (offset_type wide) (offset_bytes wide 0) held ≡ Ok part → demand (keeps_offsets chain.codec wide offsets) OffsetNotKept ≡ Err error → index_part f chain wide offsets ≡ Err error
@@ -340,10 +328,6 @@ pub index_refused_at : {B : Type 0} (f : BytesCodecs B) (chain : PlainChain B) (
     → held_part f chain (length offsets) type fill held ≡ Err error → index_part f chain wide offsets ≡ Err error
 index_refused_at f chain wide offsets held type fill error r e = index_refused f chain wide offsets held error r.rising r.rows (part_at f chain wide offsets held type fill r ∙ e)
 
-pub index_kept_at : {B : Type 0} (f : BytesCodecs B) (chain : PlainChain B) (wide : Bool) (offsets : List ℕ) (held : Held) (type : ElementType) (fill part : List ℕ) → IsIndexRow wide offsets held type fill
-    → held_part f chain (length offsets) type fill held ≡ Ok part → demand (keeps_offsets chain.codec wide offsets) OffsetNotKept ≡ Ok tt → index_part f chain wide offsets ≡ Ok part
-index_kept_at f chain wide offsets held type fill part r e kept = index_kept f chain wide offsets held part r.rising r.rows (part_at f chain wide offsets held type fill r ∙ e) kept
-
 pub index_not_kept_at : {B : Type 0} (f : BytesCodecs B) (chain : PlainChain B) (wide : Bool) (offsets : List ℕ) (held : Held) (type : ElementType) (fill part : List ℕ) (error : CodecError) → IsIndexRow wide offsets held type fill
     → held_part f chain (length offsets) type fill held ≡ Ok part → demand (keeps_offsets chain.codec wide offsets) OffsetNotKept ≡ Err error → index_part f chain wide offsets ≡ Err error
 index_not_kept_at f chain wide offsets held type fill part error r e kept = index_not_kept f chain wide offsets held part error r.rising r.rows (part_at f chain wide offsets held type fill r ∙ e) kept
@@ -351,9 +335,6 @@ index_not_kept_at f chain wide offsets held type fill part error r e kept = inde
 pub takes_at : {B : Type 0} (f : BytesCodecs B) (chain : PlainChain B) (wide : Bool) (offsets : List ℕ) (held : Held) (type : ElementType) (fill part : List ℕ) → IsChainOfMappings chain → IsIndexRow wide offsets held type fill
     → held_part f chain (length offsets) type fill held ≡ Ok part → TakesOffsets chain.codec wide (length offsets)
 takes_at f chain wide offsets held type fill part is r e = takes_so f chain wide offsets held part is r.rising r.rows (part_at f chain wide offsets held type fill r ∙ e)
-
-pub fits_at : (wide : Bool) (offsets : List ℕ) (held : Held) → IsOkAnd (index_elements wide offsets) (Holds (offset_type wide) held) → offsets_fit wide offsets ≡ true
-fits_at wide offsets held h = (elements_so wide offsets (Holds (offset_type wide) held) h).0
 
 pub content_at : {B X : Type 0} (view : X → List ℕ) (result : Result X CodecError) (f : BytesCodecs B) (chain : PlainChain B) (raw : Raw) (held : Held) (fill : List ℕ) → length raw.items < 2 ^ 64 → held ≡ flen raw → ok (0 ∷ []) ≡ ok fill
     → Answers memory view result (held_part f chain (length raw.items) byte_type fill held) → Answers memory view result (content_part f chain raw.items)
@@ -417,18 +398,6 @@ pub held_checked : {B : Type 0} (f : BytesCodecs B) (codec : VlenCodec B) (sizes
     → codec_held_value f (plain_vlen codec) sizes type fill held ≡ vlen_representation sizes type [] >>= λ _. validity type (product sizes) held >>= λ _. codec_value f (plain_vlen codec) sizes type fill (elements type (product sizes) held)
 unfolding codec_representation
 held_checked f codec sizes type fill held = rw (plain_vlen_at codec) refl
-
-pub type_refused : {B : Type 0} (f : BytesCodecs B) (codec : VlenCodec B) (sizes : List ℕ) (type : ElementType) (fill : List ℕ) (held : Held) (error : CodecError)
-    → vlen_representation sizes type [] ≡ Err error → codec_held_value f (plain_vlen codec) sizes type fill held ≡ Err error
-type_refused f codec sizes type fill held error e =
-    held_checked f codec sizes type fill held ∙ next_err (vlen_representation sizes type []) error _ e
-
-pub container_refused : {B : Type 0} (f : BytesCodecs B) (codec : VlenCodec B) (sizes : List ℕ) (type : ElementType) (fill : List ℕ) (held : Held) (size : BytesRepresentation) (error : CodecError)
-    → vlen_representation sizes type [] ≡ Ok size → validity type (product sizes) held ≡ Err error → codec_held_value f (plain_vlen codec) sizes type fill held ≡ Err error
-container_refused f codec sizes type fill held size error e h =
-    held_checked f codec sizes type fill held
-    ∙ next_ok (vlen_representation sizes type []) size (λ _. validity type (product sizes) held >>= λ _. codec_value f (plain_vlen codec) sizes type fill (elements type (product sizes) held)) e
-    ∙ next_err (validity type (product sizes) held) error _ h
 
 -- the first offset stands inside
 pub first_inside : (offsets items : List ℕ) → is_offsets offsets ≡ true → last_of offsets ≡ length items → slice_index offsets 0 ≤ length items

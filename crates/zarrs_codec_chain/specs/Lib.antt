@@ -5,6 +5,7 @@ pub mod DefaultVlen
 pub mod ChainParts
 pub mod Reencode
 pub mod ReencodeLaws
+pub mod MemberLaws
 pub use Rattle.zarrs_chunk.specs.Answer
 pub use Rattle.zarrs_data_type.specs.Element
 pub use Rattle.zarrs_array_bytes.specs.Elements

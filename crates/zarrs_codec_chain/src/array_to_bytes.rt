@@ -1,14 +1,15 @@
 //! Chains and their codecs to bytes as every codec of chunks to bytes.
 use crate::array_to_bytes_codec::{
-    ArrayToBytesCodec, codec_decode, codec_encode, codec_representation,
+    ArrayToBytesCodec, codec_decode, codec_encode, codec_is_sound, codec_representation,
 };
-use crate::codec_chain::CodecChain;
-use crate::optional_codec::OptionalCodec;
+use crate::codec_chain::{CodecChain, chain_is_sound};
+use crate::optional_codec::{OptionalCodec, optional_is_sound};
 use crate::representation::taken_form;
-use crate::vlen_codec::VlenCodec;
+use crate::vlen_codec::{VlenCodec, vlen_is_sound};
 use std::alloc::Global;
 use zarrs_array_bytes::{ArrayBytes, ArrayBytesRaw};
 use zarrs_chain_parts::bytes_stages::decode_bytes;
+use zarrs_chain_parts::machine_bytes::elements_are_bytes;
 use zarrs_chunk::{ChunkShape, CodecError};
 use zarrs_codec::{ArrayToBytesCodecTraits, BytesRepresentation, BytesToBytesCodecTraits};
 use zarrs_data_type::{DataType, FillValue};
@@ -28,6 +29,10 @@ impl<B: BytesToBytesCodecTraits> ArrayToBytesCodecTraits for CodecChain<B> {
 
     ghost opened = { λ chain form value. chain_opened B.functions (plain_chain chain) form.sizes form.type form.fill value };
 
+    ghost use Rattle.zarrs_codec_chain.specs.MemberLaws.{chain_fits};
+
+    ghost fits = { λ chain. chain_fits B.functions (plain_chain chain) };
+
     fn encoded_representation(
         &self,
         alloc: Global,
@@ -46,6 +51,9 @@ impl<B: BytesToBytesCodecTraits> ArrayToBytesCodecTraits for CodecChain<B> {
         data_type: &DataType,
         fill_value: &FillValue,
     ) -> Result<ArrayBytesRaw<'a>, CodecError> {
+        chain_is_sound(self);
+        elements_are_bytes(&elements);
+        shape.as_slice();
         CodecChain::encode(self, alloc, elements, shape, data_type, fill_value)
     }
 
@@ -89,6 +97,10 @@ impl<B: BytesToBytesCodecTraits> ArrayToBytesCodecTraits for ArrayToBytesCodec<B
 
     ghost opened = { λ codec form _. codec_opened B.functions (plain_codec codec) form.sizes form.type form.fill };
 
+    ghost use Rattle.zarrs_codec_chain.specs.MemberLaws.{codec_fits};
+
+    ghost fits = { λ codec. codec_fits B.functions (plain_codec codec) };
+
     fn encoded_representation(
         &self,
         alloc: Global,
@@ -107,6 +119,9 @@ impl<B: BytesToBytesCodecTraits> ArrayToBytesCodecTraits for ArrayToBytesCodec<B
         data_type: &DataType,
         fill_value: &FillValue,
     ) -> Result<ArrayBytesRaw<'a>, CodecError> {
+        codec_is_sound(self);
+        elements_are_bytes(&elements);
+        shape.as_slice();
         codec_encode(alloc, self, elements, shape, data_type, fill_value)
     }
 
@@ -150,6 +165,10 @@ impl<B: BytesToBytesCodecTraits> ArrayToBytesCodecTraits for VlenCodec<B> {
 
     ghost opened = { λ codec form _. codec_opened B.functions (plain_vlen codec) form.sizes form.type form.fill };
 
+    ghost use Rattle.zarrs_codec_chain.specs.MemberLaws.{codec_fits};
+
+    ghost fits = { λ codec. codec_fits B.functions (plain_vlen codec) };
+
     fn encoded_representation(
         &self,
         _alloc: Global,
@@ -168,6 +187,9 @@ impl<B: BytesToBytesCodecTraits> ArrayToBytesCodecTraits for VlenCodec<B> {
         data_type: &DataType,
         fill_value: &FillValue,
     ) -> Result<ArrayBytesRaw<'a>, CodecError> {
+        vlen_is_sound(self);
+        elements_are_bytes(&elements);
+        shape.as_slice();
         VlenCodec::encode(self, alloc, elements, shape, data_type, fill_value)
     }
 
@@ -210,6 +232,10 @@ impl<B: BytesToBytesCodecTraits> ArrayToBytesCodecTraits for OptionalCodec<B> {
 
     ghost opened = { λ codec form _. codec_opened B.functions (plain_optional codec) form.sizes form.type form.fill };
 
+    ghost use Rattle.zarrs_codec_chain.specs.MemberLaws.{codec_fits};
+
+    ghost fits = { λ codec. codec_fits B.functions (plain_optional codec) };
+
     fn encoded_representation(
         &self,
         alloc: Global,
@@ -228,6 +254,9 @@ impl<B: BytesToBytesCodecTraits> ArrayToBytesCodecTraits for OptionalCodec<B> {
         data_type: &DataType,
         fill_value: &FillValue,
     ) -> Result<ArrayBytesRaw<'a>, CodecError> {
+        optional_is_sound(self);
+        elements_are_bytes(&elements);
+        shape.as_slice();
         OptionalCodec::encode(self, alloc, elements, shape, data_type, fill_value)
     }
 

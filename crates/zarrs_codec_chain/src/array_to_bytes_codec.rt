@@ -1,8 +1,9 @@
 ghost use Rattle.zarrs_data_type.specs.Form.{form_of};
 ghost use Rattle.zarrs_chain_parts.specs.CallAnswers.{GivesCodecChunk, GivesCodecValue, GivesRepresentation, IsTaken};
 ghost use Rattle.zarrs_chunk.specs.Answer.{Gives, GivesBy};
+ghost use Rattle.zarrs_array_bytes.specs.Blank.{AbsentAreBlank};
 ghost use Rattle.zarrs_array_bytes.specs.Held.{items_of};
-ghost use Rattle.std.specs.Prelude.{◌≡◌, IsOk, false};
+ghost use Rattle.std.specs.Prelude.{◌≡◌, IfOk, IsOk, false};
 ghost use Rattle.zarrs_array_bytes.specs.Validity.{Holds};
 ghost use Rattle.zarrs_chain_parts.specs.Chain.{codec_held_value, codec_reads as codec_reads_of, codec_writes as codec_writes_of};
 ghost use Rattle.zarrs_codec_chain.specs.ChainView.{plain_codec};
@@ -129,9 +130,11 @@ pub(crate) fn codec_encode<'a, B: BytesToBytesCodecTraits>(
     }
 }
 
-/// The chunk that a value stands for. Refusals: the codec's own.
+/// The chunk that a value stands for, with blank elements under absent ones, where the codec takes
+/// such chunks. Refusals: those of the codec's `decode` behind those of its
+/// `encoded_representation`.
 #[cycle(decode)]
-#[tactic(auto, unfolding(crate::specs::ChainView::plain_codec), using(crate::proofs::CodecSteps::bytes_chunk_at, crate::proofs::CodecSteps::packbits_chunk_at))]
+#[tactic(auto, unfolding(crate::specs::ChainView::plain_codec), using(crate::proofs::CodecSteps::bytes_chunk_at, crate::proofs::CodecSteps::packbits_chunk_at, crate::proofs::TakenBlank::bytes_blank_at, crate::proofs::TakenBlank::packbits_blank_at))]
 pub fn codec_decode<'a, B: BytesToBytesCodecTraits>(
     alloc: Global,
     codec: &ArrayToBytesCodec<B>,
@@ -144,6 +147,7 @@ pub fn codec_decode<'a, B: BytesToBytesCodecTraits>(
         (form_of shape.now data_type.now fill_value.now) }
     ensures answer { GivesCodecChunk B.functions (plain_codec codec.now)
         (form_of shape.now data_type.now fill_value.now) (items_of value.entry) result }
+    ensures blank { IfOk result (AbsentAreBlank data_type.now) }
 {
     match codec {
         ArrayToBytesCodec::Bytes(codec) => codec.decode(alloc, value, shape, data_type, fill_value),

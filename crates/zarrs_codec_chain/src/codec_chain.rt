@@ -1,7 +1,8 @@
 ghost use Rattle.zarrs_chain_parts.specs.CallAnswers.{GivesChainRepresentation};
-ghost use Rattle.std.specs.Prelude.{◌≡◌, Ok, None, All, map};
+ghost use Rattle.std.specs.Prelude.{◌≡◌, Ok, IfOk, None, All, map};
 ghost use Rattle.std.specs.List.{list_all};
 ghost use Rattle.zarrs_chunk.specs.Answer.{Gives};
+ghost use Rattle.zarrs_array_bytes.specs.Blank.{AbsentAreBlank};
 ghost use Rattle.zarrs_array_bytes.specs.Held.{items_of};
 ghost use Rattle.zarrs_data_type.specs.Form.{form_of};
 ghost use Rattle.zarrs_codec.specs.Grammar.{Encodes, Decodes};
@@ -31,8 +32,9 @@ use zarrs_codec::{
 use zarrs_data_type::{DataType, FillValue};
 use zarrs_metadata::{Configuration, PluginCreateError};
 
-/// A chain of codecs: codecs of chunks to chunks, one of chunks to bytes, and the caller's codecs of
-/// bytes to bytes, each list in the order in which they encode.
+/// A chain of codecs: codecs of chunks to chunks, one of chunks to bytes, and the caller's codecs
+/// of bytes to bytes, each list in the order in which they encode (Zarr v3 core, array metadata
+/// `codecs`).
 #[cycle(chain)]
 #[derive(Debug, Drop)]
 pub struct CodecChain<B> {
@@ -93,7 +95,8 @@ fn arrays_are_sound(codecs: &[ArrayToArrayCodec])
     }
 }
 
-/// What the array codecs of the chain, and of those inside it, are made of holds.
+/// What the array codecs of the chain, and of those inside it, are made of holds. The call does
+/// nothing; its contract is for proofs.
 #[cycle(sound)]
 pub fn chain_is_sound<B>(chain: &CodecChain<B>)
     ensures mappings { IsChainOfMappings (plain_chain chain.now) }
@@ -127,10 +130,19 @@ impl<B: BytesToBytesCodecTraits> CodecChain<B> {
         chain_representation(alloc, self, shape, data_type, fill_value)
     }
 
-    /// The value that is written for the chunk that `elements` hold. Refusals, the first that holds,
-    /// `OutOfMemory` aside: those of `encoded_representation`; those of `ArrayBytes::validate`.
+    /// The value that is written for the chunk that `elements` hold. Refusals, the first that
+    /// holds, `OutOfMemory` aside: those of `encoded_representation`; those of
+    /// `ArrayBytes::validate`; then of the codec to bytes, where it is
     ///
-    /// Each codec gets what the one before made, owned bytes as owned ones.
+    /// - `vlen`: `OffsetTooLarge` where 32 bits don't hold an offset that is to have so many; those
+    ///   of the index chain; `OffsetNotKept` where it would change an offset; those of the data
+    ///   chain;
+    /// - `optional`: those of the mask chain; those of the data chain at the row of present
+    ///   elements;
+    /// - `bytes` or `packbits`: none.
+    ///
+    /// A chain inside is asked as this one is, `encoded_representation` first, and not at all about
+    /// a row of no elements. Each codec gets what the one before made, owned bytes as owned ones.
     pub fn encode<'a>(
         &self,
         alloc: Global,
@@ -147,12 +159,25 @@ impl<B: BytesToBytesCodecTraits> CodecChain<B> {
         chain_encode(alloc, self, elements, shape, data_type, fill_value)
     }
 
-    /// The chunk that a value stands for. Refusals, the first that holds, `OutOfMemory` aside: those
-    /// of `encoded_representation`; `BytesCodec` of the last bytes codec, then of the one before;
-    /// `InvalidBytesLength` where what stands below them has another length; `PaddingByte` where
-    /// its padding byte isn't the number of spare bits.
+    /// The chunk that a value stands for. Refusals, the first that holds, `OutOfMemory` aside:
+    /// those of `encoded_representation`; `BytesCodec` of the last bytes codec, then of the one
+    /// before; then of the codec to bytes, about what stands below them, where it is
     ///
-    /// Each codec gets what the one behind it made, owned bytes as owned ones.
+    /// - `bytes`: `InvalidBytesLength` for another length;
+    /// - `packbits`: `InvalidBytesLength`; `PaddingByte` where the padding byte isn't the number of
+    ///   spare bits;
+    /// - `vlen`: `InvalidBytesLength` for fewer than 8 bytes; `IndexLength` where the index is
+    ///   longer than what is left; `Overflow` where 64 bits don't count the offsets; those of the
+    ///   index chain; `InvalidOffsets` where an offset is less than the one before; those of the
+    ///   data chain at as many bytes as the last offset says;
+    /// - `optional`: `InvalidBytesLength` for fewer than 16 bytes; `HeaderOverflow` where 64 bits
+    ///   don't count what the two lengths say; `InvalidBytesLength` for more bytes, or fewer; those
+    ///   of the mask chain; `MaskValue` where a mask byte isn't 0 or 1; those of the data chain at
+    ///   the row of present elements.
+    ///
+    /// A chain inside is asked as this one is, `encoded_representation` first, and not at all about
+    /// a row of no elements. Each codec gets what the one behind it made, owned bytes as owned
+    /// ones. Absent elements stand over blank ones, at every depth, whatever the value has there.
     pub fn decode<'a>(
         &self,
         alloc: Global,
@@ -163,6 +188,7 @@ impl<B: BytesToBytesCodecTraits> CodecChain<B> {
     ) -> Result<ArrayBytes<'a>, CodecError>
         ensures decodes { Decodes (chain_grammar B.functions (plain_chain self.now))
             (form_of shape.now data_type.now fill_value.now) (items_of value.entry) result }
+        ensures blank { IfOk result (AbsentAreBlank data_type.now) }
     {
         chain_is_sound(self);
         shape.as_slice();

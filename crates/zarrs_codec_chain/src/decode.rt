@@ -2,8 +2,9 @@
 ghost use Rattle.zarrs_data_type.specs.Form.{form_of};
 ghost use Rattle.zarrs_chain_parts.specs.CallAnswers.{GivesChainChunk, GivesPartChunk};
 ghost use Rattle.zarrs_chunk.specs.Answer.{GivesBy};
+ghost use Rattle.zarrs_array_bytes.specs.Blank.{AbsentAreBlank};
 ghost use Rattle.zarrs_array_bytes.specs.Held.{items_of};
-ghost use Rattle.std.specs.Prelude.{◌≡◌, true};
+ghost use Rattle.std.specs.Prelude.{◌≡◌, IfOk, true};
 ghost use Rattle.zarrs_array_bytes.specs.Validity.{Holds};
 ghost use Rattle.zarrs_codec_chain.specs.ChainView.{plain_chain};
 ghost use Rattle.zarrs_chain_parts.specs.Decode.{chain_chunk, part_chunk};
@@ -21,7 +22,8 @@ use zarrs_chunk::{ChunkShape, CodecError};
 use zarrs_codec::BytesToBytesCodecTraits;
 use zarrs_data_type::{DataType, FillValue};
 
-/// The chunk that a value stands for through the chain. Refusals: those of `CodecChain::decode`.
+/// The chunk that a value stands for through the chain, with blank elements under absent ones.
+/// Refusals: those of `CodecChain::decode`.
 #[cycle(decode)]
 pub(crate) fn chain_decode<'a, B: BytesToBytesCodecTraits>(
     alloc: Global,
@@ -33,6 +35,7 @@ pub(crate) fn chain_decode<'a, B: BytesToBytesCodecTraits>(
 ) -> Result<ArrayBytes<'a>, CodecError>
     ensures exact { GivesChainChunk B.functions (plain_chain chain.now)
         (form_of shape.now data_type.now fill_value.now) (items_of value.entry) result }
+    ensures blank { IfOk result (AbsentAreBlank data_type.now) }
 {
     let taken = taken_form(alloc, chain, shape, data_type, fill_value)?;
     let below = decode_bytes(alloc, &chain.bytes_to_bytes, &taken.representation, value)?;
@@ -65,9 +68,10 @@ pub(crate) fn part_decode<'a, B: BytesToBytesCodecTraits>(
     data_type: &DataType,
     fill_value: &FillValue,
 ) -> Result<ArrayBytes<'a>, CodecError>
-    requires fits { fill_fits data_type.now fill_value.now ≡ true }
+    requires filling { fill_fits data_type.now fill_value.now ≡ true }
     ensures exact { GivesPartChunk B.functions (plain_chain chain.now) count
         data_type.now fill_value.now (items_of part.entry) result }
+    ensures blank { IfOk result (AbsentAreBlank data_type.now) }
 {
     match row_of(alloc, count)? {
         Some(row) => chain_decode(alloc, chain, part, &row, data_type, fill_value),

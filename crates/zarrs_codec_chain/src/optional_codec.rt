@@ -1,7 +1,8 @@
 ghost use Rattle.zarrs_chain_parts.specs.CallAnswers.{GivesCodecChunk, GivesCodecValue, GivesRepresentation, GivesTakenChunk, IsTaken, GivesPartValue};
 ghost use Rattle.zarrs_chunk.specs.Answer.{Gives, GivesBy, Answers, checked_u64};
+ghost use Rattle.zarrs_array_bytes.specs.Blank.{AbsentAreBlank};
 ghost use Rattle.zarrs_array_bytes.specs.Held.{items_of};
-ghost use Rattle.std.specs.Prelude.{◌≡◌, ◌+◌, ◌<◌, ◌^◌, [], ◌∷◌, length, Ok, IsOk};
+ghost use Rattle.std.specs.Prelude.{◌≡◌, ◌+◌, ◌<◌, ◌^◌, [], ◌∷◌, length, Ok, IfOk, IsOk};
 ghost use Rattle.zarrs_chunk.specs.ChunkShape.{product};
 ghost use Rattle.zarrs_data_type.specs.ElementType.{optional};
 ghost use Rattle.zarrs_array_bytes.specs.Elements.{elements as elements_of};
@@ -136,7 +137,7 @@ fn mask_encode<'a, B: BytesToBytesCodecTraits>(
     mask: ArrayBytesRaw<'a>,
     shape: &ChunkShape,
 ) -> Result<ArrayBytesRaw<'a>, CodecError>
-    requires long { length (items_of mask) ≡ product shape.now }
+    requires len { length (items_of mask) ≡ product shape.now }
     requires counted { checked_u64 (product shape.now) ≡ Ok (product shape.now) }
     ensures answer { Gives items_of result
         (mask_part B.functions (plain_chain chain.now) shape.now (items_of mask.entry)) }
@@ -230,9 +231,9 @@ fn mask_decode<'a, B: BytesToBytesCodecTraits>(
     chain_decode(alloc, chain, part, shape, &flag, &zero)?.into_fixed()
 }
 
-/// The elements of this inner type that a part stands for, put back under the mask. Refusals, the
-/// first that holds, `OutOfMemory` aside: `MaskValue` where a mask byte isn't 0 or 1; those of the
-/// chain.
+/// The elements of this inner type that a part stands for, put back under the mask, with blank ones
+/// under those that are absent. Refusals, the first that holds, `OutOfMemory` aside: `MaskValue` where
+/// a mask byte isn't 0 or 1; those of the chain.
 #[cycle(decode)]
 #[tactic(auto, using(zarrs_chain_parts::proofs::OptionalSteps::mask_refused, zarrs_chain_parts::proofs::OptionalSteps::present_opened, zarrs_chain_parts::proofs::OptionalSteps::part_expanded))]
 fn present_decode<'a, B: BytesToBytesCodecTraits>(
@@ -246,6 +247,7 @@ fn present_decode<'a, B: BytesToBytesCodecTraits>(
         sizes_fit data_type.now (length (items_of mask)) ≡ Ok tt }
     ensures answer { GivesPresent B.functions (plain_chain chain.now) data_type.now
         (items_of mask.entry) (items_of part.entry) result }
+    ensures blank { IfOk result (AbsentAreBlank (optional data_type.now)) }
 {
     let count = count_present(lent(&mask))?;
     let blank = blank_fill(alloc, data_type)?;
@@ -265,8 +267,8 @@ fn has_room<B: BytesToBytesCodecTraits>(
 )
     requires taken { IsTaken B.functions (plain_optional codec.now)
         (form_of shape.now data_type.now fill_value.now) }
-    requires inside { optional_inner data_type.now ≡ Ok inner.now }
-    requires long { length (items_of mask.now) ≡ product shape.now }
+    requires inner { optional_inner data_type.now ≡ Ok inner.now }
+    requires len { length (items_of mask.now) ≡ product shape.now }
     ensures room { length (items_of mask.now) + 1 < 2 ^ 64 →
         sizes_fit inner.now (length (items_of mask.now)) ≡ Ok tt }
 {
@@ -274,9 +276,10 @@ fn has_room<B: BytesToBytesCodecTraits>(
     shape.as_slice();
 }
 
-/// The chunk that a value stands for. Refusals: those of `OptionalCodec::decode`.
+/// The chunk that a value stands for, where the codec takes such chunks. Refusals: those of
+/// `OptionalCodec::decode` behind those of `encoded_representation`.
 #[cycle(decode)]
-#[tactic(auto, using(crate::proofs::OptionalAt::chunk_opened_at, crate::proofs::OptionalAt::chunk_at))]
+#[tactic(auto, using(crate::proofs::OptionalAt::chunk_opened_at, crate::proofs::OptionalAt::chunk_at, crate::proofs::OptionalAt::blank_at))]
 pub(crate) fn optional_decode<'a, B: BytesToBytesCodecTraits>(
     alloc: Global,
     codec: &OptionalCodec<B>,
@@ -289,6 +292,7 @@ pub(crate) fn optional_decode<'a, B: BytesToBytesCodecTraits>(
         (form_of shape.now data_type.now fill_value.now) }
     ensures answer { GivesCodecChunk B.functions (plain_optional codec.now)
         (form_of shape.now data_type.now fill_value.now) (items_of value.entry) result }
+    ensures blank { IfOk result (AbsentAreBlank data_type.now) }
 {
     let inner = inner_type(data_type)?;
     let (mask_part, data_part) = split_value(alloc, value)?;
@@ -309,6 +313,7 @@ fn optional_taken_decode<'a, B: BytesToBytesCodecTraits>(
 ) -> Result<ArrayBytes<'a>, CodecError>
     ensures exact { GivesTakenChunk B.functions (plain_optional codec.now)
         (form_of shape.now data_type.now fill_value.now) (items_of value.entry) result }
+    ensures blank { IfOk result (AbsentAreBlank data_type.now) }
 {
     optional_representation(alloc, codec, shape, data_type, fill_value)?;
     optional_decode(alloc, codec, value, shape, data_type, fill_value)
@@ -352,10 +357,13 @@ impl<B: BytesToBytesCodecTraits> OptionalCodec<B> {
         optional_encode(alloc, self, elements, shape, data_type, fill_value)
     }
 
-    /// The chunk that a value stands for. Refusals, the first that holds, `OutOfMemory` aside: those
-    /// of `encoded_representation`; `InvalidBytesLength` where there are fewer than 16 bytes; `HeaderOverflow` where 64 bits don't count what the two lengths say;
-    /// `InvalidBytesLength` where there are more bytes, or fewer; those of the mask chain; `MaskValue`
-    /// where a mask byte isn't 0 or 1; those of the data chain at the row of present elements.
+    /// The chunk that a value stands for. Refusals, the first that holds, `OutOfMemory` aside:
+    /// those of `encoded_representation`; `InvalidBytesLength` where there are fewer than 16 bytes;
+    /// `HeaderOverflow` where 64 bits don't count what the two lengths say; `InvalidBytesLength`
+    /// where there are more bytes, or fewer; those of the mask chain; `MaskValue` where a mask byte
+    /// isn't 0 or 1; those of the data chain at the row of present elements.
+    ///
+    /// Absent elements stand over blank ones, at every depth, and mask bytes are 0 or 1.
     pub fn decode<'a>(
         &self,
         alloc: Global,
@@ -366,6 +374,7 @@ impl<B: BytesToBytesCodecTraits> OptionalCodec<B> {
     ) -> Result<ArrayBytes<'a>, CodecError>
         ensures decodes { Decodes (codec_grammar B.functions (plain_optional self.now))
             (form_of shape.now data_type.now fill_value.now) (items_of value.entry) result }
+        ensures blank { IfOk result (AbsentAreBlank data_type.now) }
     {
         optional_is_sound(self);
         shape.as_slice();

@@ -18,7 +18,7 @@ use zarrs_metadata::{VlenIndexDataType, VlenIndexLocation};
 /// chain.
 #[tactic(auto, unfolding(crate::specs::ChainView::plain_codec), using(crate::specs::ChainView::plain_vlen_at, crate::specs::ChainView::plain_optional_at, crate::proofs::PlainForms::arrays_before, crate::proofs::PlainForms::bytes_behind, crate::proofs::PlainForms::none_around, crate::proofs::PlainForms::none_else))]
 pub(crate) fn lone_bytes<B>(chain: &CodecChain<B>) -> Option<Option<Endianness>>
-    ensures order { result ≡ lone_order (plain_chain chain.now) }
+    ensures value { result ≡ lone_order (plain_chain chain.now) }
 {
     if !chain.array_to_array.is_empty() {
         return None;

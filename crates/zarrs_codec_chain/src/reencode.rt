@@ -17,7 +17,7 @@ use zarrs_data_type::{DataType, FillValue};
 /// The bytes as a vector: owned ones as they are, and borrowed ones copied.
 fn owned(alloc: Global, bytes: ArrayBytesRaw<'_>) -> Result<Vec<u8>, CodecError>
     ensures answer { Gives (λ owned. owned.items) result (Ok (items_of bytes.entry)) }
-    ensures kept { (raw_of bytes.entry).is_owned ≡ true → IsOk result }
+    ensures owned { (raw_of bytes.entry).is_owned ≡ true → IsOk result }
 {
     match bytes {
         CowSlice::Borrowed(bytes) => Ok(Vec::from_slice(alloc, bytes)?),

@@ -1,5 +1,6 @@
 ghost use Rattle.zarrs_chain_parts.specs.CallAnswers.{GivesCodecChunk, GivesCodecValue, GivesRepresentation, GivesTakenChunk, IsTaken, codec_represented};
 ghost use Rattle.zarrs_chunk.specs.Answer.{Gives, GivesBy, Answers, memory, is_fault, checked_u64};
+ghost use Rattle.zarrs_array_bytes.specs.Blank.{AbsentAreBlank};
 ghost use Rattle.zarrs_array_bytes.specs.Held.{items_of};
 ghost use Rattle.std.specs.Prelude.{◌≡◌, ◌<◌, ◌+◌, [], Ok, IfOk, IsOk, false, length, option_map, true};
 ghost use Rattle.zarrs_chunk.specs.ChunkShape.{product};
@@ -46,9 +47,10 @@ use zarrs_metadata::{Configuration, PluginCreateError, VlenIndexDataType, VlenIn
 /// Elements of any length: where each begins, through one chain, and their bytes, through another
 /// (codec.zarrs.dev codec `zarrs.vlen`).
 ///
-/// The value has three parts: the length of the index part as 8 bytes, the lowest first; the index
-/// part; the data part. The index is a row of one offset more than there are elements; the data are
-/// a row of the elements' bytes, in order.
+/// The value has three parts: the length of the index part as 8 bytes, the lowest first, the index
+/// part and the data part; where the index location is `end`, the data part, the index part and the
+/// length. The index is a row of one offset more than there are elements; the data are a row of the
+/// elements' bytes, in order.
 #[cycle(chain)]
 #[derive(Debug, Drop)]
 pub struct VlenCodec<B> {
@@ -315,16 +317,17 @@ fn content_decode<'a, B: BytesToBytesCodecTraits>(
 ) -> Result<ArrayBytesRaw<'a>, CodecError>
     ensures answer { Gives items_of result
         (content_bytes B.functions (plain_chain chain.now) count (items_of part.entry)) }
-    ensures long { IfOk result (λ bytes. length (items_of bytes) ≡ count) }
+    ensures len { IfOk result (λ bytes. length (items_of bytes) ≡ count) }
 {
     let fill_value = FillValue::new_optional_null(alloc)?;
     let bytes = part_decode(alloc, chain, part, count, &DataType::uint8(), &fill_value)?;
     bytes.into_fixed()
 }
 
-/// The chunk that a value stands for. Refusals: those of `VlenCodec::decode`.
+/// The chunk that a value stands for, where the codec takes such chunks. Refusals: those of
+/// `VlenCodec::decode` behind those of `encoded_representation`.
 #[cycle(decode)]
-#[tactic(auto, using(crate::proofs::VlenDecode::vlen_read_at, crate::proofs::VlenDecode::index_inside))]
+#[tactic(auto, using(crate::proofs::VlenDecode::vlen_read_at, crate::proofs::VlenDecode::index_inside, crate::proofs::TakenBlank::vlen_blank))]
 pub fn vlen_decode<'a, B: BytesToBytesCodecTraits>(
     alloc: Global,
     codec: &VlenCodec<B>,
@@ -337,6 +340,7 @@ pub fn vlen_decode<'a, B: BytesToBytesCodecTraits>(
         (form_of shape.now data_type.now fill_value.now) }
     ensures answer { GivesCodecChunk B.functions (plain_vlen codec.now)
         (form_of shape.now data_type.now fill_value.now) (items_of value.entry) result }
+    ensures blank { IfOk result (AbsentAreBlank data_type.now) }
 {
     let (index, _) = split(value.as_slice(), codec.index_location)?;
     let size = index.len();
@@ -400,6 +404,7 @@ fn vlen_taken_decode<'a, B: BytesToBytesCodecTraits>(
 ) -> Result<ArrayBytes<'a>, CodecError>
     ensures exact { GivesTakenChunk B.functions (plain_vlen codec.now)
         (form_of shape.now data_type.now fill_value.now) (items_of value.entry) result }
+    ensures blank { IfOk result (AbsentAreBlank data_type.now) }
 {
     vlen_measure(codec, shape, data_type, fill_value)?;
     vlen_decode(alloc, codec, value, shape, data_type, fill_value)
@@ -459,6 +464,7 @@ impl<B: BytesToBytesCodecTraits> VlenCodec<B> {
     ) -> Result<ArrayBytes<'a>, CodecError>
         ensures decodes { Decodes (codec_grammar B.functions (plain_vlen self.now))
             (form_of shape.now data_type.now fill_value.now) (items_of value.entry) result }
+        ensures blank { IfOk result (AbsentAreBlank data_type.now) }
     {
         vlen_is_sound(self);
         shape.as_slice();

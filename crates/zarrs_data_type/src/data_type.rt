@@ -12,7 +12,8 @@ use std::alloc::Global;
 use std::marker::Model;
 use zarrs_chunk::CodecError;
 
-/// The type of a chunk's elements.
+/// The type of a chunk's elements (Zarr v3 core specification, "Data types"; zarr-extensions for
+/// the sub-byte, string, bytes and optional types).
 ///
 /// An element of a fixed type is one or more components of whole bytes, the lowest byte first. An
 /// element of a variable type is bytes of any length. An element of an optional type is absent, or

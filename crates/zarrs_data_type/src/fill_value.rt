@@ -14,8 +14,9 @@ use zarrs_chunk::CodecError;
 
 /// The bytes of the element that stands where nothing is stored.
 ///
-/// Of a fixed type they are one element; of a variable type any bytes; of an optional type either
-/// the byte 0 (absent) or bytes that fit the type inside, followed by the byte 1 (present).
+/// Of a fixed type they are one element, each component with its lowest byte first; of a variable
+/// type any bytes; of an optional type either the byte 0 (absent) or bytes that fit the type
+/// inside, followed by the byte 1 (present), as in the Rust crate zarrs.
 #[derive(Debug, Drop)]
 pub struct FillValue {
     bytes: Vec<u8>,

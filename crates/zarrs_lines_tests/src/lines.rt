@@ -5,7 +5,7 @@ use zarrs_chain_lines::run::{RunEnd, run};
 
 /// Over memory a run ends as a fault for want of memory alone.
 fn wants_memory(end: RunEnd, lines: &str) -> bool {
-    end == RunEnd::Fault || lines.contains("error OutOfMemory")
+    matches!(end, RunEnd::Fault(_)) || lines.contains("error OutOfMemory")
 }
 
 /// The lines that come back to the header, a stored value, in hex, and a command.

@@ -3,7 +3,7 @@
 use std::alloc::Global;
 use std::io;
 use std::io::{BufReader, ErrorKind, Read, Write};
-use zarrs_chain_lines::run::{RunEnd, run};
+use zarrs_chain_lines::run::{RunEnd, StreamFault, run};
 
 /// A header of one element that is good, as a line.
 const HEADER: &'static [u8] =
@@ -52,7 +52,7 @@ pub(crate) const SENT: &'static [Sent] = &[
         lines: b"value\nload \"0a\"\nval",
         fails: true,
         answers: b"ok none\nok\n",
-        end: RunEnd::Fault,
+        end: RunEnd::Fault(StreamFault::Reader),
     },
     Sent {
         name: "a failure in place of the end",
@@ -60,7 +60,7 @@ pub(crate) const SENT: &'static [Sent] = &[
         lines: b"value\n",
         fails: true,
         answers: b"ok none\n",
-        end: RunEnd::Fault,
+        end: RunEnd::Fault(StreamFault::Reader),
     },
     Sent {
         name: "a failure in the header",
@@ -68,7 +68,7 @@ pub(crate) const SENT: &'static [Sent] = &[
         lines: b"",
         fails: true,
         answers: b"",
-        end: RunEnd::Fault,
+        end: RunEnd::Fault(StreamFault::Reader),
     },
     Sent {
         name: "a failure before the header",
@@ -76,7 +76,7 @@ pub(crate) const SENT: &'static [Sent] = &[
         lines: b"",
         fails: true,
         answers: b"",
-        end: RunEnd::Fault,
+        end: RunEnd::Fault(StreamFault::Reader),
     },
     Sent {
         name: "an answer, a refusal and an answer again",

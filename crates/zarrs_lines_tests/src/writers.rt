@@ -6,7 +6,7 @@ use std::io;
 use std::io::{BufWriter, ErrorKind, Write};
 use std::process::Abort;
 use std::test::Fail;
-use zarrs_chain_lines::run::RunEnd;
+use zarrs_chain_lines::run::{RunEnd, StreamFault};
 
 /// What came is what is wanted.
 fn is<T: PartialEq + Debug>(rt: &impl Abort, about: &str, came: &T, wanted: &T) {
@@ -107,14 +107,29 @@ fn ends(
     Ok(left)
 }
 
-/// With fewer writes than a run needs it ends as a fault, and so where the flush fails: the disk may
-/// be full when the last bytes go out.
+/// How a run ends that fails to write behind its lines: the reader's fault stands, which came first.
+fn unwritten(row: &Sent) -> RunEnd {
+    match row.end {
+        RunEnd::Fault(fault) => RunEnd::Fault(fault),
+        _ => RunEnd::Fault(StreamFault::Writer),
+    }
+}
+
+/// With fewer writes than a run needs it ends as the writer's fault, and so where the flush fails: the
+/// disk may be full when the last bytes go out.
 fn needs_each_write(rt: &impl Abort, alloc: Global, row: &Sent) -> Result<(), Fail> {
-    ends(rt, alloc, row, MANY, false, RunEnd::Fault)?;
+    ends(rt, alloc, row, MANY, false, unwritten(row))?;
     let left = ends(rt, alloc, row, MANY, true, row.end)?;
     let needed = MANY.saturating_sub(left);
     for writes in 0..needed {
-        ends(rt, alloc, row, writes, true, RunEnd::Fault)?;
+        ends(
+            rt,
+            alloc,
+            row,
+            writes,
+            true,
+            RunEnd::Fault(StreamFault::Writer),
+        )?;
     }
     ends(rt, alloc, row, needed, true, row.end)?;
     Ok(())
@@ -146,7 +161,7 @@ fn holds_back(rt: &impl Abort, alloc: Global, row: &Sent) -> Result<(), Fail> {
     let end = if row.answers.is_empty() {
         row.end
     } else {
-        RunEnd::Fault
+        unwritten(row)
     };
     is(rt, row.name, &came, &end);
     Ok(())

@@ -215,9 +215,6 @@ map_more f to from p h k e =
 
 -- ---- blocks behind one another
 
-abbrev lifted_all : PackedLayout → List ℕ → List ℕ
-lifted_all l xs = map (lifted_byte l.first (sign_weight l.sign l.count)) xs
-
 pub last_step : (l : PackedLayout) (c m left n : ℕ) (old new block front bytes zeros : List ℕ) → l.count ≡ c → m * c ≡ 8 → 0 < c → l.first + l.count + l.above ≡ 8 → block ≡ map (lifted_byte l.first (sign_weight l.sign l.count)) (flat_map (fields_of c m) (front ++ zeros)) → front ≡ take left bytes → left ≤ length bytes → n * c ≤ 8 * left → n ≤ m * (left + length zeros) → new ≡ old ++ take n block
     → bits_of new ≡ bits_of old ++ components_from l 0 n (bits_of bytes)
 last_step l c m left n old new block front bytes zeros is whole some size made begins within long short added =

@@ -35,10 +35,6 @@ taken_fill settings sizes text fill l e = absurd cc
 taken_fill settings sizes bytes fill l e = absurd cc
 taken_fill settings sizes (optional type) fill l e = absurd cc
 
-pub layout_of_ok : (r : Result PackedLayout CodecError) → is_ok r ≡ true → (l : PackedLayout) × (r ≡ Ok l)
-layout_of_ok (Ok l) h = (l, refl)
-layout_of_ok (Err e) h = absurd cc
-
 All-from : (limit at len : ℕ) → at + len ≤ limit → All (λ place. place < limit) (range_with_len at len)
 All-from limit at len h k d l =
     let short : k < len = omega (arith, l, length-range_with_len at len) in

@@ -1,22 +1,19 @@
 -- Values are written and read exactly where the grammar says.
 use Rattle.zarrs_data_type.specs.Form.{form_of}
-use Rattle.std.proofs.Common.{◌≡◌, ℕ, zero, suc, ◌+◌, ◌*◌, ◌<◌, ◌^◌, ◌==◌, Bool, true, nat_lt, Result, Ok, Err, List, [], ◌∷◌, ◌++◌, length, map, get_or, arith, refl, ap, sym, ◌∙◌, subst, Global}
+use Rattle.std.proofs.Common.{◌≡◌, ℕ, zero, suc, ◌+◌, ◌*◌, ◌<◌, ◌^◌, ◌==◌, Bool, true, nat_lt, Result, Ok, Err, List, [], ◌∷◌, ◌++◌, length, map, get_or, arith, refl, ap, sym, ◌∙◌, subst}
 use Rattle.std.specs.List.{concat, flat_map, range_with_len}
-use Rattle.std.specs.Prelude.{IfOk, IsOkAnd}
-use Rattle.std.specs.declared.borrow.CowSlice.{CowSlice}
 use Rattle.std.proofs.lemmas.Bool.Decides.{nat_tests}
 use Rattle.std.proofs.lemmas.List.{length-map}
 use Rattle.std.proofs.lemmas.List.Elements.{All-cons}
 use Rattle.std.proofs.lemmas.Simd.{map-map}
-use Rattle.zarrs_chunk.specs.Answer.{◌>>=◌, demand, seen}
+use Rattle.zarrs_chunk.specs.Answer.{◌>>=◌, demand}
 use Rattle.zarrs_chunk.specs.ChunkShape.{product}
 use Rattle.zarrs_chunk.specs.declared.codec_error.CodecError.{CodecError}
 use Rattle.zarrs_chunk.specs.declared.codec_error.CodecError.TheVariants.{InvalidBytesLength, Overflow, PaddingByte}
 use Rattle.zarrs_data_type.specs.Element.{Element, plain, Chunk, IsElement, AreElements}
 use Rattle.zarrs_data_type.specs.ElementType.{ElementType, fixed, text, bytes, optional, element_size}
 use Rattle.zarrs_array_bytes.specs.Elements.{elements}
-use Rattle.zarrs_array_bytes.specs.Held.{Held, Raw, flen, vlen, masked, raw_of}
-use Rattle.zarrs_array_bytes.specs.Parts.{fixed_part}
+use Rattle.zarrs_array_bytes.specs.Held.{Held, flen, vlen, masked}
 use Rattle.zarrs_array_bytes.specs.Pieces.{pieces}
 use Rattle.zarrs_array_bytes.specs.Validity.{Holds, validity}
 use Rattle.zarrs_array_bytes.proofs.ElementLaw.{AreElements-held}
@@ -272,27 +269,3 @@ decoded_only settings sizes (fixed width components sign) fill value chunk h =
 decoded_only settings sizes text fill value chunk h = absurd (let e = h.taken in cc)
 decoded_only settings sizes bytes fill value chunk h = absurd (let e = h.taken in cc)
 decoded_only settings sizes (optional type) fill value chunk h = absurd (let e = h.taken in cc)
-
--- ---- at the calls
-
--- a container that holds what the value was decoded to
-pub holds_stands : (settings : PackBitsSettings) (sizes : List ℕ) (type : ElementType) (fill value : List ℕ) (held : Held) → IsOkAnd (packbits_chunk settings (form_of sizes type fill) value) (Holds type held) → (chunk : Chunk) × Holds type held chunk × PackBitsStands settings (form_of sizes type fill) value chunk
-holds_stands settings sizes type fill value held h = by_answer (packbits_chunk settings (form_of sizes type fill) value) refl h
-  where
-    by_answer : (r : Result Chunk CodecError) → packbits_chunk settings (form_of sizes type fill) value ≡ r → IsOkAnd r (Holds type held) → (chunk : Chunk) × Holds type held chunk × PackBitsStands settings (form_of sizes type fill) value chunk
-    by_answer (Ok chunk) e h = (chunk, h, decoded_found settings sizes type fill value chunk e)
-    by_answer (Err d) e h = absurd h
-
-pub holds_only : (settings : PackBitsSettings) (sizes : List ℕ) (type : ElementType) (fill value : List ℕ) (held : Held) (chunk : Chunk) → IsOkAnd (packbits_chunk settings (form_of sizes type fill) value) (Holds type held) → PackBitsStands settings (form_of sizes type fill) value chunk → Holds type held chunk
-holds_only settings sizes type fill value held chunk h stands =
-    subst (λ (r : Result Chunk CodecError). IsOkAnd r (Holds type held)) (decoded_only settings sizes type fill value chunk stands) h
-
--- a container whose bytes are handed out
-pub held_seen : (r : Result (CowSlice ℕ Global) CodecError) (held : Held) (raw : Raw) → fixed_part held ≡ Ok raw → seen raw_of r ≡ Ok raw → IfOk r (λ value. held ≡ flen (raw_of value))
-held_seen (Ok value) (flen own) raw part same = ap flen (part_is own raw part ∙ sym (part_is (raw_of value) raw same))
-  where
-    part_is : (r s : Raw) → ok r ≡ ok s → r ≡ s
-    part_is r s e = cc
-held_seen (Ok value) (vlen own offsets) raw part same = absurd cc
-held_seen (Ok value) (masked inner mask) raw part same = absurd cc
-held_seen (Err e) held raw part same = tt

@@ -1,5 +1,5 @@
 -- Chunks as the bytes of their elements, joined.
-use Rattle.std.proofs.Common.{◌≡◌, ℕ, ◌*◌, ◌<◌, ◌==◌, true, List, length, drop, take, get_or, Result, Ok, Err, if◌then◌else◌}
+use Rattle.std.proofs.Common.{◌≡◌, ℕ, ◌*◌, ◌<◌, ◌==◌, true, List, length, drop, get_or, Result, Ok, Err, if◌then◌else◌}
 use Rattle.std.specs.List.{flat_map, range_with_len}
 use Rattle.zarrs_chunk.specs.declared.codec_error.CodecError.{CodecError}
 use Rattle.zarrs_chunk.specs.declared.codec_error.CodecError.TheVariants.{InvalidBytesLength, PaddingByte}
@@ -38,7 +38,3 @@ pub record FlatStands (l : PackedLayout) (v c : List ℕ) : Type 0 where
   pub bits : field 0 (bits_in l) (bits_of (drop (lead l) v)) ≡ stream_of_bytes l c
   pub chunk : IsFlatChunk l c
   pub kept : nf l c ≡ c
-
--- the elements at the places, joined
-abbrev pub flat_selection : PackedLayout → List ℕ → List ℕ → List ℕ
-flat_selection l c places = flat_map (λ p. take (l.group * l.size) (drop (p * (l.group * l.size)) c)) places

@@ -1,21 +1,13 @@
 -- Reads of runs and of places, as the bytes of the elements joined.
-use Rattle.std.proofs.Common.{◌≡◌, ℕ, zero, suc, ◌+◌, ◌-◌, ◌<◌, ◌≤◌, Bool, true, ◌&&◌, nat_lt, nat_le, List, [], ◌∷◌, length, take, drop, Option, Result, Ok, Err, if◌then◌else◌, arith, refl, ap, ◌∙◌}
-use Rattle.std.specs.List.{All, flat_map, list_all, range_with_len}
+use Rattle.std.proofs.Common.{◌≡◌, ℕ, zero, suc, ◌+◌, ◌-◌, ◌<◌, ◌≤◌, Bool, true, ◌&&◌, nat_lt, nat_le, List, [], ◌∷◌, take, drop, Option, Result, arith, refl, ap, ◌∙◌}
+use Rattle.std.specs.List.{All, list_all, range_with_len}
 use Rattle.std.proofs.lemmas.Bool.Decides.{nat_tests}
 use Rattle.std.proofs.lemmas.List.Elements.{All-head, All-tail}
 use Rattle.zarrs_chunk.specs.declared.codec_error.CodecError.{CodecError}
-use Rattle.zarrs_chunk.specs.declared.codec_error.CodecError.TheVariants.{InvalidByteRange}
 use Rattle.zarrs_codec.specs.ByteRanges.{bytes_in_ranges}
 use Rattle.zarrs_codec.specs.ByteSpan.{ByteSpan}
-use Rattle.zarrs_packbits.specs.BitStream.{element_bits}
 use Rattle.zarrs_packbits.specs.declared.layout.PackedLayout.{PackedLayout}
-use Rattle.zarrs_packbits.specs.Packing.{packing}
-use Rattle.zarrs_packbits.specs.PartialRead.{packed_place_bytes, all_below, read_packed_bytes}
-
--- the bytes of the elements at the places, where the value has all their bytes
-abbrev pub local_answer : PackedLayout → List ℕ → List ℕ → Result (List ℕ) CodecError
-local_answer l v ps =
-    if all_below (length v) (flat_map (packed_place_bytes l) ps) then Ok (packing (flat_map (element_bits l v) ps)) else Err InvalidByteRange
+use Rattle.zarrs_packbits.specs.PartialRead.{read_packed_bytes}
 
 -- and the fill element at each place where nothing is stored
 abbrev pub local_read : PackedLayout → Option (List ℕ) → List ℕ → List ℕ → Result (List ℕ) CodecError

@@ -8,7 +8,7 @@ use Rattle.std.proofs.lemmas.Nat.{shr_split, shr_high, pow_pos, pow-add, or_shif
 use Rattle.std.proofs.Math.Nat.{add-mul-mod_self_right, add-mul-div_right, div-div-eq-div-mul, pow-suc}
 use Rattle.std.specs.Prelude.{bit_or}
 use Rattle.std.proofs.Common.{lit<}
-use Rattle.std.proofs.lemmas.List.{append_assoc, map-id, get_or_append_left, get_or-append_right, get_or-drop, length-append, length-drop, take_more, drop_at, drop_all, drop-drop, take_at, drop-take, take-take, length-take-le, take-append-drop}
+use Rattle.std.proofs.lemmas.List.{append_assoc, map-id, get_or_append_left, get_or-append_right, length-append, drop_at, drop_all, drop-drop, take_at, drop-take, take-take, length-take-le, take-append-drop}
 use Rattle.std.proofs.Common.{get_or, take, drop}
 use Rattle.std.specs.Int.{from_le_bytes}
 use Rattle.std.proofs.lemmas.Nat.{le_bytes_8}
@@ -148,15 +148,6 @@ bit_of-place bytes place h =
     ap (λ k. get_or (bits_of bytes) k 0) (let e : place ≡ place / 8 * 8 + place % 8 = omega arith in e)
     ∙ bit_at-bytes bytes (place / 8) (place % 8) (omega arith) (omega arith)
 
--- one bit more
-pub read_more : (bytes : List ℕ) (at n word bit : ℕ) → at + n < 8 * length bytes → n < 64 → word < 2 ^ n → low_bits n word ≡ take n (drop at (bits_of bytes)) → bit ≡ get_or bytes ((at + n) / 8) 0 / 2 ^ ((at + n) % 8) % 2 → low_bits (n + 1) (bit * 2 ^ n + word) ≡ take (n + 1) (drop at (bits_of bytes))
-read_more bytes at n word bit h k below same e =
-    let b : bit < 2 = omega arith in
-    low_bits-cat n 1 word bit below
-    ∙ ap (λ ns. ns ++ (bit % 2 ∷ [])) same
-    ∙ ap (λ x. take n (drop at (bits_of bytes)) ++ (x ∷ [])) ((let q : bit % 2 ≡ bit = omega arith in q) ∙ e ∙ sym (bit_of-place bytes (at + n) h) ∙ sym (get_or-drop at (bits_of bytes) n 0))
-    ∙ sym (take_more (drop at (bits_of bytes)) n 0 (omega (arith, length-drop at (bits_of bytes), length-bits_of bytes)))
-
 pub bits_of-read : (bytes : List ℕ) (word : ℕ) → length bytes ≡ 8 → ((i : ℕ) → get_or bytes i 0 < 256) → word ≡ from_le_bytes w64 bytes → low_bits 64 word ≡ bits_of bytes
 bits_of-read bytes word l fits e = sym (bits_of-to_le_bytes word) ∙ ap bits_of (le_bytes_8 bytes word l fits e)
 
@@ -208,28 +199,11 @@ bits_of-take n bytes h =
     sym (take_at (bits_of (take n bytes)) (bits_of (drop n bytes)) (8 * n) (length-bits_of (take n bytes) ∙ ap (λ k. 8 * k) (length-take-le n bytes h)))
     ∙ ap (take (8 * n)) (sym (flat_map-append (low_bits 8) (take n bytes) (drop n bytes)) ∙ ap bits_of (take-append-drop n bytes))
 
-low_bits-field : (count s word : ℕ) → s + count ≤ 64 → low_bits count (word / 2 ^ s % 2 ^ count) ≡ take count (drop s (low_bits 64 word))
-low_bits-field count s word h =
-    let r = 64 - s - count in
-    low_bits-mod count (word / 2 ^ s)
-    ∙ sym (take_at (low_bits count (word / 2 ^ s)) (low_bits r (word / 2 ^ s / 2 ^ count)) count (length-low_bits count (word / 2 ^ s)))
-    ∙ ap (take count) (sym (low_bits-split count r (word / 2 ^ s))
-    ∙ sym (drop_at (low_bits s word) (low_bits (count + r) (word / 2 ^ s)) s (length-low_bits s word))
-    ∙ ap (drop s) (sym (low_bits-split s (count + r) word) ∙ ap (λ n. low_bits n word) (let e : s + (count + r) ≡ 64 = omega arith in e)))
-
 pub take-drop-take : (count s n : ℕ) (xs : List ℕ) → s + count ≤ n → take count (drop s (take n xs)) ≡ take count (drop s xs)
 take-drop-take count s n xs h =
     ap (λ k. take count (drop s (take k xs))) (let e : n ≡ s + (n - s) = omega arith in e)
     ∙ ap (take count) (drop-take s (n - s) xs)
     ∙ take-take count (n - s) (drop s xs) (omega arith)
-
-pub read_field : (bytes : List ℕ) (start s count word : ℕ) → start + 8 ≤ length bytes → s + count ≤ 64 → low_bits 64 word ≡ bits_of (take 8 (drop start bytes)) → low_bits count (word / 2 ^ s % 2 ^ count) ≡ take count (drop (8 * start + s) (bits_of bytes))
-read_field bytes start s count word h l is =
-    low_bits-field count s word l
-    ∙ ap (λ ns. take count (drop s ns)) (is ∙ bits_of-take 8 (drop start bytes) (omega (arith, length-drop start bytes)))
-    ∙ take-drop-take count s 64 (bits_of (drop start bytes)) l
-    ∙ ap (λ ns. take count (drop s ns)) (bits_of-drop start bytes)
-    ∙ ap (take count) (drop-drop s (8 * start) (bits_of bytes))
 
 -- the first bytes of a word
 pub first_bytes : (used word : ℕ) → used ≤ 8 → bits_of (take used (to_le_bytes w64 word)) ≡ low_bits (8 * used) word

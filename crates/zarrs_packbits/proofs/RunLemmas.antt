@@ -1,17 +1,15 @@
 -- Runs of places.
 use Rattle.std.proofs.Common.{◌≡◌, ℕ, zero, suc, ◌+◌, ◌-◌, ◌*◌, ◌/◌, ◌%◌, ◌^◌, ◌<◌, ◌≤◌, ◌&&◌, List, [], ◌∷◌, ◌++◌, Bool, true, false, nat_lt, nat_le, map, length, take, drop, arith, refl, ap, sym, ◌∙◌, Option, Some, None, Result, Ok, Err, if◌then◌else◌}
 use Rattle.std.specs.List.{flat_map, range_with_len, list_all}
-use Rattle.std.proofs.Common.{get_or, inl, inr}
+use Rattle.std.proofs.Common.{inl, inr}
 use Rattle.std.proofs.lemmas.Bool.{cases_lt}
-use Rattle.std.proofs.lemmas.List.{drop_more, nil_from_length, take_all, take-append-drop}
 use Rattle.std.proofs.Math.Nat.{mul-le-mul_right}
-use Rattle.std.proofs.lemmas.List.{append_assoc, append-nil, drop-drop, length-take-le, length-drop, length-append, take_at, drop_at}
+use Rattle.std.proofs.lemmas.List.{append_assoc, append-nil, length-take-le, length-drop, length-append, take_at, drop_at}
 use Rattle.std.proofs.lemmas.List.Concat.{flat_map-append}
 use Rattle.std.proofs.lemmas.List.Folds.{list_all-append}
 use Rattle.std.proofs.lemmas.Bool.Decides.{nat_tests}
-use Rattle.zarrs_packbits.proofs.LayoutLemmas.{whole_restored}
-use Rattle.zarrs_packbits.specs.Bits.{low_bits, bits_of, field}
-use Rattle.zarrs_packbits.proofs.LowBits.{length-bits_of, range-more}
+use Rattle.zarrs_packbits.specs.Bits.{bits_of, field}
+use Rattle.zarrs_packbits.proofs.LowBits.{range-more}
 use Rattle.zarrs_codec.specs.ByteSpan.{ByteSpan}
 use Rattle.zarrs_packbits.specs.PartialRead.{all_below, span_start, span_end, packed_place_bytes}
 use Rattle.zarrs_packbits.proofs.FlatRead.{end_within, ranges_bytes, range_bytes, all_below-range, local_read, are_runs}
@@ -176,21 +174,6 @@ is_run count r rs h =
       rest = and_second (nat_lt 0 r.1 && nat_le (r.0 + r.1) count) (are_runs count rs) h;
     }
 
--- one run more
-pub more_runs : (l : PackedLayout) (bytes : List ℕ) (rs rest : List (ℕ × ℕ)) (at len : ℕ) (r : ℕ × ℕ) (was bytes_before after : List ℕ)
-    → rs ≡ r ∷ rest → len ≡ run_end l r - run_start l r → was ≡ bytes_before ++ run_bits l (drop at bytes) rs → after ≡ bytes_before ++ components_from l (r.0 * element_bits_len l % 8) (r.1 * l.group) (bits_of (take ((at + len) - at) (drop at bytes)))
-    → was ≡ after ++ run_bits l (drop (at + len) bytes) rest
-more_runs l bytes rs rest at len r was bytes_before after e n h k =
-    let m = run_end l r - run_start l r in
-    let o = r.0 * element_bits_len l % 8 in
-    let here = components_from l o (r.1 * l.group) (bits_of (take m (drop at bytes))) in
-    let there = run_bits l (drop m (drop at bytes)) rest in
-    let cut : here ≡ components_from l o (r.1 * l.group) (bits_of (take ((at + len) - at) (drop at bytes))) = ap (λ j. components_from l o (r.1 * l.group) (bits_of (take j (drop at bytes)))) (let q : m ≡ (at + len) - at = omega arith in q) in
-    h ∙ ap (λ xs. bytes_before ++ run_bits l (drop at bytes) xs) e
-    ∙ sym (append_assoc bytes_before here there)
-    ∙ ap (λ xs. xs ++ there) (ap (λ xs. bytes_before ++ xs) cut ∙ sym k)
-    ∙ ap (λ xs. after ++ run_bits l xs rest) (drop-drop m at bytes ∙ ap (λ j. drop (at + j) bytes) (sym n))
-
 -- ---- reading runs is reading places
 
 pub head_of : (a b : ℕ × ℕ) (xs ys : List (ℕ × ℕ)) → a ∷ xs ≡ b ∷ ys → a ≡ b
@@ -293,11 +276,6 @@ runs_read_len l None b runs rs ls e same is = cc
 runs_read_len l (Some v) b runs rs ls e same is =
     taken_len l v b runs rs (end_within (length v) rs) e refl (ap (λ (x : List ByteSpan). read_ranges (Some v) x) (sym same) ∙ is)
 
-pub run_at : (count : ℕ) (runs : List (ℕ × ℕ)) (i : ℕ) → i < length runs → are_runs count (drop i runs) ≡ true → IsRun count (get_or runs i (0, 0)) (drop (i + 1) runs)
-run_at count runs i lt h =
-    let u = drop_more runs i (0, 0) lt in
-    is_run count (get_or runs i (0, 0)) (drop (i + 1) runs) (sym (ap (are_runs count) u) ∙ h)
-
 -- ---- sure bytes
 
 pub all_at : (q : ℕ → Bool) (s n : ℕ) → list_all q (range_with_len s n) ≡ true → (k : ℕ) → s ≤ k → k < s + n → q k ≡ true
@@ -360,30 +338,3 @@ pub sure_runs : (sure : Option (ℕ → Bool)) (l : PackedLayout) (runs : List (
     → are_sure sure (flat_map (packed_place_bytes l) (joined_runs runs)) ≡ true → are_sure sure (range_indices ls) ≡ true
 sure_runs None l runs rs ls s h e same g = g
 sure_runs (Some q) l runs rs ls s h e same g = ap (λ (x : List ByteSpan). list_all q (range_indices x)) same ∙ runs_sure q l runs rs s h e g
-
--- ---- whole bytes as they stand
-
-pub whole_runs : (l : PackedLayout) (runs : List (ℕ × ℕ)) (bytes : List ℕ) → IsPackedLayout l → is_whole l ≡ true → length bytes ≡ runs_len l runs → run_bits l bytes runs ≡ bits_of bytes
-whole_runs l [] bytes s h e = ap bits_of (sym (nil_from_length bytes e))
-whole_runs l (r ∷ runs) bytes s h e =
-    let len = run_end l r - run_start l r in
-    let size = l.group * l.size in
-    let n : len ≡ r.1 * size = (let q : (r.0 + r.1) * size ≡ r.0 * size + r.1 * size = omega arith in omega (arith, whole_run_start l r.0 r.1 s h, whole_run_end l r.0 r.1 s h)) in
-    let o : r.0 * element_bits_len l % 8 ≡ 0 = (let q = whole_at l r.0 s h in omega arith) in
-    let all : r.1 * l.group * l.count ≡ 8 * len = (let q = whole_at l r.1 s h in let d : r.1 * l.group * l.count ≡ r.1 * element_bits_len l = omega arith in omega arith) in
-    let t : length (take len bytes) ≡ len = length-take-le len bytes (omega arith) in
-    let d : length (drop len bytes) ≡ runs_len l runs = omega (arith, length-drop len bytes) in
-    ap (λ xs. xs ++ run_bits l (drop len bytes) runs) (
-    whole_restored l (r.0 * element_bits_len l % 8) (r.1 * l.group) (bits_of (take len bytes)) h
-    ∙ ap (λ k. field k (r.1 * l.group * l.count) (bits_of (take len bytes))) o
-    ∙ take_all (r.1 * l.group * l.count) (bits_of (take len bytes)) (omega (arith, length-bits_of (take len bytes))))
-    ∙ ap (λ xs. bits_of (take len bytes) ++ xs) (whole_runs l runs (drop len bytes) s h d)
-    ∙ sym (flat_map-append (low_bits 8) (take len bytes) (drop len bytes))
-    ∙ ap bits_of (take-append-drop len bytes)
-
-pub fills_more : (fill bytes_before now after : List ℕ) (start n : ℕ) → after ≡ now ++ fill → now ≡ bytes_before ++ flat_map (λ (p : ℕ). fill) (range_with_len start n) → after ≡ bytes_before ++ flat_map (λ (p : ℕ). fill) (range_with_len start (n + 1))
-fills_more fill bytes_before now after start n e h =
-    let f : ℕ → List ℕ = λ p. fill in
-    e ∙ ap (λ xs. xs ++ fill) h ∙ append_assoc bytes_before (flat_map f (range_with_len start n)) fill
-    ∙ ap (λ xs. bytes_before ++ (flat_map f (range_with_len start n) ++ xs)) (sym (append-nil fill))
-    ∙ ap (λ xs. bytes_before ++ xs) (sym (flat_map-append f (range_with_len start n) ((start + n) ∷ [])) ∙ ap (flat_map f) (sym (range-more start n)))

@@ -1,17 +1,17 @@
 -- What is written_bits stands for the chunk's kept bits, and the other laws.
-use Rattle.std.proofs.Common.{◌≡◌, ℕ, zero, suc, ◌+◌, ◌-◌, ◌*◌, ◌/◌, ◌<◌, ◌≤◌, ◌==◌, List, [], ◌∷◌, ◌++◌, Bool, true, false, length, take, drop, replicate, get_or, arith, refl, ap, sym, ◌∙◌, Result, Ok, Err, if◌then◌else◌}
+use Rattle.std.proofs.Common.{◌≡◌, ℕ, zero, suc, ◌+◌, ◌-◌, ◌*◌, ◌/◌, ◌<◌, ◌≤◌, ◌==◌, List, [], ◌∷◌, ◌++◌, Bool, true, false, length, take, drop, replicate, get_or, arith, refl, ap, sym, ◌∙◌, Ok, Err, if◌then◌else◌}
 use Rattle.std.specs.List.{flat_map, range_with_len}
 use Rattle.std.proofs.lemmas.List.{append_assoc, append-nil, length-append, length-drop, length-take-le, length-replicate, take_at, drop_at}
 use Rattle.std.proofs.lemmas.List.Concat.{flat_map-append}
 use Rattle.std.proofs.Math.Nat.{mul-le-mul_right}
 use Rattle.std.proofs.Common.{subst, eq-eqb, eqb-true}
 use Rattle.std.proofs.lemmas.List.{get_or_at}
-use Rattle.std.proofs.Common.{lit<, nat_lt, ◌&&◌}
+use Rattle.std.proofs.Common.{nat_lt, ◌&&◌}
 use Rattle.std.proofs.lemmas.List.Folds.{list_all-append}
 use Rattle.zarrs_packbits.specs.Bits.{low_bits, bits_of, field}
 use Rattle.zarrs_packbits.proofs.LowBits.{length-bits_of, bits_of-drop, bits_of-take, take-drop-take}
 use Rattle.zarrs_chunk.specs.declared.codec_error.CodecError.{CodecError}
-use Rattle.zarrs_chunk.specs.declared.codec_error.CodecError.TheVariants.{InvalidBytesLength, PaddingByte, InvalidByteRange}
+use Rattle.zarrs_chunk.specs.declared.codec_error.CodecError.TheVariants.{InvalidBytesLength, PaddingByte}
 use Rattle.zarrs_packbits.specs.declared.layout.PackedLayout.{PackedLayout}
 use Rattle.zarrs_packbits.specs.PackedLayout.{IsPackedLayout, parts_of, bits_in, spare_of, element_bits_len}
 use Rattle.zarrs_metadata.specs.declared.codec.packbits.PackBitsPaddingEncoding.{PackBitsPaddingEncoding}
@@ -19,14 +19,13 @@ use Rattle.zarrs_metadata.specs.declared.codec.packbits.PackBitsPaddingEncoding.
 use Rattle.zarrs_packbits.specs.KeptBits.{top_of, full_component, kept_component, component_bits}
 use Rattle.zarrs_packbits.specs.Packing.{packing}
 use Rattle.zarrs_packbits.specs.PaddingByte.{value_len, lead, bytes_before, bytes_behind, padding_holds, padding_is}
-use Rattle.zarrs_packbits.specs.BitStream.{stream_of_bytes, element_bits}
-use Rattle.zarrs_packbits.proofs.FlatChunk.{nf, encoded, decoded, IsFlatChunk, FlatStands, flat_selection}
+use Rattle.zarrs_packbits.specs.BitStream.{stream_of_bytes}
+use Rattle.zarrs_packbits.proofs.FlatChunk.{nf, encoded, decoded, IsFlatChunk, FlatStands}
 use Rattle.zarrs_packbits.proofs.LayoutLemmas.{chosen}
 use Rattle.zarrs_packbits.specs.PartialRead.{all_below, span_start, span_end, packed_place_bytes}
-use Rattle.zarrs_packbits.proofs.FlatRead.{local_answer}
 use Rattle.zarrs_packbits.proofs.Tests.{to_nat_lt, from_nat_lt, and_first, and_second}
 use Rattle.zarrs_packbits.proofs.LocalLemmas.{element_within, flat_range_same}
-use Rattle.zarrs_packbits.proofs.FieldLemmas.{packed_bytes, joined_fields}
+use Rattle.zarrs_packbits.proofs.FieldLemmas.{joined_fields}
 use Rattle.zarrs_packbits.proofs.BitLemmas.{AreBits, are_bits-flat_map, are_bits-bits_of, are_bits-widened, are_bits-field, bits_of-packed, bits_of-full, length-bytes_of, bytes_of-small, length-pieces, piece_is}
 
 -- ---- one component_bits
@@ -161,10 +160,6 @@ nf_nf l c s e =
 pub stream_nf : (l : PackedLayout) (c : List ℕ) → IsPackedLayout l → length c ≡ parts_of l * l.size → stream_of_bytes l (nf l c) ≡ stream_of_bytes l c
 stream_nf l c s e = ap (stream_of_bytes l) (nf_is l c s e) ∙ made_stream l (own l c) s (own_fields l c s e)
 
--- the kept chunk is written_bits alike
-pub encoded_nf : (l : PackedLayout) (c : List ℕ) → IsPackedLayout l → length c ≡ parts_of l * l.size → encoded l (nf l c) ≡ encoded l c
-encoded_nf l c s e = ap (λ bits. bytes_before l.padding (spare_of l) ++ (packing bits ++ bytes_behind l.padding (spare_of l))) (stream_nf l c s e)
-
 -- ---- values and chunks
 
 before_len : (p : PackBitsPaddingEncoding) (spare : ℕ) → length (bytes_before p spare) ≡ length (bytes_before p 0)
@@ -271,54 +266,7 @@ decoded_stands l v c s h =
     let P : List ℕ → Type 0 = λ x. FlatStands l v x in
     subst P o.same (made_stands l v s (eqb-true (length v) (value_len l) o.test) o.holds)
 
--- decoding what was encoded
-pub decoded_encoded : (l : PackedLayout) (c : List ℕ) → IsPackedLayout l → length c ≡ parts_of l * l.size → decoded l (encoded l c) ≡ Ok (nf l c)
-decoded_encoded l c s e = stands_decoded l (encoded l c) (nf l c) s (encoded_stands l c s e)
-
-oks : (x y : List ℕ) (r t : Result (List ℕ) CodecError) → r ≡ t → r ≡ Ok x → t ≡ Ok y → x ≡ y
-oks x y r t e f g = cc
-
--- chunks are written_bits alike exactly where their kept chunks are equal
-pub encoded_alike : (l : PackedLayout) (c d : List ℕ) → IsPackedLayout l → length c ≡ parts_of l * l.size → length d ≡ parts_of l * l.size → encoded l c ≡ encoded l d → nf l c ≡ nf l d
-encoded_alike l c d s e f h = oks (nf l c) (nf l d) (decoded l (encoded l c)) (decoded l (encoded l d)) (ap (decoded l) h) (decoded_encoded l c s e) (decoded_encoded l d s f)
-
-pub alike_encoded : (l : PackedLayout) (c d : List ℕ) → IsPackedLayout l → length c ≡ parts_of l * l.size → length d ≡ parts_of l * l.size → nf l c ≡ nf l d → encoded l c ≡ encoded l d
-alike_encoded l c d s e f h = sym (encoded_nf l c s e) ∙ ap (encoded l) h ∙ encoded_nf l d s f
-
 -- ---- reading in part selects
-
-abbrev pub AreBytes : List ℕ → Type 0
-AreBytes [] = Unit {0}
-AreBytes (b ∷ bs) = (b < 256) × AreBytes bs
-
-are_bytes : (xs : List ℕ) → ((i : ℕ) → get_or xs i 0 < 256) → AreBytes xs
-are_bytes [] h = tt
-are_bytes (x ∷ xs) h = (h 0, are_bytes xs (λ i. h (suc i)))
-
-byte_small : (xs : List ℕ) (i : ℕ) → AreBytes xs → get_or xs i 0 < 256
-byte_small [] i h = lit< tt
-byte_small (x ∷ xs) zero h = h.0
-byte_small (x ∷ xs) (suc i) h = byte_small xs i h.1
-
-are_bytes-append : (xs ys : List ℕ) → AreBytes xs → AreBytes ys → AreBytes (xs ++ ys)
-are_bytes-append [] ys h k = k
-are_bytes-append (x ∷ xs) ys h k = (h.0, are_bytes-append xs ys h.1 k)
-
-are_bytes-take : (n : ℕ) (xs : List ℕ) → AreBytes xs → AreBytes (take n xs)
-are_bytes-take zero xs h = tt
-are_bytes-take (suc n) [] h = tt
-are_bytes-take (suc n) (x ∷ xs) h = (h.0, are_bytes-take n xs h.1)
-
-are_bytes-drop : (n : ℕ) (xs : List ℕ) → AreBytes xs → AreBytes (drop n xs)
-are_bytes-drop zero xs h = h
-are_bytes-drop (suc n) [] h = tt
-are_bytes-drop (suc n) (x ∷ xs) h = are_bytes-drop n xs h.1
-
-selected_bytes : (l : PackedLayout) (c ps : List ℕ) → AreBytes c → AreBytes (flat_selection l c ps)
-selected_bytes l c [] h = tt
-selected_bytes l c (p ∷ ps) h =
-    let size = l.group * l.size in
-    are_bytes-append (take size (drop (p * size) c)) (flat_selection l c ps) (are_bytes-take size (drop (p * size) c) (are_bytes-drop (p * size) c h)) (selected_bytes l c ps h)
 
 range_below : (b s n : ℕ) → s + n ≤ b → all_below b (range_with_len s n) ≡ true
 range_below b s zero h = refl
@@ -336,49 +284,3 @@ places_inside l (p ∷ ps) h =
     list_all-append (λ k. nat_lt k (value_len l)) (packed_place_bytes l p) (flat_map (packed_place_bytes l) ps)
     ∙ ap (λ (x : Bool). x && all_below (value_len l) (flat_map (packed_place_bytes l) ps)) (place_inside l p (from_nat_lt _ _ (and_first _ _ h)))
     ∙ places_inside l ps (and_second _ _ h)
-
--- the bits of an element are those of its bytes in the chunk
-element_of_chunk : (l : PackedLayout) (v c : List ℕ) → IsPackedLayout l → FlatStands l v c → (p : ℕ) → p < l.elements → element_bits l v p ≡ bits_of (take (l.group * l.size) (drop (p * (l.group * l.size)) c))
-element_of_chunk l v c s h p lt =
-    let size = l.group * l.size in
-    let k = 8 * l.size in
-    let f : ℕ → List ℕ = λ part. full_component l.first l.above l.sign (own l c part) in
-    let fields = own_fields l c s h.chunk.size in
-    let all = made l (own l c) in
-    let n = parts_of l in
-    let within : p * l.group + l.group ≤ n = field_within l.elements l.group p lt in
-    let room : p * size + size ≤ n * l.size = (let q : p * size + size ≤ l.elements * size = field_within l.elements size p lt in let e : l.elements * size ≡ n * l.size = omega arith in omega arith) in
-    let whole : length all ≡ 8 * (n * l.size) = made_len l (own l c) s fields ∙ (let d : n * (8 * l.size) ≡ 8 * (n * l.size) = omega arith in d) in
-    let is : c ≡ packing all = sym h.kept ∙ nf_is l c s h.chunk.size in
-    let full : bits_of c ≡ all = ap bits_of is ∙ bits_of-full (n * l.size) all (made_bits l (own l c) fields) whole in
-    let here : (j : ℕ) → j < l.group → full_component l.first l.above l.sign (field (p * element_bits_len l + j * l.count) l.count (bits_of (drop (lead l) v))) ≡ field (p * l.group * k + j * k) k all = λ j jlt.
-    let i = p * l.group + j in
-    let ilt : i < n = omega arith in
-    ap (λ m. full_component l.first l.above l.sign (field m l.count (bits_of (drop (lead l) v)))) (let d : p * element_bits_len l + j * l.count ≡ 0 + i * l.count = omega arith in d)
-    ∙ ap (full_component l.first l.above l.sign) (stands_fields l v c s h i ilt)
-    ∙ sym (piece_is f k n [] i (part_len l (own l c) s fields) ilt)
-    ∙ ap (field (i * k) k) (append-nil all)
-    ∙ ap (λ m. field m k all) (let d : i * k ≡ p * l.group * k + j * k = omega arith in d) in
-    flat_range_same (λ j. full_component l.first l.above l.sign (field (p * element_bits_len l + j * l.count) l.count (bits_of (drop (lead l) v)))) (λ j. field (p * l.group * k + j * k) k all) l.group here
-    ∙ joined_fields (p * l.group * k) k l.group all
-    ∙ ap (λ m. field m (l.group * k) all) (let d : p * l.group * k ≡ 8 * (p * size) = omega arith in d)
-    ∙ ap (λ m. field (8 * (p * size)) m all) (let d : l.group * k ≡ 8 * size = omega arith in d)
-    ∙ ap (field (8 * (p * size)) (8 * size)) (sym full)
-    ∙ ap (take (8 * size)) (sym (bits_of-drop (p * size) c))
-    ∙ sym (bits_of-take size (drop (p * size) c) (omega (arith, length-drop (p * size) c, h.chunk.size)))
-
-elements_of_chunk : (l : PackedLayout) (v c ps : List ℕ) → IsPackedLayout l → FlatStands l v c → all_below l.elements ps ≡ true → flat_map (element_bits l v) ps ≡ bits_of (flat_selection l c ps)
-elements_of_chunk l v c [] s h b = refl
-elements_of_chunk l v c (p ∷ ps) s h b =
-    let size = l.group * l.size in
-    ap (λ xs. xs ++ flat_map (element_bits l v) ps) (element_of_chunk l v c s h p (from_nat_lt _ _ (and_first _ _ b)))
-    ∙ ap (λ xs. bits_of (take size (drop (p * size) c)) ++ xs) (elements_of_chunk l v c ps s h (and_second _ _ b))
-    ∙ sym (flat_map-append (low_bits 8) (take size (drop (p * size) c)) (flat_selection l c ps))
-
--- a read of a value that stands for a chunk selects
-pub local_selects : (l : PackedLayout) (v c ps : List ℕ) → IsPackedLayout l → FlatStands l v c → all_below l.elements ps ≡ true → local_answer l v ps ≡ Ok (flat_selection l c ps)
-local_selects l v c ps s h b =
-    let inside : all_below (length v) (flat_map (packed_place_bytes l) ps) ≡ true = ap (λ n. all_below n (flat_map (packed_place_bytes l) ps)) h.len ∙ places_inside l ps b in
-    ap (λ (x : Bool). if x then Ok (packing (flat_map (element_bits l v) ps)) else Err InvalidByteRange) inside
-    ∙ ap (λ bits. Ok (packing bits)) (elements_of_chunk l v c ps s h b)
-    ∙ ap Ok (packed_bytes (flat_selection l c ps) (λ i. byte_small (flat_selection l c ps) i (selected_bytes l c ps (are_bytes c h.chunk.bytes))))

@@ -1,10 +1,10 @@
 -- What is known of chunks that the codec takes.
 use Rattle.zarrs_data_type.specs.Form.{form_of}
-use Rattle.std.proofs.Common.{◌≡◌, ℕ, ◌+◌, ◌-◌, ◌*◌, ◌<◌, ◌≤◌, ◌&&◌, Bool, true, nat_lt, nat_le, Ok, List, arith, refl, ap, sym, ◌∙◌, subst}
+use Rattle.std.proofs.Common.{◌≡◌, ℕ, ◌+◌, ◌-◌, ◌*◌, ◌<◌, ◌≤◌, ◌&&◌, Bool, true, nat_lt, nat_le, Ok, List, arith, ap, sym, ◌∙◌, subst}
 use Rattle.zarrs_chunk.specs.Answer.{demand, checked_u64}
 use Rattle.zarrs_chunk.specs.ChunkShape.{product}
 use Rattle.zarrs_chunk.specs.declared.codec_error.CodecError.TheVariants.{InvalidFillValue, BitRange, Overflow}
-use Rattle.zarrs_data_type.specs.ElementType.{ElementType, fixed, text, bytes, optional, element_size, component_bytes}
+use Rattle.zarrs_data_type.specs.ElementType.{fixed, element_size, component_bytes}
 use Rattle.zarrs_data_type.specs.FillValue.{fill_fits}
 use Rattle.zarrs_bytes.proofs.Coding.{bind_ok, demand_ok, checked_ok, ok}
 use Rattle.zarrs_packbits.specs.declared.layout.PackedLayout.{PackedLayout}
@@ -57,10 +57,3 @@ taken settings sizes width components sign fill l e =
       elements = ap (λ (k : PackedLayout). k.elements) is;
       size = sym (ap (λ (k : PackedLayout). k.group * k.size) is);
     }
-
--- it takes fixed types alone
-pub taken_width : (settings : PackBitsSettings) (sizes : List ℕ) (type : ElementType) (fill : List ℕ) (l : PackedLayout) → packed_layout settings (form_of sizes type fill) ≡ Ok l → (width : ℕ) × (components : ℕ) × (sign : Bool) × (type ≡ fixed width components sign)
-taken_width settings sizes (fixed width components sign) fill l e = (width, components, sign, refl)
-taken_width settings sizes text fill l e = absurd cc
-taken_width settings sizes bytes fill l e = absurd cc
-taken_width settings sizes (optional type) fill l e = absurd cc

@@ -22,13 +22,13 @@ use Rattle.zarrs_bytes.proofs.Exact.{encoded_found, pieces_of}
 use Rattle.zarrs_packbits.specs.BitStream.{chunk_stream}
 use Rattle.zarrs_packbits.specs.declared.layout.PackedLayout.{PackedLayout}
 use Rattle.zarrs_packbits.specs.Laws.{HasBytes}
-use Rattle.zarrs_packbits.specs.PackBitsCodec.{packbits_value, packbits_chunk, PackBitsStands}
+use Rattle.zarrs_packbits.specs.PackBitsCodec.{packbits_value, packbits_chunk}
 use Rattle.zarrs_packbits.specs.PackBitsSettings.{PackBitsSettings, packed_layout, keeps_all_bytes}
 use Rattle.zarrs_packbits.specs.PackedLayout.{is_whole, parts_of, spare_of}
 use Rattle.zarrs_packbits.specs.PaddingByte.{value_len, padding_holds, padding_is, value_with}
 use Rattle.zarrs_packbits.proofs.AsBytes.{layout_kept, length_fits, spelling_is, written_as_bytes}
 use Rattle.zarrs_packbits.proofs.Coding.{decoded_holds}
-use Rattle.zarrs_packbits.proofs.Exact.{encoded_only, holds_stands, joined}
+use Rattle.zarrs_packbits.proofs.Exact.{encoded_only, joined}
 use Rattle.zarrs_packbits.proofs.LayoutLemmas.{whole_len, whole_unpacked}
 use Rattle.zarrs_packbits.proofs.Taken.{taken}
 
@@ -172,9 +172,3 @@ answers_excused excuse R (Err cause) expected h = λ _. h refl
 pub answers_seen : {T V : Type 0} (excuse : CodecError → Bool) (view : T → V) (r : Result T CodecError) (expected : Result V CodecError) → seen view r ≡ expected → Answers excuse view r expected
 answers_seen excuse view (Ok x) expected h = sym h
 answers_seen excuse view (Err cause) expected h = λ _. sym h
-
--- a value of which a container is the answer stands for the container's chunk
-pub answer_stands : (settings : PackBitsSettings) (sizes : List ℕ) (type : ElementType) (fill value : List ℕ) (r : Result Held CodecError) → AnswersBy never (Holds type) r (packbits_chunk settings (form_of sizes type fill) value)
-    → IfOk r (λ held. (chunk : Chunk) × Holds type held chunk × PackBitsStands settings (form_of sizes type fill) value chunk)
-answer_stands settings sizes type fill value (Ok held) h = holds_stands settings sizes type fill value held h
-answer_stands settings sizes type fill value (Err cause) h = tt

@@ -26,10 +26,6 @@ low_bits-low n m v h =
 pub masked : (word count : ℕ) → count < 64 → bit_and word (1 * 2 ^ count % 2 ^ 64 - 1) ≡ word % 2 ^ count
 masked word count h = ap (λ n. bit_and word (n - 1)) (one_shl count 64 h) ∙ and_mask word count
 
--- a number of 64 bits has no others
-pub whole_word : (word count : ℕ) → word < 2 ^ 64 → 64 ≤ count → count ≤ 64 → word ≡ word % 2 ^ count
-whole_word word count h l g = sym (ap (λ n. word % 2 ^ n) (let e : count ≡ 64 = omega arith in e) ∙ mod-eq_of_lt h)
-
 pub last_bits : (bytes zeros : List ℕ) (word : ℕ) → length bytes ≤ 8 → low_bits 64 word ≡ bits_of (bytes ++ zeros) → low_bits (8 * length bytes) word ≡ bits_of bytes
 last_bits bytes zeros word h e =
     sym (low_bits-take (8 * length bytes) 64 word (omega arith))

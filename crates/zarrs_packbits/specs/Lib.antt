@@ -5,6 +5,8 @@ pub mod DivRem8Bit
 pub mod KeptBits
 pub mod LaneBits
 pub mod Laws
+pub mod MemberLaws
+pub mod CountLaws
 pub mod NormalForm
 pub mod PackBitsCodec
 pub mod PackBitsGrammar

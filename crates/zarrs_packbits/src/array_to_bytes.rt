@@ -7,11 +7,13 @@ use zarrs_codec::{ArrayToBytesCodecTraits, BytesRepresentation};
 use zarrs_data_type::{DataType, FillValue};
 
 impl ArrayToBytesCodecTraits for PackBitsCodec {
-    ghost use Rattle.std.specs.Prelude.{◌≡◌, Ok};
+    ghost use Rattle.std.specs.Prelude.{◌≡◌, Ok, IfOk};
     ghost use Rattle.zarrs_chunk.specs.Answer.{seen};
     ghost use Rattle.zarrs_data_type.specs.Form.{form_of};
+    ghost use Rattle.zarrs_array_bytes.specs.Blank.{AbsentAreBlank};
     ghost use Rattle.zarrs_array_bytes.specs.Held.{items_of};
     ghost use Rattle.zarrs_codec.specs.ChunkCodec.{RepresentsBy, EncodesBy, DecodesBy, GivesValid};
+    ghost use Rattle.zarrs_codec.specs.CodecMembers.{DecodesAgain};
     ghost use Rattle.zarrs_bytes.specs.GivenBytes.{IsGiven, HoldsGiven};
     ghost use Rattle.zarrs_packbits.specs.PackBitsCodec.{packbits_value, packbits_chunk, EncodesInPlace, DecodesInPlace};
     ghost use Rattle.zarrs_packbits.specs.PackBitsSettings.{packbits_length, packbits_represented, KeepsAllBytes};
@@ -23,6 +25,10 @@ impl ArrayToBytesCodecTraits for PackBitsCodec {
     ghost decoded = { λ settings form value. packbits_chunk settings form value };
 
     ghost opened = { λ settings form _. seen (λ _. tt) (packbits_length settings form) };
+
+    ghost use Rattle.zarrs_packbits.specs.MemberLaws.{packbits_fits};
+
+    ghost fits = { packbits_fits };
 
     fn encoded_representation(
         &self,
@@ -54,11 +60,13 @@ impl ArrayToBytesCodecTraits for PackBitsCodec {
             (form_of shape.now data_type.now fill_value.now) elements.entry result }
         ensures kept { KeepsAllBytes self.now (form_of shape.now data_type.now fill_value.now)
             → IsGiven elements.entry result }
+        ensures decoded_again { DecodesAgain (packbits_chunk self.now)
+            (form_of shape.now data_type.now fill_value.now) result }
     {
         PackBitsCodec::encode(self, alloc, elements, shape, data_type, fill_value)
     }
 
-    #[tactic(auto, using(crate::proofs::Counted::found_valid))]
+    #[tactic(auto, using(crate::proofs::Counted::found_valid, crate::proofs::Counted::found_blank))]
     fn decode<'a>(
         &self,
         alloc: Global,
@@ -74,6 +82,7 @@ impl ArrayToBytesCodecTraits for PackBitsCodec {
             (form_of shape.now data_type.now fill_value.now) value.entry result }
         ensures kept { KeepsAllBytes self.now (form_of shape.now data_type.now fill_value.now)
             → HoldsGiven value.entry result }
+        ensures blank { IfOk result (AbsentAreBlank data_type.now) }
     {
         PackBitsCodec::decode(self, alloc, value, shape, data_type, fill_value)
     }

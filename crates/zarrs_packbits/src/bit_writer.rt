@@ -39,7 +39,7 @@ fn repeated(bit: bool, count: u64) -> u64
 
 /// The bytes, with those of a word that is partly filled behind them.
 fn flushed(mut out: Vec<u8>, word: u64, filled: u32) -> Result<Vec<u8>, AllocError>
-    requires filled { filled < 64 }
+    requires room { filled < 64 }
     requires word { word < 2 ^ filled }
     ensures { GivesBits result
         (written_bits out.items word filled ++ replicate (spare_bits filled) 0) }
@@ -76,7 +76,7 @@ fn append_components(
     requires at { at + parts * layout.now.count < 2 ^ 64 }
     ensures bits { LeavesMore out.new.items result (written_bits out.old.items word filled)
         (components_in layout.now at parts bytes.now) }
-    ensures left { IfOk result (λ left. IsPartlyFilled left.0 left.1) }
+    ensures begun { IfOk result (λ left. IsPartlyFilled left.0 left.1) }
 {
     let PackedLayout {
         first,
@@ -119,7 +119,7 @@ fn append_by_lanes(
     requires at { at + parts * layout.now.count < 2 ^ 64 }
     ensures bits { LeavesMore out.new.items result (written_bits out.old.items word filled)
         (components_in layout.now at parts bytes.now) }
-    ensures left { IfOk result (λ left. IsPartlyFilled left.0 left.1) }
+    ensures begun { IfOk result (λ left. IsPartlyFilled left.0 left.1) }
 {
     let groups = parts / lanes;
     let (last, used) = append_spread_lanes(
@@ -149,7 +149,7 @@ fn append_narrow(
     requires at { at + parts * layout.now.count < 2 ^ 64 }
     ensures bits { LeavesMore out.new.items result (written_bits out.old.items word filled)
         (components_in layout.now at parts bytes.now) }
-    ensures left { IfOk result (λ left. IsPartlyFilled left.0 left.1) }
+    ensures begun { IfOk result (λ left. IsPartlyFilled left.0 left.1) }
 {
     match layout.first + layout.count + layout.above {
         8 => append_by_lanes(out, word, filled, layout, bytes, at, parts, 8, 8),
@@ -170,13 +170,13 @@ fn append_kept(
 ) -> Result<(u64, u32), AllocError>
     requires begun { IsPartlyFilled word filled }
     requires layout { IsPackedLayout layout.now }
-    requires last { layout.now.first + layout.now.count < 2 ^ 64 }
+    requires last_fits { layout.now.first + layout.now.count < 2 ^ 64 }
     requires count { layout.now.count ≤ 64 }
     requires len { length bytes.now ≡ parts_of layout.now * layout.now.size }
     requires begin { begin ≤ parts_of layout.now }
     ensures bits { LeavesUpTo out.new.items result (written_bits out.old.items word filled)
         layout.now bytes.now begin (parts_of layout.now) }
-    ensures left { IfOk result (λ left. IsPartlyFilled left.0 left.1) }
+    ensures begun { IfOk result (λ left. IsPartlyFilled left.0 left.1) }
 {
     let PackedLayout {
         first,
@@ -229,13 +229,13 @@ fn append_by_words(
     requires layout { IsPackedLayout layout.now }
     requires count { layout.now.count ≤ 64 }
     requires len { length bytes.now ≡ parts_of layout.now * layout.now.size }
-    requires begin { begin ≤ end }
+    requires ordered { begin ≤ end }
     requires end { end ≤ parts_of layout.now }
     requires reach { begin < end → ReachWords layout.now end (length bytes.now) }
     requires fits { begin < end → layout.now.first % 8 + layout.now.count ≤ 64 }
     ensures bits { LeavesUpTo out.new.items result (written_bits out.old.items word filled)
         layout.now bytes.now begin end }
-    ensures left { IfOk result (λ left. IsPartlyFilled left.0 left.1) }
+    ensures begun { IfOk result (λ left. IsPartlyFilled left.0 left.1) }
 {
     let PackedLayout {
         first,
@@ -260,7 +260,7 @@ fn append_by_words(
 fn leveled(out: &mut Vec<u8>, word: u64, filled: u32) -> Result<(u64, u32), AllocError>
     requires begun { IsPartlyFilled word filled }
     ensures bits { LeavesBits out.new.items result (written_bits out.old.items word filled) }
-    ensures left { IfOk result (λ left. IsPartlyFilled left.0 left.1) }
+    ensures begun { IfOk result (λ left. IsPartlyFilled left.0 left.1) }
 {
     if filled < 8 {
         return Ok((word, filled));
@@ -299,7 +299,7 @@ fn append_words(
     requires len { length bytes.now ≡ parts_of layout.now * layout.now.size }
     ensures bits { LeavesFirst out.new.items result (written_bits out.old.items word filled)
         layout.now bytes.now }
-    ensures left { IfOk result (λ left. IsPartlyFilled left.0 left.1) }
+    ensures begun { IfOk result (λ left. IsPartlyFilled left.0 left.1) }
     ensures within { IfOk result (λ left. left.2 ≤ parts_of layout.now) }
 {
     match layout.size {
@@ -324,7 +324,7 @@ fn append_first(
     requires len { length bytes.now ≡ parts_of layout.now * layout.now.size }
     ensures bits { LeavesFirst out.new.items result (written_bits out.old.items word filled)
         layout.now bytes.now }
-    ensures left { IfOk result (λ left. IsPartlyFilled left.0 left.1) }
+    ensures begun { IfOk result (λ left. IsPartlyFilled left.0 left.1) }
     ensures within { IfOk result (λ left. left.2 ≤ parts_of layout.now) }
 {
     if layout.size != 1 || (layout.count != 4 && layout.count != 2) {
@@ -379,7 +379,7 @@ fn append_bytes(
     requires at { at + parts * layout.now.count < 2 ^ 64 }
     ensures bits { LeavesMore out.new.items result (written_bits out.old.items word filled)
         (components_in layout.now at parts bytes.now) }
-    ensures left { IfOk result (λ left. IsPartlyFilled left.0 left.1) }
+    ensures begun { IfOk result (λ left. IsPartlyFilled left.0 left.1) }
 {
     let head = ((8 - at % 8) % 8 / layout.count).min(parts);
     let (part, reached) = append_components(out, word, filled, layout, bytes, at, head)?;
@@ -420,7 +420,7 @@ impl BitWriter {
     /// Puts the lowest `count` bits of a number behind the others.
     pub(crate) fn put(&mut self, bits: u64, count: u32) -> Result<(), AllocError>
         requires count { count ≤ 64 }
-        requires bits { bits < 2 ^ count }
+        requires bits_fit { bits < 2 ^ count }
         ensures { Puts self.old self.new result (low_bits count bits) }
     {
         let (word, filled) = append_bits(&mut self.out, self.word, self.filled, bits, count)?;
@@ -504,7 +504,7 @@ impl BitWriter {
         bytes: &[u8],
     ) -> Result<(), AllocError>
         requires layout { IsPackedLayout layout.now }
-        requires last { layout.now.first + layout.now.count < 2 ^ 64 }
+        requires last_fits { layout.now.first + layout.now.count < 2 ^ 64 }
         requires len { length bytes.now ≡ parts_of layout.now * layout.now.size }
         ensures { Puts self.old self.new result (stream_of_bytes layout.now bytes.now) }
     {
@@ -524,7 +524,7 @@ impl BitWriter {
     /// The same where a word holds the kept bits of a component.
     fn put_kept(&mut self, layout: &PackedLayout, bytes: &[u8]) -> Result<(), AllocError>
         requires layout { IsPackedLayout layout.now }
-        requires last { layout.now.first + layout.now.count < 2 ^ 64 }
+        requires last_fits { layout.now.first + layout.now.count < 2 ^ 64 }
         requires count { layout.now.count ≤ 64 }
         requires len { length bytes.now ≡ parts_of layout.now * layout.now.size }
         ensures { Puts self.old self.new result (stream_of_bytes layout.now bytes.now) }

@@ -107,7 +107,7 @@ fn append_last_bits(
 ) -> Result<(), AllocError>
     requires count { layout.now.count ≡ 1 }
     requires size { layout.now.first + layout.now.count + layout.now.above ≡ 8 }
-    requires some { parts ≤ 64 }
+    requires few { parts ≤ 64 }
     requires inside { parts * layout.now.count ≤ 8 * length bytes.now }
     ensures { AppendsComponents layout.now parts bytes.now out.old.items out.new.items result }
 {
@@ -161,7 +161,7 @@ fn append_last_halves(
 ) -> Result<(), AllocError>
     requires count { layout.now.count ≡ 4 }
     requires size { layout.now.first + layout.now.count + layout.now.above ≡ 8 }
-    requires some { parts ≤ 128 }
+    requires few { parts ≤ 128 }
     requires inside { parts * layout.now.count ≤ 8 * length bytes.now }
     ensures { AppendsComponents layout.now parts bytes.now out.old.items out.new.items result }
 {
@@ -269,7 +269,7 @@ fn append_last_quarters(
 ) -> Result<(), AllocError>
     requires count { layout.now.count ≡ 2 }
     requires size { layout.now.first + layout.now.count + layout.now.above ≡ 8 }
-    requires some { parts ≤ 64 }
+    requires few { parts ≤ 64 }
     requires inside { parts * layout.now.count ≤ 8 * length bytes.now }
     ensures { AppendsComponents layout.now parts bytes.now out.old.items out.new.items result }
 {

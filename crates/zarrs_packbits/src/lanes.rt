@@ -66,7 +66,7 @@ pub(crate) fn append_joined_lanes(
     requires lanes { lanes * width ≡ 64 }
     ensures bits { LeavesFirst out.new.items result (written_bits out.old.items word filled)
         layout.now bytes.now }
-    ensures left { IfOk result (λ left. IsPartlyFilled left.0 left.1) }
+    ensures begun { IfOk result (λ left. IsPartlyFilled left.0 left.1) }
     ensures within { IfOk result (λ left. left.2 ≤ parts_of layout.now) }
 {
     let PackedLayout { first, count, .. } = *layout;
@@ -104,7 +104,7 @@ pub(crate) fn append_spread_lanes(
     requires at { at + groups * (lanes * layout.count) < 2 ^ 64 }
     ensures bits { LeavesMore out.new.items result (written_bits out.old.items word filled)
         (components_in layout at (groups * lanes) bytes.now) }
-    ensures left { IfOk result (λ left. IsPartlyFilled left.0 left.1) }
+    ensures begun { IfOk result (λ left. IsPartlyFilled left.0 left.1) }
 {
     let taken = lanes * layout.count;
     let mut last = word;

@@ -97,7 +97,7 @@ fn ended(layout: &PackedLayout, mut value: Vec<u8>) -> Result<Vec<u8>, AllocErro
 /// The value of a chunk, of its elements' bytes joined.
 fn packed_value(alloc: Global, layout: &PackedLayout, bytes: &[u8]) -> Result<Vec<u8>, AllocError>
     requires layout { IsPackedLayout layout.now }
-    requires last { layout.now.first + layout.now.count < 2 ^ 64 }
+    requires last_fits { layout.now.first + layout.now.count < 2 ^ 64 }
     requires len { length bytes.now ≡ parts_of layout.now * layout.now.size }
     ensures { IfOk result (λ v. v.items ≡ bytes_packed layout.now bytes.now) }
 {
@@ -127,7 +127,7 @@ fn packed_raw<'a>(
     raw: ArrayBytesRaw<'_>,
 ) -> Result<ArrayBytesRaw<'a>, CodecError>
     requires layout { IsPackedLayout layout.now }
-    requires last { layout.now.first + layout.now.count < 2 ^ 64 }
+    requires last_fits { layout.now.first + layout.now.count < 2 ^ 64 }
     requires len { length (items_of raw) ≡ parts_of layout.now * layout.now.size }
     ensures exact { Gives items_of result (Ok (bytes_packed layout.now (items_of raw.entry))) }
 {
@@ -219,7 +219,7 @@ impl PackBitsCodec {
         ensures answer { result
             ≡ packed_layout self.now (form_of shape.now data_type.now fill_value.now) }
         ensures sound { IfOk result IsPackedLayout }
-        ensures last { IfOk result (λ layout. layout.first + layout.count < 2 ^ 64) }
+        ensures last_fits { IfOk result (λ layout. layout.first + layout.count < 2 ^ 64) }
         ensures elements { IfOk result (λ layout. layout.elements ≡ product shape.now) }
         ensures no_fault { is_fault result ≡ false }
     {

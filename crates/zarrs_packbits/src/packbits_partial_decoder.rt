@@ -1,6 +1,7 @@
 ghost use Rattle.zarrs_data_type.specs.Form.{form_of};
 ghost use Rattle.std.specs.Prelude.{◌≡◌, ◌<◌, ◌≤◌, ◌+◌, ℕ, None, Ok, IfOk, IfErr, All, is_some, slice_index};
 ghost use Rattle.zarrs_chunk.specs.Answer.{GivesBy};
+ghost use Rattle.zarrs_array_bytes.specs.Blank.{AbsentAreBlank};
 ghost use Rattle.zarrs_array_bytes.specs.Held.{Raw, flen};
 ghost use Rattle.zarrs_codec.specs.StorageState.{after_reading};
 ghost use Rattle.zarrs_codec.specs.HandleCalls.{NeverFailsIf, Tells};
@@ -84,6 +85,7 @@ impl PackBitsCodec {
             (H.state handle.old) runs.now result }
         ensures sure { ReadsRunsSurely self.now (form_of shape.now data_type.now fill_value.now)
             (H.state handle.old) runs.now result }
+        ensures blank { IfOk result (AbsentAreBlank data_type.now) }
         ensures left { H.state handle.new ≡ after_reading result (H.state handle.old) }
         ensures same_reference { H.lent handle.new ≡ H.lent handle.old }
     {
@@ -98,6 +100,7 @@ impl PackBitsCodec {
     /// each ends inside the chunk. Refusals: `InvalidByteRange` where a place's bytes lie past the
     /// value's end; `OutOfMemory` and `Storage`, which may come before. `Storage` never comes where
     /// all bytes of the places are sure.
+    #[tactic(auto, using(crate::proofs::Counted::taken_blank))]
     pub fn read_runs<H: BytesPartialDecoderTraits>(
         &self,
         alloc: Global,
@@ -114,6 +117,7 @@ impl PackBitsCodec {
             (H.state handle.old) runs.now result }
         ensures sure { ReadsRunsSurely self.now (form_of shape.now data_type.now fill_value.now)
             (H.state handle.old) runs.now result }
+        ensures blank { IfOk result (AbsentAreBlank data_type.now) }
         ensures left { H.state handle.new ≡ after_reading result (H.state handle.old) }
         ensures same_reference { H.lent handle.new ≡ H.lent handle.old }
     {
@@ -217,6 +221,7 @@ impl<H: BytesPartialDecoderTraits> PackBitsPartialDecoder<H> {
         indexer: &Indexer,
     ) -> Result<ArrayBytes<'static>, CodecError>
         ensures reads { Reads H.state self.old indexer.now result }
+        ensures blank { IfOk result (AbsentAreBlank (packbits_form_of self.old).type) }
         ensures left { Leaves H.state H.lent self.old self.new result }
     {
         let runs = indexer.runs(alloc, &self.shape)?;
@@ -284,6 +289,10 @@ impl<H: BytesPartialDecoderTraits> ArrayPartialDecoderTraits for PackBitsPartial
     ghost lent = { λ decoder. H.lent (packbits_handle_of decoder) };
 
     ghost held = { λ decoder. H.held (packbits_handle_of decoder) };
+
+    ghost use Rattle.zarrs_packbits.specs.CountLaws.{packbits_counts};
+
+    ghost counts = { λ decoder. packbits_counts (packbits_form_of decoder) (H.state (packbits_handle_of decoder)).value H.reads_ranges };
 
     fn data_type(&self) -> &DataType {
         PackBitsPartialDecoder::data_type(self)

@@ -123,7 +123,7 @@ pub(crate) fn read_runs<H: BytesPartialDecoderTraits>(
 ) -> Result<Vec<u8>, CodecError>
     requires layout { IsPackedLayout layout.now }
     requires in_part { is_whole layout.now ≡ false }
-    requires fill { 0 < length fill.now }
+    requires fill_some { 0 < length fill.now }
     requires filled { All (λ run. 0 < run.1) runs.now }
     requires below { All (λ run. run.0 + run.1 ≤ layout.now.elements) runs.now }
     ensures answer { Answers memory_or_fault (λ v. v.items) result

@@ -16,13 +16,13 @@ pub(crate) fn append_bits(
     bits: u64,
     count: u32,
 ) -> Result<(u64, u32), AllocError>
-    requires filled { filled < 64 }
+    requires room { filled < 64 }
     requires word { word < 2 ^ filled }
     requires count { count ≤ 64 }
-    requires bits { bits < 2 ^ count }
+    requires bits_fit { bits < 2 ^ count }
     ensures bits { LeavesMore out.new.items result (written_bits out.old.items word filled)
         (low_bits count bits) }
-    ensures filled { IfOk result (λ left. left.1 < 64) }
+    ensures room { IfOk result (λ left. left.1 < 64) }
     ensures word { IfOk result (λ left. left.0 < 2 ^ left.1) }
 {
     let joined = (bits << filled) | word;
@@ -161,7 +161,7 @@ pub(crate) fn weight_of_sign(count: u64, sign: bool) -> u64
 pub(crate) fn component_word(kept: u64, first: u64, count: u64, above: u64, sign: bool) -> u64
     requires some { 0 < count }
     requires fits { first + count + above ≤ 64 }
-    requires kept { kept < 2 ^ count }
+    requires kept_fits { kept < 2 ^ count }
     ensures bits { low_bits (first + count + above) result
         ≡ full_component first above sign (low_bits count kept) }
     ensures below { result < 2 ^ (first + count + above) }

@@ -126,9 +126,6 @@ numbers_inside start size n offsets (place ∷ places) h e =
 
 -- ---- their bytes
 
-none_between : (a b : ℕ) (xs ys : List ℕ) → b ≤ a → between a b xs ≡ take (b - a) ys
-none_between a b xs ys h = let none : b - a ≡ 0 = omega arith in rw none refl
-
 -- a part of a part
 nested : (start end a b : ℕ) (value : List ℕ) → a ≤ b → start + b ≤ end → between a b (between start end value) ≡ take (b - a) (drop (start + a) value)
 nested start end a b value le h =
@@ -238,13 +235,6 @@ pub run_unplanned : (start : ℕ) (offsets : List ℕ) (first count from to : �
 run_unplanned start offsets first count from to old h l begins ends le =
     let none : 0 ≡ slice_index offsets (first + count) - slice_index offsets first = omega (arith, begins, ends) in
     sym (append-nil old) ∙ ap (λ (n : ℕ). old ++ range_with_len (start + slice_index offsets first) n) none ∙ ap (λ (l : List ℕ). old ++ l) (sym (numbers_of_run start offsets h first count l))
-
--- the runs so far, and one more
-pub numbers_more : (start : ℕ) (offsets : List ℕ) (runs : List (ℕ × ℕ)) (i : ℕ) (old new : List ℕ) → i < length runs → old ≡ element_numbers start offsets (joined_runs (take i runs))
-    → new ≡ old ++ element_numbers start offsets (range_with_len (get_or runs i (0, 0)).0 (get_or runs i (0, 0)).1) → new ≡ element_numbers start offsets (joined_runs (take (i + 1) runs))
-numbers_more start offsets runs i old new l is put =
-    let run = get_or runs i (0, 0) in
-    put ∙ ap (λ (xs : List ℕ). xs ++ element_numbers start offsets (range_with_len run.0 run.1)) is ∙ sym (flat_map-take_runs (numbers_at start offsets) runs i l)
 
 pub ends_more : (f : ℕ → List ℕ) (runs : List (ℕ × ℕ)) (i start : ℕ) (old new : List ℕ) → i < length runs → start ≡ length (flat_map f (joined_runs (take i runs))) → old ≡ 0 ∷ ends 0 (map f (joined_runs (take i runs)))
     → new ≡ old ++ ends start (map f (range_with_len (get_or runs i (0, 0)).0 (get_or runs i (0, 0)).1)) → new ≡ 0 ∷ ends 0 (map f (joined_runs (take (i + 1) runs)))

@@ -6,7 +6,7 @@ use Rattle.std.proofs.lemmas.List.FromFn.{length-map-range_with_len}
 use Rattle.zarrs_chunk.specs.Answer.{◌>>=◌, Answers, memory, demand, checked_u64, seen}
 use Rattle.zarrs_chunk.specs.ChunkShape.{product}
 use Rattle.zarrs_chunk.specs.declared.codec_error.CodecError.{CodecError}
-use Rattle.zarrs_chunk.specs.declared.codec_error.CodecError.TheVariants.{InvalidBytesLength, InvalidOffsets, Overflow, ArrayBytesKind}
+use Rattle.zarrs_chunk.specs.declared.codec_error.CodecError.TheVariants.{InvalidBytesLength, InvalidOffsets, Overflow}
 use Rattle.zarrs_data_type.specs.Element.{Chunk}
 use Rattle.zarrs_data_type.specs.ElementType.{ElementType}
 use Rattle.zarrs_data_type.specs.FillValue.{fill_fits}
@@ -15,13 +15,12 @@ use Rattle.zarrs_array_bytes.specs.Held.{Held, Raw, flen, vlen, masked}
 use Rattle.zarrs_array_bytes.specs.Offsets.{rises, is_offsets, offsets_of}
 use Rattle.zarrs_array_bytes.specs.Parts.{fixed_part}
 use Rattle.zarrs_array_bytes.specs.Validity.{Holds}
-use Rattle.zarrs_array_bytes.proofs.ValidLemmas.{both_ok}
 use Rattle.zarrs_bytes.specs.BytesCodec.{bytes_chunk, bytes_length, bytes_element}
 use Rattle.zarrs_chain_parts.specs.Decode.{offsets_in_chunk}
 use Rattle.zarrs_chain_parts.specs.Encode.{offset_bytes}
 use Rattle.zarrs_chain_parts.specs.Representation.{offset_type}
 use Rattle.zarrs_chain_parts.specs.VlenSteps.{offset_size, read_offsets}
-use Rattle.zarrs_chain_parts.proofs.ArraySteps.{ok, err, bind_ok, ok_is, ok_no_err}
+use Rattle.zarrs_chain_parts.proofs.ArraySteps.{ok, err, bind_ok, ok_is}
 use Rattle.zarrs_chain_parts.proofs.VlenOffsets.{numbers_in, numbers_long}
 use Rattle.zarrs_array_bytes.proofs.ElementLemmas.{length_between}
 use Rattle.zarrs_codec.specs.ByteSpan.{ByteSpan}
@@ -90,15 +89,8 @@ module _ (form : PlainForm) (count : ℕ) (index : List ℕ) where
   pub lengths_first : offsets_read form count index ≡ (index_count form.wide count (length index) >>= read)
   lengths_first = by_count (nat_lt (count + 1) (2 ^ 64)) refl
 
-counted_ok : (r : Result ℕ CodecError) (f : ℕ → Result (List ℕ) CodecError) (n : ℕ) (x : Result (List ℕ) CodecError) → x ≡ (r >>= f) → r ≡ Ok n → x ≡ f n
-counted_ok r f n x e h = e ∙ rw h refl
-
 counted_err : (r : Result ℕ CodecError) (f : ℕ → Result (List ℕ) CodecError) (cause : CodecError) (x : Result (List ℕ) CodecError) → x ≡ (r >>= f) → r ≡ Err cause → x ≡ err cause
 counted_err r f cause x e h = e ∙ rw h refl
-
--- an index of the right length is read
-pub index_counted : (form : PlainForm) (count n : ℕ) (index : List ℕ) → index_count form.wide count (length index) ≡ Ok n → offsets_read form count index ≡ offsets_of_index form n index
-index_counted form count n index h = counted_ok (index_count form.wide count (length index)) (λ k. offsets_of_index form k index) n (offsets_read form count index) (lengths_first form count index) h
 
 pub index_refused : (form : PlainForm) (count : ℕ) (index : List ℕ) (cause : CodecError) → index_count form.wide count (length index) ≡ Err cause → offsets_read form count index ≡ Err cause
 index_refused form count index cause h = counted_err (index_count form.wide count (length index)) (λ k. offsets_of_index form k index) cause (offsets_read form count index) (lengths_first form count index) h
@@ -113,12 +105,6 @@ fixed_held : (held : Held) (raw : Raw) → fixed_part held ≡ Ok raw → held �
 fixed_held (flen raw) other e = cc
 fixed_held (vlen raw offsets) other e = absurd cc
 fixed_held (masked inner mask) other e = absurd cc
-
--- a container of elements of one size has their bytes
-pub fixed_there : (wide : Bool) (held : Held) (r : Result Chunk CodecError) (error : CodecError) → IsOkAnd r (Holds (offset_type wide) held) → fixed_part held ≡ Err error → ⊥
-fixed_there wide (flen raw) r error h e = cc
-fixed_there wide (vlen raw offsets) r error h e = let c = held_chunk (offset_type wide) (vlen raw offsets) r h in ok_no_err tt ArrayBytesKind (sym (both_ok _ _ c.2.valid).1)
-fixed_there wide (masked inner mask) r error h e = let c = held_chunk (offset_type wide) (masked inner mask) r h in ok_no_err tt ArrayBytesKind (sym (both_ok _ _ c.2.valid).1)
 
 pub rises_are : (numbers : List ℕ) → 0 < length numbers → is_offsets numbers ≡ rises numbers
 rises_are [] l = absurd (omega arith)
@@ -142,10 +128,6 @@ offsets_found form count part held raw numbers some h is read =
     let long : length numbers ≡ count = ap length (sym same) ∙ numbers_long wide c.0 ∙ row_long form.order wide count part c.0 c.1 in
     rw c.1 (ap (λ (ns : List ℕ). demand (rises ns) InvalidOffsets >>= λ _. ok ns) same
     ∙ ap (λ b. demand b InvalidOffsets >>= λ _. ok numbers) (sym (rises_are numbers (omega (arith, long, some)))))
-
-pub offsets_refused : (form : PlainForm) (count : ℕ) (part : List ℕ) (error : CodecError)
-    → bytes_chunk (Some form.order) (index_form form.wide count) part ≡ Err error → offsets_of_index form count part ≡ Err error
-offsets_refused form count part error e = rw e refl
 
 -- there is one offset more than elements
 pub offsets_long : (form : PlainForm) (count : ℕ) (part offsets : List ℕ) → offsets_read form count part ≡ Ok offsets → length offsets ≡ count + 1
@@ -179,8 +161,3 @@ pub refused_there : (form : PlainForm) (count size : ℕ) (value : List ℕ) (in
     → index_count form.wide count size ≡ Err cause → offsets_read form count (span_bytes value index) ≡ Err cause
 refused_there form count size value index cause e ordered inside h =
     index_refused form count (span_bytes value index) cause (ap (index_count form.wide count) (index_size value index ordered inside ∙ sym e) ∙ h)
-
-pub counted_there : (form : PlainForm) (count size n : ℕ) (value : List ℕ) (index : ByteSpan) → size ≡ index.end - index.start → index.start ≤ index.end → index.end ≤ length value
-    → index_count form.wide count size ≡ Ok n → offsets_read form count (span_bytes value index) ≡ offsets_of_index form n (span_bytes value index)
-counted_there form count size n value index e ordered inside h =
-    index_counted form count n (span_bytes value index) (ap (index_count form.wide count) (index_size value index ordered inside ∙ sym e) ∙ h)

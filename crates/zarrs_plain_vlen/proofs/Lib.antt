@@ -8,3 +8,4 @@ pub mod Alike
 pub mod ElementReads
 pub mod IndexOrder
 pub mod OffsetBytes
+pub mod VariableBlank

@@ -1,12 +1,10 @@
 -- Offsets in the bytes that spell them.
-use Rattle.std.proofs.Common.{◌≡◌, ℕ, ◌+◌, ◌-◌, ◌/◌, ◌^◌, ◌<◌, ◌≤◌, nat_le, Bool, true, false, List, [], ◌∷◌, ◌++◌, length, map, take, drop, get_or, slice_index, arith, refl, ap, sym, subst, ◌∙◌}
+use Rattle.std.proofs.Common.{◌≡◌, ℕ, ◌+◌, ◌-◌, ◌/◌, ◌^◌, ◌<◌, ◌≤◌, Bool, List, [], ◌∷◌, ◌++◌, length, map, take, drop, get_or, slice_index, arith, ap, sym, subst, ◌∙◌}
 use Rattle.std.specs.List.{All, between}
 use Rattle.std.proofs.Math.Nat.{div-le_self}
-use Rattle.std.proofs.lemmas.Bool.Decides.{nat_tests}
-use Rattle.std.proofs.lemmas.List.{length-map, length-take, length-drop, get_or-take, get_or-drop, drop_more, drop_all, take_more, map-append, append_assoc}
+use Rattle.std.proofs.lemmas.List.{length-map, length-take, length-drop, get_or-take, get_or-drop, take_more, map-append, append_assoc}
 use Rattle.std.proofs.lemmas.List.FromFn.{get_or-map-range_with_len}
 use Rattle.zarrs_array_bytes.specs.Elements.{piece}
-use Rattle.zarrs_array_bytes.specs.Offsets.{rises, is_offsets}
 use Rattle.zarrs_array_bytes.specs.Pieces.{pieces}
 use Rattle.zarrs_array_bytes.proofs.Pieces.{length-pieces, read_pieces}
 use Rattle.zarrs_chain_parts.specs.Decode.{offset_of}
@@ -42,49 +40,6 @@ read_at wide items number l =
     let known : number < count = omega (arith, l, long) in
     sym (ap (λ (numbers : List ℕ). get_or numbers number 0) (sym (read_pieces (offset_of wide) size count items))
     ∙ get_or-map-range_with_len (λ place. offset_of wide (piece size items place)) 0 count number number 0 known (omega arith))
-
--- ---- whether they rise
-
--- no number is no offset
-pub none_rise : (offsets : List ℕ) → length offsets ≡ 0 → false ≡ is_offsets offsets
-none_rise [] e = refl
-none_rise (offset ∷ offsets) e = absurd (omega arith)
-
--- all rise where the first does over the rest
-pub rises_first : (offsets : List ℕ) (first : ℕ) → 0 < length offsets → first ≡ slice_index offsets 0 → rises (first ∷ drop 1 offsets) ≡ is_offsets offsets
-rises_first [] first l e = absurd (omega arith)
-rises_first (offset ∷ offsets) first l e = ap (λ (n : ℕ). rises (n ∷ offsets)) e
-
-rises_pair : (last next : ℕ) (rest : List ℕ) → last ≤ next → rises (last ∷ next ∷ rest) ≡ rises (next ∷ rest)
-rises_pair last next rest le =
-    let e : nat_le last next ≡ true = grind (arith, nat_tests) in
-    rw e refl
-
-falls_pair : (last next : ℕ) (rest : List ℕ) → next < last → rises (last ∷ next ∷ rest) ≡ false
-falls_pair last next rest lt =
-    let e : nat_le last next ≡ false = grind (arith, nat_tests) in
-    rw e refl
-
--- the last one over those that are left begins with the next
-behind : (offsets : List ℕ) (last next number : ℕ) → number < length offsets → next ≡ slice_index offsets number → rises (last ∷ next ∷ drop (number + 1) offsets) ≡ rises (last ∷ drop number offsets)
-behind offsets last next number l is =
-    ap (λ (n : ℕ). rises (last ∷ n ∷ drop (number + 1) offsets)) is
-    ∙ ap (λ (xs : List ℕ). rises (last ∷ xs)) (sym (drop_more offsets number 0 l))
-
--- one offset more
-pub rises_next : (offsets : List ℕ) (last next number : ℕ) (all : Bool) → number < length offsets → next ≡ slice_index offsets number → last ≤ next → rises (last ∷ drop number offsets) ≡ all → rises (next ∷ drop (number + 1) offsets) ≡ all
-rises_next offsets last next number all l is le e =
-    sym (rises_pair last next (drop (number + 1) offsets) le) ∙ behind offsets last next number l is ∙ e
-
--- one that is less
-pub falls_next : (offsets : List ℕ) (last next number : ℕ) (all : Bool) → number < length offsets → next ≡ slice_index offsets number → next < last → rises (last ∷ drop number offsets) ≡ all → false ≡ all
-falls_next offsets last next number all l is lt e =
-    sym (falls_pair last next (drop (number + 1) offsets) lt) ∙ behind offsets last next number l is ∙ e
-
--- and none more
-pub rises_all : (offsets : List ℕ) (last number : ℕ) (all : Bool) → length offsets ≤ number → rises (last ∷ drop number offsets) ≡ all → true ≡ all
-rises_all offsets last number all l e =
-    ap (λ (xs : List ℕ). rises (last ∷ xs)) (sym (drop_all number offsets l)) ∙ e
 
 -- ---- offsets that are moved
 

@@ -13,7 +13,7 @@ use Rattle.zarrs_chain_parts.specs.PlainVlen.{PlainForm}
 use Rattle.zarrs_plain_vlen.specs.VlenLayout.{VlenLayout, span_bytes, span_numbers, head_of, layout_of}
 use Rattle.zarrs_data_type.specs.ElementType.{ElementType}
 use Rattle.zarrs_plain_vlen.specs.PlainRead.{plain_read}
-use Rattle.zarrs_plain_vlen.specs.VlenRead.{stored_vlen_read, offsets_read, elements_read, vlen_read, numbers_in, element_numbers, elements_at, rests_on}
+use Rattle.zarrs_plain_vlen.specs.VlenRead.{stored_vlen_read, offsets_read, elements_read, vlen_read, numbers_in, elements_at, rests_on}
 use Rattle.zarrs_plain_vlen.proofs.IndexOffsets.{offsets_long}
 use Rattle.zarrs_plain_vlen.proofs.LayoutParts.{parts_at, parts_are}
 
@@ -31,9 +31,6 @@ module _ (form : PlainForm) (count : ℕ) (value places : List ℕ) where
 
   parts_ok : (layout : VlenLayout) → layout_of form.at_end value ≡ Ok layout → vlen_parts form.at_end value ≡ ok (parts_at value layout)
   parts_ok layout e = parts_are form.at_end value ∙ next_ok (layout_of form.at_end value) layout (λ l. ok (parts_at value l)) e
-
-  pub read_unparted : (cause : CodecError) → layout_of form.at_end value ≡ Err cause → vlen_read form count value places ≡ Err cause
-  read_unparted cause e = next_err (vlen_parts form.at_end value) cause rest (parts_are form.at_end value ∙ next_err (layout_of form.at_end value) cause (λ l. ok (parts_at value l)) e)
 
   pub read_unindexed : (layout : VlenLayout) (cause : CodecError) → layout_of form.at_end value ≡ Ok layout → offsets_read form count (span_bytes value layout.index) ≡ Err cause → vlen_read form count value places ≡ Err cause
   read_unindexed layout cause e f =
@@ -62,21 +59,10 @@ module _ (form : PlainForm) (count : ℕ) (value places : List ℕ) (sure : Opti
   abbrev pub elements : List ℕ
   elements = numbers_in (elements_at form count value places)
 
-  pub sure_head : are_sure sure (numbers_in (seen span_numbers (head_of form.at_end (length value)))) ≡ true
-  sure_head = (sure_both sure head (index ++ elements) h).0
-
   pub sure_index : (layout : VlenLayout) → layout_of form.at_end value ≡ Ok layout → are_sure sure (span_numbers layout.index) ≡ true
   sure_index layout e =
       let both = sure_both sure index elements (sure_both sure head (index ++ elements) h).1 in
       ap (λ (r : Result VlenLayout CodecError). are_sure sure (numbers_in (seen (λ layout. span_numbers layout.index) r))) (sym e) ∙ both.0
-
-  pub sure_elements : (layout : VlenLayout) (offsets : List ℕ) → layout_of form.at_end value ≡ Ok layout → offsets_read form count (span_bytes value layout.index) ≡ Ok offsets → are_sure sure (element_numbers layout.content.start offsets places) ≡ true
-  sure_elements layout offsets e f =
-      let both = sure_both sure index elements (sure_both sure head (index ++ elements) h).1 in
-      let is : elements_at form count value places ≡ ok (element_numbers layout.content.start offsets places) =
-      next_ok (layout_of form.at_end value) layout (λ l. offsets_read form count (span_bytes value l.index) >>= λ os. ok (element_numbers l.content.start os places)) e
-      ∙ next_ok (offsets_read form count (span_bytes value layout.index)) offsets (λ os. ok (element_numbers layout.content.start os places)) f in
-      ap (λ (r : Result (List ℕ) CodecError). are_sure sure (numbers_in r)) (sym is) ∙ both.1
 
 -- ---- runs
 

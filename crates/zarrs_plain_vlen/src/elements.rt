@@ -4,6 +4,7 @@ ghost use Rattle.std.specs.List.{list_all, range_with_len};
 ghost use Rattle.zarrs_chunk.specs.Answer.{AnswersBy, memory_or_fault};
 ghost use Rattle.zarrs_chunk.specs.Runs.{joined_runs};
 ghost use Rattle.zarrs_data_type.specs.ElementType.{is_variable};
+ghost use Rattle.zarrs_array_bytes.specs.Blank.{AbsentAreBlank};
 ghost use Rattle.zarrs_array_bytes.specs.Held.{vlen, owned_bytes};
 ghost use Rattle.zarrs_array_bytes.specs.Offsets.{is_offsets, last_of};
 ghost use Rattle.zarrs_array_bytes.specs.Validity.{Holds};
@@ -215,6 +216,7 @@ fn variable(bytes: Vec<u8>, offsets: Vec<usize>) -> Result<ArrayBytes<'static>, 
 
 /// The elements at the runs, in their order, of data that stand there in the stored value. Refusals:
 /// `InvalidByteRange`.
+#[tactic(auto, using(crate::proofs::VariableBlank::variable_blank))]
 pub(crate) fn read_elements<H: BytesPartialDecoderTraits>(
     alloc: Global,
     handle: &mut H,
@@ -230,6 +232,7 @@ pub(crate) fn read_elements<H: BytesPartialDecoderTraits>(
     requires variable { is_variable data_type.now ≡ true }
     ensures answer { AnswersBy memory_or_fault (Holds data_type.now) result
         (stored_elements offsets.now content (H.state handle.old) runs.now) }
+    ensures blank { IfOk result (AbsentAreBlank data_type.now) }
     ensures sure { SureAt (H.state handle.old) (data_numbers offsets.now content runs.now) result }
     ensures left { H.state handle.new ≡ after_reading result (H.state handle.old) }
     ensures same_reference { H.lent handle.new ≡ H.lent handle.old }

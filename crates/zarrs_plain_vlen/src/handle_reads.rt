@@ -41,7 +41,7 @@ pub(crate) fn read_range<H: BytesPartialDecoderTraits>(
     requires stored { is_some (H.state handle.old).value ≡ true }
     requires inside { range.end ≤ length (stored_bytes (H.state handle.old)) }
     ensures answer { ReadsRange (H.state handle.old) range result }
-    ensures long { IfOk result (λ bytes. range.start + length bytes.items ≡ range.end) }
+    ensures len { IfOk result (λ bytes. range.start + length bytes.items ≡ range.end) }
     ensures sure { SureAt (H.state handle.old) (span_numbers range) result }
     ensures left { H.state handle.new ≡ after_reading result (H.state handle.old) }
     ensures same_reference { H.lent handle.new ≡ H.lent handle.old }

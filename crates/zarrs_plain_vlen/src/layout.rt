@@ -39,7 +39,7 @@ pub(crate) fn range_of(start: u64, end: u64) -> ByteRange
 /// Where the length of the index stands, in a value of `size` bytes. Refusals: `InvalidBytesLength`.
 fn head_range(size: u64, location: VlenIndexLocation) -> Result<ByteRange, CodecError>
     ensures answer { result ≡ head_of (is_at_end location) size }
-    ensures long { IfOk result (λ head. head.start + 8 ≡ head.end) }
+    ensures len { IfOk result (λ head. head.start + 8 ≡ head.end) }
     ensures inside { IfOk result (λ head. head.end ≤ size) }
     ensures no_fault { is_fault result ≡ false }
 {
@@ -57,7 +57,7 @@ fn head_range(size: u64, location: VlenIndexLocation) -> Result<ByteRange, Codec
 
 /// Where the parts stand of a value of `size` bytes, whose index has `count`. Refusals: `IndexLength`.
 fn layout_of_size(size: u64, location: VlenIndexLocation, count: u64) -> Result<Layout, CodecError>
-    requires long { 8 ≤ size }
+    requires len { 8 ≤ size }
     ensures answer { seen vlen_layout result ≡ layout_within (is_at_end location) size count }
     ensures index_inside { IfOk result (λ layout. layout.index.end ≤ size) }
     ensures content_inside { IfOk result (λ layout. layout.content.end ≤ size) }
@@ -88,7 +88,7 @@ pub(crate) fn read_layout<H: BytesPartialDecoderTraits>(
     location: VlenIndexLocation,
 ) -> Result<Layout, CodecError>
     requires stored { is_some (H.state handle.old).value ≡ true }
-    requires sized { length (stored_bytes (H.state handle.old)) ≡ size }
+    requires len { length (stored_bytes (H.state handle.old)) ≡ size }
     ensures answer { FindsLayout (is_at_end location) (H.state handle.old) result }
     ensures index_inside { IfOk result (λ layout. layout.index.end ≤ size) }
     ensures content_inside { IfOk result (λ layout. layout.content.end ≤ size) }

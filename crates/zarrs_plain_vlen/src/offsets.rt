@@ -77,7 +77,7 @@ impl Offsets {
     ) -> Result<(), AllocError>
         requires ordered { first ≤ end }
         requires known { end ≤ length self.now }
-        requires behind { All (λ offset. from ≤ offset) (between first end self.now) }
+        requires above { All (λ offset. from ≤ offset) (between first end self.now) }
         requires fits { All (λ offset. offset - from + start < 2 ^ 64)
             (between first end self.now) }
         ensures appended { OnOk result

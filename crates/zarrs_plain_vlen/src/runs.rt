@@ -1,6 +1,7 @@
 //! A read of elements by runs of places.
-ghost use Rattle.std.specs.Prelude.{◌≡◌, ◌≤◌, ◌+◌, true, All, is_some, length};
+ghost use Rattle.std.specs.Prelude.{◌≡◌, ◌≤◌, ◌+◌, true, All, IfOk, IfSome, is_some, length};
 ghost use Rattle.zarrs_data_type.specs.ElementType.{is_variable};
+ghost use Rattle.zarrs_array_bytes.specs.Blank.{AbsentAreBlank};
 ghost use Rattle.zarrs_codec.specs.StorageState.{after_reading};
 ghost use Rattle.zarrs_plain_vlen.specs.StoredBytes.{stored_bytes};
 ghost use Rattle.zarrs_plain_vlen.specs.StoredElements.{ReadsRuns, ReadsValue, SureRuns, SureValue};
@@ -27,10 +28,11 @@ fn read_stored<H: BytesPartialDecoderTraits>(
     runs: &[(u64, u64)],
 ) -> Result<ArrayBytes<'static>, CodecError>
     requires stored { is_some (H.state handle.old).value ≡ true }
-    requires sized { length (stored_bytes (H.state handle.old)) ≡ size }
+    requires len { length (stored_bytes (H.state handle.old)) ≡ size }
     requires variable { is_variable data_type.now ≡ true }
     requires inside { All (λ run. run.0 + run.1 ≤ count) runs.now }
     ensures answer { ReadsValue codec count data_type.now (H.state handle.old) runs.now result }
+    ensures blank { IfOk result (AbsentAreBlank data_type.now) }
     ensures sure { SureValue codec count (H.state handle.old) runs.now result }
     ensures left { H.state handle.new ≡ after_reading result (H.state handle.old) }
     ensures same_reference { H.lent handle.new ≡ H.lent handle.old }
@@ -61,6 +63,7 @@ pub fn read_runs<H: BytesPartialDecoderTraits>(
     requires variable { is_variable data_type.now ≡ true }
     requires inside { All (λ run. run.0 + run.1 ≤ count) runs.now }
     ensures answer { ReadsRuns codec count data_type.now (H.state handle.old) runs.now result }
+    ensures blank { IfOk result (λ elements. IfSome elements (AbsentAreBlank data_type.now)) }
     ensures sure { SureRuns codec count (H.state handle.old) runs.now result }
     ensures left { H.state handle.new ≡ after_reading result (H.state handle.old) }
     ensures same_reference { H.lent handle.new ≡ H.lent handle.old }

@@ -120,7 +120,7 @@ fn name_of_end(end: RunEnd) -> &'static str {
     match end {
         RunEnd::Done => DONE,
         RunEnd::BadHeader => "= bad header",
-        RunEnd::Fault => "= fault",
+        RunEnd::Fault(_) => "= fault",
     }
 }
 

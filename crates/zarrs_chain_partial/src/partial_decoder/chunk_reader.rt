@@ -9,6 +9,7 @@ ghost use Rattle.zarrs_chunk.specs.Selection.{subset as subset_of, bounds_of};
 ghost use Rattle.zarrs_chunk.specs.Tuples.{is_box_inside};
 ghost use Rattle.zarrs_data_type.specs.Element.{Chunk};
 ghost use Rattle.zarrs_data_type.specs.FillValue.{fill_fits};
+ghost use Rattle.zarrs_array_bytes.specs.Blank.{AbsentAreBlank};
 ghost use Rattle.zarrs_array_bytes.specs.Elements.{elements, select};
 ghost use Rattle.zarrs_array_bytes.specs.Held.{items_of};
 ghost use Rattle.zarrs_array_bytes.specs.Validity.{Holds};
@@ -18,6 +19,7 @@ ghost use Rattle.zarrs_chain_parts.specs.Chain.{chain_reads, codec_reads as code
 ghost use Rattle.zarrs_codec_chain.specs.ChainView.{plain_chain};
 ghost use Rattle.zarrs_chain_partial.specs.ChunkRead.{asks_in_part, codec_rests_on, encoded_places, IsReadPlan, planned_places, reads_places, WhereSure, ReadsChunk, HasForm, form_places, RefusedAtSelection, PlansRead};
 ghost use Rattle.zarrs_chain_partial.specs.ChunkSource.{bytes_above, cache_fits, cache_stage as cache_stage_of, chunk_below, has_cache, held_by, is_kept, is_there, opened_chunk, source_made, source_places, source_read, wants_cache};
+ghost use Rattle.zarrs_chain_partial.specs.CacheBlank.{CacheIsBlank, CacheIsBlank-prop};
 ghost use Rattle.zarrs_chain_partial.specs.RefusedFirst.{RefusedFirst};
 ghost use Rattle.zarrs_chain_parts.specs.Laws.{IsChainOfMappings};
 ghost use Rattle.zarrs_chain_parts.specs.Representation.{codec_representation};
@@ -60,6 +62,7 @@ pub(crate) struct ChunkReader<'a, B: BytesToBytesCodecTraits> {
     ghost counted: { product encoded < 2 ^ 64 },
     ghost counted_whole: { product shape < 2 ^ 64 },
     ghost fits: { cache_fits (codec_reads_of (plain_chain chain.now).codec) data_type (product encoded) (length (plain_chain chain.now).outer) cache ≡ true },
+    ghost blank: { CacheIsBlank data_type cache } by { CacheIsBlank-prop data_type cache },
 }
 
 impl<'a, B: BytesToBytesCodecTraits> ChunkReader<'a, B> {
@@ -111,11 +114,11 @@ impl<'a, B: BytesToBytesCodecTraits> ChunkReader<'a, B> {
             (form_of shape.now data_type.now fill_value.now) result }
         ensures cached { IfOk result
             (λ reader. is_kept reader.cache ≡ wants_cache B.reads_in_part (plain_chain chain.now)) }
-        ensures untouched { cache_stage_of B.reads_in_part (plain_chain chain.now) ≡
+        ensures no_fault_if_uncached { cache_stage_of B.reads_in_part (plain_chain chain.now) ≡
             CacheStage.Nowhere → is_fault result ≡ false }
         ensures measured_first { RefusedFirst (taken_form_of B.functions (plain_chain chain.now)
             shape.now data_type.now fill_value.now) result }
-        ensures filled { IfOk result
+        ensures cache_filled { IfOk result
             (λ reader. IsFilledFrom B.functions reader (H.state handle.old).value) }
         ensures left { H.state handle.new ≡ after_reading result (H.state handle.old) }
         ensures same_reference { H.lent handle.new ≡ H.lent handle.old }
@@ -194,9 +197,10 @@ impl<'a, B: BytesToBytesCodecTraits> ChunkReader<'a, B> {
         )
     }
 
-    /// The elements at the places of these runs, by the bytes above so many of the first bytes codecs,
-    /// or by none. Refusals, the first that holds, `OutOfMemory` aside: `BytesCodec` of the last of
-    /// these codecs, then of the one before; those of the codec to bytes.
+    /// The elements at the places of these runs, by the bytes above so many of the first bytes
+    /// codecs, or by none. Refusals, the first that holds, `OutOfMemory` aside: `BytesCodec` of the
+    /// last of these codecs, then of the one before; of the codec to bytes those that
+    /// `partial_decode` of `ArrayPartialDecoder` names.
     fn read_above(
         &self,
         alloc: Global,
@@ -211,6 +215,7 @@ impl<'a, B: BytesToBytesCodecTraits> ChunkReader<'a, B> {
         requires count { length (joined_runs runs.now) < 2 ^ 64 }
         ensures answer { GivesSource B.functions self.now
             (bytes_above below (option_map (λ bytes. items_of bytes) value.entry)) runs.now result }
+        ensures blank { IfOk result (AbsentAreBlank self.now.data_type) }
     {
         match value {
             None => read_runs_of_bytes::<B>(
@@ -252,6 +257,7 @@ impl<'a, B: BytesToBytesCodecTraits> ChunkReader<'a, B> {
         requires count { length (joined_runs runs.now) < 2 ^ 64 }
         ensures answer { ReadsSource B.functions self.now
             (stored_source self.now (H.state handle.old).value) runs.now result }
+        ensures blank { IfOk result (AbsentAreBlank self.now.data_type) }
         ensures sure { SureSource self.now (H.state handle.old) runs.now result }
         ensures left { H.state handle.new ≡ after_reading result (H.state handle.old) }
         ensures same_reference { H.lent handle.new ≡ H.lent handle.old }
@@ -287,6 +293,7 @@ impl<'a, B: BytesToBytesCodecTraits> ChunkReader<'a, B> {
         requires count { length (joined_runs runs.now) < 2 ^ 64 }
         ensures answer { ReadsSource B.functions self.now
             (stored_source self.now (H.state handle.old).value) runs.now result }
+        ensures blank { IfOk result (AbsentAreBlank self.now.data_type) }
         ensures left { H.state handle.new ≡ after_reading result (H.state handle.old) }
         ensures same_reference { H.lent handle.new ≡ H.lent handle.old }
     {
@@ -305,6 +312,7 @@ impl<'a, B: BytesToBytesCodecTraits> ChunkReader<'a, B> {
     ) -> Result<ArrayBytes<'static>, CodecError>
         requires inside { All (λ run. run.0 + run.1 ≤ product self.now.encoded) runs.now }
         ensures answer { GivesOpened B.functions self.now value.items runs.now result }
+        ensures blank { IfOk result (AbsentAreBlank self.now.data_type) }
     {
         let held = chunk_of_value(
             alloc,
@@ -331,6 +339,8 @@ impl<'a, B: BytesToBytesCodecTraits> ChunkReader<'a, B> {
         requires count { length (joined_runs runs.now) < 2 ^ 64 }
         ensures answer { GivesSource B.functions self.now
             (kept_source self.now chunk.now) runs.now result }
+        ensures blank { CacheIsBlank self.now.data_type (Cache.Chunk chunk.now) →
+            IfOk result (AbsentAreBlank self.now.data_type) }
     {
         match chunk {
             None => fill_runs(alloc, &self.data_type, &self.fill_value, runs),
@@ -353,10 +363,11 @@ impl<'a, B: BytesToBytesCodecTraits> ChunkReader<'a, B> {
         requires count { length (joined_runs runs.now) < 2 ^ 64 }
         ensures answer { ReadsSource B.functions self.now
             (reader_source self.now (H.state handle.old).value) runs.now result }
+        ensures blank { IfOk result (AbsentAreBlank self.now.data_type) }
         ensures sure { SureSource self.now (H.state handle.old) runs.now result }
         ensures left { H.state handle.new ≡ after_reading result (H.state handle.old) }
         ensures same_reference { H.lent handle.new ≡ H.lent handle.old }
-        ensures calm { is_kept self.now.cache ≡ true → is_fault result ≡ false }
+        ensures no_fault_if_cached { is_kept self.now.cache ≡ true → is_fault result ≡ false }
     {
         match &self.cache {
             Cache::Handle => {
@@ -373,16 +384,17 @@ impl<'a, B: BytesToBytesCodecTraits> ChunkReader<'a, B> {
 
     /// The box that the indexer means, where it goes through the array codecs as a box.
     pub(crate) fn kept_region<'i>(&self, indexer: &'i Indexer) -> Option<&'i ArraySubset>
-        ensures kept { IfSome result
+        ensures region_kept { IfSome result
             (λ region. IsKeptRegion self.now (selection_of indexer.now) region.now) }
     {
         kept_region(self.chain.array_to_array_codecs(), &self.shape, indexer)
     }
 
-    /// The elements of a region that goes through the array codecs as one, in row-major order: those of
-    /// its window in the encoded chunk are read, by the window's own runs, and decoded. Refusals, the
-    /// first that holds, `OutOfMemory` aside: `Storage`; those of the bytes codecs that a cache leaves,
-    /// and of the codec to bytes.
+    /// The elements of a region that goes through the array codecs as one, in row-major order:
+    /// those of its window in the encoded chunk are read, by the window's own runs, and decoded.
+    /// Refusals, the first that holds, `OutOfMemory` aside: `Storage`; those of the bytes codecs
+    /// that a cache leaves, and those that `partial_decode` of `ArrayPartialDecoder` names of the
+    /// codec to bytes.
     fn read_region<H: BytesPartialDecoderTraits>(
         &self,
         alloc: Global,
@@ -391,14 +403,15 @@ impl<'a, B: BytesToBytesCodecTraits> ChunkReader<'a, B> {
     ) -> Result<ArrayBytes<'static>, CodecError>
         requires inside { is_box_inside self.now.shape region.now.starts region.now.lengths ≡ true }
         requires filled { 0 < product region.now.lengths }
-        requires kept { keeps_regions (plain_chain self.now.chain.now).arrays ≡ true }
+        requires region_kept { keeps_regions (plain_chain self.now.chain.now).arrays ≡ true }
         ensures answer { ReadsSelection B.functions self.now
             (H.state handle.old).value (subset_of region.now) result }
+        ensures blank { IfOk result (AbsentAreBlank self.now.data_type) }
         ensures sure { WhereSure B.functions (reader_form self.now) (H.state handle.old)
             (subset_of region.now) (is_fault result ≡ false) }
         ensures left { H.state handle.new ≡ after_reading result (H.state handle.old) }
         ensures same_reference { H.lent handle.new ≡ H.lent handle.old }
-        ensures calm { is_kept self.now.cache ≡ true → is_fault result ≡ false }
+        ensures no_fault_if_cached { is_kept self.now.cache ≡ true → is_fault result ≡ false }
     {
         self.is_sound();
         let codecs = self.chain.array_to_array_codecs();
@@ -416,9 +429,10 @@ impl<'a, B: BytesToBytesCodecTraits> ChunkReader<'a, B> {
         )
     }
 
-    /// The elements that the indexer means, in its order. Refusals, the first that holds, `OutOfMemory`
-    /// aside: those of `Indexer::check`; `Storage`; those of the bytes codecs that a cache leaves, and
-    /// of the codec to bytes.
+    /// The elements that the indexer means, in its order. Refusals, the first that holds,
+    /// `OutOfMemory` aside: those of `Indexer::check`; `Storage`; those of the bytes codecs that a
+    /// cache leaves, and those that `partial_decode` of `ArrayPartialDecoder` names of the codec to
+    /// bytes.
     pub(crate) fn read<H: BytesPartialDecoderTraits>(
         &self,
         alloc: Global,
@@ -427,13 +441,14 @@ impl<'a, B: BytesToBytesCodecTraits> ChunkReader<'a, B> {
     ) -> Result<ArrayBytes<'static>, CodecError>
         ensures answer { ReadsSelection B.functions self.now
             (H.state handle.old).value (selection_of indexer.now) result }
+        ensures blank { IfOk result (AbsentAreBlank self.now.data_type) }
         ensures indexer_first { RefusedAtSelection self.now.shape self.now.data_type
             (selection_of indexer.now) result }
         ensures sure { WhereSure B.functions (reader_form self.now) (H.state handle.old)
             (selection_of indexer.now) (is_fault result ≡ false) }
         ensures left { H.state handle.new ≡ after_reading result (H.state handle.old) }
         ensures same_reference { H.lent handle.new ≡ H.lent handle.old }
-        ensures calm { is_kept self.now.cache ≡ true → is_fault result ≡ false }
+        ensures no_fault_if_cached { is_kept self.now.cache ≡ true → is_fault result ≡ false }
     {
         if let Some(region) = self.kept_region(indexer) {
             return self.read_region(alloc, handle, region);
@@ -451,10 +466,11 @@ impl<'a, B: BytesToBytesCodecTraits> ChunkReader<'a, B> {
         handle: &mut H,
         indexer: &Indexer,
     ) -> Result<ArrayBytes<'static>, CodecError>
-        requires filled { IsFilledFrom B.functions self.now (H.state handle.old).value }
+        requires cache_filled { IsFilledFrom B.functions self.now (H.state handle.old).value }
         ensures reads { ReadsChunk B.functions (reader_form self.now) (H.state handle.old)
             (selection_of indexer.now) result }
-        ensures calm { reader_is_cached self.now ≡ true → is_fault result ≡ false }
+        ensures blank { IfOk result (AbsentAreBlank self.now.data_type) }
+        ensures no_fault_if_cached { reader_is_cached self.now ≡ true → is_fault result ≡ false }
         ensures left { H.state handle.new ≡ after_reading result (H.state handle.old) }
         ensures same_reference { H.lent handle.new ≡ H.lent handle.old }
     {
@@ -472,7 +488,7 @@ impl<'a, B: BytesToBytesCodecTraits> ChunkReader<'a, B> {
         ensures sure { is_some (H.state handle.old).sure ≡ true → is_fault result ≡ false }
         ensures left { H.state handle.new ≡ after_reading result (H.state handle.old) }
         ensures same_reference { H.lent handle.new ≡ H.lent handle.old }
-        ensures calm { is_kept self.now.cache ≡ true → is_fault result ≡ false }
+        ensures no_fault_if_cached { is_kept self.now.cache ≡ true → is_fault result ≡ false }
     {
         match &self.cache {
             Cache::Handle => handle.exists(),

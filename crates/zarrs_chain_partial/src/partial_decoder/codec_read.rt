@@ -4,6 +4,7 @@ ghost use Rattle.std.specs.Prelude.{◌≡◌, ◌<◌, ◌≤◌, ◌+◌, ◌^
 ghost use Rattle.zarrs_chunk.specs.Answer.{AnswersBy, memory, memory_or_fault, is_fault, no_refusal, GivesBy};
 ghost use Rattle.zarrs_chunk.specs.ChunkShape.{product};
 ghost use Rattle.zarrs_chunk.specs.Runs.{joined_runs};
+ghost use Rattle.zarrs_array_bytes.specs.Blank.{AbsentAreBlank};
 ghost use Rattle.zarrs_array_bytes.specs.Validity.{Holds};
 ghost use Rattle.zarrs_codec.specs.StorageState.{after_reading, are_sure};
 ghost use Rattle.zarrs_chain_parts.specs.Chain.{codec_reads as codec_reads_of};
@@ -38,9 +39,10 @@ pub(crate) fn read_runs<H: BytesPartialDecoderTraits, B: BytesToBytesCodecTraits
     requires in_part { (codec_reads_of (plain_codec codec.now)).partial_decode ≡ true }
     requires filled { All (λ run. 0 < run.1) runs.now }
     requires below { All (λ run. run.0 + run.1 ≤ product shape.now) runs.now }
-    requires small { length (joined_runs runs.now) < 2 ^ 64 }
+    requires count { length (joined_runs runs.now) < 2 ^ 64 }
     ensures answer { ReadsRuns B.functions (plain_codec codec.now)
         (form_of shape.now data_type.now fill_value.now) (H.state handle.old) runs.now result }
+    ensures blank { IfOk result (AbsentAreBlank data_type.now) }
     ensures sure { SureRuns (plain_codec codec.now)
         (form_of shape.now data_type.now fill_value.now) (H.state handle.old) runs.now result }
     ensures left { H.state handle.new ≡ after_reading result (H.state handle.old) }
@@ -75,10 +77,11 @@ pub(crate) fn read_runs_of_bytes<B: BytesToBytesCodecTraits>(
     requires in_part { (codec_reads_of (plain_codec codec.now)).partial_decode ≡ true }
     requires filled { All (λ run. 0 < run.1) runs.now }
     requires below { All (λ run. run.0 + run.1 ≤ product shape.now) runs.now }
-    requires small { length (joined_runs runs.now) < 2 ^ 64 }
+    requires count { length (joined_runs runs.now) < 2 ^ 64 }
     ensures answer { GivesRuns B.functions (plain_codec codec.now)
         (form_of shape.now data_type.now fill_value.now)
         (option_map (λ items. items.now) bytes.entry) runs.now result }
+    ensures blank { IfOk result (AbsentAreBlank data_type.now) }
 {
     let mut lent = SliceHandle::new(bytes);
     read_runs::<SliceHandle<'_>, B>(alloc, codec, &mut lent, shape, data_type, fill_value, runs)

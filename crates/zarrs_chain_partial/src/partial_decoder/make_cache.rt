@@ -5,6 +5,7 @@ ghost use Rattle.std.specs.Prelude.{◌≡◌, ◌≤◌, ℕ, IfOk, Ok, Some, i
 ghost use Rattle.zarrs_chunk.specs.Answer.{Answers, memory_or_fault, is_fault, Gives, GivesBy};
 ghost use Rattle.zarrs_chunk.specs.ChunkShape.{product};
 ghost use Rattle.zarrs_array_bytes.specs.Held.{items_of};
+ghost use Rattle.zarrs_array_bytes.specs.Blank.{AbsentAreBlank};
 ghost use Rattle.zarrs_array_bytes.specs.Validity.{Holds};
 ghost use Rattle.zarrs_codec.specs.StorageState.{after_reading};
 ghost use Rattle.zarrs_chain_parts.specs.BytesStages.{outer_bytes, outer_representation as outer_representation_of};
@@ -12,6 +13,7 @@ ghost use Rattle.zarrs_chain_parts.specs.Chain.{codec_reads as codec_reads_of};
 ghost use Rattle.zarrs_chain_parts.specs.Representation.{codec_representation};
 ghost use Rattle.zarrs_codec_chain.specs.ChainView.{plain_chain};
 ghost use Rattle.zarrs_chain_partial.specs.ChunkSource.{bytes_left, cache_fits, cache_stage as cache_stage_of, has_cache, is_kept, kept_stage, opened_chunk, source_at, source_of, stage_by, stage_fits, is_stage_of, upper_bytes, OpensChunk, FillsCache, is_cache_of};
+ghost use Rattle.zarrs_chain_partial.specs.CacheBlank.{CacheIsBlank};
 
 use crate::partial_decoder::cache::{Cache, CacheStage};
 use std::alloc::Global;
@@ -127,6 +129,7 @@ pub(crate) fn chunk_below<B: BytesToBytesCodecTraits>(
         (form_of encoded.now data_type.now fill_value.now) }
     ensures answer { OpensChunk B.functions (plain_chain chain.now)
         (form_of encoded.now data_type.now fill_value.now) representation.now value.items result }
+    ensures blank { IfOk result (AbsentAreBlank data_type.now) }
 {
     let bytes = decode_bytes(
         alloc,
@@ -164,11 +167,12 @@ pub(crate) fn make_cache<H: BytesPartialDecoderTraits, B: BytesToBytesCodecTrait
         (form_of encoded.now data_type.now fill_value.now) (H.state handle.old).value result }
     ensures fits { IfOk result
         (λ cache. is_cache_of (plain_chain chain.now) encoded.now data_type.now cache ≡ true) }
+    ensures blank { IfOk result (CacheIsBlank data_type.now) }
     ensures stage { IfOk result (λ cache. kept_stage cache ≡ stage) }
     ensures left { H.state handle.new ≡ after_reading result (H.state handle.old) }
     ensures same_reference { H.lent handle.new ≡ H.lent handle.old }
-    ensures kept { IfOk result (λ cache. is_kept cache ≡ has_cache stage) }
-    ensures untouched { stage ≡ CacheStage.Nowhere → is_fault result ≡ false }
+    ensures cached { IfOk result (λ cache. is_kept cache ≡ has_cache stage) }
+    ensures no_fault_if_uncached { stage ≡ CacheStage.Nowhere → is_fault result ≡ false }
 {
     match stage {
         CacheStage::Nowhere => Ok(Cache::Handle),

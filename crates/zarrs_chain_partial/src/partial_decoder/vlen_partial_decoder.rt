@@ -9,6 +9,7 @@ ghost use Rattle.zarrs_chunk.specs.Runs.{joined_runs};
 ghost use Rattle.zarrs_chunk.specs.Selection.{bounds_of, places_of};
 ghost use Rattle.zarrs_data_type.specs.Element.{Chunk, fill_element};
 ghost use Rattle.zarrs_data_type.specs.FillValue.{fill_fits};
+ghost use Rattle.zarrs_array_bytes.specs.Blank.{AbsentAreBlank};
 ghost use Rattle.zarrs_array_bytes.specs.Elements.{elements, select};
 ghost use Rattle.zarrs_array_bytes.specs.Validity.{Holds, validity};
 ghost use Rattle.zarrs_codec.specs.Refused.{outcome};
@@ -76,7 +77,8 @@ fn parts_of_decoder<B: BytesToBytesCodecTraits>(
 /// What a [`VlenCodec`] makes to read a chunk in part. What is promised of it stands at the method of
 /// the impl for [`VlenCodec`].
 pub trait VlenCodecPartialTraits<B: BytesToBytesCodecTraits> {
-    /// A decoder of a chunk in part, over a handle.
+    /// A decoder of a chunk in part, over a handle. A refusal hands the handle back; which ones
+    /// there are stands at the method of the impl.
     fn partial_decoder<'a, H: BytesPartialDecoderTraits>(
         &'a self,
         alloc: Global,
@@ -134,6 +136,7 @@ impl<'a, H: BytesPartialDecoderTraits, B: BytesToBytesCodecTraits> VlenPartialDe
     fn read(&mut self, alloc: Global, indexer: &Indexer) -> Result<ArrayBytes<'static>, CodecError>
         ensures answer { VlenReads H.state B.functions self.old
             (selection_of indexer.now) result }
+        ensures blank { IfOk result (AbsentAreBlank (vlen_form_of self.old).type) }
         ensures indexer_first { VlenRefusedAtSelection self.old (selection_of indexer.now) result }
         ensures sure { SureVlen H.state self.old (selection_of indexer.now) result }
         ensures left { VlenLeaves H.state H.lent self.old self.new result }
@@ -164,6 +167,7 @@ impl<'a, H: BytesPartialDecoderTraits, B: BytesToBytesCodecTraits> VlenPartialDe
         indexer: &Indexer,
     ) -> Result<ArrayBytes<'static>, CodecError>
         ensures reads { VlenGives H.state B.functions self.old (selection_of indexer.now) result }
+        ensures blank { IfOk result (AbsentAreBlank (vlen_form_of self.old).type) }
         ensures left { VlenLeaves H.state H.lent self.old self.new result }
     {
         vlen_is_sound(self.codec);
@@ -225,6 +229,10 @@ impl<'a, H: BytesPartialDecoderTraits, B: BytesToBytesCodecTraits> ArrayPartialD
     ghost lent = { λ decoder. H.lent (vlen_handle_of decoder) };
 
     ghost held = { λ decoder. H.held (vlen_handle_of decoder) };
+
+    ghost use Rattle.zarrs_chain_partial.specs.CountLaws.{codec_counts};
+
+    ghost counts = { λ decoder. codec_counts B.functions (vlen_form_of decoder) (H.state (vlen_handle_of decoder)).value ((codec_reads (vlen_form_of decoder).codec).partial_decode && H.reads_ranges) };
 
     fn data_type(&self) -> &DataType {
         VlenPartialDecoder::data_type(self)

@@ -7,6 +7,7 @@ ghost use Rattle.zarrs_chunk.specs.ChunkShape.{product};
 ghost use Rattle.zarrs_chunk.specs.Runs.{joined_runs};
 ghost use Rattle.zarrs_data_type.specs.ElementType.{is_variable};
 ghost use Rattle.zarrs_data_type.specs.FillValue.{fill_fits};
+ghost use Rattle.zarrs_array_bytes.specs.Blank.{AbsentAreBlank};
 ghost use Rattle.zarrs_array_bytes.specs.Elements.{elements};
 ghost use Rattle.zarrs_array_bytes.specs.Validity.{Holds, validity};
 ghost use Rattle.zarrs_codec.specs.StorageState.{after_reading, are_sure};
@@ -44,6 +45,7 @@ fn decoded<B: BytesToBytesCodecTraits>(
         (form_of shape.now data_type.now fill_value.now) }
     ensures answer { GivesElements B.functions (plain_vlen codec.now)
         (form_of shape.now data_type.now fill_value.now) value.items result }
+    ensures blank { IfOk result (AbsentAreBlank data_type.now) }
     ensures valid { IfOk result (λ held. validity data_type.now (product shape.now) held ≡ Ok tt) }
 {
     vlen_decode(
@@ -72,9 +74,10 @@ fn runs_of_value<B: BytesToBytesCodecTraits>(
     requires filling { fill_fits data_type.now fill_value.now ≡ true }
     requires counted { product shape.now < 2 ^ 64 }
     requires inside { All (λ run. run.0 + run.1 ≤ product shape.now) runs.now }
-    requires small { length (joined_runs runs.now) < 2 ^ 64 }
+    requires count { length (joined_runs runs.now) < 2 ^ 64 }
     ensures answer { GivesWhole B.functions (plain_vlen codec.now)
         (form_of shape.now data_type.now fill_value.now) (value_items value) runs.now result }
+    ensures blank { IfOk result (AbsentAreBlank data_type.now) }
 {
     match value {
         None => fill_runs(alloc, data_type, fill_value, runs),
@@ -89,6 +92,7 @@ fn runs_of_value<B: BytesToBytesCodecTraits>(
 /// The elements at the places of these runs of a chunk of `count` elements of a plain `vlen`: those of
 /// the stored value, and the fill value at each place where nothing is stored. Refusals: those of
 /// `zarrs_plain_vlen::read_runs`.
+#[tactic(auto, using(zarrs_plain_vlen::proofs::VariableBlank::variable_blank))]
 fn read_or_fill<H: BytesPartialDecoderTraits>(
     alloc: Global,
     codec: PlainVlen,
@@ -101,9 +105,10 @@ fn read_or_fill<H: BytesPartialDecoderTraits>(
     requires variable { is_variable data_type.now ≡ true }
     requires filling { fill_fits data_type.now fill_value.now ≡ true }
     requires inside { All (λ run. run.0 + run.1 ≤ count) runs.now }
-    requires small { length (joined_runs runs.now) < 2 ^ 64 }
+    requires count { length (joined_runs runs.now) < 2 ^ 64 }
     ensures answer { ReadsPlain (plain_form codec) count
         data_type.now fill_value.now (H.state handle.old) runs.now result }
+    ensures blank { IfOk result (AbsentAreBlank data_type.now) }
     ensures sure { SurePlain (plain_form codec) count (H.state handle.old) runs.now result }
     ensures left { H.state handle.new ≡ after_reading result (H.state handle.old) }
     ensures same_reference { H.lent handle.new ≡ H.lent handle.old }
@@ -128,9 +133,10 @@ fn plain_runs<H: BytesPartialDecoderTraits>(
     requires filling { fill_fits data_type.now fill_value.now ≡ true }
     requires counted { product shape.now < 2 ^ 64 }
     requires inside { All (λ run. run.0 + run.1 ≤ product shape.now) runs.now }
-    requires small { length (joined_runs runs.now) < 2 ^ 64 }
+    requires count { length (joined_runs runs.now) < 2 ^ 64 }
     ensures answer { ReadsPlain (plain_form codec) (product shape.now)
         data_type.now fill_value.now (H.state handle.old) runs.now result }
+    ensures blank { IfOk result (AbsentAreBlank data_type.now) }
     ensures sure { SurePlain (plain_form codec) (product shape.now)
         (H.state handle.old) runs.now result }
     ensures left { H.state handle.new ≡ after_reading result (H.state handle.old) }
@@ -156,9 +162,10 @@ fn whole_runs<H: BytesPartialDecoderTraits, B: BytesToBytesCodecTraits>(
     requires filling { fill_fits data_type.now fill_value.now ≡ true }
     requires counted { product shape.now < 2 ^ 64 }
     requires inside { All (λ run. run.0 + run.1 ≤ product shape.now) runs.now }
-    requires small { length (joined_runs runs.now) < 2 ^ 64 }
+    requires count { length (joined_runs runs.now) < 2 ^ 64 }
     ensures answer { ReadsWhole B.functions (plain_vlen codec.now)
         (form_of shape.now data_type.now fill_value.now) (H.state handle.old) runs.now result }
+    ensures blank { IfOk result (AbsentAreBlank data_type.now) }
     ensures left { H.state handle.new ≡ after_reading result (H.state handle.old) }
     ensures same_reference { H.lent handle.new ≡ H.lent handle.old }
 {
@@ -182,9 +189,10 @@ pub(crate) fn vlen_runs<H: BytesPartialDecoderTraits, B: BytesToBytesCodecTraits
     requires taken { TakenBy B.functions (plain_vlen codec.now)
         (form_of shape.now data_type.now fill_value.now) }
     requires inside { All (λ run. run.0 + run.1 ≤ product shape.now) runs.now }
-    requires small { length (joined_runs runs.now) < 2 ^ 64 }
+    requires count { length (joined_runs runs.now) < 2 ^ 64 }
     ensures answer { ReadsRuns B.functions (plain_vlen codec.now)
         (form_of shape.now data_type.now fill_value.now) (H.state handle.old) runs.now result }
+    ensures blank { IfOk result (AbsentAreBlank data_type.now) }
     ensures sure { SureParts (plain_vlen codec.now)
         (form_of shape.now data_type.now fill_value.now) (H.state handle.old) runs.now result }
     ensures left { H.state handle.new ≡ after_reading result (H.state handle.old) }

@@ -1,7 +1,8 @@
 ghost use Rattle.zarrs_chain_partial.specs.ChunkReader.{reader_is_cached};
-ghost use Rattle.std.specs.Prelude.{◌≡◌, ◌<◌, ◌&&◌, All, Ok, None, option_map, is_some, true, false};
+ghost use Rattle.std.specs.Prelude.{◌≡◌, ◌<◌, ◌&&◌, All, Ok, IfOk, None, option_map, is_some, true, false};
 ghost use Rattle.zarrs_chunk.specs.Answer.{Answers, fault, memory, is_fault, GivesBy};
 ghost use Rattle.zarrs_chunk.specs.Indexer.{selection_of};
+ghost use Rattle.zarrs_array_bytes.specs.Blank.{AbsentAreBlank};
 ghost use Rattle.zarrs_codec.specs.BytesToBytesCodec.{AreBytes};
 ghost use Rattle.zarrs_chain_parts.specs.Chain.{chain_reads, chain_writes};
 ghost use Rattle.zarrs_chain_partial.specs.ChunkWrite.{EditsChunk, form_encodes_parts};
@@ -10,9 +11,9 @@ ghost use Rattle.zarrs_chain_parts.specs.Laws.{IsChainOfMappings};
 
 use crate::partial_decoder::array_partial_decoder::ArrayPartialDecoder;
 use crate::partial_decoder::chunk_reader::ChunkReader;
-use crate::partial_encoder::machine_bytes::bytes_are;
 use std::alloc::Global;
 use zarrs_array_bytes::ArrayBytes;
+use zarrs_chain_parts::machine_bytes::bytes_are;
 use zarrs_chunk::{ChunkShape, CodecError, Indexer};
 use zarrs_codec::{
     ArrayPartialDecoderTraits, ArrayPartialEncoderTraits, ByteRange, BytesPartialEncoderTraits,
@@ -43,7 +44,7 @@ impl<'a, H: BytesPartialEncoderTraits, B: BytesToBytesCodecTraits> ArrayPartialE
     pub(crate) fn is_sound(&self)
         ensures mappings { IsChainOfMappings (encoder_form self.now).chain }
         ensures positive { All (λ size. 0 < size) (encoder_form self.now).sizes }
-        ensures filling { AreBytes (encoder_form self.now).fill }
+        ensures fill_bytes { AreBytes (encoder_form self.now).fill }
     {
         self.reader.is_sound();
         bytes_are(self.reader.fill_value.as_ne_bytes());
@@ -59,13 +60,20 @@ impl<'a, H: BytesPartialEncoderTraits, B: BytesToBytesCodecTraits> ArrayPartialE
     /// The elements that the indexer means, in its order: those of the chunk that the stored value
     /// stands for, and the fill value at each place where nothing is stored. Without bytes codecs, over
     /// `bytes` and `packbits`, the answer rests on the places' bytes alone, and over a plain `vlen` on
-    /// the value's length, the offsets and the elements' bytes, whatever else is stored.
+    /// the value's length, the offsets and the elements' bytes, whatever else is stored. Absent elements
+    /// stand over blank ones.
     ///
     /// Refusals, the first that holds, `OutOfMemory` aside: those of `Indexer::check`; `Storage`, but
     /// never where the answer rests on such bytes alone and all of these are sure; `BytesCodec` of the
     /// last bytes codec, then of the one before; over `bytes` and `packbits` `InvalidByteRange` where a
-    /// place's bytes lie past the end; over a plain `vlen` those of `zarrs_plain_vlen::read_runs`, also
-    /// where the indexer means no place; over any other codec what whole decode refuses.
+    /// place's bytes lie past the end; over a plain `vlen` those of `zarrs_plain_vlen::read_runs`,
+    /// also where the indexer means no place; over `optional` and any other `vlen` what
+    /// `CodecChain::decode` refuses of the value of this codec:
+    ///
+    /// - of `vlen` `InvalidBytesLength`, `IndexLength`, `Overflow`, those of the index chain,
+    ///   `InvalidOffsets`, those of the data chain;
+    /// - of `optional` `InvalidBytesLength`, `HeaderOverflow`, `InvalidBytesLength`, those of the
+    ///   mask chain, `MaskValue`, those of the data chain.
     pub fn partial_decode(
         &mut self,
         alloc: Global,
@@ -73,6 +81,7 @@ impl<'a, H: BytesPartialEncoderTraits, B: BytesToBytesCodecTraits> ArrayPartialE
     ) -> Result<ArrayBytes<'static>, CodecError>
         ensures reads { EncoderGives H.state B.functions self.old
             (selection_of indexer.now) result }
+        ensures blank { IfOk result (AbsentAreBlank (encoder_form self.old).type) }
         ensures left { EncoderReads H.state H.lent self.old self.new result }
     {
         self.reader.read_chunk(alloc, &mut self.handle, indexer)
@@ -96,9 +105,10 @@ impl<'a, H: BytesPartialEncoderTraits, B: BytesToBytesCodecTraits> ArrayPartialE
         self.handle.size_held()
     }
 
-    /// The ranges of bytes that a read asks for, where it asks for the bytes of its places alone: they
-    /// are these bytes and no others. `None` where bytes codecs, or chains inside the codec to bytes,
-    /// stand in the way. Refusals, the first that holds: those of `Indexer::check`; `OutOfMemory`.
+    /// The ranges, in bytes of the stored value, that a read asks for, where it asks for the bytes
+    /// of its places alone: they are these bytes and no others. `None` where bytes codecs, or
+    /// chains inside the codec to bytes, stand in the way. Refusals, the first that holds: those of
+    /// `Indexer::check`; `OutOfMemory`.
     pub fn planned_ranges(
         &self,
         alloc: Global,
@@ -126,10 +136,21 @@ impl<'a, H: BytesPartialEncoderTraits, B: BytesToBytesCodecTraits> ArrayPartialE
     /// `bytes` without bytes codecs every stored value is accepted: the places' bytes alone are
     /// replaced, and it grows with zeros up to the furthest place.
     ///
-    /// Refusals, the first that holds, `OutOfMemory` aside: those of `Indexer::check`; level by level
-    /// `ArrayBytesKind` or `DataMismatch` of the new elements; then, once the handle is asked,
-    /// `Storage` of the reading; those of `CodecChain::decode`; those of `CodecChain::encode` of the
-    /// chunk with these elements; `Storage` of the writing.
+    /// Refusals, the first that holds, `OutOfMemory` aside: those of `Indexer::check`; level by
+    /// level `ArrayBytesKind` or `DataMismatch` of the new elements; then, once the handle is
+    /// asked, `Storage` of the reading; but over `bytes` without bytes codecs, what
+    /// `CodecChain::decode` refuses of a value that is stored, and what `CodecChain::encode`
+    /// refuses of the chunk with these elements; `Storage` of the writing. What these two refuse is
+    ///
+    /// - of a stored value `BytesCodec` of the last bytes codec, then of the one before; of `bytes`
+    ///   and `packbits` `InvalidBytesLength`, of `packbits` `PaddingByte`; of `vlen`
+    ///   `InvalidBytesLength`, `IndexLength`, `Overflow`, those of the index chain,
+    ///   `InvalidOffsets`, those of the data chain; of `optional` `InvalidBytesLength`,
+    ///   `HeaderOverflow`, `InvalidBytesLength`, those of the mask chain, `MaskValue`, those of the
+    ///   data chain;
+    /// - of the chunk `Overflow` where 64 bits don't count its elements' bytes or offsets; of
+    ///   `vlen` `OffsetTooLarge`, those of the index chain, `OffsetNotKept`, those of the data
+    ///   chain; of `optional` those of the mask chain, those of the data chain.
     ///
     /// One that is accepted makes exactly one writing call of the handle. One that is refused makes
     /// none, or the one that refused it, and leaves the value as it was, but where that call is refused
@@ -169,7 +190,7 @@ impl<'a, H: BytesPartialEncoderTraits, B: BytesToBytesCodecTraits> ArrayPartialE
 
     /// The decoder over the same handle. It has no cache either.
     pub fn into_decoder(self) -> ArrayPartialDecoder<'a, H, B>
-        ensures handle { handle_of result ≡ encoder_handle self.entry }
+        ensures over { handle_of result ≡ encoder_handle self.entry }
         ensures form { form_of result ≡ encoder_form self.entry }
         ensures uncached { is_cached result ≡ false }
     {
@@ -202,6 +223,10 @@ impl<'a, H: BytesPartialEncoderTraits, B: BytesToBytesCodecTraits> ArrayPartialD
 
     ghost held = { λ encoder. H.held (encoder_handle encoder) };
 
+    ghost use Rattle.zarrs_chain_partial.specs.CountLaws.{chunk_counts};
+
+    ghost counts = { λ encoder. chunk_counts B.functions (encoder_form encoder) (H.state (encoder_handle encoder)).value ((chain_reads B.reads_in_part (encoder_form encoder).chain).partial_decode && H.reads_ranges) };
+
     fn data_type(&self) -> &DataType {
         ArrayPartialEncoder::data_type(self)
     }
@@ -230,13 +255,19 @@ impl<'a, H: BytesPartialEncoderTraits, B: BytesToBytesCodecTraits> ArrayPartialD
 impl<'a, H: BytesPartialEncoderTraits, B: BytesToBytesCodecTraits> ArrayPartialEncoderTraits
     for ArrayPartialEncoder<'a, H, B> {
     ghost use Rattle.std.proofs.Common.{refl};
-    ghost use Rattle.zarrs_chain_partial.specs.PartialEncoder.{encoder_form};
+    ghost use Rattle.zarrs_chain_partial.specs.PartialEncoder.{encoder_form, encoder_handle};
 
     ghost atomic = { H.atomic };
 
     ghost writes_part = { λ encoder. (chain_writes B.writes_in_part (encoder_form encoder).chain).partial_encode && H.writes_ranges };
 
     ghost tells = { λ _. refl };
+
+    ghost use Rattle.zarrs_codec.specs.CountLaws.{checks_of_data};
+    ghost use Rattle.zarrs_chain_partial.specs.ChunkWrite.{stored_written};
+    ghost use Rattle.zarrs_chain_partial.specs.PartialDecoder.{chunk_reader};
+
+    ghost checks_data = { λ encoder. checks_of_data (chunk_reader B.functions (encoder_form encoder) (H.state (encoder_handle encoder)).value ((chain_reads B.reads_in_part (encoder_form encoder).chain).partial_decode && H.reads_ranges)) (λ stored. chunk_reader B.functions (encoder_form encoder) stored ((chain_reads B.reads_in_part (encoder_form encoder).chain).partial_decode && H.reads_ranges)) (stored_written B.functions (encoder_form encoder)) };
 
     fn partial_encode(
         &mut self,

@@ -4,8 +4,7 @@ ghost use Rattle.zarrs_chunk.specs.Answer.{Answers, memory, memory_or_fault, see
 ghost use Rattle.zarrs_chunk.specs.Indexer.{selection_of};
 ghost use Rattle.zarrs_chunk.specs.Selection.{bounds_of};
 ghost use Rattle.zarrs_codec.specs.ArrayWriter.{IsRefusedWrite};
-ghost use Rattle.zarrs_codec.specs.CodersOverHandles.{OnlyWrites};
-ghost use Rattle.zarrs_chain_partial.specs.PartialEncoder.{HandleWrites};
+ghost use Rattle.zarrs_codec.specs.CodersOverHandles.{HandleWrites, OnlyWrites};
 ghost use Rattle.zarrs_codec.specs.ChunkEdits.{data_checked};
 ghost use Rattle.zarrs_codec.specs.StorageState.{after_writing, apart_from_value};
 ghost use Rattle.zarrs_chain_parts.specs.Chain.{chain_writes};

@@ -4,9 +4,9 @@ ghost use Rattle.zarrs_chain_partial.specs.Edits.{EditHasBytes};
 ghost use Rattle.zarrs_chain_partial.specs.PartialEncoder.{EncoderEdits, EncoderKeeps, EncoderRuns, EncoderWrites};
 
 use crate::partial_encoder::array_partial_encoder::ArrayPartialEncoder;
-use crate::partial_encoder::machine_bytes::elements_are_bytes;
 use std::alloc::Global;
 use zarrs_array_bytes::ArrayBytes;
+use zarrs_chain_parts::machine_bytes::elements_are_bytes;
 use zarrs_chunk::{CodecError, Indexer};
 use zarrs_codec::{BytesPartialEncoderTraits, BytesToBytesCodecTraits};
 
@@ -19,11 +19,12 @@ pub enum Edit<'a> {
     Erase,
 }
 
-/// How far a list of edits came: how many were accepted, all of them before the one that was refused,
-/// and why that one was.
+/// How far a list of edits came.
 #[derive(Clone, Copy, Debug, PartialEq, Eq)]
 pub struct EditOutcome {
+    /// How many were accepted, all of them before the one that was refused.
     pub done: usize,
+    /// Why that one was refused; `None` where all were accepted.
     pub refusal: Option<CodecError>,
 }
 
@@ -35,7 +36,7 @@ fn apply<H: BytesPartialEncoderTraits, B: BytesToBytesCodecTraits>(
 ) -> Result<(), CodecError>
     ensures answer { EncoderEdits H.state B.functions encoder.old encoder.new edit.now result }
     ensures left { EncoderWrites H.state H.lent H.atomic encoder.old encoder.new result }
-    ensures bytes { EditHasBytes edit.now }
+    ensures edit_bytes { EditHasBytes edit.now }
 {
     match edit {
         Edit::Encode(indexer, elements) => {
@@ -53,9 +54,12 @@ fn apply<H: BytesPartialEncoderTraits, B: BytesToBytesCodecTraits>(
 /// the accepted ones left, but where that call is refused and the handle isn't atomic. It takes no
 /// memory of its own.
 ///
-/// An edit is refused, a want of memory and a failure of the handle aside, exactly where the indexer is
-/// out of bounds, the new elements don't fit it, or no value is written for the chunk with them. Only a
-/// failure of the handle refuses an erase.
+/// Refusals of an edit are those of `ArrayPartialEncoder::partial_encode`, and of an erase
+/// `Storage` alone. From nothing, or from a value that is written for a chunk, an edit is refused,
+/// a want of memory and a failure of the handle aside, exactly where the indexer is out of bounds,
+/// the new elements don't fit it, or no value is written for the chunk with them. Over any other
+/// value one is also refused where the value stands for no chunk, but over `bytes` without bytes
+/// codecs.
 pub fn run_edits<H: BytesPartialEncoderTraits, B: BytesToBytesCodecTraits>(
     alloc: Global,
     encoder: &mut ArrayPartialEncoder<'_, H, B>,
@@ -65,7 +69,7 @@ pub fn run_edits<H: BytesPartialEncoderTraits, B: BytesToBytesCodecTraits>(
     ensures all_done { is_none result.refusal ≡ (result.done == length edits.now) }
     ensures edits { EncoderRuns H.state H.atomic B.functions
         encoder.old encoder.new edits.now result }
-    ensures kept { EncoderKeeps H.lent encoder.old encoder.new }
+    ensures encoder_kept { EncoderKeeps H.lent encoder.old encoder.new }
 {
     encoder.is_sound();
     let mut done = 0;

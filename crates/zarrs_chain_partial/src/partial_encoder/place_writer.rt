@@ -8,8 +8,7 @@ ghost use Rattle.zarrs_chunk.specs.Selection.{subset as subset_of, bounds_of};
 ghost use Rattle.zarrs_chunk.specs.Tuples.{is_box_inside};
 ghost use Rattle.zarrs_array_bytes.specs.Validity.{data_fit};
 ghost use Rattle.zarrs_codec.specs.ArrayWriter.{IsRefusedWrite};
-ghost use Rattle.zarrs_codec.specs.CodersOverHandles.{OnlyWrites};
-ghost use Rattle.zarrs_chain_partial.specs.PartialEncoder.{HandleWrites};
+ghost use Rattle.zarrs_codec.specs.CodersOverHandles.{HandleWrites, OnlyWrites};
 ghost use Rattle.zarrs_codec.specs.ChunkEdits.{data_checked};
 ghost use Rattle.zarrs_codec.specs.StorageState.{after_writing, apart_from_value};
 ghost use Rattle.zarrs_codec_chain.specs.ChainView.{plain_chain, plain_codec};
@@ -87,7 +86,7 @@ impl<'a, B: BytesToBytesCodecTraits> ChunkReader<'a, B> {
         region: &ArraySubset,
         elements: &'e ArrayBytes<'_>,
     ) -> Result<ArrayBytes<'e>, CodecError>
-        requires in_place { form_in_place (reader_form self.now) ≡ Some codec.now }
+        requires writes_in_place { form_in_place (reader_form self.now) ≡ Some codec.now }
         requires inside { is_box_inside self.now.shape region.now.starts region.now.lengths ≡ true }
         ensures checked { seen (λ _. tt) result ≡
             form_checked (reader_form self.now) (subset_of region.now) elements.now }
@@ -112,11 +111,11 @@ impl<'a, B: BytesToBytesCodecTraits> ChunkReader<'a, B> {
         region: &ArraySubset,
         elements: &'e ArrayBytes<'_>,
     ) -> Result<(Vec<(u64, u64)>, ArrayBytes<'e>), CodecError>
-        requires in_place { form_in_place (reader_form self.now) ≡ Some codec.now }
+        requires writes_in_place { form_in_place (reader_form self.now) ≡ Some codec.now }
         requires inside { is_box_inside self.now.shape region.now.starts region.now.lengths ≡ true }
         requires filled { 0 < product region.now.lengths }
-        requires kept { keeps_regions (plain_chain self.now.chain.now).arrays ≡ true }
-        ensures left { IfOk result (λ there. LeavesThere B.functions (reader_form self.now)
+        requires region_kept { keeps_regions (plain_chain self.now.chain.now).arrays ≡ true }
+        ensures same_edit { IfOk result (λ there. LeavesThere B.functions (reader_form self.now)
             self.now.encoded codec.now (subset_of region.now) elements.now there.0.items there.1) }
         ensures checked { Answers memory (λ _. tt) result
             (form_checked (reader_form self.now) (subset_of region.now) elements.now) }
@@ -153,10 +152,10 @@ impl<'a, B: BytesToBytesCodecTraits> ChunkReader<'a, B> {
         region: &ArraySubset,
         elements: &ArrayBytes<'_>,
     ) -> Result<(), CodecError>
-        requires in_place { form_in_place (reader_form self.now) ≡ Some codec.now }
+        requires writes_in_place { form_in_place (reader_form self.now) ≡ Some codec.now }
         requires inside { is_box_inside self.now.shape region.now.starts region.now.lengths ≡ true }
         requires filled { 0 < product region.now.lengths }
-        requires kept { keeps_regions (plain_chain self.now.chain.now).arrays ≡ true }
+        requires region_kept { keeps_regions (plain_chain self.now.chain.now).arrays ≡ true }
         ensures writes { WritesChunk B.functions (reader_form self.now) (Some codec.now)
             (H.state handle.old) (H.state handle.new)
             (subset_of region.now) elements.now result }
@@ -185,7 +184,7 @@ impl<'a, B: BytesToBytesCodecTraits> ChunkReader<'a, B> {
         indexer: &Indexer,
         elements: &ArrayBytes<'_>,
     ) -> Result<(), CodecError>
-        requires in_place { form_in_place (reader_form self.now) ≡ Some codec.now }
+        requires writes_in_place { form_in_place (reader_form self.now) ≡ Some codec.now }
         ensures writes { WritesChunk B.functions (reader_form self.now) (Some codec.now)
             (H.state handle.old) (H.state handle.new)
             (selection_of indexer.now) elements.now result }

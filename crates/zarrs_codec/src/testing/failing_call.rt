@@ -78,8 +78,8 @@ impl FailingCall {
         ensures in_turn { FailsInTurn result (turn_of self.old) (turn_of self.new) }
         ensures faults { self.new.faults ≡ count_if (is_fault result) self.old.faults }
         ensures failure { self.new.failure ≡ last_failure result self.old.failure }
-        ensures writes { self.new.write_calls ≡ self.old.write_calls }
-        ensures accepted { self.new.accepted_writes ≡ self.old.accepted_writes }
+        ensures writes_kept { self.new.write_calls ≡ self.old.write_calls }
+        ensures accepted_kept { self.new.accepted_writes ≡ self.old.accepted_writes }
     {
         match self.next() {
             None => Ok(()),

@@ -27,6 +27,7 @@ use Rattle.zarrs_codec_chain.specs.declared.vlen_codec.VlenCodec.{out-VlenCodec}
 use Rattle.zarrs_chain_parts.specs.Encode.{byte_elements}
 use Rattle.zarrs_codec_chain.specs.declared.optional_codec.OptionalCodec.{out-OptionalCodec}
 use Rattle.zarrs_codec_chain.proofs.OptionalRoom.{mask_long}
+use Rattle.zarrs_codec_chain.proofs.TakenBlank.{vlen_blank}
 use Rattle.zarrs_codec_chain.proofs.+decode.Goals as goal
 
 pub decode::chain_decode-returns : goal.decode::chain_decode-returns
@@ -41,10 +42,11 @@ decode::chain_decode-returns g t c =
             let fill = c.args.fill_value.now in
             let taken = c.in_ok-taken.taken in
             let opened = subst (λ bs. outer_bytes f bs taken.representation (raw_of c.args.value).items ≡ Ok (raw_of c.in_ok-below.below).items) c.deref.ensures.value c.in_ok-below.ensures.answer.is in
-            let found = subst (λ (cs : List ArrayToArrayCodec). IfOk (decoded_chunk (Ok tt) (arrays_map type (map mapping_of cs) sizes) type sizes c.in_ok-chunk.chunk) (λ chunk. AnswersBy memory (Holds type) c.decode_arrays.result (Ok chunk))) c.deref-2.ensures.value c.decode_arrays.ensures.found in
+            let found = subst (λ (cs : List ArrayToArrayCodec). IfOk (decoded_chunk (Ok tt) (arrays_map type (map mapping_of cs) sizes) type sizes c.in_ok-chunk.chunk) (λ chunk. AnswersBy memory (Holds type) c.decode_arrays.result (Ok chunk))) c.deref-2.ensures.value c.decode_arrays.ensures.moved in
             chunk_back f chain.arrays chain.codec chain.outer sizes type fill (taken.shape, taken.representation) (raw_of c.args.value).items (raw_of c.in_ok-below.below).items c.in_ok-chunk.chunk c.decode_arrays.result c.in_ok-taken.ensures.map c.in_ok-taken.ensures.answer.is opened c.in_ok-chunk.ensures.answer.is found;
         no_fault = search rules;
       };
+      blank = c.decode_arrays.ensures.blank c.in_ok-chunk.ensures.blank;
     }
 
 pub decode::part_decode-returns : goal.decode::part_decode-returns
@@ -52,9 +54,10 @@ decode::part_decode-returns g t c =
     record {
       exact = record {
         is =
-            chunk_of_none c.new_fill_value.result (chain_chunk g.B.BytesToBytesCodecTraits.functions (plain_chain c.args.chain.now)) c.args.count c.args.data_type.now c.args.fill_value.now (raw_of c.args.part).items (subst (λ row. ok (row_sizes c.args.count) ≡ ok row) c.in-None.is c.in_ok-row.ensures.answer.is) c.requires.fits c.new_fill_value.ensures.exact.is;
+            chunk_of_none c.new_fill_value.result (chain_chunk g.B.BytesToBytesCodecTraits.functions (plain_chain c.args.chain.now)) c.args.count c.args.data_type.now c.args.fill_value.now (raw_of c.args.part).items (subst (λ row. ok (row_sizes c.args.count) ≡ ok row) c.in-None.is c.in_ok-row.ensures.answer.is) c.requires.filling c.new_fill_value.ensures.exact.is;
         no_fault = search rules;
       };
+      blank = c.new_fill_value.ensures.blank;
     }
 
 pub vlen_codec::content_decode-returns-clause-answer : goal.vlen_codec::content_decode-returns-clause-answer
@@ -66,8 +69,8 @@ vlen_codec::content_decode-returns-clause-answer g t c =
       no_fault = search rules;
     }
 
-pub vlen_codec::content_decode-returns-clause-long : goal.vlen_codec::content_decode-returns-clause-long
-vlen_codec::content_decode-returns-clause-long g t c =
+pub vlen_codec::content_decode-returns-clause-len : goal.vlen_codec::content_decode-returns-clause-len
+vlen_codec::content_decode-returns-clause-len g t c =
     let read = rw c.uint8.ensures.made at c.in_ok-bytes.ensures.exact.is in
     content_counted raw_of c.into_fixed.result g.B.BytesToBytesCodecTraits.functions (plain_chain c.args.chain.now) c.args.count (raw_of c.args.part).items c.in_ok-bytes.bytes c.in_ok-fill_value.fill_value c.in_ok-fill_value.ensures.answer read c.into_fixed.ensures.answer
 
@@ -92,6 +95,7 @@ optional_codec::present_decode-returns-in_err-count g t c =
             rw (p.1, p.2) (λ ne. mask_refused decode c.args.data_type.now (raw_of c.args.mask).items (raw_of c.args.part).items c.in_err-count.field-0.0 e);
         no_fault = search rules;
       };
+      blank = search rules;
     }
 
 pub optional_codec::present_decode-returns-in_err-present : goal.optional_codec::present_decode-returns-in_err-present
@@ -109,6 +113,7 @@ optional_codec::present_decode-returns-in_err-present g t c =
             part_refused decode type (raw_of c.args.mask).items c.in_ok-count.count part c.in_err-present.field-0.0 e h);
         no_fault = search rules;
       };
+      blank = search rules;
     }
 
 pub optional_codec::present_decode-returns : goal.optional_codec::present_decode-returns
@@ -128,6 +133,7 @@ optional_codec::present_decode-returns g t c =
             part_expanded c.expand_present.result f chain type c.in_ok-present.present mask c.in_ok-count.count part e fits read c.expand_present.ensures.answer.is;
         no_fault = search rules;
       };
+      blank = c.expand_present.ensures.blank c.in_ok-present.ensures.blank;
     }
 
 pub vlen_codec::vlen_decode-returns-in_err-offsets : goal.vlen_codec::vlen_decode-returns-in_err-offsets
@@ -157,6 +163,7 @@ vlen_codec::vlen_decode-returns-in_err-offsets g t c =
             index_refused_by f codec sizes type fill value i d count c.in_err-offsets.field-0.0 parts counted h);
         no_fault = search rules;
       };
+      blank = search rules;
     }
 
 pub vlen_codec::vlen_decode-returns-in_err-bytes : goal.vlen_codec::vlen_decode-returns-in_err-bytes
@@ -188,6 +195,7 @@ vlen_codec::vlen_decode-returns-in_err-bytes g t c =
             content_refused_by f codec sizes type fill value i d offsets count c.in_err-bytes.field-0.0 parts counted first h);
         no_fault = search rules;
       };
+      blank = search rules;
     }
 
 pub vlen_codec::vlen_decode-returns : goal.vlen_codec::vlen_decode-returns
@@ -219,10 +227,11 @@ vlen_codec::vlen_decode-returns g t c =
             vlen_answered f codec sizes type fill value c.new_vlen.result i d offsets raw count c.requires.taken parts counted first second long c.new_vlen.ensures.answer;
         no_fault = search rules;
       };
+      blank = vlen_blank g.B.BytesToBytesCodecTraits.functions c.args.codec.now c.args.shape.now c.args.data_type.now c.args.fill_value.now c.new_vlen.result c.requires.taken;
     }
 
-pub optional_codec::optional_decode-has_room-requires-clause-long : goal.optional_codec::optional_decode-has_room-requires-clause-long
-optional_codec::optional_decode-has_room-requires-clause-long g t c =
+pub optional_codec::optional_decode-has_room-requires-clause-len : goal.optional_codec::optional_decode-has_room-requires-clause-len
+optional_codec::optional_decode-has_room-requires-clause-len g t c =
     let f = g.B.BytesToBytesCodecTraits.functions in
     let mask_chain = plain_chain (out-OptionalCodec _ c.args.codec.now).mask_codecs.value in
     let part = (raw_of c.in_ok-mask_part.mask_part).items in

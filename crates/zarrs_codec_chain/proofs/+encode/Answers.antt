@@ -38,7 +38,7 @@ encode::chain_encode-returns-in_err-below g t c =
             let type = c.args.data_type.now in
             let fill = c.args.fill_value.now in
             let taken = c.in_ok-taken.taken in
-            let found = subst (λ (cs : List ArrayToArrayCodec). IfOk (encoded_chunk (Ok tt) (arrays_map type (map mapping_of cs) sizes) type sizes c.args.elements) (λ chunk. Holds type c.in_ok-chunk.chunk chunk)) c.deref.ensures.value c.in_ok-chunk.ensures.found in
+            let found = subst (λ (cs : List ArrayToArrayCodec). IfOk (encoded_chunk (Ok tt) (arrays_map type (map mapping_of cs) sizes) type sizes c.args.elements) (λ chunk. Holds type c.in_ok-chunk.chunk chunk)) c.deref.ensures.value c.in_ok-chunk.ensures.moved in
             let p = err_from_is_err_and c.from_residual-in_err-below.result c.from_residual-in_err-below.ensures.1 in
             rw (p.1, p.2) (value_refused f chain sizes type fill (taken.shape, taken.representation) c.args.elements c.in_ok-chunk.chunk c.in_err-below.field-0.0 c.in_ok-taken.ensures.map c.in_ok-taken.ensures.answer.is c.in_ok-taken.ensures.counted (sym c.in_ok-check_elements.ensures.answer) found c.in_err-below.ensures.answer.is);
         no_fault = search rules;
@@ -56,7 +56,7 @@ encode::chain_encode-returns g t c =
             let type = c.args.data_type.now in
             let fill = c.args.fill_value.now in
             let taken = c.in_ok-taken.taken in
-            let found = subst (λ (cs : List ArrayToArrayCodec). IfOk (encoded_chunk (Ok tt) (arrays_map type (map mapping_of cs) sizes) type sizes c.args.elements) (λ chunk. Holds type c.in_ok-chunk.chunk chunk)) c.deref.ensures.value c.in_ok-chunk.ensures.found in
+            let found = subst (λ (cs : List ArrayToArrayCodec). IfOk (encoded_chunk (Ok tt) (arrays_map type (map mapping_of cs) sizes) type sizes c.args.elements) (λ chunk. Holds type c.in_ok-chunk.chunk chunk)) c.deref.ensures.value c.in_ok-chunk.ensures.moved in
             let last = subst (λ bs. Answers memory (λ value. (raw_of value).items) c.encode_bytes.result (outer_value f bs (raw_of c.in_ok-below.below).items)) c.deref-2.ensures.value c.encode_bytes.ensures.answer.is in
             value_last (λ value. (raw_of value).items) c.encode_bytes.result f chain sizes type fill (taken.shape, taken.representation) c.args.elements c.in_ok-chunk.chunk (raw_of c.in_ok-below.below).items c.in_ok-taken.ensures.map c.in_ok-taken.ensures.answer.is c.in_ok-taken.ensures.counted (sym c.in_ok-check_elements.ensures.answer) found c.in_ok-below.ensures.answer.is last;
         no_fault = search rules;
@@ -70,7 +70,7 @@ optional_codec::mask_encode-returns g t c =
         is =
             let f = g.B.BytesToBytesCodecTraits.functions in
             let here : Answers memory (λ value. (raw_of value).items) c.chain_encode.result (held_value f (plain_chain c.args.chain.now) c.args.shape.now flag_type (0 ∷ []) (flen (raw_of c.args.mask))) = search rules in
-            mask_answers (λ value. (raw_of value).items) c.chain_encode.result f (plain_chain c.args.chain.now) c.args.shape.now (0 ∷ []) (raw_of c.args.mask) c.requires.long c.requires.counted here;
+            mask_answers (λ value. (raw_of value).items) c.chain_encode.result f (plain_chain c.args.chain.now) c.args.shape.now (0 ∷ []) (raw_of c.args.mask) c.requires.len c.requires.counted here;
         no_fault = search rules;
       };
     }
@@ -114,7 +114,7 @@ optional_codec::content_encode-returns-in_err-data_part g t c =
             let first : chain_value f (plain_chain (out-OptionalCodec _ c.args.codec.now).mask_codecs.value) c.args.shape.now flag_type (0 ∷ []) (byte_elements mask.items) ≡ Ok (raw_of c.in_ok-mask_part.mask_part).items = search rules in
             rw (p.1, p.2) (λ ne.
             let h : held_part f (plain_chain (out-OptionalCodec _ c.args.codec.now).data_codecs.value) c.in_ok-inside.count inner (blank_fill inner) c.in_ok-present.present ≡ Err c.in_err-data_part.field-0.0 = search rules in
-            part_refused_at f c.args.codec.now c.args.shape.now (raw_of c.in_ok-mask_part.mask_part).items inner c.args.elements c.in_ok-inside.inside c.in_ok-present.present mask c.in_ok-inside.count c.in_err-data_part.field-0.0 c.in_ok-inside.ensures.parts c.in_ok-inside.ensures.flags c.requires.valid c.in_ok-inside.ensures.counted taken first h);
+            part_refused_at f c.args.codec.now c.args.shape.now (raw_of c.in_ok-mask_part.mask_part).items inner c.args.elements c.in_ok-inside.inside c.in_ok-present.present mask c.in_ok-inside.count c.in_err-data_part.field-0.0 c.in_ok-inside.ensures.parts c.in_ok-inside.ensures.flags c.requires.valid c.in_ok-inside.ensures.count taken first h);
         no_fault = search rules;
       };
     }

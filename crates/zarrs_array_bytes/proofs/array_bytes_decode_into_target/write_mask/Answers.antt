@@ -31,5 +31,5 @@ returns-clause-written c =
     ∙ levels_written view_of c.args.masks.now c.args.level c.index-masks-level.result c.write.new.self c.args.elements.now c.requires.level
     (c.write.ensures.written ∙ ap (written_view (view_of (get_or c.args.masks.now c.args.level c.index-masks-level.result))) c.optional_parts.ensures.bytes)
 
-pub returns-clause-names : goal.returns-clause-names
-returns-clause-names c = map-set_same view_name c.args.masks.now c.args.level c.write.new.self c.index-masks-level.result c.write.ensures.same_reference
+pub returns-clause-mask_names : goal.returns-clause-mask_names
+returns-clause-mask_names c = map-set_same view_name c.args.masks.now c.args.level c.write.new.self c.index-masks-level.result c.write.ensures.same_reference

@@ -6,8 +6,8 @@ use Rattle.zarrs_array_bytes.specs.Pieces.{ends}
 use Rattle.zarrs_array_bytes.proofs.RunLemmas.{run_offsets_behind, run_offsets_fit, ends_of_run}
 use Rattle.zarrs_array_bytes.proofs.gather.append_cuts.Goals as goal
 
-pub append_moved-requires-clause-behind : goal.append_moved-requires-clause-behind
-append_moved-requires-clause-behind c = run_offsets_behind c.args.offsets.now c.requires.rising c.args.first c.args.count c.requires.inside
+pub append_moved-requires-clause-above : goal.append_moved-requires-clause-above
+append_moved-requires-clause-above c = run_offsets_behind c.args.offsets.now c.requires.rising c.args.first c.args.count c.requires.inside
 
 pub append_moved-requires-clause-fits : goal.append_moved-requires-clause-fits
 append_moved-requires-clause-fits c =

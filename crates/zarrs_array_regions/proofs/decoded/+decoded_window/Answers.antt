@@ -36,25 +36,25 @@ decoded_part-requires-in-Some-clause-valid t c =
     let s = codec_step codecs first (omega arith) c.first-item.is c.args.shape.now c.args.region.now c.requires.region c.is_sound.ensures.sound _ next ((c.in_ok-next_window-in-len1-up.ensures {u = tt}).answer.is) c.in-Some.is in
     below_valid (map mapping_of codecs) (map mapping_of (rest_of codecs)) (mapping_of first) c.args.shape.now c.args.region.now next s c.args.data_type.now c.args.held c.in_ok-held-in-Some.held ((c.in_ok-held-in-Some.ensures {u = tt}).decoded.is)
 
-pub returns-in-empty : goal.returns-in-empty
-returns-in-empty t c =
-    record { decoded = record { is = decoded_stay (map mapping_of c.args.codecs.now) c.args.shape.now c.args.region.now c.args.data_type.now c.args.held (none_stay c.args.codecs.now c.args.shape.now c.args.region.now c.in-empty.len_below) c.requires.valid; no_fault = search rules } }
+pub returns-in-empty-clause-decoded : goal.returns-in-empty-clause-decoded
+returns-in-empty-clause-decoded t c =
+    record { is = decoded_stay (map mapping_of c.args.codecs.now) c.args.shape.now c.args.region.now c.args.data_type.now c.args.held (none_stay c.args.codecs.now c.args.shape.now c.args.region.now c.in-empty.len_below) c.requires.valid; no_fault = search rules }
 
-pub returns-in-len1 : goal.returns-in-len1
-returns-in-len1 t c =
+pub returns-in-len1-clause-decoded : goal.returns-in-len1-clause-decoded
+returns-in-len1-clause-decoded t c =
     let codecs = c.args.codecs.now in
-    record { decoded = decoded_last (map mapping_of codecs) (mapping_of c.last-item.result) c.args.shape.now c.args.region.now c.args.data_type.now c.args.held c.decoded_part.result (one_mapping codecs c.last-item.result (omega arith) c.last-item.is) c.decoded_part.ensures.decoded }
+    decoded_last (map mapping_of codecs) (mapping_of c.last-item.result) c.args.shape.now c.args.region.now c.args.data_type.now c.args.held c.decoded_part.result (one_mapping codecs c.last-item.result (omega arith) c.last-item.is) c.decoded_part.ensures.decoded
 
-pub returns-in-None : goal.returns-in-None
-returns-in-None t c =
+pub returns-in-None-clause-decoded : goal.returns-in-None-clause-decoded
+returns-in-None-clause-decoded t c =
     let codecs = c.args.codecs.now in
     let stays = codec_stays codecs c.first-item.result (omega arith) c.first-item.is c.args.shape.now c.args.region.now c.requires.region _ ((c.in_ok-next_window-in-len1-up.ensures {u = tt}).answer.is) c.in-None.is in
-    record { decoded = record { is = decoded_stay (map mapping_of codecs) c.args.shape.now c.args.region.now c.args.data_type.now c.args.held stays c.requires.valid; no_fault = search rules } }
+    record { is = decoded_stay (map mapping_of codecs) c.args.shape.now c.args.region.now c.args.data_type.now c.args.held stays c.requires.valid; no_fault = search rules }
 
-pub returns-in_ok-held-in-Some : goal.returns-in_ok-held-in-Some
-returns-in_ok-held-in-Some t c =
+pub returns-in_ok-held-in-Some-clause-decoded : goal.returns-in_ok-held-in-Some-clause-decoded
+returns-in_ok-held-in-Some-clause-decoded t c =
     let codecs = c.args.codecs.now in
     let first = c.first-item.result in
     let next = c.in-Some.next in
     let s = codec_step codecs first (omega arith) c.first-item.is c.args.shape.now c.args.region.now c.requires.region c.is_sound.ensures.sound _ next ((c.in_ok-next_window-in-len1-up.ensures {u = tt}).answer.is) c.in-Some.is in
-    record { decoded = decoded_here (map mapping_of codecs) (map mapping_of (rest_of codecs)) (mapping_of first) c.args.shape.now c.args.region.now next s c.args.data_type.now c.args.held c.in_ok-held-in-Some.held ((c.in_ok-held-in-Some.ensures {u = tt}).decoded.is) c.decoded_part-in-Some.result c.decoded_part-in-Some.ensures.decoded }
+    decoded_here (map mapping_of codecs) (map mapping_of (rest_of codecs)) (mapping_of first) c.args.shape.now c.args.region.now next s c.args.data_type.now c.args.held c.in_ok-held-in-Some.held ((c.in_ok-held-in-Some.ensures {u = tt}).decoded.is) c.decoded_part-in-Some.result c.decoded_part-in-Some.ensures.decoded

@@ -19,7 +19,7 @@ returns-in-Some-clause-places c =
     ∙ behind-more axes both (0 ∷ [])
     ∙ ap₂ (λ (step size : ℕ). next_rows step size places) c.in-Some.ensures.step c.in-Some.ensures.size
     ∙ sym (joined_rows second.step second.size first.size places)
-    ∙ ap (λ (step : ℕ). next_rows second.step second.size (next_rows step first.size places)) (sym c.in-Some.ensures.apart)
+    ∙ ap (λ (step : ℕ). next_rows second.step second.size (next_rows step first.size places)) (sym c.in-Some.ensures.adjoining)
     ∙ ap (next_rows second.step second.size) (sym (behind-more axes first (0 ∷ []))))
     c.push_one.ensures
 
@@ -30,7 +30,7 @@ returns-in-Some-clause-reach c =
     let second = c.args.second in
     let both = c.in-Some.both in
     let near : (both.size - 1) * both.step ≤ (first.size - 1) * first.step + (second.size - 1) * second.step =
-    rw (c.in-Some.ensures.size, c.in-Some.ensures.step, c.in-Some.ensures.apart) (joined_reach second.step second.size first.size) in
+    rw (c.in-Some.ensures.size, c.in-Some.ensures.step, c.in-Some.ensures.adjoining) (joined_reach second.step second.size first.size) in
     on_ok_weaker c.push_one.result (λ e. rw e (omega (arith, near, reach-more axes both, reach-more axes first))) c.push_one.ensures
 
 pub returns-in-None-clause-places : goal.returns-in-None-clause-places

@@ -28,7 +28,7 @@ returns c =
     record {
       answer = record {
         is = ap (λ tuples. Ok tuples)
-            (box_ordered order starts lengths c.args.count (sym c.requires.axes) c.requires.known
+            (box_ordered order starts lengths c.args.count (sym c.requires.axes) c.requires.count
             ∙ ap (λ n. map (λ number. permuted order (box_tuple starts lengths number)) (range_with_len 0 n)) (sym all)
             ∙ sym c.loop-number.invariant);
         no_fault = search rules;

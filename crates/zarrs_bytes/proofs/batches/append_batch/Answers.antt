@@ -12,7 +12,7 @@ returns-in_err-partial_decode_many-clause-answer g c =
     let e = c.in_err-partial_decode_many.field-0.0 in
     let stored = (g.H.BytesPartialDecoderTraits.state c.args.handle.now).value in
     rw (p.1, p.2) (Excused-weaker (memory_or_fault e)
-    (batch_refused c.args.size stored c.args.elements.now.items (joined_runs c.args.runs.now) c.in_ok-ranges.ranges.items c.as_slice.result.now e c.as_slice.ensures.value c.requires.positive c.in_ok-ranges.ensures.bytes c.in_ok-ranges.ensures.filled)
+    (batch_refused c.args.size stored c.args.elements.now.items (joined_runs c.args.runs.now) c.in_ok-ranges.ranges.items c.as_slice.result.now e c.as_slice.ensures.value c.requires.sized c.in_ok-ranges.ensures.bytes c.in_ok-ranges.ensures.filled)
     c.in_err-partial_decode_many.ensures.answer)
 
 pub returns-clause-answer : goal.returns-clause-answer
@@ -20,4 +20,4 @@ returns-clause-answer g c =
     let stored = (g.H.BytesPartialDecoderTraits.state c.args.handle.now).value in
     let read = rw c.in-Some.is at c.in_ok-partial_decode_many.ensures.answer in
     let is = c.in_ok-extend_from_slice-in-Some.ensures.items ∙ ap (λ xs. c.args.elements.now.items ++ xs) c.as_slice-in-Some.ensures.value in
-    batch_appended c.args.size stored c.args.elements.now.items c.in-Some.bytes.items c.extend_from_slice.new.self.items (joined_runs c.args.runs.now) c.in_ok-ranges.ranges.items c.as_slice.result.now c.as_slice.ensures.value c.requires.positive c.in_ok-ranges.ensures.bytes c.in_ok-ranges.ensures.filled read is
+    batch_appended c.args.size stored c.args.elements.now.items c.in-Some.bytes.items c.extend_from_slice.new.self.items (joined_runs c.args.runs.now) c.in_ok-ranges.ranges.items c.as_slice.result.now c.as_slice.ensures.value c.requires.sized c.in_ok-ranges.ensures.bytes c.in_ok-ranges.ensures.filled read is

@@ -12,7 +12,7 @@ returns-in_err-partial_decode_many-clause-answer g c =
     let e = c.in_err-partial_decode_many.field-0.0 in
     let stored = (g.H.BytesPartialDecoderTraits.state c.args.handle.now).value in
     rw (p.1, p.2) (Excused-weaker (memory_or_fault e)
-    (first_refused c.args.size stored c.args.runs.now c.split_at.result.0.now c.split_at.result.1.now c.in_ok-ranges.ranges.items c.as_slice.result.now e c.split_at.ensures.by_index.0 c.as_slice.ensures.value c.requires.positive c.in_ok-ranges.ensures.bytes c.in_ok-ranges.ensures.filled)
+    (first_refused c.args.size stored c.args.runs.now c.split_at.result.0.now c.split_at.result.1.now c.in_ok-ranges.ranges.items c.as_slice.result.now e c.split_at.ensures.by_index.0 c.as_slice.ensures.value c.requires.sized c.in_ok-ranges.ensures.bytes c.in_ok-ranges.ensures.filled)
     c.in_err-partial_decode_many.ensures.answer)
 
 pub returns-in_err-append_batches-in-Some-clause-answer : goal.returns-in_err-append_batches-in-Some-clause-answer
@@ -21,12 +21,12 @@ returns-in_err-append_batches-in-Some-clause-answer g c =
     let e = c.in_err-append_batches-in-Some.field-0.0 in
     let D = g.H.BytesPartialDecoderTraits in
     let read = rw c.in-Some.is at c.in_ok-partial_decode_many.ensures.answer in
-    let same = first_then_rest c.args.size (D.state c.args.handle.now).value (D.state c.partial_decode_many.new.self).value c.in-Some.bytes.items c.reserve_exact.new.self.items c.args.runs.now c.split_at.result.0.now c.split_at.result.1.now c.in_ok-ranges.ranges.items c.as_slice.result.now c.split_at.ensures.by_index.0 c.as_slice.ensures.value c.requires.positive c.in_ok-ranges.ensures.bytes c.in_ok-ranges.ensures.filled read c.in_ok-reserve_exact-in-Some.ensures.items (ap (λ (s : StorageState). s.value) c.in_ok-partial_decode_many.ensures.left) in
+    let same = first_then_rest c.args.size (D.state c.args.handle.now).value (D.state c.partial_decode_many.new.self).value c.in-Some.bytes.items c.reserve_exact.new.self.items c.args.runs.now c.split_at.result.0.now c.split_at.result.1.now c.in_ok-ranges.ranges.items c.as_slice.result.now c.split_at.ensures.by_index.0 c.as_slice.ensures.value c.requires.sized c.in_ok-ranges.ensures.bytes c.in_ok-ranges.ensures.filled read c.in_ok-reserve_exact-in-Some.ensures.items (ap (λ (s : StorageState). s.value) c.in_ok-partial_decode_many.ensures.left) in
     rw (p.1, p.2) (Excused-weaker (memory_or_fault e) (λ h. sym same ∙ h) c.in_err-append_batches-in-Some.ensures.answer)
 
 pub returns-clause-answer : goal.returns-clause-answer
 returns-clause-answer g c =
     let D = g.H.BytesPartialDecoderTraits in
     let read = rw c.in-Some.is at c.in_ok-partial_decode_many.ensures.answer in
-    let same = first_then_rest c.args.size (D.state c.args.handle.now).value (D.state c.partial_decode_many.new.self).value c.in-Some.bytes.items c.reserve_exact.new.self.items c.args.runs.now c.split_at.result.0.now c.split_at.result.1.now c.in_ok-ranges.ranges.items c.as_slice.result.now c.split_at.ensures.by_index.0 c.as_slice.ensures.value c.requires.positive c.in_ok-ranges.ensures.bytes c.in_ok-ranges.ensures.filled read c.in_ok-reserve_exact-in-Some.ensures.items (ap (λ (s : StorageState). s.value) c.in_ok-partial_decode_many.ensures.left) in
+    let same = first_then_rest c.args.size (D.state c.args.handle.now).value (D.state c.partial_decode_many.new.self).value c.in-Some.bytes.items c.reserve_exact.new.self.items c.args.runs.now c.split_at.result.0.now c.split_at.result.1.now c.in_ok-ranges.ranges.items c.as_slice.result.now c.split_at.ensures.by_index.0 c.as_slice.ensures.value c.requires.sized c.in_ok-ranges.ensures.bytes c.in_ok-ranges.ensures.filled read c.in_ok-reserve_exact-in-Some.ensures.items (ap (λ (s : StorageState). s.value) c.in_ok-partial_decode_many.ensures.left) in
     sym same ∙ c.in_ok-append_batches-in-Some.ensures.answer

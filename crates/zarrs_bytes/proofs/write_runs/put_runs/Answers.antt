@@ -27,5 +27,5 @@ pub returns-clause-written : goal.returns-clause-written
 returns-clause-written g c =
     let bytes = c.args.bytes.now in
     let value = value_or_empty (g.H.BytesPartialDecoderTraits.state c.args.handle.now).value in
-    let written = byte_runs-written c.args.size c.args.runs.items value bytes c.requires.positive c.requires.filled in
+    let written = byte_runs-written c.args.size c.args.runs.items value bytes c.requires.sized c.requires.filled in
     subst (λ (left : List ℕ). OnOk c.partial_encode_many.result ((g.H.BytesPartialDecoderTraits.state c.partial_encode_many.new.self).value ≡ Some left)) (ap (λ pieces. with_pieces value pieces bytes) (pieces_are g c) ∙ written) c.partial_encode_many.ensures.written

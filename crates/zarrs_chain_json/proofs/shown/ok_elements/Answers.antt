@@ -14,4 +14,4 @@ ok_line-requires c =
 pub returns : goal.returns
 returns c =
     let shown : map view c.in_ok-values.values.items ≡ map (λ place. element_tree (element_at c.args.data_type.now c.args.elements.now place)) (range_with_len 0 c.in_ok-count.count) = cc (c.in_ok-values.ensures) in
-    record { answer = λ chunk holds. ap Ok (shown_line c.args.data_type.now c.args.elements.now chunk c.count.result c.in_ok-count.count c.in_ok-values.values c.in_ok-line.line.items holds c.count.ensures.counted c.in_ok-count.was shown c.in_ok-line.ensures.value) }
+    record { answer = λ chunk holds. ap Ok (shown_line c.args.data_type.now c.args.elements.now chunk c.count.result c.in_ok-count.count c.in_ok-values.values c.in_ok-line.line.items holds c.count.ensures.count c.in_ok-count.was shown c.in_ok-line.ensures.value) }

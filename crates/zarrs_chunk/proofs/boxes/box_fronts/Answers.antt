@@ -22,7 +22,7 @@ loop-axis-preserved c =
       fits = IsFitting-more c.args.sizes.now c.args.starts.now c.args.lengths.now c.loop-axis.fronts.items c.loop-axis.axis (omega arith) c.requires.inside c.loop-axis.invariant.fits;
     })
 
-pub returns-clause-level : goal.returns-clause-level
-returns-clause-level c =
+pub returns-clause-fronts : goal.returns-clause-fronts
+returns-clause-fronts c =
     let e : c.loop-axis.axis ≡ c.args.axes = omega arith in
     rw (← e) c.loop-axis.invariant.places

@@ -18,7 +18,7 @@ returns-clause-places c =
     let n = length c.args.sizes.now in
     let P = λ (v : Vec ℕ Global). numbers_behind (drop n c.args.sizes.now) (drop n c.args.starts.now) (drop n c.args.lengths.now) v.items ≡ box_places c.args.sizes.now c.args.starts.now c.args.lengths.now in
     let Q = λ (v : Vec ℕ Global). v.items ≡ box_places c.args.sizes.now c.args.starts.now c.args.lengths.now in
-    IfOk-weaker c.box_fronts.result P Q (λ v h. sym (numbers_behind-end c.args.sizes.now c.args.starts.now _ v.items n (omega arith) (omega arith)) ∙ h) c.box_fronts.ensures.level
+    IfOk-weaker c.box_fronts.result P Q (λ v h. sym (numbers_behind-end c.args.sizes.now c.args.starts.now _ v.items n (omega arith) (omega arith)) ∙ h) c.box_fronts.ensures.fronts
 
 fitting_below : (total rest : ℕ) (xs : List ℕ) → rest ≡ 1 → IsFitting total rest xs → All (λ p. p < total) xs
 fitting_below total rest xs e h = λ k d l.

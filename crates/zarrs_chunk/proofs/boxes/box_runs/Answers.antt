@@ -103,7 +103,7 @@ returns-clause-places c =
     ∙ ap (rows c.known_product-whole.result) (take_all c.loop-front.front-index c.deref-front-items.result.now (omega arith) ∙ c.deref-front-items.ensures.value)
     ∙ ap (λ whole. rows whole c.in_ok-fronts.fronts.items) whole_is
     ∙ sym (rows_before_whole sizes c.args.starts.now c.args.lengths.now c.in_ok-fronts.fronts.items last axes (omega arith) (omega arith) c.requires.starts c.requires.lengths c.outer_axes-axes.ensures.whole)
-    ∙ c.in_ok-fronts.ensures.level
+    ∙ c.in_ok-fronts.ensures.fronts
 
 pub returns-then-contains-clause-apart : goal.returns-then-contains-clause-apart
 returns-then-contains-clause-apart c = rw c.new.ensures.items AreApart-nil

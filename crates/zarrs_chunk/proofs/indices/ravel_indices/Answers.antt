@@ -15,7 +15,7 @@ returns-in_err-checked_mul c =
     let inside : is_tuple_inside sizes c.args.indices.now ≡ true = cc in
     let h = c.in_err-checked_mul.ensures in
     let none = number_of_tuple-fails sizes c.args.indices.now c.loop-axis.number c.loop-axis.axis inside (omega arith) c.loop-axis.invariant.number (omega (arith, h)) in
-    rw (c.from_residual.ensures, ← c.as_slice-sizes.ensures.sizes) (record { answer = sym none })
+    rw (c.from_residual.ensures, ← c.as_slice-sizes.ensures.value) (record { answer = sym none })
 
 pub returns-in_err-number : goal.returns-in_err-number
 returns-in_err-number c =
@@ -24,7 +24,7 @@ returns-in_err-number c =
     let h = c.in_err-number.ensures in
     let product = c.in_ok-checked_mul.ensures.1 in
     let none = number_of_tuple-fails sizes c.args.indices.now c.loop-axis.number c.loop-axis.axis inside (omega arith) c.loop-axis.invariant.number (omega (arith, h, product)) in
-    rw (c.from_residual-in_err-number.ensures, ← c.as_slice-sizes.ensures.sizes) (record { answer = sym none })
+    rw (c.from_residual-in_err-number.ensures, ← c.as_slice-sizes.ensures.value) (record { answer = sym none })
 
 pub loop-axis-preserved : goal.loop-axis-preserved
 loop-axis-preserved c =
@@ -41,4 +41,4 @@ pub returns : goal.returns
 returns c =
     let sizes = c.as_slice-sizes.result.now in
     let inside : is_tuple_inside sizes c.args.indices.now ≡ true = cc in
-    rw (← c.as_slice-sizes.ensures.sizes) (record { answer = number_of_tuple-end sizes c.args.indices.now c.loop-axis.number c.loop-axis.axis inside (omega arith) (omega arith) c.loop-axis.invariant.number })
+    rw (← c.as_slice-sizes.ensures.value) (record { answer = number_of_tuple-end sizes c.args.indices.now c.loop-axis.number c.loop-axis.axis inside (omega arith) (omega arith) c.loop-axis.invariant.number })

@@ -7,5 +7,5 @@ use Rattle.zarrs_codec_chain.proofs.optional_codec.has_room.Goals as goal
 
 pub returns : goal.returns
 returns g c = record {
-  room = λ small. mask_room g.B.BytesToBytesCodecTraits.functions (plain_optional c.args.codec.now) c.args.shape.now c.args.data_type.now c.args.inner.now c.args.fill_value.now (raw_of c.args.mask.now).items c.optional_is_sound.ensures.mappings (subst (All (λ size. 0 < size)) c.as_slice.ensures.sizes c.as_slice.ensures.positive) c.requires.taken c.requires.inside c.requires.long small;
+  room = λ small. mask_room g.B.BytesToBytesCodecTraits.functions (plain_optional c.args.codec.now) c.args.shape.now c.args.data_type.now c.args.inner.now c.args.fill_value.now (raw_of c.args.mask.now).items c.optional_is_sound.ensures.mappings (subst (All (λ size. 0 < size)) c.as_slice.ensures.value c.as_slice.ensures.positive) c.requires.taken c.requires.inner c.requires.len small;
 }

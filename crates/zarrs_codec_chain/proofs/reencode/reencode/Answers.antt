@@ -18,7 +18,7 @@ returns-in_err-written g c =
     let p = err_from_is_err_and c.from_residual-in_err-written.result c.from_residual-in_err-written.ensures.1 in
     rw (p.1, p.2) (record {
       reencodes = writing_refused g.B.BytesToBytesCodecTraits.functions (plain_chain c.args.from.now) g.C.BytesToBytesCodecTraits.functions (plain_chain c.args.to.now) form c.args.value.now c.in_ok-elements.elements c.in_err-written.field-0.0
-          c.chain_is_sound.ensures.mappings (subst (All (λ size. 0 < size)) c.as_slice.ensures.sizes c.as_slice.ensures.positive) c.in_ok-elements.ensures.decodes c.in_err-written.ensures.encodes;
+          c.chain_is_sound.ensures.mappings (subst (All (λ size. 0 < size)) c.as_slice.ensures.value c.as_slice.ensures.positive) c.in_ok-elements.ensures.decodes c.in_err-written.ensures.encodes;
     })
 
 pub returns : goal.returns
@@ -26,5 +26,5 @@ returns g c =
     let form = form_of c.args.shape.now c.args.data_type.now c.args.fill_value.now in
     record {
       reencodes = value_written g.B.BytesToBytesCodecTraits.functions (plain_chain c.args.from.now) g.C.BytesToBytesCodecTraits.functions (plain_chain c.args.to.now) form c.args.value.now c.in_ok-elements.elements c.in_ok-written.written c.owned.result
-          c.chain_is_sound.ensures.mappings (subst (All (λ size. 0 < size)) c.as_slice.ensures.sizes c.as_slice.ensures.positive) c.in_ok-elements.ensures.decodes c.in_ok-written.ensures.encodes c.owned.ensures.answer;
+          c.chain_is_sound.ensures.mappings (subst (All (λ size. 0 < size)) c.as_slice.ensures.value c.as_slice.ensures.positive) c.in_ok-elements.ensures.decodes c.in_ok-written.ensures.encodes c.owned.ensures.answer;
     }

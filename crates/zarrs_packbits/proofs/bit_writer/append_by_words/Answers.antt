@@ -31,5 +31,5 @@ loop-part-preserved c =
     record {
       bits = λ front h. more_behind front (written_bits c.loop-part.out.items c.loop-part.last c.loop-part.used) (written_bits c.append_bits.new.out.items c.in_ok-more.more c.in_ok-more.reached) (low_bits l.count c.read_within-kept.result) f part
           c.in_ok-more.ensures.bits (c.loop-part.invariant.bits front h) (c.read_within-kept.ensures.bits ∙ cut);
-      reached = record { room = c.in_ok-more.ensures.filled; fits = c.in_ok-more.ensures.word };
+      reached = record { room = c.in_ok-more.ensures.room; fits = c.in_ok-more.ensures.word };
     }

@@ -14,5 +14,5 @@ loop-part-preserved c =
       bits = more_behind (written_bits c.args.out.now.items c.args.word c.args.filled) (written_bits c.loop-part.out.items c.loop-part.last c.loop-part.used) (written_bits c.append_bits.new.out.items c.in_ok-more.more c.in_ok-more.reached) (low_bits (l.first + l.count + l.above) c.component_word-bits.result) f part
           c.in_ok-more.ensures.bits c.loop-part.invariant.bits
           (c.component_word-bits.ensures.bits ∙ ap (full_component l.first l.above l.sign) c.read_bits-kept.ensures.bits);
-      reached = record { room = c.in_ok-more.ensures.filled; fits = c.in_ok-more.ensures.word };
+      reached = record { room = c.in_ok-more.ensures.room; fits = c.in_ok-more.ensures.word };
     }

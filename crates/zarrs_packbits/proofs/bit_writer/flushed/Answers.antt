@@ -8,4 +8,4 @@ returns c =
     let out = c.args.out.items in
     let used = (c.args.filled + 7) / 8 in
     ap bits_of (c.in_ok-extend_from_slice.ensures.items ∙ ap (λ bytes. out ++ take used bytes) c.to_le_bytes.ensures)
-    ∙ flush out c.args.filled c.args.word used (omega (arith, c.requires.filled)) (omega arith) c.requires.word
+    ∙ flush out c.args.filled c.args.word used (omega (arith, c.requires.room)) (omega arith) c.requires.word

@@ -14,8 +14,8 @@ returns-clause-bits c =
     ap (λ (xs : List ℕ). bits_of xs ++ low_bits rest (word / 2 ^ (8 * whole))) (c.in_ok-extend_from_slice.ensures.items ∙ ap (λ (xs : List ℕ). front ++ take whole xs) c.to_le_bytes.ensures)
     ∙ level front filled word whole rest (omega (arith, c.requires.begun.room)) (omega arith)
 
-pub returns-clause-left : goal.returns-clause-left
-returns-clause-left c =
+pub returns-clause-begun : goal.returns-clause-begun
+returns-clause-begun c =
     let filled = c.args.filled in
     let parts : filled ≡ filled % 8 + 8 * (filled / 8) = omega arith in
     let fits : c.args.word < 2 ^ (filled % 8 + 8 * (filled / 8)) = rw (sym parts) c.requires.begun.fits in

@@ -32,5 +32,5 @@ loop-group-preserved c =
     record {
       bits = joined_step l (parts_of l) group lanes c.args.width c.read_within-taken.result c.joined_word-kept.result (written_bits c.args.out.now.items c.args.word c.args.filled) (written_bits c.loop-group.out.items c.loop-group.last c.loop-group.used) (written_bits c.append_bits.new.out.items c.in_ok-more.more c.in_ok-more.reached) c.args.bytes.now
           c.requires.len c.requires.size c.requires.lanes within (omega (arith, c.requires.layout.size, c.requires.size)) c.loop-group.invariant.bits c.in_ok-more.ensures.bits c.joined_word-kept.ensures.bits c.read_within-taken.ensures.bits;
-      reached = record { room = c.in_ok-more.ensures.filled; fits = c.in_ok-more.ensures.word };
+      reached = record { room = c.in_ok-more.ensures.room; fits = c.in_ok-more.ensures.word };
     }

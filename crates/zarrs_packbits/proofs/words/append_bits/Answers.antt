@@ -8,11 +8,11 @@ use Rattle.zarrs_packbits.proofs.LowBits.{append_short, append_short-below, appe
 
 pub returns-then-count-room-clause-bits : goal.returns-then-count-room-clause-bits
 returns-then-count-room-clause-bits c =
-    append_short c.args.filled (64 - c.args.filled) c.args.count c.args.bits c.args.word (bits_of c.args.out.now.items) (omega arith) c.requires.word c.requires.bits (omega arith)
+    append_short c.args.filled (64 - c.args.filled) c.args.count c.args.bits c.args.word (bits_of c.args.out.now.items) (omega arith) c.requires.word c.requires.bits_fit (omega arith)
 
 pub returns-then-count-room-clause-word : goal.returns-then-count-room-clause-word
 returns-then-count-room-clause-word c =
-    append_short-below c.args.filled (64 - c.args.filled) c.args.count c.args.bits c.args.word (omega arith) c.requires.word c.requires.bits (omega arith)
+    append_short-below c.args.filled (64 - c.args.filled) c.args.count c.args.bits c.args.word (omega arith) c.requires.word c.requires.bits_fit (omega arith)
 
 pub returns-clause-bits : goal.returns-clause-bits
 returns-clause-bits c =
@@ -35,6 +35,6 @@ pub returns-clause-word : goal.returns-clause-word
 returns-clause-word c =
     let r = 64 - c.args.filled in
     elim c.if-room-lt64.branch [
-      | then-room-lt64 w ↦ rw w.rest-is (shr_below c.args.bits (c.args.count - r) r (let e : c.args.count - r + r ≡ c.args.count = omega arith in rw e c.requires.bits))
+      | then-room-lt64 w ↦ rw w.rest-is (shr_below c.args.bits (c.args.count - r) r (let e : c.args.count - r + r ≡ c.args.count = omega arith in rw e c.requires.bits_fit))
       | else-room-lt64 w ↦ rw w.rest-is (pow_pos (c.args.count - r))
     ]

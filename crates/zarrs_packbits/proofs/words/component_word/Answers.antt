@@ -14,4 +14,4 @@ returns-clause-bits c =
     ap (low_bits n) c.lowest.ensures
     ∙ low_bits-mod n ((bit_xor x c.weight_of_sign-weight.result + (2 ^ 64 - c.weight_of_sign-weight.result)) % 2 ^ 64 * 2 ^ first % 2 ^ 64)
     ∙ ap (λ w. low_bits n ((bit_xor x w + (2 ^ 64 - w)) % 2 ^ 64 * 2 ^ first % 2 ^ 64)) by
-    ∙ component_is 64 first c.args.count c.args.above x c.args.sign c.requires.some c.requires.fits c.requires.kept
+    ∙ component_is 64 first c.args.count c.args.above x c.args.sign c.requires.some c.requires.fits c.requires.kept_fits

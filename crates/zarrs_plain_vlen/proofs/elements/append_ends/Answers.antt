@@ -5,8 +5,8 @@ use Rattle.zarrs_array_bytes.proofs.RunLemmas.{run_offsets_behind, run_offsets_f
 use Rattle.zarrs_plain_vlen.proofs.ElementBytes.{blank_ends}
 use Rattle.zarrs_plain_vlen.proofs.elements.append_ends.Goals as goal
 
-pub append_moved-requires-clause-behind : goal.append_moved-requires-clause-behind
-append_moved-requires-clause-behind c = rw c.at-from.ensures.value (run_offsets_behind c.args.offsets.now c.requires.rising c.args.first c.args.count c.requires.known)
+pub append_moved-requires-clause-above : goal.append_moved-requires-clause-above
+append_moved-requires-clause-above c = rw c.at-from.ensures.value (run_offsets_behind c.args.offsets.now c.requires.rising c.args.first c.args.count c.requires.known)
 
 pub append_moved-requires-clause-fits : goal.append_moved-requires-clause-fits
 append_moved-requires-clause-fits c = rw c.at-from.ensures.value (run_offsets_fit c.args.offsets.now c.requires.rising c.args.start c.args.first c.args.count (2 ^ 64) c.requires.known c.requires.fits)

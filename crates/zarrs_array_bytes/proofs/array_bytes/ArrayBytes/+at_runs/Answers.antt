@@ -16,7 +16,7 @@ pub gather_cuts-requires-clause-inside : goal.gather_cuts-requires-clause-inside
 gather_cuts-requires-clause-inside t c = λ k d l.
     let seen : c.args.self.now ≡ vlen (raw_of c.in-Variable.bytes) c.in-Variable.offsets = sym c.self.view_is ∙ ap held_of c.in-Variable.is in
     let count : length c.in-Variable.offsets ≡ c.args.count + 1 = variable_fits InvalidBytesLength c.args.data_type.now c.args.count _ _ (rw seen at c.requires.valid) in
-    let ends : length c.as_slice-in-Variable-2.result.now ≡ length c.in-Variable.offsets = ap length c.as_slice-in-Variable-2.ensures.offsets in
+    let ends : length c.as_slice-in-Variable-2.result.now ≡ length c.in-Variable.offsets = ap length c.as_slice-in-Variable-2.ensures.value in
     omega (arith, c.requires.inside k d l)
 
 pub of_masked-requires : goal.of_masked-requires
@@ -40,7 +40,7 @@ returns-in_ok-bytes-in-Variable-clause-exact t c =
     let is : container_selection c.args.data_type.now (vlen (raw_of c.in-Variable.bytes) c.in-Variable.offsets) places ≡ variable_of (bytes_with_offsets (cut c.in-Variable.offsets (raw_of c.in-Variable.bytes).items) places) = extracted_variable InvalidBytesLength c.args.data_type.now c.args.count _ _ _ (rw seen at c.requires.valid) in
     record {
       is = ap Ok (ap (λ h. container_selection c.args.data_type.now h places) seen ∙ is ∙ ap (λ bs. variable_of (bytes_with_offsets (cut c.in-Variable.offsets bs) places)) (sym items)
-          ∙ ap (λ os. variable_of (bytes_with_offsets (cut os c.as_slice-in-Variable.result.now) places)) (sym c.as_slice-in-Variable-2.ensures.offsets)
+          ∙ ap (λ os. variable_of (bytes_with_offsets (cut os c.as_slice-in-Variable.result.now) places)) (sym c.as_slice-in-Variable-2.ensures.value)
           ∙ ap variable_of both
           ∙ sym c.of_variable.ensures);
       no_fault = search rules;

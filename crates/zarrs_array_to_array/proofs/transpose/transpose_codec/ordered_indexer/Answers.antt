@@ -15,8 +15,8 @@ ordered_box-requires-clause-fits c =
     let inside = rw c.in-Subset.is at c.requires.inside in
     box_fits sizes c.in-Subset.subset.starts c.in-Subset.subset.lengths (subset_inside c.in-Subset.subset sizes inside) fits
 
-pub ordered_box-requires-clause-known : goal.ordered_box-requires-clause-known
-ordered_box-requires-clause-known c =
+pub ordered_box-requires-clause-count : goal.ordered_box-requires-clause-count
+ordered_box-requires-clause-count c =
     let inside = rw c.in-Subset.is at c.requires.inside in
     let count = rw c.in-Subset.is at c.requires.count in
     box_count c.args.sizes.now c.in-Subset.subset c.args.count (subset_inside c.in-Subset.subset c.args.sizes.now inside) count

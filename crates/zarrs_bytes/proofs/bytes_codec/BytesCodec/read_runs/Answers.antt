@@ -21,7 +21,7 @@ returns-in_err-read_bytes-clause-answer g c =
     let stored = (g.H.BytesPartialDecoderTraits.state c.args.handle.now).value in
     let places = joined_runs c.args.runs.now in
     rw (p.1, p.2) (Excused-weaker (memory_or_fault e)
-    (λ h. at_err c.args.self.now c.args.data_type.now c.args.fill_value.now places stored e c.element_size-size.ensures.filled (ap (λ n. bytes_at n stored places) (sym c.element_size-size.ensures.size) ∙ h))
+    (λ h. at_err c.args.self.now c.args.data_type.now c.args.fill_value.now places stored e c.element_size-size.ensures.fill_is_element (ap (λ n. bytes_at n stored places) (sym c.element_size-size.ensures.size) ∙ h))
     c.in_err-read_bytes.ensures.answer)
 
 pub returns-in_ok-bytes-in-None-clause-answer : goal.returns-in_ok-bytes-in-None-clause-answer
@@ -32,7 +32,7 @@ returns-in_ok-bytes-in-None-clause-answer g c =
     let bytes = c.in_ok-bytes-in-None.bytes in
     let small : length bytes.items < 2 ^ 64 = omega (arith, bytes.ok, bytes.small) in
     let fills = c.in_ok-bytes-in-None.ensures ∙ ap (λ (fill : List ℕ). flat_map (λ _. fill) places) c.as_ne_bytes.ensures.value in
-    rw c.new_flen.ensures.made (at_none c.args.self.now c.args.data_type.now c.args.fill_value.now places stored (owned_bytes bytes.items) c.element_size-size.ensures.filled (ap (λ n. bytes_at n stored places) (sym c.element_size-size.ensures.size) ∙ read) fills small)
+    rw c.new_flen.ensures.made (at_none c.args.self.now c.args.data_type.now c.args.fill_value.now places stored (owned_bytes bytes.items) c.element_size-size.ensures.fill_is_element (ap (λ n. bytes_at n stored places) (sym c.element_size-size.ensures.size) ∙ read) fills small)
 
 pub returns-in_ok-elements-in-Some-clause-answer : goal.returns-in_ok-elements-in-Some-clause-answer
 returns-in_ok-elements-in-Some-clause-answer g c =
@@ -43,4 +43,4 @@ returns-in_ok-elements-in-Some-clause-answer g c =
     let is : raw.items ≡ turned_bytes (turn_size c.args.self.now c.args.data_type.now) c.in-Some.bytes.items
     = items_are _ _ c.in_ok-elements-in-Some.ensures.exact.is ∙ ap (λ s. turned_bytes s c.in-Some.bytes.items) c.turn_size-turn_size.ensures.size in
     let small : length c.in-Some.bytes.items < 2 ^ 64 = omega (arith, c.in-Some.bytes.ok, c.in-Some.bytes.small) in
-    rw c.new_flen-in-Some.ensures.made (at_some c.args.self.now c.args.data_type.now c.args.fill_value.now places c.in-Some.bytes.items stored raw c.element_size-size.ensures.filled (ap (λ n. bytes_at n stored places) (sym c.element_size-size.ensures.size) ∙ read) is small)
+    rw c.new_flen-in-Some.ensures.made (at_some c.args.self.now c.args.data_type.now c.args.fill_value.now places c.in-Some.bytes.items stored raw c.element_size-size.ensures.fill_is_element (ap (λ n. bytes_at n stored places) (sym c.element_size-size.ensures.size) ∙ read) is small)

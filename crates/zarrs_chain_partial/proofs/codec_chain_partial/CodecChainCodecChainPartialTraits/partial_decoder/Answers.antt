@@ -3,11 +3,11 @@ use Rattle.zarrs_chain_partial.proofs.CachePlaces.{no_place, no_stage}
 use Rattle.zarrs_chain_partial.proofs.Making.{representation_first}
 use Rattle.zarrs_chain_partial.proofs.codec_chain_partial.CodecChainCodecChainPartialTraits.partial_decoder.Goals as goal
 
-pub returns-in-Err-clause-sure : goal.returns-in-Err-clause-sure
-returns-in-Err-clause-sure g c e =
+pub returns-in-Err-clause-no_fault_if_in_part : goal.returns-in-Err-clause-no_fault_if_in_part
+returns-in-Err-clause-no_fault_if_in_part g c e =
     let reads = g.B.BytesToBytesCodecTraits.reads_in_part in
     let chain = plain_chain c.args.self.now in
-    c.in-Err.ensures.untouched (no_stage reads chain (no_place reads chain e))
+    c.in-Err.ensures.no_fault_if_uncached (no_stage reads chain (no_place reads chain e))
 
 pub returns-in-Err-clause-measured_first : goal.returns-in-Err-clause-measured_first
 returns-in-Err-clause-measured_first g c =

@@ -11,8 +11,8 @@ pub planned_runs-requires-clause-fixed : goal.planned_runs-requires-clause-fixed
 planned_runs-requires-clause-fixed g c =
     taken_fixed c.in-Bytes.codec c.args.shape.now c.args.data_type.now c.args.fill_value.now (bytes_taken g.B.BytesToBytesCodecTraits.functions c.args.codec.now c.in-Bytes.codec c.args.shape.now c.args.data_type.now c.args.fill_value.now c.in-Bytes.is c.requires.taken)
 
-pub planned_runs-requires-clause-fits : goal.planned_runs-requires-clause-fits
-planned_runs-requires-clause-fits g c =
+pub planned_runs-requires-clause-filling : goal.planned_runs-requires-clause-filling
+planned_runs-requires-clause-filling g c =
     taken_fill c.in-Bytes.codec c.args.shape.now c.args.data_type.now c.args.fill_value.now (bytes_taken g.B.BytesToBytesCodecTraits.functions c.args.codec.now c.in-Bytes.codec c.args.shape.now c.args.data_type.now c.args.fill_value.now c.in-Bytes.is c.requires.taken)
 
 pub planned_runs-requires-clause-ends : goal.planned_runs-requires-clause-ends

@@ -9,8 +9,8 @@ pub read_runs-requires-clause-fixed : goal.read_runs-requires-clause-fixed
 read_runs-requires-clause-fixed g c =
     taken_fixed c.in-Bytes.codec c.args.shape.now c.args.data_type.now c.args.fill_value.now (bytes_taken g.B.BytesToBytesCodecTraits.functions c.args.codec.now c.in-Bytes.codec c.args.shape.now c.args.data_type.now c.args.fill_value.now c.in-Bytes.is c.requires.taken)
 
-pub read_runs-requires-clause-fits : goal.read_runs-requires-clause-fits
-read_runs-requires-clause-fits g c =
+pub read_runs-requires-clause-filling : goal.read_runs-requires-clause-filling
+read_runs-requires-clause-filling g c =
     taken_fill c.in-Bytes.codec c.args.shape.now c.args.data_type.now c.args.fill_value.now (bytes_taken g.B.BytesToBytesCodecTraits.functions c.args.codec.now c.in-Bytes.codec c.args.shape.now c.args.data_type.now c.args.fill_value.now c.in-Bytes.is c.requires.taken)
 
 pub read_runs-requires-clause-ends : goal.read_runs-requires-clause-ends

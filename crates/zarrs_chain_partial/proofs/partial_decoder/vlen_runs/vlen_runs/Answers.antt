@@ -12,12 +12,12 @@ use Rattle.zarrs_chain_partial.proofs.partial_decoder.vlen_runs.vlen_runs.Goals 
 pub plain_runs-requires : goal.plain_runs-requires
 plain_runs-requires g c =
     let t = vlen_taken g.B.BytesToBytesCodecTraits.functions c.args.codec.now c.args.shape.now c.args.data_type.now c.args.fill_value.now c.requires.taken in
-    record { variable = t.variable; filling = t.filled; counted = t.counted; inside = c.requires.inside; small = c.requires.small }
+    record { variable = t.variable; filling = t.filled; counted = t.counted; inside = c.requires.inside; count = c.requires.count }
 
 pub whole_runs-requires : goal.whole_runs-requires
 whole_runs-requires g c =
     let t = vlen_taken g.B.BytesToBytesCodecTraits.functions c.args.codec.now c.args.shape.now c.args.data_type.now c.args.fill_value.now c.requires.taken in
-    record { taken = c.requires.taken; filling = t.filled; counted = t.counted; inside = c.requires.inside; small = c.requires.small }
+    record { taken = c.requires.taken; filling = t.filled; counted = t.counted; inside = c.requires.inside; count = c.requires.count }
 
 pub returns-in-Some-clause-answer : goal.returns-in-Some-clause-answer
 returns-in-Some-clause-answer g c =

@@ -24,7 +24,7 @@ loop-edit-preserved g c =
       counted = omega arith;
       ran = edits_more f (encoder_form was) c.args.edits.now c.loop-edit.done edit (D.state (encoder_handle was)).value stored (Ok (D.state (encoder_handle c.apply.new.encoder)).value) lt is inv.ran (ap (λ x. edited_store f x stored edit) (sym inv.kept.form_kept) ∙ c.in-Ok.ensures.answer);
       left = left_more c.loop-edit.done (D.state (encoder_handle was)) (D.state (encoder_handle here)) (D.state (encoder_handle c.apply.new.encoder)) inv.left c.in-Ok.ensures.left.one_write;
-      bytes = All-more EditHasBytes c.args.edits.now c.loop-edit.done edit lt inv.bytes (subst EditHasBytes is c.in-Ok.ensures.bytes);
+      bytes = All-more EditHasBytes c.args.edits.now c.loop-edit.done edit lt inv.bytes (subst EditHasBytes is c.in-Ok.ensures.edit_bytes);
       kept = record {
         same_reference = c.in-Ok.ensures.left.same_reference ∙ inv.kept.same_reference;
         form_kept = c.in-Ok.ensures.left.form_kept ∙ inv.kept.form_kept;
@@ -59,14 +59,14 @@ returns-in-Err-clause-edits g c =
     record {
       written = tt;
       written_if_atomic = λ atomic start here there.
-          edits_written f form k.encoded k.representation h sound.mappings sound.positive k.filling lawful sound.filling (take n edits) old.value last.value start here inv.bytes there (unwritten (gone.left.kept_if_atomic atomic));
+          edits_written f form k.encoded k.representation h sound.mappings sound.positive k.filling lawful sound.fill_bytes (take n edits) old.value last.value start here inv.bytes there (unwritten (gone.left.kept_if_atomic atomic));
       written_if_unwritten = λ none start here there.
-          edits_written f form k.encoded k.representation h sound.mappings sound.positive k.filling lawful sound.filling (take n edits) old.value last.value start here inv.bytes there
+          edits_written f form k.encoded k.representation h sound.mappings sound.positive k.filling lawful sound.fill_bytes (take n edits) old.value last.value start here inv.bytes there
           (unwritten (unwritten_left n old (D.state (encoder_handle c.loop-edit.encoder)) last e inv.left gone.left.refused none));
       accepted = λ start here there.
-          edits_accepted f form k.encoded k.representation h sound.mappings sound.positive k.filling lawful sound.filling (take n edits) old.value stored start here inv.bytes there inv.ran;
+          edits_accepted f form k.encoded k.representation h sound.mappings sound.positive k.filling lawful sound.fill_bytes (take n edits) old.value stored start here inv.bytes there inv.ran;
       refused = λ m start here there.
-          more_refused f form k.encoded k.representation h sound.mappings sound.positive k.filling lawful sound.filling edits n edit old.value stored start e lt is here inv.bytes there inv.ran (refusal m);
+          more_refused f form k.encoded k.representation h sound.mappings sound.positive k.filling lawful sound.fill_bytes edits n edit old.value stored start e lt is here inv.bytes there inv.ran (refusal m);
       cause = λ m. edits_more f form edits n edit old.value stored (Err e) lt is inv.ran (refusal m);
       left = rw inv.ran (refused_left n old (D.state (encoder_handle c.loop-edit.encoder)) last e inv.left gone.left.refused);
       kept_if_atomic = λ atomic. unwritten (gone.left.kept_if_atomic atomic);
@@ -90,14 +90,14 @@ returns-clause-edits g c =
     let all = take_all n edits (omega arith) in
     record {
       written = λ start here there.
-          edits_written f form k.encoded k.representation h sound.mappings sound.positive k.filling lawful sound.filling edits old.value last.value start here (subst (All EditHasBytes) all inv.bytes) there
+          edits_written f form k.encoded k.representation h sound.mappings sound.positive k.filling lawful sound.fill_bytes edits old.value last.value start here (subst (All EditHasBytes) all inv.bytes) there
           (subst (λ es. stores_edited f form es old.value ≡ Ok last.value) all inv.ran);
       written_if_atomic = λ atomic start here there.
-          edits_written f form k.encoded k.representation h sound.mappings sound.positive k.filling lawful sound.filling (take n edits) old.value last.value start here inv.bytes there inv.ran;
+          edits_written f form k.encoded k.representation h sound.mappings sound.positive k.filling lawful sound.fill_bytes (take n edits) old.value last.value start here inv.bytes there inv.ran;
       written_if_unwritten = λ none start here there.
-          edits_written f form k.encoded k.representation h sound.mappings sound.positive k.filling lawful sound.filling (take n edits) old.value last.value start here inv.bytes there inv.ran;
+          edits_written f form k.encoded k.representation h sound.mappings sound.positive k.filling lawful sound.fill_bytes (take n edits) old.value last.value start here inv.bytes there inv.ran;
       accepted = λ start here there.
-          edits_accepted f form k.encoded k.representation h sound.mappings sound.positive k.filling lawful sound.filling (take n edits) old.value last.value start here inv.bytes there inv.ran;
+          edits_accepted f form k.encoded k.representation h sound.mappings sound.positive k.filling lawful sound.fill_bytes (take n edits) old.value last.value start here inv.bytes there inv.ran;
       refused = tt;
       cause = tt;
       left = rw inv.ran inv.left;

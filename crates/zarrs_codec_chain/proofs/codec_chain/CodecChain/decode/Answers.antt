@@ -9,10 +9,11 @@ pub returns : goal.returns
 returns g c = record {
   decodes = record {
     found =
-        chunk_found c.chain_decode.result g.B.BytesToBytesCodecTraits.functions (plain_chain c.args.self.now) c.args.shape.now c.args.data_type.now c.args.fill_value.now (raw_of c.args.value).items c.chain_is_sound.ensures.mappings (subst (All (λ size. 0 < size)) c.as_slice.ensures.sizes c.as_slice.ensures.positive) c.chain_decode.ensures.exact.is;
+        chunk_found c.chain_decode.result g.B.BytesToBytesCodecTraits.functions (plain_chain c.args.self.now) c.args.shape.now c.args.data_type.now c.args.fill_value.now (raw_of c.args.value).items c.chain_is_sound.ensures.mappings (subst (All (λ size. 0 < size)) c.as_slice.ensures.value c.as_slice.ensures.positive) c.chain_decode.ensures.exact.is;
     only =
-        chunk_only c.chain_decode.result g.B.BytesToBytesCodecTraits.functions (plain_chain c.args.self.now) c.args.shape.now c.args.data_type.now c.args.fill_value.now (raw_of c.args.value).items c.chain_is_sound.ensures.mappings (subst (All (λ size. 0 < size)) c.as_slice.ensures.sizes c.as_slice.ensures.positive) c.chain_decode.ensures.exact.is;
+        chunk_only c.chain_decode.result g.B.BytesToBytesCodecTraits.functions (plain_chain c.args.self.now) c.args.shape.now c.args.data_type.now c.args.fill_value.now (raw_of c.args.value).items c.chain_is_sound.ensures.mappings (subst (All (λ size. 0 < size)) c.as_slice.ensures.value c.as_slice.ensures.positive) c.chain_decode.ensures.exact.is;
     exact = c.chain_decode.ensures.exact.is;
     no_fault = c.chain_decode.ensures.exact.no_fault;
   };
+  blank = c.chain_decode.ensures.blank;
 }

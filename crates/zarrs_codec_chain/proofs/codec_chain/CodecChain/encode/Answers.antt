@@ -9,7 +9,7 @@ pub returns : goal.returns
 returns g c = record {
   encodes = record {
     found =
-        value_found (λ value. (raw_of value).items) c.chain_encode.result g.B.BytesToBytesCodecTraits.functions (plain_chain c.args.self.now) c.args.shape.now c.args.data_type.now c.args.fill_value.now c.args.elements c.chain_is_sound.ensures.mappings (subst (All (λ size. 0 < size)) c.as_slice.ensures.sizes c.as_slice.ensures.positive) c.chain_encode.ensures.exact.is;
+        value_found (λ value. (raw_of value).items) c.chain_encode.result g.B.BytesToBytesCodecTraits.functions (plain_chain c.args.self.now) c.args.shape.now c.args.data_type.now c.args.fill_value.now c.args.elements c.chain_is_sound.ensures.mappings (subst (All (λ size. 0 < size)) c.as_slice.ensures.value c.as_slice.ensures.positive) c.chain_encode.ensures.exact.is;
     only =
         value_only (λ value. (raw_of value).items) c.chain_encode.result g.B.BytesToBytesCodecTraits.functions (plain_chain c.args.self.now) c.args.shape.now c.args.data_type.now c.args.fill_value.now c.args.elements c.chain_encode.ensures.exact.is;
     exact = c.chain_encode.ensures.exact.is;

@@ -8,4 +8,4 @@ use Rattle.zarrs_codec_chain.proofs.vlen_codec.VlenCodec.encode.Goals as goal
 pub returns : goal.returns
 returns g c =
     let form = form_of c.args.shape.now c.args.data_type.now c.args.fill_value.now in
-    record { encodes = codec_encodes g.B.BytesToBytesCodecTraits.functions (plain_vlen c.args.self.now) form c.args.elements c.vlen_encode.result (vlen_has_chains c.args.self.now) c.vlen_is_sound.ensures.mappings (subst (All (λ size. 0 < size)) c.as_slice.ensures.sizes c.as_slice.ensures.positive) c.vlen_encode.ensures.answer }
+    record { encodes = codec_encodes g.B.BytesToBytesCodecTraits.functions (plain_vlen c.args.self.now) form c.args.elements c.vlen_encode.result (vlen_has_chains c.args.self.now) c.vlen_is_sound.ensures.mappings (subst (All (λ size. 0 < size)) c.as_slice.ensures.value c.as_slice.ensures.positive) c.vlen_encode.ensures.answer }

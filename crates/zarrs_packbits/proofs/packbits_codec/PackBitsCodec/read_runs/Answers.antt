@@ -11,8 +11,8 @@ use Rattle.zarrs_packbits.proofs.DecoderReads.{taken_fill}
 use Rattle.zarrs_packbits.proofs.PartReads.{places_refused, places_found}
 use Rattle.zarrs_packbits.proofs.packbits_codec.PackBitsCodec.read_runs.Goals as goal
 
-pub read_runs-requires-clause-fill : goal.read_runs-requires-clause-fill
-read_runs-requires-clause-fill g c =
+pub read_runs-requires-clause-fill_some : goal.read_runs-requires-clause-fill_some
+read_runs-requires-clause-fill_some g c =
     let some = taken_fill c.args.self.now c.args.shape.now c.args.data_type.now c.args.fill_value.now c.taken_layout-layout.result c.taken_layout-layout.ensures.is in
     omega (arith, some, ap length c.as_ne_bytes-fill.ensures.value)
 

@@ -22,6 +22,6 @@ returns-clause-reads g c =
           (runs_filled form.codec form.shape form.data_type form.fill_value stored c.in_ok-runs.runs.items c.as_slice.result.now places form.taken c.as_slice.ensures.value c.in_ok-runs.ensures.places.is here)
           c.read_runs.ensures.answer;
       exact = search rules;
-      indexer_first = search rules;
+      no_fault_if_refused = search rules;
       sure = search rules;
     }

@@ -4,7 +4,7 @@ use Rattle.zarrs_plain_vlen.proofs.offsets.Offsets.append_moved.Goals as goal
 
 pub overflow_sub-at : goal.overflow_sub-at
 overflow_sub-at c =
-    all_at (λ offset. c.args.from ≤ offset) c.args.self.now c.args.first c.args.end c.loop-number.number c.at.result (omega arith) (omega arith) c.requires.known c.at.ensures.value c.requires.behind
+    all_at (λ offset. c.args.from ≤ offset) c.args.self.now c.args.first c.args.end c.loop-number.number c.at.result (omega arith) (omega arith) c.requires.known c.at.ensures.value c.requires.above
 
 pub overflow_add-at : goal.overflow_add-at
 overflow_add-at c =

@@ -21,5 +21,5 @@ returns-clause-map c =
     let filled : All (λ size. 0 < size) (squeezed sizes) = positive-squeezed sizes c.as_slice.ensures.positive in
     let made : c.new.result ≡ Some (squeezed sizes) = c.new.ensures.answer ∙ ap shape_of (c.in_ok-sizes.ensures {u = tt}) ∙ shape_of-positive (squeezed sizes) filled in
     let is : c.unwrap.result ≡ squeezed sizes = cc (made, c.unwrap.ensures) in
-    let positive : All (λ size. 0 < size) here = rw c.as_slice.ensures.sizes at c.as_slice.ensures.positive in
-    squeezed_to here c.unwrap.result positive (sym (is ∙ ap squeezed c.as_slice.ensures.sizes))
+    let positive : All (λ size. 0 < size) here = rw c.as_slice.ensures.value at c.as_slice.ensures.positive in
+    squeezed_to here c.unwrap.result positive (sym (is ∙ ap squeezed c.as_slice.ensures.value))

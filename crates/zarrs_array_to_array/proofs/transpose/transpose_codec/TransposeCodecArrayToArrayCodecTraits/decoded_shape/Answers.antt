@@ -24,4 +24,4 @@ returns-clause-source c =
     let is : is_order order ≡ true = rw (← seen_order) c.as_slice-order.ensures.sound in
     let back : c.as_slice.result.now ≡ inverse order = c.as_slice.ensures.value ∙ c.in_ok-back.ensures {u = tt} ∙ ap inverse seen_order in
     let made : permuted c.as_slice.result.now c.as_slice-sizes.result.now ≡ c.in_ok-shape.shape = cc (c.in_ok-shape.ensures {u = tt}) in
-    transposed_source order sizes c.in_ok-shape.shape (order_parts order is) (sym made ∙ ap₂ (λ o s. permuted o s) back c.as_slice-sizes.ensures.sizes)
+    transposed_source order sizes c.in_ok-shape.shape (order_parts order is) (sym made ∙ ap₂ (λ o s. permuted o s) back c.as_slice-sizes.ensures.value)

@@ -12,15 +12,16 @@ use Rattle.zarrs_array_to_array.specs.TransposeCodec.{transpose_encoded}
 use Rattle.zarrs_chunk.specs.ChunkShape.{product}
 use Rattle.zarrs_metadata.specs.Orders.{is_order}
 use Rattle.zarrs_array_to_array.proofs.CodecAnswers.{encoded_answers, encoded_found}
+use Rattle.zarrs_array_to_array.proofs.TransposedBlank.{transposed_blank}
 use Rattle.zarrs_array_to_array.proofs.transpose.transpose_codec.TransposeCodecArrayToArrayCodecTraits.encode.Goals as goal
 
 pub returns-clause-exact : goal.returns-clause-exact
 returns-clause-exact c =
     let checked = c.in_ok-count.ensures {u = tt} in
-    record { is = encoded_answers c.args.self.now c.args.decoded_shape.now c.as_slice.result.now c.as_slice-2.result.now c.args.decoded_data_type.now c.args.bytes c.in_ok-count.count c.transposed.result (sym checked.exact) checked.count (c.as_slice.ensures.value ∙ c.self.view_is) c.as_slice-2.ensures.sizes c.transposed.ensures.exact.is; no_fault = search rules }
+    record { is = encoded_answers c.args.self.now c.args.decoded_shape.now c.as_slice.result.now c.as_slice-2.result.now c.args.decoded_data_type.now c.args.bytes c.in_ok-count.count c.transposed.result (sym checked.exact) checked.count (c.as_slice.ensures.value ∙ c.self.view_is) c.as_slice-2.ensures.value c.transposed.ensures.exact.is; no_fault = search rules }
 
-pub returns-clause-found : goal.returns-clause-found
-returns-clause-found c =
+pub returns-clause-by_tuple : goal.returns-clause-by_tuple
+returns-clause-by_tuple c =
     let order : is_order c.args.self.now ≡ true = rw (← (c.as_slice.ensures.value ∙ c.self.view_is)) c.as_slice.ensures.sound in
     found_by memory (Holds c.args.decoded_data_type.now) c.transposed.result (transpose_encoded c.args.self.now c.args.decoded_data_type.now c.args.decoded_shape.now c.args.bytes) (λ v. IsTransposed c.args.self.now c.args.decoded_shape.now (elements c.args.decoded_data_type.now (product c.args.decoded_shape.now) c.args.bytes) v) (returns-clause-exact c).is
     (λ v e. encoded_found c.args.self.now c.args.decoded_shape.now c.args.decoded_data_type.now c.args.bytes v order e)
@@ -37,3 +38,7 @@ returns-clause-moved c =
 pub returns-in_err-count-clause-moved : goal.returns-in_err-count-clause-moved
 returns-in_err-count-clause-moved c =
     encoded_refused c.args.self.now c.args.decoded_shape.now c.args.decoded_data_type.now c.args.bytes c.in_err-count.field-0.0 _ (sym (c.in_err-count.ensures {u = tt}).exact)
+
+pub returns-clause-blank : goal.returns-clause-blank
+returns-clause-blank c =
+    transposed_blank c.args.decoded_data_type.now c.args.bytes c.transposed.result (c.in_ok-count.ensures {u = tt}).never_absent

@@ -19,7 +19,7 @@ encoded_window-requires-clause-region g c =
     let are = c.is_sound.ensures.mappings.mappings in
     let positive = c.is_sound.ensures.positive in
     let h = is_readable f form.chain form.sizes form.type form.fill k.encoded k.representation are positive k.taken in
-    subst (λ cs. TakesRegion cs form.sizes region) (sym c.array_to_array_codecs-codecs.ensures.value) (takes_region f form k.encoded k.representation h are positive k.counted_whole region c.requires.inside c.requires.kept)
+    subst (λ cs. TakesRegion cs form.sizes region) (sym c.array_to_array_codecs-codecs.ensures.value) (takes_region f form k.encoded k.representation h are positive k.counted_whole region c.requires.inside c.requires.region_kept)
 
 pub encoded_window-requires-clause-takes : goal.encoded_window-requires-clause-takes
 encoded_window-requires-clause-takes g c =
@@ -30,10 +30,10 @@ encoded_window-requires-clause-takes g c =
     let are = c.is_sound.ensures.mappings.mappings in
     let positive = c.is_sound.ensures.positive in
     let h = is_readable f form.chain form.sizes form.type form.fill k.encoded k.representation are positive k.taken in
-    subst (λ cs. TakeType cs form.type) (sym c.array_to_array_codecs-codecs.ensures.value) (takes_type f form k.encoded k.representation h are positive k.counted_whole region c.requires.inside c.requires.kept)
+    subst (λ cs. TakeType cs form.type) (sym c.array_to_array_codecs-codecs.ensures.value) (takes_type f form k.encoded k.representation h are positive k.counted_whole region c.requires.inside c.requires.region_kept)
 
-pub returns-clause-left : goal.returns-clause-left
-returns-clause-left g c =
+pub returns-clause-same_edit : goal.returns-clause-same_edit
+returns-clause-same_edit g c =
     let f = g.B.BytesToBytesCodecTraits.functions in
     let k = c.args.self.now in
     let form = reader_form k in
@@ -46,7 +46,7 @@ returns-clause-left g c =
     let there = (c.in_ok-window.ensures {u = tt}).encoded.is in
     let at = runs_at form.chain.arrays (map mapping_of c.array_to_array_codecs-codecs.result.now) window c.in_ok-window.window c.in_ok-runs.runs.items c.in_ok-runs.runs.items c.array_to_array_codecs-codecs.ensures.value (window_ok _ _ there.0) ((c.in_ok-runs.ensures {u = tt}).places.is) refl in
     let holds = subst (λ cs. Holds form.type c.in_ok-window.encoded (encoded_elements cs window (window_elements form.type window c.in_ok-lent.lent))) c.array_to_array_codecs-codecs.ensures.value there.1 in
-    region_leaves f form k.encoded k.representation h are positive k.counted_whole region c.requires.inside c.args.codec.now c.requires.in_place c.requires.kept new c.in_ok-lent.lent c.in_ok-window.encoded ((c.in_ok-lent.ensures {u = tt}).lent) (joined_runs c.in_ok-runs.runs.items) at holds k.filling
+    region_leaves f form k.encoded k.representation h are positive k.counted_whole region c.requires.inside c.args.codec.now c.requires.writes_in_place c.requires.region_kept new c.in_ok-lent.lent c.in_ok-window.encoded ((c.in_ok-lent.ensures {u = tt}).lent) (joined_runs c.in_ok-runs.runs.items) at holds k.filling
 
 pub returns-clause-inside : goal.returns-clause-inside
 returns-clause-inside g c =
@@ -73,4 +73,4 @@ returns-clause-fit g c =
     let there = (c.in_ok-window.ensures {u = tt}).encoded.is in
     let at = runs_at form.chain.arrays (map mapping_of c.array_to_array_codecs-codecs.result.now) window c.in_ok-window.window c.in_ok-runs.runs.items c.in_ok-runs.runs.items c.array_to_array_codecs-codecs.ensures.value (window_ok _ _ there.0) ((c.in_ok-runs.ensures {u = tt}).places.is) refl in
     let holds = subst (λ cs. Holds form.type c.in_ok-window.encoded (encoded_elements cs window (window_elements form.type window c.in_ok-lent.lent))) c.array_to_array_codecs-codecs.ensures.value there.1 in
-    region_fits f form k.encoded k.representation h are positive k.counted_whole region c.requires.inside c.args.codec.now c.requires.in_place c.requires.kept new c.in_ok-lent.lent c.in_ok-window.encoded ((c.in_ok-lent.ensures {u = tt}).lent) (joined_runs c.in_ok-runs.runs.items) at holds
+    region_fits f form k.encoded k.representation h are positive k.counted_whole region c.requires.inside c.args.codec.now c.requires.writes_in_place c.requires.region_kept new c.in_ok-lent.lent c.in_ok-window.encoded ((c.in_ok-lent.ensures {u = tt}).lent) (joined_runs c.in_ok-runs.runs.items) at holds

@@ -6,4 +6,4 @@ use Rattle.zarrs_chain_partial.proofs.partial_decoder.chunk_reader.ChunkReader.k
 
 pub returns : goal.returns
 returns g c =
-    record { kept = subst (λ cs. IfSome c.kept_region.result (λ region. IsKept cs c.args.self.now.shape (selection_of c.args.indexer.now) region.now)) c.array_to_array_codecs.ensures.value c.kept_region.ensures.kept }
+    record { region_kept = subst (λ cs. IfSome c.kept_region.result (λ region. IsKept cs c.args.self.now.shape (selection_of c.args.indexer.now) region.now)) c.array_to_array_codecs.ensures.value c.kept_region.ensures.region_kept }

@@ -18,10 +18,11 @@ invariant_of-result g c =
       counted = k.counted;
       counted_whole = k.counted_whole;
       fits = c.in_ok-cache.ensures.fits;
+      blank = c.in_ok-cache.ensures.blank;
     }
 
-pub returns-clause-filled : goal.returns-clause-filled
-returns-clause-filled g c =
+pub returns-clause-cache_filled : goal.returns-clause-cache_filled
+returns-clause-cache_filled g c =
     let taken = c.in_ok-encoded in
     filled_from g.B.BytesToBytesCodecTraits.functions (record { chain = plain_chain c.args.chain.now; sizes = c.in_ok-shape.shape; type = c.in_ok-data_type.data_type; fill = c.in_ok-fill_value.fill_value }) taken.encoded taken.representation c.cache_stage-stage.result _ (g.H.BytesPartialDecoderTraits.state c.args.handle.now).value _ taken.ensures.answer.is c.in_ok-cache.ensures.stage c.in_ok-cache.ensures.answer
 

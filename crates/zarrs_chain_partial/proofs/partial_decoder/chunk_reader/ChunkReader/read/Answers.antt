@@ -11,7 +11,7 @@ use Rattle.zarrs_chain_partial.proofs.partial_decoder.chunk_reader.ChunkReader.r
 pub returns-in-Some-clause-indexer_first : goal.returns-in-Some-clause-indexer_first
 returns-in-Some-clause-indexer_first g c =
     let form = reader_form c.args.self.now in
-    kept_bounds form.chain.arrays form.sizes (selection_of c.args.indexer.now) c.in-Some.region.now ((c.in-Some.ensures {u = tt}).kept) _
+    kept_bounds form.chain.arrays form.sizes (selection_of c.args.indexer.now) c.in-Some.region.now ((c.in-Some.ensures {u = tt}).region_kept) _
 
 pub returns-in_err-runs-clause-indexer_first : goal.returns-in_err-runs-clause-indexer_first
 returns-in_err-runs-clause-indexer_first g c =

@@ -22,7 +22,7 @@ last_window-requires g c =
     let are = c.is_sound.ensures.mappings.mappings in
     let positive = c.is_sound.ensures.positive in
     let h = is_readable f form.chain form.sizes form.type form.fill k.encoded k.representation are positive k.taken in
-    record { region = subst (λ cs. TakesRegion cs form.sizes c.args.region.now) (sym c.array_to_array_codecs-codecs.ensures.value) (takes_region f form k.encoded k.representation h are positive k.counted_whole c.args.region.now c.requires.inside c.requires.kept) }
+    record { region = subst (λ cs. TakesRegion cs form.sizes c.args.region.now) (sym c.array_to_array_codecs-codecs.ensures.value) (takes_region f form k.encoded k.representation h are positive k.counted_whole c.args.region.now c.requires.inside c.requires.region_kept) }
 
 pub read_runs-requires-clause-inside : goal.read_runs-requires-clause-inside
 read_runs-requires-clause-inside g c =
@@ -46,7 +46,7 @@ returns-in_err-held-clause-answer g c =
     let source = reader_source k (g.H.BytesPartialDecoderTraits.state c.args.handle.now).value in
     let at = runs_at form.chain.arrays (map mapping_of c.array_to_array_codecs-codecs.result.now) (window_of form.sizes c.args.region.now) c.in_ok-window.window c.in_ok-runs.runs.items c.deref.result.now c.array_to_array_codecs-codecs.ensures.value ((c.in_ok-window.ensures {u = tt}).last.is) ((c.in_ok-runs.ensures {u = tt}).places.is) c.deref.ensures.value in
     let p = err_from_is_err_and c.from_residual-in_err-held.result c.from_residual-in_err-held.ensures.1 in
-    rw (p.1, p.2) (region_refused f form k.encoded k.representation h are positive k.counted_whole c.args.region.now c.requires.inside c.requires.kept source (joined_runs c.deref.result.now) c.in_err-held.field-0.0 at c.in_err-held.ensures.answer)
+    rw (p.1, p.2) (region_refused f form k.encoded k.representation h are positive k.counted_whole c.args.region.now c.requires.inside c.requires.region_kept source (joined_runs c.deref.result.now) c.in_err-held.field-0.0 at c.in_err-held.ensures.answer)
 
 pub returns-in_err-held-clause-sure : goal.returns-in_err-held-clause-sure
 returns-in_err-held-clause-sure g c =
@@ -58,7 +58,7 @@ returns-in_err-held-clause-sure g c =
     let h = is_readable f form.chain form.sizes form.type form.fill k.encoded k.representation are positive k.taken in
     let at = runs_at form.chain.arrays (map mapping_of c.array_to_array_codecs-codecs.result.now) (window_of form.sizes c.args.region.now) c.in_ok-window.window c.in_ok-runs.runs.items c.deref.result.now c.array_to_array_codecs-codecs.ensures.value ((c.in_ok-window.ensures {u = tt}).last.is) ((c.in_ok-runs.ensures {u = tt}).places.is) c.deref.ensures.value in
     let p = err_from_is_err_and c.from_residual-in_err-held.result c.from_residual-in_err-held.ensures.1 in
-    rw (p.1, p.2) (region_sure_where f form k.encoded k.representation h are positive k.counted_whole c.args.region.now c.requires.inside c.requires.kept (g.H.BytesPartialDecoderTraits.state c.args.handle.now) (joined_runs c.deref.result.now) _ at k.taken c.in_err-held.ensures.sure)
+    rw (p.1, p.2) (region_sure_where f form k.encoded k.representation h are positive k.counted_whole c.args.region.now c.requires.inside c.requires.region_kept (g.H.BytesPartialDecoderTraits.state c.args.handle.now) (joined_runs c.deref.result.now) _ at k.taken c.in_err-held.ensures.sure)
 
 pub decoded_window-requires-clause-region : goal.decoded_window-requires-clause-region
 decoded_window-requires-clause-region g c =
@@ -68,7 +68,7 @@ decoded_window-requires-clause-region g c =
     let are = c.is_sound.ensures.mappings.mappings in
     let positive = c.is_sound.ensures.positive in
     let h = is_readable f form.chain form.sizes form.type form.fill k.encoded k.representation are positive k.taken in
-    subst (λ cs. TakesRegion cs form.sizes c.args.region.now) (sym c.array_to_array_codecs-codecs.ensures.value) (takes_region f form k.encoded k.representation h are positive k.counted_whole c.args.region.now c.requires.inside c.requires.kept)
+    subst (λ cs. TakesRegion cs form.sizes c.args.region.now) (sym c.array_to_array_codecs-codecs.ensures.value) (takes_region f form k.encoded k.representation h are positive k.counted_whole c.args.region.now c.requires.inside c.requires.region_kept)
 
 pub decoded_window-requires-clause-takes : goal.decoded_window-requires-clause-takes
 decoded_window-requires-clause-takes g c =
@@ -78,7 +78,7 @@ decoded_window-requires-clause-takes g c =
     let are = c.is_sound.ensures.mappings.mappings in
     let positive = c.is_sound.ensures.positive in
     let h = is_readable f form.chain form.sizes form.type form.fill k.encoded k.representation are positive k.taken in
-    subst (λ cs. TakeType cs form.type) (sym c.array_to_array_codecs-codecs.ensures.value) (takes_type f form k.encoded k.representation h are positive k.counted_whole c.args.region.now c.requires.inside c.requires.kept)
+    subst (λ cs. TakeType cs form.type) (sym c.array_to_array_codecs-codecs.ensures.value) (takes_type f form k.encoded k.representation h are positive k.counted_whole c.args.region.now c.requires.inside c.requires.region_kept)
 
 pub decoded_window-requires-clause-valid : goal.decoded_window-requires-clause-valid
 decoded_window-requires-clause-valid g c =
@@ -90,7 +90,7 @@ decoded_window-requires-clause-valid g c =
     let h = is_readable f form.chain form.sizes form.type form.fill k.encoded k.representation are positive k.taken in
     let source = reader_source k (g.H.BytesPartialDecoderTraits.state c.args.handle.now).value in
     let at = runs_at form.chain.arrays (map mapping_of c.array_to_array_codecs-codecs.result.now) (window_of form.sizes c.args.region.now) c.in_ok-window.window c.in_ok-runs.runs.items c.deref.result.now c.array_to_array_codecs-codecs.ensures.value ((c.in_ok-window.ensures {u = tt}).last.is) ((c.in_ok-runs.ensures {u = tt}).places.is) c.deref.ensures.value in
-    region_valid f form k.encoded k.representation h are positive k.counted_whole c.args.region.now c.requires.inside c.requires.kept source (joined_runs c.deref.result.now) c.in_ok-held.held at ((c.in_ok-held.ensures {u = tt}).answer)
+    region_valid f form k.encoded k.representation h are positive k.counted_whole c.args.region.now c.requires.inside c.requires.region_kept source (joined_runs c.deref.result.now) c.in_ok-held.held at ((c.in_ok-held.ensures {u = tt}).answer)
 
 pub returns-clause-answer : goal.returns-clause-answer
 returns-clause-answer g c =
@@ -102,7 +102,7 @@ returns-clause-answer g c =
     let h = is_readable f form.chain form.sizes form.type form.fill k.encoded k.representation are positive k.taken in
     let source = reader_source k (g.H.BytesPartialDecoderTraits.state c.args.handle.now).value in
     let at = runs_at form.chain.arrays (map mapping_of c.array_to_array_codecs-codecs.result.now) (window_of form.sizes c.args.region.now) c.in_ok-window.window c.in_ok-runs.runs.items c.deref.result.now c.array_to_array_codecs-codecs.ensures.value ((c.in_ok-window.ensures {u = tt}).last.is) ((c.in_ok-runs.ensures {u = tt}).places.is) c.deref.ensures.value in
-    region_answered f form k.encoded k.representation h are positive k.counted_whole c.args.region.now c.requires.inside c.requires.kept source (joined_runs c.deref.result.now) c.in_ok-held.held c.decoded_window.result at ((c.in_ok-held.ensures {u = tt}).answer)
+    region_answered f form k.encoded k.representation h are positive k.counted_whole c.args.region.now c.requires.inside c.requires.region_kept source (joined_runs c.deref.result.now) c.in_ok-held.held c.decoded_window.result at ((c.in_ok-held.ensures {u = tt}).answer)
     (subst (λ cs. AnswersBy memory (Holds form.type) c.decoded_window.result (ok (decoded_of cs form.type (window_of form.sizes c.args.region.now) c.in_ok-held.held))) c.array_to_array_codecs-codecs.ensures.value c.decoded_window.ensures.decoded.is)
 
 pub returns-clause-sure : goal.returns-clause-sure

@@ -17,7 +17,7 @@ returns-in_err-count-clause-checked g c =
     let are = c.is_sound.ensures.mappings.mappings in
     let positive = c.is_sound.ensures.positive in
     let h = is_readable f form.chain form.sizes form.type form.fill k.encoded k.representation are positive k.taken in
-    let small : product region.lengths < 2 ^ 64 = omega (arith, few f form k.encoded k.representation h are positive k.counted_whole region c.requires.inside c.args.codec.now c.requires.in_place, k.counted_whole) in
+    let small : product region.lengths < 2 ^ 64 = omega (arith, few f form k.encoded k.representation h are positive k.counted_whole region c.requires.inside c.args.codec.now c.requires.writes_in_place, k.counted_whole) in
     absurd (no_count (product region.lengths) c.in_err-count.field-0.0 small c.in_err-count.ensures.product)
 
 pub returns-in_err-validate_data-clause-checked : goal.returns-in_err-validate_data-clause-checked
@@ -30,10 +30,10 @@ returns-in_err-validate_data-clause-checked g c =
     let are = c.is_sound.ensures.mappings.mappings in
     let positive = c.is_sound.ensures.positive in
     let h = is_readable f form.chain form.sizes form.type form.fill k.encoded k.representation are positive k.taken in
-    let small : product region.lengths < 2 ^ 64 = omega (arith, few f form k.encoded k.representation h are positive k.counted_whole region c.requires.inside c.args.codec.now c.requires.in_place, k.counted_whole) in
+    let small : product region.lengths < 2 ^ 64 = omega (arith, few f form k.encoded k.representation h are positive k.counted_whole region c.requires.inside c.args.codec.now c.requires.writes_in_place, k.counted_whole) in
     let count = count_is (product region.lengths) c.in_ok-count.count small ((c.in_ok-count.ensures {u = tt}).product) in
     let p = err_from_is_err_and c.from_residual-in_err-validate_data.result c.from_residual-in_err-validate_data.ensures.1 in
-    rw (p.1, p.2) (c.in_err-validate_data.ensures.exact ∙ ap (λ n. data_fit form.type n new) count ∙ sym (region_checked f form k.encoded k.representation h are positive k.counted_whole region c.requires.inside c.args.codec.now c.requires.in_place new))
+    rw (p.1, p.2) (c.in_err-validate_data.ensures.exact ∙ ap (λ n. data_fit form.type n new) count ∙ sym (region_checked f form k.encoded k.representation h are positive k.counted_whole region c.requires.inside c.args.codec.now c.requires.writes_in_place new))
 
 pub returns-in_err-bytes-clause-checked : goal.returns-in_err-bytes-clause-checked
 returns-in_err-bytes-clause-checked g c =
@@ -45,10 +45,10 @@ returns-in_err-bytes-clause-checked g c =
     let are = c.is_sound.ensures.mappings.mappings in
     let positive = c.is_sound.ensures.positive in
     let h = is_readable f form.chain form.sizes form.type form.fill k.encoded k.representation are positive k.taken in
-    let small : product region.lengths < 2 ^ 64 = omega (arith, few f form k.encoded k.representation h are positive k.counted_whole region c.requires.inside c.args.codec.now c.requires.in_place, k.counted_whole) in
+    let small : product region.lengths < 2 ^ 64 = omega (arith, few f form k.encoded k.representation h are positive k.counted_whole region c.requires.inside c.args.codec.now c.requires.writes_in_place, k.counted_whole) in
     let count = count_is (product region.lengths) c.in_ok-count.count small ((c.in_ok-count.ensures {u = tt}).product) in
     let fit : data_fit form.type (product region.lengths) new ≡ Ok tt = ap (λ n. data_fit form.type n new) (sym count) ∙ sym ((c.in_ok-validate_data.ensures {u = tt}).exact) in
-    absurd (no_fixed f form k.encoded k.representation h c.args.codec.now new (product region.lengths) c.in_err-bytes.field-0.0 c.requires.in_place fit c.in_err-bytes.ensures.answer)
+    absurd (no_fixed f form k.encoded k.representation h c.args.codec.now new (product region.lengths) c.in_err-bytes.field-0.0 c.requires.writes_in_place fit c.in_err-bytes.ensures.answer)
 
 pub returns-clause-checked : goal.returns-clause-checked
 returns-clause-checked g c =
@@ -60,10 +60,10 @@ returns-clause-checked g c =
     let are = c.is_sound.ensures.mappings.mappings in
     let positive = c.is_sound.ensures.positive in
     let h = is_readable f form.chain form.sizes form.type form.fill k.encoded k.representation are positive k.taken in
-    let small : product region.lengths < 2 ^ 64 = omega (arith, few f form k.encoded k.representation h are positive k.counted_whole region c.requires.inside c.args.codec.now c.requires.in_place, k.counted_whole) in
+    let small : product region.lengths < 2 ^ 64 = omega (arith, few f form k.encoded k.representation h are positive k.counted_whole region c.requires.inside c.args.codec.now c.requires.writes_in_place, k.counted_whole) in
     let count = count_is (product region.lengths) c.in_ok-count.count small ((c.in_ok-count.ensures {u = tt}).product) in
     let fit : data_fit form.type (product region.lengths) new ≡ Ok tt = ap (λ n. data_fit form.type n new) (sym count) ∙ sym ((c.in_ok-validate_data.ensures {u = tt}).exact) in
-    sym (region_checked f form k.encoded k.representation h are positive k.counted_whole region c.requires.inside c.args.codec.now c.requires.in_place new ∙ fit)
+    sym (region_checked f form k.encoded k.representation h are positive k.counted_whole region c.requires.inside c.args.codec.now c.requires.writes_in_place new ∙ fit)
 
 pub returns-clause-lent : goal.returns-clause-lent
 returns-clause-lent g c =
@@ -75,8 +75,8 @@ returns-clause-lent g c =
     let are = c.is_sound.ensures.mappings.mappings in
     let positive = c.is_sound.ensures.positive in
     let h = is_readable f form.chain form.sizes form.type form.fill k.encoded k.representation are positive k.taken in
-    let small : product region.lengths < 2 ^ 64 = omega (arith, few f form k.encoded k.representation h are positive k.counted_whole region c.requires.inside c.args.codec.now c.requires.in_place, k.counted_whole) in
+    let small : product region.lengths < 2 ^ 64 = omega (arith, few f form k.encoded k.representation h are positive k.counted_whole region c.requires.inside c.args.codec.now c.requires.writes_in_place, k.counted_whole) in
     let count = count_is (product region.lengths) c.in_ok-count.count small ((c.in_ok-count.ensures {u = tt}).product) in
     let fit : data_fit form.type (product region.lengths) new ≡ Ok tt = ap (λ n. data_fit form.type n new) (sym count) ∙ sym ((c.in_ok-validate_data.ensures {u = tt}).exact) in
     let raw = fixed_of new c.in_ok-bytes.bytes.now ((c.in_ok-bytes.ensures {u = tt}).answer) in
-    subst (LendsData form.type region new) (sym c.new_flen.ensures.made) (region_lends f form k.encoded k.representation h are positive k.counted_whole region c.requires.inside c.args.codec.now c.requires.in_place new raw.0 _ fit raw.1 raw.2)
+    subst (LendsData form.type region new) (sym c.new_flen.ensures.made) (region_lends f form k.encoded k.representation h are positive k.counted_whole region c.requires.inside c.args.codec.now c.requires.writes_in_place new raw.0 _ fit raw.1 raw.2)

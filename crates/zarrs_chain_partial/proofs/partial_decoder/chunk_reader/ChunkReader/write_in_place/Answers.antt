@@ -12,7 +12,7 @@ use Rattle.zarrs_chain_partial.proofs.partial_decoder.chunk_reader.ChunkReader.w
 
 pub returns-in-Some-clause-writes : goal.returns-in-Some-clause-writes
 returns-in-Some-clause-writes g c =
-    let kept = (c.in-Some.ensures {u = tt}).kept in
+    let kept = (c.in-Some.ensures {u = tt}).region_kept in
     subst (λ s. WritesChunk g.B.BytesToBytesCodecTraits.functions (reader_form c.args.self.now) (Some c.args.codec.now) (g.H.BytesPartialDecoderTraits.state c.args.handle.now) (g.H.BytesPartialDecoderTraits.state c.write_region.new.handle) s c.args.elements.now c.write_region.result) (sym kept.selection_is) c.write_region.ensures.writes
 
 pub returns-in_err-runs-clause-writes : goal.returns-in_err-runs-clause-writes
@@ -31,7 +31,7 @@ pub write_runs-requires-clause-taken : goal.write_runs-requires-clause-taken
 write_runs-requires-clause-taken g c =
     let k = c.args.self.now in
     let form = reader_form k in
-    in_place_taken g.B.BytesToBytesCodecTraits.functions form.chain.outer form.chain.codec c.args.codec.now k.encoded k.data_type k.fill_value c.requires.in_place k.measured
+    in_place_taken g.B.BytesToBytesCodecTraits.functions form.chain.outer form.chain.codec c.args.codec.now k.encoded k.data_type k.fill_value c.requires.writes_in_place k.measured
 
 pub returns-clause-writes : goal.returns-clause-writes
 returns-clause-writes g c =
@@ -41,7 +41,7 @@ returns-clause-writes g c =
     let stored = (g.H.BytesPartialDecoderTraits.state c.args.handle.now).value in
     let h = is_readable f form.chain form.sizes form.type form.fill k.encoded k.representation c.is_sound.ensures.mappings.mappings c.is_sound.ensures.positive k.taken in
     record {
-      answer = answer_by _ _ c.write_runs.result _ _ (ap (seen (λ value. Some value)) (selection_in_place f form k.encoded k.representation h c.args.codec.now c.requires.in_place stored (selection_of c.args.indexer.now) c.args.elements.now (joined_runs c.in_ok-runs.runs.items) k.filling c.in_ok-runs.ensures.answer.is)) c.write_runs.ensures.answer;
+      answer = answer_by _ _ c.write_runs.result _ _ (ap (seen (λ value. Some value)) (selection_in_place f form k.encoded k.representation h c.args.codec.now c.requires.writes_in_place stored (selection_of c.args.indexer.now) c.args.elements.now (joined_runs c.in_ok-runs.runs.items) k.filling c.in_ok-runs.ensures.answer.is)) c.write_runs.ensures.answer;
       indexer_first = search rules;
       checked_first = search rules;
       untouched = search rules;

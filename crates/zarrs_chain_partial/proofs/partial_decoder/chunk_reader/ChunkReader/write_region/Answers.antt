@@ -24,13 +24,13 @@ pub write_runs-requires-clause-taken : goal.write_runs-requires-clause-taken
 write_runs-requires-clause-taken g c =
     let k = c.args.self.now in
     let form = reader_form k in
-    in_place_taken g.B.BytesToBytesCodecTraits.functions form.chain.outer form.chain.codec c.args.codec.now k.encoded k.data_type k.fill_value c.requires.in_place k.measured
+    in_place_taken g.B.BytesToBytesCodecTraits.functions form.chain.outer form.chain.codec c.args.codec.now k.encoded k.data_type k.fill_value c.requires.writes_in_place k.measured
 
 pub returns-clause-writes : goal.returns-clause-writes
 returns-clause-writes g c =
     let stored = (g.H.BytesPartialDecoderTraits.state c.args.handle.now).value in
     record {
-      answer = answer_by _ _ c.write_runs.result _ _ (ap (seen (λ value. Some value)) ((c.in_ok-runs.ensures {u = tt}).left stored)) c.write_runs.ensures.answer;
+      answer = answer_by _ _ c.write_runs.result _ _ (ap (seen (λ value. Some value)) ((c.in_ok-runs.ensures {u = tt}).same_edit stored)) c.write_runs.ensures.answer;
       indexer_first = inside_bounds c.args.self.now.shape c.args.region.now c.requires.inside _;
       checked_first = search rules;
       untouched = search rules;

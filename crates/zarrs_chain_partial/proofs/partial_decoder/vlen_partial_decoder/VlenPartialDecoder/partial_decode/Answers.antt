@@ -12,7 +12,7 @@ returns-clause-reads g c =
     let f = g.B.BytesToBytesCodecTraits.functions in
     let d = c.args.self.now in
     let selection = selection_of c.args.indexer.now in
-    let positive = subst (All (λ size. 0 < size)) c.as_slice.ensures.sizes c.as_slice.ensures.positive in
+    let positive = subst (All (λ size. 0 < size)) c.as_slice.ensures.value c.as_slice.ensures.positive in
     record {
       selected = (λ value chunk here stands.
           subst (λ expected. AnswersBy memory_or_fault (Holds d.data_type) c.read.result expected)

@@ -7,5 +7,5 @@ read_chunk-requires g c =
     let d = c.args.self.now in
     let k = d.reader in
     record {
-      filled = uncached_filled g.B.BytesToBytesCodecTraits.functions (reader_form k) k.encoded k.representation k.cache (g.H.BytesPartialDecoderTraits.state d.handle).value k.taken d.uncached;
+      cache_filled = uncached_filled g.B.BytesToBytesCodecTraits.functions (reader_form k) k.encoded k.representation k.cache (g.H.BytesPartialDecoderTraits.state d.handle).value k.taken d.uncached;
     }

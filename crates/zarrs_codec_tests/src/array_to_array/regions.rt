@@ -1,0 +1,201 @@
+//! A region of a chunk through codecs, by the calls of `zarrs_array_regions`: where it goes, and its
+//! elements there and back.
+ghost use Rattle.std.specs.Prelude.{◌≡◌, ◌<◌, ◌^◌, Ok, map};
+ghost use Rattle.zarrs_chunk.specs.ChunkShape.{product};
+ghost use Rattle.zarrs_array_bytes.specs.Validity.{validity};
+ghost use Rattle.zarrs_array_to_array.specs.Mapping.{mapping_of};
+ghost use Rattle.zarrs_array_regions.specs.Windows.{IsWindow, TakesRegion, TakeType};
+
+use crate::array_to_array::calls::has_bytes;
+use crate::array_to_array::checks::{Asked, answers, indexer, is};
+use crate::array_to_array::forms::{Chunk, ChunkForm, SQUEEZE, Type, chunk_form, codec, lent};
+use std::alloc::Global;
+use std::process::Abort;
+use std::test::Fail;
+use zarrs_array_bytes::ArrayBytes;
+use zarrs_array_regions::{Window, decoded_window, encoded_window, kept_region, last_window};
+use zarrs_array_to_array::{ArrayToArrayCodec, encoded_places};
+use zarrs_chunk::{ArraySubset, CodecError, Indexer};
+
+/// The last axis comes first: of sizes 2, 1 and 3 this makes 3, 2 and 1.
+const LAST_FIRST: &'static str = r#"{"name":"transpose","configuration":{"order":[2,0,1]}}"#;
+
+/// One axis of all elements.
+const FLAT: &'static str = r#"{"name":"reshape","configuration":{"shape":[-1]}}"#;
+
+/// The words of the chunk are their places.
+const CHUNK: &'static Chunk = &Chunk {
+    sizes: &[2, 1, 3],
+    data_type: Type::Word,
+    fill: &[0, 0],
+};
+
+/// Columns 1 and 2 of both rows, and these two as rows.
+const REGION: &'static Asked = &Asked::Ranges(&[0..2, 0..1, 1..3]);
+
+const ELEMENTS: &'static [u8] = &[1, 0, 2, 0, 4, 0, 5, 0];
+
+const MOVED: &'static [u8] = &[1, 0, 4, 0, 2, 0, 5, 0];
+
+fn codecs(alloc: Global, texts: &[&'static str]) -> Result<Vec<ArrayToArrayCodec>, Fail> {
+    let mut codecs = Vec::new(alloc);
+    for text in texts {
+        codecs.push(codec(alloc, *text)?)?;
+    }
+    Ok(codecs)
+}
+
+/// The window is the last two rows of a chunk of sizes 3 and 2.
+fn is_window(rt: &impl Abort, window: &Window) {
+    let came = (
+        window.sizes.as_slice(),
+        window.region.start(),
+        window.region.shape(),
+    );
+    let wanted = ([3, 2].as_slice(), [1, 0].as_slice(), [2, 2].as_slice());
+    is(rt, "the window", &came, &wanted);
+}
+
+/// Its places are one run.
+fn has_run(rt: &impl Abort, alloc: Global, window: Window) -> Result<(), CodecError>
+    requires inside { IsWindow (product window.sizes) window }
+    requires counted { product window.sizes < 2 ^ 64 }
+{
+    let runs = window.into_runs(alloc)?;
+    is(rt, "runs", &runs.as_slice(), &[(2, 4)].as_slice());
+    Ok(())
+}
+
+/// Where the region goes.
+fn goes(
+    rt: &impl Abort,
+    alloc: Global,
+    codecs: &[ArrayToArrayCodec],
+    form: &ChunkForm,
+    region: &ArraySubset,
+) -> Result<(), CodecError>
+    requires region { TakesRegion (map mapping_of codecs.now) form.now.shape region.now }
+{
+    let window = last_window(alloc, codecs, &form.shape, region)?;
+    is_window(rt, &window);
+    has_run(rt, alloc, window)
+}
+
+/// The elements of its window are decoded to its own.
+fn comes_back(
+    rt: &impl Abort,
+    alloc: Global,
+    codecs: &[ArrayToArrayCodec],
+    form: &ChunkForm,
+    region: &ArraySubset,
+) -> Result<(), CodecError>
+    requires region { TakesRegion (map mapping_of codecs.now) form.now.shape region.now }
+    requires takes { TakeType (map mapping_of codecs.now) form.now.data_type }
+    requires filled { 0 < product region.now.lengths }
+{
+    let count = region.num_elements()?;
+    let held = lent(MOVED);
+    held.validate(count, &form.data_type)?;
+    let came = decoded_window(
+        alloc,
+        codecs,
+        &form.shape,
+        region,
+        held,
+        &form.data_type,
+        &form.fill_value,
+    );
+    has_bytes(rt, "decoded", came, &Ok(ELEMENTS))
+}
+
+/// The window is the region's, and these are its elements.
+fn is_moved(rt: &impl Abort, window: &Window, held: &ArrayBytes<'_>) -> Result<(), CodecError> {
+    is_window(rt, window);
+    answers(rt, "encoded", &held.as_fixed(), &Ok(MOVED))
+}
+
+/// Its own elements are encoded to those of its window.
+fn goes_along(
+    rt: &impl Abort,
+    alloc: Global,
+    codecs: &[ArrayToArrayCodec],
+    form: &ChunkForm,
+    region: &ArraySubset,
+) -> Result<(), CodecError>
+    requires region { TakesRegion (map mapping_of codecs.now) form.now.shape region.now }
+    requires takes { TakeType (map mapping_of codecs.now) form.now.data_type }
+    requires filled { 0 < product region.now.lengths }
+{
+    let count = region.num_elements()?;
+    let held = lent(ELEMENTS);
+    held.validate(count, &form.data_type)?;
+    let (window, held) = encoded_window(
+        alloc,
+        codecs,
+        &form.shape,
+        region,
+        held,
+        &form.data_type,
+        &form.fill_value,
+    )?;
+    is_moved(rt, &window, &held)
+}
+
+fn goes_and_comes(
+    rt: &impl Abort,
+    alloc: Global,
+    codecs: &[ArrayToArrayCodec],
+    form: &ChunkForm,
+    region: &ArraySubset,
+) -> Result<(), CodecError>
+    requires region { TakesRegion (map mapping_of codecs.now) form.now.shape region.now }
+    requires takes { TakeType (map mapping_of codecs.now) form.now.data_type }
+    requires filled { 0 < product region.now.lengths }
+{
+    goes(rt, alloc, codecs, form, region)?;
+    comes_back(rt, alloc, codecs, form, region)?;
+    goes_along(rt, alloc, codecs, form, region)
+}
+
+/// The region that the indexer means goes through the codecs as a region.
+fn is_kept(
+    rt: &impl Abort,
+    alloc: Global,
+    codecs: &[ArrayToArrayCodec],
+    form: &ChunkForm,
+    indexer: &Indexer,
+) -> Result<(), CodecError> {
+    encoded_places(alloc, codecs, &form.shape, indexer)?;
+    form.shape.num_elements()?;
+    match kept_region(codecs, &form.shape, indexer) {
+        Some(region) if !form.data_type.is_optional() => {
+            goes_and_comes(rt, alloc, codecs, form, region)
+        }
+        _ => Err(CodecError::OutOfBounds),
+    }
+}
+
+fn region_is_kept(
+    rt: &impl Abort,
+    alloc: Global,
+    codecs: &[ArrayToArrayCodec],
+    form: &ChunkForm,
+) -> Result<(), CodecError> {
+    let indexer = indexer(alloc, REGION)?;
+    is_kept(rt, alloc, codecs, form, &indexer)
+}
+
+fn chunk_is_kept(
+    rt: &impl Abort,
+    alloc: Global,
+    codecs: &[ArrayToArrayCodec],
+) -> Result<(), CodecError> {
+    let form = chunk_form(alloc, CHUNK)?;
+    region_is_kept(rt, alloc, codecs, &form)
+}
+
+#[test]
+fn a_region_goes_through_codecs(rt: HostRuntime) -> Result<(), Fail> {
+    let codecs = codecs(rt.alloc(), &[LAST_FIRST, SQUEEZE, FLAT])?;
+    Ok(chunk_is_kept(&rt, rt.alloc(), codecs.as_slice())?)
+}

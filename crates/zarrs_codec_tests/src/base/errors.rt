@@ -1,0 +1,251 @@
+use crate::base::checks::is;
+use std::alloc::{AllocError, AllocFailed, Global};
+use std::fmt::Display;
+use std::process::Abort;
+use std::test::Fail;
+use zarrs_chunk::{CodecError, CodecName, StorageError};
+use zarrs_metadata::PluginCreateError;
+
+/// An error and its text, which begins with its name.
+struct Row<E: 'static> {
+    error: E,
+    text: &'static str,
+}
+
+const REFUSALS: &'static [Row<CodecError>] = &[
+    Row {
+        error: CodecError::OutOfMemory,
+        text: "OutOfMemory",
+    },
+    Row {
+        error: CodecError::Storage(StorageError { code: 7 }),
+        text: "Storage: code 7",
+    },
+    Row {
+        error: CodecError::Storage(StorageError { code: 17 }),
+        text: "Storage: code 17",
+    },
+    Row {
+        error: CodecError::UnsupportedDataType(CodecName::Transpose),
+        text: "UnsupportedDataType: the codec transpose",
+    },
+    Row {
+        error: CodecError::UnsupportedDataType(CodecName::Reshape),
+        text: "UnsupportedDataType: the codec reshape",
+    },
+    Row {
+        error: CodecError::UnsupportedDataType(CodecName::Squeeze),
+        text: "UnsupportedDataType: the codec squeeze",
+    },
+    Row {
+        error: CodecError::UnsupportedDataType(CodecName::Bytes),
+        text: "UnsupportedDataType: the codec bytes",
+    },
+    Row {
+        error: CodecError::UnsupportedDataType(CodecName::PackBits),
+        text: "UnsupportedDataType: the codec packbits",
+    },
+    Row {
+        error: CodecError::UnsupportedDataType(CodecName::Vlen),
+        text: "UnsupportedDataType: the codec vlen",
+    },
+    Row {
+        error: CodecError::UnsupportedDataType(CodecName::Optional),
+        text: "UnsupportedDataType: the codec optional",
+    },
+    Row {
+        error: CodecError::EndiannessMissing,
+        text: "EndiannessMissing",
+    },
+    Row {
+        error: CodecError::ArrayBytesKind,
+        text: "ArrayBytesKind",
+    },
+    Row {
+        error: CodecError::InvalidBytesLength {
+            len: 3,
+            expected: 40,
+        },
+        text: "InvalidBytesLength: 3 found, 40 expected",
+    },
+    Row {
+        error: CodecError::InvalidBytesLength {
+            len: 40,
+            expected: 3,
+        },
+        text: "InvalidBytesLength: 40 found, 3 expected",
+    },
+    Row {
+        error: CodecError::IncompatibleDimensionality,
+        text: "IncompatibleDimensionality",
+    },
+    Row {
+        error: CodecError::OutOfBounds,
+        text: "OutOfBounds",
+    },
+    Row {
+        error: CodecError::Overflow,
+        text: "Overflow",
+    },
+    Row {
+        error: CodecError::InvalidFillValue,
+        text: "InvalidFillValue",
+    },
+    Row {
+        error: CodecError::ReshapeDimension,
+        text: "ReshapeDimension",
+    },
+    Row {
+        error: CodecError::ReshapeElements,
+        text: "ReshapeElements",
+    },
+    Row {
+        error: CodecError::BitRange,
+        text: "BitRange",
+    },
+    Row {
+        error: CodecError::PaddingByte,
+        text: "PaddingByte",
+    },
+    Row {
+        error: CodecError::IndexLength,
+        text: "IndexLength",
+    },
+    Row {
+        error: CodecError::InvalidOffsets,
+        text: "InvalidOffsets",
+    },
+    Row {
+        error: CodecError::OffsetTooLarge,
+        text: "OffsetTooLarge",
+    },
+    Row {
+        error: CodecError::OffsetNotKept,
+        text: "OffsetNotKept",
+    },
+    Row {
+        error: CodecError::MaskValue,
+        text: "MaskValue",
+    },
+    Row {
+        error: CodecError::HeaderOverflow,
+        text: "HeaderOverflow",
+    },
+    Row {
+        error: CodecError::InvalidByteRange,
+        text: "InvalidByteRange",
+    },
+    Row {
+        error: CodecError::BytesCodec(9),
+        text: "BytesCodec: code 9",
+    },
+    Row {
+        error: CodecError::BytesCodec(29),
+        text: "BytesCodec: code 29",
+    },
+    Row {
+        error: CodecError::DataMismatch,
+        text: "DataMismatch",
+    },
+    Row {
+        error: CodecError::UnsupportedTarget,
+        text: "UnsupportedTarget",
+    },
+    Row {
+        error: CodecError::TargetMismatch,
+        text: "TargetMismatch",
+    },
+    Row {
+        error: CodecError::ReversedRange,
+        text: "ReversedRange",
+    },
+];
+
+const FAULTS: &'static [Row<PluginCreateError>] = &[
+    Row {
+        error: PluginCreateError::OutOfMemory,
+        text: "OutOfMemory",
+    },
+    Row {
+        error: PluginCreateError::UnknownName,
+        text: "UnknownName",
+    },
+    Row {
+        error: PluginCreateError::InvalidConfiguration,
+        text: "InvalidConfiguration",
+    },
+    Row {
+        error: PluginCreateError::MissingArrayToBytes,
+        text: "MissingArrayToBytes",
+    },
+    Row {
+        error: PluginCreateError::MultipleArrayToBytes,
+        text: "MultipleArrayToBytes",
+    },
+    Row {
+        error: PluginCreateError::BitOrder,
+        text: "BitOrder",
+    },
+    Row {
+        error: PluginCreateError::MultipleAuto,
+        text: "MultipleAuto",
+    },
+    Row {
+        error: PluginCreateError::ZeroSize,
+        text: "ZeroSize",
+    },
+    Row {
+        error: PluginCreateError::NotAPermutation,
+        text: "NotAPermutation",
+    },
+];
+
+const FAILURES: &'static [Row<StorageError>] = &[Row {
+    error: StorageError { code: 7 },
+    text: "code 7",
+}];
+
+/// The error has this text, which begins with its name.
+fn has_text<E: Display>(
+    rt: &impl Abort,
+    alloc: Global,
+    row: &Row<E>,
+    name: &str,
+) -> Result<(), Fail> {
+    let error = &row.error;
+    let text = format!(in alloc; "{error}")?;
+    is(rt, row.text, &text.as_str(), &row.text);
+    is(rt, row.text, &row.text.starts_with(name), &true);
+    Ok(())
+}
+
+#[test]
+fn have_names_and_texts(rt: HostRuntime) -> Result<(), Fail> {
+    for row in REFUSALS.iter() {
+        has_text(&rt, rt.alloc(), row, row.error.name())?;
+    }
+    for row in FAULTS.iter() {
+        has_text(&rt, rt.alloc(), row, row.error.name())?;
+    }
+    Ok(())
+}
+
+#[test]
+fn of_a_handle_has_its_number_as_text(rt: HostRuntime) -> Result<(), Fail> {
+    for row in FAILURES.iter() {
+        has_text(&rt, rt.alloc(), row, "code")?;
+    }
+    Ok(())
+}
+
+#[test]
+fn are_out_of_memory_where_a_growth_was_refused(rt: HostRuntime) {
+    let refusal = CodecError::OutOfMemory;
+    is(&rt, "refused", &CodecError::from(AllocError), &refusal);
+    let failed = AllocFailed { value: 5u64 };
+    is(&rt, "handed back", &CodecError::from(failed), &refusal);
+    let fault = PluginCreateError::OutOfMemory;
+    is(&rt, "refused", &PluginCreateError::from(AllocError), &fault);
+    let failed = AllocFailed { value: 5u64 };
+    is(&rt, "handed back", &PluginCreateError::from(failed), &fault);
+}

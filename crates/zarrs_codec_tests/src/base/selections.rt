@@ -1,0 +1,267 @@
+//! Elements selected and updated: at the places of an indexer, and at runs of places. More of them are
+//! played in the transcripts of the tool.
+
+use crate::base::checks::{Asked, indexer, shape};
+use crate::base::containers::{Elements, Held, Type, answers, container, data_type};
+use Asked::{Ranges, Tuples};
+use std::alloc::Global;
+use std::process::Abort;
+use zarrs_array_bytes::{ArrayBytes, update_array_bytes, update_runs};
+use zarrs_chunk::{ChunkShape, CodecError, Indexer};
+use zarrs_data_type::DataType;
+
+/// A chunk and its sizes, what is asked for, and what is selected of it; new elements for the same
+/// places, and the chunk afterwards. What is absent stands over its own element. Of a tuple that comes
+/// twice the last new element stands.
+struct Row {
+    name: &'static str,
+    data_type: Type,
+    chunk: Held,
+    sizes: &'static [u64],
+    at: Asked,
+    selected: Held,
+    new: Held,
+    updated: Held,
+}
+
+const ROWS: &'static [Row] = &[
+    Row {
+        name: "bytes, and a place twice",
+        data_type: Type::Byte,
+        chunk: Held {
+            masks: &[],
+            bytes: &[1, 2, 3, 4],
+            offsets: None,
+        },
+        sizes: &[2, 2],
+        at: Tuples(&[&[1, 1], &[0, 0], &[1, 1]]),
+        selected: Held {
+            masks: &[],
+            bytes: &[4, 1, 4],
+            offsets: None,
+        },
+        new: Held {
+            masks: &[],
+            bytes: &[9, 8, 7],
+            offsets: None,
+        },
+        updated: Held {
+            masks: &[],
+            bytes: &[8, 2, 3, 7],
+            offsets: None,
+        },
+    },
+    Row {
+        name: "bytes under a mask, and a place twice",
+        data_type: Type::OptionalByte,
+        chunk: Held {
+            masks: &[&[1, 0, 1]],
+            bytes: &[5, 9, 7],
+            offsets: None,
+        },
+        sizes: &[3],
+        at: Tuples(&[&[2], &[0], &[2]]),
+        selected: Held {
+            masks: &[&[1, 1, 1]],
+            bytes: &[7, 5, 7],
+            offsets: None,
+        },
+        new: Held {
+            masks: &[&[1, 0, 1]],
+            bytes: &[6, 4, 8],
+            offsets: None,
+        },
+        updated: Held {
+            masks: &[&[0, 0, 1]],
+            bytes: &[4, 9, 8],
+            offsets: None,
+        },
+    },
+    Row {
+        name: "texts under a mask",
+        data_type: Type::OptionalText,
+        chunk: Held {
+            masks: &[&[1, 0, 0]],
+            bytes: b"xabc",
+            offsets: Some(&[1, 2, 4, 4]),
+        },
+        sizes: &[3],
+        at: Ranges(&[1..3]),
+        selected: Held {
+            masks: &[&[0, 0]],
+            bytes: b"bc",
+            offsets: Some(&[0, 2, 2]),
+        },
+        new: Held {
+            masks: &[&[0, 1]],
+            bytes: b"Z",
+            offsets: Some(&[0, 0, 1]),
+        },
+        updated: Held {
+            masks: &[&[1, 0, 1]],
+            bytes: b"aZ",
+            offsets: Some(&[0, 1, 1, 2]),
+        },
+    },
+    Row {
+        name: "two masks, and a place twice",
+        data_type: Type::OptionalTwice,
+        chunk: Held {
+            masks: &[&[1, 0, 0], &[1, 1, 0]],
+            bytes: &[42, 0, 3],
+            offsets: None,
+        },
+        sizes: &[3],
+        at: Tuples(&[&[2], &[0], &[2]]),
+        selected: Held {
+            masks: &[&[0, 1, 0], &[0, 1, 0]],
+            bytes: &[3, 42, 3],
+            offsets: None,
+        },
+        new: Held {
+            masks: &[&[1, 0, 0], &[1, 0, 1]],
+            bytes: &[42, 0, 7],
+            offsets: None,
+        },
+        updated: Held {
+            masks: &[&[0, 0, 0], &[0, 1, 1]],
+            bytes: &[0, 0, 7],
+            offsets: None,
+        },
+    },
+];
+
+/// What is told of a chunk, and which of its elements are meant.
+#[derive(Drop)]
+struct Meant {
+    data_type: DataType,
+    shape: ChunkShape,
+    at: Indexer,
+}
+
+fn meant_by(alloc: Global, row: &Row) -> Result<Meant, CodecError> {
+    Ok(Meant {
+        data_type: data_type(alloc, &row.data_type)?,
+        shape: shape(alloc, row.sizes)?,
+        at: indexer(alloc, &row.at)?,
+    })
+}
+
+fn selected(alloc: Global, row: &Row, meant: &Meant) -> Elements {
+    match container(alloc, &row.chunk) {
+        Ok(chunk) => {
+            chunk.extract_array_subset(alloc, &meant.at, &meant.shape, &meant.data_type)
+        }
+        Err(cause) => Err(cause),
+    }
+}
+
+fn updated_by(alloc: Global, row: &Row, meant: &Meant, new: &ArrayBytes<'static>) -> Elements {
+    match container(alloc, &row.chunk) {
+        Ok(chunk) => {
+            update_array_bytes(alloc, chunk, &meant.shape, &meant.at, new, &meant.data_type)
+        }
+        Err(cause) => Err(cause),
+    }
+}
+
+fn updated(alloc: Global, row: &Row, meant: &Meant) -> Elements {
+    match container(alloc, &row.new) {
+        Ok(new) => updated_by(alloc, row, meant, &new),
+        Err(cause) => Err(cause),
+    }
+}
+
+fn are_both(rt: &impl Abort, alloc: Global, row: &Row, meant: &Meant) -> Result<(), CodecError> {
+    answers(
+        rt,
+        alloc,
+        row.name,
+        selected(alloc, row, meant),
+        &row.selected,
+    )?;
+    answers(
+        rt,
+        alloc,
+        row.name,
+        updated(alloc, row, meant),
+        &row.updated,
+    )
+}
+
+fn select_and_update(rt: &impl Abort, alloc: Global, row: &Row) -> Result<(), CodecError> {
+    let meant = meant_by(alloc, row)?;
+    are_both(rt, alloc, row, &meant)
+}
+
+#[test]
+fn select_and_update_elements(rt: HostRuntime) -> Result<(), CodecError> {
+    for row in ROWS.iter() {
+        select_and_update(&rt, rt.alloc(), row)?;
+    }
+    Ok(())
+}
+
+/// Five words.
+const WORDS: Held = Held {
+    masks: &[],
+    bytes: &[0, 1, 2, 3, 4, 5, 6, 7, 8, 9],
+    offsets: None,
+};
+
+/// Those of the places 3, 4, 0, 1 and 0.
+const SELECTED: Held = Held {
+    masks: &[],
+    bytes: &[6, 7, 8, 9, 0, 1, 2, 3, 0, 1],
+    offsets: None,
+};
+
+const NEW: Held = Held {
+    masks: &[],
+    bytes: &[90, 91, 92, 93, 94, 95, 96, 97],
+    offsets: None,
+};
+
+/// The new ones stand at the places 3, 4, 0 and 3.
+const UPDATED: Held = Held {
+    masks: &[],
+    bytes: &[94, 95, 2, 3, 4, 5, 96, 97, 92, 93],
+    offsets: None,
+};
+
+fn selected_in_runs(alloc: Global, word: &DataType) -> Elements {
+    match container(alloc, &WORDS) {
+        Ok(chunk) => chunk.extract_runs(alloc, &[(3, 2), (0, 2), (0, 1)], 5, word),
+        Err(cause) => Err(cause),
+    }
+}
+
+fn updated_in_runs_by(alloc: Global, word: &DataType, new: &ArrayBytes<'static>) -> Elements {
+    match container(alloc, &WORDS) {
+        Ok(chunk) => update_runs(alloc, chunk, 5, &[(3, 2), (0, 1), (3, 1)], new, word),
+        Err(cause) => Err(cause),
+    }
+}
+
+fn updated_in_runs(alloc: Global, word: &DataType) -> Elements {
+    match container(alloc, &NEW) {
+        Ok(new) => updated_in_runs_by(alloc, word, &new),
+        Err(cause) => Err(cause),
+    }
+}
+
+fn are_both_in_runs(rt: &impl Abort, alloc: Global, word: &DataType) -> Result<(), CodecError> {
+    answers(
+        rt,
+        alloc,
+        "selected",
+        selected_in_runs(alloc, word),
+        &SELECTED,
+    )?;
+    answers(rt, alloc, "updated", updated_in_runs(alloc, word), &UPDATED)
+}
+
+#[test]
+fn select_and_update_by_runs(rt: HostRuntime) -> Result<(), CodecError> {
+    are_both_in_runs(&rt, rt.alloc(), &DataType::uint16())
+}
