@@ -5,7 +5,7 @@
 //! What the line tool shows of chains stands in `zarrs_transcripts`. Here is the rest: sizes, containers
 //! with bytes that no element has, what a refusal carries, and calls that the tool doesn't make. Chains
 //! and chunks are told as in the tool's headers. Answers are written by hand. A want of memory ends a
-//! test with that error and is never compared.
+//! test with that error and is never compared. What no transcript shows of the tool's lines is in `tool`.
 #![tactic(auto)]
 
 #[cfg(test)]
@@ -28,5 +28,7 @@ mod reencoding;
 mod refusals;
 #[cfg(test)]
 mod targets;
+#[cfg(test)]
+mod tool;
 #[cfg(test)]
 mod whole;

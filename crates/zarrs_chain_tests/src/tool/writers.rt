@@ -1,5 +1,5 @@
 //! What is answered, and writers that fail in a write or in the flush.
-use crate::sent::{SENT, Sent, run_over};
+use crate::tool::sent::{SENT, Sent, run_over};
 use std::alloc::{AllocError, Global};
 use std::fmt::Debug;
 use std::io;

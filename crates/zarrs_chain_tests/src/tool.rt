@@ -1,5 +1,5 @@
 //! Tests of `run` over what no transcript shows: damaged values, bytes that are no text, readers that
-//! fail, and writers that fail or are flushed. Without tests the crate is empty.
+//! fail, and writers that fail or are flushed.
 //!
 //! What lines are answered is in the transcripts of `zarrs_transcripts`.
 //!
@@ -8,15 +8,8 @@
 //! encoding is decoded to the same chunk. A read in part answers as the whole chunk does, or refuses as
 //! whole decode does; over `bytes` and `packbits` alone it rests on the bytes of its places, and of a
 //! plain `vlen` on the offsets and the bytes of its texts, whatever the rest is.
-#![tactic(auto)]
-
-#[cfg(test)]
 mod damage;
-#[cfg(test)]
 mod lines;
-#[cfg(test)]
 mod rows;
-#[cfg(test)]
 mod sent;
-#[cfg(test)]
 mod writers;
