@@ -1,4 +1,5 @@
-/* The array codecs of Zarr v3, proved: encode, decode and re-encode whole chunks.
+/* The array codecs of Zarr v3, proved: encode, decode and re-encode chunks, and read and write parts of
+ * them.
  *
  * Every call begins with a header: the JSON text of a chunk's shape, the type of its elements, its
  * fill value in hex and its codecs, as
@@ -29,6 +30,11 @@
  * and what is behind them stays as it was. The sizes that a fixed type needs follow from the header, so
  * that one call is enough; of a string or bytes call once with buffers of no length, or with a guess.
  *
+ * A selection is a count and numbers. Where tuples is ZARRS_BOX it is a box of the chunk: first where each
+ * axis starts, then how long it is there. Else it is so many index tuples, one after another, a number an
+ * axis each; a tuple may come more than once. Elements of a selection come row by row, or in the order of
+ * the tuples. Numbers that are no selection give ZARRS_ARGUMENT.
+ *
  * What the caller keeps: a pointer is valid for its length, and may be NULL where that is 0; pointers to
  * uint64_t are aligned; a buffer that is written overlaps no other argument; a bool is 0 or 1. Calls keep
  * no state, so threads may call at once; no call is made in a signal handler, nor in the forked child of a
@@ -51,8 +57,12 @@ enum {
     ZARRS_SHORT = 1,
     ZARRS_SYNTAX = 2,
     ZARRS_ARGUMENT = 3,
-    ZARRS_OUT_OF_MEMORY = 10
+    ZARRS_OUT_OF_MEMORY = 10,
+    ZARRS_STORAGE = 11
 };
+
+/* As a count of tuples: the numbers are those of a box. */
+#define ZARRS_BOX UINT64_MAX
 
 /* How many items the three buffers have, or need. */
 typedef struct zarrs_sizes {
@@ -91,6 +101,48 @@ uint32_t zarrs_reencode(const uint8_t *header, size_t header_len,
                         const uint8_t *value, size_t value_len,
                         const uint8_t *codecs, size_t codecs_len,
                         uint8_t *other, size_t other_len, size_t *needed);
+
+/* The elements that a selection means of the chunk that a value stands for; of a chunk of fill values where
+ * nothing is stored, and then the value isn't read. Of bytes and packbits, with no codec of bytes behind them,
+ * the bytes of these elements are looked at and no others. */
+uint32_t zarrs_read(const uint8_t *header, size_t header_len,
+                    bool is_stored, const uint8_t *value, size_t value_len,
+                    uint64_t tuples, const uint64_t *numbers, size_t numbers_len,
+                    uint8_t *masks, size_t masks_len,
+                    uint64_t *offsets, size_t offsets_len,
+                    uint8_t *bytes, size_t bytes_len, zarrs_sizes *needed);
+
+/* The value of the chunk with new elements where a selection means them: it begins as the chunk that a value
+ * stands for, or as fill values where nothing is stored, and then the value isn't read. Of a tuple that comes
+ * more than once the last element stands. The old value stays as it is. */
+uint32_t zarrs_write(const uint8_t *header, size_t header_len,
+                     bool is_stored, const uint8_t *value, size_t value_len,
+                     uint64_t tuples, const uint64_t *numbers, size_t numbers_len,
+                     const uint8_t *masks, size_t masks_len,
+                     const uint64_t *offsets, size_t offsets_len,
+                     const uint8_t *bytes, size_t bytes_len,
+                     uint8_t *out, size_t out_len, size_t *needed);
+
+/* Which bytes of a value zarrs_read asks for, whatever is stored: ranges, each the number of its first byte
+ * and that of the first byte behind it, in order and with at least a byte between one and the next. Where
+ * is_planned is false there are none: the whole value is needed. A short buffer is told by ZARRS_SHORT, and
+ * is_planned is told then too. */
+uint32_t zarrs_planned_ranges(const uint8_t *header, size_t header_len,
+                              uint64_t tuples, const uint64_t *numbers, size_t numbers_len,
+                              uint64_t *ranges, size_t ranges_len,
+                              bool *is_planned, size_t *needed);
+
+/* What zarrs_read answers of a value of len bytes, by pieces of it: such ranges, and in fetched the bytes of
+ * all of them, joined. Where all bytes that zarrs_planned_ranges tells are among them, the answer is the same
+ * for every value that has these bytes there. ZARRS_STORAGE says that a byte is needed which isn't among
+ * them; ranges that touch, come in another order or end behind the value are refused. */
+uint32_t zarrs_read_pieces(const uint8_t *header, size_t header_len,
+                           uint64_t len, const uint64_t *ranges, size_t ranges_len,
+                           const uint8_t *fetched, size_t fetched_len,
+                           uint64_t tuples, const uint64_t *numbers, size_t numbers_len,
+                           uint8_t *masks, size_t masks_len,
+                           uint64_t *offsets, size_t offsets_len,
+                           uint8_t *bytes, size_t bytes_len, zarrs_sizes *needed);
 
 #ifdef __cplusplus
 }

@@ -1,10 +1,8 @@
 -- Codes of causes.
-use Rattle.std.proofs.Common.{◌≡◌, ◌⊎◌, ℕ, true, false, Result, Ok, Err, Bool, inl, inr, refl, sym, ap, ◌∙◌}
-use Rattle.zarrs_chunk.specs.Answer.{Answers, Excused}
-use Rattle.zarrs_chunk.specs.declared.codec_error.CodecError.{CodecError}
+use Rattle.std.proofs.Common.{◌≡◌, ℕ, true, false, Result, Err, Bool, inl, inr, refl, sym, ap, ◌∙◌}
+use Rattle.zarrs_chunk.specs.Answer.{Excused}
 use Rattle.zarrs_chunk.specs.declared.codec_error.CodecError.TheVariants.{OutOfMemory, Storage, UnsupportedDataType, EndiannessMissing, ArrayBytesKind, InvalidBytesLength, IncompatibleDimensionality, OutOfBounds, Overflow, InvalidFillValue, ReshapeDimension, ReshapeElements, BitRange, PaddingByte, IndexLength, InvalidOffsets, OffsetTooLarge, OffsetNotKept, MaskValue, HeaderOverflow, InvalidByteRange, BytesCodec, DataMismatch, UnsupportedTarget, TargetMismatch, ReversedRange}
 use Rattle.zarrs_metadata.specs.declared.plugin_create_error.PluginCreateError.TheVariants as making
-use Rattle.zarrs_chain_json.specs.declared.refusal.Refusal.{Refusal}
 use Rattle.zarrs_chain_json.specs.declared.refusal.Refusal.TheVariants.{Syntax, Making, Codec}
 use Rattle.zarrs_calls.specs.Codes.{cause_code, cause_memory, answer_code, IsCode, IsRefusal}
 use Rattle.zarrs_calls.specs.declared.cause.Cause.{Cause}

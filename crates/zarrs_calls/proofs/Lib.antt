@@ -1,4 +1,12 @@
+pub mod AnswerLemmas
 pub mod CodeLemmas
 pub mod CrossedLemmas
+pub mod EnoughLemmas
+pub mod FetchedDue
+pub mod FetchedLemmas
+pub mod GivenPieces
 pub mod ListLemmas
+pub mod PlanLemmas
+pub mod SelectionLemmas
 pub mod TellLemmas
+pub mod WrittenLemmas

@@ -1,10 +1,10 @@
 -- What calls tell, by what the inner ones answer.
-use Rattle.std.proofs.Common.{◌≡◌, ◌⊎◌, ℕ, ◌-◌, ◌^◌, ◌<◌, ◌&&◌, nat_le, min, Bool, true, false, List, length, Result, Ok, Err, IsOkAnd, inl, inr, refl, sym, ap, ◌∙◌, arith}
+use Rattle.std.proofs.Common.{◌≡◌, ℕ, ◌-◌, ◌^◌, ◌<◌, ◌&&◌, nat_le, min, Bool, true, false, List, length, Result, Ok, Err, IsOkAnd, inl, inr, refl, sym, ap, ◌∙◌, arith}
 use Rattle.std.proofs.lemmas.Bool.Decides.{nat_tests}
-use Rattle.zarrs_chunk.specs.Answer.{Answers, AnswersBy, Excused}
+use Rattle.zarrs_chunk.specs.Answer.{Excused}
 use Rattle.zarrs_array_bytes.specs.Held.{Held}
 use Rattle.zarrs_calls.specs.Buffers.{Buffers, crossed, have_room, sizes_fit, sizes_of, with_fronts}
-use Rattle.zarrs_calls.specs.Codes.{cause_code, cause_memory, IsRefusal}
+use Rattle.zarrs_calls.specs.Codes.{cause_code, cause_memory}
 use Rattle.zarrs_codec.specs.declared.bytes_representation.BytesRepresentation.{BytesRepresentation}
 use Rattle.zarrs_calls.specs.Told.{Elements, HoldsThese, ToldBytes, ToldParts, TellsBytes, TellsElements, TellsRepresentation, kind_of, size_of}
 use Rattle.zarrs_calls.specs.declared.cause.Cause.{Cause}

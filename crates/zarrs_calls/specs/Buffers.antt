@@ -1,5 +1,5 @@
 -- Elements as they cross to C: in three buffers.
-use Rattle.std.specs.Prelude.{◌≡◌, ℕ, ◌&&◌, ◌^◌, ◌-◌, nat_le, min, if◌then◌else◌, Bool, List, [], ◌++◌, length}
+use Rattle.std.specs.Prelude.{ℕ, ◌&&◌, ◌^◌, ◌-◌, nat_le, min, Bool, List, [], ◌++◌, length}
 use Rattle.zarrs_array_bytes.specs.Held.{Held, flen, vlen, masked}
 use Rattle.zarrs_array_bytes.specs.Update.{with_items_at}
 use Rattle.zarrs_calls.specs.declared.sizes.Sizes.{Sizes}

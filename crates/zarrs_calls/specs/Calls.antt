@@ -1,5 +1,5 @@
 -- What is due to a call: its value, or the first cause of a refusal.
-use Rattle.std.specs.Prelude.{ℕ, Bool, if◌then◌else◌, List, length, Option, Some, None, Result, Ok}
+use Rattle.std.specs.Prelude.{ℕ, List, Result, Ok}
 use Rattle.zarrs_chunk.specs.Answer.{◌>>=◌}
 use Rattle.zarrs_codec.specs.SampleBytesCodec.{sample_codecs}
 use Rattle.zarrs_codec.specs.declared.bytes_representation.BytesRepresentation.{BytesRepresentation}

@@ -4,3 +4,10 @@ pub mod Buffers
 pub mod Given
 pub mod Told
 pub mod Calls
+pub mod Selections
+pub mod Reads
+pub mod Writes
+pub mod Plans
+pub mod PlanSeen
+pub mod Fetched
+pub mod Enough

@@ -2,9 +2,10 @@
 //! refusal. The static library `zarrs_c` exports them.
 //!
 //! Each call begins with a header, the JSON text of a chunk's `shape`, `data_type`, `fill_value` and
-//! `codecs`. Elements cross in three buffers, masks, offsets and bytes ([`Sizes`]). A call answers 0
-//! where all is done, 1 where a buffer is too short, and else the code of the first cause of a refusal;
-//! a refused call leaves the caller's buffers and counts as they were.
+//! `codecs`. Elements cross in three buffers, masks, offsets and bytes ([`Sizes`]), and a selection of
+//! them as numbers ([`zarrs_read`]). A call answers 0 where all is done, 1 where a buffer is too short,
+//! and else the code of the first cause of a refusal; a refused call leaves the caller's buffers and
+//! counts as they were.
 #![tactic(auto)]
 
 mod calls;
@@ -13,19 +14,33 @@ mod check;
 mod decode;
 mod encode;
 mod error_name;
+mod fetched;
 mod given;
+pub mod laws;
 mod names;
+mod part_reads;
+mod part_writes;
+mod plan;
+mod planned_ranges;
+mod read;
+mod read_pieces;
 mod reencode;
 mod representation;
+mod selection;
 mod sizes;
 mod tell;
 #[cfg(test)]
 mod tests;
+mod write;
 
 pub use check::zarrs_check;
 pub use decode::zarrs_decode;
 pub use encode::zarrs_encode;
 pub use error_name::zarrs_error_name;
+pub use planned_ranges::zarrs_planned_ranges;
+pub use read::zarrs_read;
+pub use read_pieces::zarrs_read_pieces;
 pub use reencode::zarrs_reencode;
 pub use representation::zarrs_representation;
 pub use sizes::Sizes;
+pub use write::zarrs_write;

@@ -35,6 +35,27 @@ pub(crate) fn tell_bytes(value: &[u8], out: &mut [u8], needed: &mut usize) -> u3
     DONE
 }
 
+/// Writes numbers in front of the buffer.
+fn write_numbers(out: &mut [u64], numbers: &[u64])
+    requires inside { length numbers.now ≤ length out.old }
+    ensures written { out.new ≡ with_items_at out.old 0 numbers.now }
+{
+    out[..numbers.len()].copy_from_slice(numbers);
+}
+
+/// Writes numbers in front of the buffer, and tells how many they are; where it is too short, that alone.
+pub(crate) fn tell_numbers(numbers: &[u64], out: &mut [u64], needed: &mut usize) -> u32
+    ensures told { ToldBytes numbers.now result out.old out.new needed.new }
+{
+    let count = numbers.len();
+    *needed = count;
+    if out.len() < count {
+        return SHORT;
+    }
+    write_numbers(out, numbers);
+    DONE
+}
+
 /// Tells how many bytes a value has.
 pub(crate) fn tell_representation(
     representation: BytesRepresentation,

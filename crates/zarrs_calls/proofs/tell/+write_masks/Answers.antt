@@ -1,4 +1,4 @@
-use Rattle.std.proofs.Common.{◌≡◌, ◌+◌, ◌≤◌, ◌++◌, length, ap, sym, ◌∙◌, arith, length-append}
+use Rattle.std.proofs.Common.{◌≡◌, ◌+◌, ◌≤◌, ◌++◌, length, ap, sym, ◌∙◌, arith}
 use Rattle.zarrs_array_bytes.specs.Update.{with_items_at}
 use Rattle.zarrs_calls.specs.Buffers.{crossed, under_mask}
 use Rattle.zarrs_calls.proofs.CrossedLemmas.{crossed_masked}

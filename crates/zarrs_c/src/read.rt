@@ -1,0 +1,37 @@
+//! The call `zarrs_read`.
+ghost use Rattle.zarrs_calls.specs.Buffers.{buffers};
+ghost use Rattle.zarrs_calls.specs.Reads.{part_read, stored_value};
+ghost use Rattle.zarrs_calls.specs.Told.{TellsElements};
+
+use std::alloc::Global;
+use zarrs_calls::Sizes;
+
+/// The elements that a selection means, in its order, of the chunk that a value stands for, or fill values
+/// where nothing is stored; `value` isn't read then.
+///
+/// Where `tuples` is 2^64 - 1 the selection is a box, and `numbers` are its starts and then its lengths, one
+/// an axis; else it is so many index tuples, one after another. The elements are told as by `zarrs_decode`.
+/// Refusals, the first that holds, `OutOfMemory` aside: those of `zarrs_check`; `Argument` or `Overflow` of
+/// the selection; those of `CodecChain::partial_decoder` and then of its `partial_decode`.
+#[unsafe(no_mangle)]
+pub extern "C" fn zarrs_read(
+    alloc: Global,
+    text: &[u8],
+    is_stored: bool,
+    value: &[u8],
+    tuples: u64,
+    numbers: &[u64],
+    masks: &mut [u8],
+    offsets: &mut [u64],
+    bytes: &mut [u8],
+    needed: &mut Sizes,
+) -> u32
+    ensures told { TellsElements
+        (part_read text.now (stored_value is_stored value.now) tuples numbers.now) result
+        (buffers masks.old offsets.old bytes.old) (buffers masks.new offsets.new bytes.new)
+        needed.old needed.new }
+{
+    zarrs_calls::zarrs_read(
+        alloc, text, is_stored, value, tuples, numbers, masks, offsets, bytes, needed,
+    )
+}

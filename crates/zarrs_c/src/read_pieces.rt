@@ -1,0 +1,48 @@
+//! The call `zarrs_read_pieces`.
+ghost use Rattle.std.specs.Prelude.{ℕ, List, Some};
+ghost use Rattle.zarrs_calls.specs.Buffers.{buffers};
+ghost use Rattle.zarrs_calls.specs.Fetched.{pieces_read, HasPlannedPieces, TellsOrLacks};
+ghost use Rattle.zarrs_calls.specs.Reads.{part_read};
+ghost use Rattle.zarrs_calls.specs.Told.{TellsElements};
+
+use std::alloc::Global;
+use zarrs_calls::Sizes;
+
+/// The elements that a selection means of the chunk that a value of `len` bytes stands for, of which
+/// these ranges were fetched: each is a start and an end, they come in order, between one and the next
+/// there is a byte, and `fetched` has their bytes, joined.
+///
+/// Where the bytes that `zarrs_planned_ranges` tells are among them, the answer is that of `zarrs_read`, for
+/// every value that has these bytes there. The selection is that of `zarrs_read`, and the elements are told
+/// as by `zarrs_decode`. Refusals, the first that holds, `OutOfMemory` aside: those of `zarrs_check`;
+/// `Argument` or `Overflow` of the selection; `Argument` where the ranges aren't pairs or have other bytes
+/// than are fetched; `InvalidByteRange` where they touch, come in another order or end behind the value;
+/// `Storage` where a byte is needed that isn't among them; those of `zarrs_read`.
+#[unsafe(no_mangle)]
+pub extern "C" fn zarrs_read_pieces(
+    alloc: Global,
+    text: &[u8],
+    len: u64,
+    ranges: &[u64],
+    fetched: &[u8],
+    tuples: u64,
+    numbers: &[u64],
+    masks: &mut [u8],
+    offsets: &mut [u64],
+    bytes: &mut [u8],
+    needed: &mut Sizes,
+) -> u32
+    ensures told { TellsOrLacks
+        (pieces_read text.now len ranges.now fetched.now tuples numbers.now) result
+        (buffers masks.old offsets.old bytes.old) (buffers masks.new offsets.new bytes.new)
+        needed.old needed.new }
+    ensures alike { (value : List ℕ) →
+        HasPlannedPieces text.now len ranges.now fetched.now tuples numbers.now value →
+        TellsElements (part_read text.now (Some value) tuples numbers.now) result
+        (buffers masks.old offsets.old bytes.old) (buffers masks.new offsets.new bytes.new)
+        needed.old needed.new }
+{
+    zarrs_calls::zarrs_read_pieces(
+        alloc, text, len, ranges, fetched, tuples, numbers, masks, offsets, bytes, needed,
+    )
+}

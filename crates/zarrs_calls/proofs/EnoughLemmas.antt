@@ -1,0 +1,119 @@
+-- Ranges that are told for a plan have all bytes that are planned.
+use Rattle.std.proofs.Common.{◌≡◌, ℕ, zero, suc, ◌+◌, ◌-◌, ◌<◌, ◌≤◌, Bool, true, false, if◌then◌else◌, Option, Some, None, List, [], ◌∷◌, Result, Ok, Err, IsOkAnd, refl, ap, sym, ◌∙◌, subst, arith}
+use Rattle.std.specs.List.{list_all, range_with_len}
+use Rattle.std.proofs.lemmas.Bool.{and_from, or_left, or_right}
+use Rattle.std.proofs.lemmas.Bool.Decides.{nat_tests}
+use Rattle.std.proofs.lemmas.List.Folds.{list_all-append}
+use Rattle.zarrs_chunk.specs.Answer.{◌>>=◌, seen}
+use Rattle.zarrs_chunk.specs.Selection.{Selection}
+use Rattle.zarrs_chunk.specs.declared.codec_error.CodecError.{CodecError}
+use Rattle.zarrs_data_type.specs.ElementType.{ElementType}
+use Rattle.zarrs_data_type.specs.Form.{form_of}
+use Rattle.zarrs_codec.specs.ByteRanges.{range_indices}
+use Rattle.zarrs_codec.specs.ByteSpan.{ByteSpan}
+use Rattle.zarrs_codec.specs.SampleBytesCodec.{sample_codecs}
+use Rattle.zarrs_codec.specs.declared.bytes_representation.BytesRepresentation.{BytesRepresentation}
+use Rattle.zarrs_codec.specs.declared.sample_bytes_codec.SampleBytesCodec.{SampleBytesCodec}
+use Rattle.zarrs_bytes.specs.PartialRead.{place_bytes, place_size}
+use Rattle.zarrs_packbits.specs.PackBitsSettings.{packed_layout}
+use Rattle.zarrs_packbits.specs.PartialRead.{packed_places_bytes}
+use Rattle.zarrs_packbits.specs.ReadPlan.{IsPlan}
+use Rattle.zarrs_chain_parts.specs.Chain.{taken_form}
+use Rattle.zarrs_chain_parts.specs.PlainChain.{PlainCodec, bytes_codec, packbits_codec, vlen_codec, optional_codec}
+use Rattle.zarrs_chain_parts.specs.Representation.{chain_representation}
+use Rattle.zarrs_chain_parts.proofs.ArraySteps.{bind_ok, ok}
+use Rattle.zarrs_chain_partial.specs.ChunkRead.{ChunkForm, IsCodecPlan, IsReadPlan, codec_rests_on, encoded_places, planned_places, reads_places}
+use Rattle.zarrs_chain_header.specs.Header.{Header}
+use Rattle.zarrs_pieces.specs.Joined.{has_number, have_number}
+use Rattle.zarrs_pieces.specs.Pieces.{is_at_hand}
+use Rattle.zarrs_planned_reads.specs.PlannedReads.{ArePlanned}
+use Rattle.zarrs_calls.specs.Codes.{codec_answer}
+use Rattle.zarrs_calls.specs.Enough.{PlanIsEnough}
+use Rattle.zarrs_calls.specs.Plans.{Planned, places_planned}
+use Rattle.zarrs_calls.specs.Reads.{header_form}
+use Rattle.zarrs_calls.proofs.PlanLemmas.{plan_by, with_header}
+
+-- ---- the bytes of ranges
+
+row_passes : (test : ℕ → Bool) (start len : ℕ) → ((n : ℕ) → start ≤ n → n < start + len → test n ≡ true) → list_all test (range_with_len start len) ≡ true
+row_passes test start zero h = refl
+row_passes test start (suc len) h =
+    and_from _ _ (h start (omega arith) (omega arith)) (row_passes test (start + 1) len (λ n l m. h n (omega (arith, l)) (omega (arith, m))))
+
+in_range : (range : ByteSpan) (n : ℕ) → range.start ≤ n → n < range.start + (range.end - range.start) → has_number range n ≡ true
+in_range range n l m =
+    let below : n < range.end = omega (arith, l, m) in
+    grind (arith, nat_tests)
+
+-- a test that the bytes of ranges pass
+passes : (test : ℕ → Bool) (ranges : List ByteSpan) → ((n : ℕ) → have_number ranges n ≡ true → test n ≡ true) → list_all test (range_indices ranges) ≡ true
+passes test [] h = refl
+passes test (range ∷ ranges) h =
+    list_all-append test (range_with_len range.start (range.end - range.start)) (range_indices ranges)
+    ∙ and_from _ _ (row_passes test range.start (range.end - range.start) (λ n l m. h n (or_left (has_number range n) (have_number ranges n) (in_range range n l m))))
+    (passes test ranges (λ n e. h n (or_right (has_number range n) (have_number ranges n) e)))
+
+-- ---- of a codec to bytes
+
+module _ (made : List ByteSpan) (test : ℕ → Bool) (all : (n : ℕ) → have_number made n ≡ true → test n ≡ true) where
+  -- numbers that pass, which this answers
+  abbrev Passing : Result (List ℕ) CodecError → Type 0
+  Passing r = (numbers : List ℕ) × (r ≡ Ok numbers) × (list_all test numbers ≡ true)
+
+  packed_passes : {L : Type 0} (bytes_of : L → List ℕ) (Plan : L → Type 0) → ((l : L) → Plan l → (t : ℕ → Bool) → list_all t (range_indices made) ≡ list_all t (bytes_of l)) → (r : Result L CodecError) → IsOkAnd r Plan → Passing (r >>= λ l. ok (bytes_of l))
+  packed_passes bytes_of Plan same (Ok l) plan = (bytes_of l, refl, sym (same l plan test) ∙ passes test made all)
+  packed_passes bytes_of Plan same (Err e) plan = absurd plan
+
+  codec_passes : (codec : PlainCodec SampleBytesCodec) (sizes : List ℕ) (type : ElementType) (fill places : List ℕ) → IsCodecPlan codec sizes type fill places made → Passing (codec_rests_on codec sizes type fill None places)
+  codec_passes (bytes_codec order) sizes type fill places plan =
+      (place_bytes (place_size type) places, refl, subst (λ (ns : List ℕ). list_all test ns ≡ true) plan.0 (passes test made all))
+  codec_passes (packbits_codec settings) sizes type fill places plan =
+      packed_passes (λ l. packed_places_bytes l places) (λ l. IsPlan l places made) (λ l p. p.bytes) (packed_layout settings (form_of sizes type fill)) plan
+  codec_passes (vlen_codec ia ix ib da dx db wide at_end) sizes type fill places plan = absurd plan
+  codec_passes (optional_codec ma mx mb da dx db) sizes type fill places plan = absurd plan
+
+  -- ---- through a chain
+
+  abbrev some_if : Bool → List ℕ → Option (List ℕ)
+  some_if b numbers = if b then Some numbers else None
+
+  was_planned : (b : Bool) (found places : List ℕ) → ok (some_if b found) ≡ Ok (Some places) → (b ≡ true) × (found ≡ places)
+  was_planned true found places e = (refl, cc)
+  was_planned false found places e = absurd (cc)
+
+  chain_passes : (b : Bool) (codec : PlainCodec SampleBytesCodec) (type : ElementType) (fill : List ℕ) (p : Result (List ℕ) CodecError) (t : Result (List ℕ × BytesRepresentation) CodecError) (places : List ℕ) → seen (some_if b) p ≡ Ok (Some places)
+      → IsOkAnd t (λ taken. IsCodecPlan codec taken.0 type fill places made)
+      → (numbers : List ℕ) × ((p >>= λ found. t >>= λ taken. codec_rests_on codec taken.0 type fill None found >>= λ bytes. ok (some_if b bytes)) ≡ Ok (Some numbers)) × (list_all test numbers ≡ true)
+  chain_passes b codec type fill (Err e) t places is plan = absurd (cc)
+  chain_passes b codec type fill (Ok found) (Err e) places is plan = absurd plan
+  chain_passes b codec type fill (Ok found) (Ok taken) places is plan =
+      let was = was_planned b found places is in
+      let own : IsCodecPlan codec taken.0 type fill found made = subst (λ (ps : List ℕ). IsCodecPlan codec taken.0 type fill ps made) (sym was.1) plan in
+      let found_numbers = codec_passes codec taken.0 type fill found own in (
+        found_numbers.0,
+        ap (λ (r : Result (List ℕ) CodecError). r >>= λ bytes. ok (some_if b bytes)) found_numbers.1 ∙ ap (λ (s : Bool). ok (some_if s found_numbers.0)) was.0,
+        found_numbers.2,
+      )
+
+  form_passes : (form : ChunkForm SampleBytesCodec) (selection : Selection) (places : List ℕ) → planned_places form selection ≡ Ok (Some places) → IsReadPlan sample_codecs form (Some made) (Some places)
+      → (numbers : List ℕ) × ArePlanned sample_codecs form selection numbers × (list_all test numbers ≡ true)
+  form_passes form selection places is plan =
+      chain_passes (reads_places form.chain.outer form.chain.codec) form.chain.codec form.type form.fill (encoded_places form.type form.chain.arrays form.sizes selection) (taken_form sample_codecs form.chain form.sizes form.type form.fill) places is plan
+
+-- ---- of a header
+
+planned_is : (header : Header) (r : Result (Option (List ℕ)) CodecError) (plan : Planned) → (codec_answer r >>= with_header header) ≡ Ok plan → (r ≡ Ok plan.1) × (header ≡ plan.0)
+planned_is header (Ok places) plan e =
+    let same : (header, places) ≡ plan = cc in
+    (ap (λ (p : Planned). ok p.1) same, ap (λ (p : Planned). p.0) same)
+planned_is header (Err error) plan e = absurd (cc)
+
+pub plan_is_enough : PlanIsEnough
+plan_is_enough text tuples numbers header selection plan ranges pieces reads means is told all =
+    let form = header_form header in
+    let places : List ℕ = told.0 in
+    let made : List ByteSpan = told.1 in
+    let p = planned_is header (places_planned form selection) plan (sym (plan_by text tuples numbers header selection reads means) ∙ is) in
+    let b = bind_ok (chain_representation sample_codecs form.chain form.sizes form.type form.fill) (λ _. planned_places form selection) (Some places) (p.0 ∙ ap ok told.2) in
+    let own : IsReadPlan sample_codecs form (Some made) (Some places) = subst (λ (h : Header). IsReadPlan sample_codecs (header_form h) (Some made) (Some places)) (sym p.1) told.3 in
+    form_passes made (is_at_hand pieces) (λ n e. all n (told.4.same n ∙ e)) form selection places b.2 own

@@ -1,0 +1,34 @@
+use Rattle.std.proofs.Common.{rules, ap}
+use Rattle.zarrs_chunk.specs.Indexer.{selection_of}
+use Rattle.zarrs_codec.specs.MemoryHandle.{handle_value}
+use Rattle.zarrs_chain_header.specs.HeaderRead.{header_seen}
+use Rattle.zarrs_chain_partial.specs.PartialEncoder.{encoder_form, encoder_handle}
+use Rattle.zarrs_chain_lines.proofs.WriteLemmas.{write_quiet, part_written, part_unwritten}
+use Rattle.zarrs_calls.specs.Reads.{header_form}
+use Rattle.zarrs_calls.proofs.WrittenLemmas.{by_encoder, by_no_encoder}
+use Rattle.zarrs_calls.proofs.part_writes.write_part.Goals as goal
+
+pub returns-in-Err : goal.returns-in-Err
+returns-in-Err c =
+    let chunk = header_form (header_seen c.args.form.now) in
+    let before = handle_value c.args.handle.now in
+    let selection = selection_of c.args.indexer.now in
+    let new = c.args.new.now in
+    record {
+      answer = by_no_encoder chunk before selection new c.in-Err.refused.error
+          (part_unwritten chunk before (record { selection = selection; new = new }) c.in-Err.refused.error c.in-Err.ensures.answer.is);
+    }
+
+pub returns-in-Ok : goal.returns-in-Ok
+returns-in-Ok c =
+    let chunk = header_form (header_seen c.args.form.now) in
+    let before = handle_value c.args.handle.now in
+    let selection = selection_of c.args.indexer.now in
+    let new = c.args.new.now in
+    let old = (encoder_handle c.in-Ok.encoder).now in
+    let left = (encoder_handle c.partial_encode-written.new.self).now in
+    record {
+      answer = by_encoder chunk before _ selection new c.partial_encode-written.result
+          (part_written chunk (encoder_form c.in-Ok.encoder) before (handle_value old) _ (handle_value left) (record { selection = selection; new = new }) c.partial_encode-written.result c.in-Ok.ensures.form (ap (λ h. handle_value h.now) c.in-Ok.ensures.over) c.in-Ok.ensures.answer.is
+          (write_quiet _ c.partial_encode-written.result old left c.partial_encode-written.ensures.left.refused) c.partial_encode-written.ensures.edits.exact (search rules));
+    }

@@ -1,0 +1,30 @@
+-- What plans of reads are seen as.
+use Rattle.std.specs.Prelude.{◌≡◌, ℕ, Option, Some, None, List, Vec, Result}
+use Rattle.std.specs.Option.{option_map}
+use Rattle.std.proofs.Common.{Global}
+use Rattle.zarrs_chunk.specs.Answer.{AnswersBy, memory}
+use Rattle.zarrs_chunk.specs.Selection.{Selection}
+use Rattle.zarrs_chunk.specs.declared.codec_error.CodecError.{CodecError}
+use Rattle.zarrs_codec.specs.ByteSpan.{ByteSpan}
+use Rattle.zarrs_codec.specs.SampleBytesCodec.{sample_codecs}
+use Rattle.zarrs_codec.specs.declared.sample_bytes_codec.SampleBytesCodec.{SampleBytesCodec}
+use Rattle.zarrs_chain_partial.specs.ChunkRead.{ChunkForm, IsReadPlan}
+use Rattle.zarrs_pieces.specs.Joined.{Joins}
+use Rattle.zarrs_calls.specs.Plans.{Planned, AreForPlan, places_planned, range_numbers}
+
+-- these ranges are a plan of these places
+abbrev pub IsPlanOf : ChunkForm SampleBytesCodec → Option (Vec ByteSpan Global) → Option (List ℕ) → Type 0
+IsPlanOf form ranges places = IsReadPlan sample_codecs form (option_map (λ v. v.items) ranges) places
+
+-- a plan of a read of a selection, or the first refusal
+abbrev pub PlansPart : ChunkForm SampleBytesCodec → Selection → Result (Option (Vec ByteSpan Global)) CodecError → Type 0
+PlansPart form selection result = AnswersBy memory (IsPlanOf form) result (places_planned form selection)
+
+-- the numbers are those of the ranges, in order and joined
+abbrev pub AreNumbersOf : List ByteSpan → Vec ℕ Global → Type 0
+AreNumbersOf ranges numbers = (joined : List ByteSpan) × (numbers.items ≡ range_numbers joined) × Joins ranges joined
+
+-- the numbers are those of ranges for a plan, or there are none
+abbrev pub IsPlanAsNumbers : Option (Vec ℕ Global) → Planned → Type 0
+IsPlanAsNumbers None plan = AreForPlan None plan
+IsPlanAsNumbers (Some numbers) plan = (ranges : List ByteSpan) × (numbers.items ≡ range_numbers ranges) × AreForPlan (Some ranges) plan

@@ -1,0 +1,73 @@
+-- What is due to a call that writes a chunk in part.
+use Rattle.std.specs.Prelude.{ℕ, List, [], ◌∷◌, length, map, Option, Some, None, Result, Ok}
+use Rattle.zarrs_chunk.specs.Answer.{◌>>=◌, Answers, memory, seen}
+use Rattle.zarrs_chunk.specs.Selection.{Selection}
+use Rattle.zarrs_chunk.specs.declared.codec_error.CodecError.{CodecError}
+use Rattle.zarrs_data_type.specs.Element.{Chunk}
+use Rattle.zarrs_array_bytes.specs.Elements.{elements}
+use Rattle.zarrs_array_bytes.specs.Held.{Held}
+use Rattle.zarrs_codec.specs.ChunkEdits.{data_places, with_elements}
+use Rattle.zarrs_codec.specs.SampleBytesCodec.{sample_codecs}
+use Rattle.zarrs_codec.specs.declared.sample_bytes_codec.SampleBytesCodec.{SampleBytesCodec}
+use Rattle.zarrs_bytes.specs.BytesCodec.{spelling}
+use Rattle.zarrs_bytes.specs.PartialRead.{place_size}
+use Rattle.zarrs_bytes.specs.PartialWrite.{filled_chunk, with_place_bytes}
+use Rattle.zarrs_chain_parts.specs.ArrayStages.{arrays_map}
+use Rattle.zarrs_chain_parts.specs.Decode.{chain_chunk}
+use Rattle.zarrs_chain_parts.specs.Encode.{chain_value}
+use Rattle.zarrs_chain_parts.specs.PlainChain.{PlainCodec, bytes_codec, packbits_codec, vlen_codec, optional_codec}
+use Rattle.zarrs_chain_parts.specs.Representation.{chain_representation}
+use Rattle.zarrs_chain_partial.specs.ChunkRead.{ChunkForm}
+use Rattle.zarrs_calls.specs.Buffers.{Buffers}
+use Rattle.zarrs_calls.specs.Calls.{header_given}
+use Rattle.zarrs_calls.specs.Codes.{codec_answer}
+use Rattle.zarrs_calls.specs.Given.{elements_given}
+use Rattle.zarrs_calls.specs.Reads.{header_form}
+use Rattle.zarrs_calls.specs.Selections.{selection_given}
+use Rattle.zarrs_calls.specs.declared.cause.Cause.{Cause}
+
+-- the value that is written for a chunk with new elements at these places
+abbrev pub chunk_written : ChunkForm SampleBytesCodec → Chunk → List ℕ → Held → Result (List ℕ) CodecError
+chunk_written form chunk places new =
+    chain_value sample_codecs form.chain form.sizes form.type form.fill (with_elements form.type chunk places new)
+
+-- the same of the chunk that a stored value stands for
+abbrev pub whole_written : ChunkForm SampleBytesCodec → List ℕ → List ℕ → Held → Result (List ℕ) CodecError
+whole_written form value places new = do
+  chunk ← chain_chunk sample_codecs form.chain form.sizes form.type form.fill value
+  chunk_written form chunk places new
+
+-- The value that new elements at these places leave of a stored one: over `bytes` without bytes codecs it is this value with the bytes of the places, as they go through the array codecs, replaced; else that of the chunk that it stands for, with the new elements.
+abbrev pub left_of_value : ChunkForm SampleBytesCodec → List SampleBytesCodec → PlainCodec SampleBytesCodec → List ℕ → List ℕ → Held → Result (List ℕ) CodecError
+left_of_value form [] (bytes_codec order) value places new = do
+  m ← arrays_map form.type form.chain.arrays form.sizes
+  Ok (with_place_bytes (place_size form.type) value (map m.to places) (spelling order form.type (elements form.type (length places) new)))
+left_of_value form [] (packbits_codec settings) value places new = whole_written form value places new
+left_of_value form [] (vlen_codec ia ix ib da dx db wide at_end) value places new = whole_written form value places new
+left_of_value form [] (optional_codec ma mx mb da dx db) value places new = whole_written form value places new
+left_of_value form (first ∷ rest) codec value places new = whole_written form value places new
+
+-- the value that they leave of what is stored; where nothing is, that of the chunk of fill elements with the new ones
+abbrev pub places_written : ChunkForm SampleBytesCodec → Option (List ℕ) → List ℕ → Held → Result (List ℕ) CodecError
+places_written form None places new = chunk_written form (filled_chunk form.sizes form.type form.fill) places new
+places_written form (Some value) places new = left_of_value form form.chain.outer form.chain.codec value places new
+
+-- the value that new elements at a selection leave of what is stored, by an encoder that is made for it: what refuses the making comes first, then the selection's refusals, then those of the new elements
+abbrev pub form_written : ChunkForm SampleBytesCodec → Option (List ℕ) → Selection → Held → Result (List ℕ) CodecError
+form_written form stored selection new = do
+  _ ← chain_representation sample_codecs form.chain form.sizes form.type form.fill
+  places ← data_places form.sizes form.type selection new
+  places_written form stored places new
+
+-- what they leave of the chunk of a header
+abbrev pub part_written : List ℕ → Option (List ℕ) → ℕ → List ℕ → Buffers → Result (List ℕ) Cause
+part_written text stored tuples numbers elements = do
+  header ← header_given text
+  selection ← selection_given (length header.sizes) tuples numbers
+  new ← elements_given header.data_type elements
+  codec_answer (form_written (header_form header) stored selection new)
+
+-- the value with the new elements is stored afterwards, or the first refusal is answered
+abbrev pub StoresPart : ChunkForm SampleBytesCodec → (before after : Option (List ℕ)) → Selection → Held → Result (Unit {0}) CodecError → Type 0
+StoresPart form before after selection new result =
+    Answers memory (λ _. after) result (seen (λ value. Some value) (form_written form before selection new))

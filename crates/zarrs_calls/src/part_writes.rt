@@ -1,0 +1,103 @@
+//! Writing a chunk in part, before it is told to C.
+ghost use Rattle.std.specs.Prelude.{◌≡◌, ℕ, List, Ok, Some};
+ghost use Rattle.std.specs.Option.{option_map};
+ghost use Rattle.zarrs_chunk.specs.Answer.{Answers};
+ghost use Rattle.zarrs_chunk.specs.Indexer.{selection_of};
+ghost use Rattle.zarrs_codec.specs.MemoryHandle.{handle_value};
+ghost use Rattle.zarrs_chain_header.specs.HeaderRead.{header_seen};
+ghost use Rattle.zarrs_calls.specs.Buffers.{buffers};
+ghost use Rattle.zarrs_calls.specs.Codes.{cause_memory};
+ghost use Rattle.zarrs_calls.specs.Reads.{header_form};
+ghost use Rattle.zarrs_calls.specs.Writes.{part_written, StoresPart};
+
+use crate::calls::form_given;
+use crate::cause::Cause;
+use crate::given::elements_given;
+use crate::selection::selection_given;
+use std::alloc::Global;
+use zarrs_array_bytes::ArrayBytes;
+use zarrs_chain_header::ChunkHeader;
+use zarrs_chain_partial::CodecChainPartialTraits;
+use zarrs_chunk::{CodecError, Indexer};
+use zarrs_codec::MemoryHandle;
+
+/// Writes new elements over what is stored, by an encoder that is made for this call.
+fn write_part(
+    alloc: Global,
+    form: &ChunkHeader,
+    handle: &mut MemoryHandle,
+    indexer: &Indexer,
+    new: &ArrayBytes<'_>,
+) -> Result<(), CodecError>
+    ensures answer { StoresPart (header_form (header_seen form.now))
+        (handle_value handle.old) (handle_value handle.new)
+        (selection_of indexer.now) new.now result }
+{
+    let chain = &form.chain;
+    match chain.partial_encoder(
+        alloc,
+        handle,
+        &form.shape,
+        &form.data_type,
+        &form.fill_value,
+    ) {
+        Err(refused) => Err(refused.error),
+        Ok(mut encoder) => {
+            let written = encoder.partial_encode(alloc, indexer, new);
+            let _ = encoder.into_handle();
+            written
+        }
+    }
+}
+
+/// A handle on a copy of a value, or on none.
+fn handle_with(alloc: Global, stored: Option<&[u8]>) -> Result<MemoryHandle, Cause>
+    ensures answer { Answers cause_memory handle_value result
+        (Ok (option_map (λ value. value.now) stored.entry)) }
+{
+    match stored {
+        Some(value) => Ok(MemoryHandle::with_value(Vec::from_slice(alloc, value)?)),
+        None => Ok(MemoryHandle::new()),
+    }
+}
+
+/// What is stored after a write, which stores something.
+fn stored_after(handle: MemoryHandle) -> Result<Vec<u8>, Cause>
+    ensures answer { (value : List ℕ) → handle_value handle ≡ Some value →
+        Answers cause_memory (λ v. v.items) result (Ok value) }
+{
+    match handle.into_value() {
+        Some(value) => Ok(value),
+        None => Err(Cause::Argument),
+    }
+}
+
+/// New elements, and where they go: as they cross.
+#[derive(Clone, Copy)]
+pub(crate) struct Edit<'a> {
+    pub(crate) tuples: u64,
+    pub(crate) numbers: &'a [u64],
+    pub(crate) masks: &'a [u8],
+    pub(crate) offsets: &'a [u64],
+    pub(crate) bytes: &'a [u8],
+}
+
+/// The value that new elements at the places that a selection means leave of a value, or of nothing.
+pub(crate) fn write(
+    alloc: Global,
+    text: &[u8],
+    stored: Option<&[u8]>,
+    edit: &Edit<'_>,
+) -> Result<Vec<u8>, Cause>
+    ensures answer { Answers cause_memory (λ v. v.items) result
+        (part_written text.now (option_map (λ value. value.now) stored.entry)
+        edit.now.tuples edit.now.numbers.now
+        (buffers edit.now.masks.now edit.now.offsets.now edit.now.bytes.now)) }
+{
+    let form = form_given(alloc, text)?;
+    let indexer = selection_given(alloc, &form, edit.tuples, edit.numbers)?;
+    let new = elements_given(alloc, &form.data_type, edit.masks, edit.offsets, edit.bytes)?;
+    let mut handle = handle_with(alloc, stored)?;
+    write_part(alloc, &form, &mut handle, &indexer, &new)?;
+    stored_after(handle)
+}

@@ -1,0 +1,41 @@
+//! The call `zarrs_read`.
+ghost use Rattle.zarrs_calls.specs.Buffers.{buffers};
+ghost use Rattle.zarrs_calls.specs.Reads.{part_read, stored_value};
+ghost use Rattle.zarrs_calls.specs.Told.{TellsElements};
+
+use crate::cause::cause_code;
+use crate::part_reads::{read, stored_given};
+use crate::sizes::Sizes;
+use crate::tell::tell;
+use std::alloc::Global;
+
+/// The elements that a selection means, in its order, of the chunk that a value stands for, or fill values
+/// where nothing is stored; `value` isn't read then.
+///
+/// Where `tuples` is 2^64 - 1 the selection is a box, and `numbers` are its starts and then its lengths, one
+/// an axis; else it is so many index tuples, one after another. The elements are told as by `zarrs_decode`.
+/// Refusals, the first that holds, `OutOfMemory` aside: those of `zarrs_check`; `Argument` or `Overflow` of
+/// the selection; those of `CodecChain::partial_decoder` and then of its `partial_decode`.
+pub fn zarrs_read(
+    alloc: Global,
+    text: &[u8],
+    is_stored: bool,
+    value: &[u8],
+    tuples: u64,
+    numbers: &[u64],
+    masks: &mut [u8],
+    offsets: &mut [u64],
+    bytes: &mut [u8],
+    needed: &mut Sizes,
+) -> u32
+    ensures told { TellsElements
+        (part_read text.now (stored_value is_stored value.now) tuples numbers.now) result
+        (buffers masks.old offsets.old bytes.old) (buffers masks.new offsets.new bytes.new)
+        needed.old needed.new }
+{
+    let stored = stored_given(is_stored, value);
+    match read(alloc, text, stored, tuples, numbers) {
+        Ok(elements) => tell(&elements, masks, offsets, bytes, needed),
+        Err(cause) => cause_code(&cause),
+    }
+}
