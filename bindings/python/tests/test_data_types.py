@@ -1,0 +1,116 @@
+"""Data types and fill values, as `zarr.json` has them and as Python does."""
+
+import math
+
+import numpy as np
+import pytest
+from samples import LITTLE, VLEN, optional
+
+from zarrs_codecs import Chain, InvalidFillValue
+
+
+def filled(name, fill, codec=LITTLE):
+    """The element that is read where nothing is stored."""
+    return Chain([codec], (2,), name, fill).read(None, 0)
+
+
+@pytest.mark.parametrize(
+    "name, fill, expected",
+    [
+        ("bool", True, True),
+        ("int8", -128, -128),
+        ("uint64", 2**64 - 1, 2**64 - 1),
+        ("int64", np.int64(-5), -5),
+        ("int2", -2, -2),
+        ("uint4", 15, 15),
+        ("float16", 1.5, 1.5),
+        ("float32", "Infinity", math.inf),
+        ("float64", "-Infinity", -math.inf),
+        ("float32", "0x3fc00000", 1.5),
+        ("float64", 3, 3.0),
+        ("complex64", [1.5, "-Infinity"], complex(1.5, -math.inf)),
+        ("complex128", 2 - 1j, 2 - 1j),
+        ("complex64", 2, 2),
+        ("int32", None, 0),
+        ("complex64", None, 0),
+        ({"name": "int16"}, 7, 7),
+        ({"name": "int16", "configuration": {}}, 7, 7),
+        ({"optional": "uint16"}, 7, 7),
+        ({"name": "zarrs.optional", "configuration": {"name": "uint16"}}, [7], 7),
+    ],
+)
+def test_fill_values(name, fill, expected):
+    codec = (
+        optional(LITTLE)
+        if isinstance(name, dict) and "int16" not in (name["name"] if "name" in name else "")
+        else LITTLE
+    )
+    assert filled(name, fill, codec) == expected
+
+
+def test_not_a_number():
+    assert math.isnan(filled("float32", "NaN"))
+    assert filled("float32", "0x7fc00001").tobytes().hex() == "0100c07f"
+    assert filled("float32", "NaN").tobytes().hex() == "0000c07f"
+
+
+def test_raw_and_variable_fill_values():
+    assert bytes(filled("r24", [1, 2, 255])) == b"\1\2\xff"
+    assert bytes(filled("r24", b"abc")) == b"abc"
+    assert filled("string", "é", VLEN) == "é"
+    assert filled("string", None, VLEN) == ""
+    for name in ("bytes", "variable_length_bytes"):
+        assert filled(name, b"\xff", VLEN) == b"\xff"
+        assert filled(name, "AP8=", VLEN) == b"\0\xff"
+        assert filled(name, [0, 255], VLEN) == b"\0\xff"
+
+
+@pytest.mark.parametrize(
+    "name, fill",
+    [
+        ("uint8", 256),
+        ("uint8", -1),
+        ("int8", 128),
+        ("int2", 2),
+        ("uint4", 16),
+        ("bool", "false"),
+        ("bool", 2),
+        ("r24", [1, 2]),
+        ("float32", "0x3fc0"),
+    ],
+)
+def test_fill_values_out_of_their_type(name, fill):
+    with pytest.raises(InvalidFillValue):
+        filled(name, fill)
+
+
+@pytest.mark.parametrize(
+    "name, fill",
+    [
+        ("uint8", 1.5),
+        ("uint8", "1"),
+        ("float32", "one"),
+        ("string", 0),
+        ("complex64", [1]),
+        ("bytes", "!"),
+    ],
+)
+def test_fill_values_of_another_kind(name, fill):
+    with pytest.raises((TypeError, ValueError)):
+        filled(name, fill, VLEN if name in ("string", "bytes") else LITTLE)
+
+
+@pytest.mark.parametrize(
+    "name", ["int3", "int128", "float8", "r7", "r0", "datetime64", "", 5, None, {}, {"name": 5}, []]
+)
+def test_no_data_type(name):
+    with pytest.raises(ValueError, match="data type"):
+        Chain([LITTLE], (2,), name, 0)
+
+
+def test_types_of_numpy():
+    assert Chain([LITTLE], (2,), "float32").dtype == np.float32
+    assert Chain(["bytes"], (2,), "int4").dtype == np.int8
+    assert Chain(["bytes"], (2,), "r24").dtype == np.dtype("V3")
+    assert Chain([VLEN], (2,), "string").dtype == object
+    assert Chain([optional(LITTLE)], (2,), {"optional": "int64"}).dtype == np.int64

@@ -1,0 +1,139 @@
+"""Chunks of every type of one size, beside numpy."""
+
+import numpy as np
+import pytest
+from samples import (
+    BIG,
+    LITTLE,
+    NARROW,
+    NUMERIC,
+    RAW,
+    same,
+    some,
+    some_index,
+    some_region,
+    some_rows,
+    some_shape,
+    transpose,
+)
+
+from zarrs_codecs import Chain
+
+
+def fitting(name, rng):
+    """A codec to bytes of a type, and whether it turns the bytes of each component round."""
+    if name in ("bool", "int8", "uint8", *NARROW, *RAW):
+        return "bytes", False
+    is_big = bool(rng.integers(2))
+    return (BIG if is_big else LITTLE), is_big
+
+
+def turned(array, name):
+    """The elements with the bytes of each component turned round."""
+    if name.startswith("complex"):
+        return array.view(f"<f{array.dtype.itemsize // 2}").byteswap().view(array.dtype)
+    return array.byteswap()
+
+
+def samples(name, rng, times=20):
+    """Chains of random shapes and orders, each with a random chunk and its value."""
+    for _ in range(times):
+        shape = some_shape(rng)
+        order = rng.permutation(len(shape))
+        codec, is_big = fitting(name, rng)
+        chain = Chain([transpose(order), codec], shape, name)
+        array = some(rng, name, chain.dtype, shape)
+        stored = np.ascontiguousarray(array.transpose(order))
+        yield chain, array, (turned(stored, name) if is_big else stored).tobytes()
+
+
+@pytest.mark.parametrize("name", NUMERIC + NARROW + RAW)
+def test_chunks_are_numpys_bytes(name, rng):
+    for chain, array, stored in samples(name, rng):
+        value = chain.encode(array)
+        assert value.dtype == np.uint8 and value.tobytes() == stored
+        same(chain.decode(value), array)
+        assert chain.representation == ("fixed", len(stored))
+
+
+@pytest.mark.parametrize("name", NUMERIC + NARROW + RAW)
+def test_parts_are_read_as_numpy_does(name, rng):
+    for chain, array, stored in samples(name, rng, times=10):
+        for _ in range(5):
+            index = some_index(rng, array.shape)
+            same(chain.read(stored, index), array[index])
+            region = some_region(rng, array.shape)
+            same(chain.read(stored, region), array[region])
+        if array.ndim:
+            rows = some_rows(rng, array.shape)
+            for given in (rows, rows.tolist()):
+                same(chain.read(stored, given), array[tuple(rows.T)])
+
+
+@pytest.mark.parametrize("name", NUMERIC + NARROW + RAW)
+def test_parts_are_written_as_numpy_does(name, rng):
+    for chain, array, stored in samples(name, rng, times=10):
+        index = some_index(rng, array.shape)
+        new = some(rng, name, chain.dtype, np.shape(array[index]))
+        expected = array.copy()
+        expected[index] = new
+        same(chain.decode(chain.write(stored, index, new)), expected)
+        same(chain.decode(stored), array)
+
+
+@pytest.mark.parametrize("name", ["bool", "uint8", "uint16", *NARROW])
+def test_bits_are_packed(name, rng):
+    for _ in range(15):
+        chain = Chain(["packbits"], some_shape(rng), name)
+        array = some(rng, name, chain.dtype, chain.shape)
+        value = chain.encode(array)
+        same(chain.decode(value), array)
+        index = some_index(rng, chain.shape)
+        same(chain.read(value, index), array[index])
+        if name == "bool":
+            assert value.tobytes() == np.packbits(array.ravel(), bitorder="little").tobytes()
+
+
+def test_array_codecs_together(rng):
+    squeeze = {"name": "zarrs.squeeze", "configuration": {}}
+    reshape = {"name": "reshape", "configuration": {"shape": [-1, 4]}}
+    chain = Chain([transpose([2, 0, 1]), squeeze, reshape, BIG], (4, 1, 6), "float32")
+    array = some(rng, "float32", chain.dtype, chain.shape)
+    value = chain.encode(array)
+    assert value.tobytes() == np.ascontiguousarray(array.transpose(2, 0, 1)).byteswap().tobytes()
+    same(chain.decode(value), array)
+    for _ in range(20):
+        index = some_index(rng, chain.shape)
+        same(chain.read(value, index), array[index])
+
+
+def test_reencoding(rng):
+    chain = Chain([transpose([1, 0]), BIG], (3, 5), "int16")
+    array = some(rng, "int16", chain.dtype, chain.shape)
+    value = chain.encode(array)
+    for codecs in ([LITTLE], ["packbits"], [transpose([0, 1]), BIG]):
+        other = chain.reencode(value, codecs)
+        same(Chain(codecs, (3, 5), "int16").decode(other), array)
+
+
+def test_lists_and_other_types_are_converted():
+    chain = Chain([LITTLE], (2, 2), "int32")
+    assert chain.encode([[1, 2], [3, 4]]).tobytes() == np.arange(1, 5, dtype="<i4").tobytes()
+    assert chain.encode(np.ones((2, 2), ">f8")).tobytes() == np.ones(4, "<i4").tobytes()
+    assert (
+        chain.encode(np.arange(4).reshape(2, 2).T).tobytes()
+        == np.array([0, 2, 1, 3], "<i4").tobytes()
+    )
+
+
+def test_a_scalar_is_written_everywhere():
+    chain = Chain(["bytes"], (2, 3), "uint8", 9)
+    assert chain.write(None, ..., 7).tolist() == [7] * 6
+    assert chain.write(None, (1, slice(None, None, 2)), 7).tolist() == [9, 9, 9, 7, 9, 7]
+    assert chain.write(bytes(6), [[0, 1], [-1, -1]], [5, 6]).tolist() == [0, 5, 0, 0, 0, 6]
+
+
+def test_fill_values_are_read_where_nothing_is_stored():
+    chain = Chain([LITTLE], (2, 3), "float32", 2.5)
+    same(chain.read(None, np.s_[:, 1:]), np.full((2, 2), 2.5, "f4"))
+    same(chain.read(None, []), np.empty(0, "f4"))

@@ -1,0 +1,192 @@
+"""Reads from files ask for the planned bytes, and no others."""
+
+import io
+import os
+import tracemalloc
+
+import numpy as np
+import pytest
+from samples import (
+    BIG,
+    LITTLE,
+    VLEN,
+    RecordingFile,
+    same,
+    some,
+    some_index,
+    some_region,
+    some_rows,
+    some_texts,
+    transpose,
+)
+
+import zarrs_codecs
+from zarrs_codecs import Chain, _selections
+from zarrs_codecs import chain as chain_module
+
+
+def planned(chain, selection):
+    return {
+        byte
+        for start, end in chain.planned_ranges(selection).tolist()
+        for byte in range(start, end)
+    }
+
+
+def some_chain(rng):
+    axes = int(rng.integers(1, 4))
+    shape = tuple(int(size) for size in rng.integers(1, 9, axes))
+    if rng.integers(3) == 0:
+        return Chain(["packbits"], shape, "bool"), "bool"
+    return (
+        Chain([transpose(rng.permutation(axes)), [LITTLE, BIG][rng.integers(2)]], shape, "int16"),
+        "int16",
+    )
+
+
+def test_no_byte_outside_the_plan(rng):
+    for _ in range(80):
+        chain, name = some_chain(rng)
+        array = some(rng, name, chain.dtype, chain.shape)
+        value = chain.encode(array)
+        region, rows = some_region(rng, chain.shape), some_rows(rng, chain.shape, 7)
+        for selection, expected in ((region, array[region]), (rows, array[tuple(rows.T)])):
+            file = RecordingFile(value)
+            same(chain.read_from(file, selection), expected)
+            assert file.seen == planned(chain, selection)
+        if name == "int16":
+            file = RecordingFile(value)
+            chain.read_from(file, region)
+            assert len(file.seen) == array[region].nbytes
+
+
+@pytest.mark.parametrize("together, rows", [(1, 1), (4, 8), (8, 8), (256, 4096)])
+@pytest.mark.parametrize("part, gap", [(1, 1), (8, 1), (32, 4), (64, 1 << 16)])
+def test_selections_in_parts(part, gap, together, rows, rng, monkeypatch):
+    """Parts and gaps of every size answer as numpy does, and read the planned bytes of what isn't skipped."""
+    monkeypatch.setattr(chain_module, "_PART_BYTES", part)
+    monkeypatch.setattr(chain_module, "_GAP_BYTES", gap)
+    monkeypatch.setattr(_selections, "_FEW_TOGETHER", together)
+    monkeypatch.setattr(_selections, "_MANY_ROWS", rows)
+    for _ in range(40):
+        chain, name = some_chain(rng)
+        array = some(rng, name, chain.dtype, chain.shape)
+        value = chain.encode(array)
+        index, listed = some_index(rng, chain.shape), some_rows(rng, chain.shape, 9)
+        for selection, expected in ((index, array[index]), (listed, array[tuple(listed.T)])):
+            file = RecordingFile(value)
+            same(chain.read_from(file, selection), expected)
+            if expected.size:
+                assert file.seen <= planned(chain, selection)
+            if gap == 1 and name == "int16" and selection is index:
+                assert len(file.seen) == expected.nbytes
+
+
+def test_kinds_of_files(tmp_path, rng):
+    chain = Chain([LITTLE], (30, 40), "float32")
+    array = some(rng, "float32", chain.dtype, chain.shape)
+    path = tmp_path / "value"
+    path.write_bytes(chain.encode(array).tobytes())
+    region = np.s_[3:17, 5:9]
+    for arguments in ({"buffering": 0}, {}):
+        with open(path, "rb", **arguments) as file:
+            file.seek(7)
+            same(chain.read_from(file, region), array[region])
+            assert file.tell() == 7
+            same(chain.read_from(file.fileno(), region), array[region])
+    same(chain.read_from(io.BytesIO(path.read_bytes()), region), array[region])
+    with open(tmp_path / "other", "w+b") as file:
+        file.write(path.read_bytes()[:-10])
+        file.flush()
+        file.write(path.read_bytes()[-10:])
+        same(chain.read_from(file, ...), array)
+
+
+def test_out_takes_what_is_read(rng):
+    chain = Chain([LITTLE], (4, 6), "int32")
+    array = some(rng, "int32", chain.dtype, chain.shape)
+    file = io.BytesIO(chain.encode(array))
+    for index in (np.s_[1:3], np.s_[1:3, ::-1], np.s_[2, 1:5]):
+        for out in (np.empty_like(array[index]), np.empty((*array[index].shape, 2), "<i4")[..., 0]):
+            assert chain.read_from(file, index, out) is out
+            same(np.ascontiguousarray(out), array[index])
+
+
+def test_values_that_are_read_whole(rng):
+    chain = Chain([VLEN], (5,), "string", "")
+    array = some_texts(rng, (5,))
+    file = RecordingFile(chain.encode(array))
+    same(chain.read_from(file, np.s_[1:3]), array[1:3])
+    assert chain.planned_ranges(np.s_[1:3]) is None
+    assert len(file.seen) == len(file.getvalue())
+    out = np.empty(2, object)
+    assert chain.read_from(file, np.s_[1:3], out) is out and out.tolist() == array[1:3].tolist()
+
+
+def test_values_that_are_too_short(rng):
+    chain = Chain([LITTLE], (4, 4), "int32")
+    value = chain.encode(some(rng, "int32", chain.dtype, chain.shape))
+    for length in (0, 16, 31, 43):
+        with pytest.raises(zarrs_codecs.InvalidByteRange):
+            chain.read_from(io.BytesIO(value[:length]), np.s_[:3, 1:3])
+    chain.read_from(io.BytesIO(value[:44]), np.s_[:3, 1:3])
+
+
+def test_a_file_that_is_cut_while_it_is_read():
+    class Cut(io.BytesIO):
+        def readinto(self, buffer):
+            return 0
+
+    with pytest.raises(EOFError):
+        Chain([LITTLE], (4,), "int32").read_from(Cut(bytes(16)), ...)
+
+
+def test_a_file_that_answers_some_bytes_at_a_time(rng):
+    class Slow(io.BytesIO):
+        def readinto(self, buffer):
+            return super().readinto(buffer[:3])
+
+    chain = Chain([LITTLE], (4,), "int32")
+    array = some(rng, "int32", chain.dtype, chain.shape)
+    same(chain.read_from(Slow(chain.encode(array)), np.s_[1:]), array[1:])
+
+
+def test_pieces_that_lack_a_byte(monkeypatch):
+    chain = Chain([LITTLE], (4,), "int32")
+    monkeypatch.setattr(Chain, "_planned", lambda self, chosen: np.array([[0, 4]], np.uint64))
+    with pytest.raises(zarrs_codecs.Storage):
+        chain.read_from(io.BytesIO(bytes(16)), np.s_[:2])
+
+
+def test_little_memory_beside_the_answer(tmp_path):
+    chain = Chain([LITTLE], (64, 512, 512), "int32")
+    path = tmp_path / "value"
+    with open(path, "wb") as file:
+        file.truncate(64 << 20)
+    with open(path, "rb", buffering=0) as file:
+        tracemalloc.start()
+        answer = chain.read_from(file, np.s_[4:36])
+        _, peak = tracemalloc.get_traced_memory()
+        tracemalloc.stop()
+    assert answer.nbytes == 32 << 20
+    assert peak < answer.nbytes + (4 << 20)
+
+
+def test_steps_skip_what_is_far_apart(tmp_path, monkeypatch):
+    chain = Chain([LITTLE], (64, 512, 512), "int32")
+    path = tmp_path / "value"
+    with open(path, "wb") as file:
+        file.truncate(64 << 20)
+    counts, read = [], os.preadv
+    monkeypatch.setattr(os, "preadv", lambda *given: counts.append(read(*given)) or counts[-1])
+    with open(path, "rb", buffering=0) as file:
+        assert chain.read_from(file, np.s_[::16, :100]).shape == (4, 100, 512)
+    assert sum(counts) == 4 * 100 * 512 * 4
+
+
+def test_plans_of_many_ranges():
+    chain = Chain(["bytes"], (100_000, 2), "uint8")
+    ranges = chain.planned_ranges(np.s_[:, 1])
+    assert ranges.tolist() == [[2 * row + 1, 2 * row + 2] for row in range(100_000)]
+    value = np.arange(200_000).astype(np.uint8)
+    same(chain.read_from(io.BytesIO(value), np.s_[:, 1]), value[1::2])

@@ -1,0 +1,121 @@
+"""Texts and byte strings, as object arrays."""
+
+import numpy as np
+import pytest
+from samples import VLEN, same, some_index, some_rows, some_shape, some_texts, transpose
+
+from zarrs_codecs import Chain, _texts
+
+BYTES_OF_ALL = b"".join(bytes([byte]) for byte in range(256))
+
+
+@pytest.mark.parametrize("name, empty", [("string", ""), ("bytes", b"")])
+def test_texts_beside_numpy(name, empty, rng):
+    for _ in range(20):
+        shape = some_shape(rng, int(rng.integers(1, 4)))
+        chain = Chain([transpose(rng.permutation(len(shape))), VLEN], shape, name, empty)
+        array = some_texts(rng, shape, empty)
+        value = chain.encode(array)
+        same(chain.decode(value), array)
+        index = some_index(rng, shape)
+        same(chain.read(value, index), array[index])
+        rows = some_rows(rng, shape)
+        same(chain.read(value, rows), array[tuple(rows.T)])
+        new = some_texts(rng, np.shape(array[index]), empty)
+        expected = array.copy()
+        expected[index] = new if new.ndim else new[()]
+        same(chain.decode(chain.write(value, index, new)), expected)
+        assert chain.planned_ranges(index) is None
+
+
+@pytest.mark.parametrize(
+    "texts",
+    [
+        ["", "", ""],
+        ["\0", "a\0b", "\0\0"],
+        ["é", "日本", "🦀🦀"],
+        ["".join(map(chr, range(128))), "", "".join(map(chr, range(127, -1, -1)))],
+        ["".join(map(chr, range(128))) + "é", "a", ""],
+    ],
+)
+def test_texts_of_any_characters(texts):
+    chain = Chain([VLEN], (3,), "string", "?")
+    array = np.array(texts, object)
+    value = chain.encode(array)
+    same(chain.decode(value), array)
+    same(chain.read(value, np.s_[1:]), array[1:])
+    same(chain.read(None, np.s_[1:]), np.array(["?", "?"], object))
+
+
+@pytest.mark.parametrize(
+    "texts", [[b"", b"\0\xff"], [BYTES_OF_ALL, b"\0"], [BYTES_OF_ALL, BYTES_OF_ALL]]
+)
+def test_byte_strings_of_any_bytes(texts):
+    chain = Chain([VLEN], (2,), "bytes", b"")
+    array = np.array(texts, object)
+    same(chain.decode(chain.encode(array)), array)
+
+
+def test_crossing_alone():
+    for texts in ([], [""], ["a"], ["", "é", "\0"]):
+        offsets, whole = _texts.joined(texts, True)
+        assert offsets[0] == 0 and offsets[-1] == len(whole)
+        assert _texts.parted(offsets, whole, True).tolist() == texts
+
+
+def test_a_text_is_written_everywhere():
+    chain = Chain([VLEN], (2, 2), "string", "")
+    value = chain.write(None, np.s_[:, 1], "day")
+    assert chain.decode(value).tolist() == [["", "day"], ["", "day"]]
+    value = chain.write(value, (0, 0), "night")
+    assert chain.decode(value).tolist() == [["night", "day"], ["", "day"]]
+
+
+def test_arrays_of_numpys_own_texts():
+    chain = Chain([VLEN], (2,), "string", "")
+    assert chain.decode(chain.encode(np.array(["one", "three"]))).tolist() == ["one", "three"]
+    chain = Chain([VLEN], (2,), "bytes", b"")
+    assert chain.decode(chain.encode(np.array([b"one", b"three"]))).tolist() == [b"one", b"three"]
+
+
+def test_elements_that_are_no_texts():
+    chain = Chain([VLEN], (2,), "string", "")
+    for wrong in ([1, 2], [b"a", b"b"], [None, "a"]):
+        with pytest.raises(TypeError):
+            chain.encode(np.array(wrong, object))
+    with pytest.raises(UnicodeEncodeError):
+        chain.encode(np.array(["\ud800", ""], object))
+    with pytest.raises(UnicodeDecodeError):
+        chain.decode(Chain([VLEN], (2,), "bytes", b"").encode(np.array([b"\xff", b""], object)))
+
+
+def test_texts_cut_within_a_character():
+    """Bytes that are a text together but not apart aren't read as one."""
+    byte_strings = Chain([VLEN], (2,), "bytes", b"")
+    value = byte_strings.encode(np.array([b"\xc3", b"\xa9"], object))
+    with pytest.raises(UnicodeDecodeError):
+        Chain([VLEN], (2,), "string", "").decode(value)
+    same(byte_strings.decode(value), np.array([b"\xc3", b"\xa9"], object))
+
+
+def test_out_takes_texts():
+    chain = Chain([VLEN], (2,), "string", "")
+    out = np.empty(2, object)
+    assert chain.decode(chain.encode(np.array(["a", "b"], object)), out) is out
+    assert out.tolist() == ["a", "b"]
+
+
+def test_answers_longer_than_the_value():
+    chain = Chain([VLEN], (3,), "string", "fill" * 100)
+    assert chain.read(None, ...).tolist() == ["fill" * 100] * 3
+    value = chain.encode(np.array(["a" * 100, "b", ""], object))
+    assert chain.read(value, [[0]] * 50).tolist() == ["a" * 100] * 50
+
+
+def test_values_longer_than_the_other_one(rng):
+    narrow = {**VLEN, "configuration": {**VLEN["configuration"], "index_data_type": "uint32"}}
+    narrow, wide = Chain([narrow], (1000,), "string", ""), Chain([VLEN], (1000,), "string", "")
+    array = some_texts(rng, (1000,))
+    value = narrow.reencode(narrow.encode(array), wide.codecs)
+    assert value.size > narrow.encode(array).size + 1000
+    same(wide.decode(value), array)

@@ -1,0 +1,30 @@
+"""Memory that C is lent for a call."""
+
+import ctypes
+from typing import Any
+
+import numpy as np
+
+# an array of no bytes begins where a buffer does, and keeps it
+_Start = ctypes.c_char * 0
+
+
+def lent(buffer: Any) -> tuple[Any, int]:
+    """What C is given of a buffer's bytes, and how many they are."""
+    if type(buffer) is bytes:
+        return buffer, len(buffer)
+    try:
+        return _Start.from_buffer(buffer), memoryview(buffer).nbytes
+    except TypeError:  # it can't be written
+        array = np.frombuffer(buffer, np.uint8)
+        return array.ctypes, array.nbytes
+
+
+def overlaps(array: np.ndarray, buffer: Any) -> bool:
+    """Whether an array may share memory with a buffer."""
+    return type(buffer) is not bytes and np.may_share_memory(array, np.frombuffer(buffer, np.uint8))
+
+
+def start(array: np.ndarray) -> Any:
+    """What C is given of an array in one piece that may be written."""
+    return _Start.from_buffer(array)

@@ -1,0 +1,67 @@
+"""The shared library: its calls, as `include/zarrs_codecs.h` declares them, and what they answer."""
+
+import ctypes
+import os
+from pathlib import Path
+
+from . import refusals
+
+SHORT = 1
+BOX = 2**64 - 1
+
+_AT, _LENGTH, _NUMBER = ctypes.c_void_p, ctypes.c_size_t, ctypes.c_uint64
+_BUFFER = [_AT, _LENGTH]
+_ELEMENTS = [*_BUFFER, *_BUFFER, *_BUFFER]
+_SELECTION = [_NUMBER, *_BUFFER]
+_STORED = [ctypes.c_bool, *_BUFFER]
+_CALLS = {
+    "zarrs_check": [*_BUFFER],
+    "zarrs_representation": [*_BUFFER, _AT, _AT],
+    "zarrs_encode": [*_BUFFER, *_ELEMENTS, *_BUFFER, _AT],
+    "zarrs_decode": [*_BUFFER, *_BUFFER, *_ELEMENTS, _AT],
+    "zarrs_read": [*_BUFFER, *_STORED, *_SELECTION, *_ELEMENTS, _AT],
+    "zarrs_write": [*_BUFFER, *_STORED, *_SELECTION, *_ELEMENTS, *_BUFFER, _AT],
+    "zarrs_planned_ranges": [*_BUFFER, *_SELECTION, *_BUFFER, _AT, _AT],
+    "zarrs_read_pieces": [*_BUFFER, _NUMBER, *_BUFFER, *_BUFFER, *_SELECTION, *_ELEMENTS, _AT],
+    "zarrs_reencode": [*_BUFFER, *_BUFFER, *_BUFFER, *_BUFFER, _AT],
+    "zarrs_error_name": [ctypes.c_uint32, *_BUFFER, _AT],
+}
+
+
+class Sizes(ctypes.Structure):
+    """How many items the three buffers of elements have, or need."""
+
+    _fields_ = [("masks", _LENGTH), ("offsets", _LENGTH), ("bytes", _LENGTH)]
+
+
+def _loaded() -> ctypes.CDLL:
+    made = Path(__file__).parents[2] / "out" / "libzarrs_codecs.so"
+    path = os.environ.get("ZARRS_CODECS_LIBRARY") or str(made)
+    try:
+        library = ctypes.CDLL(path)
+    except OSError as error:
+        raise ImportError(
+            f"{error}: bindings/build makes the library, and ZARRS_CODECS_LIBRARY may name another"
+        ) from error
+    for name, arguments in _CALLS.items():
+        call = getattr(library, name)
+        call.argtypes = arguments
+        call.restype = ctypes.c_uint32
+    return library
+
+
+library = _loaded()
+
+
+def name_of(code: int) -> str:
+    """The library's name of a code; empty where no call answers it."""
+    name, needed = ctypes.create_string_buffer(64), _LENGTH()
+    library.zarrs_error_name(code, name, len(name), ctypes.byref(needed))
+    return name.raw[: needed.value].decode()
+
+
+def checked(code: int) -> None:
+    """Raises the refusal of a code, if it is one."""
+    if code:
+        name = name_of(code)
+        raise getattr(refusals, name, refusals.Refused)(name)

@@ -1,0 +1,216 @@
+"""numpy's basic indices, and lists of elements' indices, as the numbers that C reads."""
+
+import math
+import operator
+from collections.abc import Iterator
+from dataclasses import dataclass
+from typing import Any
+
+import numpy as np
+
+from ._buffers import lent, start
+from ._library import BOX
+
+Shape = tuple[int, ...]
+
+# Boxes of fewer elements than these that are apart from each other are read as rows, so many at a time.
+_FEW_TOGETHER = 256
+_MANY_ROWS = 4096
+
+# What C is given: how many rows, or that it is a box, and the numbers.
+Arguments = tuple[int, Any, int]
+
+
+@dataclass(slots=True)
+class Rows:
+    """Elements' indices, a row for each."""
+
+    rows: np.ndarray
+    after: None = None
+    has_gaps: bool = False
+
+    @property
+    def shape(self) -> Shape:
+        """That of the answer."""
+        return (len(self.rows),)
+
+    def arguments(self) -> Arguments:
+        """What C is given."""
+        return len(self.rows), lent(self.rows)[0], self.rows.size
+
+    def closed(self, item_size: int = 1, gap: int | None = None) -> "Rows":
+        """The same: there is nothing between the elements."""
+        return self
+
+    def parts(self, limit: int) -> Iterator["Rows"]:
+        """Selections of so many elements at most, whose answers, one behind another, are this one's."""
+        for first in range(0, len(self.rows), limit):
+            yield Rows(self.rows[first : first + limit])
+
+
+@dataclass(slots=True)
+class Box:
+    """Rising places on each axis, and numpy's index that makes the answer of the elements there; None where
+    they are the answer. C is given no gaps, so they have to be closed, or the parts to be taken."""
+
+    on_axes: list[range]
+    after: tuple | None
+
+    @property
+    def shape(self) -> Shape:
+        """That of the elements."""
+        return tuple(map(len, self.on_axes))
+
+    @property
+    def has_gaps(self) -> bool:
+        """Whether there are elements between those that are meant."""
+        return any(one.step > 1 for one in self.on_axes)
+
+    def arguments(self) -> Arguments:
+        """What C is given."""
+        starts = [one.start for one in self.on_axes]
+        numbers = np.array([*starts, *map(len, self.on_axes)], np.uint64)
+        return BOX, start(numbers), numbers.size
+
+    def closed(self, item_size: int = 1, gap: int | None = None) -> "Box":
+        """The same elements, and those in gaps of fewer bytes, in all where it is None: `after` leaves them
+        out."""
+        if not self.has_gaps:
+            return self
+        on_axes = list(self.on_axes)
+        steps = [1] * len(on_axes)
+        between = item_size
+        for axis in reversed(range(len(on_axes))):
+            one = on_axes[axis]
+            if one.step > 1 and (gap is None or (one.step - 1) * between < gap):
+                steps[axis] = one.step
+                on_axes[axis] = range(one.start, one[-1] + 1)
+            between *= len(on_axes[axis])
+        return Box(on_axes, _stepped(self.after, steps))
+
+    def parts(self, limit: int) -> Iterator["Box | Rows"]:
+        """Selections without gaps and of so many elements at most, whose answers, one behind another, are
+        this one's elements. Those apart from each other come as rows."""
+        count = math.prod(self.shape)
+        has_gaps = self.has_gaps
+        if count <= limit and not has_gaps:
+            yield self
+        elif count <= min(limit, _MANY_ROWS):
+            yield Rows(self._rows())
+        else:
+            yield from self._divided(count, limit)
+
+    def _divided(self, count: int, limit: int) -> Iterator["Box | Rows"]:
+        axis, one = next((axis, one) for axis, one in enumerate(self.on_axes) if len(one) > 1)
+        each = count // len(one)
+        if not self.has_gaps:
+            step = max(limit // each, 1)
+        else:
+            step = max(min(limit, _MANY_ROWS) // each, 1) if each < _FEW_TOGETHER else 1
+        for first in range(0, len(one), step):
+            on_axes = list(self.on_axes)
+            on_axes[axis] = _rising(one[first : first + step])
+            yield from Box(on_axes, None).parts(limit)
+
+    def _rows(self) -> np.ndarray:
+        """The elements' indices."""
+        places = [np.arange(one.start, one.stop, one.step, np.uint64) for one in self.on_axes]
+        grid = np.meshgrid(*places, indexing="ij")
+        return np.stack(grid, axis=-1).reshape(-1, len(places))
+
+
+def _stepped(after: tuple | None, steps: list[int]) -> tuple:
+    """An index over axes with so many places for each one before."""
+    if after is None:
+        return tuple(slice(None, None, step) for step in steps)
+    left = iter(steps)
+    stepped: list[Any] = []
+    for one in after:
+        if one is None or one is Ellipsis:
+            stepped.append(one)
+        else:
+            step = next(left)
+            stepped.append(slice(None, None, one.step * step) if isinstance(one, slice) else one)
+    return tuple(stepped)
+
+
+def _entries(selection: Any, axes: int) -> tuple[list, bool]:
+    """An entry for each axis, None for each new one, and whether there was an ellipsis."""
+    entries = list(selection) if isinstance(selection, tuple) else [selection]
+    ellipses = [place for place, one in enumerate(entries) if one is Ellipsis]
+    missing = axes - len(entries) + len(ellipses) + sum(one is None for one in entries)
+    if missing < 0 or len(ellipses) > 1:
+        raise IndexError(f"too many indices of {axes} axes")
+    place = ellipses[0] if ellipses else len(entries)
+    entries[place : place + len(ellipses)] = [slice(None)] * missing
+    return entries, bool(ellipses)
+
+
+def _place(index: Any, axis: int, size: int) -> int:
+    if isinstance(index, (bool, np.bool_)):
+        raise IndexError("a truth value is no index here")
+    place = operator.index(index)
+    if not -size <= place < size:
+        raise IndexError(f"index {place} is out of bounds for axis {axis} with size {size}")
+    return place % size
+
+
+def _rising(places: range) -> range:
+    """The same places from the lowest on, and with no step where there is no second one."""
+    if len(places) < 2:
+        return range(places[0], places[0] + 1) if places else range(0)
+    return places if places.step > 0 else places[::-1]
+
+
+def box(selection: Any, shape: Shape) -> Box:
+    """The places that a basic index means. Raises `IndexError` or `TypeError` where it is none."""
+    entries, has_ellipsis = _entries(selection, len(shape))
+    on_axes: list[range] = []
+    after: list[Any] = []
+    is_answer = bool(shape) or has_ellipsis
+    for one in entries:
+        if isinstance(one, slice):
+            places = range(*one.indices(shape[len(on_axes)]))
+            sign = 1 if places.step > 0 else -1
+            on_axes.append(places if places.step == 1 and places else _rising(places))
+            after.append(slice(None, None, sign))
+            is_answer = is_answer and sign == 1
+        elif one is None:
+            after.append(None)
+            is_answer = False
+        else:
+            place = _place(one, len(on_axes), shape[len(on_axes)])
+            on_axes.append(range(place, place + 1))
+            after.append(0)
+            is_answer = False
+    if is_answer:
+        return Box(on_axes, None)
+    return Box(on_axes, (*after, ...) if has_ellipsis else tuple(after))
+
+
+def _rows(selection: Any, shape: Shape) -> Rows:
+    rows = np.asarray(selection)
+    if rows.size == 0:
+        rows = rows.reshape(len(rows), len(shape)).astype(np.int64)
+    if rows.ndim == 1 and len(shape) == 1:
+        rows = rows[:, np.newaxis]
+    if rows.dtype.kind not in "iu" or rows.ndim != 2 or rows.shape[1] != len(shape):
+        raise IndexError(f"indices are rows of {len(shape)} integers")
+    if rows.dtype.kind == "i" and (rows < 0).any():
+        rows = np.where(rows < 0, rows + np.array(shape), rows)
+    rows = np.ascontiguousarray(rows, np.uint64)
+    return Rows(rows if rows.flags.aligned else rows.copy())
+
+
+Selection = Box | Rows
+
+
+def select(selection: Any, shape: Shape) -> Selection:
+    """The selection of a basic index, or of a list or array of elements' indices, a row for each.
+
+    Raises `IndexError` or `TypeError` where it is neither; whether the elements of a list are in the chunk,
+    the library says.
+    """
+    if isinstance(selection, (list, np.ndarray)):
+        return _rows(selection, shape)
+    return box(selection, shape)
