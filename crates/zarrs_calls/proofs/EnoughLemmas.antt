@@ -18,11 +18,11 @@ use Rattle.zarrs_bytes.specs.PartialRead.{place_bytes, place_size}
 use Rattle.zarrs_packbits.specs.PackBitsSettings.{packed_layout}
 use Rattle.zarrs_packbits.specs.PartialRead.{packed_places_bytes}
 use Rattle.zarrs_packbits.specs.ReadPlan.{IsPlan}
-use Rattle.zarrs_chain_parts.specs.Chain.{taken_form}
-use Rattle.zarrs_chain_parts.specs.PlainChain.{PlainCodec, bytes_codec, packbits_codec, vlen_codec, optional_codec}
-use Rattle.zarrs_chain_parts.specs.Representation.{chain_representation}
-use Rattle.zarrs_chain_parts.proofs.ArraySteps.{bind_ok, ok}
-use Rattle.zarrs_chain_partial.specs.ChunkRead.{ChunkForm, IsCodecPlan, IsReadPlan, codec_rests_on, encoded_places, planned_places, reads_places}
+use Rattle.zarrs_chain_laws.specs.Chain.{taken_form}
+use Rattle.zarrs_chain_laws.specs.PlainChain.{PlainCodec, bytes_codec, packbits_codec, vlen_codec, optional_codec}
+use Rattle.zarrs_chain_laws.specs.Representation.{chain_representation}
+use Rattle.zarrs_chain_laws.proofs.ArraySteps.{bind_ok, ok}
+use Rattle.zarrs_codec_chain.specs.ChunkRead.{ChunkForm, IsCodecPlan, IsReadPlan, codec_rests_on, encoded_places, planned_places, reads_places}
 use Rattle.zarrs_chain_header.specs.Header.{Header}
 use Rattle.zarrs_pieces.specs.Joined.{has_number, have_number}
 use Rattle.zarrs_pieces.specs.Pieces.{is_at_hand}

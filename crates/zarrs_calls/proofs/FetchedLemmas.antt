@@ -13,11 +13,11 @@ use Rattle.zarrs_codec.specs.SampleBytesCodec.{sample_codecs}
 use Rattle.zarrs_codec.specs.StorageState.{StorageState, are_sure}
 use Rattle.zarrs_codec.specs.declared.bytes_representation.BytesRepresentation.{BytesRepresentation}
 use Rattle.zarrs_codec.specs.declared.sample_bytes_codec.SampleBytesCodec.{SampleBytesCodec}
-use Rattle.zarrs_chain_parts.specs.Chain.{taken_form}
-use Rattle.zarrs_chain_parts.proofs.ArraySteps.{ok}
-use Rattle.zarrs_chain_partial.specs.ChunkRead.{ChunkForm, WhereSure, asks_in_part, stored_read}
-use Rattle.zarrs_chain_partial.specs.ChunkSource.{Source, bytes_above, source_made, source_made_at}
-use Rattle.zarrs_chain_partial.proofs.CachePlaces.{no_place, no_stage}
+use Rattle.zarrs_chain_laws.specs.Chain.{taken_form}
+use Rattle.zarrs_chain_laws.proofs.ArraySteps.{ok}
+use Rattle.zarrs_codec_chain.specs.ChunkRead.{ChunkForm, WhereSure, asks_in_part, stored_read}
+use Rattle.zarrs_codec_chain.specs.ChunkSource.{Source, bytes_above, source_made, source_made_at}
+use Rattle.zarrs_codec_chain.proofs.CachePlaces.{no_place, no_stage}
 use Rattle.zarrs_pieces.specs.PiecesHandle.{made_state}
 use Rattle.zarrs_pieces.specs.Pieces.{PlainPiece, HasPieces, are_apart, are_at_hand, byte_at, is_at_hand, value_with}
 use Rattle.zarrs_planned_reads.specs.PlannedReads.{ArePlanned}

@@ -3,10 +3,10 @@ use Rattle.std.specs.Prelude.{ℕ, List, Result, Ok}
 use Rattle.zarrs_chunk.specs.Answer.{◌>>=◌}
 use Rattle.zarrs_codec.specs.SampleBytesCodec.{sample_codecs}
 use Rattle.zarrs_codec.specs.declared.bytes_representation.BytesRepresentation.{BytesRepresentation}
-use Rattle.zarrs_chain_parts.specs.Chain.{held_value}
-use Rattle.zarrs_chain_parts.specs.Decode.{chain_chunk}
-use Rattle.zarrs_chain_parts.specs.Representation.{chain_representation}
-use Rattle.zarrs_codec_chain.specs.Reencode.{reencoded_value}
+use Rattle.zarrs_chain_laws.specs.Chain.{held_value}
+use Rattle.zarrs_chain_laws.specs.Decode.{chain_chunk}
+use Rattle.zarrs_chain_laws.specs.Representation.{chain_representation}
+use Rattle.zarrs_chain_whole.specs.Reencode.{reencoded_value}
 use Rattle.zarrs_chain_header.specs.Header.{Header, line_header, line_codecs}
 use Rattle.zarrs_calls.specs.Buffers.{Buffers}
 use Rattle.zarrs_calls.specs.Codes.{refusal_answer, codec_answer}

@@ -7,8 +7,8 @@ use Rattle.zarrs_chunk.specs.declared.codec_error.CodecError.{CodecError}
 use Rattle.zarrs_codec.specs.ByteSpan.{ByteSpan}
 use Rattle.zarrs_codec.specs.SampleBytesCodec.{sample_codecs}
 use Rattle.zarrs_codec.specs.declared.sample_bytes_codec.SampleBytesCodec.{SampleBytesCodec}
-use Rattle.zarrs_chain_parts.specs.Representation.{chain_representation}
-use Rattle.zarrs_chain_partial.specs.ChunkRead.{ChunkForm, IsReadPlan, planned_places}
+use Rattle.zarrs_chain_laws.specs.Representation.{chain_representation}
+use Rattle.zarrs_codec_chain.specs.ChunkRead.{ChunkForm, IsReadPlan, planned_places}
 use Rattle.zarrs_chain_header.specs.Header.{Header}
 use Rattle.zarrs_pieces.specs.Joined.{Joins}
 use Rattle.zarrs_calls.specs.Calls.{header_given}

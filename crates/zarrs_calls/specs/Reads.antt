@@ -7,8 +7,8 @@ use Rattle.zarrs_data_type.specs.Element.{Chunk}
 use Rattle.zarrs_codec.specs.SampleBytesCodec.{sample_codecs}
 use Rattle.zarrs_codec.specs.declared.capabilities.PartialDecoderCapability.{PartialDecoderCapability}
 use Rattle.zarrs_codec.specs.declared.sample_bytes_codec.SampleBytesCodec.{SampleBytesCodec}
-use Rattle.zarrs_chain_partial.specs.ChunkRead.{ChunkForm, stored_read}
-use Rattle.zarrs_chain_partial.specs.ChunkSource.{source_made}
+use Rattle.zarrs_codec_chain.specs.ChunkRead.{ChunkForm, stored_read}
+use Rattle.zarrs_codec_chain.specs.ChunkSource.{source_made}
 use Rattle.zarrs_chain_header.specs.Header.{Header}
 use Rattle.zarrs_calls.specs.Calls.{header_given}
 use Rattle.zarrs_calls.specs.Codes.{codec_answer}

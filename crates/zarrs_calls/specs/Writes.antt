@@ -12,12 +12,12 @@ use Rattle.zarrs_codec.specs.declared.sample_bytes_codec.SampleBytesCodec.{Sampl
 use Rattle.zarrs_bytes.specs.BytesCodec.{spelling}
 use Rattle.zarrs_bytes.specs.PartialRead.{place_size}
 use Rattle.zarrs_bytes.specs.PartialWrite.{filled_chunk, with_place_bytes}
-use Rattle.zarrs_chain_parts.specs.ArrayStages.{arrays_map}
-use Rattle.zarrs_chain_parts.specs.Decode.{chain_chunk}
-use Rattle.zarrs_chain_parts.specs.Encode.{chain_value}
-use Rattle.zarrs_chain_parts.specs.PlainChain.{PlainCodec, bytes_codec, packbits_codec, vlen_codec, optional_codec}
-use Rattle.zarrs_chain_parts.specs.Representation.{chain_representation}
-use Rattle.zarrs_chain_partial.specs.ChunkRead.{ChunkForm}
+use Rattle.zarrs_chain_laws.specs.ArrayStages.{arrays_map}
+use Rattle.zarrs_chain_laws.specs.Decode.{chain_chunk}
+use Rattle.zarrs_chain_laws.specs.Encode.{chain_value}
+use Rattle.zarrs_chain_laws.specs.PlainChain.{PlainCodec, bytes_codec, packbits_codec, vlen_codec, optional_codec}
+use Rattle.zarrs_chain_laws.specs.Representation.{chain_representation}
+use Rattle.zarrs_codec_chain.specs.ChunkRead.{ChunkForm}
 use Rattle.zarrs_calls.specs.Buffers.{Buffers}
 use Rattle.zarrs_calls.specs.Calls.{header_given}
 use Rattle.zarrs_calls.specs.Codes.{codec_answer}

@@ -13,8 +13,8 @@ use std::alloc::Global;
 use std::borrow::CowSlice;
 use zarrs_array_bytes::{ArrayBytes, ArrayBytesRaw};
 use zarrs_chain_header::{ChunkHeader, read_codecs, read_header};
+use zarrs_chain_whole::reencode::reencode;
 use zarrs_codec::BytesRepresentation;
-use zarrs_codec_chain::reencode::reencode;
 
 /// The header that a text is.
 pub(crate) fn form_given(alloc: Global, text: &[u8]) -> Result<ChunkHeader, Cause>

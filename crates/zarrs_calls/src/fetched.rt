@@ -20,8 +20,8 @@ use crate::selection::selection_given;
 use std::alloc::Global;
 use zarrs_array_bytes::ArrayBytes;
 use zarrs_chain_header::ChunkHeader;
-use zarrs_chain_partial::CodecChainPartialTraits;
 use zarrs_chunk::{CodecError, Indexer};
+use zarrs_codec_chain::CodecChainPartialTraits;
 use zarrs_pieces::{Piece, PiecesHandle};
 
 /// The bytes of a range at the front of those that are left.

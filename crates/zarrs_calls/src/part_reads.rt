@@ -16,8 +16,8 @@ use crate::selection::selection_given;
 use std::alloc::Global;
 use zarrs_array_bytes::ArrayBytes;
 use zarrs_chain_header::ChunkHeader;
-use zarrs_chain_partial::CodecChainPartialTraits;
 use zarrs_chunk::{CodecError, Indexer};
+use zarrs_codec_chain::CodecChainPartialTraits;
 use zarrs_pieces::LentHandle;
 
 /// A value, where it is stored.

@@ -17,9 +17,9 @@ use crate::selection::selection_given;
 use std::alloc::Global;
 use zarrs_array_bytes::ArrayBytes;
 use zarrs_chain_header::ChunkHeader;
-use zarrs_chain_partial::CodecChainPartialTraits;
 use zarrs_chunk::{CodecError, Indexer};
 use zarrs_codec::MemoryHandle;
+use zarrs_codec_chain::CodecChainPartialTraits;
 
 /// Writes new elements over what is stored, by an encoder that is made for this call.
 fn write_part(

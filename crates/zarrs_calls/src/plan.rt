@@ -14,9 +14,9 @@ use crate::cause::Cause;
 use crate::selection::selection_given;
 use std::alloc::{AllocError, Global};
 use zarrs_chain_header::ChunkHeader;
-use zarrs_chain_partial::CodecChainPartialTraits;
 use zarrs_chunk::{CodecError, Indexer};
 use zarrs_codec::{ByteRange, MemoryHandle};
+use zarrs_codec_chain::CodecChainPartialTraits;
 use zarrs_pieces::join_ranges;
 
 /// The ranges of bytes that a read asks for, as the library plans them.

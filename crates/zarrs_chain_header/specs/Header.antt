@@ -7,8 +7,8 @@ use Rattle.zarrs_chunk.specs.ChunkShape.{shape_of}
 use Rattle.zarrs_data_type.specs.ElementType.{ElementType}
 use Rattle.zarrs_codec.specs.SampleBytesCodec.{sample_codecs}
 use Rattle.zarrs_codec.specs.declared.sample_bytes_codec.SampleBytesCodec.{SampleBytesCodec}
-use Rattle.zarrs_chain_parts.specs.PlainChain.{PlainChain}
-use Rattle.zarrs_chain_parts.specs.Representation.{chain_representation}
+use Rattle.zarrs_chain_laws.specs.PlainChain.{PlainChain}
+use Rattle.zarrs_chain_laws.specs.Representation.{chain_representation}
 use Rattle.zarrs_chain_json.specs.declared.refusal.Refusal.{Refusal}
 use Rattle.zarrs_chain_json.specs.declared.refusal.Refusal.TheVariants.{Syntax}
 use Rattle.zarrs_chain_json.specs.Refusal.{codec_answer, making_answer}

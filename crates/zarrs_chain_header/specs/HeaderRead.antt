@@ -1,5 +1,5 @@
 -- What a header that was read is seen as.
-use Rattle.zarrs_codec_chain.specs.ChainView.{plain_chain}
+use Rattle.zarrs_chain_whole.specs.ChainView.{plain_chain}
 use Rattle.zarrs_chain_header.specs.Header as plain
 use Rattle.zarrs_chain_header.specs.declared.header.ChunkHeader.{ChunkHeader}
 

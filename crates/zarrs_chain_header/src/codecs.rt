@@ -4,13 +4,13 @@ ghost use Rattle.serde_json.specs.View.{items_view};
 ghost use Rattle.zarrs_chunk.specs.Answer.{Answers};
 ghost use Rattle.zarrs_metadata.specs.MetadataV3.{metadata_seen};
 ghost use Rattle.zarrs_metadata.specs.PluginCreateError.{plugin_memory};
-ghost use Rattle.zarrs_codec_chain.specs.ChainView.{plain_chain};
+ghost use Rattle.zarrs_chain_whole.specs.ChainView.{plain_chain};
 ghost use Rattle.zarrs_chain_header.specs.Codecs.{metadata_in as metadata_among, chain_in};
 
 use serde_json::Value;
 use std::alloc::Global;
+use zarrs_chain_whole::CodecChain;
 use zarrs_codec::{SampleBytesCodec, SampleMaker};
-use zarrs_codec_chain::CodecChain;
 use zarrs_metadata::{MetadataV3, PluginCreateError};
 
 fn metadata_in(alloc: Global, items: &Vec<Value>) -> Result<Vec<MetadataV3>, PluginCreateError>

@@ -2,7 +2,7 @@
 ghost use Rattle.std.specs.Prelude.{◌≡◌, option_map};
 ghost use Rattle.serde_json.specs.View.{view, members_view};
 ghost use Rattle.zarrs_chunk.specs.Answer.{Answers};
-ghost use Rattle.zarrs_codec_chain.specs.ChainView.{plain_chain};
+ghost use Rattle.zarrs_chain_whole.specs.ChainView.{plain_chain};
 ghost use Rattle.zarrs_chain_json.specs.Refusal.{wants_memory};
 ghost use Rattle.zarrs_chain_header.specs.Header.{shape_at, data_type_at, fill_value_at, codecs_at, header_in, line_header, line_codecs};
 ghost use Rattle.zarrs_chain_header.specs.HeaderRead.{header_seen};
@@ -11,9 +11,9 @@ use crate::codecs::chain;
 use serde_json::Value;
 use std::alloc::Global;
 use zarrs_chain_json::{Members, Refusal, data_type, hex_bytes, member, numbers, object, tree};
+use zarrs_chain_whole::CodecChain;
 use zarrs_chunk::ChunkShape;
 use zarrs_codec::SampleBytesCodec;
-use zarrs_codec_chain::CodecChain;
 use zarrs_data_type::{DataType, FillValue};
 
 /// A chunk's shape, the type of its elements and its fill value, and the chain of codecs that it goes

@@ -11,8 +11,8 @@ use Rattle.zarrs_array_bytes.specs.Validity.{Holds}
 use Rattle.zarrs_codec.specs.SampleBytesCodec.{sample_codecs}
 use Rattle.zarrs_codec.specs.StorageState.{count_if}
 use Rattle.zarrs_codec.specs.declared.sample_bytes_codec.SampleBytesCodec.{SampleBytesCodec}
-use Rattle.zarrs_chain_partial.specs.ChunkRead.{ChunkForm, stored_read}
-use Rattle.zarrs_chain_partial.specs.ChunkSource.{Source, source_made}
+use Rattle.zarrs_codec_chain.specs.ChunkRead.{ChunkForm, stored_read}
+use Rattle.zarrs_codec_chain.specs.ChunkSource.{Source, source_made}
 use Rattle.zarrs_chain_json.specs.declared.refusal.Refusal.{Refusal}
 use Rattle.zarrs_chain_lines.specs.Commands.{State, sample_reads, chunk_part, part_of, read_answer}
 use Rattle.zarrs_chain_json.specs.Elements.{chunk_tree}

@@ -7,9 +7,9 @@ use Rattle.zarrs_codec.specs.MemoryHandle.{memory_state}
 use Rattle.zarrs_codec.specs.SampleBytesCodec.{sample_codecs}
 use Rattle.zarrs_codec.specs.declared.memory_handle.MemoryHandle.{MemoryHandle}
 use Rattle.zarrs_codec.specs.declared.sample_bytes_codec.SampleBytesCodec.{SampleBytesCodec}
-use Rattle.zarrs_chain_partial.specs.ChunkRead.{ChunkForm}
-use Rattle.zarrs_chain_partial.specs.ChunkWrite.{stored_written}
-use Rattle.zarrs_chain_parts.specs.Representation.{chain_representation}
+use Rattle.zarrs_codec_chain.specs.ChunkRead.{ChunkForm}
+use Rattle.zarrs_codec_chain.specs.ChunkWrite.{stored_written}
+use Rattle.zarrs_chain_laws.specs.Representation.{chain_representation}
 use Rattle.zarrs_chain_lines.specs.Commands.{chunk_left}
 use Rattle.zarrs_chain_json.specs.Edit.{PlainEdit}
 use Rattle.zarrs_chain_lines.proofs.ReadLemmas.{no_fault, excused_less}

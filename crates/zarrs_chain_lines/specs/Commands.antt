@@ -8,14 +8,14 @@ use Rattle.zarrs_data_type.specs.Element.{Chunk}
 use Rattle.zarrs_codec.specs.SampleBytesCodec.{sample_codecs}
 use Rattle.zarrs_codec.specs.declared.capabilities.PartialDecoderCapability.{PartialDecoderCapability}
 use Rattle.zarrs_codec.specs.declared.sample_bytes_codec.SampleBytesCodec.{SampleBytesCodec}
-use Rattle.zarrs_chain_parts.specs.Chain.{held_value}
-use Rattle.zarrs_chain_parts.specs.PlainChain.{PlainChain}
-use Rattle.zarrs_codec_chain.specs.Reencode.{reencoded_value}
-use Rattle.zarrs_chain_partial.specs.ChunkRead.{ChunkForm, stored_read, chunk_form}
-use Rattle.zarrs_chain_partial.specs.ChunkSource.{source_made}
-use Rattle.zarrs_chain_partial.specs.ChunkWrite.{stored_written}
-use Rattle.zarrs_chain_parts.specs.Decode.{chain_chunk}
-use Rattle.zarrs_chain_parts.specs.Representation.{chain_representation}
+use Rattle.zarrs_chain_laws.specs.Chain.{held_value}
+use Rattle.zarrs_chain_laws.specs.PlainChain.{PlainChain}
+use Rattle.zarrs_chain_whole.specs.Reencode.{reencoded_value}
+use Rattle.zarrs_codec_chain.specs.ChunkRead.{ChunkForm, stored_read, chunk_form}
+use Rattle.zarrs_codec_chain.specs.ChunkSource.{source_made}
+use Rattle.zarrs_codec_chain.specs.ChunkWrite.{stored_written}
+use Rattle.zarrs_chain_laws.specs.Decode.{chain_chunk}
+use Rattle.zarrs_chain_laws.specs.Representation.{chain_representation}
 use Rattle.zarrs_chain_json.specs.declared.refusal.Refusal.{Refusal}
 use Rattle.zarrs_chain_json.specs.declared.refusal.Refusal.TheVariants.{Syntax}
 use Rattle.zarrs_chain_json.specs.Refusal.{codec_answer}

@@ -1,6 +1,6 @@
 -- What a session is seen as.
 use Rattle.zarrs_codec.specs.MemoryHandle.{handle_value}
-use Rattle.zarrs_codec_chain.specs.ChainView.{plain_chain}
+use Rattle.zarrs_chain_whole.specs.ChainView.{plain_chain}
 use Rattle.zarrs_chain_lines.specs.Commands.{State}
 use Rattle.zarrs_chain_lines.specs.Header.{Header}
 use Rattle.zarrs_chain_lines.specs.declared.session.Session.{Session}

@@ -6,7 +6,7 @@ ghost use Rattle.zarrs_chunk.specs.Answer.{Answers, AnswersBy, memory, seen};
 ghost use Rattle.zarrs_chunk.specs.Indexer.{selection_of};
 ghost use Rattle.zarrs_array_bytes.specs.Validity.{Holds};
 ghost use Rattle.zarrs_codec.specs.MemoryHandle.{handle_value};
-ghost use Rattle.zarrs_codec_chain.specs.ChainView.{plain_chain};
+ghost use Rattle.zarrs_chain_whole.specs.ChainView.{plain_chain};
 ghost use Rattle.zarrs_chain_lines.specs.Commands.{first_state, chunk_part, part_of, chunk_left, value_left, encode_answer, load_answer, chunk_answer, decode_answer, read_answer, write_answer, erase_answer, value_answer, reencoded_answer, reencode_answer, answer_to, GivesPart, StoresEdit, GivesChunkPart, StoresChunkEdit};
 ghost use Rattle.zarrs_chain_json.specs.Edit.{edit_seen};
 ghost use Rattle.zarrs_chain_lines.specs.Header.{shape_at, data_type_at, fill_value_at, codecs_at, header_in, line_header};
@@ -22,11 +22,11 @@ use zarrs_chain_json::{
     Edit, Members, Refusal, data_type, elements, hex_bytes, indexer, member, numbers, object,
     ok_elements, ok_hex, read_edit, tree,
 };
-use zarrs_chain_partial::CodecChainPartialTraits;
+use zarrs_chain_whole::CodecChain;
+use zarrs_chain_whole::reencode::reencode;
 use zarrs_chunk::{ChunkShape, CodecError, Indexer};
 use zarrs_codec::{MemoryHandle, SampleBytesCodec};
-use zarrs_codec_chain::CodecChain;
-use zarrs_codec_chain::reencode::reencode;
+use zarrs_codec_chain::CodecChainPartialTraits;
 use zarrs_data_type::{DataType, FillValue};
 
 /// What a header opened, and what is stored since.

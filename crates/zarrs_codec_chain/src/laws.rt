@@ -1,38 +1,25 @@
-//! Laws over the definitions alone: each function's contract is one. They are of all chains, those
-//! with chains inside too: the laws of chains, and below them those of re-encoding.
+//! Laws over the definitions alone. The functions do nothing; their contracts are the laws.
 ghost use Rattle.zarrs_codec.specs.BytesToBytesCodec.{BytesCodecs};
-ghost use Rattle.zarrs_codec_chain.specs.ReencodeLaws.{WrittenIsCanonical, ReencodedIsWritten, ReencodedIsCanonical, ReencodedTwice, ReencodedBack};
+ghost use Rattle.zarrs_codec_chain.specs.ReadLaws.{StoredReadsAlike, StoredSelects};
+ghost use Rattle.zarrs_codec_chain.specs.SizeLaws.{ChunkSizesAreExact, SizesAreExact};
 
-pub use zarrs_chain_parts::laws::{
-    answered_stands, chains_are_made_again, chains_are_made_alike, normal_moved, normal_twice,
-    normal_updated, stands_for_one, stands_is_answered, value_is_written, written_alike,
-    written_keeps, written_once, written_stands,
-};
-
-/// What is written for a chunk is the canonical value of the chunk's normal form: it stands for the
-/// normal form, and is written for it.
-pub fn written_is_canonical<B>()
-    ensures law { (f : BytesCodecs B) → WrittenIsCanonical f }
+/// Where elements all take as many bytes, with their mask bytes, a cache of a chunk has these bytes and
+/// no others. So what answers rest on has one size, whatever container holds it.
+pub fn sizes_are_exact()
+    ensures chunk { ChunkSizesAreExact }
+    ensures law { SizesAreExact }
 {}
 
-/// A value that stands for a chunk is re-encoded, into any chain, as exactly what is written for
-/// the chunk.
-pub fn reencoded_is_written<B, C>()
-    ensures law { (f : BytesCodecs B) (g : BytesCodecs C) → ReencodedIsWritten f g }
+/// Of a stored value that stands for a chunk, a read in part answers the chunk's elements that the
+/// selection means, or the selection's refusal: by the places' bytes, by the offsets of a plain `vlen`
+/// and the elements' bytes, or by the whole chunk.
+pub fn reads_select<B>()
+    ensures law { (f : BytesCodecs B) → StoredSelects f }
 {}
 
-/// Into its own chain a value is re-encoded as the canonical value of its chunk's normal form.
-pub fn reencoded_is_canonical<B>()
-    ensures law { (f : BytesCodecs B) → ReencodedIsCanonical f }
-{}
-
-/// Re-encoding into the same chain twice gives what once gives.
-pub fn reencoded_twice<B>()
-    ensures law { (f : BytesCodecs B) → ReencodedTwice f }
-{}
-
-/// From a canonical value into a chain whose normal form keeps the value's chunk, and back, gives
-/// the value.
-pub fn reencoded_back<B, C>()
-    ensures law { (f : BytesCodecs B) (g : BytesCodecs C) → ReencodedBack f g }
+/// Over a plain `vlen`, through whatever chain, a read rests on the length of the bytes below the bytes
+/// codecs, on the offsets there and on the bytes of the elements that are meant; whatever the other bytes
+/// are, the answer or the refusal is the same.
+pub fn reads_are_alike<B>()
+    ensures law { (f : BytesCodecs B) → StoredReadsAlike f }
 {}

@@ -1,27 +1,41 @@
-//! Chains of codecs: codecs of chunks to chunks, one of chunks to bytes, and codecs of bytes to
-//! bytes.
+//! Reading and writing a chunk in part through a chain of codecs, over a storage handle.
 //!
-//! [`CodecChain`] encodes and decodes whole chunks, and [`reencode`] takes a value of one chain to
-//! another. The bytes codecs are the caller's. What reads and writes a chunk in part stands on this
-//! crate and goes through the chain by its [`stages`].
+//! A chain makes an [`ArrayPartialDecoder`], which reads a chunk in part, or an
+//! [`ArrayPartialEncoder`], which writes it in part too ([`CodecChainPartialTraits`]);
+//! [`run_edits`] makes a list of edits. A `vlen` codec by itself makes a [`VlenPartialDecoder`]
+//! ([`VlenCodecPartialTraits`]).
 #![tactic(auto)]
 
-mod array_to_bytes;
-mod array_to_bytes_codec;
-mod codec_chain;
-mod decode;
-mod encode;
+mod codec_chain_partial;
 pub mod laws;
-mod metadata;
-mod optional_codec;
-mod plain_form;
-pub mod reencode;
-mod representation;
-pub mod stages;
-mod vlen_codec;
-mod vlen_kept;
+mod partial_decoder;
+mod partial_encoder;
+mod vlen;
 
-pub use array_to_bytes_codec::ArrayToBytesCodec;
-pub use codec_chain::CodecChain;
-pub use optional_codec::OptionalCodec;
-pub use vlen_codec::VlenCodec;
+pub use codec_chain_partial::CodecChainPartialTraits;
+pub use partial_decoder::array_partial_decoder::ArrayPartialDecoder;
+pub use partial_encoder::array_partial_encoder::ArrayPartialEncoder;
+pub use partial_encoder::edits::{Edit, EditOutcome, run_edits};
+pub use vlen::vlen_partial_decoder::{VlenCodecPartialTraits, VlenPartialDecoder};
+
+// What a user of chains needs of the crates below, by the one path of this crate.
+pub use zarrs_array_bytes::{
+    ArrayBytes, ArrayBytesDecodeIntoTarget, ArrayBytesFixedView, ArrayBytesOffsets, ArrayBytesRaw,
+    update_array_bytes,
+};
+pub use zarrs_array_to_array::{ArrayToArrayCodec, ReshapeCodec, SqueezeCodec, TransposeCodec};
+pub use zarrs_bytes::{BytesCodec, BytesCodecPartial};
+pub use zarrs_chain_whole::reencode::reencode;
+pub use zarrs_chain_whole::{ArrayToBytesCodec, CodecChain, OptionalCodec, VlenCodec};
+pub use zarrs_chunk::{ArrayIndices, ArraySubset, ChunkShape, Indexer};
+pub use zarrs_codec::{
+    ArrayCodecTraits, ArrayPartialDecoderTraits, ArrayPartialEncoderTraits,
+    ArrayToArrayCodecTraits, ArrayToBytesCodecTraits, ByteRange, BytesCodecMaker,
+    BytesPartialDecoderTraits, BytesPartialEncoderTraits, BytesRepresentation,
+    BytesToBytesCodecTraits, CodecError, CodecName, CodecTraits, MemoryHandle,
+    PartialDecoderCapability, PartialEncoderCapability, Refused, SampleBytesCodec, SampleMaker,
+    StorageError,
+};
+pub use zarrs_data_type::{DataType, Endianness, FillValue};
+pub use zarrs_metadata::{MetadataV3, PluginCreateError};
+pub use zarrs_packbits::{PackBitsCodec, PackBitsPartialDecoder};

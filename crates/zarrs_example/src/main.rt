@@ -10,7 +10,7 @@ use std::borrow::CowSlice;
 use std::io;
 use std::process::ExitCode;
 use thiserror::Error;
-use zarrs_chain_partial::{
+use zarrs_codec_chain::{
     ArrayBytes, ArraySubset, ChunkShape, CodecChain, CodecChainPartialTraits, CodecError, DataType,
     FillValue, Indexer, MemoryHandle, MetadataV3, PluginCreateError, SampleBytesCodec, SampleMaker,
 };

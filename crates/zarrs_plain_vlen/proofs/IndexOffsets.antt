@@ -16,17 +16,17 @@ use Rattle.zarrs_array_bytes.specs.Offsets.{rises, is_offsets, offsets_of}
 use Rattle.zarrs_array_bytes.specs.Parts.{fixed_part}
 use Rattle.zarrs_array_bytes.specs.Validity.{Holds}
 use Rattle.zarrs_bytes.specs.BytesCodec.{bytes_chunk, bytes_length, bytes_element}
-use Rattle.zarrs_chain_parts.specs.Decode.{offsets_in_chunk}
-use Rattle.zarrs_chain_parts.specs.Encode.{offset_bytes}
-use Rattle.zarrs_chain_parts.specs.Representation.{offset_type}
-use Rattle.zarrs_chain_parts.specs.VlenSteps.{offset_size, read_offsets}
-use Rattle.zarrs_chain_parts.proofs.ArraySteps.{ok, err, bind_ok, ok_is}
-use Rattle.zarrs_chain_parts.proofs.VlenOffsets.{numbers_in, numbers_long}
+use Rattle.zarrs_chain_laws.specs.Decode.{offsets_in_chunk}
+use Rattle.zarrs_chain_laws.specs.Encode.{offset_bytes}
+use Rattle.zarrs_chain_laws.specs.Representation.{offset_type}
+use Rattle.zarrs_chain_laws.specs.vlen.VlenSteps.{offset_size, read_offsets}
+use Rattle.zarrs_chain_laws.proofs.ArraySteps.{ok, err, bind_ok, ok_is}
+use Rattle.zarrs_chain_laws.proofs.VlenOffsets.{numbers_in, numbers_long}
 use Rattle.zarrs_array_bytes.proofs.ElementLemmas.{length_between}
 use Rattle.zarrs_codec.specs.ByteSpan.{ByteSpan}
 use Rattle.zarrs_plain_vlen.specs.VlenLayout.{span_bytes}
 use Rattle.zarrs_plain_vlen.specs.IndexSteps.{index_count}
-use Rattle.zarrs_chain_parts.specs.PlainVlen.{PlainForm}
+use Rattle.zarrs_chain_laws.specs.vlen.PlainVlen.{PlainForm}
 use Rattle.zarrs_plain_vlen.specs.VlenRead.{index_form, offsets_of_index, offsets_read}
 
 pub zero_fits : (wide : Bool) → fill_fits (offset_type wide) (offset_bytes wide 0) ≡ true

@@ -5,10 +5,10 @@ use Rattle.zarrs_chunk.specs.declared.codec_error.CodecError.{CodecError}
 use Rattle.zarrs_chunk.specs.declared.codec_error.CodecError.TheVariants.{InvalidBytesLength, InvalidOffsets, Overflow}
 use Rattle.zarrs_array_bytes.specs.Offsets.{rises}
 use Rattle.zarrs_bytes.specs.BytesCodec.{bytes_length}
-use Rattle.zarrs_chain_parts.specs.VlenSteps.{offset_size}
-use Rattle.zarrs_chain_parts.proofs.ArraySteps.{ok, err}
+use Rattle.zarrs_chain_laws.specs.vlen.VlenSteps.{offset_size}
+use Rattle.zarrs_chain_laws.proofs.ArraySteps.{ok, err}
 use Rattle.zarrs_plain_vlen.specs.Laws.{spelled_offsets, IndexIsRefusedInOrder}
-use Rattle.zarrs_chain_parts.specs.PlainVlen.{PlainForm}
+use Rattle.zarrs_chain_laws.specs.vlen.PlainVlen.{PlainForm}
 use Rattle.zarrs_plain_vlen.specs.VlenRead.{index_form, offsets_of_index}
 use Rattle.zarrs_plain_vlen.proofs.IndexOffsets.{at_length, guard, index_long, row_is}
 

@@ -9,7 +9,7 @@ use Rattle.zarrs_chunk.specs.AnswerLaws.{demand_ok}
 use Rattle.zarrs_chunk.specs.ChunkShape.{product}
 use Rattle.zarrs_chunk.specs.Selection.{Selection, places_of}
 use Rattle.zarrs_chunk.proofs.PlaceLaws.{known_below}
-use Rattle.zarrs_chain_parts.specs.Stands.{CodecStands}
+use Rattle.zarrs_chain_laws.specs.Stands.{CodecStands}
 use Rattle.zarrs_chunk.specs.declared.codec_error.CodecError.{CodecError}
 use Rattle.zarrs_chunk.specs.declared.codec_error.CodecError.TheVariants.{InvalidBytesLength, InvalidOffsets, InvalidByteRange, Overflow, EndiannessMissing}
 use Rattle.zarrs_data_type.specs.Element.{Element, plain, absent, Chunk}
@@ -30,14 +30,14 @@ use Rattle.zarrs_array_to_array.proofs.CoordinateMaps.{kept_places}
 use Rattle.zarrs_bytes.proofs.ReversedPieces.{reversed_pieces-single}
 use Rattle.zarrs_bytes.specs.ByteOrder.{bytes_of, has_order}
 use Rattle.zarrs_bytes.specs.BytesCodec.{bytes_chunk, bytes_length, bytes_element}
-use Rattle.zarrs_chain_parts.specs.Decode.{Decoder, around_chunk, codec_chunk, part_chunk, vlen_chunk, vlen_parts, slices, offsets_in_chunk}
-use Rattle.zarrs_chain_parts.specs.Encode.{all_bytes}
-use Rattle.zarrs_chain_parts.specs.PlainChain.{bytes_codec}
-use Rattle.zarrs_chain_parts.specs.Representation.{byte_type, codec_representation}
-use Rattle.zarrs_chain_parts.proofs.ArraySteps.{ok, err, bind_ok, ok_is}
-use Rattle.zarrs_chain_parts.proofs.NestedDecode.{chunk_only}
+use Rattle.zarrs_chain_laws.specs.Decode.{Decoder, around_chunk, codec_chunk, part_chunk, vlen_chunk, vlen_parts, slices, offsets_in_chunk}
+use Rattle.zarrs_chain_laws.specs.Encode.{all_bytes}
+use Rattle.zarrs_chain_laws.specs.PlainChain.{bytes_codec}
+use Rattle.zarrs_chain_laws.specs.Representation.{byte_type, codec_representation}
+use Rattle.zarrs_chain_laws.proofs.ArraySteps.{ok, err, bind_ok, ok_is}
+use Rattle.zarrs_chain_laws.proofs.NestedDecode.{chunk_only}
 use Rattle.zarrs_plain_vlen.specs.Laws.{ReadSelects, PartSelects}
-use Rattle.zarrs_chain_parts.specs.PlainVlen.{PlainForm, plain_codec_of}
+use Rattle.zarrs_chain_laws.specs.vlen.PlainVlen.{PlainForm, plain_codec_of}
 use Rattle.zarrs_plain_vlen.specs.VlenRead.{index_form, is_there, offsets_of_index, offsets_read, elements_read, vlen_read}
 use Rattle.zarrs_plain_vlen.proofs.IndexOffsets.{offsets_long, rises_are}
 

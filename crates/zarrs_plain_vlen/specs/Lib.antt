@@ -10,4 +10,4 @@ pub mod Laws
 pub use Rattle.zarrs_chunk.specs.Answer
 pub use Rattle.zarrs_array_bytes.specs.Validity
 pub use Rattle.zarrs_codec.specs.StorageState
-pub use Rattle.zarrs_chain_parts.specs.PlainVlen
+pub use Rattle.zarrs_chain_laws.specs.vlen.PlainVlen

@@ -9,10 +9,10 @@ use Rattle.zarrs_data_type.specs.Form.{Form, form_of}
 use Rattle.zarrs_array_bytes.specs.Elements.{cut}
 use Rattle.zarrs_array_bytes.specs.Offsets.{rises}
 use Rattle.zarrs_bytes.specs.BytesCodec.{bytes_chunk}
-use Rattle.zarrs_chain_parts.specs.Decode.{offsets_in_chunk, vlen_parts}
-use Rattle.zarrs_chain_parts.specs.Encode.{offset_bytes}
-use Rattle.zarrs_chain_parts.specs.Representation.{offset_type}
-use Rattle.zarrs_chain_parts.specs.PlainVlen.{PlainForm}
+use Rattle.zarrs_chain_laws.specs.Decode.{offsets_in_chunk, vlen_parts}
+use Rattle.zarrs_chain_laws.specs.Encode.{offset_bytes}
+use Rattle.zarrs_chain_laws.specs.Representation.{offset_type}
+use Rattle.zarrs_chain_laws.specs.vlen.PlainVlen.{PlainForm}
 use Rattle.zarrs_plain_vlen.specs.VlenLayout.{span_numbers, head_of, layout_of, span_bytes}
 
 -- ---- the answer

@@ -4,15 +4,15 @@ ghost use Rattle.std.specs.List.{between};
 ghost use Rattle.zarrs_array_bytes.specs.Elements.{piece};
 ghost use Rattle.zarrs_array_bytes.specs.Held.{items_of};
 ghost use Rattle.zarrs_array_bytes.specs.Offsets.{is_offsets, offsets_of};
-ghost use Rattle.zarrs_chain_parts.specs.Decode.{offset_of};
-ghost use Rattle.zarrs_chain_parts.specs.VlenSettings.{is_wide};
-ghost use Rattle.zarrs_chain_parts.specs.VlenSteps.{read_offsets};
+ghost use Rattle.zarrs_chain_laws.specs.Decode.{offset_of};
+ghost use Rattle.zarrs_chain_laws.specs.vlen.VlenSettings.{is_wide};
+ghost use Rattle.zarrs_chain_laws.specs.vlen.VlenSteps.{read_offsets};
 ghost use Rattle.zarrs_plain_vlen.specs.Elements.{AddsMoved};
 
 use std::alloc::AllocError;
 use std::marker::Model;
 use zarrs_array_bytes::ArrayBytesRaw;
-use zarrs_chain_parts::vlen_offsets::{read_narrow, read_wide};
+use zarrs_chain_laws::vlen::vlen_offsets::{read_narrow, read_wide};
 use zarrs_chunk::CodecError;
 use zarrs_metadata::VlenIndexDataType;
 
@@ -29,8 +29,8 @@ impl Model for Offsets {
     ghost use Rattle.std.specs.Prelude.{List, ℕ, ◌≡◌, true};
     ghost use Rattle.zarrs_array_bytes.specs.Held.{items_of};
     ghost use Rattle.zarrs_array_bytes.specs.Offsets.{is_offsets};
-    ghost use Rattle.zarrs_chain_parts.specs.VlenSettings.{is_wide};
-    ghost use Rattle.zarrs_chain_parts.specs.VlenSteps.{read_offsets};
+    ghost use Rattle.zarrs_chain_laws.specs.vlen.VlenSettings.{is_wide};
+    ghost use Rattle.zarrs_chain_laws.specs.vlen.VlenSteps.{read_offsets};
 
     ghost Value = { List ℕ };
 

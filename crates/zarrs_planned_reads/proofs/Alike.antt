@@ -19,10 +19,10 @@ use Rattle.zarrs_bytes.proofs.Alike as bytes
 use Rattle.zarrs_packbits.specs.PackBitsSettings.{PackBitsSettings, packed_layout}
 use Rattle.zarrs_packbits.specs.PartialRead.{all_below, packed_places_bytes, read_packed_places}
 use Rattle.zarrs_packbits.proofs.CodecLaws as packed
-use Rattle.zarrs_chain_parts.specs.Chain.{taken_form}
-use Rattle.zarrs_chain_parts.specs.PlainChain.{PlainCodec, bytes_codec, packbits_codec, vlen_codec, optional_codec}
-use Rattle.zarrs_chain_parts.proofs.ArraySteps.{ok, bind_ok}
-use Rattle.zarrs_chain_partial.specs.ChunkRead.{ChunkForm, asks_in_part, codec_plans, codec_read, codec_rests_on, encoded_places, outer_stored, reads_places}
+use Rattle.zarrs_chain_laws.specs.Chain.{taken_form}
+use Rattle.zarrs_chain_laws.specs.PlainChain.{PlainCodec, bytes_codec, packbits_codec, vlen_codec, optional_codec}
+use Rattle.zarrs_chain_laws.proofs.ArraySteps.{ok, bind_ok}
+use Rattle.zarrs_codec_chain.specs.ChunkRead.{ChunkForm, asks_in_part, codec_plans, codec_read, codec_rests_on, encoded_places, outer_stored, reads_places}
 use Rattle.zarrs_planned_reads.specs.PlannedReads.{ArePlanned, PlannedIsAsked, PlannedReadsAlike, SizedReadsAlike}
 
 -- ---- bytes inside values of one length

@@ -6,8 +6,8 @@ use Rattle.zarrs_chunk.specs.Selection.{Selection}
 use Rattle.zarrs_chunk.specs.declared.codec_error.CodecError.{CodecError}
 use Rattle.zarrs_codec.specs.ByteRanges.{SameByte}
 use Rattle.zarrs_codec.specs.BytesToBytesCodec.{BytesCodecs}
-use Rattle.zarrs_chain_parts.specs.Chain.{taken_form}
-use Rattle.zarrs_chain_partial.specs.ChunkRead.{ChunkForm, asks_in_part, codec_rests_on, encoded_places, read_rests_on, reads_places, stored_read}
+use Rattle.zarrs_chain_laws.specs.Chain.{taken_form}
+use Rattle.zarrs_codec_chain.specs.ChunkRead.{ChunkForm, asks_in_part, codec_rests_on, encoded_places, read_rests_on, reads_places, stored_read}
 
 -- The numbers of the bytes that a read of a selection asks for, whatever is stored, where it asks for the bytes of its places alone; else none. Or the first refusal.
 abbrev pub planned_bytes : {B : Type 0} → BytesCodecs B → ChunkForm B → Selection → Result (Option (List ℕ)) CodecError

@@ -1,7 +1,7 @@
 use Rattle.std.proofs.Common.{◌≡◌, ap}
 use Rattle.zarrs_chunk.specs.Indexer.{selection_of}
 use Rattle.zarrs_chain_header.specs.HeaderRead.{header_seen}
-use Rattle.zarrs_chain_partial.specs.PartialDecoder.{form_of, handle_of, decoder_source}
+use Rattle.zarrs_codec_chain.specs.PartialDecoder.{form_of, handle_of, decoder_source}
 use Rattle.zarrs_pieces.specs.PiecesHandle.{pieces_state}
 use Rattle.zarrs_calls.specs.Reads.{header_form}
 use Rattle.zarrs_calls.proofs.FetchedLemmas.{part_answered, part_stopped, planned_quiet, planned_quietly_made}

@@ -2,7 +2,7 @@ use Rattle.std.proofs.Common.{◌≡◌, ap}
 use Rattle.zarrs_chunk.specs.Answer.{is_fault, fault}
 use Rattle.zarrs_chunk.specs.Indexer.{selection_of}
 use Rattle.zarrs_chain_header.specs.HeaderRead.{header_seen}
-use Rattle.zarrs_chain_partial.specs.PartialDecoder.{form_of, handle_of, decoder_source}
+use Rattle.zarrs_codec_chain.specs.PartialDecoder.{form_of, handle_of, decoder_source}
 use Rattle.zarrs_chain_lines.proofs.ReadLemmas.{no_fault, part_read, part_refused}
 use Rattle.zarrs_pieces.specs.LentHandle.{lent_value}
 use Rattle.zarrs_calls.specs.Reads.{header_form}

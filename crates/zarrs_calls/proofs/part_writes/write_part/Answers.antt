@@ -2,7 +2,7 @@ use Rattle.std.proofs.Common.{rules, ap}
 use Rattle.zarrs_chunk.specs.Indexer.{selection_of}
 use Rattle.zarrs_codec.specs.MemoryHandle.{handle_value}
 use Rattle.zarrs_chain_header.specs.HeaderRead.{header_seen}
-use Rattle.zarrs_chain_partial.specs.PartialEncoder.{encoder_form, encoder_handle}
+use Rattle.zarrs_codec_chain.specs.PartialEncoder.{encoder_form, encoder_handle}
 use Rattle.zarrs_chain_lines.proofs.WriteLemmas.{write_quiet, part_written, part_unwritten}
 use Rattle.zarrs_calls.specs.Reads.{header_form}
 use Rattle.zarrs_calls.proofs.WrittenLemmas.{by_encoder, by_no_encoder}

@@ -2,8 +2,8 @@ use Rattle.std.proofs.Common.{◌≡◌, ap}
 use Rattle.zarrs_chunk.specs.Answer.{is_fault, fault}
 use Rattle.zarrs_chunk.specs.Indexer.{selection_of}
 use Rattle.zarrs_codec.specs.MemoryHandle.{handle_value}
-use Rattle.zarrs_codec_chain.specs.ChainView.{plain_chain}
-use Rattle.zarrs_chain_partial.specs.PartialDecoder.{form_of, handle_of, decoder_source}
+use Rattle.zarrs_chain_whole.specs.ChainView.{plain_chain}
+use Rattle.zarrs_codec_chain.specs.PartialDecoder.{form_of, handle_of, decoder_source}
 use Rattle.zarrs_chain_lines.proofs.ReadLemmas.{no_fault, part_read, part_refused}
 use Rattle.zarrs_chain_lines.proofs.session.read_part.Goals as goal
 

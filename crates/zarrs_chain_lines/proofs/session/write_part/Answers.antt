@@ -1,7 +1,7 @@
 use Rattle.std.proofs.Common.{rules, ap}
 use Rattle.zarrs_codec.specs.MemoryHandle.{handle_value}
-use Rattle.zarrs_codec_chain.specs.ChainView.{plain_chain}
-use Rattle.zarrs_chain_partial.specs.PartialEncoder.{encoder_form, encoder_handle}
+use Rattle.zarrs_chain_whole.specs.ChainView.{plain_chain}
+use Rattle.zarrs_codec_chain.specs.PartialEncoder.{encoder_form, encoder_handle}
 use Rattle.zarrs_chain_json.specs.Edit.{edit_seen}
 use Rattle.zarrs_chain_lines.proofs.WriteLemmas.{Form, write_quiet, part_written, part_unwritten}
 use Rattle.zarrs_chain_lines.proofs.session.write_part.Goals as goal

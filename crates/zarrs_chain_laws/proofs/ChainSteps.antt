@@ -1,0 +1,304 @@
+-- The steps of a chain's calls.
+use Rattle.zarrs_data_type.specs.Form.{form_of}
+use Rattle.std.proofs.Common.{◌≡◌, ◌&&◌, ℕ, suc, ◌+◌, nat_lt, Bool, false, List, [], ◌∷◌, length, Result, Ok, Err, IfOk, Option, refl, ap, sym, subst, ◌∙◌}
+use Rattle.std.proofs.lemmas.List.FromFn.{length-map-range_with_len}
+use Rattle.zarrs_chunk.specs.Answer.{◌>>=◌, demand, seen, checked_u64, Answers, AnswersBy, memory}
+use Rattle.zarrs_chunk.specs.ChunkShape.{product}
+use Rattle.zarrs_chunk.specs.declared.codec_error.CodecError.{CodecError}
+use Rattle.zarrs_chunk.specs.declared.codec_error.CodecError.TheVariants.{InvalidFillValue, BitRange, UnsupportedDataType, InvalidOffsets}
+use Rattle.zarrs_chunk.specs.declared.codec_error.CodecName.TheVariants as name
+use Rattle.zarrs_data_type.specs.ElementType.{ElementType, fixed, text, bytes, optional, is_variable}
+use Rattle.zarrs_data_type.specs.FillValue.{fill_fits}
+use Rattle.zarrs_data_type.specs.Element.{plain, Chunk}
+use Rattle.zarrs_data_type.specs.declared.endianness.Endianness.{Endianness}
+use Rattle.zarrs_array_to_array.specs.ArrayToArrayCodec.{ArrayMapping}
+use Rattle.zarrs_array_bytes.specs.Elements.{cut, elements}
+use Rattle.zarrs_array_bytes.specs.Offsets.{rises, last_of}
+use Rattle.zarrs_array_bytes.specs.Held.{Held}
+use Rattle.zarrs_array_bytes.specs.Validity.{validity, sizes_fit, Holds}
+use Rattle.zarrs_codec.specs.BytesToBytesCodec.{BytesCodecs}
+use Rattle.zarrs_codec.specs.CoordinateMap.{CoordinateMap, IsCoordinateMap, moved_chunk, inverse_map}
+use Rattle.zarrs_codec.specs.MappedChunk.{encoded_chunk, decoded_chunk}
+use Rattle.zarrs_codec.specs.declared.bytes_representation.BytesRepresentation.{BytesRepresentation}
+use Rattle.zarrs_codec.specs.declared.bytes_representation.BytesRepresentation.TheVariants.{FixedSize}
+use Rattle.zarrs_bytes.specs.BytesCodec.{bytes_length}
+use Rattle.zarrs_bytes.proofs.Exact.{decoded_found}
+use Rattle.zarrs_packbits.specs.PackBitsSettings.{PackBitsSettings, packed_layout, packbits_length, has_bits}
+use Rattle.zarrs_packbits.specs.PaddingByte.{value_len}
+use Rattle.zarrs_packbits.proofs.Exact as packbits
+use Rattle.zarrs_array_to_array.proofs.CoordinateMaps.{length-moved}
+use Rattle.zarrs_chain_laws.specs.PlainChain.{PlainCodec, bytes_codec, packbits_codec, vlen_codec, optional_codec, PlainChain}
+use Rattle.zarrs_chain_laws.specs.ArrayStages.{arrays_map, IsMapWhere}
+use Rattle.zarrs_chain_laws.specs.BytesStages.{outer_value, outer_bytes, outer_representation}
+use Rattle.zarrs_chain_laws.specs.Chain.{taken_form, codec_held_value, held_value}
+use Rattle.zarrs_chain_laws.specs.Encode.{offset_bytes, all_bytes, codec_value}
+use Rattle.zarrs_chain_laws.specs.Decode.{Decoder, part_chunk, offsets_in_chunk, slices, vlen_parts, vlen_chunk, optional_parts, flag_in, flags_in, count_set, under_flags, optional_chunk, around_chunk, codec_chunk, chain_chunk}
+use Rattle.zarrs_chain_laws.specs.Representation.{Measure, flag_type, byte_type, offset_type, blank_fill, codec_representation, chain_representation}
+use Rattle.zarrs_chain_laws.proofs.NestedParts.{length_under}
+use Rattle.zarrs_chain_laws.proofs.ArraySteps.{ok, err, at_ok, bind_ok, ok_is, counted_so}
+
+-- ---- what a chain takes
+
+-- a chain that takes a chunk: what its array codecs do, and what its codec to bytes makes of it
+pub record IsTaken {B : Type 0} (f : BytesCodecs B) (chain : PlainChain B) (sizes : List ℕ) (type : ElementType) (fill encoded : List ℕ) (r : BytesRepresentation) : Type 0 where
+  pub map_is : CoordinateMap
+  pub mapped : arrays_map type chain.arrays sizes ≡ Ok map_is
+  pub encoded_is : map_is.encoded ≡ encoded
+  pub measured : codec_representation f chain.codec map_is.encoded type fill ≡ Ok r
+
+pub seen_ok : {X Y : Type 0} (view : X → Y) (r : Result X CodecError) (y : Y) → seen view r ≡ Ok y → (x : X) × (r ≡ Ok x) × (view x ≡ y)
+seen_ok view (Ok x) y e = (x, refl, ok_is (view x) y e)
+seen_ok view (Err error) y e = absurd cc
+
+pub is_taken : {B : Type 0} (f : BytesCodecs B) (chain : PlainChain B) (sizes : List ℕ) (type : ElementType) (fill : List ℕ) (form : List ℕ × BytesRepresentation) → taken_form f chain sizes type fill ≡ Ok form → IsTaken f chain sizes type fill form.0 form.1
+is_taken f chain sizes type fill form e =
+    let a = bind_ok (seen (λ (m : CoordinateMap). m.encoded) (arrays_map type chain.arrays sizes)) _ form e in
+    let m = seen_ok (λ (m : CoordinateMap). m.encoded) (arrays_map type chain.arrays sizes) a.0 a.1 in
+    let c = bind_ok (codec_representation f chain.codec a.0 type fill) _ form a.2 in
+    let is : (a.0, c.0) ≡ form = ok_is (a.0, c.0) form c.2 in
+    record {
+      map_is = m.0;
+      mapped = m.1;
+      encoded_is = m.2 ∙ ap (λ (p : List ℕ × BytesRepresentation). p.0) is;
+      measured = ap (λ s. codec_representation f chain.codec s type fill) m.2 ∙ c.1 ∙ ap (λ (p : List ℕ × BytesRepresentation). ok p.1) is;
+    }
+
+-- ---- refusals of the form
+
+abbrev form_ok : List ℕ → BytesRepresentation → Result (List ℕ × BytesRepresentation) CodecError
+form_ok sizes r = Ok (sizes, r)
+
+cause_is : {A : Type 0} (cause error : CodecError) → err {A = A} cause ≡ err error → cause ≡ error
+cause_is cause error e = cc
+
+measured_so : (s : List ℕ) (r : Result BytesRepresentation CodecError) (error : CodecError) → r >>= (λ x. form_ok s x) ≡ err error
+    → (X : Type 0) (g : BytesRepresentation → Result X CodecError) → r >>= g ≡ err error
+measured_so s (Err cause) error e X g = ap err (cause_is cause error e)
+measured_so s (Ok x) error e X g = absurd cc
+
+form_refused : (a : Result CoordinateMap CodecError) (measure : List ℕ → Result BytesRepresentation CodecError) (error : CodecError)
+    → seen (λ (m : CoordinateMap). m.encoded) a >>= (λ s. measure s >>= (λ r. form_ok s r)) ≡ err error
+    → (X : Type 0) (g : CoordinateMap → BytesRepresentation → Result X CodecError) → a >>= (λ m. measure m.encoded >>= g m) ≡ err error
+form_refused (Err cause) measure error e X g = ap err (cause_is cause error e)
+form_refused (Ok m) measure error e X g = measured_so m.encoded (measure m.encoded) error e X (g m)
+
+pub refused_representation : {B : Type 0} (f : BytesCodecs B) (chain : PlainChain B) (sizes : List ℕ) (type : ElementType) (fill : List ℕ) (error : CodecError) → taken_form f chain sizes type fill ≡ Err error → chain_representation f chain sizes type fill ≡ Err error
+refused_representation f chain sizes type fill error e =
+    form_refused (arrays_map type chain.arrays sizes) (λ s. codec_representation f chain.codec s type fill) error e BytesRepresentation (λ m r. Ok (outer_representation f chain.outer r))
+
+pub form_representation : {B : Type 0} (f : BytesCodecs B) (chain : PlainChain B) (sizes : List ℕ) (type : ElementType) (fill : List ℕ) (form : List ℕ × BytesRepresentation) → taken_form f chain sizes type fill ≡ Ok form → chain_representation f chain sizes type fill ≡ Ok (outer_representation f chain.outer form.1)
+form_representation f chain sizes type fill form e =
+    let t = is_taken f chain sizes type fill form e in
+    rw (t.mapped, t.measured) refl
+
+-- ---- counts
+
+counted_bytes : (order : Option Endianness) (sizes : List ℕ) (type : ElementType) (fill : List ℕ) (len : ℕ) → bytes_length order (form_of sizes type fill) ≡ Ok len → checked_u64 (product sizes) ≡ Ok (product sizes)
+counted_bytes order sizes (fixed width components sign) fill len e =
+    let a = bind_ok (demand (fill_fits (fixed width components sign) fill) InvalidFillValue) _ len e in
+    let b = bind_ok (checked_u64 (product sizes)) _ len a.2 in
+    counted_so (product sizes) b.0 b.1
+counted_bytes order sizes text fill len e = absurd cc
+counted_bytes order sizes bytes fill len e = absurd cc
+counted_bytes order sizes (optional type) fill len e = absurd cc
+
+counted_packed : (settings : PackBitsSettings) (sizes : List ℕ) (type : ElementType) (fill : List ℕ) (len : ℕ) → packbits_length settings (form_of sizes type fill) ≡ Ok len → checked_u64 (product sizes) ≡ Ok (product sizes)
+counted_packed settings sizes (fixed width components sign) fill len e =
+    let l = seen_ok value_len (packed_layout settings (form_of sizes (fixed width components sign) fill)) len e in
+    let a = bind_ok (demand (fill_fits (fixed width components sign) fill) InvalidFillValue) _ l.0 l.1 in
+    let b = bind_ok (demand (has_bits settings width && nat_lt 0 components) BitRange) _ l.0 a.2 in
+    let c = bind_ok (checked_u64 (product sizes)) _ l.0 b.2 in
+    counted_so (product sizes) c.0 c.1
+counted_packed settings sizes text fill len e = absurd cc
+counted_packed settings sizes bytes fill len e = absurd cc
+counted_packed settings sizes (optional type) fill len e = absurd cc
+
+-- 64 bits count the elements of a chunk that a codec to bytes takes
+codec_counted : {B : Type 0} (f : BytesCodecs B) (codec : PlainCodec B) (sizes : List ℕ) (type : ElementType) (fill : List ℕ) (r : BytesRepresentation) → codec_representation f codec sizes type fill ≡ Ok r → checked_u64 (product sizes) ≡ Ok (product sizes)
+unfolding codec_representation
+codec_counted f (bytes_codec order) sizes type fill r e =
+    let a = seen_ok FixedSize (bytes_length order (form_of sizes type fill)) r e in
+    counted_bytes order sizes type fill a.0 a.1
+codec_counted f (packbits_codec settings) sizes type fill r e =
+    let a = seen_ok FixedSize (packbits_length settings (form_of sizes type fill)) r e in
+    counted_packed settings sizes type fill a.0 a.1
+codec_counted f (vlen_codec ia ix ib da dx db wide at_end) sizes type fill r e =
+    let a = bind_ok (demand (is_variable type) (UnsupportedDataType name.Vlen)) _ r e in
+    let b = bind_ok (checked_u64 (product sizes)) _ r a.2 in
+    counted_so (product sizes) b.0 b.1
+codec_counted f (optional_codec ma mx mb da dx db) sizes (optional type) fill r e =
+    let a = bind_ok (demand (fill_fits (optional type) fill) InvalidFillValue) _ r e in
+    let b = bind_ok (checked_u64 (product sizes)) _ r a.2 in
+    counted_so (product sizes) b.0 b.1
+codec_counted f (optional_codec ma mx mb da dx db) sizes (fixed width components sign) fill r e = absurd cc
+codec_counted f (optional_codec ma mx mb da dx db) sizes text fill r e = absurd cc
+codec_counted f (optional_codec ma mx mb da dx db) sizes bytes fill r e = absurd cc
+
+-- and of one that a chain takes
+pub chain_counted : {B : Type 0} (f : BytesCodecs B) (arrays : List ArrayMapping) (codec : PlainCodec B) (outer : List B) (sizes : List ℕ) (type : ElementType) (fill : List ℕ) (form : List ℕ × BytesRepresentation)
+    → IsMapWhere type arrays sizes → taken_form f (record { arrays = arrays; codec = codec; outer = outer }) sizes type fill ≡ Ok form → checked_u64 (product sizes) ≡ Ok (product sizes)
+chain_counted f arrays codec outer sizes type fill form maps e =
+    let t = is_taken f (record { arrays = arrays; codec = codec; outer = outer }) sizes type fill form e in
+    let m = at_ok (arrays_map type arrays sizes) (λ (m : CoordinateMap). IsCoordinateMap sizes m) t.map_is t.mapped maps in
+    subst (λ (k : ℕ). checked_u64 k ≡ Ok k) m.count (codec_counted f codec t.map_is.encoded type fill form.1 t.measured)
+
+-- the same, by the sizes that the array codecs make
+pub form_counted : {B : Type 0} (f : BytesCodecs B) (arrays : List ArrayMapping) (codec : PlainCodec B) (sizes : List ℕ) (type : ElementType) (fill encoded : List ℕ) (r : BytesRepresentation)
+    → IsMapWhere type arrays sizes → seen (λ (m : CoordinateMap). m.encoded) (arrays_map type arrays sizes) ≡ Ok encoded → codec_representation f codec encoded type fill ≡ Ok r → checked_u64 (product sizes) ≡ Ok (product sizes)
+form_counted f arrays codec sizes type fill encoded r maps e measured =
+    let a = seen_ok (λ (m : CoordinateMap). m.encoded) (arrays_map type arrays sizes) encoded e in
+    let m = at_ok (arrays_map type arrays sizes) (λ (m : CoordinateMap). IsCoordinateMap sizes m) a.0 a.1 maps in
+    subst (λ (k : ℕ). checked_u64 k ≡ Ok k) (ap product (sym a.2) ∙ m.count) (codec_counted f codec encoded type fill r measured)
+
+-- ---- encoding
+
+both_ok : (r s : Result (Unit {0}) CodecError) → r >>= (λ _. s) ≡ Ok tt → r ≡ Ok tt
+both_ok (Ok u) s h = refl
+both_ok (Err e) s h = absurd cc
+
+pub validity_fits : (type : ElementType) (count : ℕ) (held : Held) → validity type count held ≡ Ok tt → sizes_fit type count ≡ Ok tt
+validity_fits type count held e = both_ok (sizes_fit type count) _ e
+
+pub encoded_so : {B : Type 0} (f : BytesCodecs B) (chain : PlainChain B) (sizes : List ℕ) (type : ElementType) (fill : List ℕ) (held : Held) (encoded : List ℕ) (r : BytesRepresentation) (t : IsTaken f chain sizes type fill encoded r) → validity type (product sizes) held ≡ Ok tt
+    → held_value f chain sizes type fill held ≡ codec_value f chain.codec t.map_is.encoded type fill (moved_chunk t.map_is (elements type (product sizes) held)) >>= (λ below. outer_value f chain.outer below)
+encoded_so f chain sizes type fill held encoded r t valid =
+    let fits = validity_fits type (product sizes) held valid in
+    rw (t.mapped, t.measured, valid, fits) refl
+
+-- the container that the array codecs make holds the moved chunk
+moved_held : {B : Type 0} (f : BytesCodecs B) (chain : PlainChain B) (sizes : List ℕ) (type : ElementType) (fill : List ℕ) (held : Held) (encoded : List ℕ) (r : BytesRepresentation) (t : IsTaken f chain sizes type fill encoded r)
+    → checked_u64 (product sizes) ≡ Ok (product sizes) → validity type (product sizes) held ≡ Ok tt
+    → encoded_chunk (Ok tt) (arrays_map type chain.arrays sizes) type sizes held ≡ Ok (moved_chunk t.map_is (elements type (product sizes) held))
+moved_held f chain sizes type fill held encoded r t counted valid = rw (t.mapped, counted, valid) refl
+
+-- the value is what the codec to bytes answers of that container, through the bytes codecs
+pub value_through : {B : Type 0} (f : BytesCodecs B) (chain : PlainChain B) (sizes : List ℕ) (type : ElementType) (fill : List ℕ) (form : List ℕ × BytesRepresentation) (held made : Held)
+    → IsMapWhere type chain.arrays sizes → taken_form f chain sizes type fill ≡ Ok form → checked_u64 (product sizes) ≡ Ok (product sizes) → validity type (product sizes) held ≡ Ok tt
+    → IfOk (encoded_chunk (Ok tt) (arrays_map type chain.arrays sizes) type sizes held) (λ chunk. Holds type made chunk)
+    → held_value f chain sizes type fill held ≡ codec_held_value f chain.codec form.0 type fill made >>= (λ below. outer_value f chain.outer below)
+value_through f chain sizes type fill form held made maps e counted valid found =
+    let t = is_taken f chain sizes type fill form e in
+    let chunk = moved_chunk t.map_is (elements type (product sizes) held) in
+    let holds : Holds type made chunk = at_ok (encoded_chunk (Ok tt) (arrays_map type chain.arrays sizes) type sizes held) (λ (c : Chunk). Holds type made c) chunk (moved_held f chain sizes type fill held form.0 form.1 t counted valid) found in
+    let long : length chunk ≡ product t.map_is.encoded = length-moved t.map_is (elements type (product sizes) held) in
+    let made_valid : validity type (product t.map_is.encoded) made ≡ Ok tt = subst (λ (k : ℕ). validity type k made ≡ Ok tt) long holds.valid in
+    let made_is : elements type (product t.map_is.encoded) made ≡ chunk = subst (λ (k : ℕ). elements type k made ≡ chunk) long holds.elements_are in
+    let inner : codec_held_value f chain.codec t.map_is.encoded type fill made ≡ codec_value f chain.codec t.map_is.encoded type fill chunk = rw (t.measured, made_valid) (ap (codec_value f chain.codec t.map_is.encoded type fill) made_is) in
+    encoded_so f chain sizes type fill held form.0 form.1 t valid
+    ∙ ap (λ (r : Result (List ℕ) CodecError). r >>= (λ below. outer_value f chain.outer below)) (sym inner)
+    ∙ ap (λ s. codec_held_value f chain.codec s type fill made >>= (λ below. outer_value f chain.outer below)) t.encoded_is
+
+pub next_ok : {A C : Type 0} (r : Result A CodecError) (x : A) (g : A → Result C CodecError) → r ≡ Ok x → r >>= g ≡ g x
+next_ok r x g a = rw a refl
+
+next_err : {A C : Type 0} (r : Result A CodecError) (error : CodecError) (g : A → Result C CodecError) → r ≡ Err error → r >>= g ≡ Err error
+next_err r error g a = rw a refl
+
+two_ok : {A D C : Type 0} (r : Result A CodecError) (x : A) (s : A → Result D CodecError) (y : D) (g : D → Result C CodecError) → r ≡ Ok x → s x ≡ Ok y → r >>= (λ a. s a >>= g) ≡ g y
+two_ok r x s y g a b = next_ok r x (λ z. s z >>= g) a ∙ next_ok (s x) y g b
+
+pub value_last : {B X : Type 0} (view : X → List ℕ) (result : Result X CodecError) (f : BytesCodecs B) (chain : PlainChain B) (sizes : List ℕ) (type : ElementType) (fill : List ℕ) (form : List ℕ × BytesRepresentation) (held made : Held) (below : List ℕ)
+    → IsMapWhere type chain.arrays sizes → taken_form f chain sizes type fill ≡ Ok form → checked_u64 (product sizes) ≡ Ok (product sizes) → validity type (product sizes) held ≡ Ok tt
+    → IfOk (encoded_chunk (Ok tt) (arrays_map type chain.arrays sizes) type sizes held) (λ chunk. Holds type made chunk)
+    → codec_held_value f chain.codec form.0 type fill made ≡ Ok below
+    → Answers memory view result (outer_value f chain.outer below) → Answers memory view result (held_value f chain sizes type fill held)
+value_last view result f chain sizes type fill form held made below maps e counted valid found inner h =
+    let is : held_value f chain sizes type fill held ≡ outer_value f chain.outer below = value_through f chain sizes type fill form held made maps e counted valid found ∙ next_ok (codec_held_value f chain.codec form.0 type fill made) below (λ b. outer_value f chain.outer b) inner in
+    subst (λ (x : Result (List ℕ) CodecError). Answers memory view result x) (sym is) h
+
+pub value_refused : {B : Type 0} (f : BytesCodecs B) (chain : PlainChain B) (sizes : List ℕ) (type : ElementType) (fill : List ℕ) (form : List ℕ × BytesRepresentation) (held made : Held) (error : CodecError)
+    → IsMapWhere type chain.arrays sizes → taken_form f chain sizes type fill ≡ Ok form → checked_u64 (product sizes) ≡ Ok (product sizes) → validity type (product sizes) held ≡ Ok tt
+    → IfOk (encoded_chunk (Ok tt) (arrays_map type chain.arrays sizes) type sizes held) (λ chunk. Holds type made chunk)
+    → (memory error ≡ false → codec_held_value f chain.codec form.0 type fill made ≡ Err error)
+    → memory error ≡ false → held_value f chain sizes type fill held ≡ Err error
+value_refused f chain sizes type fill form held made error maps e counted valid found inner ne =
+    value_through f chain sizes type fill form held made maps e counted valid found ∙ next_err (codec_held_value f chain.codec form.0 type fill made) error (λ b. outer_value f chain.outer b) (inner ne)
+
+-- ---- decoding
+
+-- the chunk is what the array codecs make of what the codec to bytes reads
+pub chunk_through : {B : Type 0} (f : BytesCodecs B) (chain : PlainChain B) (sizes : List ℕ) (type : ElementType) (fill : List ℕ) (form : List ℕ × BytesRepresentation) (value : List ℕ)
+    → (e : taken_form f chain sizes type fill ≡ Ok form)
+    → chain_chunk f chain sizes type fill value ≡ outer_bytes f chain.outer form.1 value >>= (λ below. codec_chunk f chain.codec form.0 type fill below >>= (λ chunk. Ok (moved_chunk (inverse_map sizes (is_taken f chain sizes type fill form e).map_is) chunk)))
+chunk_through f chain sizes type fill form value e =
+    let t = is_taken f chain sizes type fill form e in
+    let whole : chain_chunk f chain sizes type fill value ≡ outer_bytes f chain.outer form.1 value >>= (λ below. codec_chunk f chain.codec t.map_is.encoded type fill below >>= (λ chunk. Ok (moved_chunk (inverse_map sizes t.map_is) chunk))) = rw (t.mapped, t.measured) refl in
+    whole ∙ ap (λ s. outer_bytes f chain.outer form.1 value >>= (λ below. codec_chunk f chain.codec s type fill below >>= (λ chunk. Ok (moved_chunk (inverse_map sizes t.map_is) chunk)))) t.encoded_is
+
+flags_long : (chunk : Chunk) (flags : List Bool) → flags_in chunk ≡ ok flags → length flags ≡ length chunk
+flags_long [] flags e = ap length (sym (ok_is [] flags e))
+flags_long (element ∷ chunk) flags e =
+    let a = bind_ok (flag_in element) _ flags e in
+    let b = bind_ok (flags_in chunk) _ flags a.2 in
+    ap length (sym (ok_is (a.0 ∷ b.0) flags b.2)) ∙ ap suc (flags_long chunk b.0 b.1)
+
+around_long : {B : Type 0} (f : BytesCodecs B) (arrays : List ArrayMapping) (measure : Measure) (content : Decoder) (outer : List B) (sizes : List ℕ) (type : ElementType) (fill value : List ℕ) (chunk : Chunk) → around_chunk f arrays measure content outer sizes type fill value ≡ Ok chunk → length chunk ≡ product sizes
+around_long f arrays measure content outer sizes type fill value chunk e =
+    let m = bind_ok (arrays_map type arrays sizes) _ chunk e in
+    let r = bind_ok (measure m.0.encoded type fill) _ chunk m.2 in
+    let below = bind_ok (outer_bytes f outer r.0 value) _ chunk r.2 in
+    let c = bind_ok (content m.0.encoded type fill below.0) _ chunk below.2 in
+    ap length (sym (ok_is (moved_chunk (inverse_map sizes m.0) c.0) chunk c.2)) ∙ length-moved (inverse_map sizes m.0) c.0
+
+vlen_long : (wide at_end : Bool) (index content : Decoder) (count : ℕ) (value : List ℕ) (chunk : Chunk) → vlen_chunk wide at_end index content count value ≡ Ok chunk → length chunk ≡ count
+vlen_long wide at_end index content count value chunk e =
+    let parts = bind_ok (vlen_parts at_end value) _ chunk e in
+    let more = bind_ok (checked_u64 (count + 1)) _ chunk parts.2 in
+    let rows = bind_ok (index ((count + 1) ∷ []) (offset_type wide) (offset_bytes wide 0) parts.0.0) _ chunk more.2 in
+    let offsets = offsets_in_chunk wide rows.0 in
+    let rising = bind_ok (demand (rises offsets) InvalidOffsets) _ chunk rows.2 in
+    let items = bind_ok (part_chunk content byte_type (0 ∷ []) (last_of offsets) parts.0.1) _ chunk rising.2 in
+    ap length (sym (ok_is (slices count offsets (all_bytes items.0)) chunk items.2)) ∙ length-map-range_with_len (λ place. plain (cut offsets (all_bytes items.0) place)) 0 count
+
+optional_long : (mask content : Decoder) (sizes : List ℕ) (type : ElementType) (value : List ℕ) (chunk : Chunk) → ((part : List ℕ) (flags : Chunk) → mask sizes flag_type (0 ∷ []) part ≡ Ok flags → length flags ≡ product sizes)
+    → optional_chunk mask content sizes (optional type) value ≡ Ok chunk → length chunk ≡ product sizes
+optional_long mask content sizes type value chunk long e =
+    let parts = bind_ok (optional_parts value) _ chunk e in
+    let flags = bind_ok (mask sizes flag_type (0 ∷ []) parts.0.0) _ chunk parts.2 in
+    let bits = bind_ok (flags_in flags.0) _ chunk flags.2 in
+    let items = bind_ok (part_chunk content type (blank_fill type) (count_set bits.0) parts.0.1) _ chunk bits.2 in
+    ap length (sym (ok_is (under_flags bits.0 items.0) chunk items.2)) ∙ length_under bits.0 items.0 ∙ flags_long flags.0 bits.0 bits.1 ∙ long parts.0.0 flags.0 flags.1
+
+-- a chunk that a codec to bytes reads has as many elements as were asked for
+pub chunk_count : {B : Type 0} (f : BytesCodecs B) (codec : PlainCodec B) (sizes : List ℕ) (type : ElementType) (fill value : List ℕ) (chunk : Chunk) → codec_chunk f codec sizes type fill value ≡ Ok chunk → length chunk ≡ product sizes
+unfolding codec_chunk
+chunk_count f (bytes_codec order) sizes type fill value chunk e = (decoded_found order sizes type fill value chunk e).elements.count_is
+chunk_count f (packbits_codec settings) sizes type fill value chunk e = (packbits.decoded_found settings sizes type fill value chunk e).elements.count_is
+chunk_count f (vlen_codec ia ix ib da dx db wide at_end) sizes type fill value chunk e =
+    vlen_long wide at_end (around_chunk f ia (codec_representation f ix) (codec_chunk f ix) ib) (around_chunk f da (codec_representation f dx) (codec_chunk f dx) db) (product sizes) value chunk e
+chunk_count f (optional_codec ma mx mb da dx db) sizes (optional type) fill value chunk e =
+    optional_long (around_chunk f ma (codec_representation f mx) (codec_chunk f mx) mb) (around_chunk f da (codec_representation f dx) (codec_chunk f dx) db) sizes type value chunk (λ part flags h. around_long f ma (codec_representation f mx) (codec_chunk f mx) mb sizes flag_type (0 ∷ []) part flags h) e
+chunk_count f (optional_codec ma mx mb da dx db) sizes (fixed width components sign) fill value chunk e = absurd cc
+chunk_count f (optional_codec ma mx mb da dx db) sizes text fill value chunk e = absurd cc
+chunk_count f (optional_codec ma mx mb da dx db) sizes bytes fill value chunk e = absurd cc
+
+-- the container of the chunk that the codec to bytes reads is one that the array codecs move back
+moved_back_held : {B : Type 0} (f : BytesCodecs B) (chain : PlainChain B) (sizes : List ℕ) (type : ElementType) (fill : List ℕ) (held : Held) (chunk : Chunk) (encoded : List ℕ) (r : BytesRepresentation) (t : IsTaken f chain sizes type fill encoded r)
+    → checked_u64 (product sizes) ≡ Ok (product sizes) → length chunk ≡ product sizes → Holds type held chunk
+    → decoded_chunk (Ok tt) (arrays_map type chain.arrays sizes) type sizes held ≡ Ok (moved_chunk (inverse_map sizes t.map_is) chunk)
+moved_back_held f chain sizes type fill held chunk encoded r t counted long holds =
+    let valid : validity type (product sizes) held ≡ Ok tt = subst (λ (k : ℕ). validity type k held ≡ Ok tt) long holds.valid in
+    let is : elements type (product sizes) held ≡ chunk = subst (λ (k : ℕ). elements type k held ≡ chunk) long holds.elements_are in
+    rw (t.mapped, counted, valid) (ap (λ c. ok (moved_chunk (inverse_map sizes t.map_is) c)) is)
+
+pub held_chunk : (type : ElementType) (held : Held) (r : Result Chunk CodecError) → AnswersBy memory (Holds type) (Ok held) r → (chunk : Chunk) × (r ≡ Ok chunk) × Holds type held chunk
+held_chunk type held (Ok chunk) h = (chunk, refl, h)
+held_chunk type held (Err error) h = absurd h
+
+pub chunk_back : {B : Type 0} (f : BytesCodecs B) (arrays : List ArrayMapping) (codec : PlainCodec B) (outer : List B) (sizes : List ℕ) (type : ElementType) (fill : List ℕ) (form : List ℕ × BytesRepresentation) (value below : List ℕ) (held : Held) (r : Result Held CodecError)
+    → IsMapWhere type arrays sizes → taken_form f (record { arrays = arrays; codec = codec; outer = outer }) sizes type fill ≡ Ok form
+    → outer_bytes f outer form.1 value ≡ Ok below
+    → AnswersBy memory (Holds type) (Ok held) (codec_chunk f codec form.0 type fill below)
+    → IfOk (decoded_chunk (Ok tt) (arrays_map type arrays sizes) type sizes held) (λ chunk. AnswersBy memory (Holds type) r (Ok chunk))
+    → AnswersBy memory (Holds type) r (chain_chunk f (record { arrays = arrays; codec = codec; outer = outer }) sizes type fill value)
+chunk_back {B} f arrays codec outer sizes type fill form value below held r maps e opened answers found =
+    let chain : PlainChain B = record { arrays = arrays; codec = codec; outer = outer } in
+    let t = is_taken f chain sizes type fill form e in
+    let m = at_ok (arrays_map type arrays sizes) (λ (m : CoordinateMap). IsCoordinateMap sizes m) t.map_is t.mapped maps in
+    let c = held_chunk type held (codec_chunk f codec form.0 type fill below) answers in
+    let long : length c.0 ≡ product sizes = chunk_count f codec form.0 type fill below c.0 c.1 ∙ ap product (sym t.encoded_is) ∙ m.count in
+    let counted = chain_counted f arrays codec outer sizes type fill form maps e in
+    let chunk = moved_chunk (inverse_map sizes t.map_is) c.0 in
+    let last : AnswersBy memory (Holds type) r (Ok chunk) = at_ok (decoded_chunk (Ok tt) (arrays_map type arrays sizes) type sizes held) (λ (x : Chunk). AnswersBy memory (Holds type) r (Ok x)) chunk (moved_back_held f chain sizes type fill held c.0 form.0 form.1 t counted long c.2) found in
+    let is : chain_chunk f chain sizes type fill value ≡ Ok chunk = chunk_through f chain sizes type fill form value e ∙ two_ok (outer_bytes f outer form.1 value) below (codec_chunk f codec form.0 type fill) c.0 (λ (x : Chunk). ok (moved_chunk (inverse_map sizes t.map_is) x)) opened c.1 in
+    subst (λ (x : Result Chunk CodecError). AnswersBy memory (Holds type) r x) (sym is) last

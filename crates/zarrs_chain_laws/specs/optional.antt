@@ -1,0 +1,2 @@
+-- What `optional` is made of: the parts of its values, its configuration.
+pub mod OptionalParts

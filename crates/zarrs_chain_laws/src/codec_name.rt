@@ -1,0 +1,64 @@
+//! The names of the codecs in metadata.
+ghost use Rattle.std.specs.Prelude.{◌≡◌};
+ghost use Rattle.zarrs_metadata.specs.CodecMetadata.{is_bytes_name, is_squeeze_name};
+ghost use Rattle.zarrs_chain_laws.specs.CodecNames.{is_vlen_name, is_optional_name, codec_named as codec_named_of};
+
+use zarrs_chunk::CodecName;
+
+/// Whether the codec `squeeze` is known by this name.
+fn is_squeeze(name: &str) -> bool
+    ensures value { result ≡ is_squeeze_name name.now }
+{
+    name == "zarrs.squeeze" || name == "https://codec.zarrs.dev/array_to_array/squeeze"
+}
+
+/// Whether the codec `bytes` is known by this name.
+fn is_bytes(name: &str) -> bool
+    ensures value { result ≡ is_bytes_name name.now }
+{
+    name == "bytes" || name == "endian"
+}
+
+/// Whether the codec `vlen` is known by this name.
+pub fn is_vlen(name: &str) -> bool
+    ensures value { result ≡ is_vlen_name name.now }
+{
+    name == "zarrs.vlen" || name == "https://codec.zarrs.dev/array_to_bytes/vlen"
+}
+
+/// Whether the codec `optional` is known by this name.
+pub fn is_optional(name: &str) -> bool
+    ensures value { result ≡ is_optional_name name.now }
+{
+    name == "zarrs.optional"
+        || name == "optional"
+        || name == "https://codec.zarrs.dev/array_to_bytes/optional"
+}
+
+/// The codec that is known by this name.
+pub fn codec_named(name: &str) -> Option<CodecName>
+    ensures value { result ≡ codec_named_of name.now }
+{
+    if name == "transpose" {
+        return Some(CodecName::Transpose);
+    }
+    if name == "reshape" {
+        return Some(CodecName::Reshape);
+    }
+    if is_squeeze(name) {
+        return Some(CodecName::Squeeze);
+    }
+    if is_bytes(name) {
+        return Some(CodecName::Bytes);
+    }
+    if name == "packbits" {
+        return Some(CodecName::PackBits);
+    }
+    if is_vlen(name) {
+        return Some(CodecName::Vlen);
+    }
+    if is_optional(name) {
+        return Some(CodecName::Optional);
+    }
+    None
+}

@@ -1,5 +1,0 @@
-use Rattle.zarrs_chain_partial.proofs.ReadLaws.{chunks_alike}
-use Rattle.zarrs_chain_partial.proofs.laws.reads_are_alike.Goals as goal
-
-pub returns : goal.returns
-returns g c = record { law = λ f. chunks_alike f }

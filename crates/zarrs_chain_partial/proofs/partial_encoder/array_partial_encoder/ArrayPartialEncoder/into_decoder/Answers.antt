@@ -1,9 +1,0 @@
-use Rattle.zarrs_chain_partial.specs.ChunkReader.{reader_form}
-use Rattle.zarrs_chain_partial.proofs.WholeReads.{uncached_filled}
-use Rattle.zarrs_chain_partial.proofs.partial_encoder.array_partial_encoder.ArrayPartialEncoder.into_decoder.Goals as goal
-
-pub invariant_of-result-clause-kept : goal.invariant_of-result-clause-kept
-invariant_of-result-clause-kept g c =
-    let d = c.args.self in
-    let k = d.reader in
-    uncached_filled g.B.BytesToBytesCodecTraits.functions (reader_form k) k.encoded k.representation k.cache (g.H.BytesPartialDecoderTraits.state d.handle).value k.taken d.uncached

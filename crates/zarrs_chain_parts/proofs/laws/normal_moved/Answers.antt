@@ -1,5 +1,0 @@
-use Rattle.zarrs_chain_parts.proofs.NestedNormal.{normal_moved}
-use Rattle.zarrs_chain_parts.proofs.laws.normal_moved.Goals as goal
-
-pub returns : goal.returns
-returns g c = record { law = λ codec type m chunk. normal_moved codec type m chunk }

@@ -1,0 +1,15 @@
+pub mod CodecSteps
+pub mod VlenKept
+pub mod VlenEncode
+pub mod VlenDecode
+pub mod OptionalAt
+pub mod OptionalRoom
+pub mod CodecRelations
+pub mod MakeSteps
+pub mod Counted
+pub mod TakenBlank
+pub mod EncodedAgain
+pub mod WrittenAt
+pub mod ReencodeSteps
+pub mod ReencodeLaws
+pub mod PlainForms

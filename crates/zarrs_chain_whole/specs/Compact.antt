@@ -1,0 +1,21 @@
+-- What is asked before a value is made shorter.
+use Rattle.std.specs.Prelude.{ℕ, List, Result, Ok}
+use Rattle.zarrs_chunk.specs.Answer.{◌>>=◌, seen}
+use Rattle.zarrs_chunk.specs.declared.codec_error.CodecError.{CodecError}
+use Rattle.zarrs_data_type.specs.ElementType.{ElementType}
+use Rattle.zarrs_codec.specs.BytesToBytesCodec.{BytesCodecs}
+use Rattle.zarrs_chain_laws.specs.PlainChain.{PlainCodec, PlainChain}
+use Rattle.zarrs_chain_laws.specs.BytesStages.{outer_bytes}
+use Rattle.zarrs_chain_laws.specs.Chain.{taken_form}
+use Rattle.zarrs_chain_laws.specs.Representation.{codec_representation}
+
+-- that a codec to bytes takes such chunks, or the first cause why not
+abbrev pub codec_opened : {B : Type 0} → BytesCodecs B → PlainCodec B → List ℕ → ElementType → List ℕ → Result (Unit {0}) CodecError
+codec_opened f codec sizes type fill = seen (λ _. tt) (codec_representation f codec sizes type fill)
+
+-- that a chain takes such chunks and its bytes codecs decode the value, or the first refusal
+abbrev pub chain_opened : {B : Type 0} → BytesCodecs B → PlainChain B → List ℕ → ElementType → List ℕ → List ℕ → Result (Unit {0}) CodecError
+chain_opened f chain sizes type fill value = do
+  taken ← taken_form f chain sizes type fill
+  _ ← outer_bytes f chain.outer taken.1 value
+  Ok tt

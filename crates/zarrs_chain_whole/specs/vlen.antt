@@ -1,0 +1,2 @@
+-- The codec `vlen`: elements of any length.
+pub mod DefaultVlen

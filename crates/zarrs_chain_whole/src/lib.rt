@@ -1,0 +1,25 @@
+//! Chains of codecs: codecs of chunks to chunks, one of chunks to bytes, and codecs of bytes to
+//! bytes.
+//!
+//! [`CodecChain`] encodes and decodes whole chunks, and [`reencode`] takes a value of one chain to
+//! another. The bytes codecs are the caller's. What reads and writes a chunk in part stands on this
+//! crate and goes through the chain by its [`stages`].
+#![tactic(auto)]
+
+mod array_to_bytes;
+mod array_to_bytes_codec;
+mod codec_chain;
+mod decode;
+mod encode;
+pub mod laws;
+mod metadata;
+mod optional;
+pub mod reencode;
+mod representation;
+pub mod stages;
+mod vlen;
+
+pub use array_to_bytes_codec::ArrayToBytesCodec;
+pub use codec_chain::CodecChain;
+pub use optional::optional_codec::OptionalCodec;
+pub use vlen::vlen_codec::VlenCodec;

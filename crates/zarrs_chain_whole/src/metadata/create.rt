@@ -1,0 +1,34 @@
+//! Chains, and codecs with chains inside, made from configurations and metadata.
+ghost use Rattle.std.specs.Prelude.{map};
+ghost use Rattle.zarrs_metadata.specs.MetadataV3.{metadata_seen};
+ghost use Rattle.zarrs_metadata.specs.PluginCreateError.{Makes};
+ghost use Rattle.zarrs_chain_whole.specs.ChainView.{plain_chain};
+ghost use Rattle.zarrs_chain_laws.specs.MadeChain.{chain_made};
+
+use crate::codec_chain::CodecChain;
+use crate::metadata::make_chain::chain_from;
+use std::alloc::Global;
+use zarrs_codec::BytesCodecMaker;
+use zarrs_metadata::{MetadataV3, PluginCreateError};
+
+impl<B: Drop> CodecChain<B> {
+    /// The chain of a list of metadata. A name is looked up among those of the seven codecs, else
+    /// `maker` is asked. The codecs go by their kinds, and within a kind they keep their order. A
+    /// metadata that no codec can be made of is passed over where it need not be understood, for
+    /// whatever cause but want of memory.
+    ///
+    /// Refusals, the first in the list's order, `OutOfMemory` aside: `UnknownName` where neither the
+    /// table nor the maker knows a name; those of a codec's making; `MultipleArrayToBytes` for a
+    /// second codec of chunks to bytes that could be made, also where it need not be understood;
+    /// behind all of them `MissingArrayToBytes` where there is none.
+    pub fn from_metadata<M: BytesCodecMaker<B>>(
+        alloc: Global,
+        metadatas: &[MetadataV3],
+        maker: &M,
+    ) -> Result<CodecChain<B>, PluginCreateError>
+        ensures answer { Makes plain_chain result
+            (chain_made (M.makes maker.now) (map metadata_seen metadatas.now)) }
+    {
+        chain_from(alloc, metadatas, maker)
+    }
+}

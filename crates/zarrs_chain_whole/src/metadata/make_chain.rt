@@ -1,0 +1,239 @@
+//! Chains made from lists of metadata. A chain is made codec by codec, and some codecs have chains
+//! inside, whose metadata stand in their configurations: the functions call each other, each time
+//! for metadata that are less deep.
+ghost use Rattle.std.specs.Prelude.{◌≡◌, ◌||◌, Ok, Err, if◌then◌else◌, map};
+ghost use Rattle.zarrs_chunk.specs.Answer.{Answers};
+ghost use Rattle.zarrs_metadata.specs.MetadataV3.{metadata_seen};
+ghost use Rattle.zarrs_metadata.specs.OptionalConfiguration.{optional_seen};
+ghost use Rattle.zarrs_metadata.specs.PluginCreateError.{plugin_memory, Makes};
+ghost use Rattle.zarrs_metadata.specs.VlenConfiguration.{vlen_seen};
+ghost use Rattle.zarrs_chain_whole.specs.ChainParts.{made_seen, parts_seen};
+ghost use Rattle.zarrs_chain_whole.specs.ChainView.{plain_chain, plain_vlen, plain_optional, vlen_of};
+ghost use Rattle.zarrs_chain_laws.specs.vlen.VlenSettings.{is_wide, is_at_end};
+ghost use Rattle.zarrs_chain_laws.specs.MadeChain.{asked_maker, chain_made, codec_made, joined, vlen_of_parts, vlen_made_by, optional_of_chains, optional_made_by, optional_by, codec_by, joined_by};
+ghost use Rattle.zarrs_chain_laws.specs.PlainChain.{vlen_codec_of, optional_codec_of};
+
+use crate::array_to_bytes_codec::ArrayToBytesCodec;
+use crate::codec_chain::CodecChain;
+use crate::metadata::chain_parts::{ChainParts, MadeCodec};
+use crate::optional::optional_codec::OptionalCodec;
+use crate::vlen::vlen_codec::VlenCodec;
+use std::alloc::Global;
+use zarrs_array_to_array::ArrayToArrayCodec;
+use zarrs_bytes::BytesCodec;
+use zarrs_chain_laws::codec_name::codec_named;
+use zarrs_chain_laws::optional::configuration::{
+    mask_codecs, optional_configuration, present_codecs,
+};
+use zarrs_chain_laws::vlen::configuration::{
+    data_codecs, index_codecs, index_data_type, index_location, vlen_configuration,
+};
+use zarrs_chunk::CodecName;
+use zarrs_codec::BytesCodecMaker;
+use zarrs_metadata::{
+    MetadataV3, OptionalCodecConfiguration, PluginCreateError, VlenCodecConfiguration,
+    VlenIndexDataType, VlenIndexLocation,
+};
+use zarrs_packbits::PackBitsCodec;
+
+/// The codec `vlen` with these chains in boxes. Refusals: `OutOfMemory`.
+fn boxed_vlen<B: Drop>(
+    alloc: Global,
+    index: CodecChain<B>,
+    content: CodecChain<B>,
+    index_data_type: VlenIndexDataType,
+    index_location: VlenIndexLocation,
+) -> Result<VlenCodec<B>, PluginCreateError>
+    ensures made { Makes plain_vlen result
+        (Ok (vlen_of index content index_data_type index_location)) }
+{
+    let index = Box::new(alloc, index)?;
+    let content = Box::new(alloc, content)?;
+    Ok(VlenCodec::new(index, content, index_data_type, index_location))
+}
+
+/// The codec `optional` with these chains in boxes. Refusals: `OutOfMemory`.
+fn boxed_optional<B: Drop>(
+    alloc: Global,
+    mask: CodecChain<B>,
+    content: CodecChain<B>,
+) -> Result<OptionalCodec<B>, PluginCreateError>
+    ensures made { Makes plain_optional result
+        (Ok (optional_codec_of (plain_chain mask) (plain_chain content))) }
+{
+    let mask = Box::new(alloc, mask)?;
+    let content = Box::new(alloc, content)?;
+    Ok(OptionalCodec::new(mask, content))
+}
+
+/// The codec `vlen` of a configuration. Refusals, the first that holds, `OutOfMemory` aside: those
+/// of the index chain, those of the data chain.
+#[cycle(make)]
+pub(crate) fn vlen_from<B: Drop, M: BytesCodecMaker<B>>(
+    alloc: Global,
+    configuration: &VlenCodecConfiguration,
+    maker: &M,
+) -> Result<VlenCodec<B>, PluginCreateError>
+    ensures answer { Makes plain_vlen result
+        (vlen_of_parts (chain_made (M.makes maker.now)) (vlen_seen configuration.now)) }
+{
+    let index = chain_from(alloc, index_codecs(configuration), maker)?;
+    let content = chain_from(alloc, data_codecs(configuration), maker)?;
+    boxed_vlen(
+        alloc,
+        index,
+        content,
+        index_data_type(configuration),
+        index_location(configuration),
+    )
+}
+
+/// The codec `optional` of a configuration. Refusals, the first that holds, `OutOfMemory` aside:
+/// those of the mask chain, those of the data chain.
+#[cycle(make)]
+pub(crate) fn optional_from<B: Drop, M: BytesCodecMaker<B>>(
+    alloc: Global,
+    configuration: &OptionalCodecConfiguration,
+    maker: &M,
+) -> Result<OptionalCodec<B>, PluginCreateError>
+    ensures answer { Makes plain_optional result
+        (optional_of_chains (chain_made (M.makes maker.now)) (optional_seen configuration.now)) }
+{
+    let mask = chain_from(alloc, mask_codecs(configuration), maker)?;
+    let content = chain_from(alloc, present_codecs(configuration), maker)?;
+    boxed_optional(alloc, mask, content)
+}
+
+/// The codec `vlen` of a metadata. Refusals: those of `VlenCodec::create`.
+#[cycle(make)]
+pub(crate) fn vlen_create<B: Drop, M: BytesCodecMaker<B>>(
+    alloc: Global,
+    metadata: &MetadataV3,
+    maker: &M,
+) -> Result<VlenCodec<B>, PluginCreateError>
+    ensures answer { Makes plain_vlen result
+        (vlen_made_by (chain_made (M.makes maker.now)) (metadata_seen metadata.now)) }
+{
+    let configuration = vlen_configuration(alloc, metadata)?;
+    vlen_from(alloc, &configuration, maker)
+}
+
+/// The codec `optional` of a metadata. Refusals: those of `OptionalCodec::create`.
+#[cycle(make)]
+pub(crate) fn optional_create<B: Drop, M: BytesCodecMaker<B>>(
+    alloc: Global,
+    metadata: &MetadataV3,
+    maker: &M,
+) -> Result<OptionalCodec<B>, PluginCreateError>
+    ensures answer { Makes plain_optional result
+        (optional_made_by (chain_made (M.makes maker.now)) (metadata_seen metadata.now)) }
+{
+    let configuration = optional_configuration(alloc, metadata)?;
+    optional_from(alloc, &configuration, maker)
+}
+
+/// What the maker makes of a metadata. Refusals: `UnknownName` where it makes nothing; its own.
+fn asked<B: Drop, M: BytesCodecMaker<B>>(
+    alloc: Global,
+    metadata: &MetadataV3,
+    maker: &M,
+) -> Result<MadeCodec<B>, PluginCreateError>
+    ensures answer { Makes made_seen result
+        (asked_maker (M.makes maker.now (metadata_seen metadata.now))) }
+{
+    match maker.make(alloc, metadata) {
+        Ok(Some(codec)) => Ok(MadeCodec::Outer(codec)),
+        Ok(None) => Err(PluginCreateError::UnknownName),
+        Err(refusal) => Err(refusal),
+    }
+}
+
+/// The codec of a metadata. Refusals, the first that holds, `OutOfMemory` aside: `UnknownName` where
+/// neither the table of names nor the maker knows its name; those of the codec's making.
+#[cycle(make)]
+#[tactic(auto, unfolding(crate::specs::ChainView::plain_codec))]
+fn codec_from<B: Drop, M: BytesCodecMaker<B>>(
+    alloc: Global,
+    metadata: &MetadataV3,
+    maker: &M,
+) -> Result<MadeCodec<B>, PluginCreateError>
+    ensures answer { Makes made_seen result
+        (codec_by (M.makes maker.now) (metadata_seen metadata.now)) }
+{
+    match codec_named(metadata.name()) {
+        Some(CodecName::Transpose | CodecName::Reshape | CodecName::Squeeze) => {
+            Ok(MadeCodec::Array(ArrayToArrayCodec::create(alloc, metadata)?))
+        }
+        Some(CodecName::Bytes) => {
+            let codec = BytesCodec::create(metadata)?;
+            Ok(MadeCodec::ToBytes(ArrayToBytesCodec::Bytes(codec)))
+        }
+        Some(CodecName::PackBits) => {
+            let codec = PackBitsCodec::create(metadata)?;
+            Ok(MadeCodec::ToBytes(ArrayToBytesCodec::PackBits(codec)))
+        }
+        Some(CodecName::Vlen) => {
+            let codec = vlen_create(alloc, metadata, maker)?;
+            Ok(MadeCodec::ToBytes(ArrayToBytesCodec::Vlen(codec)))
+        }
+        Some(CodecName::Optional) => {
+            let codec = optional_create(alloc, metadata, maker)?;
+            Ok(MadeCodec::ToBytes(ArrayToBytesCodec::Optional(codec)))
+        }
+        None => asked(alloc, metadata, maker),
+    }
+}
+
+fn is_want_of_memory(refusal: PluginCreateError) -> bool
+    ensures value { result ≡ plugin_memory refusal }
+{
+    matches!(refusal, PluginCreateError::OutOfMemory)
+}
+
+/// Where a codec can't be made, its metadata is passed over if it need not be understood. Want of
+/// memory says nothing of the metadata, so it is never passed over. Refusals: this one.
+fn pass_over(refusal: PluginCreateError, must_understand: bool) -> Result<(), PluginCreateError>
+    ensures value { result ≡
+        (if must_understand || plugin_memory refusal then Err refusal else Ok tt) }
+{
+    if must_understand || is_want_of_memory(refusal) {
+        return Err(refusal);
+    }
+    Ok(())
+}
+
+/// The codec of a metadata joins those of the list. Where none can be made, the metadata is passed
+/// over if it need not be understood, for whatever cause but want of memory. Refusals, the first
+/// that holds, `OutOfMemory` aside: those of the codec's making; `MultipleArrayToBytes`.
+#[cycle(make)]
+fn join<B: Drop, M: BytesCodecMaker<B>>(
+    alloc: Global,
+    metadata: &MetadataV3,
+    maker: &M,
+    parts: &mut ChainParts<B>,
+) -> Result<(), PluginCreateError>
+    ensures answer { Makes (λ _. parts_seen parts.new) result
+        (joined_by (M.makes maker.now) (metadata_seen metadata.now) (parts_seen parts.old)) }
+{
+    match codec_from(alloc, metadata, maker) {
+        Ok(codec) => parts.add(codec),
+        Err(refusal) => pass_over(refusal, metadata.must_understand()),
+    }
+}
+
+/// The chain of a list of metadata. Refusals: those of `CodecChain::from_metadata`.
+#[cycle(make)]
+pub(crate) fn chain_from<B: Drop, M: BytesCodecMaker<B>>(
+    alloc: Global,
+    metadatas: &[MetadataV3],
+    maker: &M,
+) -> Result<CodecChain<B>, PluginCreateError>
+    ensures answer { Makes plain_chain result
+        (chain_made (M.makes maker.now) (map metadata_seen metadatas.now)) }
+{
+    let mut parts = ChainParts::new(alloc);
+    for metadata in metadatas {
+        join(alloc, metadata, maker, &mut parts)?;
+    }
+    parts.into_chain()
+}

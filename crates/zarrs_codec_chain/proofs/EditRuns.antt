@@ -1,0 +1,34 @@
+-- What a run of edits leaves of a handle.
+use Rattle.std.proofs.Common.{◌≡◌, inl, inr, ℕ, ◌+◌, ◌%◌, ◌^◌, true, Result, Ok, Err, add-one, arith, ap, sym, ◌∙◌, subst}
+use Rattle.zarrs_chunk.specs.declared.codec_error.CodecError.{CodecError}
+use Rattle.zarrs_codec.specs.ArrayWriter.{IsRefusedWrite}
+use Rattle.zarrs_codec.specs.StorageState.{StorageState, after_writing, apart_from_value, count_if}
+use Rattle.zarrs_codec_chain.specs.Edits.{advanced, after_edits}
+
+abbrev done : Result (Unit {0}) CodecError
+done = Ok tt
+
+abbrev refused : CodecError → Result (Unit {0}) CodecError
+refused e = Err e
+
+-- one accepted edit more
+pub left_more : (n : ℕ) (old mid new : StorageState) → mid ≡ after_edits n mid.value old → apart_from_value new ≡ after_writing done mid → new ≡ after_edits (n + 1) new.value old
+left_more n old mid new left one =
+    ap (λ (s : StorageState). record s { value = new.value }) one
+    ∙ ap (λ (s : StorageState). record (after_writing done s) { value = new.value }) left
+    ∙ ap (λ (k : ℕ). after_edits k new.value old) (sym (add-one n))
+
+-- a refused edit behind so many accepted ones
+pub refused_left : (n : ℕ) (old mid new : StorageState) (e : CodecError) → mid ≡ after_edits n mid.value old → IsRefusedWrite (refused e) mid new → IsRefusedWrite (refused e) (after_edits n mid.value old) new
+refused_left n old mid new e left h = subst (λ (s : StorageState). IsRefusedWrite (refused e) s new) left h
+
+counts : (w : ℕ) → (w + 1) % 2 ^ 64 ≡ w → ⊥
+counts w e = omega (arith, e)
+
+-- one that made no writing call left the value
+pub unwritten_left : (n : ℕ) (old mid new : StorageState) (e : CodecError) → mid ≡ after_edits n mid.value old → IsRefusedWrite (refused e) mid new → new.writes ≡ advanced n old.writes → new.value ≡ mid.value
+unwritten_left n old mid new e left (inl h) w = ap (λ (s : StorageState). s.value) h
+unwritten_left n old mid new e left (inr h) w =
+    let one : new.writes ≡ count_if true mid.writes = ap (λ (s : StorageState). s.writes) h in
+    let was : mid.writes ≡ advanced n old.writes = ap (λ (s : StorageState). s.writes) left in
+    absurd (counts mid.writes (sym one ∙ w ∙ sym was))

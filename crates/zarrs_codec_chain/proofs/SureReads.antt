@@ -1,0 +1,54 @@
+-- Sure bytes and indexers of reads in part.
+use Rattle.std.proofs.Common.{◌≡◌, ℕ, Bool, true, false, if◌then◌else◌, Option, Some, None, List, [], Result, Ok, Err, IfOk, refl, ap}
+use Rattle.std.specs.Prelude.{IfErr, IfSome}
+use Rattle.zarrs_chunk.specs.Answer.{◌>>=◌, memory}
+use Rattle.zarrs_chunk.specs.Selection.{Selection, bounds_of}
+use Rattle.zarrs_chunk.specs.declared.codec_error.CodecError.{CodecError}
+use Rattle.zarrs_data_type.specs.ElementType.{ElementType}
+use Rattle.zarrs_codec.specs.BytesToBytesCodec.{BytesCodecs}
+use Rattle.zarrs_codec.specs.StorageState.{are_sure, StorageState}
+use Rattle.zarrs_codec.specs.declared.bytes_representation.BytesRepresentation.{BytesRepresentation}
+use Rattle.zarrs_array_to_array.specs.ArrayToArrayCodec.{ArrayMapping}
+use Rattle.zarrs_chain_laws.specs.Chain.{taken_form}
+use Rattle.zarrs_codec_chain.specs.ChunkRead.{ChunkForm, asks_in_part, codec_rests_on, encoded_places, read_rests_on, WhereSure}
+use Rattle.zarrs_chain_laws.proofs.ArraySteps.{ok, error_is}
+
+-- ---- sure bytes
+
+sure_if : (sure : Option (ℕ → Bool)) (P : Type 0) (r : Result (List ℕ) CodecError) (b : Bool) → (b ≡ true → IfOk r (λ numbers. are_sure sure numbers ≡ true → P)) → IfOk (r >>= λ numbers. ok (if b then Some numbers else None)) (λ plan. IfSome plan (λ numbers. are_sure sure numbers ≡ true → P))
+sure_if sure P (Ok numbers) true h = h refl
+sure_if sure P (Ok numbers) false h = tt
+sure_if sure P (Err e) b h = tt
+
+pub where_sure : {B : Type 0} (f : BytesCodecs B) (form : ChunkForm B) (before : StorageState) (selection : Selection) (P : Type 0) (encoded : List ℕ) (r : BytesRepresentation) (places : List ℕ) → encoded_places form.type form.chain.arrays form.sizes selection ≡ Ok places → taken_form f form.chain form.sizes form.type form.fill ≡ Ok (encoded, r)
+    → (asks_in_part form.chain.outer form.chain.codec ≡ true → IfOk (codec_rests_on form.chain.codec encoded form.type form.fill before.value places) (λ numbers. are_sure before.sure numbers ≡ true → P)) → WhereSure f form before selection P
+where_sure f form before selection P encoded r places a b h = rw (a, b) (sure_if before.sure P (codec_rests_on form.chain.codec encoded form.type form.fill before.value places) (asks_in_part form.chain.outer form.chain.codec) h)
+
+anyway : (sure : Option (ℕ → Bool)) (P : Type 0) (r : Result (Option (List ℕ)) CodecError) → P → IfOk r (λ plan. IfSome plan (λ numbers. are_sure sure numbers ≡ true → P))
+anyway sure P (Ok (Some numbers)) h = λ s. h
+anyway sure P (Ok None) h = tt
+anyway sure P (Err e) h = tt
+
+-- what holds anyway holds where bytes are sure
+pub sure_anyway : {B : Type 0} (f : BytesCodecs B) (form : ChunkForm B) (before : StorageState) (selection : Selection) (P : Type 0) → P → WhereSure f form before selection P
+sure_anyway f form before selection P h = anyway before.sure P (read_rests_on f form before.value selection) h
+
+-- ---- indexers
+
+bound_ok : (b : Result (Unit {0}) CodecError) (rest : Unit {0} → Result (List ℕ) CodecError) (next : List ℕ → Result (List ℕ) CodecError) (places : List ℕ) (Q : CodecError → Type 0) → ((b >>= rest) >>= next) ≡ Ok places → IfErr b Q
+bound_ok (Ok u) rest next places Q e = tt
+bound_ok (Err x) rest next places Q e = absurd cc
+
+-- an indexer whose places are answered is in bounds
+pub in_bounds : (type : ElementType) (arrays : List ArrayMapping) (sizes : List ℕ) (selection : Selection) (places : List ℕ) (Q : CodecError → Type 0) → encoded_places type arrays sizes selection ≡ Ok places → IfErr (bounds_of selection sizes) Q
+in_bounds type arrays sizes selection places Q e = bound_ok (bounds_of selection sizes) _ _ places Q e
+
+bound_err : (V : Type 0) (b : Result (Unit {0}) CodecError) (rest : Unit {0} → Result (List ℕ) CodecError) (next : List ℕ → Result (List ℕ) CodecError) (error : CodecError) → (memory error ≡ false → ((b >>= rest) >>= next) ≡ Err error)
+    → IfErr b (λ cause. memory error ≡ false → ◌≡◌ {A = Result V CodecError} (Err cause) (Err error))
+bound_err V (Ok u) rest next error h = tt
+bound_err V (Err cause) rest next error h = λ m. ap (λ (x : CodecError). let r : Result V CodecError = Err x in r) (error_is {A = List ℕ} [] cause error (h m))
+
+-- the bounds' refusal is the first
+pub out_of_bounds : (V : Type 0) (type : ElementType) (arrays : List ArrayMapping) (sizes : List ℕ) (selection : Selection) (error : CodecError) → (memory error ≡ false → encoded_places type arrays sizes selection ≡ Err error)
+    → IfErr (bounds_of selection sizes) (λ cause. memory error ≡ false → ◌≡◌ {A = Result V CodecError} (Err cause) (Err error))
+out_of_bounds V type arrays sizes selection error h = bound_err V (bounds_of selection sizes) _ _ error h

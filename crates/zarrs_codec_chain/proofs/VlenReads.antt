@@ -1,0 +1,191 @@
+-- Reads in part of a chunk of `vlen`.
+use Rattle.std.proofs.Common.{◌≡◌, ℕ, ◌<◌, ◌^◌, nat_lt, if◌then◌else◌, Bool, true, false, Option, Some, None, List, map, Result, Ok, Err, IfOk, refl, ap, sym, ◌∙◌, subst}
+use Rattle.std.specs.Prelude.{is_ok, is_some, IsOkAnd}
+use Rattle.std.specs.List.{All}
+use Rattle.zarrs_chunk.specs.Answer.{◌>>=◌, Answers, AnswersBy, checked_u64, demand, memory, seen}
+use Rattle.zarrs_chunk.specs.AnswerLaws.{demand_ok}
+use Rattle.zarrs_chunk.specs.ChunkShape.{product}
+use Rattle.zarrs_chunk.specs.Selection.{Selection, places_of}
+use Rattle.zarrs_chunk.specs.declared.codec_error.CodecError.{CodecError}
+use Rattle.zarrs_chunk.specs.declared.codec_error.CodecError.TheVariants.{Overflow, UnsupportedDataType}
+use Rattle.zarrs_chunk.specs.declared.codec_error.CodecName.TheVariants as codec
+use Rattle.zarrs_data_type.specs.Element.{Chunk, fill_element}
+use Rattle.zarrs_data_type.specs.ElementType.{ElementType, is_variable}
+use Rattle.zarrs_data_type.specs.FillValue.{fill_fits}
+use Rattle.zarrs_array_bytes.specs.Chunks.{chunk_at}
+use Rattle.zarrs_array_bytes.specs.Elements.{elements, select}
+use Rattle.zarrs_array_bytes.specs.Held.{Held}
+use Rattle.zarrs_array_bytes.specs.Validity.{Holds, validity}
+use Rattle.zarrs_codec.specs.BytesToBytesCodec.{BytesCodecs}
+use Rattle.zarrs_chain_whole.specs.ChainView.{plain_vlen, plain_vlen_at}
+use Rattle.zarrs_codec_chain.specs.ChunkRead.{codec_read, codec_rests_on, form_rests_on, read_by_form, whole_read}
+use Rattle.zarrs_chain_laws.specs.Chain.{codec_reads}
+use Rattle.zarrs_chain_laws.specs.Decode.{Decoder, codec_chunk}
+use Rattle.zarrs_chain_laws.specs.PlainChain.{PlainCodec, bytes_codec, packbits_codec, vlen_codec, optional_codec}
+use Rattle.zarrs_chain_laws.specs.vlen.PlainVlen.{PlainForm, plain_form_of}
+use Rattle.zarrs_plain_vlen.specs.PlainRead.{plain_read}
+use Rattle.zarrs_plain_vlen.specs.VlenRead.{stored_rests_on}
+use Rattle.zarrs_chunk.proofs.PlaceLaws.{places_below}
+use Rattle.zarrs_chain_laws.specs.Laws.{HasMappings}
+use Rattle.zarrs_chain_laws.specs.Representation.{codec_representation, vlen_representation}
+use Rattle.zarrs_chain_laws.specs.Stands.{CodecStands}
+use Rattle.zarrs_codec_chain.specs.vlen.VlenPartialDecoder.{CodecForm, codec_stored_read, CodecWhereSure}
+use Rattle.zarrs_codec.specs.StorageState.{are_sure, StorageState}
+use Rattle.zarrs_chain_whole.specs.declared.vlen.vlen_codec.VlenCodec.{VlenCodec}
+use Rattle.zarrs_chain_laws.proofs.Answered.{from_ok}
+use Rattle.zarrs_chain_laws.proofs.ArraySteps.{ok, bind_ok, ok_is}
+use Rattle.zarrs_chain_laws.proofs.ChainSteps.{chunk_count}
+use Rattle.zarrs_chain_laws.proofs.NestedDecode.{chunk_only}
+use Rattle.zarrs_codec_chain.proofs.PartialCalls.{counted_is, held_of, variable_fits}
+use Rattle.zarrs_codec_chain.proofs.PartialReads.{codec_fills, codec_selects}
+
+-- ---- chunks that the codec takes
+
+-- such a chunk's elements are of any length, its fill value fits, and 64 bits count the elements
+pub record IsTakenByVlen (sizes : List ℕ) (type : ElementType) (fill : List ℕ) : Type 0 where
+  pub variable : is_variable type ≡ true
+  pub filled : fill_fits type fill ≡ true
+  pub counted : product sizes < 2 ^ 64
+
+taken_so : (sizes : List ℕ) (type : ElementType) (fill : List ℕ) → is_ok (vlen_representation sizes type fill) ≡ true → IsTakenByVlen sizes type fill
+taken_so sizes type fill taken =
+    let t = from_ok (vlen_representation sizes type fill) taken in
+    let a = bind_ok (demand (is_variable type) (UnsupportedDataType codec.Vlen)) _ t.0 t.1 in
+    let b = bind_ok (checked_u64 (product sizes)) _ t.0 a.2 in
+    let variable = demand_ok (is_variable type) (UnsupportedDataType codec.Vlen) a.1 in
+    record {
+      variable = variable;
+      filled = variable_fits type fill variable;
+      counted = counted_is (product sizes) b.0 b.1;
+    }
+
+measured_at : {B : Type 0} (f : BytesCodecs B) (codec : VlenCodec B) (sizes : List ℕ) (type : ElementType) (fill : List ℕ) → codec_representation f (plain_vlen codec) sizes type fill ≡ vlen_representation sizes type fill
+unfolding codec_representation
+measured_at f codec sizes type fill = rw (plain_vlen_at codec) refl
+
+pub vlen_taken : {B : Type 0} (f : BytesCodecs B) (codec : VlenCodec B) (sizes : List ℕ) (type : ElementType) (fill : List ℕ) → is_ok (codec_representation f (plain_vlen codec) sizes type fill) ≡ true → IsTakenByVlen sizes type fill
+vlen_taken f codec sizes type fill taken = taken_so sizes type fill (ap is_ok (sym (measured_at f codec sizes type fill)) ∙ taken)
+
+-- ---- what is read
+
+some_is : (x y : PlainForm) → Some x ≡ Some y → x ≡ y
+some_is x y e = cc
+
+by_form : (found : Option PlainForm) (form : PlainForm) (decode : Decoder) (sizes : List ℕ) (type : ElementType) (fill : List ℕ) (stored : Option (List ℕ)) (places : List ℕ) → found ≡ Some form
+    → read_by_form found decode sizes type fill stored places ≡ plain_read form (product sizes) type fill stored places
+by_form None form decode sizes type fill stored places e = absurd cc
+by_form (Some x) form decode sizes type fill stored places e = ap (λ (y : PlainForm). plain_read y (product sizes) type fill stored places) (some_is x form e)
+
+by_none : (found : Option PlainForm) (decode : Decoder) (sizes : List ℕ) (type : ElementType) (fill : List ℕ) (stored : Option (List ℕ)) (places : List ℕ) → found ≡ None
+    → read_by_form found decode sizes type fill stored places ≡ whole_read decode sizes type fill stored places
+by_none None decode sizes type fill stored places e = refl
+by_none (Some x) decode sizes type fill stored places e = absurd cc
+
+-- a codec that has a plain form is read by it
+pub read_plainly : {B : Type 0} (f : BytesCodecs B) (codec : PlainCodec B) (form : PlainForm) (sizes : List ℕ) (type : ElementType) (fill : List ℕ) (stored : Option (List ℕ)) (places : List ℕ) → plain_form_of codec ≡ Some form
+    → codec_read f codec sizes type fill stored places ≡ plain_read form (product sizes) type fill stored places
+read_plainly f (bytes_codec order) form sizes type fill stored places e = absurd cc
+read_plainly f (packbits_codec settings) form sizes type fill stored places e = absurd cc
+read_plainly f (vlen_codec ia ix ib da dx db wide at_end) form sizes type fill stored places e =
+    let codec = vlen_codec ia ix ib da dx db wide at_end in
+    by_form (plain_form_of codec) form (codec_chunk f codec) sizes type fill stored places e
+read_plainly f (optional_codec ma mx mb da dx db) form sizes type fill stored places e = absurd cc
+
+-- a `vlen` that has none is read by the whole chunk
+pub read_wholly : {B : Type 0} (f : BytesCodecs B) (codec : VlenCodec B) (sizes : List ℕ) (type : ElementType) (fill : List ℕ) (stored : Option (List ℕ)) (places : List ℕ) → plain_form_of (plain_vlen codec) ≡ None
+    → codec_read f (plain_vlen codec) sizes type fill stored places ≡ whole_read (codec_chunk f (plain_vlen codec)) sizes type fill stored places
+read_wholly {B} f codec sizes type fill stored places =
+    subst (λ (p : PlainCodec B). plain_form_of p ≡ None → codec_read f p sizes type fill stored places ≡ whole_read (codec_chunk f p) sizes type fill stored places) (sym (plain_vlen_at codec))
+    (λ e. by_none _ (codec_chunk f _) sizes type fill stored places e)
+
+rests_by_form : (found : Option PlainForm) (form : PlainForm) (count : ℕ) (stored : Option (List ℕ)) (places : List ℕ) → found ≡ Some form → form_rests_on found count stored places ≡ stored_rests_on form count stored places
+rests_by_form None form count stored places e = absurd cc
+rests_by_form (Some x) form count stored places e = ap (λ (y : PlainForm). stored_rests_on y count stored places) (some_is x form e)
+
+-- the bytes that it rests on
+pub rests_plainly : {B : Type 0} (codec : PlainCodec B) (form : PlainForm) (sizes : List ℕ) (type : ElementType) (fill : List ℕ) (stored : Option (List ℕ)) (places : List ℕ) → plain_form_of codec ≡ Some form
+    → codec_rests_on codec sizes type fill stored places ≡ ok (stored_rests_on form (product sizes) stored places)
+rests_plainly (bytes_codec order) form sizes type fill stored places e = absurd cc
+rests_plainly (packbits_codec settings) form sizes type fill stored places e = absurd cc
+rests_plainly (vlen_codec ia ix ib da dx db wide at_end) form sizes type fill stored places e =
+    ap ok (rests_by_form (plain_form_of (vlen_codec ia ix ib da dx db wide at_end)) form (product sizes) stored places e)
+rests_plainly (optional_codec ma mx mb da dx db) form sizes type fill stored places e = absurd cc
+
+none_reads : (found : Option PlainForm) → found ≡ None → is_some found ≡ true → ⊥
+none_reads None e h = cc
+none_reads (Some form) e h = cc
+
+-- a `vlen` that has no plain form reads no part
+pub reads_no_part : {B : Type 0} (codec : VlenCodec B) → plain_form_of (plain_vlen codec) ≡ None → (codec_reads (plain_vlen codec)).partial_decode ≡ true → ⊥
+reads_no_part {B} codec =
+    subst (λ (p : PlainCodec B). plain_form_of p ≡ None → (codec_reads p).partial_decode ≡ true → ⊥) (sym (plain_vlen_at codec)) (λ e h. none_reads _ e h)
+
+-- the container of the chunk that a value stands for
+pub vlen_held : {B : Type 0} (f : BytesCodecs B) (codec : VlenCodec B) (sizes : List ℕ) (type : ElementType) (fill value : List ℕ) (held : Held) → IsOkAnd (codec_chunk f (plain_vlen codec) sizes type fill value) (Holds type held)
+    → (codec_chunk f (plain_vlen codec) sizes type fill value ≡ ok (elements type (product sizes) held)) × (validity type (product sizes) held ≡ Ok tt)
+vlen_held f codec sizes type fill value held h =
+    held_of type (product sizes) held (codec_chunk f (plain_vlen codec) sizes type fill value) (chunk_count f (plain_vlen codec) sizes type fill value) h
+
+-- what is decoded, as the elements that a container holds
+pub vlen_decoded : {B : Type 0} (f : BytesCodecs B) (codec : VlenCodec B) (sizes : List ℕ) (type : ElementType) (fill value : List ℕ) (r : Result Held CodecError) → AnswersBy memory (Holds type) r (codec_chunk f (plain_vlen codec) sizes type fill value)
+    → Answers memory (elements type (product sizes)) r (codec_chunk f (plain_vlen codec) sizes type fill value)
+vlen_decoded f codec sizes type fill value (Ok held) h = (vlen_held f codec sizes type fill value held h).0
+vlen_decoded f codec sizes type fill value (Err e) h = h
+
+pub vlen_valid : {B : Type 0} (f : BytesCodecs B) (codec : VlenCodec B) (sizes : List ℕ) (type : ElementType) (fill value : List ℕ) (r : Result Held CodecError) → AnswersBy memory (Holds type) r (codec_chunk f (plain_vlen codec) sizes type fill value)
+    → IfOk r (λ held. validity type (product sizes) held ≡ Ok tt)
+vlen_valid f codec sizes type fill value (Ok held) h = (vlen_held f codec sizes type fill value held h).1
+vlen_valid f codec sizes type fill value (Err e) h = tt
+
+counted_same : (test : Bool) (n m : ℕ) → ok m ≡ (if test then ok n else Err Overflow) → m ≡ n
+counted_same true n m e = ok_is m n e
+counted_same false n m e = absurd cc
+
+-- the count of elements that is answered is theirs
+pub count_is : (n m : ℕ) → ok m ≡ checked_u64 n → m ≡ n
+count_is n m e = counted_same (nat_lt n (2 ^ 64)) n m e
+
+-- what is taken out of the container of the chunk is what is read of it
+pub vlen_chosen : {B : Type 0} (f : BytesCodecs B) (codec : VlenCodec B) (sizes : List ℕ) (type : ElementType) (fill value places : List ℕ) (held : Held) (count : ℕ) → count ≡ product sizes
+    → codec_chunk f (plain_vlen codec) sizes type fill value ≡ Ok (elements type (product sizes) held) → validity type (product sizes) held ≡ Ok tt
+    → chunk_at type count places held ≡ whole_read (codec_chunk f (plain_vlen codec)) sizes type fill (Some value) places
+vlen_chosen f codec sizes type fill value places held count is e valid =
+    ap (λ (n : ℕ). chunk_at type n places held) is
+    ∙ ap (λ (r : Result (Unit {0}) CodecError). r >>= λ _. ok (select (elements type (product sizes) held) places)) valid
+    ∙ sym (ap (λ (r : Result Chunk CodecError). r >>= λ c. ok (select c places)) e)
+
+each_place : (r : Result (List ℕ) CodecError) (P : List ℕ → Type 0) (g : List ℕ → Chunk) (h : List ℕ → Result Chunk CodecError) → IfOk r P → ((places : List ℕ) → P places → h places ≡ ok (g places)) → (r >>= h) ≡ seen g r
+each_place (Ok places) P g h inside e = e places inside
+each_place (Err x) P g h inside e = refl
+
+-- of a value that stands for a chunk, the chunk's elements are read
+pub vlen_selects : {B : Type 0} (f : BytesCodecs B) (codec : VlenCodec B) (sizes : List ℕ) (type : ElementType) (fill value : List ℕ) (chunk : Chunk) (selection : Selection) → HasMappings (plain_vlen codec) → All (λ size. 0 < size) sizes
+    → CodecStands f (plain_vlen codec) sizes type fill value chunk
+    → codec_stored_read f (record { codec = plain_vlen codec; sizes = sizes; type = type; fill = fill }) (Some value) selection ≡ seen (select chunk) (places_of selection sizes)
+vlen_selects f codec sizes type fill value chunk selection has positive stands =
+    each_place (places_of selection sizes) (All (λ place. place < product sizes)) (select chunk) _ (places_below selection sizes)
+    (λ places inside. codec_selects f (plain_vlen codec) sizes type fill value chunk places (chunk_only f (plain_vlen codec) has sizes type fill value chunk positive stands) inside)
+
+-- and fill elements where nothing is stored
+pub vlen_fills : {B : Type 0} (f : BytesCodecs B) (codec : VlenCodec B) (sizes : List ℕ) (type : ElementType) (fill : List ℕ) (selection : Selection) → is_ok (codec_representation f (plain_vlen codec) sizes type fill) ≡ true
+    → codec_stored_read f (record { codec = plain_vlen codec; sizes = sizes; type = type; fill = fill }) None selection ≡ seen (map (λ _. fill_element type fill)) (places_of selection sizes)
+vlen_fills f codec sizes type fill selection taken =
+    let r = from_ok (codec_representation f (plain_vlen codec) sizes type fill) taken in
+    each_place (places_of selection sizes) (All (λ place. place < product sizes)) (map (λ _. fill_element type fill)) _ (places_below selection sizes)
+    (λ places inside. codec_fills f (plain_vlen codec) sizes type fill r.0 places r.1)
+
+-- ---- sure bytes
+
+both_refused : (b : Result (List ℕ) CodecError) (next : List ℕ → Result (List ℕ) CodecError) (P : List ℕ → Type 0) → IfOk b (λ places. IfOk (next places) P) → IfOk (b >>= next) P
+both_refused (Ok places) next P h = h
+both_refused (Err x) next P h = tt
+
+places_so : (r : Result (List ℕ) CodecError) (places : List ℕ) (P : List ℕ → Type 0) → r ≡ Ok places → P places → IfOk r P
+places_so r places P e h = rw e h
+
+-- what holds of the bytes that the places of a selection rest on
+pub where_sure : {B : Type 0} (form : CodecForm B) (before : StorageState) (selection : Selection) (P : Type 0) (places : List ℕ) → places_of selection form.sizes ≡ Ok places
+    → ((codec_reads form.codec).partial_decode ≡ true → IfOk (codec_rests_on form.codec form.sizes form.type form.fill before.value places) (λ numbers. are_sure before.sure numbers ≡ true → P)) → CodecWhereSure form before selection P
+where_sure form before selection P places e h reads =
+    both_refused (places_of selection form.sizes) (codec_rests_on form.codec form.sizes form.type form.fill before.value) (λ numbers. are_sure before.sure numbers ≡ true → P)
+    (places_so (places_of selection form.sizes) places (λ ps. IfOk (codec_rests_on form.codec form.sizes form.type form.fill before.value ps) (λ numbers. are_sure before.sure numbers ≡ true → P)) e (h reads))

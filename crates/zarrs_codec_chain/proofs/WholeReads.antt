@@ -1,0 +1,104 @@
+-- Reads by the whole chunk, and readers without a cache.
+use Rattle.std.proofs.Common.{◌≡◌, ℕ, ◌^◌, nat_lt, if◌then◌else◌, Bool, true, false, Option, Some, None, List, ◌||◌, length, Result, Ok, Err, refl, ap, sym, ◌∙◌, subst}
+use Rattle.std.specs.Prelude.{is_some}
+use Rattle.zarrs_chunk.specs.Answer.{◌>>=◌, checked_u64, seen, AnswersBy, fault, memory, memory_or_fault}
+use Rattle.zarrs_chunk.specs.ChunkShape.{product}
+use Rattle.zarrs_chunk.specs.declared.codec_error.CodecError.{CodecError}
+use Rattle.zarrs_chunk.specs.declared.codec_error.CodecError.TheVariants.{Overflow}
+use Rattle.zarrs_data_type.specs.Element.{Chunk}
+use Rattle.zarrs_data_type.specs.ElementType.{ElementType}
+use Rattle.zarrs_array_bytes.specs.Chunks.{chunk_at}
+use Rattle.zarrs_array_bytes.specs.Elements.{elements, select}
+use Rattle.zarrs_array_bytes.specs.Held.{Held}
+use Rattle.zarrs_array_bytes.specs.Validity.{Holds, validity}
+use Rattle.zarrs_codec.specs.BytesToBytesCodec.{BytesCodecs}
+use Rattle.zarrs_codec.specs.declared.bytes_representation.BytesRepresentation.{BytesRepresentation}
+use Rattle.zarrs_chain_laws.specs.BytesStages.{outer_bytes}
+use Rattle.zarrs_chain_laws.specs.Chain.{codec_reads, taken_form}
+use Rattle.zarrs_codec_chain.specs.ChunkRead.{ChunkForm, codec_read, outer_stored, read_by_form, whole_read}
+use Rattle.zarrs_codec_chain.specs.ChunkSource.{Source, bytes_above, is_kept, kept_stage, opened_chunk, source_at, source_made_at, source_of, source_places}
+use Rattle.zarrs_chain_laws.specs.Decode.{Decoder, codec_chunk}
+use Rattle.zarrs_chain_laws.specs.PlainChain.{PlainCodec, bytes_codec, packbits_codec, vlen_codec, optional_codec, PlainChain}
+use Rattle.zarrs_chain_laws.specs.vlen.PlainVlen.{PlainForm, plain_form_of}
+use Rattle.zarrs_codec_chain.specs.declared.partial_decoder.cache.Cache.{Cache}
+use Rattle.zarrs_codec_chain.specs.declared.partial_decoder.cache.Cache.TheVariants as kept
+use Rattle.zarrs_codec_chain.specs.declared.partial_decoder.cache.CacheStage.{CacheStage}
+use Rattle.zarrs_chain_laws.proofs.ArraySteps.{ok}
+use Rattle.zarrs_codec_chain.proofs.PartialReads.{take_codecs}
+
+-- a count that 64 bits hold is the number itself
+pub count_so : (n m : ℕ) → ◌≡◌ {A = Result ℕ CodecError} (Ok m) (checked_u64 n) → m ≡ n
+count_so n m e = by_test (nat_lt n (2 ^ 64)) e
+  where
+    by_test : (b : Bool) → ◌≡◌ {A = Result ℕ CodecError} (Ok m) (if b then Ok n else Err Overflow) → m ≡ n
+    by_test true h = cc
+    by_test false h = absurd cc
+
+-- a cache that was filled at a stage
+pub filled_from : {B : Type 0} (f : BytesCodecs B) (form : ChunkForm B) (encoded : List ℕ) (r : BytesRepresentation) (s kept_at : CacheStage) (stored : Option (List ℕ)) (source : Source) → taken_form f form.chain form.sizes form.type form.fill ≡ Ok (encoded, r) → kept_at ≡ s
+    → source_at f form.chain encoded form.type form.fill r s stored ≡ Ok source → source_made_at f form kept_at stored ≡ Ok source
+filled_from f form encoded r s kept_at stored source t k e = rw (t, k) e
+
+-- without a cache there is nothing to fill
+pub uncached_filled : {B : Type 0} (f : BytesCodecs B) (form : ChunkForm B) (encoded : List ℕ) (r : BytesRepresentation) (cache : Cache) (stored : Option (List ℕ)) → taken_form f form.chain form.sizes form.type form.fill ≡ Ok (encoded, r) → is_kept cache ≡ false
+    → source_made_at f form (kept_stage cache) stored ≡ Ok (source_of form.type (product encoded) (length form.chain.outer) stored cache)
+uncached_filled f form encoded r kept.Handle stored e u = rw e refl
+uncached_filled f form encoded r (kept.Bytes below value) stored e u = absurd cc
+uncached_filled f form encoded r (kept.Chunk held) stored e u = absurd cc
+
+-- ---- codecs that read no part
+
+whole_of : (decode : Decoder) (sizes : List ℕ) (type : ElementType) (fill : List ℕ) (o : Result (List ℕ) CodecError) (places : List ℕ) → (seen (λ b. Some b) o >>= λ (below : Option (List ℕ)). whole_read decode sizes type fill below places) ≡ seen (λ chunk. select chunk places) (o >>= decode sizes type fill)
+whole_of decode sizes type fill (Err e) places = refl
+whole_of decode sizes type fill (Ok bytes) places = go (decode sizes type fill bytes)
+  where
+    go : (d : Result Chunk CodecError) → (d >>= λ chunk. ok (select chunk places)) ≡ seen (λ chunk. select chunk places) d
+    go (Ok chunk) = refl
+    go (Err e) = refl
+
+form_of_whole : (form : Option PlainForm) (decode : Decoder) (sizes : List ℕ) (type : ElementType) (fill : List ℕ) (o : Result (List ℕ) CodecError) (places : List ℕ) → is_some form ≡ false
+    → (seen (λ b. Some b) o >>= λ (below : Option (List ℕ)). read_by_form form decode sizes type fill below places) ≡ seen (λ chunk. select chunk places) (o >>= decode sizes type fill)
+form_of_whole None decode sizes type fill o places e = whole_of decode sizes type fill o places
+form_of_whole (Some form) decode sizes type fill o places e = absurd cc
+
+read_of : {B : Type 0} (f : BytesCodecs B) (codec : PlainCodec B) (encoded : List ℕ) (type : ElementType) (fill : List ℕ) (o : Result (List ℕ) CodecError) (places : List ℕ) → (codec_reads codec).partial_decode ≡ false
+    → (seen (λ b. Some b) o >>= λ below. codec_read f codec encoded type fill below places) ≡ seen (λ chunk. select chunk places) (o >>= codec_chunk f codec encoded type fill)
+read_of f (bytes_codec order) encoded type fill o places e = absurd cc
+read_of f (packbits_codec settings) encoded type fill o places e = absurd cc
+read_of f (vlen_codec ia ix ib da dx db wide at_end) encoded type fill o places e =
+    let codec = vlen_codec ia ix ib da dx db wide at_end in
+    form_of_whole (plain_form_of codec) (codec_chunk f codec) encoded type fill o places e
+read_of f (optional_codec ma mx mb da dx db) encoded type fill o places e = whole_of (codec_chunk f (optional_codec ma mx mb da dx db)) encoded type fill o places
+
+-- of a stored value, what a codec that reads no part reads is selected of the whole chunk
+pub whole_places : {B : Type 0} (f : BytesCodecs B) (chain : PlainChain B) (encoded : List ℕ) (type : ElementType) (fill : List ℕ) (r : BytesRepresentation) (value places : List ℕ) → (codec_reads chain.codec).partial_decode ≡ false
+    → source_places f chain encoded type fill r (bytes_above (length chain.outer) (Some value)) places ≡ seen (λ chunk. select chunk places) (opened_chunk f chain encoded type fill r value)
+whole_places {B} f chain encoded type fill r value places e =
+    ap (λ (bs : List B). outer_stored f bs r (Some value) >>= λ below. codec_read f chain.codec encoded type fill below places) (take_codecs chain.outer)
+    ∙ read_of f chain.codec encoded type fill (outer_bytes f chain.outer r value) places e
+
+-- the elements at places of a chunk that was read
+pub chunk_at_runs : {B : Type 0} (f : BytesCodecs B) (chain : PlainChain B) (encoded : List ℕ) (type : ElementType) (fill : List ℕ) (r : BytesRepresentation) (value : List ℕ) (held : Held) (places : List ℕ) (count : ℕ) (result : Result Held CodecError)
+    → opened_chunk f chain encoded type fill r value ≡ ok (elements type (product encoded) held) → validity type (product encoded) held ≡ Ok tt → count ≡ product encoded
+    → AnswersBy memory (Holds type) result (chunk_at type count places held) → AnswersBy memory (Holds type) result (seen (λ chunk. select chunk places) (opened_chunk f chain encoded type fill r value))
+chunk_at_runs f chain encoded type fill r value held places count result opened valid same h =
+    let is : chunk_at type count places held ≡ seen (λ chunk. select chunk places) (opened_chunk f chain encoded type fill r value) = rw (same, valid, opened) refl in
+    subst (λ (x : Result Chunk CodecError). AnswersBy memory (Holds type) result x) is h
+
+first_false : (a b : Bool) → (a || b) ≡ false → a ≡ false
+first_false false b h = refl
+first_false true b h = absurd cc
+
+-- a call that never fails, as an answer of one that may
+pub fails_too : {T V : Type 0} (R : T → V → Type 0) (r : Result T CodecError) (expected : Result V CodecError) → AnswersBy memory R r expected → AnswersBy memory_or_fault R r expected
+fails_too R (Ok x) expected h = h
+fails_too R (Err e) expected h = λ m. h (first_false (memory e) (fault e) m)
+
+-- what a codec that reads no part reads of what is stored
+pub whole_answer : {B : Type 0} (f : BytesCodecs B) (chain : PlainChain B) (encoded : List ℕ) (type : ElementType) (fill : List ℕ) (r : BytesRepresentation) (stored : Option (List ℕ)) (value places : List ℕ) (result : Result Held CodecError) → (codec_reads chain.codec).partial_decode ≡ false
+    → stored ≡ Some value → AnswersBy memory (Holds type) result (seen (λ chunk. select chunk places) (opened_chunk f chain encoded type fill r value))
+    → AnswersBy memory_or_fault (Holds type) result (source_places f chain encoded type fill r (bytes_above (length chain.outer) stored) places)
+whole_answer f chain encoded type fill r stored value places result whole is h =
+    let same : source_places f chain encoded type fill r (bytes_above (length chain.outer) stored) places ≡ seen (λ chunk. select chunk places) (opened_chunk f chain encoded type fill r value)
+    = ap (λ (s : Option (List ℕ)). source_places f chain encoded type fill r (bytes_above (length chain.outer) s) places) is ∙ whole_places f chain encoded type fill r value places whole in
+    subst (λ (x : Result Chunk CodecError). AnswersBy memory_or_fault (Holds type) result x) (sym same) (fails_too (Holds type) result (seen (λ chunk. select chunk places) (opened_chunk f chain encoded type fill r value)) h)

@@ -1,0 +1,264 @@
+-- What a read in part answers through a chain.
+use Rattle.zarrs_chain_laws.specs.Stands.{ChainStands}
+use Rattle.zarrs_array_bytes.specs.Validity.{Holds}
+use Rattle.zarrs_array_bytes.specs.Held.{Held}
+use Rattle.zarrs_data_type.specs.Form.{form_of, Form}
+use Rattle.std.specs.Prelude.{◌≡◌, ℕ, ◌-◌, ◌*◌, Bool, true, false, if◌then◌else◌, Option, Some, None, IfSome, IfOk, IsOkAnd, List, [], ◌∷◌, length, map, sum_by, Result, Ok, Err, IfErr, is_ok, option_map, Vec}
+use Rattle.zarrs_chunk.specs.ChunkShape.{product}
+use Rattle.zarrs_chunk.specs.Answer.{◌>>=◌, seen, AnswersBy, memory, memory_or_fault, is_fault, GivesBy, no_refusal, Gives}
+use Rattle.zarrs_chunk.specs.Selection.{Selection, places_of, bounds_of}
+use Rattle.zarrs_chunk.specs.declared.codec_error.CodecError.{CodecError}
+use Rattle.zarrs_data_type.specs.Element.{Chunk, fill_element}
+use Rattle.zarrs_data_type.specs.ElementType.{ElementType}
+use Rattle.zarrs_array_bytes.specs.Elements.{select, elements}
+use Rattle.zarrs_codec.specs.ByteRanges.{range_indices}
+use Rattle.zarrs_codec.specs.ByteSpan.{ByteSpan}
+use Rattle.zarrs_codec.specs.BytesToBytesCodec.{BytesCodecs}
+use Rattle.zarrs_codec.specs.StorageState.{are_sure, StorageState}
+use Rattle.zarrs_codec.specs.declared.bytes_representation.BytesRepresentation.{BytesRepresentation}
+use Rattle.zarrs_array_to_array.specs.ArrayToArrayCodec.{ArrayMapping}
+use Rattle.zarrs_bytes.specs.PartialRead.{place_bytes, place_size, read_places}
+use Rattle.zarrs_packbits.specs.PackBitsSettings.{packed_layout}
+use Rattle.zarrs_packbits.specs.PartialRead.{bytes_of_places, read_places_of}
+use Rattle.zarrs_packbits.specs.ReadPlan.{IsPlan}
+use Rattle.zarrs_chain_laws.specs.ArrayStages.{arrays_map}
+use Rattle.zarrs_chain_laws.specs.BytesStages.{outer_bytes}
+use Rattle.zarrs_chain_laws.specs.Chain.{codec_reads, taken_form, chain_reads}
+use Rattle.zarrs_chain_laws.specs.Decode.{Decoder, codec_chunk}
+use Rattle.zarrs_chain_laws.specs.PlainChain.{PlainCodec, bytes_codec, packbits_codec, vlen_codec, optional_codec, PlainChain}
+use Rattle.zarrs_chain_laws.specs.vlen.PlainVlen.{PlainForm, plain_form_of}
+use Rattle.zarrs_plain_vlen.specs.PlainRead.{plain_read}
+use Rattle.zarrs_plain_vlen.specs.VlenRead.{stored_rests_on}
+use Rattle.std.proofs.Common.{Global}
+use Rattle.zarrs_chunk.specs.Runs.{joined_runs}
+use Rattle.zarrs_codec.specs.declared.capabilities.PartialDecoderCapability.{PartialDecoderCapability}
+use Rattle.zarrs_chain_laws.specs.Representation.{codec_representation, chain_representation}
+
+-- the chunk that is read: through which chain, its sizes, its type and its fill value
+pub record ChunkForm (B : Type 0) : Type 0 where
+  pub chain : PlainChain B
+  pub sizes : List ℕ
+  pub type : ElementType
+  pub fill : List ℕ
+
+-- ---- codecs to bytes
+
+-- what answers the elements at places of a chunk of these sizes, this type and this fill value, by the bytes that are there, or by none
+abbrev pub PlaceReader : Type 0
+PlaceReader = List ℕ → ElementType → List ℕ → Option (List ℕ) → List ℕ → Result Chunk CodecError
+
+-- by the whole chunk: its elements; the fill element at each place, where no bytes are there
+abbrev pub whole_read : Decoder → PlaceReader
+whole_read decode sizes type fill None places = Ok (map (λ _. fill_element type fill) places)
+whole_read decode sizes type fill (Some value) places = do
+  chunk ← decode sizes type fill value
+  Ok (select chunk places)
+
+-- of a `vlen` by its plain form: by the offsets and the bytes of the elements alone; where it has none, by the whole chunk
+abbrev pub read_by_form : Option PlainForm → Decoder → PlaceReader
+read_by_form None decode sizes type fill stored places = whole_read decode sizes type fill stored places
+read_by_form (Some form) decode sizes type fill stored places = plain_read form (product sizes) type fill stored places
+
+-- the elements at these places of a chunk that a codec to bytes gets: of `bytes` and `packbits` by the places' bytes alone; of a plain `vlen` by the offsets and the elements' bytes alone; of any other codec with chains inside by the whole chunk
+abbrev pub codec_read : {B : Type 0} → BytesCodecs B → PlainCodec B → PlaceReader
+codec_read f (bytes_codec order) sizes type fill stored places = read_places order type fill stored places
+codec_read f (packbits_codec settings) sizes type fill stored places = read_places_of settings (form_of sizes type fill) stored places
+codec_read f (vlen_codec ia ix ib da dx db wide at_end) sizes type fill stored places =
+    let codec = vlen_codec ia ix ib da dx db wide at_end in
+    read_by_form (plain_form_of codec) (codec_chunk f codec) sizes type fill stored places
+codec_read f (optional_codec ma mx mb da dx db) sizes type fill stored places =
+    whole_read (codec_chunk f (optional_codec ma mx mb da dx db)) sizes type fill stored places
+
+-- ---- chains
+
+-- where the places that a selection means go through array codecs, in order, or the first refusal
+abbrev pub encoded_places : ElementType → List ArrayMapping → List ℕ → Selection → Result (List ℕ) CodecError
+encoded_places type arrays sizes selection = do
+  places ← places_of selection sizes
+  m ← arrays_map type arrays sizes
+  Ok (map m.to places)
+
+-- the bytes that stand below bytes codecs, where something is stored; or the refusal of the last of them, or of one below
+abbrev pub outer_stored : {B : Type 0} → BytesCodecs B → List B → BytesRepresentation → Option (List ℕ) → Result (Option (List ℕ)) CodecError
+outer_stored f codecs r None = Ok None
+outer_stored f codecs r (Some value) = seen (λ bytes. Some bytes) (outer_bytes f codecs r value)
+
+-- The elements that a selection means, in its order, of what is stored, or the first refusal: the selection's; of the bytes codecs, the last of them first; of the codec to bytes. Where nothing is stored, the fill element at each place.
+abbrev pub stored_read : {B : Type 0} → BytesCodecs B → ChunkForm B → Option (List ℕ) → Selection → Result Chunk CodecError
+stored_read f form stored selection = do
+  places ← encoded_places form.type form.chain.arrays form.sizes selection
+  taken ← taken_form f form.chain form.sizes form.type form.fill
+  below ← outer_stored f form.chain.outer taken.1 stored
+  codec_read f form.chain.codec taken.0 form.type form.fill below places
+
+-- ---- plans
+
+-- whether the bytes of a place are known before anything is read: they are over `bytes` and `packbits`
+abbrev pub codec_plans : {B : Type 0} → PlainCodec B → Bool
+codec_plans (bytes_codec order) = true
+codec_plans (packbits_codec settings) = true
+codec_plans (vlen_codec ia ix ib da dx db wide at_end) = false
+codec_plans (optional_codec ma mx mb da dx db) = false
+
+-- whether a read asks for the bytes of its places alone: it does over `bytes` and `packbits` where there are no bytes codecs
+abbrev pub reads_places : {B : Type 0} → List B → PlainCodec B → Bool
+reads_places [] codec = codec_plans codec
+reads_places (first ∷ rest) codec = false
+
+-- the places whose bytes a read asks for, of the chunk that the codec to bytes gets, where it asks for these alone; or the first refusal
+abbrev pub planned_places : {B : Type 0} → ChunkForm B → Selection → Result (Option (List ℕ)) CodecError
+planned_places form selection =
+    seen (λ places. if reads_places form.chain.outer form.chain.codec then Some places else None) (encoded_places form.type form.chain.arrays form.sizes selection)
+
+-- The ranges are the bytes of these places and no others. Of `bytes` they come in the places' order, and their lengths sum to the elements' bytes. Of `packbits` each is the bytes of one run of places.
+abbrev pub IsCodecPlan : {B : Type 0} → PlainCodec B → List ℕ → ElementType → List ℕ → List ℕ → List ByteSpan → Type 0
+IsCodecPlan (bytes_codec order) sizes type fill places ranges =
+    (range_indices ranges ≡ place_bytes (place_size type) places) × (sum_by (λ range. range.end - range.start) ranges ≡ length places * place_size type)
+IsCodecPlan (packbits_codec settings) sizes type fill places ranges = IsOkAnd (packed_layout settings (form_of sizes type fill)) (λ layout. IsPlan layout places ranges)
+IsCodecPlan (vlen_codec ia ix ib da dx db wide at_end) sizes type fill places ranges = ⊥
+IsCodecPlan (optional_codec ma mx mb da dx db) sizes type fill places ranges = ⊥
+
+-- what a plan is of a read of these places: ranges where it asks for the places' bytes alone, and else none
+abbrev pub IsReadPlan : {B : Type 0} → BytesCodecs B → ChunkForm B → Option (List ByteSpan) → Option (List ℕ) → Type 0
+IsReadPlan f form None None = Unit {0}
+IsReadPlan f form (Some ranges) (Some places) =
+    IsOkAnd (taken_form f form.chain form.sizes form.type form.fill) (λ taken. IsCodecPlan form.chain.codec taken.0 form.type form.fill places ranges)
+IsReadPlan f form _ _ = ⊥
+
+-- ---- what a read rests on
+
+-- whether a read asks for a part of the value alone: it does over `bytes`, `packbits` and a plain `vlen` where there are no bytes codecs
+abbrev pub asks_in_part : {B : Type 0} → List B → PlainCodec B → Bool
+asks_in_part [] codec = (codec_reads codec).partial_decode
+asks_in_part (first ∷ rest) codec = false
+
+-- the numbers of the bytes of what is stored that the elements at these places rest on, of a `vlen` by its plain form: the offsets' and the elements'; none where it has no such form
+abbrev pub form_rests_on : Option PlainForm → ℕ → Option (List ℕ) → List ℕ → List ℕ
+form_rests_on None count stored places = []
+form_rests_on (Some form) count stored places = stored_rests_on form count stored places
+
+-- the same of a codec to bytes: of `bytes` and `packbits` the places' bytes, whatever is stored; none of a codec that is read whole
+abbrev pub codec_rests_on : {B : Type 0} → PlainCodec B → List ℕ → ElementType → List ℕ → Option (List ℕ) → List ℕ → Result (List ℕ) CodecError
+codec_rests_on (bytes_codec order) sizes type fill stored places = Ok (place_bytes (place_size type) places)
+codec_rests_on (packbits_codec settings) sizes type fill stored places = bytes_of_places settings (form_of sizes type fill) places
+codec_rests_on (vlen_codec ia ix ib da dx db wide at_end) sizes type fill stored places =
+    Ok (form_rests_on (plain_form_of (vlen_codec ia ix ib da dx db wide at_end)) (product sizes) stored places)
+codec_rests_on (optional_codec ma mx mb da dx db) sizes type fill stored places = Ok []
+
+-- the numbers of the bytes that a read asks for, of what is stored, where it asks for a part alone; or the first refusal
+abbrev pub read_rests_on : {B : Type 0} → BytesCodecs B → ChunkForm B → Option (List ℕ) → Selection → Result (Option (List ℕ)) CodecError
+read_rests_on f form stored selection = do
+  places ← encoded_places form.type form.chain.arrays form.sizes selection
+  taken ← taken_form f form.chain form.sizes form.type form.fill
+  numbers ← codec_rests_on form.chain.codec taken.0 form.type form.fill stored places
+  Ok (if asks_in_part form.chain.outer form.chain.codec then Some numbers else None)
+
+-- P, where a read asks for a part of the value alone and the bytes that it rests on are sure
+abbrev pub WhereSure : {B : Type 0} → BytesCodecs B → ChunkForm B → StorageState → Selection → Type 0 → Type 0
+WhereSure f form before selection P =
+    IfOk (read_rests_on f form before.value selection) (λ asked. IfSome asked (λ numbers. are_sure before.sure numbers ≡ true → P))
+
+-- ---- what a read gives
+
+-- The answer is a container of the elements at the selected places, of the chunk that the stored value stands for, or of fill elements where nothing is stored; or the first refusal. Only a want of memory or a failure of the handle may come in its place, a failure behind the refusals of the selection, and never where the read asks for a part of the value alone and the bytes that it rests on are sure.
+pub record ReadsChunk {B : Type 0} (f : BytesCodecs B) (form : ChunkForm B) (before : StorageState) (selection : Selection) (result : Result Held CodecError) : Type 0 where
+  pub selected : (value : List ℕ) (chunk : Chunk) → before.value ≡ Some value → ChainStands f form.chain form.sizes form.type form.fill value chunk
+      → AnswersBy memory_or_fault (Holds form.type) result (seen (select chunk) (places_of selection form.sizes))
+  pub unstored : before.value ≡ None
+      → AnswersBy memory_or_fault (Holds form.type) result (seen (map (λ _. fill_element form.type form.fill)) (places_of selection form.sizes))
+  pub exact : AnswersBy memory_or_fault (Holds form.type) result (stored_read f form before.value selection)
+  pub indexer_first : IfErr (bounds_of selection form.sizes) (λ cause. AnswersBy memory (Holds form.type) result (Err cause))
+  pub sure : WhereSure f form before selection (is_fault result ≡ false)
+
+-- ---- what calls give
+
+-- the chunk of these sizes, this type and this fill value, through the chain
+abbrev pub chunk_form : {B : Type 0} → PlainChain B → Form → ChunkForm B
+chunk_form chain form = record { chain = chain; sizes = form.sizes; type = form.type; fill = form.fill }
+
+-- what is made of a chunk's form, where it is made, has that form
+abbrev pub HasForm : {B C E : Type 0} → (C → ChunkForm B) → PlainChain B → Form → Result C E → Type 0
+HasForm view chain form result = IfOk result (λ made. view made ≡ chunk_form chain form)
+
+-- the codec takes such chunks
+abbrev pub TakenBy : {B : Type 0} → BytesCodecs B → PlainCodec B → Form → Type 0
+TakenBy f codec form = is_ok (codec_representation f codec form.sizes form.type form.fill) ≡ true
+
+-- a container of the elements at the places of these runs, by the bytes that are there, or by none; or the first refusal
+abbrev pub GivesRuns : {B : Type 0} → BytesCodecs B → PlainCodec B → Form → Option (List ℕ) → List (ℕ × ℕ) → Result Held CodecError → Type 0
+GivesRuns f codec form stored runs result =
+    GivesBy (Holds form.type) result (codec_read f codec form.sizes form.type form.fill stored (joined_runs runs))
+
+-- the same of what a handle keeps, which may fail
+abbrev pub ReadsRuns : {B : Type 0} → BytesCodecs B → PlainCodec B → Form → StorageState → List (ℕ × ℕ) → Result Held CodecError → Type 0
+ReadsRuns f codec form before runs result =
+    AnswersBy memory_or_fault (Holds form.type) result (codec_read f codec form.sizes form.type form.fill before.value (joined_runs runs))
+
+-- no failure of the handle comes where the bytes are sure that a read of these runs rests on
+abbrev pub SureRuns : {B T : Type 0} → PlainCodec B → Form → StorageState → List (ℕ × ℕ) → Result T CodecError → Type 0
+SureRuns codec form before runs result =
+    IfOk (codec_rests_on codec form.sizes form.type form.fill before.value (joined_runs runs)) (λ numbers. are_sure before.sure numbers ≡ true → is_fault result ≡ false)
+
+-- the same, where the codec reads in part
+abbrev pub SureParts : {B T : Type 0} → PlainCodec B → Form → StorageState → List (ℕ × ℕ) → Result T CodecError → Type 0
+SureParts codec form before runs result = (codec_reads codec).partial_decode ≡ true → SureRuns codec form before runs result
+
+-- a making succeeds exactly where the codec takes such chunks, and else answers why it doesn't
+abbrev pub MadeWhereTaken : {B : Type 0} → BytesCodecs B → PlainCodec B → Form → Result (Unit {0}) CodecError → Type 0
+MadeWhereTaken f codec form result = Gives (λ made. made) result (seen (λ _. tt) (codec_representation f codec form.sizes form.type form.fill))
+
+-- the same of a chain
+abbrev pub MadeWhereChainTaken : {B : Type 0} → BytesCodecs B → PlainChain B → Form → Result (Unit {0}) CodecError → Type 0
+MadeWhereChainTaken f chain form result = Gives (λ made. made) result (seen (λ _. tt) (chain_representation f chain form.sizes form.type form.fill))
+
+-- a container of the elements at the places of these runs by the whole chunk, by the bytes that are there, or by none
+abbrev pub GivesWhole : {B : Type 0} → BytesCodecs B → PlainCodec B → Form → Option (List ℕ) → List (ℕ × ℕ) → Result Held CodecError → Type 0
+GivesWhole f codec form stored runs result =
+    GivesBy (Holds form.type) result (whole_read (codec_chunk f codec) form.sizes form.type form.fill stored (joined_runs runs))
+
+-- the same of what a handle keeps, which may fail
+abbrev pub ReadsWhole : {B : Type 0} → BytesCodecs B → PlainCodec B → Form → StorageState → List (ℕ × ℕ) → Result Held CodecError → Type 0
+ReadsWhole f codec form before runs result =
+    AnswersBy memory_or_fault (Holds form.type) result (whole_read (codec_chunk f codec) form.sizes form.type form.fill before.value (joined_runs runs))
+
+-- the elements of the chunk that a value stands for, or the first refusal
+abbrev pub GivesElements : {B : Type 0} → BytesCodecs B → PlainCodec B → Form → List ℕ → Result Held CodecError → Type 0
+GivesElements f codec form value result =
+    Gives (elements form.type (product form.sizes)) result (codec_chunk f codec form.sizes form.type form.fill value)
+
+-- a container of the elements at the places of these runs that a plain `vlen` reads of what a handle keeps, which may fail
+abbrev pub ReadsPlain : PlainForm → ℕ → ElementType → List ℕ → StorageState → List (ℕ × ℕ) → Result Held CodecError → Type 0
+ReadsPlain form count type fill before runs result =
+    AnswersBy memory_or_fault (Holds type) result (plain_read form count type fill before.value (joined_runs runs))
+
+-- no failure of the handle comes where the bytes are sure that this read rests on
+abbrev pub SurePlain : {T : Type 0} → PlainForm → ℕ → StorageState → List (ℕ × ℕ) → Result T CodecError → Type 0
+SurePlain form count before runs result =
+    are_sure before.sure (stored_rests_on form count before.value (joined_runs runs)) ≡ true → is_fault result ≡ false
+
+-- the bytes of a value, or none
+abbrev pub value_items : Option (Vec ℕ Global) → Option (List ℕ)
+value_items value = option_map (λ items. items.items) value
+
+-- ranges that are the bytes of the places of these runs and no others
+abbrev pub PlansRuns : {B : Type 0} → PlainCodec B → Form → List (ℕ × ℕ) → Result (Vec ByteSpan Global) CodecError → Type 0
+PlansRuns codec form runs result =
+    GivesBy (λ ranges _. IsCodecPlan codec form.sizes form.type form.fill (joined_runs runs) ranges.items) result no_refusal
+
+-- the plan of a read of the selected places, or the first refusal
+abbrev pub PlansRead : {B : Type 0} → BytesCodecs B → ChunkForm B → Selection → Result (Option (Vec ByteSpan Global)) CodecError → Type 0
+PlansRead f form selection result =
+    GivesBy (λ ranges places. IsReadPlan f form (option_map (λ v. v.items) ranges) places) result (planned_places form selection)
+
+-- the places that a selection means, as they go through the array codecs
+abbrev pub form_places : {B : Type 0} → ChunkForm B → Selection → Result (List ℕ) CodecError
+form_places form selection = encoded_places form.type form.chain.arrays form.sizes selection
+
+-- where the selection is refused, this is what is answered, or a want of memory: no failure of the handle comes in its place
+abbrev pub RefusedAtSelection : List ℕ → ElementType → Selection → Result Held CodecError → Type 0
+RefusedAtSelection sizes type selection result =
+    IfErr (bounds_of selection sizes) (λ cause. AnswersBy memory (Holds type) result (Err cause))
+
+-- all codecs decode a part
+abbrev pub form_decodes_parts : {B : Type 0} → (B → PartialDecoderCapability) → ChunkForm B → Bool
+form_decodes_parts reads form = (chain_reads reads form.chain).partial_decode

@@ -1,0 +1,186 @@
+-- What a partial decoder's answers rest on, and what of it a cache keeps.
+use Rattle.std.specs.Prelude.{◌≡◌, ℕ, suc, ◌-◌, ◌^◌, ◌&&◌, not, nat_le, min, Bool, true, false, if◌then◌else◌, Option, Some, None, option_map, List, [], ◌∷◌, length, map, take, drop, is_ok, is_some, Result, Ok, IsOkAnd}
+use Rattle.zarrs_chunk.specs.Answer.{◌>>=◌, Answers, GivesBy, memory_or_fault}
+use Rattle.zarrs_chunk.specs.Selection.{Selection}
+use Rattle.zarrs_chunk.specs.declared.codec_error.CodecError.{CodecError}
+use Rattle.zarrs_data_type.specs.Element.{Chunk, fill_element}
+use Rattle.zarrs_data_type.specs.ElementType.{ElementType}
+use Rattle.zarrs_array_bytes.specs.Elements.{elements, select}
+use Rattle.zarrs_array_bytes.specs.Held.{Held, byte_count}
+use Rattle.zarrs_array_bytes.specs.Validity.{Holds, validity}
+use Rattle.zarrs_codec.specs.BytesToBytesCodec.{BytesCodecs}
+use Rattle.zarrs_codec.specs.declared.bytes_representation.BytesRepresentation.{BytesRepresentation}
+use Rattle.zarrs_codec.specs.declared.capabilities.PartialDecoderCapability.{PartialDecoderCapability}
+use Rattle.zarrs_chain_laws.specs.BytesStages.{outer_bytes, outer_representation}
+use Rattle.zarrs_codec_chain.specs.CachePlace.{cache_place, codecs_read}
+use Rattle.zarrs_chain_laws.specs.Chain.{taken_form, codec_reads}
+use Rattle.zarrs_codec_chain.specs.ChunkRead.{ChunkForm, codec_read, encoded_places, outer_stored}
+use Rattle.zarrs_chain_laws.specs.Decode.{codec_chunk}
+use Rattle.zarrs_chain_laws.specs.PlainChain.{PlainChain}
+use Rattle.zarrs_codec_chain.specs.declared.partial_decoder.cache.Cache.{Cache}
+use Rattle.zarrs_codec_chain.specs.declared.partial_decoder.cache.Cache.TheVariants as kept
+use Rattle.zarrs_codec_chain.specs.declared.partial_decoder.cache.CacheStage.{CacheStage}
+use Rattle.zarrs_codec_chain.specs.declared.partial_decoder.cache.CacheStage.TheVariants as stage
+use Rattle.zarrs_chunk.specs.ChunkShape.{product}
+use Rattle.zarrs_data_type.specs.Form.{Form}
+
+-- What answers rest on: the bytes above so many of the first bytes codecs, or the chunk that the codec to bytes reads; either only where something is stored.
+pub data Source : Type 0 where
+  bytes_above : ℕ → Option (List ℕ) → Source
+  chunk_below : Option Chunk → Source
+
+-- the elements at these places of the chunk that the codec to bytes gets, by what answers rest on
+abbrev pub source_places : {B : Type 0} → BytesCodecs B → PlainChain B → List ℕ → ElementType → List ℕ → BytesRepresentation → Source → List ℕ → Result Chunk CodecError
+source_places f chain encoded type fill r (bytes_above below value) places = do
+  bytes ← outer_stored f (take below chain.outer) r value
+  codec_read f chain.codec encoded type fill bytes places
+source_places f chain encoded type fill r (chunk_below None) places = Ok (map (λ _. fill_element type fill) places)
+source_places f chain encoded type fill r (chunk_below (Some chunk)) places = Ok (select chunk places)
+
+-- the elements that a selection means
+abbrev pub source_read : {B : Type 0} → BytesCodecs B → ChunkForm B → List ℕ → BytesRepresentation → Source → Selection → Result Chunk CodecError
+source_read f form encoded r source selection = do
+  places ← encoded_places form.type form.chain.arrays form.sizes selection
+  source_places f form.chain encoded form.type form.fill r source places
+
+-- ---- the cache's place
+
+-- where a cache at this place stands, of a chain of so many bytes codecs: at the bytes above those that aren't decoded there yet, or at the chunk behind the codec to bytes
+abbrev pub stage_at : ℕ → Option ℕ → CacheStage
+stage_at count None = stage.Nowhere
+stage_at count (Some place) = if nat_le place count then stage.Bytes (count - place) else stage.Chunk
+
+-- where the cache of a chain stands
+abbrev pub cache_stage : {B : Type 0} → (B → PartialDecoderCapability) → PlainChain B → CacheStage
+cache_stage reads chain = stage_at (length chain.outer) (cache_place (codecs_read reads chain))
+
+-- of what bytes codecs read in part, in encode order: how many of the first ones a cache leaves undecoded; none where no codec wants a cache
+abbrev pub bytes_left : List PartialDecoderCapability → Option ℕ
+bytes_left [] = None
+bytes_left (codec ∷ codecs) =
+    if not codec.partial_decode then Some 0 else (if not codec.partial_read then Some 1 else option_map suc (bytes_left codecs))
+
+-- a cache that leaves so many bytes codecs; none
+abbrev pub bytes_stage : Option ℕ → CacheStage
+bytes_stage None = stage.Nowhere
+bytes_stage (Some left) = stage.Bytes left
+
+-- where a cache stands, by what the codec to bytes reads in part and by how many bytes codecs it leaves
+abbrev pub stage_by : PartialDecoderCapability → Option ℕ → CacheStage
+stage_by codec left = if not codec.partial_decode then stage.Chunk else (if not codec.partial_read then stage.Bytes 0 else bytes_stage left)
+
+-- a cache stands there
+abbrev pub has_cache : CacheStage → Bool
+has_cache stage.Nowhere = false
+has_cache (stage.Bytes below) = true
+has_cache stage.Chunk = true
+
+-- the stage is one of a chain of so many bytes codecs: a cache of bytes, or none, only where the codec to bytes decodes a part
+abbrev pub stage_fits : PartialDecoderCapability → ℕ → CacheStage → Bool
+stage_fits reads codecs stage.Nowhere = reads.partial_decode
+stage_fits reads codecs (stage.Bytes below) = reads.partial_decode && nat_le below codecs
+stage_fits reads codecs stage.Chunk = true
+
+-- the chunk that the codec to bytes reads of a value, or the first refusal
+abbrev pub opened_chunk : {B : Type 0} → BytesCodecs B → PlainChain B → List ℕ → ElementType → List ℕ → BytesRepresentation → List ℕ → Result Chunk CodecError
+opened_chunk f chain encoded type fill r value = outer_bytes f chain.outer r value >>= codec_chunk f chain.codec encoded type fill
+
+-- what answers rest on, of what is stored when a decoder is made, where its cache stands here; or the refusal of what decodes it: the bytes codecs, the last of them first, and then the codec to bytes
+abbrev pub source_at : {B : Type 0} → BytesCodecs B → PlainChain B → List ℕ → ElementType → List ℕ → BytesRepresentation → CacheStage → Option (List ℕ) → Result Source CodecError
+source_at f chain encoded type fill r stage.Nowhere stored = Ok (bytes_above (length chain.outer) stored)
+source_at f chain encoded type fill r (stage.Bytes below) None = Ok (bytes_above below None)
+source_at f chain encoded type fill r (stage.Bytes below) (Some value) = do
+  bytes ← outer_bytes f (drop below chain.outer) (outer_representation f (take below chain.outer) r) value
+  Ok (bytes_above below (Some bytes))
+source_at f chain encoded type fill r stage.Chunk None = Ok (chunk_below None)
+source_at f chain encoded type fill r stage.Chunk (Some value) = do
+  chunk ← opened_chunk f chain encoded type fill r value
+  Ok (chunk_below (Some chunk))
+
+-- What answers rest on that is made of what is stored, where the cache stands here; or the first refusal: the chain's representation, and then what decodes the value up to the cache.
+abbrev pub source_made_at : {B : Type 0} → BytesCodecs B → ChunkForm B → CacheStage → Option (List ℕ) → Result Source CodecError
+source_made_at f form cache stored = do
+  taken ← taken_form f form.chain form.sizes form.type form.fill
+  source_at f form.chain taken.0 form.type form.fill taken.1 cache stored
+
+-- What a decoder's answers rest on that is made of what is stored, or the first refusal: its cache stands where the chain wants it.
+abbrev pub source_made : {B : Type 0} → BytesCodecs B → (B → PartialDecoderCapability) → ChunkForm B → Option (List ℕ) → Result Source CodecError
+source_made f reads form stored = source_made_at f form (cache_stage reads form.chain) stored
+
+-- ---- what is kept
+
+-- what answers rest on by a cache, where the handle has this value
+abbrev pub source_of : ElementType → ℕ → ℕ → Option (List ℕ) → Cache → Source
+source_of type count codecs stored kept.Handle = bytes_above codecs stored
+source_of type count codecs stored (kept.Bytes below value) = bytes_above below (option_map (λ bytes. bytes.items) value)
+source_of type count codecs stored (kept.Chunk held) = chunk_below (option_map (elements type count) held)
+
+-- the cache is one of a chunk of so many elements, for a chain of so many bytes codecs: bytes are kept only where the codec to bytes reads in part
+abbrev pub cache_fits : PartialDecoderCapability → ElementType → ℕ → ℕ → Cache → Bool
+cache_fits reads type count codecs kept.Handle = true
+cache_fits reads type count codecs (kept.Bytes below value) = reads.partial_decode && nat_le below codecs
+cache_fits reads type count codecs (kept.Chunk None) = true
+cache_fits reads type count codecs (kept.Chunk (Some held)) = is_ok (validity type count held)
+
+-- where the cache stands
+abbrev pub kept_stage : Cache → CacheStage
+kept_stage kept.Handle = stage.Nowhere
+kept_stage (kept.Bytes below value) = stage.Bytes below
+kept_stage (kept.Chunk held) = stage.Chunk
+
+-- something is stored
+abbrev pub is_there : Source → Bool
+is_there (bytes_above below value) = is_some value
+is_there (chunk_below chunk) = is_some chunk
+
+-- the handle is left alone
+abbrev pub is_kept : Cache → Bool
+is_kept kept.Handle = false
+is_kept (kept.Bytes below value) = true
+is_kept (kept.Chunk held) = true
+
+-- how many bytes are kept in memory: the cache's alone, or else the handle's
+abbrev pub held_by : ℕ → Cache → ℕ
+held_by handle kept.Handle = handle
+held_by handle (kept.Bytes below None) = 0
+held_by handle (kept.Bytes below (Some value)) = length value.items
+held_by handle (kept.Chunk None) = 0
+held_by handle (kept.Chunk (Some held)) = min (byte_count held) (2 ^ 64 - 1)
+
+-- A cache of what answers rest on has so many bytes: those that it keeps, or those of a container that holds the chunk; none where nothing is stored. (At most 2^64 - 1 are counted.)
+abbrev pub IsSizeOf : ElementType → Source → ℕ → Type 0
+IsSizeOf type (bytes_above below None) size = size ≡ 0
+IsSizeOf type (bytes_above below (Some value)) size = size ≡ length value
+IsSizeOf type (chunk_below None) size = size ≡ 0
+IsSizeOf type (chunk_below (Some chunk)) size = (held : Held) × Holds type held chunk × (size ≡ min (byte_count held) (2 ^ 64 - 1))
+
+-- ---- what calls give
+
+-- the container of the chunk that the codec to bytes reads of a value, or the first refusal
+abbrev pub OpensChunk : {B : Type 0} → BytesCodecs B → PlainChain B → Form → BytesRepresentation → List ℕ → Result Held CodecError → Type 0
+OpensChunk f chain form r value result = GivesBy (Holds form.type) result (opened_chunk f chain form.sizes form.type form.fill r value)
+
+-- the bytes of a value above so many of the first bytes codecs, or the refusal of what decodes them
+abbrev pub upper_bytes : {B : Type 0} → BytesCodecs B → List B → ℕ → BytesRepresentation → List ℕ → Result (List ℕ) CodecError
+upper_bytes f codecs below r value = outer_bytes f (drop below codecs) (outer_representation f (take below codecs) r) value
+
+-- the stage is one of the chain
+abbrev pub is_stage_of : {B : Type 0} → PlainChain B → CacheStage → Bool
+is_stage_of chain stage = stage_fits (codec_reads chain.codec) (length chain.outer) stage
+
+-- the cache is one of the chunks that the chain's codec to bytes gets
+abbrev pub is_cache_of : {B : Type 0} → PlainChain B → List ℕ → ElementType → Cache → Bool
+is_cache_of chain encoded type cache = cache_fits (codec_reads chain.codec) type (product encoded) (length chain.outer) cache
+
+-- a cache at this stage, filled from what is stored, or the refusal of what decodes it
+abbrev pub FillsCache : {B : Type 0} → BytesCodecs B → PlainChain B → BytesRepresentation → CacheStage → Form → Option (List ℕ) → Result Cache CodecError → Type 0
+FillsCache f chain r stage form stored result =
+    Answers memory_or_fault (source_of form.type (product form.sizes) (length chain.outer) stored) result (source_at f chain form.sizes form.type form.fill r stage stored)
+
+-- the cache of a decoder that was made of what was stored then has so many bytes
+abbrev pub IsCacheSize : {B : Type 0} → BytesCodecs B → (B → PartialDecoderCapability) → ChunkForm B → Option (List ℕ) → ℕ → Type 0
+IsCacheSize f reads form stored size = IsOkAnd (source_made f reads form stored) (λ source. IsSizeOf form.type source size)
+
+-- the chain wants a cache
+abbrev pub wants_cache : {B : Type 0} → (B → PartialDecoderCapability) → PlainChain B → Bool
+wants_cache reads chain = has_cache (cache_stage reads chain)

@@ -1,0 +1,190 @@
+-- What a write in part leaves through a chain.
+use Rattle.zarrs_codec.specs.StorageState.{StorageState}
+use Rattle.std.specs.Prelude.{◌≡◌, ℕ, Bool, Option, Some, None, List, [], ◌∷◌, length, map, Result, Ok, Err, IfErr, OnOk, IsOkAnd, ◌+◌, ◌≤◌, All}
+use Rattle.zarrs_chunk.specs.Answer.{◌>>=◌, Answers, memory, memory_or_fault, seen, Gives}
+use Rattle.zarrs_chunk.specs.ChunkShape.{product}
+use Rattle.zarrs_chunk.specs.Region.{Region}
+use Rattle.zarrs_chunk.specs.Selection.{Selection, bounds_of}
+use Rattle.zarrs_chunk.specs.declared.codec_error.CodecError.{CodecError}
+use Rattle.zarrs_data_type.specs.Form.{form_of}
+use Rattle.zarrs_data_type.specs.Element.{Chunk}
+use Rattle.zarrs_data_type.specs.declared.endianness.Endianness.{Endianness}
+use Rattle.zarrs_data_type.specs.ElementType.{ElementType}
+use Rattle.zarrs_array_bytes.specs.Chunks.{fill_chunk}
+use Rattle.zarrs_array_bytes.specs.Elements.{elements}
+use Rattle.zarrs_array_bytes.specs.Held.{Held, items_of}
+use Rattle.zarrs_codec.specs.ArrayWriter.{ArrayWriter}
+use Rattle.zarrs_codec.specs.BytesToBytesCodec.{BytesCodecs}
+use Rattle.zarrs_codec.specs.ChunkEdits.{data_checked, data_places, with_elements, edited_chunk}
+use Rattle.zarrs_array_to_array.specs.ArrayToArrayCodec.{ArrayMapping}
+use Rattle.zarrs_bytes.specs.BytesCodec.{spelling}
+use Rattle.zarrs_bytes.specs.PartialRead.{place_size}
+use Rattle.zarrs_bytes.specs.PartialWrite.{bytes_left, filled_chunk, with_place_bytes}
+use Rattle.zarrs_chain_laws.specs.ArrayStages.{arrays_map}
+use Rattle.zarrs_codec_chain.specs.ChunkRead.{ChunkForm}
+use Rattle.zarrs_chain_laws.specs.Decode.{chain_chunk}
+use Rattle.zarrs_chain_laws.specs.Encode.{chain_value}
+use Rattle.zarrs_codec_chain.specs.PartialDecoder.{chunk_reader}
+use Rattle.zarrs_chain_laws.specs.PlainChain.{PlainCodec, bytes_codec, packbits_codec, vlen_codec, optional_codec}
+use Rattle.zarrs_chain_laws.specs.Stands.{ChainStands}
+use Rattle.zarrs_chain_laws.specs.Written.{ChainWritten}
+use Rattle.std.proofs.Common.{Global}
+use Rattle.std.specs.declared.borrow.CowSlice.{CowSlice}
+use Rattle.zarrs_chunk.specs.Runs.{joined_runs}
+use Rattle.zarrs_array_bytes.specs.Validity.{data_fit, validity}
+use Rattle.zarrs_codec.specs.declared.capabilities.PartialEncoderCapability.{PartialEncoderCapability}
+use Rattle.zarrs_chain_laws.specs.Chain.{chain_writes}
+
+-- the byte order of `bytes` without bytes codecs: there a write over a stored value replaces the bytes of its places alone
+abbrev pub order_in_place : {B : Type 0} → List B → PlainCodec B → Option (Option Endianness)
+order_in_place [] (bytes_codec order) = Some order
+order_in_place [] (packbits_codec settings) = None
+order_in_place [] (vlen_codec ia ix ib da dx db wide at_end) = None
+order_in_place [] (optional_codec ma mx mb da dx db) = None
+order_in_place (first ∷ rest) codec = None
+
+-- the value of a chunk with new elements at these places, or the first refusal
+abbrev pub edited_value : {B : Type 0} → BytesCodecs B → ChunkForm B → Chunk → List ℕ → Held → Result (List ℕ) CodecError
+edited_value f form chunk places new =
+    chain_value f form.chain form.sizes form.type form.fill (with_elements form.type chunk places new)
+
+-- The value that new elements at these places leave, or the first refusal. Where nothing is stored, it is that of the chunk of fill elements with the new ones. Of a stored value it is, over `bytes` without bytes codecs, the value with the bytes of the places, as they go through the array codecs, replaced; else that of the chunk that it stands for, with the new elements.
+abbrev pub value_left : {B : Type 0} → BytesCodecs B → ChunkForm B → Option (Option Endianness) → Option (List ℕ) → List ℕ → Held → Result (List ℕ) CodecError
+value_left f form order None places new = edited_value f form (filled_chunk form.sizes form.type form.fill) places new
+value_left f form None (Some value) places new = do
+  chunk ← chain_chunk f form.chain form.sizes form.type form.fill value
+  edited_value f form chunk places new
+value_left f form (Some order) (Some value) places new = do
+  m ← arrays_map form.type form.chain.arrays form.sizes
+  Ok (with_place_bytes (place_size form.type) value (map m.to places) (spelling order form.type (elements form.type (length places) new)))
+
+-- The value that new elements at a selection leave of what is stored, or the first refusal: the selection's; that of the new elements; of what decodes the stored value; of what encodes the chunk with the new elements.
+abbrev pub selection_left : {B : Type 0} → BytesCodecs B → ChunkForm B → Option (Option Endianness) → Option (List ℕ) → Selection → Held → Result (List ℕ) CodecError
+selection_left f form order stored selection new = do
+  places ← data_places form.sizes form.type selection new
+  value_left f form order stored places new
+
+-- the same, in place where the chain writes in place
+abbrev pub stored_written : {B : Type 0} → BytesCodecs B → ChunkForm B → Option (List ℕ) → Selection → Held → Result (List ℕ) CodecError
+stored_written f form stored selection new = selection_left f form (order_in_place form.chain.outer form.chain.codec) stored selection new
+
+-- the chunk that an edit starts from, or the first refusal: the one that the stored value stands for; where there is none, one of fill elements
+abbrev pub started_chunk : {B : Type 0} → BytesCodecs B → ChunkForm B → Option (List ℕ) → Result Chunk CodecError
+started_chunk f form None = fill_chunk form.type (product form.sizes) form.fill
+started_chunk f form (Some value) = chain_chunk f form.chain form.sizes form.type form.fill value
+
+-- where new elements at a selection go through array codecs, or the first refusal: the selection's; that of the new elements
+abbrev pub written_places : ElementType → List ArrayMapping → List ℕ → Selection → Held → Result (List ℕ) CodecError
+written_places type arrays sizes selection new = do
+  places ← data_places sizes type selection new
+  m ← arrays_map type arrays sizes
+  Ok (map m.to places)
+
+-- the writer of a chunk of this form: it leaves of a selection and new elements what `stored_written` says
+abbrev pub chunk_writer : {B : Type 0} → BytesCodecs B → ChunkForm B → Bool → ArrayWriter
+chunk_writer f form in_part = record {
+  reads = λ stored. chunk_reader f form stored in_part;
+  checks = data_checked form.sizes form.type;
+  written = stored_written f form;
+}
+
+-- ---- in the words of chunks
+
+-- an edit of what is stored starts from this chunk: the one that the value stands for; where there is none, one of fill elements
+abbrev pub EditStarts : {B : Type 0} → BytesCodecs B → ChunkForm B → Option (List ℕ) → Chunk → Type 0
+EditStarts f form None chunk = chunk ≡ filled_chunk form.sizes form.type form.fill
+EditStarts f form (Some value) chunk = ChainStands f form.chain form.sizes form.type form.fill value chunk
+
+-- what is stored is the value that is written for this chunk
+abbrev pub StoresChunk : {B : Type 0} → BytesCodecs B → ChunkForm B → Option (List ℕ) → Chunk → Type 0
+StoresChunk f form None chunk = ⊥
+StoresChunk f form (Some value) chunk = ChainWritten f form.chain form.sizes form.type form.fill value chunk
+
+-- Where an edit of what is stored starts from a chunk, it is accepted exactly where the selection is in bounds, the new elements fit it and a value is written for the chunk with these; the value afterwards is that one, the last write of a place standing. Else the first refusal is answered. Only a want of memory or a failure of the handle may come in its place, a failure behind the refusals of the selection and of the elements, which leave the handle as it was.
+pub record EditsChunk {B : Type 0} (f : BytesCodecs B) (form : ChunkForm B) (before after : StorageState) (selection : Selection) (new : Held) (result : Result (Unit {0}) CodecError) : Type 0 where
+  pub found : OnOk result ((chunk : Chunk) → EditStarts f form before.value chunk → IsOkAnd (edited_chunk form.sizes form.type chunk selection new) (StoresChunk f form after.value))
+  pub only : (chunk : Chunk) (value : List ℕ) → EditStarts f form before.value chunk → IsOkAnd (edited_chunk form.sizes form.type chunk selection new) (ChainWritten f form.chain form.sizes form.type form.fill value)
+      → Answers memory_or_fault (λ _. after.value) result (Ok (Some value))
+  pub exact : Answers memory_or_fault (λ _. after.value) result (seen Some (stored_written f form before.value selection new))
+  pub indexer_first : IfErr (bounds_of selection form.sizes) (λ cause. Answers memory (λ done. done) result (Err cause))
+  pub checked_first : IfErr (data_checked form.sizes form.type selection new) (λ cause. Answers memory (λ done. done) result (Err cause))
+  pub untouched : IfErr (data_checked form.sizes form.type selection new) (λ _. after ≡ before)
+
+-- ---- what calls give
+
+-- the check of new elements at a selection
+abbrev pub form_checked : {B : Type 0} → ChunkForm B → Selection → Held → Result (Unit {0}) CodecError
+form_checked form selection new = data_checked form.sizes form.type selection new
+
+-- where they go through the array codecs
+abbrev pub form_written : {B : Type 0} → ChunkForm B → Selection → Held → Result (List ℕ) CodecError
+form_written form selection new = written_places form.type form.chain.arrays form.sizes selection new
+
+-- the byte order of `bytes` without bytes codecs
+abbrev pub form_in_place : {B : Type 0} → ChunkForm B → Option (Option Endianness)
+form_in_place form = order_in_place form.chain.outer form.chain.codec
+
+-- all codecs encode a part
+abbrev pub form_encodes_parts : {B : Type 0} → (B → PartialEncoderCapability) → ChunkForm B → Bool
+form_encodes_parts writes form = (chain_writes writes form.chain).partial_encode
+
+-- each run ends within the chunk
+abbrev pub RunsInside : {B : Type 0} → ChunkForm B → List (ℕ × ℕ) → Type 0
+RunsInside form runs = All (λ run. run.0 + run.1 ≤ product form.sizes) runs
+
+-- there is one new element of the type for each place of the runs
+abbrev pub FitsRuns : {B : Type 0} → ChunkForm B → List (ℕ × ℕ) → Held → Type 0
+FitsRuns form runs new = data_fit form.type (length (joined_runs runs)) new ≡ Ok tt
+
+-- a container of such a chunk
+abbrev pub IsWhole : {B : Type 0} → ChunkForm B → Held → Type 0
+IsWhole form held = validity form.type (product form.sizes) held ≡ Ok tt
+
+-- the value of a chunk with new elements at the places of the runs, or the first refusal
+abbrev pub GivesEdited : {B : Type 0} → BytesCodecs B → ChunkForm B → Held → List (ℕ × ℕ) → Held → Result (CowSlice ℕ Global) CodecError → Type 0
+GivesEdited f form chunk runs new result =
+    Gives items_of result (edited_value f form (elements form.type (product form.sizes) chunk) (joined_runs runs) new)
+
+-- the value that new elements at the places of the runs leave of what is stored, by the whole value; or the first refusal
+abbrev pub ReadsNewValue : {B : Type 0} → BytesCodecs B → ChunkForm B → Option (List ℕ) → List (ℕ × ℕ) → Held → Result (CowSlice ℕ Global) CodecError → Type 0
+ReadsNewValue f form stored runs new result = Answers memory_or_fault items_of result (value_left f form None stored (joined_runs runs) new)
+
+-- this value is stored afterwards
+abbrev pub WritesRuns : {B : Type 0} → BytesCodecs B → ChunkForm B → (before after : StorageState) → List (ℕ × ℕ) → Held → Result (Unit {0}) CodecError → Type 0
+WritesRuns f form before after runs new result =
+    Answers memory_or_fault (λ _. after.value) result (seen Some (value_left f form None before.value (joined_runs runs) new))
+
+-- the value afterwards is the one that new elements at a selection leave, in place or by the whole value; or the first refusal is answered
+abbrev pub WritesSelection : {B : Type 0} → BytesCodecs B → ChunkForm B → Option (Option Endianness) → (before after : StorageState) → Selection → Held → Result (Unit {0}) CodecError → Type 0
+WritesSelection f form order before after selection new result =
+    Answers memory_or_fault (λ _. after.value) result (seen Some (selection_left f form order before.value selection new))
+
+-- where the selection is refused, this is what is answered, or a want of memory
+abbrev pub WriteRefusedAtSelection : {B : Type 0} → ChunkForm B → Selection → Result (Unit {0}) CodecError → Type 0
+WriteRefusedAtSelection form selection result = IfErr (bounds_of selection form.sizes) (λ cause. Answers memory (λ done. done) result (Err cause))
+
+-- where the new elements are refused, this is what is answered, or a want of memory
+abbrev pub RefusedAtData : {B : Type 0} → ChunkForm B → Selection → Held → Result (Unit {0}) CodecError → Type 0
+RefusedAtData form selection new result = IfErr (form_checked form selection new) (λ cause. Answers memory (λ done. done) result (Err cause))
+
+-- and the handle is as it was
+abbrev pub UntouchedAtData : {B : Type 0} → ChunkForm B → Selection → Held → (before after : StorageState) → Type 0
+UntouchedAtData form selection new before after = IfErr (form_checked form selection new) (λ _. after ≡ before)
+
+-- What a write of new elements at a selection gives, in place with this byte order or by the whole value: the value afterwards is the one that they leave, or the first refusal is answered; what the selection or the elements are refused for comes before the handle is asked, which is left as it was.
+pub record WritesChunk {B : Type 0} (f : BytesCodecs B) (form : ChunkForm B) (order : Option (Option Endianness)) (before after : StorageState) (selection : Selection) (new : Held) (result : Result (Unit {0}) CodecError) : Type 0 where
+  pub answer : WritesSelection f form order before after selection new result
+  pub indexer_first : WriteRefusedAtSelection form selection result
+  pub checked_first : RefusedAtData form selection new result
+  pub untouched : UntouchedAtData form selection new before after
+
+-- one new element for each place of a region is lent: they fit, and so do those that are lent, which are the same
+pub record LendsData (type : ElementType) (region : Region) (new lent : Held) : Type 0 where
+  pub fit : data_fit type (product region.lengths) new ≡ Ok tt
+  pub valid : validity type (product region.lengths) lent ≡ Ok tt
+  pub same : elements type (product region.lengths) lent ≡ elements type (product region.lengths) new
+
+-- whatever is stored, new elements at a selection leave what these leave at the places of these runs of the chunk that the codec to bytes gets, which has these sizes
+abbrev pub LeavesThere : {B : Type 0} → BytesCodecs B → ChunkForm B → List ℕ → Option Endianness → Selection → Held → List (ℕ × ℕ) → Held → Type 0
+LeavesThere f form encoded order selection new runs held =
+    (stored : Option (List ℕ)) → selection_left f form (Some order) stored selection new ≡ Ok (bytes_left order (form_of encoded form.type form.fill) stored (joined_runs runs) held)

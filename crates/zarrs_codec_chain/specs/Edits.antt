@@ -1,0 +1,129 @@
+-- Edits of a stored chunk, one after another.
+use Rattle.std.specs.Prelude.{◌≡◌, ℕ, zero, suc, ◌+◌, Bool, true, Option, Some, None, IfNone, IfSome, List, [], ◌∷◌, take, Result, Ok, Err, IsOkAnd, All}
+use Rattle.zarrs_chunk.specs.Answer.{◌>>=◌, Excused, fault, memory_or_fault, never, seen}
+use Rattle.zarrs_chunk.specs.Indexer.{selection_of}
+use Rattle.zarrs_chunk.specs.declared.codec_error.CodecError.{CodecError}
+use Rattle.zarrs_data_type.specs.Element.{Chunk}
+use Rattle.zarrs_codec.specs.ArrayWriter.{IsRefusedWrite}
+use Rattle.zarrs_codec.specs.BytesToBytesCodec.{BytesCodecs}
+use Rattle.zarrs_codec.specs.ChunkEdits.{edited_chunk}
+use Rattle.zarrs_codec.specs.StorageState.{StorageState, count_if}
+use Rattle.zarrs_bytes.specs.PartialWrite.{filled_chunk}
+use Rattle.zarrs_packbits.specs.Laws.{HasBytes}
+use Rattle.zarrs_codec_chain.specs.ChunkRead.{ChunkForm}
+use Rattle.zarrs_codec_chain.specs.ChunkWrite.{stored_written}
+use Rattle.zarrs_chain_laws.specs.MachineBytes.{HeldHasBytes}
+use Rattle.zarrs_chain_laws.specs.Written.{ChainWritten}
+use Rattle.zarrs_codec_chain.specs.declared.partial_encoder.edits.Edit.{Edit}
+use Rattle.zarrs_codec_chain.specs.declared.partial_encoder.edits.Edit.TheVariants.{Encode, Erase}
+use Rattle.zarrs_codec_chain.specs.declared.partial_encoder.edits.EditOutcome.{EditOutcome}
+
+-- ---- of chunks: the state is a chunk or nothing
+
+-- the chunk that new elements are put into: nothing is a chunk of fill elements
+abbrev pub chunk_or_fill : {B : Type 0} → ChunkForm B → Option Chunk → Chunk
+chunk_or_fill form None = filled_chunk form.sizes form.type form.fill
+chunk_or_fill form (Some chunk) = chunk
+
+-- what an edit makes of the state: the chunk with the new elements, or nothing; or why the edit can't be made
+abbrev pub edited_state : {B : Type 0} → ChunkForm B → Option Chunk → Edit → Result (Option Chunk) CodecError
+edited_state form state (Encode indexer new) = seen (λ chunk. Some chunk) (edited_chunk form.sizes form.type (chunk_or_fill form state) (selection_of indexer) new)
+edited_state form state Erase = Ok None
+
+-- what edits make of it, one after another
+abbrev pub states_edited : {B : Type 0} → ChunkForm B → List Edit → Option Chunk → Result (Option Chunk) CodecError
+states_edited form [] state = Ok state
+states_edited form (edit ∷ edits) state = edited_state form state edit >>= states_edited form edits
+
+-- the value is written for the chunk; nothing for nothing
+abbrev pub IsStoredFor : {B : Type 0} → BytesCodecs B → ChunkForm B → Option (List ℕ) → Option Chunk → Type 0
+IsStoredFor f form None None = Unit {0}
+IsStoredFor f form (Some value) (Some chunk) = ChainWritten f form.chain form.sizes form.type form.fill value chunk
+IsStoredFor f form _ _ = ⊥
+
+-- the chunk, if there is one, is made of bytes
+abbrev pub StateHasBytes : Option Chunk → Type 0
+StateHasBytes None = Unit {0}
+StateHasBytes (Some chunk) = All HasBytes chunk
+
+-- each number of an edit's elements is a byte
+abbrev pub EditHasBytes : Edit → Type 0
+EditHasBytes (Encode indexer new) = HeldHasBytes new
+EditHasBytes Erase = Unit {0}
+
+-- ---- of values
+
+-- what an edit leaves of what is stored, or its first refusal
+abbrev pub edited_store : {B : Type 0} → BytesCodecs B → ChunkForm B → Option (List ℕ) → Edit → Result (Option (List ℕ)) CodecError
+edited_store f form stored (Encode indexer new) = seen (λ value. Some value) (stored_written f form stored (selection_of indexer) new)
+edited_store f form stored Erase = Ok None
+
+-- what edits leave, one after another, or the first refusal
+abbrev pub stores_edited : {B : Type 0} → BytesCodecs B → ChunkForm B → List Edit → Option (List ℕ) → Result (Option (List ℕ)) CodecError
+stores_edited f form [] stored = Ok stored
+stores_edited f form (edit ∷ edits) stored = edited_store f form stored edit >>= stores_edited f form edits
+
+-- What is stored is nothing, or written for a chunk: then P holds of that chunk or of nothing. (Each number of the chunk is a byte.)
+abbrev pub OfWritten : {B : Type 0} → BytesCodecs B → ChunkForm B → Option (List ℕ) → (Option Chunk → Type 0) → Type 0
+OfWritten f form stored P = (state : Option Chunk) → StateHasBytes state → IsStoredFor f form stored state → P state
+
+-- What was stored before these edits was nothing, or written for a chunk: then what is stored is written for the chunk as they leave it, or nothing where the last of them erases.
+abbrev pub LeavesWritten : {B : Type 0} → BytesCodecs B → ChunkForm B → List Edit → Option (List ℕ) → Option (List ℕ) → Type 0
+LeavesWritten f form edits before after =
+    OfWritten f form before (λ state. IsOkAnd (states_edited form edits state) (IsStoredFor f form after))
+
+-- ---- which edits are accepted
+
+-- a value is written for the chunk; for nothing there is none
+abbrev pub IsWritable : {B : Type 0} → BytesCodecs B → ChunkForm B → Option Chunk → Type 0
+IsWritable f form state = (stored : Option (List ℕ)) × IsStoredFor f form stored state
+
+-- Each of these edits in turn can be made of the state: an erase always; new elements where the indexer is in bounds, the elements fit its places, and a value is written for the chunk with them.
+abbrev pub AcceptsEdits : {B : Type 0} → BytesCodecs B → ChunkForm B → List Edit → Option Chunk → Type 0
+AcceptsEdits f form [] state = Unit {0}
+AcceptsEdits f form (edit ∷ edits) state =
+    IsOkAnd (edited_state form state edit) (λ next. IsWritable f form next × AcceptsEdits f form edits next)
+
+-- what may come in place of an edit's answer: of new elements a want of memory or a failure of the handle; of an erase, which takes no memory, a failure alone
+abbrev pub edit_excuse : Edit → CodecError → Bool
+edit_excuse (Encode indexer new) = memory_or_fault
+edit_excuse Erase = fault
+
+-- and in place of the answer of the edit with this number
+abbrev pub excuse_at : List Edit → ℕ → CodecError → Bool
+excuse_at [] place = never
+excuse_at (edit ∷ edits) zero = edit_excuse edit
+excuse_at (edit ∷ edits) (suc place) = excuse_at edits place
+
+-- ---- of a handle
+
+-- a count modulo 2^64, so many more
+abbrev pub advanced : ℕ → ℕ → ℕ
+advanced zero count = count
+advanced (suc more) count = count_if true (advanced more count)
+
+-- what so many accepted edits leave of a handle, where this is stored afterwards: one writing call more for each, and one that was accepted
+abbrev pub after_edits : ℕ → Option (List ℕ) → StorageState → StorageState
+after_edits done stored state = record state {
+  value = stored;
+  writes = advanced done state.writes;
+  accepted_writes = advanced done state.accepted_writes;
+}
+
+-- what is left where an edit was refused behind so many accepted ones: what a refused write leaves of that; else that
+abbrev pub LeavesEdits : Option CodecError → StorageState → StorageState → Type 0
+LeavesEdits None accepted left = left ≡ accepted
+LeavesEdits (Some refusal) accepted left = IsRefusedWrite {T = Unit {0}} (Err refusal) accepted left
+
+-- ---- what a list of edits gives
+
+-- What a beginning of the edits leaves, behind which one is refused, or none. From nothing, or from a value that is written for a chunk, what is stored is written for the chunk as the accepted edits leave it: where none was refused, where the handle is atomic, and where the refused one made no writing call. An edit is refused, a want of memory and a failure of the handle aside, exactly where it can't be made of that chunk or no value is written for what it makes. Each accepted edit makes one writing call; of a refused one is left what a refused write leaves.
+pub record RunsEdits {B : Type 0} (f : BytesCodecs B) (form : ChunkForm B) (atomic : Bool) (before after : StorageState) (edits : List Edit) (outcome : EditOutcome) : Type 0 where
+  pub written : IfNone outcome.refusal (LeavesWritten f form edits before.value after.value)
+  pub written_if_atomic : atomic ≡ true → LeavesWritten f form (take outcome.done edits) before.value after.value
+  pub written_if_unwritten : after.writes ≡ advanced outcome.done before.writes → LeavesWritten f form (take outcome.done edits) before.value after.value
+  pub accepted : OfWritten f form before.value (AcceptsEdits f form (take outcome.done edits))
+  pub refused : IfSome outcome.refusal (λ e. Excused (excuse_at edits outcome.done e) (OfWritten f form before.value (λ state. ¬ AcceptsEdits f form (take (outcome.done + 1) edits) state)))
+  pub cause : IfSome outcome.refusal (λ e. Excused (excuse_at edits outcome.done e) (stores_edited f form (take (outcome.done + 1) edits) before.value ≡ Err e))
+  pub left : IsOkAnd (stores_edited f form (take outcome.done edits) before.value) (λ value. LeavesEdits outcome.refusal (after_edits outcome.done value before) after)
+  pub kept_if_atomic : atomic ≡ true → stores_edited f form (take outcome.done edits) before.value ≡ Ok after.value

@@ -1,0 +1,86 @@
+-- What a partial encoder of a chain is made of, and what its calls leave.
+use Rattle.std.specs.Prelude.{◌≡◌, ℕ, Bool, true, Option, List, OnErr, Result}
+use Rattle.zarrs_chunk.specs.Answer.{Answers}
+use Rattle.zarrs_chunk.specs.declared.codec_error.CodecError.{CodecError}
+use Rattle.zarrs_codec.specs.BytesToBytesCodec.{BytesCodecs}
+use Rattle.zarrs_codec.specs.CodersOverHandles.{OnlyReads, OnlyWrites}
+use Rattle.zarrs_codec.specs.StorageState.{StorageState, after_writing, apart_from_value}
+use Rattle.zarrs_codec_chain.specs.ChunkReader.{reader_form}
+use Rattle.zarrs_codec_chain.specs.ChunkRead.{ChunkForm, ReadsChunk}
+use Rattle.zarrs_codec_chain.specs.Edits.{edit_excuse, edited_store, RunsEdits}
+use Rattle.zarrs_codec_chain.specs.declared.partial_encoder.array_partial_encoder.ArrayPartialEncoder.{ArrayPartialEncoder}
+use Rattle.zarrs_codec_chain.specs.declared.partial_encoder.edits.Edit.{Edit}
+use Rattle.zarrs_codec_chain.specs.declared.partial_encoder.edits.EditOutcome.{EditOutcome}
+use Rattle.zarrs_chunk.specs.Selection.{Selection}
+use Rattle.zarrs_array_bytes.specs.Held.{Held}
+use Rattle.zarrs_codec_chain.specs.ChunkWrite.{EditsChunk}
+
+-- the handle that an encoder reads and writes
+abbrev pub encoder_handle : {H B : Type 0} {h : _} {w : _} {b : _} → ArrayPartialEncoder H B h w b → H
+encoder_handle encoder = encoder.handle
+
+-- the chunk that it writes
+abbrev pub encoder_form : {H B : Type 0} {h : _} {w : _} {b : _} → ArrayPartialEncoder H B h w b → ChunkForm B
+encoder_form encoder = reader_form encoder.reader
+
+-- what its handle keeps, where `state` says it of a handle
+abbrev pub encoder_state : {H B : Type 0} {h : _} {w : _} {b : _} → (H → StorageState) → ArrayPartialEncoder H B h w b → StorageState
+encoder_state state encoder = state (encoder_handle encoder)
+
+-- the stored value, or none
+abbrev pub encoder_value : {H B : Type 0} {h : _} {w : _} {b : _} → (H → StorageState) → ArrayPartialEncoder H B h w b → Option (List ℕ)
+encoder_value state encoder = (encoder_state state encoder).value
+
+-- that a reading call of an encoder changes nothing (`state` says what a handle keeps)
+abbrev pub EncoderReads : {H B T L : Type 0} {h : _} {w : _} {b : _} → (H → StorageState) → (H → L) → ArrayPartialEncoder H B h w b → ArrayPartialEncoder H B h w b → Result T CodecError → Type 0
+EncoderReads state lent before after result =
+    OnlyReads (λ encoder. state (encoder_handle encoder)) (λ encoder. lent (encoder_handle encoder)) encoder_form before after result
+
+-- that a call of an encoder makes one writing call at most, and changes nothing else
+abbrev pub EncoderWrites : {H B T L : Type 0} {h : _} {w : _} {b : _} → (H → StorageState) → (H → L) → Bool → ArrayPartialEncoder H B h w b → ArrayPartialEncoder H B h w b → Result T CodecError → Type 0
+EncoderWrites state lent atomic before after result =
+    OnlyWrites (λ encoder. state (encoder_handle encoder)) (λ encoder. lent (encoder_handle encoder)) encoder_form atomic before after result
+
+-- A call that makes one writing call of its handle, accepted or refused: of a refused one the value is as it was where the handle is atomic. The reference that is lent and what the coder is made of are the same.
+pub record WritesOnce {C T L F : Type 0} (state : C → StorageState) (lent : C → L) (form : C → F) (atomic : Bool) (before after : C) (result : Result T CodecError) : Type 0 where
+  pub one_write : apart_from_value (state after) ≡ after_writing result (state before)
+  pub kept_if_atomic : OnErr result (atomic ≡ true → (state after).value ≡ (state before).value)
+  pub same_reference : lent after ≡ lent before
+  pub form_kept : form after ≡ form before
+
+-- that a call of an encoder does so
+abbrev pub EncoderWritesOnce : {H B T L : Type 0} {h : _} {w : _} {b : _} → (H → StorageState) → (H → L) → Bool → ArrayPartialEncoder H B h w b → ArrayPartialEncoder H B h w b → Result T CodecError → Type 0
+EncoderWritesOnce state lent atomic before after result =
+    WritesOnce (λ encoder. state (encoder_handle encoder)) (λ encoder. lent (encoder_handle encoder)) encoder_form atomic before after result
+
+-- the reference that is lent and what the coder is made of are the same
+pub record KeepsCoder {C L F : Type 0} (lent : C → L) (form : C → F) (before after : C) : Type 0 where
+  pub same_reference : lent after ≡ lent before
+  pub form_kept : form after ≡ form before
+
+-- those of an encoder
+abbrev pub EncoderKeeps : {H B L : Type 0} {h : _} {w : _} {b : _} → (H → L) → ArrayPartialEncoder H B h w b → ArrayPartialEncoder H B h w b → Type 0
+EncoderKeeps lent before after = KeepsCoder (λ encoder. lent (encoder_handle encoder)) encoder_form before after
+
+-- that one edit through an encoder is answered as it is of what is stored
+abbrev pub EncoderEdits : {H B : Type 0} {h : _} {w : _} {b : _} → (H → StorageState) → BytesCodecs B → ArrayPartialEncoder H B h w b → ArrayPartialEncoder H B h w b → Edit → Result (Unit {0}) CodecError → Type 0
+EncoderEdits state f before after edit result =
+    Answers (edit_excuse edit) (λ _. encoder_value state after) result (edited_store f (encoder_form before) (encoder_value state before) edit)
+
+-- that a list of edits through an encoder gives this outcome
+abbrev pub EncoderRuns : {H B : Type 0} {h : _} {w : _} {b : _} → (H → StorageState) → Bool → BytesCodecs B → ArrayPartialEncoder H B h w b → ArrayPartialEncoder H B h w b → List Edit → EditOutcome → Type 0
+EncoderRuns state atomic f before after edits outcome =
+    RunsEdits f (encoder_form before) atomic (encoder_state state before) (encoder_state state after) edits outcome
+
+-- what a read of an encoder gives
+abbrev pub EncoderGives : {H B : Type 0} {h : _} {w : _} {b : _} → (H → StorageState) → BytesCodecs B → ArrayPartialEncoder H B h w b → Selection → Result Held CodecError → Type 0
+EncoderGives state f encoder selection result = ReadsChunk f (encoder_form encoder) (encoder_state state encoder) selection result
+
+-- what a write of an encoder leaves
+abbrev pub EncoderLeaves : {H B : Type 0} {h : _} {w : _} {b : _} → (H → StorageState) → BytesCodecs B → (before after : ArrayPartialEncoder H B h w b) → Selection → Held → Result (Unit {0}) CodecError → Type 0
+EncoderLeaves state f before after selection new result =
+    EditsChunk f (encoder_form before) (encoder_state state before) (encoder_state state after) selection new result
+
+-- what a write leaves of a handle that is lent to it
+abbrev pub HandleWrites : {H T L : Type 0} → (H → StorageState) → (H → L) → Bool → (before after : H) → Result T CodecError → Type 0
+HandleWrites state lent atomic before after result = OnlyWrites {F = Unit {0}} state lent (λ _. tt) atomic before after result

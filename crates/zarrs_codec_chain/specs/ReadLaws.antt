@@ -1,0 +1,43 @@
+-- Laws of reads in part through a chain.
+use Rattle.std.specs.Prelude.{◌≡◌, ℕ, ◌<◌, Some, List, length, slice_index, Result, Ok, IfOk}
+use Rattle.std.specs.List.{All}
+use Rattle.zarrs_chunk.specs.Answer.{◌>>=◌, seen}
+use Rattle.zarrs_chunk.specs.Selection.{Selection, places_of}
+use Rattle.zarrs_chunk.specs.declared.codec_error.CodecError.{CodecError}
+use Rattle.zarrs_data_type.specs.Element.{Chunk}
+use Rattle.zarrs_array_bytes.specs.Elements.{select}
+use Rattle.zarrs_codec.specs.BytesToBytesCodec.{BytesCodecs}
+use Rattle.zarrs_chain_laws.specs.BytesStages.{outer_bytes}
+use Rattle.zarrs_chain_laws.specs.Chain.{taken_form}
+use Rattle.zarrs_chain_laws.specs.Laws.{IsChainOfMappings}
+use Rattle.zarrs_chain_laws.specs.vlen.PlainVlen.{PlainForm, plain_form_of}
+use Rattle.zarrs_chain_laws.specs.Stands.{ChainStands}
+use Rattle.zarrs_codec_chain.specs.ChunkRead.{ChunkForm, codec_rests_on, encoded_places, stored_read}
+
+-- Of a stored value that stands for a chunk, a read in part answers the chunk's elements that the selection means, or the selection's refusal.
+abbrev pub StoredSelects : {B : Type 0} → BytesCodecs B → Type 0
+StoredSelects {B} f =
+    (form : ChunkForm B) (value : List ℕ) (chunk : Chunk) (selection : Selection)
+    → IsChainOfMappings form.chain → All (λ size. 0 < size) form.sizes → ChainStands f form.chain form.sizes form.type form.fill value chunk
+    → stored_read f form (Some value) selection ≡ seen (select chunk) (places_of selection form.sizes)
+
+-- the bytes that the codec to bytes reads of a value, or the first refusal: the chain's representation; the bytes codecs, the last of them first
+abbrev pub bytes_below : {B : Type 0} → BytesCodecs B → ChunkForm B → List ℕ → Result (List ℕ) CodecError
+bytes_below f form value = do
+  taken ← taken_form f form.chain form.sizes form.type form.fill
+  outer_bytes f form.chain.outer taken.1 value
+
+-- the numbers of the bytes, of those below the bytes codecs, that the elements which a selection means rest on; or the first refusal
+abbrev pub selection_rests_on : {B : Type 0} → BytesCodecs B → ChunkForm B → List ℕ → Selection → Result (List ℕ) CodecError
+selection_rests_on f form below selection = do
+  places ← encoded_places form.type form.chain.arrays form.sizes selection
+  taken ← taken_form f form.chain form.sizes form.type form.fill
+  codec_rests_on form.chain.codec taken.0 form.type form.fill (Some below) places
+
+-- Over a plain `vlen` a read rests on these bytes alone: two values whose bytes below the bytes codecs are as many, and the same there, are read alike, or refused for the same cause.
+abbrev pub StoredReadsAlike : {B : Type 0} → BytesCodecs B → Type 0
+StoredReadsAlike {B} f =
+    (form : ChunkForm B) (plain : PlainForm) (value other below beside : List ℕ) (selection : Selection)
+    → plain_form_of form.chain.codec ≡ Some plain → bytes_below f form value ≡ Ok below → bytes_below f form other ≡ Ok beside
+    → length below ≡ length beside → IfOk (selection_rests_on f form below selection) (All (λ number. slice_index below number ≡ slice_index beside number))
+    → stored_read f form (Some value) selection ≡ stored_read f form (Some other) selection

@@ -1,0 +1,2 @@
+-- Reading a chunk of `vlen` in part.
+pub mod VlenPartialDecoder

@@ -1,0 +1,8 @@
+pub(crate) mod array_partial_decoder;
+mod cache;
+pub(crate) mod chunk_reader;
+mod codec_read;
+pub(crate) mod encoded_runs;
+pub(crate) mod fill_runs;
+mod make_cache;
+mod slice_handle;

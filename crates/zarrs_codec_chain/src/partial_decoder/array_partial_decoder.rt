@@ -1,0 +1,181 @@
+ghost use Rattle.zarrs_codec_chain.specs.ChunkReader.{IsFilledFrom, reader_form, reader_is_cached, reader_source};
+ghost use Rattle.std.specs.Prelude.{◌≡◌, ◌<◌, ◌&&◌, Ok, IfOk, IsOkAnd, None, option_map, is_some, true, false};
+ghost use Rattle.std.proofs.Props.{props};
+ghost use Rattle.zarrs_chunk.specs.Answer.{Answers, fault, memory, is_fault, GivesBy};
+ghost use Rattle.zarrs_chunk.specs.Indexer.{selection_of};
+ghost use Rattle.zarrs_array_bytes.specs.Blank.{AbsentAreBlank};
+ghost use Rattle.zarrs_chain_laws.specs.Chain.{chain_reads};
+ghost use Rattle.zarrs_codec_chain.specs.ChunkRead.{IsReadPlan, planned_places, ReadsChunk, PlansRead, form_decodes_parts};
+ghost use Rattle.zarrs_codec_chain.specs.ChunkSource.{IsSizeOf, source_made};
+ghost use Rattle.zarrs_codec_chain.specs.ElementCode.{Chunk-set};
+
+use crate::partial_decoder::chunk_reader::ChunkReader;
+use std::alloc::Global;
+use zarrs_array_bytes::ArrayBytes;
+use zarrs_chain_whole::CodecChain;
+use zarrs_chunk::{ChunkShape, CodecError, Indexer};
+use zarrs_codec::{
+    ArrayPartialDecoderTraits, ByteRange, BytesPartialDecoderTraits, BytesToBytesCodecTraits,
+    Refused,
+};
+use zarrs_data_type::{DataType, FillValue};
+
+/// Reads a chunk of a [`CodecChain`] in part, over a storage handle that it owns. The chain is
+/// borrowed.
+///
+/// Without bytes codecs, over `bytes` and `packbits`, a read looks at the bytes of the places that are
+/// asked for and at no others: it checks neither the value's length nor what else stands there. Over a
+/// plain `vlen`, whose index chain is `bytes` with a byte order and whose data chain is `bytes`, both
+/// alone, it looks at the offsets and at the bytes of the elements that are asked for. Where a
+/// codec can't read or decode a part, what it makes is kept in a cache, which is filled once, when
+/// the decoder is made; after that the handle is left alone. One that was an encoder
+/// (`ArrayPartialEncoder::into_decoder`) has no cache: through such a codec each of its reads
+/// decodes the whole value.
+#[derive(Drop)]
+pub struct ArrayPartialDecoder<'a, H: BytesPartialDecoderTraits, B: BytesToBytesCodecTraits> {
+    pub(crate) handle: H,
+    pub(crate) reader: ChunkReader<'a, B>,
+    ghost kept: { IsFilledFrom B.functions reader (H.state handle).value } by { Prim.hlevel (props, Chunk-set) },
+    ghost wanted: { reader_is_cached reader ≡ true → source_made B.functions B.reads_in_part (reader_form reader) (H.state handle).value ≡ Ok (reader_source reader (H.state handle).value) } by { Prim.hlevel (props, Chunk-set) },
+}
+
+impl<'a, H: BytesPartialDecoderTraits, B: BytesToBytesCodecTraits> ArrayPartialDecoder<'a, H, B> {
+    ghost use Rattle.zarrs_codec_chain.specs.PartialDecoder.{decoder_held, form_of, handle_of, is_cached, DecoderLeaves, DecoderReads, KeepsCache};
+
+    /// The type of the elements.
+    pub fn data_type(&self) -> &DataType
+        ensures value { result.now ≡ (form_of self.now).type }
+    {
+        self.reader.data_type()
+    }
+
+    /// The elements that the indexer means, in its order: those of the chunk that the stored value
+    /// stands for, and the fill value at each place where nothing is stored. Without bytes codecs, over
+    /// `bytes` and `packbits`, the answer rests on the places' bytes alone, and over a plain `vlen` on
+    /// the value's length, the offsets and the elements' bytes, whatever else is stored. Absent elements
+    /// stand over blank ones.
+    ///
+    /// Refusals, the first that holds, `OutOfMemory` aside: those of `Indexer::check`; `Storage`,
+    /// but never of a decoder that has a cache, nor where the answer rests on such bytes alone and
+    /// all of these are sure; `BytesCodec` of the last bytes codec, then of the one before, of a
+    /// decoder that has a cache only of those below it; over `bytes` and `packbits`
+    /// `InvalidByteRange` where a place's bytes lie past the end; over a plain `vlen` those of
+    /// `zarrs_plain_vlen::read_runs`, also where the indexer means no place; over `optional` and
+    /// any other `vlen`, without a cache, what `CodecChain::decode` refuses of the value of this
+    /// codec:
+    ///
+    /// - of `vlen` `InvalidBytesLength`, `IndexLength`, `Overflow`, those of the index chain,
+    ///   `InvalidOffsets`, those of the data chain;
+    /// - of `optional` `InvalidBytesLength`, `HeaderOverflow`, `InvalidBytesLength`, those of the
+    ///   mask chain, `MaskValue`, those of the data chain.
+    ///
+    /// With a cache over these codecs, it was refused when the decoder was made.
+    pub fn partial_decode(
+        &mut self,
+        alloc: Global,
+        indexer: &Indexer,
+    ) -> Result<ArrayBytes<'static>, CodecError>
+        ensures reads { DecoderReads H.state B.functions self.old
+            (selection_of indexer.now) result }
+        ensures blank { IfOk result (AbsentAreBlank (form_of self.old).type) }
+        ensures no_fault_if_cached { is_cached self.old ≡ true → is_fault result ≡ false }
+        ensures left { DecoderLeaves H.state H.lent self.old self.new result }
+    {
+        self.reader.read_chunk(alloc, &mut self.handle, indexer)
+    }
+
+    /// Whether a value is stored; of a decoder that has a cache, whether one was when it was made.
+    /// Refusals: `Storage`, but never of a decoder that has a cache, nor where the handle has sure
+    /// bytes.
+    pub fn exists(&mut self) -> Result<bool, CodecError>
+        ensures answer { Answers fault (λ there. there) result
+            (Ok (is_some (H.state (handle_of self.old)).value)) }
+        ensures sure { is_some (H.state (handle_of self.old)).sure ≡ true →
+            is_fault result ≡ false }
+        ensures no_fault_if_cached { is_cached self.old ≡ true → is_fault result ≡ false }
+        ensures left { DecoderLeaves H.state H.lent self.old self.new result }
+    {
+        self.reader.exists(&mut self.handle)
+    }
+
+    /// How many bytes are kept in memory: the cache's alone, or without a cache the handle's.
+    pub fn size_held(&self) -> usize
+        ensures handle { is_cached self.now ≡ false → result ≡ H.held (handle_of self.now) }
+        ensures cache { KeepsCache H.state B.functions B.reads_in_part self.now result }
+        ensures value { result ≡ decoder_held self.now (H.held (handle_of self.now)) }
+    {
+        self.reader.size_held(&self.handle)
+    }
+
+    /// The ranges, in bytes of the stored value, that a read asks for, where it asks for the bytes
+    /// of its places alone: they are these bytes and no others. `None` where bytes codecs, or
+    /// chains inside the codec to bytes, stand in the way. Refusals, the first that holds: those of
+    /// `Indexer::check`; `OutOfMemory`.
+    pub fn planned_ranges(
+        &self,
+        alloc: Global,
+        indexer: &Indexer,
+    ) -> Result<Option<Vec<ByteRange>>, CodecError>
+        ensures plan { PlansRead B.functions (form_of self.now) (selection_of indexer.now) result }
+    {
+        self.reader.planned_ranges(alloc, indexer)
+    }
+
+    /// Whether a part is read without the rest: where all codecs of the chain decode a part, and the
+    /// handle reads ranges by themselves.
+    pub fn supports_partial_decode(&self) -> bool
+        ensures value { result ≡
+            form_decodes_parts B.reads_in_part (form_of self.now) && H.reads_ranges }
+    {
+        self.reader.decodes_parts() && self.handle.supports_partial_decode()
+    }
+
+    /// The handle, as it stands.
+    pub fn into_handle(self) -> H
+        ensures value { result ≡ handle_of self.entry }
+    {
+        let ArrayPartialDecoder { handle, reader: _ } = self;
+        handle
+    }
+}
+
+impl<'a, H: BytesPartialDecoderTraits, B: BytesToBytesCodecTraits> ArrayPartialDecoderTraits
+    for ArrayPartialDecoder<'a, H, B> {
+    ghost use Rattle.zarrs_codec_chain.specs.PartialDecoder.{chunk_reader, decoder_held, form_of, handle_of};
+
+    ghost reader = { λ decoder. chunk_reader B.functions (form_of decoder) (H.state (handle_of decoder)).value ((chain_reads B.reads_in_part (form_of decoder).chain).partial_decode && H.reads_ranges) };
+
+    ghost state = { λ decoder. H.state (handle_of decoder) };
+
+    ghost lent = { λ decoder. H.lent (handle_of decoder) };
+
+    ghost held = { λ decoder. decoder_held decoder (H.held (handle_of decoder)) };
+
+    ghost use Rattle.zarrs_codec_chain.specs.CountLaws.{chunk_counts};
+
+    ghost counts = { λ decoder. chunk_counts B.functions (form_of decoder) (H.state (handle_of decoder)).value ((chain_reads B.reads_in_part (form_of decoder).chain).partial_decode && H.reads_ranges) };
+
+    fn data_type(&self) -> &DataType {
+        ArrayPartialDecoder::data_type(self)
+    }
+
+    fn exists(&mut self) -> Result<bool, CodecError> {
+        ArrayPartialDecoder::exists(self)
+    }
+
+    fn size_held(&self) -> usize {
+        ArrayPartialDecoder::size_held(self)
+    }
+
+    fn partial_decode(
+        &mut self,
+        alloc: Global,
+        indexer: &Indexer,
+    ) -> Result<ArrayBytes<'static>, CodecError> {
+        ArrayPartialDecoder::partial_decode(self, alloc, indexer)
+    }
+
+    fn supports_partial_decode(&self) -> bool {
+        ArrayPartialDecoder::supports_partial_decode(self)
+    }
+}

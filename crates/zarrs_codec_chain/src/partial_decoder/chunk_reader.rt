@@ -1,0 +1,559 @@
+//! Reading a chunk in part through a chain, over a handle that the caller keeps.
+ghost use Rattle.zarrs_data_type.specs.Form.{form_of};
+ghost use Rattle.std.specs.Prelude.{◌≡◌, ◌<◌, ◌≤◌, ◌+◌, ◌^◌, All, Ok, Err, IfOk, IfErr, IfSome, Some, None, length, option_map, is_ok, is_some, true, false};
+ghost use Rattle.zarrs_chunk.specs.Answer.{Answers, AnswersBy, fault, memory, memory_or_fault, is_fault, seen, Gives, GivesBy};
+ghost use Rattle.zarrs_chunk.specs.ChunkShape.{product};
+ghost use Rattle.zarrs_chunk.specs.Indexer.{selection_of};
+ghost use Rattle.zarrs_chunk.specs.Runs.{joined_runs, AreApart};
+ghost use Rattle.zarrs_chunk.specs.Selection.{subset as subset_of, bounds_of};
+ghost use Rattle.zarrs_chunk.specs.Tuples.{is_box_inside};
+ghost use Rattle.zarrs_data_type.specs.Element.{Chunk};
+ghost use Rattle.zarrs_data_type.specs.FillValue.{fill_fits};
+ghost use Rattle.zarrs_array_bytes.specs.Blank.{AbsentAreBlank};
+ghost use Rattle.zarrs_array_bytes.specs.Elements.{elements, select};
+ghost use Rattle.zarrs_array_bytes.specs.Held.{items_of};
+ghost use Rattle.zarrs_array_bytes.specs.Validity.{Holds};
+ghost use Rattle.zarrs_codec.specs.StorageState.{after_reading, are_sure};
+ghost use Rattle.zarrs_array_regions.specs.KeptRegions.{keeps_regions};
+ghost use Rattle.zarrs_chain_laws.specs.Chain.{chain_reads, codec_reads as codec_reads_of, taken_form as taken_form_of};
+ghost use Rattle.zarrs_chain_whole.specs.ChainView.{plain_chain};
+ghost use Rattle.zarrs_codec_chain.specs.ChunkRead.{asks_in_part, codec_rests_on, encoded_places, IsReadPlan, planned_places, reads_places, WhereSure, ReadsChunk, HasForm, form_places, RefusedAtSelection, PlansRead};
+ghost use Rattle.zarrs_codec_chain.specs.ChunkSource.{bytes_above, cache_fits, cache_stage as cache_stage_of, chunk_below, has_cache, held_by, is_kept, is_there, opened_chunk, source_made, source_places, source_read, wants_cache};
+ghost use Rattle.zarrs_codec_chain.specs.CacheBlank.{CacheIsBlank, CacheIsBlank-prop};
+ghost use Rattle.zarrs_codec_chain.specs.RefusedFirst.{RefusedFirst};
+ghost use Rattle.zarrs_chain_laws.specs.Laws.{IsChainOfMappings};
+ghost use Rattle.zarrs_chain_laws.specs.Representation.{codec_representation};
+
+use crate::partial_decoder::cache::{Cache, CacheStage};
+use crate::partial_decoder::codec_read::{
+    planned_runs, plans_reads, read_runs, read_runs_of_bytes,
+};
+use crate::partial_decoder::encoded_runs::encoded_runs;
+use crate::partial_decoder::fill_runs::fill_runs;
+use crate::partial_decoder::make_cache::{
+    cache_stage, chunk_below as chunk_of_value, codec_reads, make_cache,
+};
+use std::alloc::Global;
+use std::borrow::CowSlice;
+use zarrs_array_bytes::{ArrayBytes, ArrayBytesRaw};
+use zarrs_array_regions::{decoded_window, kept_region, last_window};
+use zarrs_chain_whole::CodecChain;
+use zarrs_chain_whole::stages::{chain_is_sound, decode_bytes, taken_form};
+use zarrs_chunk::{ArraySubset, ChunkShape, CodecError, Indexer};
+use zarrs_codec::{
+    ByteRange, BytesPartialDecoderTraits, BytesRepresentation, BytesToBytesCodecTraits, CodecTraits,
+};
+use zarrs_data_type::{DataType, FillValue};
+
+/// What reads a chunk in part, but for the handle: the chain, the chunk's form, and what a cache keeps
+/// of the stored value.
+#[derive(Drop)]
+pub(crate) struct ChunkReader<'a, B: BytesToBytesCodecTraits> {
+    pub(crate) chain: &'a CodecChain<B>,
+    cache: Cache,
+    pub(crate) shape: ChunkShape,
+    pub(crate) encoded: ChunkShape,
+    pub(crate) data_type: DataType,
+    pub(crate) fill_value: FillValue,
+    representation: BytesRepresentation,
+    ghost taken: { taken_form_of B.functions (plain_chain chain.now) shape data_type fill_value ≡ Ok (encoded, representation) },
+    ghost measured: { is_ok (codec_representation B.functions (plain_chain chain.now).codec encoded data_type fill_value) ≡ true },
+    ghost filling: { fill_fits data_type fill_value ≡ true },
+    ghost counted: { product encoded < 2 ^ 64 },
+    ghost counted_whole: { product shape < 2 ^ 64 },
+    ghost fits: { cache_fits (codec_reads_of (plain_chain chain.now).codec) data_type (product encoded) (length (plain_chain chain.now).outer) cache ≡ true },
+    ghost blank: { CacheIsBlank data_type cache } by { CacheIsBlank-prop data_type cache },
+}
+
+impl<'a, B: BytesToBytesCodecTraits> ChunkReader<'a, B> {
+    ghost use Rattle.zarrs_codec_chain.specs.ChunkReader.{IsFilledFrom, reader_form, reader_is_cached, reader_source, MeasuresReader, MakesReader, reader_reads_parts, stored_source, kept_source, GivesSource, ReadsSource, GivesOpened, SureSource, is_reader_cache, ReadsSelection, IsKeptRegion};
+
+    /// A reader of such a chunk without a cache. Refusals: those of the chain's representation.
+    pub(crate) fn uncached(
+        alloc: Global,
+        chain: &'a CodecChain<B>,
+        shape: &ChunkShape,
+        data_type: &DataType,
+        fill_value: &FillValue,
+    ) -> Result<ChunkReader<'a, B>, CodecError>
+        ensures answer { MeasuresReader B.functions (plain_chain chain.now)
+            (form_of shape.now data_type.now fill_value.now) result }
+        ensures form { HasForm (λ reader. reader_form reader) (plain_chain chain.now)
+            (form_of shape.now data_type.now fill_value.now) result }
+        ensures uncached { IfOk result (λ reader. reader_is_cached reader ≡ false) }
+    {
+        let shape = shape.clone()?;
+        let data_type = data_type.clone()?;
+        let fill_value = fill_value.clone()?;
+        let (encoded, representation) = taken_form(alloc, chain, &shape, &data_type, &fill_value)?;
+        Ok(ChunkReader {
+            chain,
+            cache: Cache::Handle,
+            shape,
+            encoded,
+            data_type,
+            fill_value,
+            representation,
+        })
+    }
+
+    /// A reader of such a chunk, whose cache is filled from the handle. Refusals, the first that holds,
+    /// `OutOfMemory` aside: those of the chain's representation, before the handle is asked; with a
+    /// cache, `Storage` and those of what decodes the value up to the cache.
+    pub(crate) fn new<H: BytesPartialDecoderTraits>(
+        alloc: Global,
+        chain: &'a CodecChain<B>,
+        handle: &mut H,
+        shape: &ChunkShape,
+        data_type: &DataType,
+        fill_value: &FillValue,
+    ) -> Result<ChunkReader<'a, B>, CodecError>
+        ensures answer { MakesReader B.functions B.reads_in_part (plain_chain chain.now)
+            (form_of shape.now data_type.now fill_value.now) (H.state handle.old).value result }
+        ensures form { HasForm (λ reader. reader_form reader) (plain_chain chain.now)
+            (form_of shape.now data_type.now fill_value.now) result }
+        ensures cached { IfOk result
+            (λ reader. is_kept reader.cache ≡ wants_cache B.reads_in_part (plain_chain chain.now)) }
+        ensures no_fault_if_uncached { cache_stage_of B.reads_in_part (plain_chain chain.now) ≡
+            CacheStage.Nowhere → is_fault result ≡ false }
+        ensures measured_first { RefusedFirst (taken_form_of B.functions (plain_chain chain.now)
+            shape.now data_type.now fill_value.now) result }
+        ensures cache_filled { IfOk result
+            (λ reader. IsFilledFrom B.functions reader (H.state handle.old).value) }
+        ensures left { H.state handle.new ≡ after_reading result (H.state handle.old) }
+        ensures same_reference { H.lent handle.new ≡ H.lent handle.old }
+    {
+        let stage = cache_stage(chain);
+        let shape = shape.clone()?;
+        let data_type = data_type.clone()?;
+        let fill_value = fill_value.clone()?;
+        let (encoded, representation) = taken_form(alloc, chain, &shape, &data_type, &fill_value)?;
+        let cache = make_cache(
+            alloc,
+            chain,
+            handle,
+            stage,
+            &encoded,
+            &data_type,
+            &fill_value,
+            representation,
+        )?;
+        Ok(ChunkReader {
+            chain,
+            cache,
+            shape,
+            encoded,
+            data_type,
+            fill_value,
+            representation,
+        })
+    }
+
+    /// The type of the elements.
+    pub(crate) fn data_type(&self) -> &DataType
+        ensures value { result.now ≡ (reader_form self.now).type }
+    {
+        &self.data_type
+    }
+
+    /// Whether all codecs of the chain decode a part.
+    pub(crate) fn decodes_parts(&self) -> bool
+        ensures value { result ≡
+            (chain_reads B.reads_in_part (reader_form self.now).chain).partial_decode }
+    {
+        self.chain.partial_decoder_capability().partial_decode
+    }
+
+    /// What the chain and the shape are made of holds.
+    pub(crate) fn is_sound(&self)
+        ensures mappings { IsChainOfMappings (reader_form self.now).chain }
+        ensures positive { All (λ size. 0 < size) (reader_form self.now).sizes }
+    {
+        chain_is_sound(self.chain);
+        self.shape.as_slice();
+    }
+
+    /// Where the places that an indexer means go in the chunk that the codec to bytes gets, as runs,
+    /// none of which starts where the one before it ends.
+    pub(crate) fn runs(
+        &self,
+        alloc: Global,
+        indexer: &Indexer,
+    ) -> Result<Vec<(u64, u64)>, CodecError>
+        ensures answer { Gives (λ runs. joined_runs runs.items) result
+            (form_places (reader_form self.now) (selection_of indexer.now)) }
+        ensures filled { IfOk result (λ runs. All (λ run. 0 < run.1) runs.items) }
+        ensures inside { IfOk result
+            (λ runs. All (λ run. run.0 + run.1 ≤ product self.now.encoded) runs.items) }
+        ensures count { IfOk result (λ runs. length (joined_runs runs.items) < 2 ^ 64) }
+        ensures apart { IfOk result (λ runs. AreApart runs.items) }
+    {
+        self.is_sound();
+        encoded_runs(
+            alloc,
+            self.chain.array_to_array_codecs(),
+            &self.shape,
+            indexer,
+        )
+    }
+
+    /// The elements at the places of these runs, by the bytes above so many of the first bytes
+    /// codecs, or by none. Refusals, the first that holds, `OutOfMemory` aside: `BytesCodec` of the
+    /// last of these codecs, then of the one before; of the codec to bytes those that
+    /// `partial_decode` of `ArrayPartialDecoder` names.
+    fn read_above(
+        &self,
+        alloc: Global,
+        value: Option<ArrayBytesRaw<'_>>,
+        below: usize,
+        runs: &[(u64, u64)],
+    ) -> Result<ArrayBytes<'static>, CodecError>
+        requires in_part { reader_reads_parts self.now ≡ true }
+        requires known { below ≤ length (plain_chain self.now.chain.now).outer }
+        requires filled { All (λ run. 0 < run.1) runs.now }
+        requires inside { All (λ run. run.0 + run.1 ≤ product self.now.encoded) runs.now }
+        requires count { length (joined_runs runs.now) < 2 ^ 64 }
+        ensures answer { GivesSource B.functions self.now
+            (bytes_above below (option_map (λ bytes. items_of bytes) value.entry)) runs.now result }
+        ensures blank { IfOk result (AbsentAreBlank self.now.data_type) }
+    {
+        match value {
+            None => read_runs_of_bytes::<B>(
+                alloc,
+                self.chain.array_to_bytes_codec(),
+                None,
+                &self.encoded,
+                &self.data_type,
+                &self.fill_value,
+                runs,
+            ),
+            Some(value) => {
+                let codecs = &self.chain.bytes_to_bytes_codecs()[..below];
+                let bytes = decode_bytes(alloc, codecs, &self.representation, value)?;
+                read_runs_of_bytes::<B>(
+                    alloc,
+                    self.chain.array_to_bytes_codec(),
+                    Some(bytes.as_slice()),
+                    &self.encoded,
+                    &self.data_type,
+                    &self.fill_value,
+                    runs,
+                )
+            }
+        }
+    }
+
+    /// The same, by what the handle keeps. Without bytes codecs the handle is asked for what the places
+    /// rest on alone, and else for the whole value.
+    fn read_stored<H: BytesPartialDecoderTraits>(
+        &self,
+        alloc: Global,
+        handle: &mut H,
+        runs: &[(u64, u64)],
+    ) -> Result<ArrayBytes<'static>, CodecError>
+        requires in_part { reader_reads_parts self.now ≡ true }
+        requires filled { All (λ run. 0 < run.1) runs.now }
+        requires inside { All (λ run. run.0 + run.1 ≤ product self.now.encoded) runs.now }
+        requires count { length (joined_runs runs.now) < 2 ^ 64 }
+        ensures answer { ReadsSource B.functions self.now
+            (stored_source self.now (H.state handle.old).value) runs.now result }
+        ensures blank { IfOk result (AbsentAreBlank self.now.data_type) }
+        ensures sure { SureSource self.now (H.state handle.old) runs.now result }
+        ensures left { H.state handle.new ≡ after_reading result (H.state handle.old) }
+        ensures same_reference { H.lent handle.new ≡ H.lent handle.old }
+    {
+        if self.chain.bytes_to_bytes_codecs().is_empty() {
+            return read_runs::<H, B>(
+                alloc,
+                self.chain.array_to_bytes_codec(),
+                handle,
+                &self.encoded,
+                &self.data_type,
+                &self.fill_value,
+                runs,
+            );
+        }
+        let value = match handle.decode(alloc)? {
+            None => None,
+            Some(value) => Some(CowSlice::Owned(value)),
+        };
+        let below = self.chain.bytes_to_bytes_codecs().len();
+        self.read_above(alloc, value, below, runs)
+    }
+
+    /// The same, where the codec to bytes reads no part: by the whole chunk.
+    fn read_whole<H: BytesPartialDecoderTraits>(
+        &self,
+        alloc: Global,
+        handle: &mut H,
+        runs: &[(u64, u64)],
+    ) -> Result<ArrayBytes<'static>, CodecError>
+        requires whole { reader_reads_parts self.now ≡ false }
+        requires inside { All (λ run. run.0 + run.1 ≤ product self.now.encoded) runs.now }
+        requires count { length (joined_runs runs.now) < 2 ^ 64 }
+        ensures answer { ReadsSource B.functions self.now
+            (stored_source self.now (H.state handle.old).value) runs.now result }
+        ensures blank { IfOk result (AbsentAreBlank self.now.data_type) }
+        ensures left { H.state handle.new ≡ after_reading result (H.state handle.old) }
+        ensures same_reference { H.lent handle.new ≡ H.lent handle.old }
+    {
+        match handle.decode(alloc)? {
+            None => fill_runs(alloc, &self.data_type, &self.fill_value, runs),
+            Some(value) => self.runs_of_value(alloc, value, runs),
+        }
+    }
+
+    /// The elements at the places of these runs of the chunk that the codec to bytes reads of a value.
+    fn runs_of_value(
+        &self,
+        alloc: Global,
+        value: Vec<u8>,
+        runs: &[(u64, u64)],
+    ) -> Result<ArrayBytes<'static>, CodecError>
+        requires inside { All (λ run. run.0 + run.1 ≤ product self.now.encoded) runs.now }
+        ensures answer { GivesOpened B.functions self.now value.items runs.now result }
+        ensures blank { IfOk result (AbsentAreBlank self.now.data_type) }
+    {
+        let held = chunk_of_value(
+            alloc,
+            self.chain,
+            &self.encoded,
+            &self.data_type,
+            &self.fill_value,
+            &self.representation,
+            value,
+        )?;
+        let count = self.encoded.num_elements()?;
+        held.extract_runs(alloc, runs, count, &self.data_type)
+    }
+
+    /// The elements at the places of these runs, of a chunk that is kept, or of none.
+    fn read_kept(
+        &self,
+        alloc: Global,
+        chunk: &Option<ArrayBytes<'static>>,
+        runs: &[(u64, u64)],
+    ) -> Result<ArrayBytes<'static>, CodecError>
+        requires fits { is_reader_cache self.now (Cache.Chunk chunk.now) ≡ true }
+        requires inside { All (λ run. run.0 + run.1 ≤ product self.now.encoded) runs.now }
+        requires count { length (joined_runs runs.now) < 2 ^ 64 }
+        ensures answer { GivesSource B.functions self.now
+            (kept_source self.now chunk.now) runs.now result }
+        ensures blank { CacheIsBlank self.now.data_type (Cache.Chunk chunk.now) →
+            IfOk result (AbsentAreBlank self.now.data_type) }
+    {
+        match chunk {
+            None => fill_runs(alloc, &self.data_type, &self.fill_value, runs),
+            Some(held) => {
+                let count = self.encoded.num_elements()?;
+                held.extract_runs(alloc, runs, count, &self.data_type)
+            }
+        }
+    }
+
+    /// The elements at the places of these runs of the chunk that the codec to bytes gets.
+    fn read_runs<H: BytesPartialDecoderTraits>(
+        &self,
+        alloc: Global,
+        handle: &mut H,
+        runs: &[(u64, u64)],
+    ) -> Result<ArrayBytes<'static>, CodecError>
+        requires filled { All (λ run. 0 < run.1) runs.now }
+        requires inside { All (λ run. run.0 + run.1 ≤ product self.now.encoded) runs.now }
+        requires count { length (joined_runs runs.now) < 2 ^ 64 }
+        ensures answer { ReadsSource B.functions self.now
+            (reader_source self.now (H.state handle.old).value) runs.now result }
+        ensures blank { IfOk result (AbsentAreBlank self.now.data_type) }
+        ensures sure { SureSource self.now (H.state handle.old) runs.now result }
+        ensures left { H.state handle.new ≡ after_reading result (H.state handle.old) }
+        ensures same_reference { H.lent handle.new ≡ H.lent handle.old }
+        ensures no_fault_if_cached { is_kept self.now.cache ≡ true → is_fault result ≡ false }
+    {
+        match &self.cache {
+            Cache::Handle => {
+                if codec_reads(self.chain).partial_decode {
+                    self.read_stored(alloc, handle, runs)
+                } else {
+                    self.read_whole(alloc, handle, runs)
+                }
+            }
+            Cache::Bytes(below, value) => self.read_above(alloc, lent_bytes(value), *below, runs),
+            Cache::Chunk(chunk) => self.read_kept(alloc, chunk, runs),
+        }
+    }
+
+    /// The box that the indexer means, where it goes through the array codecs as a box.
+    pub(crate) fn kept_region<'i>(&self, indexer: &'i Indexer) -> Option<&'i ArraySubset>
+        ensures region_kept { IfSome result
+            (λ region. IsKeptRegion self.now (selection_of indexer.now) region.now) }
+    {
+        kept_region(self.chain.array_to_array_codecs(), &self.shape, indexer)
+    }
+
+    /// The elements of a region that goes through the array codecs as one, in row-major order:
+    /// those of its window in the encoded chunk are read, by the window's own runs, and decoded.
+    /// Refusals, the first that holds, `OutOfMemory` aside: `Storage`; those of the bytes codecs
+    /// that a cache leaves, and those that `partial_decode` of `ArrayPartialDecoder` names of the
+    /// codec to bytes.
+    fn read_region<H: BytesPartialDecoderTraits>(
+        &self,
+        alloc: Global,
+        handle: &mut H,
+        region: &ArraySubset,
+    ) -> Result<ArrayBytes<'static>, CodecError>
+        requires inside { is_box_inside self.now.shape region.now.starts region.now.lengths ≡ true }
+        requires filled { 0 < product region.now.lengths }
+        requires region_kept { keeps_regions (plain_chain self.now.chain.now).arrays ≡ true }
+        ensures answer { ReadsSelection B.functions self.now
+            (H.state handle.old).value (subset_of region.now) result }
+        ensures blank { IfOk result (AbsentAreBlank self.now.data_type) }
+        ensures sure { WhereSure B.functions (reader_form self.now) (H.state handle.old)
+            (subset_of region.now) (is_fault result ≡ false) }
+        ensures left { H.state handle.new ≡ after_reading result (H.state handle.old) }
+        ensures same_reference { H.lent handle.new ≡ H.lent handle.old }
+        ensures no_fault_if_cached { is_kept self.now.cache ≡ true → is_fault result ≡ false }
+    {
+        self.is_sound();
+        let codecs = self.chain.array_to_array_codecs();
+        let window = last_window(alloc, codecs, &self.shape, region)?;
+        let runs = window.into_runs(alloc)?;
+        let held = self.read_runs(alloc, handle, &runs)?;
+        decoded_window(
+            alloc,
+            codecs,
+            &self.shape,
+            region,
+            held,
+            &self.data_type,
+            &self.fill_value,
+        )
+    }
+
+    /// The elements that the indexer means, in its order. Refusals, the first that holds,
+    /// `OutOfMemory` aside: those of `Indexer::check`; `Storage`; those of the bytes codecs that a
+    /// cache leaves, and those that `partial_decode` of `ArrayPartialDecoder` names of the codec to
+    /// bytes.
+    pub(crate) fn read<H: BytesPartialDecoderTraits>(
+        &self,
+        alloc: Global,
+        handle: &mut H,
+        indexer: &Indexer,
+    ) -> Result<ArrayBytes<'static>, CodecError>
+        ensures answer { ReadsSelection B.functions self.now
+            (H.state handle.old).value (selection_of indexer.now) result }
+        ensures blank { IfOk result (AbsentAreBlank self.now.data_type) }
+        ensures indexer_first { RefusedAtSelection self.now.shape self.now.data_type
+            (selection_of indexer.now) result }
+        ensures sure { WhereSure B.functions (reader_form self.now) (H.state handle.old)
+            (selection_of indexer.now) (is_fault result ≡ false) }
+        ensures left { H.state handle.new ≡ after_reading result (H.state handle.old) }
+        ensures same_reference { H.lent handle.new ≡ H.lent handle.old }
+        ensures no_fault_if_cached { is_kept self.now.cache ≡ true → is_fault result ≡ false }
+    {
+        if let Some(region) = self.kept_region(indexer) {
+            return self.read_region(alloc, handle, region);
+        }
+        let runs = self.runs(alloc, indexer)?;
+        self.read_runs(alloc, handle, &runs)
+    }
+
+    /// The elements that the indexer means, in its order, of the chunk whose value the handle keeps,
+    /// where the cache, if there is one, was filled from that value. Refusals: those of
+    /// `ArrayPartialDecoder::partial_decode`.
+    pub(crate) fn read_chunk<H: BytesPartialDecoderTraits>(
+        &self,
+        alloc: Global,
+        handle: &mut H,
+        indexer: &Indexer,
+    ) -> Result<ArrayBytes<'static>, CodecError>
+        requires cache_filled { IsFilledFrom B.functions self.now (H.state handle.old).value }
+        ensures reads { ReadsChunk B.functions (reader_form self.now) (H.state handle.old)
+            (selection_of indexer.now) result }
+        ensures blank { IfOk result (AbsentAreBlank self.now.data_type) }
+        ensures no_fault_if_cached { reader_is_cached self.now ≡ true → is_fault result ≡ false }
+        ensures left { H.state handle.new ≡ after_reading result (H.state handle.old) }
+        ensures same_reference { H.lent handle.new ≡ H.lent handle.old }
+    {
+        self.is_sound();
+        self.read(alloc, handle, indexer)
+    }
+
+    /// Whether something is stored, or was when the cache was filled. Refusals: `Storage`.
+    pub(crate) fn exists<H: BytesPartialDecoderTraits>(
+        &self,
+        handle: &mut H,
+    ) -> Result<bool, CodecError>
+        ensures answer { Answers fault (λ there. there) result
+            (Ok (is_there (reader_source self.now (H.state handle.old).value))) }
+        ensures sure { is_some (H.state handle.old).sure ≡ true → is_fault result ≡ false }
+        ensures left { H.state handle.new ≡ after_reading result (H.state handle.old) }
+        ensures same_reference { H.lent handle.new ≡ H.lent handle.old }
+        ensures no_fault_if_cached { is_kept self.now.cache ≡ true → is_fault result ≡ false }
+    {
+        match &self.cache {
+            Cache::Handle => handle.exists(),
+            Cache::Bytes(_, value) => Ok(value.is_some()),
+            Cache::Chunk(chunk) => Ok(chunk.is_some()),
+        }
+    }
+
+    /// How many bytes are kept in memory: the cache's alone, or else the handle's.
+    pub(crate) fn size_held<H: BytesPartialDecoderTraits>(&self, handle: &H) -> usize
+        ensures value { result ≡ held_by (H.held handle.now) self.now.cache }
+    {
+        match &self.cache {
+            Cache::Handle => handle.size_held(),
+            Cache::Bytes(_, None) => 0,
+            Cache::Bytes(_, Some(value)) => value.len(),
+            Cache::Chunk(None) => 0,
+            Cache::Chunk(Some(chunk)) => chunk.size(),
+        }
+    }
+
+    /// The ranges of bytes that a read asks for, where it asks for the bytes of its places alone.
+    /// Refusals: those of `Indexer::check`; `OutOfMemory`.
+    pub(crate) fn planned_ranges(
+        &self,
+        alloc: Global,
+        indexer: &Indexer,
+    ) -> Result<Option<Vec<ByteRange>>, CodecError>
+        ensures plan { PlansRead B.functions (reader_form self.now)
+            (selection_of indexer.now) result }
+    {
+        let runs = self.runs(alloc, indexer)?;
+        if !asks_for_places(self.chain) {
+            return Ok(None);
+        }
+        let ranges = planned_runs::<B>(
+            alloc,
+            self.chain.array_to_bytes_codec(),
+            &self.encoded,
+            &self.data_type,
+            &self.fill_value,
+            &runs,
+        )?;
+        Ok(Some(ranges))
+    }
+}
+
+/// Whether a read asks for the bytes of its places alone.
+fn asks_for_places<B: BytesToBytesCodecTraits>(chain: &CodecChain<B>) -> bool
+    ensures value { result ≡
+        reads_places (plain_chain chain.now).outer (plain_chain chain.now).codec }
+{
+    match chain.bytes_to_bytes_codecs() {
+        [] => plans_reads(chain.array_to_bytes_codec()),
+        _ => false,
+    }
+}
+
+/// The bytes that are kept, lent.
+fn lent_bytes(value: &Option<Vec<u8>>) -> Option<ArrayBytesRaw<'_>>
+    ensures value { option_map (λ bytes. (items_of bytes)) result ≡
+        option_map (λ items. items.items) value.now }
+{
+    match value {
+        None => None,
+        Some(value) => Some(CowSlice::Borrowed(value.as_slice())),
+    }
+}

@@ -1,0 +1,208 @@
+//! What a partial decoder keeps of the stored value when it is made.
+ghost use Rattle.zarrs_data_type.specs.Form.{form_of};
+ghost use Rattle.zarrs_codec_chain.specs.ChunkRead.{TakenBy};
+ghost use Rattle.std.specs.Prelude.{◌≡◌, ◌≤◌, ℕ, IfOk, Ok, Some, is_ok, length, map, take, drop, true, false};
+ghost use Rattle.zarrs_chunk.specs.Answer.{Answers, memory_or_fault, is_fault, Gives, GivesBy};
+ghost use Rattle.zarrs_chunk.specs.ChunkShape.{product};
+ghost use Rattle.zarrs_array_bytes.specs.Held.{items_of};
+ghost use Rattle.zarrs_array_bytes.specs.Blank.{AbsentAreBlank};
+ghost use Rattle.zarrs_array_bytes.specs.Validity.{Holds};
+ghost use Rattle.zarrs_codec.specs.StorageState.{after_reading};
+ghost use Rattle.zarrs_chain_laws.specs.BytesStages.{outer_bytes, outer_representation as outer_representation_of};
+ghost use Rattle.zarrs_chain_laws.specs.Chain.{codec_reads as codec_reads_of};
+ghost use Rattle.zarrs_chain_laws.specs.Representation.{codec_representation};
+ghost use Rattle.zarrs_chain_whole.specs.ChainView.{plain_chain};
+ghost use Rattle.zarrs_codec_chain.specs.ChunkSource.{bytes_left, cache_fits, cache_stage as cache_stage_of, has_cache, is_kept, kept_stage, opened_chunk, source_at, source_of, stage_by, stage_fits, is_stage_of, upper_bytes, OpensChunk, FillsCache, is_cache_of};
+ghost use Rattle.zarrs_codec_chain.specs.CacheBlank.{CacheIsBlank};
+
+use crate::partial_decoder::cache::{Cache, CacheStage};
+use std::alloc::Global;
+use std::borrow::CowSlice;
+use zarrs_array_bytes::{ArrayBytes, ArrayBytesRaw};
+use zarrs_chain_whole::CodecChain;
+use zarrs_chain_whole::stages::{codec_decode, decode_bytes, outer_representation};
+use zarrs_chunk::{ChunkShape, CodecError};
+use zarrs_codec::{
+    BytesPartialDecoderTraits, BytesRepresentation, BytesToBytesCodecTraits, CodecTraits,
+    PartialDecoderCapability,
+};
+use zarrs_data_type::{DataType, FillValue};
+
+/// How many of the first bytes codecs a cache leaves undecoded, where one of the codecs wants a cache.
+fn codecs_left<B: BytesToBytesCodecTraits>(codecs: &[B]) -> Option<usize>
+    ensures value { result ≡ bytes_left (map B.reads_in_part codecs.now) }
+    ensures known { (left : ℕ) → result ≡ Some left → left ≤ length codecs.now }
+{
+    match codecs {
+        [] => None,
+        [first, rest @ ..] => {
+            let reads = first.partial_decoder_capability();
+            if !reads.partial_decode {
+                Some(0)
+            } else if !reads.partial_read {
+                Some(1)
+            } else {
+                match codecs_left(rest) {
+                    None => None,
+                    Some(left) => Some(left + 1),
+                }
+            }
+        }
+    }
+}
+
+/// Where a cache stands, by what the codec to bytes reads in part and by how many bytes codecs it
+/// leaves.
+fn stage_of(codec: PartialDecoderCapability, left: Option<usize>) -> CacheStage
+    ensures { result ≡ stage_by codec left }
+{
+    if !codec.partial_decode {
+        return CacheStage::Chunk;
+    }
+    if !codec.partial_read {
+        return CacheStage::Bytes(0);
+    }
+    match left {
+        None => CacheStage::Nowhere,
+        Some(left) => CacheStage::Bytes(left),
+    }
+}
+
+/// What the codec to bytes reads in part.
+pub(crate) fn codec_reads<B: BytesToBytesCodecTraits>(
+    chain: &CodecChain<B>,
+) -> PartialDecoderCapability
+    ensures value { result ≡ codec_reads_of (plain_chain chain.now).codec }
+{
+    chain.array_to_bytes_codec().partial_decoder_capability()
+}
+
+/// Where the cache of a chain stands.
+pub(crate) fn cache_stage<B: BytesToBytesCodecTraits>(chain: &CodecChain<B>) -> CacheStage
+    ensures value { result ≡ cache_stage_of B.reads_in_part (plain_chain chain.now) }
+    ensures fits { is_stage_of (plain_chain chain.now) result ≡ true }
+{
+    let codec = codec_reads(chain);
+    stage_of(codec, codecs_left(chain.bytes_to_bytes_codecs()))
+}
+
+/// The bytes as a vector.
+fn into_vec(alloc: Global, bytes: ArrayBytesRaw<'_>) -> Result<Vec<u8>, CodecError>
+    ensures answer { Gives (λ items. items.items) result (Ok (items_of bytes.entry)) }
+{
+    match bytes {
+        CowSlice::Borrowed(bytes) => Ok(Vec::from_slice(alloc, bytes)?),
+        CowSlice::Owned(bytes) => Ok(bytes),
+    }
+}
+
+/// The bytes above so many of the first codecs, that a value stands for. Refusals: `BytesCodec` of
+/// the last codec, then of the one before.
+fn bytes_above<B: BytesToBytesCodecTraits>(
+    alloc: Global,
+    codecs: &[B],
+    below: usize,
+    representation: BytesRepresentation,
+    value: Vec<u8>,
+) -> Result<Vec<u8>, CodecError>
+    requires known { below ≤ length codecs.now }
+    ensures answer { Gives (λ items. items.items) result
+        (upper_bytes B.functions codecs.now below representation value.items) }
+{
+    let above = outer_representation(&codecs[..below], representation);
+    let bytes = decode_bytes(alloc, &codecs[below..], &above, CowSlice::Owned(value))?;
+    into_vec(alloc, bytes)
+}
+
+/// The chunk that the codec to bytes reads. Refusals: `BytesCodec` of the last bytes codec, then of the
+/// one before; those of the codec to bytes.
+pub(crate) fn chunk_below<B: BytesToBytesCodecTraits>(
+    alloc: Global,
+    chain: &CodecChain<B>,
+    encoded: &ChunkShape,
+    data_type: &DataType,
+    fill_value: &FillValue,
+    representation: &BytesRepresentation,
+    value: Vec<u8>,
+) -> Result<ArrayBytes<'static>, CodecError>
+    requires taken { TakenBy B.functions (plain_chain chain.now).codec
+        (form_of encoded.now data_type.now fill_value.now) }
+    ensures answer { OpensChunk B.functions (plain_chain chain.now)
+        (form_of encoded.now data_type.now fill_value.now) representation.now value.items result }
+    ensures blank { IfOk result (AbsentAreBlank data_type.now) }
+{
+    let bytes = decode_bytes(
+        alloc,
+        chain.bytes_to_bytes_codecs(),
+        representation,
+        CowSlice::Owned(value),
+    )?;
+    codec_decode(
+        alloc,
+        chain.array_to_bytes_codec(),
+        bytes,
+        encoded,
+        data_type,
+        fill_value,
+    )
+}
+
+/// What is kept of the stored value where the cache stands here. The handle is asked once, and not at
+/// all without a cache. Refusals, the first that holds, `OutOfMemory` aside: `Storage`; those of what
+/// decodes the value up to the cache.
+pub(crate) fn make_cache<H: BytesPartialDecoderTraits, B: BytesToBytesCodecTraits>(
+    alloc: Global,
+    chain: &CodecChain<B>,
+    handle: &mut H,
+    stage: CacheStage,
+    encoded: &ChunkShape,
+    data_type: &DataType,
+    fill_value: &FillValue,
+    representation: BytesRepresentation,
+) -> Result<Cache, CodecError>
+    requires taken { TakenBy B.functions (plain_chain chain.now).codec
+        (form_of encoded.now data_type.now fill_value.now) }
+    requires stage { is_stage_of (plain_chain chain.now) stage ≡ true }
+    ensures answer { FillsCache B.functions (plain_chain chain.now) representation stage
+        (form_of encoded.now data_type.now fill_value.now) (H.state handle.old).value result }
+    ensures fits { IfOk result
+        (λ cache. is_cache_of (plain_chain chain.now) encoded.now data_type.now cache ≡ true) }
+    ensures blank { IfOk result (CacheIsBlank data_type.now) }
+    ensures stage { IfOk result (λ cache. kept_stage cache ≡ stage) }
+    ensures left { H.state handle.new ≡ after_reading result (H.state handle.old) }
+    ensures same_reference { H.lent handle.new ≡ H.lent handle.old }
+    ensures cached { IfOk result (λ cache. is_kept cache ≡ has_cache stage) }
+    ensures no_fault_if_uncached { stage ≡ CacheStage.Nowhere → is_fault result ≡ false }
+{
+    match stage {
+        CacheStage::Nowhere => Ok(Cache::Handle),
+        CacheStage::Bytes(below) => match handle.decode(alloc)? {
+            None => Ok(Cache::Bytes(below, None)),
+            Some(value) => {
+                let bytes = bytes_above(
+                    alloc,
+                    chain.bytes_to_bytes_codecs(),
+                    below,
+                    representation,
+                    value,
+                )?;
+                Ok(Cache::Bytes(below, Some(bytes)))
+            }
+        },
+        CacheStage::Chunk => match handle.decode(alloc)? {
+            None => Ok(Cache::Chunk(None)),
+            Some(value) => {
+                let held = chunk_below(
+                    alloc,
+                    chain,
+                    encoded,
+                    data_type,
+                    fill_value,
+                    &representation,
+                    value,
+                )?;
+                Ok(Cache::Chunk(Some(held)))
+            }
+        },
+    }
+}

@@ -1,0 +1,288 @@
+ghost use Rattle.zarrs_codec_chain.specs.ChunkReader.{reader_is_cached};
+ghost use Rattle.std.specs.Prelude.{◌≡◌, ◌<◌, ◌&&◌, All, Ok, IfOk, None, option_map, is_some, true, false};
+ghost use Rattle.zarrs_chunk.specs.Answer.{Answers, fault, memory, is_fault, GivesBy};
+ghost use Rattle.zarrs_chunk.specs.Indexer.{selection_of};
+ghost use Rattle.zarrs_array_bytes.specs.Blank.{AbsentAreBlank};
+ghost use Rattle.zarrs_codec.specs.BytesToBytesCodec.{AreBytes};
+ghost use Rattle.zarrs_chain_laws.specs.Chain.{chain_reads, chain_writes};
+ghost use Rattle.zarrs_codec_chain.specs.ChunkWrite.{EditsChunk, form_encodes_parts};
+ghost use Rattle.zarrs_codec_chain.specs.ChunkRead.{IsReadPlan, planned_places, ReadsChunk, PlansRead, form_decodes_parts};
+ghost use Rattle.zarrs_chain_laws.specs.Laws.{IsChainOfMappings};
+
+use crate::partial_decoder::array_partial_decoder::ArrayPartialDecoder;
+use crate::partial_decoder::chunk_reader::ChunkReader;
+use std::alloc::Global;
+use zarrs_array_bytes::ArrayBytes;
+use zarrs_chain_laws::machine_bytes::bytes_are;
+use zarrs_chain_whole::CodecChain;
+use zarrs_chunk::{ChunkShape, CodecError, Indexer};
+use zarrs_codec::{
+    ArrayPartialDecoderTraits, ArrayPartialEncoderTraits, ByteRange, BytesPartialEncoderTraits,
+    BytesToBytesCodecTraits, Refused,
+};
+use zarrs_data_type::{DataType, FillValue};
+
+/// Writes a chunk of a [`CodecChain`] in part, over a storage handle that it owns, and reads it in
+/// part. The chain is borrowed.
+///
+/// It has no cache: each call asks the handle, so what is read is what was written last. Over `bytes`
+/// without bytes codecs a write over a stored value replaces the bytes of its places alone; through
+/// every other chain the whole value is decoded, encoded and replaced. A chunk of fill values is
+/// stored like any other.
+#[derive(Drop)]
+pub struct ArrayPartialEncoder<'a, H: BytesPartialEncoderTraits, B: BytesToBytesCodecTraits> {
+    pub(crate) handle: H,
+    pub(crate) reader: ChunkReader<'a, B>,
+    ghost uncached: { reader_is_cached reader ≡ false },
+}
+
+impl<'a, H: BytesPartialEncoderTraits, B: BytesToBytesCodecTraits> ArrayPartialEncoder<'a, H, B> {
+    ghost use Rattle.zarrs_codec_chain.specs.PartialDecoder.{form_of, handle_of, is_cached};
+    ghost use Rattle.zarrs_codec_chain.specs.PartialEncoder.{encoder_form, encoder_handle, encoder_value, EncoderReads, EncoderWrites, EncoderWritesOnce, EncoderGives, EncoderLeaves};
+
+    /// What the chain, the shape and the fill value are made of holds.
+    pub(crate) fn is_sound(&self)
+        ensures mappings { IsChainOfMappings (encoder_form self.now).chain }
+        ensures positive { All (λ size. 0 < size) (encoder_form self.now).sizes }
+        ensures fill_bytes { AreBytes (encoder_form self.now).fill }
+    {
+        self.reader.is_sound();
+        bytes_are(self.reader.fill_value.as_ne_bytes());
+    }
+
+    /// The type of the elements.
+    pub fn data_type(&self) -> &DataType
+        ensures value { result.now ≡ (encoder_form self.now).type }
+    {
+        self.reader.data_type()
+    }
+
+    /// The elements that the indexer means, in its order: those of the chunk that the stored value
+    /// stands for, and the fill value at each place where nothing is stored. Without bytes codecs, over
+    /// `bytes` and `packbits`, the answer rests on the places' bytes alone, and over a plain `vlen` on
+    /// the value's length, the offsets and the elements' bytes, whatever else is stored. Absent elements
+    /// stand over blank ones.
+    ///
+    /// Refusals, the first that holds, `OutOfMemory` aside: those of `Indexer::check`; `Storage`, but
+    /// never where the answer rests on such bytes alone and all of these are sure; `BytesCodec` of the
+    /// last bytes codec, then of the one before; over `bytes` and `packbits` `InvalidByteRange` where a
+    /// place's bytes lie past the end; over a plain `vlen` those of `zarrs_plain_vlen::read_runs`,
+    /// also where the indexer means no place; over `optional` and any other `vlen` what
+    /// `CodecChain::decode` refuses of the value of this codec:
+    ///
+    /// - of `vlen` `InvalidBytesLength`, `IndexLength`, `Overflow`, those of the index chain,
+    ///   `InvalidOffsets`, those of the data chain;
+    /// - of `optional` `InvalidBytesLength`, `HeaderOverflow`, `InvalidBytesLength`, those of the
+    ///   mask chain, `MaskValue`, those of the data chain.
+    pub fn partial_decode(
+        &mut self,
+        alloc: Global,
+        indexer: &Indexer,
+    ) -> Result<ArrayBytes<'static>, CodecError>
+        ensures reads { EncoderGives H.state B.functions self.old
+            (selection_of indexer.now) result }
+        ensures blank { IfOk result (AbsentAreBlank (encoder_form self.old).type) }
+        ensures left { EncoderReads H.state H.lent self.old self.new result }
+    {
+        self.reader.read_chunk(alloc, &mut self.handle, indexer)
+    }
+
+    /// Whether a value is stored. Refusals: `Storage`, but never where the handle has sure bytes.
+    pub fn exists(&mut self) -> Result<bool, CodecError>
+        ensures answer { Answers fault (λ there. there) result
+            (Ok (is_some (H.state (encoder_handle self.old)).value)) }
+        ensures sure { is_some (H.state (encoder_handle self.old)).sure ≡ true →
+            is_fault result ≡ false }
+        ensures left { EncoderReads H.state H.lent self.old self.new result }
+    {
+        self.handle.exists()
+    }
+
+    /// How many bytes the handle keeps in memory.
+    pub fn size_held(&self) -> usize
+        ensures value { result ≡ H.held (encoder_handle self.now) }
+    {
+        self.handle.size_held()
+    }
+
+    /// The ranges, in bytes of the stored value, that a read asks for, where it asks for the bytes
+    /// of its places alone: they are these bytes and no others. `None` where bytes codecs, or
+    /// chains inside the codec to bytes, stand in the way. Refusals, the first that holds: those of
+    /// `Indexer::check`; `OutOfMemory`.
+    pub fn planned_ranges(
+        &self,
+        alloc: Global,
+        indexer: &Indexer,
+    ) -> Result<Option<Vec<ByteRange>>, CodecError>
+        ensures plan { PlansRead B.functions (encoder_form self.now)
+            (selection_of indexer.now) result }
+    {
+        self.reader.planned_ranges(alloc, indexer)
+    }
+
+    /// Whether a part is read without the rest: where all codecs of the chain decode a part, and the
+    /// handle reads ranges by themselves.
+    pub fn supports_partial_decode(&self) -> bool
+        ensures value { result ≡
+            form_decodes_parts B.reads_in_part (encoder_form self.now) && H.reads_ranges }
+    {
+        self.reader.decodes_parts() && self.handle.supports_partial_decode()
+    }
+
+    /// Writes these elements at the places that the indexer means, in its order: where a place comes
+    /// twice, the last one stands. The value afterwards is the one that is written for the chunk with
+    /// these elements, which begins as the chunk that the stored value stands for, or as fill values
+    /// where nothing is stored; that one is written whole, for an indexer without places too. Over
+    /// `bytes` without bytes codecs every stored value is accepted: the places' bytes alone are
+    /// replaced, and it grows with zeros up to the furthest place.
+    ///
+    /// Refusals, the first that holds, `OutOfMemory` aside: those of `Indexer::check`; level by
+    /// level `ArrayBytesKind` or `DataMismatch` of the new elements; then, once the handle is
+    /// asked, `Storage` of the reading; but over `bytes` without bytes codecs, what
+    /// `CodecChain::decode` refuses of a value that is stored, and what `CodecChain::encode`
+    /// refuses of the chunk with these elements; `Storage` of the writing. What these two refuse is
+    ///
+    /// - of a stored value `BytesCodec` of the last bytes codec, then of the one before; of `bytes`
+    ///   and `packbits` `InvalidBytesLength`, of `packbits` `PaddingByte`; of `vlen`
+    ///   `InvalidBytesLength`, `IndexLength`, `Overflow`, those of the index chain,
+    ///   `InvalidOffsets`, those of the data chain; of `optional` `InvalidBytesLength`,
+    ///   `HeaderOverflow`, `InvalidBytesLength`, those of the mask chain, `MaskValue`, those of the
+    ///   data chain;
+    /// - of the chunk `Overflow` where 64 bits don't count its elements' bytes or offsets; of
+    ///   `vlen` `OffsetTooLarge`, those of the index chain, `OffsetNotKept`, those of the data
+    ///   chain; of `optional` those of the mask chain, those of the data chain.
+    ///
+    /// One that is accepted makes exactly one writing call of the handle. One that is refused makes
+    /// none, or the one that refused it, and leaves the value as it was, but where that call is refused
+    /// and the handle isn't atomic.
+    pub fn partial_encode(
+        &mut self,
+        alloc: Global,
+        indexer: &Indexer,
+        elements: &ArrayBytes<'_>,
+    ) -> Result<(), CodecError>
+        ensures edits { EncoderLeaves H.state B.functions self.old self.new
+            (selection_of indexer.now) elements.now result }
+        ensures left { EncoderWrites H.state H.lent H.atomic self.old self.new result }
+    {
+        self.reader.is_sound();
+        self.reader
+            .write(alloc, &mut self.handle, indexer, elements)
+    }
+
+    /// Leaves no value; there may have been none. Refusals: `Storage`. It makes exactly one writing
+    /// call of the handle. A refusal leaves the value as it was where the handle is atomic.
+    pub fn erase(&mut self) -> Result<(), CodecError>
+        ensures answer { Answers fault (λ _. encoder_value H.state self.new) result (Ok None) }
+        ensures left { EncoderWritesOnce H.state H.lent H.atomic self.old self.new result }
+    {
+        self.handle.erase()
+    }
+
+    /// Whether a part is written without the rest: where all codecs of the chain write a part, and the
+    /// handle writes pieces by themselves.
+    pub fn supports_partial_encode(&self) -> bool
+        ensures value { result ≡
+            form_encodes_parts B.writes_in_part (encoder_form self.now) && H.writes_ranges }
+    {
+        self.reader.encodes_parts() && self.handle.supports_partial_encode()
+    }
+
+    /// The decoder over the same handle. It has no cache either.
+    pub fn into_decoder(self) -> ArrayPartialDecoder<'a, H, B>
+        ensures over { handle_of result ≡ encoder_handle self.entry }
+        ensures form { form_of result ≡ encoder_form self.entry }
+        ensures uncached { is_cached result ≡ false }
+    {
+        let ArrayPartialEncoder { handle, reader } = self;
+        ArrayPartialDecoder { handle, reader }
+    }
+
+    /// The handle, as it stands.
+    pub fn into_handle(self) -> H
+        ensures value { result ≡ encoder_handle self.entry }
+    {
+        let ArrayPartialEncoder { handle, reader: _ } = self;
+        handle
+    }
+}
+
+impl<'a, H: BytesPartialEncoderTraits, B: BytesToBytesCodecTraits> ArrayPartialDecoderTraits
+    for ArrayPartialEncoder<'a, H, B> {
+    ghost use Rattle.zarrs_codec_chain.specs.ChunkWrite.{chunk_writer};
+    ghost use Rattle.zarrs_codec_chain.specs.PartialDecoder.{chunk_reader};
+    ghost use Rattle.zarrs_codec_chain.specs.PartialEncoder.{encoder_form, encoder_handle};
+
+    ghost reader = { λ encoder. chunk_reader B.functions (encoder_form encoder) (H.state (encoder_handle encoder)).value ((chain_reads B.reads_in_part (encoder_form encoder).chain).partial_decode && H.reads_ranges) };
+
+    ghost writer = { λ encoder. chunk_writer B.functions (encoder_form encoder) ((chain_reads B.reads_in_part (encoder_form encoder).chain).partial_decode && H.reads_ranges) };
+
+    ghost state = { λ encoder. H.state (encoder_handle encoder) };
+
+    ghost lent = { λ encoder. H.lent (encoder_handle encoder) };
+
+    ghost held = { λ encoder. H.held (encoder_handle encoder) };
+
+    ghost use Rattle.zarrs_codec_chain.specs.CountLaws.{chunk_counts};
+
+    ghost counts = { λ encoder. chunk_counts B.functions (encoder_form encoder) (H.state (encoder_handle encoder)).value ((chain_reads B.reads_in_part (encoder_form encoder).chain).partial_decode && H.reads_ranges) };
+
+    fn data_type(&self) -> &DataType {
+        ArrayPartialEncoder::data_type(self)
+    }
+
+    fn exists(&mut self) -> Result<bool, CodecError> {
+        ArrayPartialEncoder::exists(self)
+    }
+
+    fn size_held(&self) -> usize {
+        ArrayPartialEncoder::size_held(self)
+    }
+
+    fn partial_decode(
+        &mut self,
+        alloc: Global,
+        indexer: &Indexer,
+    ) -> Result<ArrayBytes<'static>, CodecError> {
+        ArrayPartialEncoder::partial_decode(self, alloc, indexer)
+    }
+
+    fn supports_partial_decode(&self) -> bool {
+        ArrayPartialEncoder::supports_partial_decode(self)
+    }
+}
+
+impl<'a, H: BytesPartialEncoderTraits, B: BytesToBytesCodecTraits> ArrayPartialEncoderTraits
+    for ArrayPartialEncoder<'a, H, B> {
+    ghost use Rattle.std.proofs.Common.{refl};
+    ghost use Rattle.zarrs_codec_chain.specs.PartialEncoder.{encoder_form, encoder_handle};
+
+    ghost atomic = { H.atomic };
+
+    ghost writes_part = { λ encoder. (chain_writes B.writes_in_part (encoder_form encoder).chain).partial_encode && H.writes_ranges };
+
+    ghost tells = { λ _. refl };
+
+    ghost use Rattle.zarrs_codec.specs.CountLaws.{checks_of_data};
+    ghost use Rattle.zarrs_codec_chain.specs.ChunkWrite.{stored_written};
+    ghost use Rattle.zarrs_codec_chain.specs.PartialDecoder.{chunk_reader};
+
+    ghost checks_data = { λ encoder. checks_of_data (chunk_reader B.functions (encoder_form encoder) (H.state (encoder_handle encoder)).value ((chain_reads B.reads_in_part (encoder_form encoder).chain).partial_decode && H.reads_ranges)) (λ stored. chunk_reader B.functions (encoder_form encoder) stored ((chain_reads B.reads_in_part (encoder_form encoder).chain).partial_decode && H.reads_ranges)) (stored_written B.functions (encoder_form encoder)) };
+
+    fn partial_encode(
+        &mut self,
+        alloc: Global,
+        indexer: &Indexer,
+        elements: &ArrayBytes<'_>,
+    ) -> Result<(), CodecError> {
+        ArrayPartialEncoder::partial_encode(self, alloc, indexer, elements)
+    }
+
+    fn erase(&mut self) -> Result<(), CodecError> {
+        ArrayPartialEncoder::erase(self)
+    }
+
+    fn supports_partial_encode(&self) -> bool {
+        ArrayPartialEncoder::supports_partial_encode(self)
+    }
+}

@@ -1,0 +1,208 @@
+//! Writing a chunk in part in place: over `bytes` without bytes codecs.
+ghost use Rattle.std.specs.Prelude.{◌≡◌, ◌<◌, ◌≤◌, ◌+◌, [], IfErr, IfOk, All, OnErr, OnOk, Ok, Err, Some, option_map, length, true, false};
+ghost use Rattle.zarrs_chunk.specs.Answer.{Answers, memory, memory_or_fault, is_fault, seen, Gives};
+ghost use Rattle.zarrs_chunk.specs.ChunkShape.{product};
+ghost use Rattle.zarrs_chunk.specs.Indexer.{selection_of};
+ghost use Rattle.zarrs_chunk.specs.Runs.{joined_runs};
+ghost use Rattle.zarrs_chunk.specs.Selection.{subset as subset_of, bounds_of};
+ghost use Rattle.zarrs_chunk.specs.Tuples.{is_box_inside};
+ghost use Rattle.zarrs_array_bytes.specs.Validity.{data_fit};
+ghost use Rattle.zarrs_codec.specs.ArrayWriter.{IsRefusedWrite};
+ghost use Rattle.zarrs_codec.specs.CodersOverHandles.{HandleWrites, OnlyWrites};
+ghost use Rattle.zarrs_codec.specs.ChunkEdits.{data_checked};
+ghost use Rattle.zarrs_codec.specs.StorageState.{after_writing, apart_from_value};
+ghost use Rattle.zarrs_chain_whole.specs.ChainView.{plain_chain, plain_codec};
+ghost use Rattle.zarrs_codec_chain.specs.ChunkWrite.{order_in_place, selection_left, written_places, WritesChunk, WritesSelection, WriteRefusedAtSelection, RefusedAtData, UntouchedAtData, form_written, form_checked, FitsRuns, form_in_place, LendsData, LeavesThere};
+ghost use Rattle.zarrs_array_regions.specs.KeptRegions.{keeps_regions};
+
+use crate::partial_decoder::chunk_reader::ChunkReader;
+use crate::partial_encoder::whole_writer::check_data;
+use std::alloc::Global;
+use std::borrow::CowSlice;
+use zarrs_array_bytes::ArrayBytes;
+use zarrs_array_regions::encoded_window;
+use zarrs_bytes::BytesCodec;
+use zarrs_chain_whole::{ArrayToBytesCodec, CodecChain};
+use zarrs_chunk::{ArraySubset, CodecError, Indexer};
+use zarrs_codec::{BytesPartialEncoderTraits, BytesToBytesCodecTraits};
+
+/// The codec `bytes`, where this is one.
+#[tactic(auto, unfolding(zarrs_chain_whole::specs::ChainView::plain_codec), using(zarrs_chain_whole::specs::ChainView::plain_vlen_at, zarrs_chain_whole::specs::ChainView::plain_optional_at))]
+fn as_bytes<B>(codec: &ArrayToBytesCodec<B>) -> Option<&BytesCodec>
+    ensures value { option_map (λ codec. codec.now) result ≡
+        order_in_place {B = B} [] (plain_codec codec.now) }
+{
+    match codec {
+        ArrayToBytesCodec::Bytes(codec) => Some(codec),
+        ArrayToBytesCodec::PackBits(_)
+        | ArrayToBytesCodec::Vlen(_)
+        | ArrayToBytesCodec::Optional(_) => None,
+    }
+}
+
+/// The codec `bytes`, where the chain has no bytes codecs around it.
+pub(crate) fn codec_in_place<B>(chain: &CodecChain<B>) -> Option<&BytesCodec>
+    ensures value { option_map (λ codec. codec.now) result ≡
+        order_in_place (plain_chain chain.now).outer (plain_chain chain.now).codec }
+{
+    match chain.bytes_to_bytes_codecs() {
+        [] => as_bytes(chain.array_to_bytes_codec()),
+        _ => None,
+    }
+}
+
+impl<'a, B: BytesToBytesCodecTraits> ChunkReader<'a, B> {
+    ghost use Rattle.zarrs_codec_chain.specs.ChunkReader.{reader_form};
+
+    /// Where new elements go in the chunk that the codec to bytes gets, as runs, where there is one for
+    /// each place that the indexer means. Refusals, the first that holds, `OutOfMemory` aside: those of
+    /// `Indexer::check`; those of `ArrayBytes::validate_data`.
+    fn placed_runs(
+        &self,
+        alloc: Global,
+        indexer: &Indexer,
+        elements: &ArrayBytes<'_>,
+    ) -> Result<Vec<(u64, u64)>, CodecError>
+        ensures answer { Gives (λ runs. joined_runs runs.items) result
+            (form_written (reader_form self.now) (selection_of indexer.now) elements.now) }
+        ensures checked { Answers memory (λ _. tt) result
+            (form_checked (reader_form self.now) (selection_of indexer.now) elements.now) }
+        ensures filled { IfOk result (λ runs. All (λ run. 0 < run.1) runs.items) }
+        ensures inside { IfOk result
+            (λ runs. All (λ run. run.0 + run.1 ≤ product self.now.encoded) runs.items) }
+        ensures fit { IfOk result
+            (λ runs. FitsRuns (reader_form self.now) runs.items elements.now) }
+    {
+        let runs = self.runs(alloc, indexer)?;
+        check_data(elements, runs.as_slice(), &self.data_type)?;
+        Ok(runs)
+    }
+
+    /// New elements of a region, one for each of its places, lent. Refusals: those of
+    /// `ArrayBytes::validate_data`.
+    fn region_data<'e>(
+        &self,
+        codec: &BytesCodec,
+        region: &ArraySubset,
+        elements: &'e ArrayBytes<'_>,
+    ) -> Result<ArrayBytes<'e>, CodecError>
+        requires writes_in_place { form_in_place (reader_form self.now) ≡ Some codec.now }
+        requires inside { is_box_inside self.now.shape region.now.starts region.now.lengths ≡ true }
+        ensures checked { seen (λ _. tt) result ≡
+            form_checked (reader_form self.now) (subset_of region.now) elements.now }
+        ensures lent { IfOk result
+            (λ lent. LendsData self.now.data_type region.now elements.now lent) }
+        ensures no_fault { is_fault result ≡ false }
+    {
+        self.is_sound();
+        let count = region.num_elements()?;
+        elements.validate_data(count, &self.data_type)?;
+        let bytes = elements.as_fixed()?;
+        Ok(ArrayBytes::new_flen(CowSlice::Borrowed(bytes)))
+    }
+
+    /// The window that the array codecs take a region to, as runs, and new elements of the region as
+    /// they stand there. Refusals, the first that holds: those of `ArrayBytes::validate_data`;
+    /// `OutOfMemory`.
+    fn encoded_region<'e>(
+        &self,
+        alloc: Global,
+        codec: &BytesCodec,
+        region: &ArraySubset,
+        elements: &'e ArrayBytes<'_>,
+    ) -> Result<(Vec<(u64, u64)>, ArrayBytes<'e>), CodecError>
+        requires writes_in_place { form_in_place (reader_form self.now) ≡ Some codec.now }
+        requires inside { is_box_inside self.now.shape region.now.starts region.now.lengths ≡ true }
+        requires filled { 0 < product region.now.lengths }
+        requires region_kept { keeps_regions (plain_chain self.now.chain.now).arrays ≡ true }
+        ensures same_edit { IfOk result (λ there. LeavesThere B.functions (reader_form self.now)
+            self.now.encoded codec.now (subset_of region.now) elements.now there.0.items there.1) }
+        ensures checked { Answers memory (λ _. tt) result
+            (form_checked (reader_form self.now) (subset_of region.now) elements.now) }
+        ensures filled { IfOk result (λ there. All (λ run. 0 < run.1) there.0.items) }
+        ensures inside { IfOk result
+            (λ there. All (λ run. run.0 + run.1 ≤ product self.now.encoded) there.0.items) }
+        ensures fit { IfOk result
+            (λ there. FitsRuns (reader_form self.now) there.0.items there.1) }
+        ensures no_fault { is_fault result ≡ false }
+    {
+        self.is_sound();
+        let codecs = self.chain.array_to_array_codecs();
+        let lent = self.region_data(codec, region, elements)?;
+        let (window, encoded) = encoded_window(
+            alloc,
+            codecs,
+            &self.shape,
+            region,
+            lent,
+            &self.data_type,
+            &self.fill_value,
+        )?;
+        let runs = window.into_runs(alloc)?;
+        Ok((runs, encoded))
+    }
+
+    /// The same as `write_in_place`, of a region that goes through the array codecs as one: its new
+    /// elements are encoded and written in its window of the encoded chunk.
+    fn write_region<H: BytesPartialEncoderTraits>(
+        &self,
+        alloc: Global,
+        codec: &BytesCodec,
+        handle: &mut H,
+        region: &ArraySubset,
+        elements: &ArrayBytes<'_>,
+    ) -> Result<(), CodecError>
+        requires writes_in_place { form_in_place (reader_form self.now) ≡ Some codec.now }
+        requires inside { is_box_inside self.now.shape region.now.starts region.now.lengths ≡ true }
+        requires filled { 0 < product region.now.lengths }
+        requires region_kept { keeps_regions (plain_chain self.now.chain.now).arrays ≡ true }
+        ensures writes { WritesChunk B.functions (reader_form self.now) (Some codec.now)
+            (H.state handle.old) (H.state handle.new)
+            (subset_of region.now) elements.now result }
+        ensures left { HandleWrites H.state H.lent H.atomic handle.old handle.new result }
+    {
+        let (runs, encoded) = self.encoded_region(alloc, codec, region, elements)?;
+        codec.write_runs(
+            alloc,
+            handle,
+            &self.encoded,
+            &self.data_type,
+            &self.fill_value,
+            runs,
+            &encoded,
+        )
+    }
+
+    /// Writes new elements at the places that the indexer means, where the chain is array codecs and
+    /// this codec `bytes` alone: of a stored value the places' bytes alone are replaced. Refusals:
+    /// those of `Indexer::check`; those of `ArrayBytes::validate_data`; `OutOfMemory` and `Storage`.
+    pub(crate) fn write_in_place<H: BytesPartialEncoderTraits>(
+        &self,
+        alloc: Global,
+        codec: &BytesCodec,
+        handle: &mut H,
+        indexer: &Indexer,
+        elements: &ArrayBytes<'_>,
+    ) -> Result<(), CodecError>
+        requires writes_in_place { form_in_place (reader_form self.now) ≡ Some codec.now }
+        ensures writes { WritesChunk B.functions (reader_form self.now) (Some codec.now)
+            (H.state handle.old) (H.state handle.new)
+            (selection_of indexer.now) elements.now result }
+        ensures left { HandleWrites H.state H.lent H.atomic handle.old handle.new result }
+    {
+        if let Some(region) = self.kept_region(indexer) {
+            return self.write_region(alloc, codec, handle, region, elements);
+        }
+        self.is_sound();
+        let runs = self.placed_runs(alloc, indexer, elements)?;
+        codec.write_runs(
+            alloc,
+            handle,
+            &self.encoded,
+            &self.data_type,
+            &self.fill_value,
+            runs,
+            elements,
+        )
+    }
+}

@@ -1,0 +1,175 @@
+//! Writing a chunk in part by its whole value.
+ghost use Rattle.std.specs.Prelude.{◌≡◌, ◌<◌, ◌≤◌, ◌+◌, ◌^◌, IfErr, IfOk, All, None, OnErr, OnOk, Ok, Err, true, false, length};
+ghost use Rattle.zarrs_chunk.specs.Answer.{Answers, AnswersBy, is_fault, memory, memory_or_fault, seen, Gives};
+ghost use Rattle.zarrs_chunk.specs.ChunkShape.{product};
+ghost use Rattle.zarrs_chunk.specs.Indexer.{selection_of};
+ghost use Rattle.zarrs_chunk.specs.Runs.{joined_runs};
+ghost use Rattle.zarrs_chunk.specs.Selection.{bounds_of};
+ghost use Rattle.zarrs_array_bytes.specs.Elements.{elements as elements_of};
+ghost use Rattle.zarrs_array_bytes.specs.Held.{items_of};
+ghost use Rattle.zarrs_array_bytes.specs.Validity.{Holds, data_fit, validity};
+ghost use Rattle.zarrs_codec.specs.ArrayWriter.{IsRefusedWrite};
+ghost use Rattle.zarrs_codec.specs.CodersOverHandles.{HandleWrites, OnlyWrites};
+ghost use Rattle.zarrs_codec.specs.ChunkEdits.{data_checked, data_places};
+ghost use Rattle.zarrs_codec.specs.StorageState.{after_reading, after_writing, apart_from_value};
+ghost use Rattle.zarrs_codec_chain.specs.ChunkWrite.{edited_value, selection_left, started_chunk, value_left, WritesChunk, WritesSelection, WriteRefusedAtSelection, RefusedAtData, UntouchedAtData, IsWhole, RunsInside, FitsRuns, GivesEdited, ReadsNewValue, WritesRuns};
+
+use crate::partial_decoder::chunk_reader::ChunkReader;
+use crate::partial_decoder::fill_runs::count_places;
+use std::alloc::Global;
+use std::borrow::CowSlice;
+use zarrs_array_bytes::{ArrayBytes, ArrayBytesRaw, update_runs};
+use zarrs_chunk::{ChunkShape, CodecError, Indexer};
+use zarrs_codec::{BytesPartialDecoderTraits, BytesPartialEncoderTraits, BytesToBytesCodecTraits};
+use zarrs_data_type::DataType;
+
+/// Whether there is one new element of the type for each place of the runs. Refusals: those of
+/// `ArrayBytes::validate_data`.
+pub(crate) fn check_data(
+    elements: &ArrayBytes<'_>,
+    runs: &[(u64, u64)],
+    data_type: &DataType,
+) -> Result<(), CodecError>
+    requires count { length (joined_runs runs.now) < 2 ^ 64 }
+    ensures exact { result ≡ data_fit data_type.now (length (joined_runs runs.now)) elements.now }
+    ensures no_fault { is_fault result ≡ false }
+{
+    elements.validate_data(count_places(runs), data_type)
+}
+
+/// The runs of the places that the indexer means, where there is one new element for each. Refusals,
+/// the first that holds, `OutOfMemory` aside: those of `Indexer::places`; those of
+/// `ArrayBytes::validate_data`.
+fn checked_runs(
+    alloc: Global,
+    indexer: &Indexer,
+    shape: &ChunkShape,
+    data_type: &DataType,
+    elements: &ArrayBytes<'_>,
+) -> Result<Vec<(u64, u64)>, CodecError>
+    ensures answer { Gives (λ runs. joined_runs runs.items) result
+        (data_places shape.now data_type.now (selection_of indexer.now) elements.now) }
+    ensures below { IfOk result
+        (λ runs. All (λ run. run.0 + run.1 ≤ product shape.now) runs.items) }
+    ensures fit { IfOk result
+        (λ runs. data_fit data_type.now (length (joined_runs runs.items)) elements.now ≡ Ok tt) }
+{
+    let runs = indexer.runs(alloc, shape)?;
+    check_data(elements, runs.as_slice(), data_type)?;
+    Ok(runs)
+}
+
+impl<'a, B: BytesToBytesCodecTraits> ChunkReader<'a, B> {
+    ghost use Rattle.zarrs_codec_chain.specs.ChunkReader.{reader_form};
+
+    /// The chunk that an edit starts from: the one that the stored value stands for, or one of fill
+    /// values. Refusals: `Storage`; those of `CodecChain::decode`; `Overflow` where 64 bits don't count
+    /// the bytes of fill values.
+    fn start<H: BytesPartialDecoderTraits>(
+        &self,
+        alloc: Global,
+        handle: &mut H,
+    ) -> Result<ArrayBytes<'static>, CodecError>
+        ensures answer { AnswersBy memory_or_fault (Holds (reader_form self.now).type) result
+            (started_chunk B.functions (reader_form self.now) (H.state handle.old).value) }
+        ensures left { H.state handle.new ≡ after_reading result (H.state handle.old) }
+        ensures same_reference { H.lent handle.new ≡ H.lent handle.old }
+    {
+        match handle.decode(alloc)? {
+            None => {
+                let count = self.shape.num_elements()?;
+                ArrayBytes::new_fill_value(alloc, &self.data_type, count, &self.fill_value)
+            }
+            Some(value) => self.chain.decode(
+                alloc,
+                CowSlice::Owned(value),
+                &self.shape,
+                &self.data_type,
+                &self.fill_value,
+            ),
+        }
+    }
+
+    /// The value of the chunk with new elements at the places of the runs. Refusals: those of
+    /// `CodecChain::encode`.
+    fn value_with(
+        &self,
+        alloc: Global,
+        chunk: ArrayBytes<'static>,
+        runs: &[(u64, u64)],
+        elements: &ArrayBytes<'_>,
+    ) -> Result<ArrayBytesRaw<'static>, CodecError>
+        requires valid { IsWhole (reader_form self.now) chunk }
+        requires below { RunsInside (reader_form self.now) runs.now }
+        requires fit { FitsRuns (reader_form self.now) runs.now elements.now }
+        ensures answer { GivesEdited B.functions (reader_form self.now)
+            chunk.entry runs.now elements.now result }
+    {
+        let count = self.shape.num_elements()?;
+        let edited = update_runs(alloc, chunk, count, runs, elements, &self.data_type)?;
+        self.chain.encode(
+            alloc,
+            edited,
+            &self.shape,
+            &self.data_type,
+            &self.fill_value,
+        )
+    }
+
+    /// The value that new elements at the places of the runs leave. Nothing is written yet. Refusals:
+    /// `Storage`; those of `CodecChain::decode`; those of `CodecChain::encode`.
+    fn new_value<H: BytesPartialDecoderTraits>(
+        &self,
+        alloc: Global,
+        handle: &mut H,
+        runs: &[(u64, u64)],
+        elements: &ArrayBytes<'_>,
+    ) -> Result<ArrayBytesRaw<'static>, CodecError>
+        requires below { RunsInside (reader_form self.now) runs.now }
+        requires fit { FitsRuns (reader_form self.now) runs.now elements.now }
+        ensures answer { ReadsNewValue B.functions (reader_form self.now)
+            (H.state handle.old).value runs.now elements.now result }
+        ensures left { H.state handle.new ≡ after_reading result (H.state handle.old) }
+        ensures same_reference { H.lent handle.new ≡ H.lent handle.old }
+    {
+        self.is_sound();
+        let chunk = self.start(alloc, handle)?;
+        self.value_with(alloc, chunk, runs, elements)
+    }
+
+    /// The same, written: by one call of the handle.
+    fn replace_value<H: BytesPartialEncoderTraits>(
+        &self,
+        alloc: Global,
+        handle: &mut H,
+        runs: &[(u64, u64)],
+        elements: &ArrayBytes<'_>,
+    ) -> Result<(), CodecError>
+        requires below { RunsInside (reader_form self.now) runs.now }
+        requires fit { FitsRuns (reader_form self.now) runs.now elements.now }
+        ensures answer { WritesRuns B.functions (reader_form self.now)
+            (H.state handle.old) (H.state handle.new) runs.now elements.now result }
+        ensures left { HandleWrites H.state H.lent H.atomic handle.old handle.new result }
+    {
+        let value = self.new_value(alloc, handle, runs, elements)?;
+        handle.replace(alloc, value.as_slice())
+    }
+
+    /// Writes new elements at the places that the indexer means, by the whole value. Refusals: those
+    /// of `ArrayPartialEncoder::partial_encode`.
+    pub(crate) fn write_whole<H: BytesPartialEncoderTraits>(
+        &self,
+        alloc: Global,
+        handle: &mut H,
+        indexer: &Indexer,
+        elements: &ArrayBytes<'_>,
+    ) -> Result<(), CodecError>
+        ensures writes { WritesChunk B.functions (reader_form self.now) None
+            (H.state handle.old) (H.state handle.new)
+            (selection_of indexer.now) elements.now result }
+        ensures left { HandleWrites H.state H.lent H.atomic handle.old handle.new result }
+    {
+        let runs = checked_runs(alloc, indexer, &self.shape, &self.data_type, elements)?;
+        self.replace_value(alloc, handle, runs.as_slice(), elements)
+    }
+}
