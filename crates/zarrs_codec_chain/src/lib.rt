@@ -1,6 +1,7 @@
-//! Reading and writing a chunk in part through a chain of codecs, over a storage handle.
+//! Chains of codecs: chunks encoded and decoded whole, and read and written in part over a storage
+//! handle. This is the crate that a user names; what it needs of those below is passed on here.
 //!
-//! A chain makes an [`ArrayPartialDecoder`], which reads a chunk in part, or an
+//! A [`CodecChain`] is made of metadata. It makes an [`ArrayPartialDecoder`], which reads a chunk in part, or an
 //! [`ArrayPartialEncoder`], which writes it in part too ([`CodecChainPartialTraits`]);
 //! [`run_edits`] makes a list of edits. A `vlen` codec by itself makes a [`VlenPartialDecoder`]
 //! ([`VlenCodecPartialTraits`]).
@@ -25,6 +26,7 @@ pub use zarrs_array_bytes::{
 };
 pub use zarrs_array_to_array::{ArrayToArrayCodec, ReshapeCodec, SqueezeCodec, TransposeCodec};
 pub use zarrs_bytes::{BytesCodec, BytesCodecPartial};
+pub use zarrs_chain_laws::vlen::plain_vlen::PlainVlen;
 pub use zarrs_chain_whole::reencode::reencode;
 pub use zarrs_chain_whole::{ArrayToBytesCodec, CodecChain, OptionalCodec, VlenCodec};
 pub use zarrs_chunk::{ArrayIndices, ArraySubset, ChunkShape, Indexer};
@@ -36,6 +38,14 @@ pub use zarrs_codec::{
     PartialDecoderCapability, PartialEncoderCapability, Refused, SampleBytesCodec, SampleMaker,
     StorageError,
 };
-pub use zarrs_data_type::{DataType, Endianness, FillValue};
-pub use zarrs_metadata::{MetadataV3, PluginCreateError};
+pub use zarrs_data_type::{Components, DataType, Endianness, FillValue, HasComponents};
+pub use zarrs_metadata::{
+    BytesCodecConfiguration, BytesCodecConfigurationV1, Configuration, MetadataV3,
+    OptionalCodecConfiguration, OptionalCodecConfigurationV1, PackBitsCodecConfiguration,
+    PackBitsCodecConfigurationV1, PackBitsPaddingEncoding, PluginCreateError,
+    ReshapeCodecConfiguration, ReshapeCodecConfigurationV1, ReshapeDim, ReshapeShape,
+    SqueezeCodecConfiguration, SqueezeCodecConfigurationV0, TransposeCodecConfiguration,
+    TransposeCodecConfigurationV1, TransposeOrder, VlenCodecConfiguration,
+    VlenCodecConfigurationV0, VlenCodecConfigurationV0_1, VlenIndexDataType, VlenIndexLocation,
+};
 pub use zarrs_packbits::{PackBitsCodec, PackBitsPartialDecoder};
