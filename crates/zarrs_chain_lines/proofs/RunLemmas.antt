@@ -9,7 +9,7 @@ use Rattle.zarrs_chain_json.specs.declared.refusal.Refusal.{Refusal}
 use Rattle.zarrs_chain_json.specs.declared.refusal.Refusal.TheVariants.{Making, Codec}
 use Rattle.zarrs_chain_json.specs.Refusal.{wants_memory, error_line}
 use Rattle.zarrs_chain_lines.specs.Lines.{filled_lines}
-use Rattle.zarrs_chain_lines.specs.Header.{Header, line_header}
+use Rattle.zarrs_chain_header.specs.Header.{Header, line_header}
 use Rattle.zarrs_chain_lines.specs.Commands.{State, first_state, answer_to}
 use Rattle.zarrs_chain_lines.specs.Run.{reply_of, out_of_memory, IsReply, output_line, AreReplies, IsDone, IsRefusedHeader, IsBadHeader, EndsDone, EndsBad}
 

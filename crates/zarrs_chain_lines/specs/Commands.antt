@@ -24,7 +24,7 @@ use Rattle.zarrs_chain_json.specs.Elements.{elements_of, chunk_tree}
 use Rattle.zarrs_chain_json.specs.Containers.{container_of}
 use Rattle.zarrs_chain_json.specs.Indexer.{selection_in}
 use Rattle.zarrs_chain_json.specs.Edit.{PlainEdit, edit_in}
-use Rattle.zarrs_chain_lines.specs.Header.{Header, codecs_at}
+use Rattle.zarrs_chain_header.specs.Header.{Header, line_codecs}
 use Rattle.zarrs_data_type.specs.ElementType.{ElementType}
 use Rattle.zarrs_array_bytes.specs.Held.{Held}
 use Rattle.zarrs_array_bytes.specs.Validity.{Holds}
@@ -145,8 +145,7 @@ reencoded_answer to state value = do
 -- reencode METADATAS: what the chain of these codecs writes for the chunk that the stored value stands for, or none; the list is read and its chain made in either case, and the stored value stays
 abbrev pub reencode_answer : State → List ℕ → LineAnswer
 reencode_answer state text = do
-  tree ← tree_of text
-  to ← codecs_at (Some tree)
+  to ← line_codecs text
   stored_answer (reencoded_answer to) state state.value
 
 -- ---- lines

@@ -1,5 +1,4 @@
-pub mod Codecs
-pub mod Header
+pub use Rattle.zarrs_chain_header.specs.Header
 pub mod Commands
 pub mod Lines
 pub mod Run

@@ -4,7 +4,7 @@ use Rattle.std.specs.Io.KnownBytes.{Appends}
 use Rattle.zarrs_chain_json.specs.declared.refusal.Refusal.{Refusal}
 use Rattle.zarrs_chain_json.specs.Refusal.{error_line}
 use Rattle.zarrs_chain_lines.specs.Lines.{filled_lines}
-use Rattle.zarrs_chain_lines.specs.Header.{Header, line_header}
+use Rattle.zarrs_chain_header.specs.Header.{Header, line_header}
 use Rattle.zarrs_chain_lines.specs.Commands.{State, LineAnswer, first_state, answer_to}
 
 -- the reply that an answer makes, and the state after it; a refused command leaves the state

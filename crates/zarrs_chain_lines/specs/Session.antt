@@ -2,7 +2,7 @@
 use Rattle.zarrs_codec.specs.MemoryHandle.{handle_value}
 use Rattle.zarrs_chain_whole.specs.ChainView.{plain_chain}
 use Rattle.zarrs_chain_lines.specs.Commands.{State}
-use Rattle.zarrs_chain_lines.specs.Header.{Header}
+use Rattle.zarrs_chain_header.specs.Header.{Header}
 use Rattle.zarrs_chain_lines.specs.declared.session.Session.{Session}
 
 -- the header that opened it

@@ -4,7 +4,6 @@
 //! and `codecs`. Each line after it is a command, which one line answers.
 #![tactic(auto)]
 
-mod codecs;
 mod command;
 mod lines;
 pub mod run;

@@ -1,7 +1,6 @@
 //! A session: what a header opened, and the stored value.
 ghost use Rattle.zarrs_data_type.specs.Form.{form_of};
-ghost use Rattle.std.specs.Prelude.{◌≡◌, OnErr, Some, option_map};
-ghost use Rattle.serde_json.specs.View.{view, members_view};
+ghost use Rattle.std.specs.Prelude.{◌≡◌, OnErr};
 ghost use Rattle.zarrs_chunk.specs.Answer.{Answers, AnswersBy, memory, seen};
 ghost use Rattle.zarrs_chunk.specs.Indexer.{selection_of};
 ghost use Rattle.zarrs_array_bytes.specs.Validity.{Holds};
@@ -9,18 +8,16 @@ ghost use Rattle.zarrs_codec.specs.MemoryHandle.{handle_value};
 ghost use Rattle.zarrs_chain_whole.specs.ChainView.{plain_chain};
 ghost use Rattle.zarrs_chain_lines.specs.Commands.{first_state, chunk_part, part_of, chunk_left, value_left, encode_answer, load_answer, chunk_answer, decode_answer, read_answer, write_answer, erase_answer, value_answer, reencoded_answer, reencode_answer, answer_to, GivesPart, StoresEdit, GivesChunkPart, StoresChunkEdit};
 ghost use Rattle.zarrs_chain_json.specs.Edit.{edit_seen};
-ghost use Rattle.zarrs_chain_lines.specs.Header.{shape_at, data_type_at, fill_value_at, codecs_at, header_in, line_header};
+ghost use Rattle.zarrs_chain_header.specs.Header.{line_header};
 ghost use Rattle.zarrs_chain_json.specs.Refusal.{wants_memory};
 
-use crate::codecs::chain;
 use crate::command::{Command, command_of};
-use serde_json::Value;
 use std::alloc::Global;
 use std::borrow::CowSlice;
 use zarrs_array_bytes::ArrayBytes;
+use zarrs_chain_header::{ChunkHeader, read_codecs, read_header};
 use zarrs_chain_json::{
-    Edit, Members, Refusal, data_type, elements, hex_bytes, indexer, member, numbers, object,
-    ok_elements, ok_hex, read_edit, tree,
+    Edit, Refusal, elements, hex_bytes, indexer, ok_elements, ok_hex, read_edit, tree,
 };
 use zarrs_chain_whole::CodecChain;
 use zarrs_chain_whole::reencode::reencode;
@@ -37,48 +34,6 @@ pub struct Session {
     data_type: DataType,
     fill_value: FillValue,
     handle: MemoryHandle,
-}
-
-fn shape(alloc: Global, tree: Option<&Value>) -> Result<ChunkShape, Refusal>
-    ensures { Answers wants_memory (λ shape. shape) result
-        (shape_at (option_map (λ v. view v.now) tree.entry)) }
-{
-    let Some(tree) = tree else {
-        return Err(Refusal::Syntax);
-    };
-    let sizes = numbers(alloc, tree)?;
-    ChunkShape::new(sizes).ok_or(Refusal::Syntax)
-}
-
-fn named_type(alloc: Global, tree: Option<&Value>) -> Result<DataType, Refusal>
-    ensures { Answers wants_memory (λ data_type. data_type) result
-        (data_type_at (option_map (λ v. view v.now) tree.entry)) }
-{
-    match tree {
-        Some(tree) => data_type(alloc, tree),
-        None => Err(Refusal::Syntax),
-    }
-}
-
-fn fill_value(alloc: Global, tree: Option<&Value>) -> Result<FillValue, Refusal>
-    ensures { Answers wants_memory (λ fill. fill) result
-        (fill_value_at (option_map (λ v. view v.now) tree.entry)) }
-{
-    let Some(tree) = tree else {
-        return Err(Refusal::Syntax);
-    };
-    let bytes = hex_bytes(alloc, tree)?;
-    Ok(FillValue::new(bytes))
-}
-
-fn codecs(alloc: Global, tree: Option<&Value>) -> Result<CodecChain<SampleBytesCodec>, Refusal>
-    ensures { Answers wants_memory plain_chain result
-        (codecs_at (option_map (λ v. view v.now) tree.entry)) }
-{
-    match tree {
-        Some(Value::Array(items)) => Ok(chain(alloc, items)?),
-        _ => Err(Refusal::Syntax),
-    }
 }
 
 /// The elements that an indexer means, by a decoder that is made for this call.
@@ -134,15 +89,17 @@ fn write_part(
 impl Session {
     ghost use Rattle.zarrs_chain_lines.specs.Session.{state_of};
 
-    fn open_among(alloc: Global, members: &Members) -> Result<Session, Refusal>
-        ensures { Answers wants_memory state_of result
-            (seen first_state (header_in (members_view members.now.entries))) }
+    /// The session that a header opens, with nothing stored. Refusals: those of `read_header`.
+    pub fn open(alloc: Global, header: &[u8]) -> Result<Session, Refusal>
+        ensures answer { Answers wants_memory state_of result
+            (seen first_state (line_header header.now)) }
     {
-        let shape = shape(alloc, member(members, "shape"))?;
-        let data_type = named_type(alloc, member(members, "data_type"))?;
-        let fill_value = fill_value(alloc, member(members, "fill_value"))?;
-        let chain = codecs(alloc, member(members, "codecs"))?;
-        chain.encoded_representation(alloc, &shape, &data_type, &fill_value)?;
+        let ChunkHeader {
+            chain,
+            shape,
+            data_type,
+            fill_value,
+        } = read_header(alloc, header)?;
         Ok(Session {
             chain,
             shape,
@@ -150,19 +107,6 @@ impl Session {
             fill_value,
             handle: MemoryHandle::new(),
         })
-    }
-
-    /// The session that a header opens, with nothing stored. Refusals, the first that holds:
-    /// `Syntax` where the line is no JSON object, or its `shape`, `data_type`, `fill_value` or
-    /// `codecs` don't read, in this order and each with its own refusals; then those of the chain's
-    /// representation; `OutOfMemory`.
-    pub fn open(alloc: Global, header: &[u8]) -> Result<Session, Refusal>
-        ensures answer { Answers wants_memory state_of result
-            (seen first_state (line_header header.now)) }
-    {
-        let tree = tree(alloc, header)?;
-        let members = object(&tree)?;
-        Session::open_among(alloc, members)
     }
 
     fn encode(&self, alloc: Global, text: &[u8]) -> Result<Vec<u8>, Refusal>
@@ -322,8 +266,7 @@ impl Session {
         ensures { Answers wants_memory (λ line. (line.items, state_of self.now)) result
             (reencode_answer (state_of self.now) text.now) }
     {
-        let tree = tree(alloc, text)?;
-        let to = codecs(alloc, Some(&tree))?;
+        let to = read_codecs(alloc, text)?;
         match self.handle.value() {
             None => Ok(Vec::from_slice(alloc, b"ok none")?),
             Some(value) => self.reencode_value(alloc, &to, value),
