@@ -4,7 +4,6 @@ pub mod ChunkRead
 pub mod ChunkSource
 pub mod CacheBlank
 pub mod SizeLaws
-pub mod SliceHandle
 pub mod ChunkReader
 pub mod PartialDecoder
 pub mod CountLaws

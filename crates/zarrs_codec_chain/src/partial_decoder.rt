@@ -5,4 +5,3 @@ mod codec_read;
 pub(crate) mod encoded_runs;
 pub(crate) mod fill_runs;
 mod make_cache;
-mod slice_handle;

@@ -12,7 +12,6 @@ ghost use Rattle.zarrs_chain_whole.specs.ChainView.{plain_codec};
 ghost use Rattle.zarrs_codec_chain.specs.ChunkRead.{codec_plans, codec_read, codec_rests_on, IsCodecPlan, TakenBy, ReadsRuns, SureRuns, GivesRuns, PlansRuns};
 ghost use Rattle.zarrs_chain_laws.specs.Representation.{codec_representation};
 
-use crate::partial_decoder::slice_handle::SliceHandle;
 use crate::vlen::vlen_runs::vlen_runs;
 use std::alloc::Global;
 use zarrs_array_bytes::ArrayBytes;
@@ -20,6 +19,7 @@ use zarrs_chain_whole::ArrayToBytesCodec;
 use zarrs_chunk::{ChunkShape, CodecError};
 use zarrs_codec::{ByteRange, BytesPartialDecoderTraits, BytesToBytesCodecTraits};
 use zarrs_data_type::{DataType, FillValue};
+use zarrs_pieces::LentHandle;
 
 /// The elements at the places of these runs of a chunk that the codec takes, over a handle that keeps
 /// its bytes: the fill value at each place where nothing is stored. Refusals: the codec's own;
@@ -83,8 +83,8 @@ pub(crate) fn read_runs_of_bytes<B: BytesToBytesCodecTraits>(
         (option_map (λ items. items.now) bytes.entry) runs.now result }
     ensures blank { IfOk result (AbsentAreBlank data_type.now) }
 {
-    let mut lent = SliceHandle::new(bytes);
-    read_runs::<SliceHandle<'_>, B>(alloc, codec, &mut lent, shape, data_type, fill_value, runs)
+    let mut lent = LentHandle::new(bytes);
+    read_runs::<LentHandle<'_>, B>(alloc, codec, &mut lent, shape, data_type, fill_value, runs)
 }
 
 /// Whether the bytes of a place are known before anything is read: they are over `bytes` and
