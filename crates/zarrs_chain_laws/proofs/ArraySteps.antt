@@ -2,14 +2,13 @@
 use Rattle.std.proofs.Common.{◌≡◌, ℕ, ◌<◌, ◌^◌, nat_lt, if◌then◌else◌, Bool, true, ◌≤◌, ◌-◌, arith, take, drop, get_or, List, [], ◌∷◌, length, map, Result, Ok, Err, IfOk, false, refl, ap, sym, subst, ◌∙◌}
 use Rattle.std.specs.List.{All}
 use Rattle.std.proofs.lemmas.List.{take_all}
-use Rattle.std.proofs.lemmas.List.FromFn.{length-map-range_with_len}
 use Rattle.zarrs_chunk.specs.Answer.{◌>>=◌, seen, checked_u64, Answers, AnswersBy, memory}
 use Rattle.zarrs_chunk.specs.ChunkShape.{product}
 use Rattle.zarrs_chunk.specs.declared.codec_error.CodecError.{CodecError}
 use Rattle.zarrs_chunk.specs.declared.codec_error.CodecError.TheVariants.{Overflow}
 use Rattle.zarrs_data_type.specs.ElementType.{ElementType}
 use Rattle.zarrs_data_type.specs.Element.{Chunk}
-use Rattle.zarrs_array_bytes.specs.Elements.{elements, element_at}
+use Rattle.zarrs_array_bytes.specs.Elements.{elements}
 use Rattle.zarrs_array_bytes.specs.Held.{Held}
 use Rattle.zarrs_array_bytes.specs.Validity.{validity, Holds}
 use Rattle.zarrs_codec.specs.CoordinateMap.{CoordinateMap, IsCoordinateMap, IsMapTo, same_places, composition, inverse_map, moved_chunk}
@@ -20,11 +19,10 @@ use Rattle.zarrs_array_to_array.specs.Mapping.{mapping_of}
 use Rattle.zarrs_array_to_array.specs.declared.array_to_array_codec.ArrayToArrayCodec.{ArrayToArrayCodec}
 use Rattle.zarrs_array_to_array.proofs.CoordinateMaps.{composed_map, undone_map, length-moved, moved_twice, kept_places}
 use Rattle.zarrs_chain_laws.specs.ArrayStages.{codec_map, arrays_map, IsMapWhere}
+use Rattle.zarrs_bytes.proofs.Coding.{ok, bind_ok}
+use Rattle.zarrs_array_bytes.proofs.UpdatedLemmas.{length-elements}
 
 -- ---- answers
-
-abbrev pub ok : {A : Type 0} → A → Result A CodecError
-ok x = Ok x
 
 abbrev pub err : {A : Type 0} → CodecError → Result A CodecError
 err e = Err e
@@ -35,10 +33,6 @@ if_ok (Err e) P h = tt
 
 pub at_ok : {A : Type 0} (r : Result A CodecError) (P : A → Type 0) (x : A) → r ≡ Ok x → IfOk r P → P x
 at_ok r P x e h = subst (λ (s : Result _ CodecError). IfOk s P) e h
-
-pub bind_ok : {A B : Type 0} (r : Result A CodecError) (f : A → Result B CodecError) (y : B) → (r >>= f) ≡ Ok y → (x : A) × (r ≡ Ok x) × (f x ≡ Ok y)
-bind_ok (Ok x) f y e = (x, refl, e)
-bind_ok (Err d) f y e = absurd cc
 
 pub ok_is : {A : Type 0} (x y : A) → ok x ≡ ok y → x ≡ y
 ok_is x y e = cc
@@ -90,7 +84,7 @@ seen_last : (first : Result CoordinateMap CodecError) (rest : List ℕ → Resul
 seen_last (Err e) rest = refl
 seen_last (Ok m) rest = seen_composed m (rest m.encoded)
 
-next_answer : {A B : Type 0} (r : Result A CodecError) (x : A) (f : A → Result B CodecError) → r ≡ Ok x → r >>= f ≡ f x
+pub next_answer : {A B : Type 0} (r : Result A CodecError) (x : A) (f : A → Result B CodecError) → r ≡ Ok x → r >>= f ≡ f x
 next_answer r x f e = rw e refl
 
 -- the shape goes from codec to codec
@@ -185,9 +179,6 @@ encoded_whole takes coordinates type sizes held t = rw (t.taken, t.done, t.count
 
 pub decoded_whole : (takes : Result (Unit {0}) CodecError) (coordinates : Result CoordinateMap CodecError) (type : ElementType) (sizes : List ℕ) (held : Held) (t : TakenChunk takes coordinates type sizes held) → decoded_chunk takes coordinates type sizes held ≡ Ok (moved_chunk (inverse_map sizes t.map_is) (elements type (product sizes) held))
 decoded_whole takes coordinates type sizes held t = rw (t.taken, t.done, t.counted, t.valid) refl
-
-pub length-elements : (type : ElementType) (count : ℕ) (held : Held) → length (elements type count held) ≡ count
-length-elements type count held = length-map-range_with_len (element_at type held) 0 count
 
 -- a container of so many elements holds them
 pub holds_elements : (type : ElementType) (count : ℕ) (held : Held) → validity type count held ≡ Ok tt → Holds type held (elements type count held)

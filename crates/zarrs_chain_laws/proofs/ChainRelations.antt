@@ -19,7 +19,9 @@ use Rattle.zarrs_chain_laws.specs.Laws.{IsChainOfMappings}
 use Rattle.zarrs_chain_laws.specs.Representation.{chain_representation}
 use Rattle.zarrs_chain_laws.specs.Stands.{ChainStands}
 use Rattle.zarrs_chain_laws.specs.Written.{ChainWritten}
-use Rattle.zarrs_chain_laws.proofs.ArraySteps.{bind_ok, length-elements, holds_elements}
+use Rattle.zarrs_bytes.proofs.Coding.{bind_ok}
+use Rattle.zarrs_array_bytes.proofs.UpdatedLemmas.{length-elements}
+use Rattle.zarrs_chain_laws.proofs.ArraySteps.{holds_elements}
 use Rattle.zarrs_chain_laws.proofs.ChainSteps.{held_chunk}
 use Rattle.zarrs_chain_laws.proofs.NestedDecode.{chain_chunk_only}
 use Rattle.zarrs_chain_laws.proofs.NestedEncode.{chain_value_only}
@@ -29,7 +31,7 @@ use Rattle.zarrs_chain_laws.proofs.NestedRead.{chain_read_found}
 -- ---- encoding
 
 -- a representation that is asked twice answers alike
-asked_twice : {R V : Type 0} (r : Result R CodecError) (v : Result (Unit {0}) CodecError) (g : Result V CodecError) → v ≡ Ok tt → r >>= (λ _. v >>= (λ _. r >>= (λ _. g))) ≡ r >>= (λ _. g)
+pub asked_twice : {R V : Type 0} (r : Result R CodecError) (v : Result (Unit {0}) CodecError) (g : Result V CodecError) → v ≡ Ok tt → r >>= (λ _. v >>= (λ _. r >>= (λ _. g))) ≡ r >>= (λ _. g)
 asked_twice (Ok x) v g valid = rw valid refl
 asked_twice (Err cause) v g valid = refl
 

@@ -35,7 +35,8 @@ use Rattle.zarrs_chain_laws.specs.Encode.{offset_bytes, all_bytes, codec_value}
 use Rattle.zarrs_chain_laws.specs.Decode.{Decoder, part_chunk, offsets_in_chunk, slices, vlen_parts, vlen_chunk, optional_parts, flag_in, flags_in, count_set, under_flags, optional_chunk, around_chunk, codec_chunk, chain_chunk}
 use Rattle.zarrs_chain_laws.specs.Representation.{Measure, flag_type, byte_type, offset_type, blank_fill, codec_representation, chain_representation}
 use Rattle.zarrs_chain_laws.proofs.NestedParts.{length_under}
-use Rattle.zarrs_chain_laws.proofs.ArraySteps.{ok, err, at_ok, bind_ok, ok_is, counted_so}
+use Rattle.zarrs_bytes.proofs.Coding.{ok, bind_ok}
+use Rattle.zarrs_chain_laws.proofs.ArraySteps.{err, at_ok, ok_is, counted_so, next_answer}
 
 -- ---- what a chain takes
 
@@ -188,14 +189,11 @@ value_through f chain sizes type fill form held made maps e counted valid found 
     ∙ ap (λ (r : Result (List ℕ) CodecError). r >>= (λ below. outer_value f chain.outer below)) (sym inner)
     ∙ ap (λ s. codec_held_value f chain.codec s type fill made >>= (λ below. outer_value f chain.outer below)) t.encoded_is
 
-pub next_ok : {A C : Type 0} (r : Result A CodecError) (x : A) (g : A → Result C CodecError) → r ≡ Ok x → r >>= g ≡ g x
-next_ok r x g a = rw a refl
-
-next_err : {A C : Type 0} (r : Result A CodecError) (error : CodecError) (g : A → Result C CodecError) → r ≡ Err error → r >>= g ≡ Err error
+pub next_err : {A C : Type 0} (r : Result A CodecError) (error : CodecError) (g : A → Result C CodecError) → r ≡ Err error → r >>= g ≡ Err error
 next_err r error g a = rw a refl
 
 two_ok : {A D C : Type 0} (r : Result A CodecError) (x : A) (s : A → Result D CodecError) (y : D) (g : D → Result C CodecError) → r ≡ Ok x → s x ≡ Ok y → r >>= (λ a. s a >>= g) ≡ g y
-two_ok r x s y g a b = next_ok r x (λ z. s z >>= g) a ∙ next_ok (s x) y g b
+two_ok r x s y g a b = next_answer r x (λ z. s z >>= g) a ∙ next_answer (s x) y g b
 
 pub value_last : {B X : Type 0} (view : X → List ℕ) (result : Result X CodecError) (f : BytesCodecs B) (chain : PlainChain B) (sizes : List ℕ) (type : ElementType) (fill : List ℕ) (form : List ℕ × BytesRepresentation) (held made : Held) (below : List ℕ)
     → IsMapWhere type chain.arrays sizes → taken_form f chain sizes type fill ≡ Ok form → checked_u64 (product sizes) ≡ Ok (product sizes) → validity type (product sizes) held ≡ Ok tt
@@ -203,7 +201,7 @@ pub value_last : {B X : Type 0} (view : X → List ℕ) (result : Result X Codec
     → codec_held_value f chain.codec form.0 type fill made ≡ Ok below
     → Answers memory view result (outer_value f chain.outer below) → Answers memory view result (held_value f chain sizes type fill held)
 value_last view result f chain sizes type fill form held made below maps e counted valid found inner h =
-    let is : held_value f chain sizes type fill held ≡ outer_value f chain.outer below = value_through f chain sizes type fill form held made maps e counted valid found ∙ next_ok (codec_held_value f chain.codec form.0 type fill made) below (λ b. outer_value f chain.outer b) inner in
+    let is : held_value f chain sizes type fill held ≡ outer_value f chain.outer below = value_through f chain sizes type fill form held made maps e counted valid found ∙ next_answer (codec_held_value f chain.codec form.0 type fill made) below (λ b. outer_value f chain.outer b) inner in
     subst (λ (x : Result (List ℕ) CodecError). Answers memory view result x) (sym is) h
 
 pub value_refused : {B : Type 0} (f : BytesCodecs B) (chain : PlainChain B) (sizes : List ℕ) (type : ElementType) (fill : List ℕ) (form : List ℕ × BytesRepresentation) (held made : Held) (error : CodecError)

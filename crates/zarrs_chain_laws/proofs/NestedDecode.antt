@@ -21,7 +21,7 @@ use Rattle.zarrs_chain_laws.specs.Encode.{offset_bytes, all_bytes, flag_of, pres
 use Rattle.zarrs_chain_laws.specs.Laws.{HasMappings, IsChainOfMappings}
 use Rattle.zarrs_chain_laws.specs.Representation.{Measure, flag_type, byte_type, offset_type, blank_fill, codec_representation}
 use Rattle.zarrs_chain_laws.specs.Stands.{Standing, PartStands, arranged, VlenStands, OptionalStandsFor, StandsThrough, CodecStands, ChainStands}
-use Rattle.zarrs_chain_laws.proofs.ArraySteps.{ok}
+use Rattle.zarrs_bytes.proofs.Coding.{ok}
 use Rattle.zarrs_chain_laws.proofs.NestedStages.{arrays_are_map, row_positive}
 
 -- where a value stands for a chunk, it is the chunk that is answered

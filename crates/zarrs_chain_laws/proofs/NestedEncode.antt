@@ -16,7 +16,7 @@ use Rattle.zarrs_chain_laws.specs.NormalForm.{normal_element}
 use Rattle.zarrs_chain_laws.specs.Representation.{Measure, flag_type, byte_type, offset_type, blank_fill, codec_representation}
 use Rattle.zarrs_chain_laws.specs.Stands.{Standing}
 use Rattle.zarrs_chain_laws.specs.Written.{PartWritten, VlenWritten, OptionalWrittenFor, WrittenThrough, CodecWritten, ChainWritten}
-use Rattle.zarrs_chain_laws.proofs.ArraySteps.{ok}
+use Rattle.zarrs_bytes.proofs.Coding.{ok}
 use Rattle.zarrs_chain_laws.proofs.NestedNormal.{Keeping}
 
 -- what is written is answered
@@ -30,7 +30,7 @@ Encodes write encode =
 small_test : (n : ℕ) → n < 2 ^ 64 → nat_lt n (2 ^ 64) ≡ true
 small_test n l = grind (arith, nat_tests)
 
-memory_so : (xs : List ℕ) → length xs < 2 ^ 64 → in_memory xs ≡ Ok xs
+pub memory_so : (xs : List ℕ) → length xs < 2 ^ 64 → in_memory xs ≡ Ok xs
 memory_so xs l = rw (small_test (length xs) l) refl
 
 outer_only : {B : Type 0} (f : BytesCodecs B) (codecs : List B) (below value : List ℕ) → OuterWritten f codecs below value → outer_value f codecs below ≡ Ok value
@@ -40,11 +40,11 @@ outer_only f (codec ∷ codecs) below value h = rw (memory_so below h.0) (outer_
 same_number : (n : ℕ) → nat_eq n n ≡ true
 same_number n = eq-eqb n n refl
 
-same_items : (xs : List ℕ) → pointwise nat_eq xs xs ≡ true
+pub same_items : (xs : List ℕ) → pointwise nat_eq xs xs ≡ true
 same_items [] = refl
 same_items (x ∷ xs) = rw (same_number x) (same_items xs)
 
-same_bytes : (chunk : Chunk) → is_same_bytes chunk chunk ≡ true
+pub same_bytes : (chunk : Chunk) → is_same_bytes chunk chunk ≡ true
 same_bytes [] = refl
 same_bytes (element ∷ chunk) = rw (same_items (bytes_of element)) (same_bytes chunk)
 

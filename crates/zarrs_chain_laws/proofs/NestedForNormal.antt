@@ -49,7 +49,7 @@ KeptSelected write keep =
 
 -- ---- parts
 
-row_is : (type : ElementType) (chunk : Chunk) → AreElements type chunk → IsChunk type (product (length chunk ∷ [])) chunk
+pub row_is : (type : ElementType) (chunk : Chunk) → AreElements type chunk → IsChunk type (product (length chunk ∷ [])) chunk
 row_is type chunk each = record { count_is = omega arith; each = each }
 
 part_kept : (write : Standing) (keep : Keeping) → WrittenKept write keep → (type : ElementType) (fill part : List ℕ) (chunk : Chunk) → PartWritten write type fill part chunk → PartWritten write type fill part (map (keep type) chunk)

@@ -20,7 +20,7 @@ use Rattle.zarrs_codec.specs.declared.bytes_representation.BytesRepresentation.T
 use Rattle.zarrs_array_to_array.specs.ArrayToArrayCodec.{ArrayMapping, IsMapping}
 use Rattle.zarrs_bytes.specs.ByteOrder.{bytes_of}
 use Rattle.zarrs_bytes.specs.BytesCodec.{IsChunk, bytes_length, spelling}
-use Rattle.zarrs_bytes.proofs.Coding.{demand_ok}
+use Rattle.zarrs_bytes.proofs.Coding.{demand_ok, ok, bind_ok}
 use Rattle.zarrs_packbits.specs.BitStream.{chunk_stream}
 use Rattle.zarrs_packbits.specs.PackBitsSettings.{packed_layout}
 use Rattle.zarrs_packbits.specs.PaddingByte.{value_with}
@@ -34,9 +34,9 @@ use Rattle.zarrs_chain_laws.specs.NormalForm.{normal_element}
 use Rattle.zarrs_chain_laws.specs.Representation.{Measure, flag_type, byte_type, offset_type, blank_fill, around_representation, codec_representation}
 use Rattle.zarrs_chain_laws.specs.Stands.{Standing}
 use Rattle.zarrs_chain_laws.specs.Written.{PartWritten, VlenWritten, OptionalWritten, WrittenThrough, CodecWritten, ChainWritten}
-use Rattle.zarrs_chain_laws.proofs.ArraySteps.{ok, err, bind_ok, ok_is}
+use Rattle.zarrs_chain_laws.proofs.ArraySteps.{err, ok_is}
 use Rattle.zarrs_chain_laws.proofs.ChainSteps.{seen_ok}
-use Rattle.zarrs_chain_laws.proofs.NestedForNormal.{items_are, present_are}
+use Rattle.zarrs_chain_laws.proofs.NestedForNormal.{items_are, present_are, row_is}
 use Rattle.zarrs_chain_laws.proofs.NestedNormal.{Keeping, KeepsTypes, kept_is}
 use Rattle.zarrs_chain_laws.proofs.NestedStages.{outer_small, arrays_are_map, row_positive}
 use Rattle.zarrs_chain_laws.proofs.NestedWrittenStands.{moved_is}
@@ -70,9 +70,6 @@ outer_written f (codec ∷ codecs) below value e =
     let a = bind_ok (in_memory below) _ value e in
     let b = in_memory_so below a.0 a.1 in
     (b.0, outer_written f codecs (f.encoded_bytes codec below) value (subst (λ u. outer_value f codecs (f.encoded_bytes codec u) ≡ Ok value) b.1 a.2))
-
-row_is : (type : ElementType) (chunk : Chunk) → AreElements type chunk → IsChunk type (product (length chunk ∷ [])) chunk
-row_is type chunk each = record { count_is = omega arith; each = each }
 
 part_found : (write : Standing) (encode : Encoder) → Founds write encode → (type : ElementType) (fill part : List ℕ) (chunk : Chunk) → AreElements type chunk → part_value encode type fill chunk ≡ Ok part → PartWritten write type fill part chunk
 part_found write encode law type fill part [] each e = sym (ok_is [] part e)

@@ -26,7 +26,8 @@ use Rattle.zarrs_chain_laws.specs.ArrayStages.{arrays_map}
 use Rattle.zarrs_chain_laws.specs.BytesStages.{outer_representation}
 use Rattle.zarrs_chain_laws.specs.Laws.{HasMappings}
 use Rattle.zarrs_chain_laws.specs.Representation.{Measure, flag_type, blank_fill, bounded, both_representations, vlen_representation, optional_representation, around_representation, codec_representation}
-use Rattle.zarrs_chain_laws.proofs.ArraySteps.{bind_ok, ok_is}
+use Rattle.zarrs_bytes.proofs.Coding.{bind_ok}
+use Rattle.zarrs_chain_laws.proofs.ArraySteps.{ok_is}
 use Rattle.zarrs_chain_laws.proofs.ChainSteps.{seen_ok}
 use Rattle.zarrs_chain_laws.proofs.NestedStages.{arrays_are_map}
 

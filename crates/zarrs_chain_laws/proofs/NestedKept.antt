@@ -33,7 +33,7 @@ use Rattle.zarrs_chain_laws.specs.Written.{PartWritten, VlenWritten, OptionalWri
 use Rattle.zarrs_chain_laws.proofs.ArraySteps.{ok_is}
 use Rattle.zarrs_chain_laws.proofs.NestedGrowth.{Grows, is_both, vlen_unbounded, inner_grows}
 use Rattle.zarrs_chain_laws.proofs.NestedNormal.{Keeping}
-use Rattle.zarrs_chain_laws.proofs.NestedStages.{all_selected, spelling_bytes, element_bytes, outer_opened, arrays_are_map, row_positive}
+use Rattle.zarrs_chain_laws.proofs.NestedStages.{all_selected, spelling_bytes, element_bytes, outer_opened, arrays_are_map, row_positive, is_byte}
 use Rattle.zarrs_chain_laws.proofs.PackedElements.{packed_bytes}
 
 -- bytes, as many as was said
@@ -61,9 +61,6 @@ WritesMeasured write measure =
 
 -- ---- bytes of numbers
 
-abbrev is_byte : ℕ → Type 0
-is_byte byte = byte < 256
-
 byte_small : (i n : ℕ) → byte_at i n < 256
 byte_small zero n = omega arith
 byte_small (suc i) n = let part = n / 256 ^ suc i in omega arith
@@ -76,7 +73,7 @@ length_are : (part : List ℕ) → AreBytes (length_bytes part)
 unfolding length_bytes
 length_are part = low_first 0 8 (length part)
 
-length_long : (part : List ℕ) → length (length_bytes part) ≡ 8
+pub length_long : (part : List ℕ) → length (length_bytes part) ≡ 8
 unfolding length_bytes
 length_long part = refl
 

@@ -1,5 +1,5 @@
 -- What codecs keep of elements, those with chains inside too.
-use Rattle.std.proofs.Common.{◌≡◌, ℕ, Bool, true, false, zero, suc, List, [], ◌∷◌, get_or, map, set, if◌then◌else◌, arith, refl, ap, sym, ◌∙◌}
+use Rattle.std.proofs.Common.{◌≡◌, ℕ, zero, suc, List, [], ◌∷◌, get_or, map, set, arith, refl, ap, sym, ◌∙◌}
 use Rattle.std.proofs.lemmas.List.{length-map}
 use Rattle.std.proofs.lemmas.List.Elements.{All-nil, All-cons, All-head, All-tail}
 use Rattle.std.proofs.Math.ListN.{get_or-map}
@@ -9,12 +9,10 @@ use Rattle.zarrs_array_bytes.specs.Elements.{select}
 use Rattle.zarrs_array_bytes.specs.Update.{update}
 use Rattle.zarrs_codec.specs.CoordinateMap.{CoordinateMap, origins, moved_chunk}
 use Rattle.zarrs_bytes.specs.BytesCodec.{IsChunk}
-use Rattle.zarrs_packbits.specs.NormalForm.{normal_element as packbits_element}
-use Rattle.zarrs_packbits.specs.PackBitsSettings.{PackBitsSettings, has_bits}
 use Rattle.zarrs_chain_laws.specs.PlainChain.{PlainCodec, bytes_codec, packbits_codec, vlen_codec, optional_codec}
 use Rattle.zarrs_chain_laws.specs.NormalForm.{the_byte, vlen_normal, optional_normal, normal_element, normal_form}
 use Rattle.zarrs_chain_laws.specs.Representation.{byte_type}
-use Rattle.zarrs_chain_laws.proofs.PackedElements.{element_is, element_again}
+use Rattle.zarrs_chain_laws.proofs.PackedElements.{element_is, element_again, absent_stays}
 
 -- what is kept of elements
 abbrev pub Keeping : Type 0
@@ -126,16 +124,6 @@ normal_twice codec type (element ∷ chunk) h =
 
 -- ---- selected elements
 
-absent_by : (test : Bool) → (if test then absent else absent) ≡ absent
-absent_by true = refl
-absent_by false = refl
-
-packbits_absent : (settings : PackBitsSettings) (type : ElementType) → packbits_element settings type absent ≡ absent
-packbits_absent settings (fixed width components sign) = absent_by (has_bits settings width)
-packbits_absent settings text = refl
-packbits_absent settings bytes = refl
-packbits_absent settings (optional type) = refl
-
 vlen_absent : (keep : Keeping) (type : ElementType) → vlen_normal keep type absent ≡ absent
 vlen_absent keep (fixed width components sign) = refl
 vlen_absent keep text = refl
@@ -151,7 +139,7 @@ optional_absent keep (optional type) = refl
 kept_absent : {B : Type 0} (codec : PlainCodec B) (type : ElementType) → normal_element codec type absent ≡ absent
 unfolding normal_element
 kept_absent (bytes_codec order) type = refl
-kept_absent (packbits_codec settings) type = packbits_absent settings type
+kept_absent (packbits_codec settings) type = absent_stays settings type
 kept_absent (vlen_codec ia ix ib da dx db wide at_end) type = vlen_absent (normal_element dx) type
 kept_absent (optional_codec ma mx mb da dx db) type = optional_absent (normal_element dx) type
 

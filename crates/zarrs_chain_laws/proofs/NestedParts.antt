@@ -7,12 +7,12 @@ use Rattle.zarrs_chunk.specs.Answer.{demand}
 use Rattle.zarrs_chunk.specs.declared.codec_error.CodecError.TheVariants.{InvalidBytesLength, IndexLength, HeaderOverflow}
 use Rattle.zarrs_data_type.specs.ElementType.{ElementType, optional}
 use Rattle.zarrs_data_type.specs.Element.{Element, plain, absent, present, Chunk, IsElement, AreElements}
-use Rattle.zarrs_bytes.proofs.Coding.{demand_ok}
+use Rattle.zarrs_bytes.proofs.Coding.{demand_ok, ok, bind_ok}
 use Rattle.zarrs_packbits.proofs.Tests.{from_nat_lt, from_nat_le}
 use Rattle.zarrs_chain_laws.specs.Decode.{length_of, vlen_parts, optional_parts, flag_in, flags_in, count_set, under_flags}
 use Rattle.zarrs_chain_laws.specs.Encode.{flag_of, present_of}
 use Rattle.zarrs_chain_laws.specs.Stands.{arranged}
-use Rattle.zarrs_chain_laws.proofs.ArraySteps.{ok, bind_ok, ok_is}
+use Rattle.zarrs_chain_laws.proofs.ArraySteps.{ok_is}
 
 -- ---- parts of lists
 

@@ -18,7 +18,7 @@ use Rattle.zarrs_codec.specs.declared.bytes_representation.BytesRepresentation.{
 use Rattle.zarrs_array_to_array.specs.ArrayToArrayCodec.{ArrayMapping, IsMapping}
 use Rattle.zarrs_array_to_array.proofs.CoordinateMaps.{moved_again, undone_map}
 use Rattle.zarrs_bytes.specs.BytesCodec.{IsChunk}
-use Rattle.zarrs_bytes.proofs.Coding.{demand_ok, checked_ok}
+use Rattle.zarrs_bytes.proofs.Coding.{demand_ok, checked_ok, bind_ok}
 use Rattle.zarrs_bytes.proofs.Exact.{decoded_found}
 use Rattle.zarrs_packbits.proofs.Exact as packbits
 use Rattle.zarrs_chain_laws.specs.PlainChain.{PlainCodec, bytes_codec, packbits_codec, vlen_codec, optional_codec, PlainChain}
@@ -29,7 +29,7 @@ use Rattle.zarrs_chain_laws.specs.Encode.{offset_bytes, all_bytes, flag_of, pres
 use Rattle.zarrs_chain_laws.specs.Laws.{HasMappings, IsChainOfMappings}
 use Rattle.zarrs_chain_laws.specs.Representation.{Measure, flag_type, byte_type, offset_type, blank_fill, codec_representation}
 use Rattle.zarrs_chain_laws.specs.Stands.{Standing, PartStands, VlenStands, OptionalStands, StandsThrough, CodecStands, ChainStands}
-use Rattle.zarrs_chain_laws.proofs.ArraySteps.{bind_ok, ok_is}
+use Rattle.zarrs_chain_laws.proofs.ArraySteps.{ok_is}
 use Rattle.zarrs_chain_laws.proofs.NestedParts.{vlen_cut, optional_cut_found, flag_element, flags_found, flags_under, present_under, length_under, elements_under}
 use Rattle.zarrs_chain_laws.proofs.NestedStages.{arrays_are_map, row_positive}
 use Rattle.zarrs_chain_laws.proofs.NestedWrittenStands.{moved_is}

@@ -18,10 +18,6 @@ use Rattle.zarrs_packbits.proofs.Tests.{from_nat_lt, to_nat_lt}
 
 -- ---- lengths
 
-pub length_long : (part : List ℕ) → length (length_bytes part) ≡ 8
-unfolding length_bytes
-length_long part = refl
-
 pub length_again : (part : List ℕ) → length part < 2 ^ 64 → length_of (length_bytes part) ≡ length part
 unfolding length_of length_bytes
 length_again part lt = from_le_bytes-to_le_bytes_8 (length part) lt

@@ -1,10 +1,9 @@
 -- What the stages of a chain round its codec to bytes do, and the bytes of elements.
-use Rattle.std.proofs.Common.{◌≡◌, ℕ, zero, suc, ◌+◌, ◌*◌, ◌-◌, ◌<◌, ◌^◌, Option, Some, None, List, [], ◌∷◌, length, take, drop, get_or, reverse, map, Result, Ok, refl, ap, sym, subst, ◌∙◌}
+use Rattle.std.proofs.Common.{◌≡◌, ℕ, zero, suc, ◌+◌, ◌*◌, ◌-◌, ◌<◌, ◌^◌, Option, Some, None, List, [], ◌∷◌, length, take, drop, get_or, reverse, map, Ok, ap, sym, subst, ◌∙◌}
 use Rattle.std.specs.List.{All, concat, range_with_len}
 use Rattle.std.proofs.lemmas.List.Elements.{All-append, All-nil, All-cons, All-head, All-tail}
 use mathlib.Core.List.{reverse-cons}
 use Rattle.zarrs_chunk.specs.Answer.{◌>>=◌}
-use Rattle.zarrs_chunk.specs.declared.codec_error.CodecError.{CodecError}
 use Rattle.zarrs_data_type.specs.ElementType.{ElementType, fixed, text, bytes, optional, component_bytes}
 use Rattle.zarrs_data_type.specs.Element.{Element, plain, absent, present, Chunk}
 use Rattle.zarrs_data_type.specs.declared.endianness.Endianness.{Endianness}
@@ -20,11 +19,12 @@ use Rattle.zarrs_bytes.specs.BytesCodec.{spelling}
 use Rattle.zarrs_packbits.specs.Laws.{HasBytes}
 use Rattle.zarrs_chain_laws.specs.ArrayStages.{arrays_map}
 use Rattle.zarrs_chain_laws.specs.BytesStages.{outer_bytes, outer_representation, OuterWritten}
-use Rattle.zarrs_chain_laws.proofs.ArraySteps.{ok, map_parts}
+use Rattle.zarrs_bytes.proofs.Coding.{ok}
+use Rattle.zarrs_chain_laws.proofs.ArraySteps.{map_parts, next_answer}
 
 -- ---- bytes
 
-abbrev is_byte : ℕ → Type 0
+abbrev pub is_byte : ℕ → Type 0
 is_byte byte = byte < 256
 
 all_take : (n : ℕ) (xs : List ℕ) → AreBytes xs → AreBytes (take n xs)
@@ -84,9 +84,6 @@ pub outer_small : {B : Type 0} (f : BytesCodecs B) (codecs : List B) (below valu
 outer_small f [] below value h = h.0
 outer_small f (codec ∷ codecs) below value h = h.0
 
-opened_more : {A C : Type 0} (r : Result A CodecError) (x : A) (g : A → Result C CodecError) → r ≡ Ok x → r >>= g ≡ g x
-opened_more r x g a = rw a refl
-
 -- what was written is opened again, and is as many bytes as was said
 pub outer_opened : {B : Type 0} (f : BytesCodecs B) (codecs : List B) (r : BytesRepresentation) (below value : List ℕ) → IsLawful f → AreBytes below → KeepsTo r below → OuterWritten f codecs below value
     → (outer_bytes f codecs r value ≡ Ok below) × KeepsTo (outer_representation f codecs r) value
@@ -96,7 +93,7 @@ outer_opened f (codec ∷ codecs) r below value lawful each keeps h =
     let is_value : IsValue below = record { each = each; small = h.0 } in
     let small = outer_small f codecs above value h.1 in
     let rest = outer_opened f codecs (f.representation codec r) above value lawful (lawful.are_bytes codec below is_value) (lawful.kept codec r below is_value keeps small) h.1 in
-    (opened_more (outer_bytes f codecs (f.representation codec r) value) above (f.decoded_bytes codec r) rest.0 ∙ lawful.decode_undoes codec r below is_value keeps small, rest.1)
+    (next_answer (outer_bytes f codecs (f.representation codec r) value) above (f.decoded_bytes codec r) rest.0 ∙ lawful.decode_undoes codec r below is_value keeps small, rest.1)
 
 pub outer_once : {B : Type 0} (f : BytesCodecs B) (codecs : List B) (below value other : List ℕ) → OuterWritten f codecs below value → OuterWritten f codecs below other → value ≡ other
 outer_once f [] below value other h g = h.1 ∙ sym g.1
@@ -105,7 +102,7 @@ outer_once f (codec ∷ codecs) below value other h g = outer_once f codecs (f.e
 -- ---- array codecs
 
 chained_more : (codec : ArrayMapping) (codecs : List ArrayMapping) (sizes : List ℕ) (first rest : CoordinateMap) → coordinates codec sizes ≡ Ok first → chained codecs first.encoded ≡ Ok rest → chained (codec ∷ codecs) sizes ≡ Ok (composition first rest)
-chained_more codec codecs sizes first rest a b = opened_more (coordinates codec sizes) first (λ m. chained codecs m.encoded >>= (λ n. ok (composition m n))) a ∙ opened_more (chained codecs first.encoded) rest (λ n. ok (composition first n)) b
+chained_more codec codecs sizes first rest a b = next_answer (coordinates codec sizes) first (λ m. chained codecs m.encoded >>= (λ n. ok (composition m n))) a ∙ next_answer (chained codecs first.encoded) rest (λ n. ok (composition first n)) b
 
 -- where codecs take a chunk of the type, they do what they do of any
 pub chained_of : (type : ElementType) (codecs : List ArrayMapping) (sizes : List ℕ) (m : CoordinateMap) → arrays_map type codecs sizes ≡ Ok m → chained codecs sizes ≡ Ok m

@@ -32,9 +32,9 @@ use Rattle.zarrs_chain_laws.specs.Stands.{Standing, PartStands, VlenStands, Opti
 use Rattle.zarrs_chain_laws.specs.Written.{PartWritten, VlenWritten, OptionalWrittenFor, WrittenThrough, CodecWritten, ChainWritten}
 use Rattle.zarrs_chain_laws.proofs.NestedFlags.{KeepsFlags, keeps_flags, flags_stay}
 use Rattle.zarrs_chain_laws.proofs.NestedForNormal.{IsStringKept, text_kept, bytes_kept, offsets_kept, all_kept, items_kept, flags_kept, present_kept, normal_as_written}
-use Rattle.zarrs_chain_laws.proofs.NestedKept.{KeepsSize, codec_keeps, offsets_have, items_have, all_are, flags_have, present_have}
+use Rattle.zarrs_chain_laws.proofs.NestedKept.{KeepsSize, codec_keeps, offsets_have, items_have, all_are, flags_have, present_have, length_long}
 use Rattle.zarrs_chain_laws.proofs.NestedNormal.{Keeping, KeepsTypes, kept_byte, kept_is, vlen_is, optional_is, normal_elements, normal_selected}
-use Rattle.zarrs_chain_laws.proofs.NestedRows.{length_long, length_again, layout_arranged, index_small, offsets_again, offsets_rise, offsets_last, offsets_long, slices_again, items_again, items_long}
+use Rattle.zarrs_chain_laws.proofs.NestedRows.{length_again, layout_arranged, index_small, offsets_again, offsets_rise, offsets_last, offsets_long, slices_again, items_again, items_long}
 use Rattle.zarrs_chain_laws.proofs.NestedStages.{all_selected, outer_opened, arrays_are_map, row_positive}
 use Rattle.zarrs_chain_laws.proofs.NestedStands.{chain_one}
 use Rattle.zarrs_chain_laws.proofs.NestedWritten.{chain_once}

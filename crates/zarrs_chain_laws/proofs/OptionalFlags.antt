@@ -18,12 +18,12 @@ use Rattle.zarrs_array_bytes.specs.Validity.{sizes_fit, levels_fit, validity, Ho
 use Rattle.zarrs_array_bytes.proofs.Pieces.{pieces-suc, elements-pieces}
 use Rattle.zarrs_array_bytes.proofs.PresentLemmas.{marked, present_places-marked}
 use Rattle.zarrs_array_bytes.proofs.ValidLemmas.{both_ok, then_ok}
-use Rattle.zarrs_bytes.proofs.Coding.{demand_ok}
+use Rattle.zarrs_bytes.proofs.Coding.{demand_ok, ok}
 use Rattle.zarrs_packbits.proofs.Tests.{to_nat_lt}
 use Rattle.zarrs_chain_laws.specs.Decode.{flags_in, count_set, under_flags}
 use Rattle.zarrs_chain_laws.specs.Encode.{byte_elements, flag_of, present_of}
 use Rattle.zarrs_chain_laws.specs.Representation.{flag_type}
-use Rattle.zarrs_chain_laws.proofs.ArraySteps.{ok, err}
+use Rattle.zarrs_chain_laws.proofs.ArraySteps.{err}
 
 -- ---- flags of mask bytes
 

@@ -21,7 +21,7 @@ use Rattle.zarrs_codec.specs.BytesToBytesCodec.{BytesCodecs}
 use Rattle.zarrs_codec.specs.CoordinateMap.{moved_chunk, inverse_map}
 use Rattle.zarrs_codec.specs.declared.bytes_representation.BytesRepresentation.{BytesRepresentation}
 use Rattle.zarrs_array_to_array.proofs.CoordinateMaps.{length-moved}
-use Rattle.zarrs_bytes.proofs.Coding.{demand_ok, checked_ok}
+use Rattle.zarrs_bytes.proofs.Coding.{demand_ok, checked_ok, ok, bind_ok}
 use Rattle.zarrs_chain_laws.specs.PlainChain.{PlainChain, optional_codec_of}
 use Rattle.zarrs_chain_laws.specs.ArrayStages.{arrays_map}
 use Rattle.zarrs_chain_laws.specs.BytesStages.{in_memory, outer_bytes}
@@ -30,7 +30,7 @@ use Rattle.zarrs_chain_laws.specs.Decode.{Decoder, part_chunk, optional_parts, c
 use Rattle.zarrs_chain_laws.specs.Encode.{Encoder, part_value, byte_elements, flag_of, present_of, optional_layout, optional_value, chain_value, codec_value}
 use Rattle.zarrs_chain_laws.specs.optional.OptionalParts.{optional_inner, elements_under, present_part}
 use Rattle.zarrs_chain_laws.specs.Representation.{flag_type, blank_fill, both_representations, chain_representation, codec_representation}
-use Rattle.zarrs_chain_laws.proofs.ArraySteps.{ok, bind_ok, ok_is, ok_no_err, holds_elements}
+use Rattle.zarrs_chain_laws.proofs.ArraySteps.{ok_is, ok_no_err, holds_elements}
 use Rattle.zarrs_chain_laws.proofs.ChainRelations.{held_value_is}
 use Rattle.zarrs_chain_laws.proofs.ChainSteps.{held_chunk}
 use Rattle.zarrs_chain_laws.proofs.OptionalFlags.{set_in, flags_or_refusal, flags_read, count_present, expansion_under, present_same, flag_elements, flags_valid, flags_bytes}
@@ -233,7 +233,7 @@ chunk_answers result f mask content sizes type inner fill value mask_part data_p
     (subst (λ (x : Result Chunk CodecError). AnswersBy memory (Holds (optional inner)) result x) (sym opened) gives)
 
 -- as many elements as the sizes say
-chunk_long : {B : Type 0} (f : BytesCodecs B) (chain : PlainChain B) (sizes : List ℕ) (type : ElementType) (fill value : List ℕ) (chunk : Chunk) → chain_chunk f chain sizes type fill value ≡ Ok chunk → length chunk ≡ product sizes
+pub chunk_long : {B : Type 0} (f : BytesCodecs B) (chain : PlainChain B) (sizes : List ℕ) (type : ElementType) (fill value : List ℕ) (chunk : Chunk) → chain_chunk f chain sizes type fill value ≡ Ok chunk → length chunk ≡ product sizes
 chunk_long f chain sizes type fill value chunk e =
     let m = bind_ok (arrays_map type chain.arrays sizes) _ chunk e in
     let r = bind_ok (codec_representation f chain.codec m.0.encoded type fill) _ chunk m.2 in
@@ -241,7 +241,7 @@ chunk_long f chain sizes type fill value chunk e =
     let c = bind_ok (codec_chunk f chain.codec m.0.encoded type fill below.0) _ chunk below.2 in
     ap (λ (x : Chunk). length x) (sym (ok_is (moved_chunk (inverse_map sizes m.0) c.0) chunk c.2)) ∙ length-moved (inverse_map sizes m.0) c.0
 
-part_long : {B : Type 0} (f : BytesCodecs B) (chain : PlainChain B) (type : ElementType) (fill : List ℕ) (count : ℕ) (part : List ℕ) (chunk : Chunk) → part_chunk (chain_chunk f chain) type fill count part ≡ Ok chunk → length chunk ≡ count
+pub part_long : {B : Type 0} (f : BytesCodecs B) (chain : PlainChain B) (type : ElementType) (fill : List ℕ) (count : ℕ) (part : List ℕ) (chunk : Chunk) → part_chunk (chain_chunk f chain) type fill count part ≡ Ok chunk → length chunk ≡ count
 part_long f chain type fill zero part chunk e = ap (λ (x : Chunk). length x) (sym (ok_is [] chunk e))
 part_long f chain type fill (suc count) part chunk e = omega (arith, chunk_long f chain (suc count ∷ []) type fill part chunk e)
 

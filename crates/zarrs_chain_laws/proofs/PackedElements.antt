@@ -28,6 +28,7 @@ use Rattle.zarrs_packbits.proofs.LowBits.{bits_of-drop, bits_of-take}
 use Rattle.zarrs_packbits.proofs.Standing.{component_len, field_len, widened_len}
 use Rattle.zarrs_packbits.proofs.Taken.{taken}
 use Rattle.zarrs_packbits.proofs.Tests.{and_first, and_second, from_nat_le, from_nat_lt}
+use Rattle.zarrs_chain_laws.proofs.NestedStages.{is_byte}
 
 -- ---- one component
 
@@ -148,9 +149,6 @@ element_again settings (optional type) element h = refl
 
 -- ---- bytes
 
-abbrev is_byte : ℕ → Type 0
-is_byte byte = byte < 256
-
 small_bytes : (items : List ℕ) → ((i : ℕ) → get_or items i 0 < 256) → AreBytes items
 small_bytes [] h = All-nil is_byte
 small_bytes (item ∷ items) h = All-cons is_byte item items (h 0) (small_bytes items (λ i. h (suc i)))
@@ -200,11 +198,11 @@ packed_bytes settings sizes (optional type) fill value chunk w = absurd (let e =
 
 -- ---- chunks
 
-absent_test : (test : Bool) → (if test then absent else absent) ≡ absent
+pub absent_test : (test : Bool) → (if test then absent else absent) ≡ absent
 absent_test true = refl
 absent_test false = refl
 
-absent_stays : (settings : PackBitsSettings) (type : ElementType) → normal_element settings type absent ≡ absent
+pub absent_stays : (settings : PackBitsSettings) (type : ElementType) → normal_element settings type absent ≡ absent
 absent_stays settings (fixed width components sign) = absent_test (has_bits settings width)
 absent_stays settings text = refl
 absent_stays settings bytes = refl

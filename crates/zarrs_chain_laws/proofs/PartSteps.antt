@@ -13,7 +13,7 @@ use Rattle.zarrs_array_bytes.specs.Held.{Held}
 use Rattle.zarrs_array_bytes.specs.Validity.{sizes_fit, Holds}
 use Rattle.zarrs_chain_laws.specs.Chain.{row_sizes}
 use Rattle.zarrs_chain_laws.specs.Decode.{Decoder, part_chunk}
-use Rattle.zarrs_chain_laws.proofs.ArraySteps.{ok}
+use Rattle.zarrs_bytes.proofs.Coding.{ok}
 
 test_of_suc : (count : ℕ) → (suc count == 0) ≡ false
 test_of_suc count = grind (arith, nat_tests)

@@ -13,8 +13,8 @@ use Rattle.zarrs_chunk.specs.declared.codec_error.CodecError.TheVariants.{Offset
 use Rattle.zarrs_data_type.specs.Element.{Chunk, plain}
 use Rattle.zarrs_data_type.specs.ElementType.{element_size}
 use Rattle.zarrs_array_bytes.specs.Elements.{piece}
-use Rattle.zarrs_array_bytes.specs.Held.{Raw, flen}
-use Rattle.zarrs_array_bytes.specs.Offsets.{is_offsets, last_of}
+use Rattle.zarrs_array_bytes.specs.Held.{Raw, flen, Held, vlen, masked}
+use Rattle.zarrs_array_bytes.specs.Offsets.{is_offsets, last_of, rises}
 use Rattle.zarrs_array_bytes.specs.Pieces.{pieces}
 use Rattle.zarrs_array_bytes.specs.Validity.{Holds}
 use Rattle.zarrs_array_bytes.proofs.OffsetLemmas.{rising_last}
@@ -28,7 +28,25 @@ use Rattle.zarrs_chain_laws.specs.Decode.{offset_of, offsets_in_chunk}
 use Rattle.zarrs_chain_laws.specs.Encode.{offset_bytes, offset_elements}
 use Rattle.zarrs_chain_laws.specs.Representation.{offset_type}
 use Rattle.zarrs_chain_laws.specs.vlen.VlenSteps.{offset_size, bytes_from, from_first, offsets_fit, written_offsets, index_elements, read_offsets}
-use Rattle.zarrs_chain_laws.proofs.ArraySteps.{ok, err, ok_is}
+use Rattle.zarrs_bytes.proofs.Coding.{ok}
+use Rattle.zarrs_chain_laws.proofs.ArraySteps.{err, ok_is}
+use Rattle.zarrs_data_type.specs.FillValue.{fill_fits}
+use Rattle.zarrs_array_bytes.specs.Parts.{fixed_part}
+
+-- the offset zero, as a fill value
+pub zero_fits : (wide : Bool) → fill_fits (offset_type wide) (offset_bytes wide 0) ≡ true
+unfolding offset_bytes
+zero_fits true = refl
+zero_fits false = refl
+
+pub fixed_held : (held : Held) (raw : Raw) → fixed_part held ≡ Ok raw → held ≡ flen raw
+fixed_held (flen raw) other e = cc
+fixed_held (vlen raw offsets) other e = absurd cc
+fixed_held (masked inner mask) other e = absurd cc
+
+pub rises_are : (numbers : List ℕ) → 0 < length numbers → is_offsets numbers ≡ rises numbers
+rises_are [] l = absurd (omega arith)
+rises_are (number ∷ numbers) l = refl
 
 pub offset_long : (wide : Bool) (offset : ℕ) → length (offset_bytes wide offset) ≡ offset_size wide
 unfolding offset_bytes

@@ -12,6 +12,7 @@ use Rattle.zarrs_chain_lines.specs.Lines.{filled_lines}
 use Rattle.zarrs_chain_header.specs.Header.{Header, line_header}
 use Rattle.zarrs_chain_lines.specs.Commands.{State, first_state, answer_to}
 use Rattle.zarrs_chain_lines.specs.Run.{reply_of, out_of_memory, IsReply, output_line, AreReplies, IsDone, IsRefusedHeader, IsBadHeader, EndsDone, EndsBad}
+use Rattle.std.proofs.KnownBytes.{Appends-nil, Appends-trans}
 
 -- ---- the loop over the commands
 
@@ -28,19 +29,9 @@ Gives left after line = IfSome left (λ input. (rest : List ℕ) × (after ≡ S
 abbrev pub Ends : Option (List ℕ) → Option (List ℕ) → Type 0
 Ends left after = IfSome left (λ input. (rest : List ℕ) × (after ≡ Some rest) × (filled_lines input ≡ []) × (rest ≡ []))
 
-appends-none : (held : Option (List ℕ)) → Appends held held []
-appends-none None = tt
-appends-none (Some xs) = sym (append-nil xs)
-
-appends-more : (a b c : Option (List ℕ)) (x y : List ℕ) → Appends a b x → Appends b c y → Appends a c (x ++ y)
-appends-more None b c x y p q = tt
-appends-more (Some xs) None c x y p q = absurd p
-appends-more (Some xs) (Some ys) None x y p q = absurd q
-appends-more (Some xs) (Some ys) (Some zs) x y p q = q ∙ ap (λ l. l ++ y) p ∙ append_assoc xs x y
-
 pub so_far-start : (unread held : Option (List ℕ)) (state : State) → SoFar unread unread held held state state
 so_far-start None held state = tt
-so_far-start (Some input) held state = (input, [], refl, appends-none held, λ more h. h)
+so_far-start (Some input) held state = (input, [], refl, Appends-nil held, λ more h. h)
 
 pub so_far-more : (unread left after held holds grown : Option (List ℕ)) (first now next : State) (line reply : List ℕ) → SoFar unread left held holds first now → Gives left after line → IsReply now line reply next → Appends holds grown (output_line reply) → SoFar unread after held grown first next
 so_far-more None left after held holds grown first now next line reply h given replied grew = tt
@@ -49,7 +40,7 @@ so_far-more (Some input) left after held holds grown first now next line reply (
       taken.0,
       written ++ output_line reply,
       taken.1,
-      appends-more held holds grown written (output_line reply) appended grew,
+      Appends-trans held holds grown written (output_line reply) appended grew,
       λ more h.
           subst (λ out. AreReplies first (filled_lines input) out) (sym (append_assoc written (output_line reply) more))
           (all (output_line reply ++ more) (subst (λ commands. AreReplies now commands (output_line reply ++ more)) (sym taken.2) (reply, next, more, replied, refl, h))),
@@ -139,7 +130,7 @@ ends_done (Some input) mid left held holds line read state (rest, at, first) is 
 pub ends_empty : (unread left held : Option (List ℕ)) → Ends unread left → EndsDone unread left held held
 ends_empty None left held over = tt
 ends_empty (Some input) left held (rest, at, none, over) =
-    (at ∙ ap Some over, ([], appends-none held, subst (λ (commands : List (List ℕ)). IsDone commands []) (sym none) refl))
+    (at ∙ ap Some over, ([], Appends-nil held, subst (λ (commands : List (List ℕ)). IsDone commands []) (sym none) refl))
 
 -- after a bad header
 pub ends_bad : (unread mid held holds : Option (List ℕ)) (line read output : List ℕ) → Gives unread mid line → read ≡ line → IsBadHeader (read ∷ []) output → Appends held holds output → EndsBad unread held holds

@@ -26,7 +26,9 @@ use Rattle.zarrs_chain_whole.specs.ChainGrammar.{codec_grammar, TakenStands, Tak
 use Rattle.zarrs_chain_whole.specs.declared.optional.optional_codec.OptionalCodec.{OptionalCodec}
 use Rattle.zarrs_chain_whole.specs.declared.vlen.vlen_codec.VlenCodec.{VlenCodec}
 use Rattle.zarrs_chain_laws.proofs.Answered.{from_ok}
-use Rattle.zarrs_chain_laws.proofs.ArraySteps.{bind_ok, length-elements, holds_elements}
+use Rattle.zarrs_bytes.proofs.Coding.{bind_ok}
+use Rattle.zarrs_array_bytes.proofs.UpdatedLemmas.{length-elements}
+use Rattle.zarrs_chain_laws.proofs.ArraySteps.{holds_elements}
 use Rattle.zarrs_chain_laws.proofs.ChainSteps.{held_chunk}
 use Rattle.zarrs_chain_laws.proofs.NestedDecode.{chunk_only}
 use Rattle.zarrs_chain_laws.proofs.NestedEncode.{value_only}

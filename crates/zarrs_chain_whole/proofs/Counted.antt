@@ -13,9 +13,9 @@ use Rattle.zarrs_chain_laws.specs.Chain.{taken_chunk}
 use Rattle.zarrs_chain_laws.specs.Decode.{codec_chunk, chain_chunk}
 use Rattle.zarrs_chain_laws.specs.PlainChain.{PlainCodec, PlainChain}
 use Rattle.zarrs_chain_laws.specs.Representation.{codec_representation}
-use Rattle.zarrs_chain_laws.proofs.ArraySteps.{bind_ok}
+use Rattle.zarrs_bytes.proofs.Coding.{bind_ok}
 use Rattle.zarrs_chain_laws.proofs.ChainSteps.{chunk_count}
-use Rattle.zarrs_chain_whole.proofs.VlenDecode.{chain_long}
+use Rattle.zarrs_chain_laws.proofs.OptionalSteps.{chunk_long}
 
 answered_valid : (type : ElementType) (count : ℕ) (r : Result Held CodecError) (expected : Result Chunk CodecError) → ((chunk : Chunk) → expected ≡ Ok chunk → length chunk ≡ count) → AnswersBy memory (Holds type) r expected
     → IfOk r (λ held. validity type count held ≡ Ok tt)
@@ -25,7 +25,7 @@ answered_valid type count (Err e) expected long h = tt
 
 pub chain_valid : {B : Type 0} (f : BytesCodecs B) (chain : PlainChain B) (sizes : List ℕ) (type : ElementType) (fill value : List ℕ) (r : Result Held CodecError) → AnswersBy memory (Holds type) r (chain_chunk f chain sizes type fill value)
     → IfOk r (λ held. validity type (product sizes) held ≡ Ok tt)
-chain_valid f chain sizes type fill value r h = answered_valid type (product sizes) r (chain_chunk f chain sizes type fill value) (chain_long f chain sizes type fill value) h
+chain_valid f chain sizes type fill value r h = answered_valid type (product sizes) r (chain_chunk f chain sizes type fill value) (chunk_long f chain sizes type fill value) h
 
 pub codec_valid : {B : Type 0} (f : BytesCodecs B) (codec : PlainCodec B) (sizes : List ℕ) (type : ElementType) (fill value : List ℕ) (r : Result Held CodecError) → AnswersBy memory (Holds type) r (taken_chunk f codec sizes type fill value)
     → IfOk r (λ held. validity type (product sizes) held ≡ Ok tt)

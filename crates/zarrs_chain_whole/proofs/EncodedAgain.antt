@@ -25,7 +25,7 @@ use Rattle.zarrs_chain_laws.specs.PlainChain.{PlainChain, PlainCodec, bytes_code
 use Rattle.zarrs_chain_laws.specs.Representation.{codec_representation}
 use Rattle.zarrs_chain_laws.specs.Written.{ChainWritten}
 use Rattle.zarrs_chain_laws.proofs.Answered.{from_ok}
-use Rattle.zarrs_chain_laws.proofs.ArraySteps.{bind_ok}
+use Rattle.zarrs_bytes.proofs.Coding.{bind_ok}
 use Rattle.zarrs_chain_laws.proofs.HeldBytes.{chain_again, codec_again}
 use Rattle.zarrs_chain_whole.proofs.CodecRelations.{HasChains, value_written}
 use Rattle.zarrs_chain_whole.proofs.CodecSteps.{bytes_held_value, packbits_held_value, bytes_chunk_at, packbits_chunk_at}

@@ -25,7 +25,7 @@ use Rattle.zarrs_chain_laws.specs.Encode.{byte_elements, optional_layout, option
 use Rattle.zarrs_chain_laws.specs.optional.OptionalParts.{optional_inner, present_part}
 use Rattle.zarrs_chain_laws.specs.Representation.{flag_type, blank_fill, both_representations, chain_representation, codec_representation}
 use Rattle.zarrs_chain_whole.specs.declared.optional.optional_codec.OptionalCodec.{OptionalCodec, out-OptionalCodec}
-use Rattle.zarrs_chain_laws.proofs.ArraySteps.{ok}
+use Rattle.zarrs_bytes.proofs.Coding.{ok}
 use Rattle.zarrs_chain_laws.proofs.OptionalSteps.{representation_opened, representation_counted, inner_is, mask_not_written, part_not_written, both_written, part_written, value_by_mask, value_opened, chunk_opened, chunk_answers}
 
 -- ---- representation

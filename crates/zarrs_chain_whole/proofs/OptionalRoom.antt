@@ -28,12 +28,13 @@ use Rattle.zarrs_chain_laws.specs.Decode.{chain_chunk}
 use Rattle.zarrs_chain_laws.specs.Encode.{byte_elements}
 use Rattle.zarrs_chain_laws.specs.optional.OptionalParts.{optional_inner}
 use Rattle.zarrs_chain_laws.specs.Representation.{Measure, flag_type, blank_fill, around_representation, codec_representation}
-use Rattle.zarrs_chain_laws.proofs.ArraySteps.{ok, err, bind_ok, ok_is}
+use Rattle.zarrs_bytes.proofs.Coding.{ok, bind_ok}
+use Rattle.zarrs_chain_laws.proofs.ArraySteps.{err, ok_is}
 use Rattle.zarrs_chain_laws.proofs.ChainSteps.{seen_ok}
 use Rattle.zarrs_chain_laws.proofs.NestedGrowth.{is_both}
 use Rattle.zarrs_chain_laws.proofs.NestedRows.{items_long}
-use Rattle.zarrs_chain_whole.proofs.VlenDecode.{chain_long}
 use Rattle.zarrs_chain_laws.proofs.NestedStages.{arrays_are_map}
+use Rattle.zarrs_chain_laws.proofs.OptionalSteps.{inner_is, chunk_long}
 
 abbrev pub HasRoom : Measure → Type 0
 HasRoom measure =
@@ -120,18 +121,12 @@ room_at f codec sizes type fill has positive small taken = taken_room f codec si
 
 -- ---- under a mask
 
-inner_so : (type inner : ElementType) → optional_inner type ≡ Ok inner → type ≡ optional inner
-inner_so (fixed width components sign) inner e = absurd cc
-inner_so text inner e = absurd cc
-inner_so bytes inner e = absurd cc
-inner_so (optional type) inner e = ap optional (ok_is type inner e)
-
 -- the mask that a chain read has a byte for each element
 pub mask_long : {B : Type 0} (f : BytesCodecs B) (chain : PlainChain B) (sizes part mask : List ℕ) → chain_chunk f chain sizes flag_type (0 ∷ []) part ≡ Ok (byte_elements mask) → length mask ≡ product sizes
-mask_long f chain sizes part mask e = sym (items_long mask) ∙ chain_long f chain sizes flag_type (0 ∷ []) part (byte_elements mask) e
+mask_long f chain sizes part mask e = sym (items_long mask) ∙ chunk_long f chain sizes flag_type (0 ∷ []) part (byte_elements mask) e
 
 pub mask_room : {B : Type 0} (f : BytesCodecs B) (codec : PlainCodec B) (sizes : List ℕ) (type inner : ElementType) (fill mask : List ℕ)
     → HasMappings codec → All (λ size. 0 < size) sizes → IsOk (codec_representation f codec sizes type fill) → optional_inner type ≡ Ok inner → length mask ≡ product sizes → length mask + 1 < 2 ^ 64 → sizes_fit inner (length mask) ≡ Ok tt
 mask_room f codec sizes type inner fill mask has positive taken is long small =
     let due : sizes_fit type (product sizes) ≡ Ok tt = room_at f codec sizes type fill has positive (subst (λ (n : ℕ). n + 1 < 2 ^ 64) long small) taken in
-    ap (sizes_fit inner) long ∙ ap (λ u. sizes_fit u (product sizes)) (sym (inner_so type inner is)) ∙ due
+    ap (sizes_fit inner) long ∙ ap (λ u. sizes_fit u (product sizes)) (sym (inner_is type inner is)) ∙ due

@@ -36,7 +36,7 @@ vlen_simple sizes text fill taken = refl
 vlen_simple sizes bytes fill taken = refl
 vlen_simple sizes (optional type) fill taken = cc
 
-vlen_measured : {B : Type 0} (f : BytesCodecs B) (codec : VlenCodec B) (sizes : List ℕ) (type : ElementType) (fill : List ℕ) → codec_representation f (plain_vlen codec) sizes type fill ≡ vlen_representation sizes type fill
+pub vlen_measured : {B : Type 0} (f : BytesCodecs B) (codec : VlenCodec B) (sizes : List ℕ) (type : ElementType) (fill : List ℕ) → codec_representation f (plain_vlen codec) sizes type fill ≡ vlen_representation sizes type fill
 unfolding codec_representation
 vlen_measured f codec sizes type fill = rw (plain_vlen_at codec) refl
 

@@ -15,20 +15,16 @@ use Rattle.zarrs_data_type.specs.ElementType.{ElementType, fixed, text, bytes, o
 use Rattle.zarrs_data_type.specs.FillValue.{fill_fits}
 use Rattle.zarrs_array_bytes.specs.Elements.{cut, elements}
 use Rattle.zarrs_array_bytes.specs.Held.{Held, Raw, flen, vlen, masked}
-use Rattle.zarrs_array_bytes.specs.Offsets.{rises, is_offsets, last_of, offsets_of}
+use Rattle.zarrs_array_bytes.specs.Offsets.{rises, last_of, offsets_of}
 use Rattle.zarrs_array_bytes.specs.Parts.{fixed_part, with_offsets}
 use Rattle.zarrs_array_bytes.specs.Pieces.{pieces}
 use Rattle.zarrs_array_bytes.specs.Validity.{Holds}
 use Rattle.zarrs_array_bytes.proofs.OffsetLemmas.{flat_map-concat}
 use Rattle.zarrs_array_bytes.proofs.Pieces.{concat-pieces, elements-pieces}
 use Rattle.zarrs_array_bytes.proofs.ValidLemmas.{both_ok, fixed_fits}
-use Rattle.zarrs_array_to_array.proofs.CoordinateMaps.{length-moved}
 use Rattle.zarrs_bytes.specs.ByteOrder.{bytes_of}
 use Rattle.zarrs_codec.specs.BytesToBytesCodec.{BytesCodecs}
-use Rattle.zarrs_codec.specs.CoordinateMap.{moved_chunk, inverse_map}
 use Rattle.zarrs_chain_laws.specs.PlainChain.{PlainCodec, PlainChain, vlen_codec_of}
-use Rattle.zarrs_chain_laws.specs.ArrayStages.{arrays_map}
-use Rattle.zarrs_chain_laws.specs.BytesStages.{outer_bytes}
 use Rattle.zarrs_chain_laws.specs.Decode.{Decoder, part_chunk, offsets_in_chunk, slices, vlen_parts, codec_chunk, chain_chunk}
 use Rattle.zarrs_chain_laws.specs.Encode.{offset_bytes, all_bytes}
 use Rattle.zarrs_chain_laws.specs.Representation.{byte_type, offset_type, vlen_representation, codec_representation}
@@ -36,36 +32,18 @@ use Rattle.zarrs_chain_whole.specs.ChainView.{plain_chain, plain_vlen, plain_vle
 use Rattle.zarrs_chain_laws.specs.vlen.VlenSettings.{is_wide, is_at_end}
 use Rattle.zarrs_chain_laws.specs.vlen.VlenSteps.{data_part, read_offsets, index_offsets, content_bytes}
 use Rattle.zarrs_chain_whole.specs.declared.vlen.vlen_codec.VlenCodec.{VlenCodec, out-VlenCodec}
-use Rattle.zarrs_chain_laws.proofs.ArraySteps.{ok, err, bind_ok, ok_is, ok_no_err}
+use Rattle.zarrs_bytes.proofs.Coding.{ok, bind_ok}
+use Rattle.zarrs_chain_laws.proofs.ArraySteps.{err, ok_is, ok_no_err, next_answer}
 use Rattle.zarrs_chain_laws.proofs.NestedParts.{vlen_cut}
-use Rattle.zarrs_chain_laws.proofs.VlenOffsets.{numbers_in, numbers_long}
+use Rattle.zarrs_chain_laws.proofs.VlenOffsets.{numbers_in, numbers_long, zero_fits, fixed_held, rises_are}
+use Rattle.zarrs_chain_laws.proofs.OptionalSteps.{chunk_long, part_long}
+use Rattle.zarrs_chain_laws.proofs.ChainSteps.{next_err, held_chunk}
 
 -- ---- rows through a chain
-
-pub chain_long : {B : Type 0} (f : BytesCodecs B) (chain : PlainChain B) (sizes : List ℕ) (type : ElementType) (fill value : List ℕ) (chunk : Chunk) → chain_chunk f chain sizes type fill value ≡ Ok chunk → length chunk ≡ product sizes
-chain_long f chain sizes type fill value chunk e =
-    let m = bind_ok (arrays_map type chain.arrays sizes) _ chunk e in
-    let r = bind_ok (codec_representation f chain.codec m.0.encoded type fill) _ chunk m.2 in
-    let below = bind_ok (outer_bytes f chain.outer r.0 value) _ chunk r.2 in
-    let c = bind_ok (codec_chunk f chain.codec m.0.encoded type fill below.0) _ chunk below.2 in
-    ap length (sym (ok_is (moved_chunk (inverse_map sizes m.0) c.0) chunk c.2)) ∙ length-moved (inverse_map sizes m.0) c.0
-
-part_long : {B : Type 0} (f : BytesCodecs B) (chain : PlainChain B) (type : ElementType) (fill : List ℕ) (count : ℕ) (part : List ℕ) (chunk : Chunk) → part_chunk (chain_chunk f chain) type fill count part ≡ Ok chunk → length chunk ≡ count
-part_long f chain type fill zero part chunk e = ap length (sym (ok_is [] chunk e))
-part_long f chain type fill (suc count) part chunk e = let long = chain_long f chain (suc count ∷ []) type fill part chunk e in omega (arith, long)
 
 some_chunk : (decode : Decoder) (type : ElementType) (fill : List ℕ) (count : ℕ) (part : List ℕ) → 0 < count → part_chunk decode type fill count part ≡ decode (count ∷ []) type fill part
 some_chunk decode type fill zero part l = absurd (omega arith)
 some_chunk decode type fill (suc count) part l = refl
-
-held_chunk : (type : ElementType) (held : Held) (r : Result Chunk CodecError) → IsOkAnd r (Holds type held) → (chunk : Chunk) × (r ≡ Ok chunk) × Holds type held chunk
-held_chunk type held (Ok chunk) h = (chunk, refl, h)
-held_chunk type held (Err error) h = absurd h
-
-fixed_held : (held : Held) (raw : Raw) → fixed_part held ≡ Ok raw → held ≡ flen raw
-fixed_held (flen raw) other e = cc
-fixed_held (vlen raw offsets) other e = absurd cc
-fixed_held (masked inner mask) other e = absurd cc
 
 -- a container of elements of one size has their bytes
 pub fixed_there : (width components : ℕ) (sign : Bool) (held : Held) (r : Result Chunk CodecError) (error : CodecError) → IsOkAnd r (Holds (fixed width components sign) held) → fixed_part held ≡ Err error → ⊥
@@ -74,15 +52,6 @@ fixed_there width components sign (vlen raw offsets) r error h e = let c = held_
 fixed_there width components sign (masked inner mask) r error h e = let c = held_chunk (fixed width components sign) (masked inner mask) r h in ok_no_err tt ArrayBytesKind (sym (both_ok _ _ c.2.valid).1)
 
 -- ---- the index
-
-pub zero_fits : (wide : Bool) → fill_fits (offset_type wide) (offset_bytes wide 0) ≡ true
-unfolding offset_bytes
-zero_fits true = refl
-zero_fits false = refl
-
-rises_are : (numbers : List ℕ) → 0 < length numbers → is_offsets numbers ≡ rises numbers
-rises_are [] l = absurd (omega arith)
-rises_are (number ∷ numbers) l = refl
 
 -- the offsets that the bytes of a container spell are those of the index
 pub offsets_found : {B : Type 0} (f : BytesCodecs B) (chain : PlainChain B) (wide : Bool) (count : ℕ) (part : List ℕ) (held : Held) (raw : Raw) (numbers : List ℕ) → 0 < count
@@ -252,18 +221,12 @@ offsets_answered r f chain wide count part held type fill items numbers some t e
 
 -- ---- refusals and the answer, one level
 
-next_ok : {A C : Type 0} (r : Result A CodecError) (x : A) (g : A → Result C CodecError) → r ≡ Ok x → r >>= g ≡ g x
-next_ok r x g a = rw a refl
-
-next_err : {A C : Type 0} (r : Result A CodecError) (error : CodecError) (g : A → Result C CodecError) → r ≡ Err error → r >>= g ≡ Err error
-next_err r error g a = rw a refl
-
 -- past the parts
 past_parts : {B : Type 0} (f : BytesCodecs B) (codec : PlainCodec B) (index content : PlainChain B) (wide at_end : Bool) (sizes : List ℕ) (type : ElementType) (fill value i d : List ℕ)
     → codec ≡ vlen_codec_of index content wide at_end → ok (i, d) ≡ vlen_parts at_end value
     → codec_chunk f codec sizes type fill value ≡ checked_u64 (product sizes + 1) >>= (λ _. index_offsets f index wide (product sizes + 1) i >>= λ offsets. content_bytes f content (last_of offsets) d >>= λ items. ok (slices (product sizes) offsets items))
 past_parts f codec index content wide at_end sizes type fill value i d e h =
-    read_is f codec index content wide at_end sizes type fill value e ∙ next_ok (vlen_parts at_end value) (i, d) _ (sym h)
+    read_is f codec index content wide at_end sizes type fill value e ∙ next_answer (vlen_parts at_end value) (i, d) _ (sym h)
 
 counted_so : (n : ℕ) → n < 2 ^ 64 → checked_u64 n ≡ Ok n
 counted_so n l = let t : nat_lt n (2 ^ 64) ≡ true = grind (arith, nat_tests) in rw t refl
@@ -272,7 +235,7 @@ past_count : {B : Type 0} (f : BytesCodecs B) (codec : PlainCodec B) (index cont
     → codec ≡ vlen_codec_of index content wide at_end → ok (i, d) ≡ vlen_parts at_end value → product sizes + 1 < 2 ^ 64
     → codec_chunk f codec sizes type fill value ≡ index_offsets f index wide (product sizes + 1) i >>= (λ offsets. content_bytes f content (last_of offsets) d >>= λ items. ok (slices (product sizes) offsets items))
 past_count f codec index content wide at_end sizes type fill value i d e h l =
-    past_parts f codec index content wide at_end sizes type fill value i d e h ∙ next_ok (checked_u64 (product sizes + 1)) (product sizes + 1) _ (counted_so (product sizes + 1) l)
+    past_parts f codec index content wide at_end sizes type fill value i d e h ∙ next_answer (checked_u64 (product sizes + 1)) (product sizes + 1) _ (counted_so (product sizes + 1) l)
 
 pub read_index_refused : {B : Type 0} (f : BytesCodecs B) (codec : PlainCodec B) (index content : PlainChain B) (wide at_end : Bool) (sizes : List ℕ) (type : ElementType) (fill value i d : List ℕ) (error : CodecError)
     → codec ≡ vlen_codec_of index content wide at_end → ok (i, d) ≡ vlen_parts at_end value → product sizes + 1 < 2 ^ 64 → index_offsets f index wide (product sizes + 1) i ≡ Err error → codec_chunk f codec sizes type fill value ≡ Err error
@@ -283,7 +246,7 @@ pub read_content_refused : {B : Type 0} (f : BytesCodecs B) (codec : PlainCodec 
     → codec ≡ vlen_codec_of index content wide at_end → ok (i, d) ≡ vlen_parts at_end value → product sizes + 1 < 2 ^ 64 → index_offsets f index wide (product sizes + 1) i ≡ Ok offsets → content_bytes f content (last_of offsets) d ≡ Err error → codec_chunk f codec sizes type fill value ≡ Err error
 read_content_refused f codec index content wide at_end sizes type fill value i d offsets error e h l k m =
     past_count f codec index content wide at_end sizes type fill value i d e h l
-    ∙ next_ok (index_offsets f index wide (product sizes + 1) i) offsets (λ offsets. content_bytes f content (last_of offsets) d >>= λ items. ok (slices (product sizes) offsets items)) k
+    ∙ next_answer (index_offsets f index wide (product sizes + 1) i) offsets (λ offsets. content_bytes f content (last_of offsets) d >>= λ items. ok (slices (product sizes) offsets items)) k
     ∙ next_err (content_bytes f content (last_of offsets) d) error _ m
 
 pub read_done : {B : Type 0} (f : BytesCodecs B) (codec : PlainCodec B) (index content : PlainChain B) (wide at_end : Bool) (sizes : List ℕ) (type : ElementType) (fill value i d offsets items : List ℕ)
@@ -291,15 +254,15 @@ pub read_done : {B : Type 0} (f : BytesCodecs B) (codec : PlainCodec B) (index c
     → codec_chunk f codec sizes type fill value ≡ Ok (slices (product sizes) offsets items)
 read_done f codec index content wide at_end sizes type fill value i d offsets items e h l k m =
     past_count f codec index content wide at_end sizes type fill value i d e h l
-    ∙ next_ok (index_offsets f index wide (product sizes + 1) i) offsets (λ offsets. content_bytes f content (last_of offsets) d >>= λ items. ok (slices (product sizes) offsets items)) k
-    ∙ next_ok (content_bytes f content (last_of offsets) d) items (λ items. ok (slices (product sizes) offsets items)) m
+    ∙ next_answer (index_offsets f index wide (product sizes + 1) i) offsets (λ offsets. content_bytes f content (last_of offsets) d >>= λ items. ok (slices (product sizes) offsets items)) k
+    ∙ next_answer (content_bytes f content (last_of offsets) d) items (λ items. ok (slices (product sizes) offsets items)) m
 
 -- the offsets are one more than elements
 pub offsets_long : {B : Type 0} (f : BytesCodecs B) (chain : PlainChain B) (wide : Bool) (count : ℕ) (part offsets : List ℕ) → index_offsets f chain wide count part ≡ Ok offsets → length offsets ≡ count
 offsets_long f chain wide count part offsets e =
     let rows = bind_ok (chain_chunk f chain (count ∷ []) (offset_type wide) (offset_bytes wide 0) part) _ offsets e in
     let rising = bind_ok (demand (rises (offsets_in_chunk wide rows.0)) InvalidOffsets) _ offsets rows.2 in
-    let long = chain_long f chain (count ∷ []) (offset_type wide) (offset_bytes wide 0) part rows.0 rows.1 in
+    let long = chunk_long f chain (count ∷ []) (offset_type wide) (offset_bytes wide 0) part rows.0 rows.1 in
     ap length (sym (ok_is (offsets_in_chunk wide rows.0) offsets rising.2)) ∙ numbers_long wide rows.0 ∙ omega (arith, long)
 
 -- the index stands inside, and the data are what is left

@@ -3,8 +3,7 @@ use Rattle.zarrs_data_type.specs.Form.{form_of}
 use Rattle.std.proofs.Common.{◌≡◌, ℕ, suc, ◌+◌, ◌-◌, ◌<◌, ◌≤◌, ◌^◌, nat_lt, ◌&&◌, Bool, true, false, if◌then◌else◌, List, [], ◌∷◌, length, map, take, drop, slice_index, None, Result, Ok, Err, IsOk, arith, refl, ap, sym, subst, ◌∙◌, add-zero}
 use Rattle.std.specs.Prelude.{IsOkAnd}
 use Rattle.std.specs.List.{All, concat, range_with_len}
-use Rattle.std.proofs.lemmas.Bool.Decides.{nat_tests}
-use Rattle.std.proofs.lemmas.List.{length-drop, length-map, take_all}
+use Rattle.std.proofs.lemmas.List.{length-drop, take_all}
 use Rattle.std.proofs.lemmas.List.Folds.{flat_map-map}
 use Rattle.std.proofs.lemmas.Simd.{map-map}
 use Rattle.zarrs_chunk.specs.Answer.{◌>>=◌, Answers, memory, demand, checked_u64, seen}
@@ -38,7 +37,7 @@ use Rattle.zarrs_packbits.specs.PaddingByte.{value_len}
 use Rattle.zarrs_chain_laws.specs.PlainChain.{PlainCodec, bytes_codec, packbits_codec, vlen_codec, optional_codec, PlainChain, vlen_codec_of}
 use Rattle.zarrs_chain_laws.specs.ArrayStages.{arrays_map}
 use Rattle.zarrs_chain_laws.specs.BytesStages.{in_memory}
-use Rattle.zarrs_chain_laws.specs.Chain.{codec_held_value, held_value, held_part}
+use Rattle.zarrs_chain_laws.specs.Chain.{codec_held_value, held_part}
 use Rattle.zarrs_chain_laws.specs.Decode.{slices}
 use Rattle.zarrs_chain_laws.specs.Encode.{Encoder, part_value, chunk_offsets, offset_bytes, offset_fits, offset_elements, byte_elements, all_bytes, vlen_layout, is_same_bytes, vlen_value, codec_value, chain_value}
 use Rattle.zarrs_chain_laws.specs.Laws.{IsChainOfMappings}
@@ -47,11 +46,15 @@ use Rattle.zarrs_chain_laws.specs.Representation.{byte_type, offset_type, vlen_r
 use Rattle.zarrs_chain_whole.specs.ChainView.{plain_vlen, plain_vlen_at}
 use Rattle.zarrs_chain_whole.specs.declared.vlen.vlen_codec.VlenCodec.{VlenCodec}
 use Rattle.zarrs_chain_laws.specs.vlen.VlenSteps.{from_first, offsets_fit, index_elements, keeps_offsets, TakesOffsets, index_part, content_part}
-use Rattle.zarrs_chain_laws.proofs.ArraySteps.{ok, bind_ok, ok_is}
-use Rattle.zarrs_chain_laws.proofs.ChainSteps.{seen_ok, next_ok}
+use Rattle.zarrs_bytes.proofs.Coding.{ok, bind_ok}
+use Rattle.zarrs_chain_laws.proofs.ArraySteps.{ok_is, next_answer}
+use Rattle.zarrs_chain_laws.proofs.ChainSteps.{seen_ok, next_err}
 use Rattle.zarrs_chain_laws.proofs.NestedNormal.{Keeping}
 use Rattle.zarrs_chain_laws.proofs.NestedRows.{items_long}
 use Rattle.zarrs_chain_laws.proofs.NestedStages.{arrays_are_map, row_positive}
+use Rattle.zarrs_chain_laws.proofs.NestedEncode.{memory_so}
+use Rattle.zarrs_chain_laws.proofs.ChainRelations.{held_value_is}
+use Rattle.zarrs_chain_laws.proofs.VlenOffsets.{elements_long, some_offset}
 
 -- ---- elements of any length in a container
 
@@ -103,9 +106,6 @@ whole_offsets offsets items count r =
 
 -- ---- one level, as the code opens it
 
-small_so : (xs : List ℕ) → length xs < 2 ^ 64 → in_memory xs ≡ Ok xs
-small_so xs l = let t : nat_lt (length xs) (2 ^ 64) ≡ true = grind (arith, nat_tests) in rw t refl
-
 -- what is written, by the offsets and the bytes
 abbrev vlen_from : Bool → Bool → Keeping → Encoder → Encoder → List ℕ → List ℕ → Result (List ℕ) CodecError
 vlen_from wide at_end keep index content offsets all = do
@@ -140,9 +140,9 @@ vlen_value_is f index content wide at_end offsets items count r small =
     let first : ℕ = slice_index offsets 0 in
     let rows = offset_elements wide (from_first offsets) in
     let long : length (drop first items) ≡ last_of offsets - first = length-drop first items ∙ ap (λ n. n - first) (sym r.ending) in
-    let memory_is : in_memory (drop first items) ≡ Ok (drop first items) = small_so (drop first items) (omega (arith, length-drop first items)) in
+    let memory_is : in_memory (drop first items) ≡ Ok (drop first items) = memory_so (drop first items) (omega (arith, length-drop first items)) in
     (λ i. vlen_from wide at_end (normal_element index.codec) (chain_value f index) (chain_value f content) (whole_offsets offsets items count r i) (whole_bytes offsets items count r i))
-    ∙ next_ok (in_memory (drop first items)) (drop first items) (λ all. demand (offset_fits wide (length all)) OffsetTooLarge >>= λ _. chain_value f index (length rows ∷ []) (offset_type wide) (offset_bytes wide 0) rows >>= λ part. demand (is_same_bytes (map (normal_element index.codec (offset_type wide)) rows) rows) OffsetNotKept >>= λ _. part_value (chain_value f content) byte_type (0 ∷ []) (byte_elements all) >>= λ d. in_memory (vlen_layout at_end part d)) memory_is
+    ∙ next_answer (in_memory (drop first items)) (drop first items) (λ all. demand (offset_fits wide (length all)) OffsetTooLarge >>= λ _. chain_value f index (length rows ∷ []) (offset_type wide) (offset_bytes wide 0) rows >>= λ part. demand (is_same_bytes (map (normal_element index.codec (offset_type wide)) rows) rows) OffsetNotKept >>= λ _. part_value (chain_value f content) byte_type (0 ∷ []) (byte_elements all) >>= λ d. in_memory (vlen_layout at_end part d)) memory_is
     ∙ ap (λ n. demand (offset_fits wide n) OffsetTooLarge >>= λ _. chain_value f index (length rows ∷ []) (offset_type wide) (offset_bytes wide 0) rows >>= λ part. demand (is_same_bytes (map (normal_element index.codec (offset_type wide)) rows) rows) OffsetNotKept >>= λ _. content_part f content (drop first items) >>= λ d. in_memory (vlen_layout at_end part d)) long
     ∙ all_steps (offsets_fit wide offsets) rows (λ r. chain_value f index (length r ∷ []) (offset_type wide) (offset_bytes wide 0) r) (keeps_offsets index.codec wide offsets) (content_part f content (drop first items)) (λ part d. in_memory (vlen_layout at_end part d))
 
@@ -171,19 +171,6 @@ held_is f codec index content wide at_end sizes type fill raw offsets e t =
     ∙ vlen_value_is f index content wide at_end offsets raw.items count row t.small)
 
 -- ---- the elements of a row through a chain
-
-next_err : {A C : Type 0} (r : Result A CodecError) (error : CodecError) (g : A → Result C CodecError) → r ≡ Err error → r >>= g ≡ Err error
-next_err r error g a = rw a refl
-
-asked_twice : {R V : Type 0} (r : Result R CodecError) (v : Result (Unit {0}) CodecError) (g : Result V CodecError) → v ≡ Ok tt → r >>= (λ _. v >>= (λ _. r >>= (λ _. g))) ≡ r >>= (λ _. g)
-asked_twice (Ok x) v g valid = rw valid refl
-asked_twice (Err cause) v g valid = refl
-
-held_value_is : {B : Type 0} (f : BytesCodecs B) (chain : PlainChain B) (sizes : List ℕ) (type : ElementType) (fill : List ℕ) (held : Held) (chunk : Chunk) → Holds type held chunk → length chunk ≡ product sizes → held_value f chain sizes type fill held ≡ chain_value f chain sizes type fill chunk
-held_value_is f chain sizes type fill held chunk holds long =
-    let valid : validity type (product sizes) held ≡ Ok tt = subst (λ (k : ℕ). validity type k held ≡ Ok tt) long holds.valid in
-    let items : elements type (product sizes) held ≡ chunk = subst (λ (k : ℕ). elements type k held ≡ chunk) long holds.elements_are in
-    asked_twice (chain_representation f chain sizes type fill) (validity type (product sizes) held) _ valid ∙ ap (chain_value f chain sizes type fill) items
 
 pub part_is : {B : Type 0} (f : BytesCodecs B) (chain : PlainChain B) (type : ElementType) (fill : List ℕ) (held : Held) (chunk : Chunk) → Holds type held chunk → held_part f chain (length chunk) type fill held ≡ part_value (chain_value f chain) type fill chunk
 part_is f chain type fill held [] h = refl
@@ -214,10 +201,6 @@ content_is f chain raw small =
 
 -- ---- the index
 
-rows_long : (wide : Bool) (offsets : List ℕ) → length (offset_elements wide (from_first offsets)) ≡ length offsets
-rows_long wide offsets =
-    length-map (from_first offsets) (λ offset. plain (offset_bytes wide offset)) ∙ length-map offsets (λ offset. offset - slice_index offsets 0)
-
 elements_test : (test : Bool) (chunk : Chunk) (P : Chunk → Type 0) → IsOkAnd (demand test OffsetTooLarge >>= λ _. ok chunk) P → (test ≡ true) × P chunk
 elements_test true chunk P h = (refl, h)
 elements_test false chunk P h = absurd h
@@ -226,18 +209,14 @@ elements_test false chunk P h = absurd h
 pub elements_so : (wide : Bool) (offsets : List ℕ) (P : Chunk → Type 0) → IsOkAnd (index_elements wide offsets) P → (offsets_fit wide offsets ≡ true) × P (offset_elements wide (from_first offsets))
 elements_so wide offsets P h = elements_test (offsets_fit wide offsets) (offset_elements wide (from_first offsets)) P h
 
-some_offset : (offsets : List ℕ) → is_offsets offsets ≡ true → 0 < length offsets
-some_offset [] h = absurd cc
-some_offset (offset ∷ offsets) h = omega arith
-
 -- what a chain makes of the elements of an index
 pub index_is : {B : Type 0} (f : BytesCodecs B) (chain : PlainChain B) (wide : Bool) (offsets : List ℕ) (held : Held) → is_offsets offsets ≡ true → Holds (offset_type wide) held (offset_elements wide (from_first offsets))
     → held_part f chain (length offsets) (offset_type wide) (offset_bytes wide 0) held ≡ chain_value f chain (length (offset_elements wide (from_first offsets)) ∷ []) (offset_type wide) (offset_bytes wide 0) (offset_elements wide (from_first offsets))
 index_is f chain wide offsets held rising h =
     let rows = offset_elements wide (from_first offsets) in
-    ap (λ n. held_part f chain n (offset_type wide) (offset_bytes wide 0) held) (sym (rows_long wide offsets))
+    ap (λ n. held_part f chain n (offset_type wide) (offset_bytes wide 0) held) (sym (elements_long wide offsets))
     ∙ part_is f chain (offset_type wide) (offset_bytes wide 0) held rows h
-    ∙ some_part (chain_value f chain) (offset_type wide) (offset_bytes wide 0) rows (omega (arith, rows_long wide offsets, some_offset offsets rising))
+    ∙ some_part (chain_value f chain) (offset_type wide) (offset_bytes wide 0) rows (omega (arith, elements_long wide offsets, some_offset offsets rising))
 
 abbrev index_rest : {B : Type 0} → BytesCodecs B → PlainChain B → Bool → List ℕ → Chunk → Result (List ℕ) CodecError
 index_rest f chain wide offsets rows =
@@ -262,7 +241,7 @@ index_goes : {B : Type 0} (f : BytesCodecs B) (chain : PlainChain B) (wide : Boo
 index_goes f chain wide offsets held part rising h e =
     let so = elements_so wide offsets (Holds (offset_type wide) held) h in
     let rows = offset_elements wide (from_first offsets) in
-    fits_so f chain wide offsets so.0 ∙ next_ok (chain_value f chain (length rows ∷ []) (offset_type wide) (offset_bytes wide 0) rows) part (λ part. demand (keeps_offsets chain.codec wide offsets) OffsetNotKept >>= λ _. ok part) (sym (index_is f chain wide offsets held rising so.1) ∙ e)
+    fits_so f chain wide offsets so.0 ∙ next_answer (chain_value f chain (length rows ∷ []) (offset_type wide) (offset_bytes wide 0) rows) part (λ part. demand (keeps_offsets chain.codec wide offsets) OffsetNotKept >>= λ _. ok part) (sym (index_is f chain wide offsets held rising so.1) ∙ e)
 
 pub index_not_kept : {B : Type 0} (f : BytesCodecs B) (chain : PlainChain B) (wide : Bool) (offsets : List ℕ) (held : Held) (part : List ℕ) (error : CodecError) → is_offsets offsets ≡ true → IsOkAnd (index_elements wide offsets) (Holds (offset_type wide) held)
     → held_part f chain (length offsets) (offset_type wide) (offset_bytes wide 0) held ≡ Ok part → demand (keeps_offsets chain.codec wide offsets) OffsetNotKept ≡ Err error → index_part f chain wide offsets ≡ Err error
@@ -305,7 +284,7 @@ takes_so f chain wide offsets held part is rising h e =
     let so = elements_so wide offsets (Holds (offset_type wide) held) h in
     let rows = offset_elements wide (from_first offsets) in
     let whole : chain_value f chain (length offsets ∷ []) (offset_type wide) (offset_bytes wide 0) rows ≡ Ok part =
-    ap (λ n. chain_value f chain (n ∷ []) (offset_type wide) (offset_bytes wide 0) rows) (sym (rows_long wide offsets)) ∙ sym (index_is f chain wide offsets held rising so.1) ∙ e in
+    ap (λ n. chain_value f chain (n ∷ []) (offset_type wide) (offset_bytes wide 0) rows) (sym (elements_long wide offsets)) ∙ sym (index_is f chain wide offsets held rising so.1) ∙ e in
     let a = bind_ok (chain_representation f chain (length offsets ∷ []) (offset_type wide) (offset_bytes wide 0)) _ part whole in
     takes_codec f chain.arrays chain.codec chain.outer wide (length offsets) a.0 is.mappings (some_offset offsets rising) a.1
 
@@ -380,7 +359,7 @@ pub value_content_refused : {B : Type 0} (f : BytesCodecs B) (codec : PlainCodec
     → codec ≡ vlen_codec_of index content wide at_end → IsVariableHeld sizes type held raw offsets → index_part f index wide offsets ≡ Ok part → content_part f content (drop (slice_index offsets 0) raw.items) ≡ Err error → codec_held_value f codec sizes type fill held ≡ Err error
 value_content_refused f codec index content wide at_end sizes type fill held raw offsets part error e v h k =
     value_is f codec index content wide at_end sizes type fill held raw offsets e v
-    ∙ next_ok (index_part f index wide offsets) part (λ part. content_part f content (drop (slice_index offsets 0) raw.items) >>= λ d. in_memory (vlen_layout at_end part d)) h
+    ∙ next_answer (index_part f index wide offsets) part (λ part. content_part f content (drop (slice_index offsets 0) raw.items) >>= λ d. in_memory (vlen_layout at_end part d)) h
     ∙ next_err (content_part f content (drop (slice_index offsets 0) raw.items)) error (λ d. in_memory (vlen_layout at_end part d)) k
 
 pub value_joined : {B : Type 0} (f : BytesCodecs B) (codec : PlainCodec B) (index content : PlainChain B) (wide at_end : Bool) (sizes : List ℕ) (type : ElementType) (fill : List ℕ) (held : Held) (raw : Raw) (offsets part items : List ℕ)
@@ -388,8 +367,8 @@ pub value_joined : {B : Type 0} (f : BytesCodecs B) (codec : PlainCodec B) (inde
     → codec_held_value f codec sizes type fill held ≡ in_memory (vlen_layout at_end part items)
 value_joined f codec index content wide at_end sizes type fill held raw offsets part items e v h k =
     value_is f codec index content wide at_end sizes type fill held raw offsets e v
-    ∙ next_ok (index_part f index wide offsets) part (λ part. content_part f content (drop (slice_index offsets 0) raw.items) >>= λ d. in_memory (vlen_layout at_end part d)) h
-    ∙ next_ok (content_part f content (drop (slice_index offsets 0) raw.items)) items (λ d. in_memory (vlen_layout at_end part d)) k
+    ∙ next_answer (index_part f index wide offsets) part (λ part. content_part f content (drop (slice_index offsets 0) raw.items) >>= λ d. in_memory (vlen_layout at_end part d)) h
+    ∙ next_answer (content_part f content (drop (slice_index offsets 0) raw.items)) items (λ d. in_memory (vlen_layout at_end part d)) k
 
 -- ---- the first refusals, one level as the code opens it
 

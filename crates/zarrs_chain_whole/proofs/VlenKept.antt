@@ -2,7 +2,6 @@
 use Rattle.zarrs_data_type.specs.Form.{form_of}
 use Rattle.std.proofs.Common.{◌≡◌, ℕ, zero, suc, ◌+◌, ◌*◌, ◌<◌, ◌^◌, nat_eq, ◌&&◌, Bool, true, false, List, [], ◌∷◌, ◌++◌, length, map, take, drop, Option, Some, Result, Ok, Err, IsOk, arith, refl, ap, sym, subst, ◌∙◌}
 use Rattle.std.specs.Cmp.Lexicographic.{pointwise}
-use Rattle.std.proofs.lemmas.Bool.{eq-eqb}
 use Rattle.std.proofs.lemmas.List.{take-append-drop, length-drop, length-take, length-map, nil_from_length}
 use Rattle.zarrs_chunk.specs.Answer.{Answers, AnswersBy, memory, seen}
 use Rattle.zarrs_chunk.specs.ChunkShape.{product}
@@ -18,7 +17,6 @@ use Rattle.zarrs_array_bytes.specs.Pieces.{pieces}
 use Rattle.zarrs_array_bytes.specs.Validity.{Holds}
 use Rattle.zarrs_array_bytes.proofs.Pieces.{elements-pieces, pieces-suc}
 use Rattle.zarrs_array_bytes.proofs.ValidLemmas.{both_ok, fixed_fits}
-use Rattle.zarrs_bytes.specs.ByteOrder.{bytes_of}
 use Rattle.zarrs_packbits.specs.NormalForm.{normal_chunk}
 use Rattle.zarrs_packbits.specs.NormalForm as packbits
 use Rattle.zarrs_packbits.specs.PackBitsCodec.{PackBitsStands, PackBitsWritten}
@@ -36,7 +34,9 @@ use Rattle.zarrs_chain_whole.specs.declared.optional.optional_codec.OptionalCode
 use Rattle.zarrs_chain_whole.specs.declared.vlen.vlen_codec.VlenCodec.{VlenCodec}
 use Rattle.zarrs_chain_laws.specs.Chain.{row_sizes}
 use Rattle.zarrs_chain_laws.proofs.VlenOffsets.{index_holds, elements_long}
-use Rattle.zarrs_chain_laws.proofs.ArraySteps.{ok, err, ok_no_err}
+use Rattle.zarrs_bytes.proofs.Coding.{ok}
+use Rattle.zarrs_chain_laws.proofs.ArraySteps.{err, ok_no_err}
+use Rattle.zarrs_chain_laws.proofs.NestedEncode.{same_bytes}
 
 -- ---- the same bytes, element by element and joined
 
@@ -118,20 +118,12 @@ no_error chunk same error e = absurd cc
 
 -- ---- offsets
 
-same_items : (xs : List ℕ) → pointwise nat_eq xs xs ≡ true
-same_items [] = refl
-same_items (x ∷ xs) = rw (eq-eqb x x refl) (same_items xs)
-
-same_rows : (chunk : Chunk) → is_same_bytes chunk chunk ≡ true
-same_rows [] = refl
-same_rows (element ∷ chunk) = rw (same_items (bytes_of element)) (same_rows chunk)
-
 map_same : (keep : Element → Element) (chunk : Chunk) → ((element : Element) → keep element ≡ element) → map keep chunk ≡ chunk
 map_same keep [] same = refl
 map_same keep (element ∷ chunk) same = λ i. same element i ∷ map_same keep chunk same i
 
 all_kept : (keep : Element → Element) (chunk : Chunk) → ((element : Element) → keep element ≡ element) → is_same_bytes (map keep chunk) chunk ≡ true
-all_kept keep chunk same = ap (λ (c : Chunk). is_same_bytes c chunk) (map_same keep chunk same) ∙ same_rows chunk
+all_kept keep chunk same = ap (λ (c : Chunk). is_same_bytes c chunk) (map_same keep chunk same) ∙ same_bytes chunk
 
 -- only `packbits` may change a number
 kept_by_bytes : (B : Type 0) (order : Option Endianness) (wide : Bool) (offsets : List ℕ) → keeps_offsets {B = B} (bytes_codec order) wide offsets ≡ true

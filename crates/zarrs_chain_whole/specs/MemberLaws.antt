@@ -14,8 +14,9 @@ use Rattle.zarrs_chain_laws.specs.Chain.{taken_chunk}
 use Rattle.zarrs_chain_laws.specs.Decode.{chain_chunk, codec_chunk}
 use Rattle.zarrs_chain_laws.specs.PlainChain.{PlainChain, PlainCodec}
 use Rattle.zarrs_chain_laws.specs.Representation.{chain_representation, codec_representation}
-use Rattle.zarrs_chain_laws.proofs.ArraySteps.{bind_ok, ok_is}
-use Rattle.zarrs_chain_laws.proofs.ChainSteps.{chunk_count, next_ok}
+use Rattle.zarrs_bytes.proofs.Coding.{bind_ok}
+use Rattle.zarrs_chain_laws.proofs.ArraySteps.{ok_is, next_answer}
+use Rattle.zarrs_chain_laws.proofs.ChainSteps.{chunk_count}
 
 pub codec_fits : {B : Type 0} (f : BytesCodecs B) (codec : PlainCodec B) (form : Form) (value : List ℕ) (chunk : Chunk)
     → taken_chunk f codec form.sizes form.type form.fill value ≡ Ok chunk → FitsForm (codec_representation f codec form.sizes form.type form.fill) form chunk
@@ -31,8 +32,8 @@ chain_fits f chain form value chunk e =
     let below = bind_ok (outer_bytes f chain.outer r.0 value) _ chunk r.2 in
     let c = bind_ok (codec_chunk f chain.codec m.0.encoded form.type form.fill below.0) _ chunk below.2 in
     let taken : chain_representation f chain form.sizes form.type form.fill ≡ Ok (outer_representation f chain.outer r.0) =
-    next_ok (arrays_map form.type chain.arrays form.sizes) m.0 (λ map. codec_representation f chain.codec map.encoded form.type form.fill >>= λ inner. Ok (outer_representation f chain.outer inner)) m.1
-    ∙ next_ok (codec_representation f chain.codec m.0.encoded form.type form.fill) r.0 (λ inner. Ok (outer_representation f chain.outer inner)) r.1 in
+    next_answer (arrays_map form.type chain.arrays form.sizes) m.0 (λ map. codec_representation f chain.codec map.encoded form.type form.fill >>= λ inner. Ok (outer_representation f chain.outer inner)) m.1
+    ∙ next_answer (codec_representation f chain.codec m.0.encoded form.type form.fill) r.0 (λ inner. Ok (outer_representation f chain.outer inner)) r.1 in
     record {
       taken = subst IsOk (sym taken) refl;
       count = ap length (sym (ok_is (moved_chunk (inverse_map form.sizes m.0) c.0) chunk c.2)) ∙ length-moved (inverse_map form.sizes m.0) c.0;

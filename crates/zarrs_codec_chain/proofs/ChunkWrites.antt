@@ -27,7 +27,9 @@ use Rattle.zarrs_chain_laws.specs.Chain.{held_value}
 use Rattle.zarrs_codec_chain.specs.ChunkRead.{ChunkForm}
 use Rattle.zarrs_codec_chain.specs.ChunkWrite.{edited_value, started_chunk, value_left}
 use Rattle.zarrs_chain_laws.specs.Laws.{IsChainOfMappings}
-use Rattle.zarrs_chain_laws.proofs.ArraySteps.{ok, bind_ok, ok_is, length-elements}
+use Rattle.zarrs_bytes.proofs.Coding.{ok, bind_ok}
+use Rattle.zarrs_array_bytes.proofs.UpdatedLemmas.{length-elements}
+use Rattle.zarrs_chain_laws.proofs.ArraySteps.{ok_is}
 use Rattle.zarrs_chain_laws.proofs.ChainRelations.{held_value_is}
 use Rattle.zarrs_chain_laws.proofs.NestedRead.{chain_read_found}
 use Rattle.zarrs_codec_chain.proofs.PartialCalls.{held_of}

@@ -30,7 +30,7 @@ use Rattle.zarrs_chain_laws.specs.NormalForm.{normal_form}
 use Rattle.zarrs_chain_laws.specs.Written.{ChainWritten}
 use Rattle.zarrs_codec_chain.specs.declared.partial_encoder.edits.Edit.{Edit}
 use Rattle.zarrs_codec_chain.specs.declared.partial_encoder.edits.Edit.TheVariants.{Encode, Erase}
-use Rattle.zarrs_chain_laws.proofs.ArraySteps.{bind_ok}
+use Rattle.zarrs_bytes.proofs.Coding.{bind_ok}
 use Rattle.zarrs_chain_laws.proofs.ChainSteps.{seen_ok}
 use Rattle.zarrs_chain_laws.proofs.HeldBytes.{held_bytes}
 use Rattle.zarrs_codec_chain.proofs.ChunkWrites.{All-update, edited_is}

@@ -12,7 +12,7 @@ use Rattle.zarrs_chain_laws.specs.BytesStages.{outer_representation}
 use Rattle.zarrs_chain_laws.specs.Chain.{taken_form}
 use Rattle.zarrs_chain_laws.specs.PlainChain.{PlainChain}
 use Rattle.zarrs_chain_laws.specs.Representation.{chain_representation, codec_representation}
-use Rattle.zarrs_chain_laws.proofs.ArraySteps.{ok}
+use Rattle.zarrs_bytes.proofs.Coding.{ok}
 
 same_cause : {A : Type 0} (x e : CodecError) → ◌≡◌ {A = Result A CodecError} (Err x) (Err e) → ◌≡◌ {A = Result (Unit {0}) CodecError} (Err x) (Err e)
 same_cause x e h = cc

@@ -43,7 +43,8 @@ use Rattle.zarrs_chain_laws.specs.Representation.{codec_representation}
 use Rattle.zarrs_chain_whole.specs.declared.array_to_bytes_codec.ArrayToBytesCodec.{ArrayToBytesCodec}
 use Rattle.zarrs_chain_whole.specs.declared.array_to_bytes_codec.ArrayToBytesCodec.TheVariants.{Bytes, PackBits}
 use Rattle.zarrs_chain_laws.proofs.Answered.{from_ok}
-use Rattle.zarrs_chain_laws.proofs.ArraySteps.{ok, at_ok, bind_ok, ok_is}
+use Rattle.zarrs_bytes.proofs.Coding.{ok, bind_ok}
+use Rattle.zarrs_chain_laws.proofs.ArraySteps.{at_ok, ok_is}
 use Rattle.zarrs_chain_laws.proofs.ChainSteps.{chunk_count, is_taken}
 use Rattle.zarrs_codec_chain.proofs.PartialReads.{is_ok_of, places_through}
 

@@ -37,11 +37,13 @@ use Rattle.zarrs_chain_laws.specs.vlen.PlainVlen.{PlainForm, plain_form_of}
 use Rattle.zarrs_chain_laws.specs.Representation.{codec_representation}
 use Rattle.zarrs_codec_chain.specs.declared.partial_decoder.cache.CacheStage.{CacheStage}
 use Rattle.zarrs_codec_chain.specs.declared.partial_decoder.cache.CacheStage.TheVariants as stage
-use Rattle.zarrs_chain_laws.proofs.ArraySteps.{ok, bind_ok, ok_is}
+use Rattle.zarrs_bytes.proofs.Coding.{ok, bind_ok}
+use Rattle.zarrs_chain_laws.proofs.ArraySteps.{ok_is}
 use Rattle.zarrs_chain_laws.proofs.ChainSteps.{is_taken, seen_ok}
 use Rattle.zarrs_chain_laws.proofs.NestedStages.{arrays_are_map, chained_of}
 use Rattle.zarrs_chain_laws.proofs.PlainForms.{plain_is_plain}
 use Rattle.zarrs_plain_vlen.proofs.Selected.{decoded_selects}
+use Rattle.zarrs_plain_vlen.proofs.IndexOffsets.{same_answer}
 
 -- ---- what is known of a chunk that a chain takes
 
@@ -133,12 +135,8 @@ bind_again : {A C D : Type 0} (r : Result A CodecError) (g : A → Result C Code
 bind_again (Ok x) g h = refl
 bind_again (Err e) g h = refl
 
-bind_unit : {A : Type 0} (r : Result A CodecError) → (r >>= λ x. ok x) ≡ r
-bind_unit (Ok x) = refl
-bind_unit (Err e) = refl
-
 outer_append : {B : Type 0} (f : BytesCodecs B) (front back : List B) (r : BytesRepresentation) (value : List ℕ) → outer_bytes f (front ++ back) r value ≡ (outer_bytes f back (outer_representation f front r) value >>= outer_bytes f front r)
-outer_append f [] back r value = sym (bind_unit (outer_bytes f back r value))
+outer_append f [] back r value = sym (same_answer (outer_bytes f back r value))
 outer_append f (codec ∷ front) back r value =
     ap (λ (o : Result (List ℕ) CodecError). o >>= λ u. f.decoded_bytes codec r u) (outer_append f front back (f.representation codec r) value)
     ∙ bind_again (outer_bytes f back (outer_representation f front (f.representation codec r)) value) (outer_bytes f front (f.representation codec r)) (λ u. f.decoded_bytes codec r u)

@@ -37,7 +37,8 @@ use Rattle.zarrs_chain_laws.specs.PlainChain.{PlainCodec, bytes_codec, packbits_
 use Rattle.zarrs_chain_laws.specs.Representation.{codec_representation}
 use Rattle.zarrs_chain_laws.specs.Stands.{CodecStands, ChainStands}
 use Rattle.zarrs_chain_laws.specs.Written.{CodecWritten, ChainWritten}
-use Rattle.zarrs_chain_laws.proofs.ArraySteps.{ok, bind_ok, ok_is}
+use Rattle.zarrs_bytes.proofs.Coding.{ok, bind_ok}
+use Rattle.zarrs_chain_laws.proofs.ArraySteps.{ok_is}
 use Rattle.zarrs_chain_laws.proofs.ChainSteps.{seen_ok}
 use Rattle.zarrs_codec_chain.proofs.ChunkWrites.{edited_is, filled_is}
 use Rattle.zarrs_chain_laws.proofs.NestedDecode.{chain_chunk_only}

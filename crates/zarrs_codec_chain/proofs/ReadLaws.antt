@@ -17,7 +17,7 @@ use Rattle.zarrs_chain_laws.specs.Representation.{codec_representation}
 use Rattle.zarrs_codec_chain.specs.ChunkRead.{ChunkForm, codec_read, codec_rests_on, encoded_places, outer_stored}
 use Rattle.zarrs_codec_chain.specs.ReadLaws.{StoredReadsAlike, StoredSelects}
 use Rattle.zarrs_plain_vlen.specs.VlenRead.{rests_on}
-use Rattle.zarrs_chain_laws.proofs.ArraySteps.{ok, bind_ok}
+use Rattle.zarrs_bytes.proofs.Coding.{ok, bind_ok}
 use Rattle.zarrs_chain_laws.proofs.NestedDecode.{chain_chunk_only}
 use Rattle.zarrs_plain_vlen.proofs.Alike.{reads_alike}
 use Rattle.zarrs_codec_chain.proofs.PartialReads.{stored_selects}

@@ -41,7 +41,8 @@ use Rattle.zarrs_chain_laws.specs.Chain.{taken_form}
 use Rattle.zarrs_chain_laws.specs.Decode.{codec_chunk, vlen_parts}
 use Rattle.zarrs_chain_laws.specs.PlainChain.{PlainCodec, bytes_codec, packbits_codec, vlen_codec, optional_codec, PlainChain}
 use Rattle.zarrs_chain_laws.specs.vlen.PlainVlen.{PlainForm, plain_form_of}
-use Rattle.zarrs_chain_laws.proofs.ArraySteps.{ok, bind_ok, ok_no_err}
+use Rattle.zarrs_bytes.proofs.Coding.{ok, bind_ok}
+use Rattle.zarrs_chain_laws.proofs.ArraySteps.{ok_no_err}
 use Rattle.zarrs_chain_laws.proofs.NestedStages.{chained_of}
 use Rattle.zarrs_codec_chain.specs.ChunkRead.{ChunkForm, WhereSure, asks_in_part, codec_read, codec_rests_on, encoded_places, form_rests_on, read_by_form, whole_read}
 use Rattle.zarrs_codec_chain.specs.ChunkSource.{Source, bytes_above, chunk_below, source_places, source_read}

@@ -37,7 +37,7 @@ use Rattle.zarrs_array_regions.proofs.WindowMaps.{places_count, next_count, here
 use Rattle.zarrs_array_regions.proofs.KeptChains.{chain_keeps}
 use Rattle.zarrs_array_to_array.proofs.CoordinateMaps.{length-moved}
 use Rattle.zarrs_codec.specs.CoordinateMap.{moved_chunk}
-use Rattle.zarrs_chain_laws.proofs.ArraySteps.{ok}
+use Rattle.zarrs_bytes.proofs.Coding.{ok}
 use Rattle.zarrs_chain_laws.proofs.NestedStages.{chained_of}
 use Rattle.zarrs_codec_chain.specs.ChunkRead.{ChunkForm}
 use Rattle.zarrs_codec_chain.specs.ChunkWrite.{LendsData, form_checked, form_written, order_in_place, selection_left}

@@ -11,7 +11,8 @@ use Rattle.zarrs_codec.specs.declared.bytes_representation.BytesRepresentation.{
 use Rattle.zarrs_array_to_array.specs.ArrayToArrayCodec.{ArrayMapping}
 use Rattle.zarrs_chain_laws.specs.Chain.{taken_form}
 use Rattle.zarrs_codec_chain.specs.ChunkRead.{ChunkForm, asks_in_part, codec_rests_on, encoded_places, read_rests_on, WhereSure}
-use Rattle.zarrs_chain_laws.proofs.ArraySteps.{ok, error_is}
+use Rattle.zarrs_bytes.proofs.Coding.{ok}
+use Rattle.zarrs_chain_laws.proofs.ArraySteps.{error_is}
 
 -- ---- sure bytes
 

@@ -33,11 +33,13 @@ use Rattle.zarrs_codec_chain.specs.vlen.VlenPartialDecoder.{CodecForm, codec_sto
 use Rattle.zarrs_codec.specs.StorageState.{are_sure, StorageState}
 use Rattle.zarrs_chain_whole.specs.declared.vlen.vlen_codec.VlenCodec.{VlenCodec}
 use Rattle.zarrs_chain_laws.proofs.Answered.{from_ok}
-use Rattle.zarrs_chain_laws.proofs.ArraySteps.{ok, bind_ok, ok_is}
+use Rattle.zarrs_bytes.proofs.Coding.{ok, bind_ok}
+use Rattle.zarrs_chain_laws.proofs.ArraySteps.{ok_is}
 use Rattle.zarrs_chain_laws.proofs.ChainSteps.{chunk_count}
 use Rattle.zarrs_chain_laws.proofs.NestedDecode.{chunk_only}
 use Rattle.zarrs_codec_chain.proofs.PartialCalls.{counted_is, held_of, variable_fits}
 use Rattle.zarrs_codec_chain.proofs.PartialReads.{codec_fills, codec_selects}
+use Rattle.zarrs_chain_whole.proofs.TakenBlank.{vlen_measured}
 
 -- ---- chunks that the codec takes
 
@@ -59,12 +61,8 @@ taken_so sizes type fill taken =
       counted = counted_is (product sizes) b.0 b.1;
     }
 
-measured_at : {B : Type 0} (f : BytesCodecs B) (codec : VlenCodec B) (sizes : List ℕ) (type : ElementType) (fill : List ℕ) → codec_representation f (plain_vlen codec) sizes type fill ≡ vlen_representation sizes type fill
-unfolding codec_representation
-measured_at f codec sizes type fill = rw (plain_vlen_at codec) refl
-
 pub vlen_taken : {B : Type 0} (f : BytesCodecs B) (codec : VlenCodec B) (sizes : List ℕ) (type : ElementType) (fill : List ℕ) → is_ok (codec_representation f (plain_vlen codec) sizes type fill) ≡ true → IsTakenByVlen sizes type fill
-vlen_taken f codec sizes type fill taken = taken_so sizes type fill (ap is_ok (sym (measured_at f codec sizes type fill)) ∙ taken)
+vlen_taken f codec sizes type fill taken = taken_so sizes type fill (ap is_ok (sym (vlen_measured f codec sizes type fill)) ∙ taken)
 
 -- ---- what is read
 

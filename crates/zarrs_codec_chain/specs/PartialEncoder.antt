@@ -80,7 +80,3 @@ EncoderGives state f encoder selection result = ReadsChunk f (encoder_form encod
 abbrev pub EncoderLeaves : {H B : Type 0} {h : _} {w : _} {b : _} → (H → StorageState) → BytesCodecs B → (before after : ArrayPartialEncoder H B h w b) → Selection → Held → Result (Unit {0}) CodecError → Type 0
 EncoderLeaves state f before after selection new result =
     EditsChunk f (encoder_form before) (encoder_state state before) (encoder_state state after) selection new result
-
--- what a write leaves of a handle that is lent to it
-abbrev pub HandleWrites : {H T L : Type 0} → (H → StorageState) → (H → L) → Bool → (before after : H) → Result T CodecError → Type 0
-HandleWrites state lent atomic before after result = OnlyWrites {F = Unit {0}} state lent (λ _. tt) atomic before after result

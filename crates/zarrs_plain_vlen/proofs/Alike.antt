@@ -12,7 +12,8 @@ use Rattle.zarrs_array_bytes.specs.Elements.{cut}
 use Rattle.zarrs_array_bytes.proofs.ElementLemmas.{length_between}
 use Rattle.zarrs_codec.specs.ByteSpan.{ByteSpan}
 use Rattle.zarrs_chain_laws.specs.Decode.{length_of}
-use Rattle.zarrs_chain_laws.proofs.ArraySteps.{ok, ok_is}
+use Rattle.zarrs_bytes.proofs.Coding.{ok}
+use Rattle.zarrs_chain_laws.proofs.ArraySteps.{ok_is}
 use Rattle.zarrs_plain_vlen.specs.Laws.{ReadsAlike}
 use Rattle.zarrs_chain_laws.specs.vlen.PlainVlen.{PlainForm}
 use Rattle.zarrs_plain_vlen.specs.VlenLayout.{VlenLayout, span_bytes, span_numbers, head_at, head_of, layout_at, layout_within, layout_of}

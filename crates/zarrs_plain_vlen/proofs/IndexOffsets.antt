@@ -3,42 +3,36 @@ use Rattle.std.proofs.Common.{◌≡◌, ℕ, ◌+◌, ◌-◌, ◌*◌, ◌<◌
 use Rattle.std.specs.Prelude.{IsOkAnd}
 use Rattle.std.specs.List.{range_with_len}
 use Rattle.std.proofs.lemmas.List.FromFn.{length-map-range_with_len}
-use Rattle.zarrs_chunk.specs.Answer.{◌>>=◌, Answers, memory, demand, checked_u64, seen}
+use Rattle.zarrs_chunk.specs.Answer.{◌>>=◌, Answers, memory, demand, checked_u64}
 use Rattle.zarrs_chunk.specs.ChunkShape.{product}
 use Rattle.zarrs_chunk.specs.declared.codec_error.CodecError.{CodecError}
 use Rattle.zarrs_chunk.specs.declared.codec_error.CodecError.TheVariants.{InvalidBytesLength, InvalidOffsets, Overflow}
 use Rattle.zarrs_data_type.specs.Element.{Chunk}
-use Rattle.zarrs_data_type.specs.ElementType.{ElementType}
-use Rattle.zarrs_data_type.specs.FillValue.{fill_fits}
 use Rattle.zarrs_data_type.specs.declared.endianness.Endianness.{Endianness}
-use Rattle.zarrs_array_bytes.specs.Held.{Held, Raw, flen, vlen, masked}
-use Rattle.zarrs_array_bytes.specs.Offsets.{rises, is_offsets, offsets_of}
+use Rattle.zarrs_array_bytes.specs.Held.{Held, Raw, flen}
+use Rattle.zarrs_array_bytes.specs.Offsets.{rises, offsets_of}
 use Rattle.zarrs_array_bytes.specs.Parts.{fixed_part}
 use Rattle.zarrs_array_bytes.specs.Validity.{Holds}
 use Rattle.zarrs_bytes.specs.BytesCodec.{bytes_chunk, bytes_length, bytes_element}
 use Rattle.zarrs_chain_laws.specs.Decode.{offsets_in_chunk}
-use Rattle.zarrs_chain_laws.specs.Encode.{offset_bytes}
 use Rattle.zarrs_chain_laws.specs.Representation.{offset_type}
-use Rattle.zarrs_chain_laws.specs.vlen.VlenSteps.{offset_size, read_offsets}
-use Rattle.zarrs_chain_laws.proofs.ArraySteps.{ok, err, bind_ok, ok_is}
-use Rattle.zarrs_chain_laws.proofs.VlenOffsets.{numbers_in, numbers_long}
+use Rattle.zarrs_chain_laws.specs.vlen.VlenSteps.{offset_size, read_offsets, offsets_form}
+use Rattle.zarrs_bytes.proofs.Coding.{ok, bind_ok}
+use Rattle.zarrs_chain_laws.proofs.ArraySteps.{err, ok_is}
+use Rattle.zarrs_chain_laws.proofs.VlenOffsets.{numbers_in, numbers_long, zero_fits, fixed_held, rises_are}
 use Rattle.zarrs_array_bytes.proofs.ElementLemmas.{length_between}
 use Rattle.zarrs_codec.specs.ByteSpan.{ByteSpan}
 use Rattle.zarrs_plain_vlen.specs.VlenLayout.{span_bytes}
 use Rattle.zarrs_plain_vlen.specs.IndexSteps.{index_count}
 use Rattle.zarrs_chain_laws.specs.vlen.PlainVlen.{PlainForm}
-use Rattle.zarrs_plain_vlen.specs.VlenRead.{index_form, offsets_of_index, offsets_read}
+use Rattle.zarrs_plain_vlen.specs.VlenRead.{offsets_of_index, offsets_read}
+use Rattle.zarrs_chain_laws.proofs.ChainSteps.{held_chunk}
 
-pub zero_fits : (wide : Bool) → fill_fits (offset_type wide) (offset_bytes wide 0) ≡ true
-unfolding offset_bytes
-zero_fits true = refl
-zero_fits false = refl
-
-same_answer : {A : Type 0} (r : Result A CodecError) → (r >>= λ x. ok x) ≡ r
+pub same_answer : {A : Type 0} (r : Result A CodecError) → (r >>= λ x. ok x) ≡ r
 same_answer (Ok x) = refl
 same_answer (Err e) = refl
 
-row_length : (order : Endianness) (wide : Bool) (n m : ℕ) → bytes_length (Some order) (index_form wide n) ≡ (checked_u64 (product (n ∷ [])) >>= λ c. checked_u64 (c * offset_size wide) >>= λ len. ok len)
+row_length : (order : Endianness) (wide : Bool) (n m : ℕ) → bytes_length (Some order) (offsets_form wide n) ≡ (checked_u64 (product (n ∷ [])) >>= λ c. checked_u64 (c * offset_size wide) >>= λ len. ok len)
 row_length order true n m = rw (zero_fits true) refl
 row_length order false n m = rw (zero_fits false) refl
 
@@ -50,7 +44,7 @@ each_length wide (Ok c) = same_answer (checked_u64 (c * offset_size wide))
 each_length wide (Err e) = refl
 
 -- how long the part of so many offsets is
-pub index_long : (order : Endianness) (wide : Bool) (n : ℕ) → bytes_length (Some order) (index_form wide n) ≡ (checked_u64 n >>= λ c. checked_u64 (c * offset_size wide))
+pub index_long : (order : Endianness) (wide : Bool) (n : ℕ) → bytes_length (Some order) (offsets_form wide n) ≡ (checked_u64 n >>= λ c. checked_u64 (c * offset_size wide))
 index_long order wide n =
     row_length order wide n n
     ∙ ap (λ k. checked_u64 k >>= λ c. checked_u64 (c * offset_size wide) >>= λ len. ok len) (row_is n)
@@ -68,11 +62,11 @@ module _ (form : PlainForm) (count : ℕ) (index : List ℕ) where
   abbrev pub read : ℕ → Result (List ℕ) CodecError
   read n = offsets_of_index form n index
 
-  pub at_length : (n : ℕ) (r : Result ℕ CodecError) → bytes_length (Some form.order) (index_form form.wide n) ≡ r
+  pub at_length : (n : ℕ) (r : Result ℕ CodecError) → bytes_length (Some form.order) (offsets_form form.wide n) ≡ r
       → read n ≡ ((r >>= λ len. demand (found == len) (InvalidBytesLength found len) >>= λ _. ok (map (bytes_element (Some form.order) (offset_type form.wide) index) (range_with_len 0 (product (n ∷ []))))) >>= λ chunk. demand (rises (offsets_in_chunk form.wide chunk)) InvalidOffsets >>= λ _. ok (offsets_in_chunk form.wide chunk))
   at_length n r e = rw e refl
 
-  by_length : (n len : ℕ) → bytes_length (Some form.order) (index_form form.wide n) ≡ Ok len → read n ≡ ((demand (found == len) (InvalidBytesLength found len) >>= λ _. ok n) >>= read)
+  by_length : (n len : ℕ) → bytes_length (Some form.order) (offsets_form form.wide n) ≡ Ok len → read n ≡ ((demand (found == len) (InvalidBytesLength found len) >>= λ _. ok n) >>= read)
   by_length n len e = guard (found == len) (InvalidBytesLength found len) n read (read n) (λ _. refl) (λ t. at_length n (Ok len) e ∙ rw t refl)
 
   by_size : (n : ℕ) (test : Bool) → nat_lt n (2 ^ 64) ≡ true → nat_lt (n * offset_size form.wide) (2 ^ 64) ≡ test
@@ -97,32 +91,19 @@ index_refused form count index cause h = counted_err (index_count form.wide coun
 
 -- ---- rows
 
-held_chunk : (type : ElementType) (held : Held) (r : Result Chunk CodecError) → IsOkAnd r (Holds type held) → (chunk : Chunk) × (r ≡ Ok chunk) × Holds type held chunk
-held_chunk type held (Ok chunk) h = (chunk, refl, h)
-held_chunk type held (Err error) h = absurd h
-
-fixed_held : (held : Held) (raw : Raw) → fixed_part held ≡ Ok raw → held ≡ flen raw
-fixed_held (flen raw) other e = cc
-fixed_held (vlen raw offsets) other e = absurd cc
-fixed_held (masked inner mask) other e = absurd cc
-
-pub rises_are : (numbers : List ℕ) → 0 < length numbers → is_offsets numbers ≡ rises numbers
-rises_are [] l = absurd (omega arith)
-rises_are (number ∷ numbers) l = refl
-
-row_long : (order : Endianness) (wide : Bool) (count : ℕ) (index : List ℕ) (chunk : Chunk) → bytes_chunk (Some order) (index_form wide count) index ≡ Ok chunk → length chunk ≡ count
+row_long : (order : Endianness) (wide : Bool) (count : ℕ) (index : List ℕ) (chunk : Chunk) → bytes_chunk (Some order) (offsets_form wide count) index ≡ Ok chunk → length chunk ≡ count
 row_long order wide count index chunk e =
-    let l = bind_ok (bytes_length (Some order) (index_form wide count)) _ chunk e in
+    let l = bind_ok (bytes_length (Some order) (offsets_form wide count)) _ chunk e in
     let d = bind_ok (demand (length index == l.0) (InvalidBytesLength (length index) l.0)) _ chunk l.2 in
     ap length (sym (ok_is _ chunk d.2)) ∙ length-map-range_with_len (bytes_element (Some order) (offset_type wide) index) 0 (product (count ∷ [])) ∙ row_is count
 
 -- the offsets that the bytes of a container spell are those of the index
 pub offsets_found : (form : PlainForm) (count : ℕ) (part : List ℕ) (held : Held) (raw : Raw) (numbers : List ℕ) → 0 < count
-    → IsOkAnd (bytes_chunk (Some form.order) (index_form form.wide count) part) (Holds (offset_type form.wide) held) → fixed_part held ≡ Ok raw → numbers ≡ read_offsets form.wide raw.items
+    → IsOkAnd (bytes_chunk (Some form.order) (offsets_form form.wide count) part) (Holds (offset_type form.wide) held) → fixed_part held ≡ Ok raw → numbers ≡ read_offsets form.wide raw.items
     → offsets_of_index form count part ≡ offsets_of numbers
 offsets_found form count part held raw numbers some h is read =
     let wide = form.wide in
-    let c = held_chunk (offset_type wide) held (bytes_chunk (Some form.order) (index_form wide count) part) h in
+    let c = held_chunk (offset_type wide) held (bytes_chunk (Some form.order) (offsets_form wide count) part) h in
     let holds : Holds (offset_type wide) (flen raw) c.0 = subst (λ (x : Held). Holds (offset_type wide) x c.0) (fixed_held held raw is) c.2 in
     let same : offsets_in_chunk wide c.0 ≡ numbers = sym (read ∙ numbers_in wide raw c.0 holds) in
     let long : length numbers ≡ count = ap length (sym same) ∙ numbers_long wide c.0 ∙ row_long form.order wide count part c.0 c.1 in
@@ -133,7 +114,7 @@ offsets_found form count part held raw numbers some h is read =
 pub offsets_long : (form : PlainForm) (count : ℕ) (part offsets : List ℕ) → offsets_read form count part ≡ Ok offsets → length offsets ≡ count + 1
 offsets_long form count part offsets e =
     let n = bind_ok (checked_u64 (count + 1)) _ offsets e in
-    let rows = bind_ok (bytes_chunk (Some form.order) (index_form form.wide (count + 1)) part) _ offsets n.2 in
+    let rows = bind_ok (bytes_chunk (Some form.order) (offsets_form form.wide (count + 1)) part) _ offsets n.2 in
     let rising = bind_ok (demand (rises (offsets_in_chunk form.wide rows.0)) InvalidOffsets) _ offsets rows.2 in
     ap length (sym (ok_is (offsets_in_chunk form.wide rows.0) offsets rising.2)) ∙ numbers_long form.wide rows.0 ∙ row_long form.order form.wide (count + 1) part rows.0 rows.1
 
@@ -145,7 +126,7 @@ answers_same (Err error) expected e = λ _. sym e
 
 -- the offsets that a container's bytes spell are those of the index
 pub offsets_answered : (r : Result (List ℕ) CodecError) (form : PlainForm) (count : ℕ) (part : List ℕ) (held : Held) (raw : Raw) → 0 < count
-    → IsOkAnd (bytes_chunk (Some form.order) (index_form form.wide count) part) (Holds (offset_type form.wide) held)
+    → IsOkAnd (bytes_chunk (Some form.order) (offsets_form form.wide count) part) (Holds (offset_type form.wide) held)
     → ok raw ≡ fixed_part held → r ≡ offsets_of (read_offsets form.wide raw.items)
     → Answers memory (λ (x : List ℕ). x) r (offsets_of_index form count part)
 offsets_answered r form count part held raw some h same is =

@@ -34,12 +34,15 @@ use Rattle.zarrs_chain_laws.specs.Decode.{Decoder, around_chunk, codec_chunk, pa
 use Rattle.zarrs_chain_laws.specs.Encode.{all_bytes}
 use Rattle.zarrs_chain_laws.specs.PlainChain.{bytes_codec}
 use Rattle.zarrs_chain_laws.specs.Representation.{byte_type, codec_representation}
-use Rattle.zarrs_chain_laws.proofs.ArraySteps.{ok, err, bind_ok, ok_is}
+use Rattle.zarrs_bytes.proofs.Coding.{ok, bind_ok}
+use Rattle.zarrs_chain_laws.proofs.ArraySteps.{err, ok_is, next_answer}
 use Rattle.zarrs_chain_laws.proofs.NestedDecode.{chunk_only}
 use Rattle.zarrs_plain_vlen.specs.Laws.{ReadSelects, PartSelects}
 use Rattle.zarrs_chain_laws.specs.vlen.PlainVlen.{PlainForm, plain_codec_of}
-use Rattle.zarrs_plain_vlen.specs.VlenRead.{index_form, is_there, offsets_of_index, offsets_read, elements_read, vlen_read}
-use Rattle.zarrs_plain_vlen.proofs.IndexOffsets.{offsets_long, rises_are}
+use Rattle.zarrs_chain_laws.specs.vlen.VlenSteps.{offsets_form}
+use Rattle.zarrs_plain_vlen.specs.VlenRead.{is_there, offsets_of_index, offsets_read, elements_read, vlen_read}
+use Rattle.zarrs_plain_vlen.proofs.IndexOffsets.{offsets_long, row_is}
+use Rattle.zarrs_chain_laws.proofs.VlenOffsets.{rises_are}
 
 -- what the codec `bytes` reads
 abbrev pub bytes_decoder : Option Endianness → Decoder
@@ -63,9 +66,6 @@ bytes_back order part n e =
     bytes_from order part 0 n (omega (arith, e))
     ∙ flat_map-concat (piece 1 part) (range_with_len 0 n)
     ∙ concat-pieces 1 n part (let l : length part ≡ n * 1 = omega (arith, e) in l)
-
-one_row : (n : ℕ) → product (n ∷ []) ≡ n
-one_row n = omega arith
 
 checked_if : (test : Bool) (a b : ℕ) → nat_lt a (2 ^ 64) ≡ test → (if test then ok a else err Overflow) ≡ Ok b → b ≡ a
 checked_if true a b t h = sym (ok_is a b h)
@@ -91,7 +91,7 @@ data_known order (suc n) part chunk e some =
     let d = bind_ok (demand (length part == l.0) (InvalidBytesLength (length part) l.0)) _ chunk l.2 in
     let long : length part ≡ l.0 = eqb-true (length part) l.0 (demand_ok (length part == l.0) (InvalidBytesLength (length part) l.0) d.1) in
     let size : l.0 ≡ suc n = data_length order (suc n) l.0 l.1 in
-    (long ∙ size, ap all_bytes (sym (ok_is _ chunk d.2)) ∙ ap (λ k. all_bytes (map (bytes_element order byte_type part) (range_with_len 0 k))) (one_row (suc n)) ∙ bytes_back order part (suc n) (long ∙ size))
+    (long ∙ size, ap all_bytes (sym (ok_is _ chunk d.2)) ∙ ap (λ k. all_bytes (map (bytes_element order byte_type part) (range_with_len 0 k))) (row_is (suc n)) ∙ bytes_back order part (suc n) (long ∙ size))
 
 -- ---- elements
 
@@ -140,9 +140,6 @@ cuts_all offsets items content count (place ∷ places) rising long whole h =
 
 -- ---- the law
 
-next_ok : {A B : Type 0} (r : Result A CodecError) (x : A) (f : A → Result B CodecError) → r ≡ Ok x → (r >>= f) ≡ f x
-next_ok r x f e = rw e refl
-
 whole_selects : (form : PlainForm) (order : Option Endianness) (count : ℕ) (value : List ℕ) (chunk : Chunk) (places : List ℕ)
     → vlen_chunk form.wide form.at_end (bytes_decoder (Some form.order)) (bytes_decoder order) count value ≡ Ok chunk → All (λ place. place < count) places
     → vlen_read form count value places ≡ Ok (select chunk places)
@@ -152,21 +149,21 @@ whole_selects form order count value chunk places e below =
     let index = parts.0.0 in
     let content = parts.0.1 in
     let counted = bind_ok (checked_u64 (count + 1)) _ chunk parts.2 in
-    let rows = bind_ok (bytes_chunk (Some form.order) (index_form wide (count + 1)) index) _ chunk counted.2 in
+    let rows = bind_ok (bytes_chunk (Some form.order) (offsets_form wide (count + 1)) index) _ chunk counted.2 in
     let offsets = offsets_in_chunk wide rows.0 in
     let rising = bind_ok (demand (rises offsets) InvalidOffsets) _ chunk rows.2 in
     let items = bind_ok (part_chunk (bytes_decoder order) byte_type (0 ∷ []) (last_of offsets) content) _ chunk rising.2 in
     let is : slices count offsets (all_bytes items.0) ≡ chunk = ok_is _ chunk items.2 in
     let read : offsets_read form count index ≡ Ok offsets =
-    next_ok (checked_u64 (count + 1)) counted.0 (λ _. offsets_of_index form (count + 1) index) counted.1
-    ∙ next_ok (bytes_chunk (Some form.order) (index_form wide (count + 1)) index) rows.0 (λ rs. demand (rises (offsets_in_chunk wide rs)) InvalidOffsets >>= λ _. ok (offsets_in_chunk wide rs)) rows.1
-    ∙ next_ok (demand (rises offsets) InvalidOffsets) rising.0 (λ _. ok offsets) rising.1 in
+    next_answer (checked_u64 (count + 1)) counted.0 (λ _. offsets_of_index form (count + 1) index) counted.1
+    ∙ next_answer (bytes_chunk (Some form.order) (offsets_form wide (count + 1)) index) rows.0 (λ rs. demand (rises (offsets_in_chunk wide rs)) InvalidOffsets >>= λ _. ok (offsets_in_chunk wide rs)) rows.1
+    ∙ next_answer (demand (rises offsets) InvalidOffsets) rising.0 (λ _. ok offsets) rising.1 in
     let long : length offsets ≡ count + 1 = offsets_long form count index offsets read in
     let up : is_offsets offsets ≡ true = rises_are offsets (omega (arith, long)) ∙ demand_ok (rises offsets) InvalidOffsets rising.1 in
     let known = data_known order (last_of offsets) content items.0 items.1 in
     let there : list_all (is_there offsets (length content)) places ≡ true = there_all offsets (length content) count places up long (λ some. (known some).0) below in
-    next_ok (vlen_parts form.at_end value) parts.0 (λ p. offsets_read form count p.0 >>= λ os. elements_read os p.1 places) parts.1
-    ∙ next_ok (offsets_read form count index) offsets (λ os. elements_read os content places) read
+    next_answer (vlen_parts form.at_end value) parts.0 (λ p. offsets_read form count p.0 >>= λ os. elements_read os p.1 places) parts.1
+    ∙ next_answer (offsets_read form count index) offsets (λ os. elements_read os content places) read
     ∙ ap (λ (b : Bool). demand b InvalidByteRange >>= λ _. ok (map (λ place. plain (cut offsets content place)) places)) there
     ∙ ap ok (sym (cuts_all offsets (all_bytes items.0) content count places up long (λ some. (known some).1) below))
     ∙ ap ok (sym (select_slices count offsets (all_bytes items.0) places below))

@@ -8,7 +8,8 @@ use Rattle.zarrs_chunk.specs.declared.codec_error.CodecError.{CodecError}
 use Rattle.zarrs_data_type.specs.Element.{Chunk}
 use Rattle.zarrs_codec.specs.StorageState.{are_sure}
 use Rattle.zarrs_chain_laws.specs.Decode.{vlen_parts}
-use Rattle.zarrs_chain_laws.proofs.ArraySteps.{ok, err}
+use Rattle.zarrs_bytes.proofs.Coding.{ok}
+use Rattle.zarrs_chain_laws.proofs.ArraySteps.{err, next_answer}
 use Rattle.zarrs_chain_laws.specs.vlen.PlainVlen.{PlainForm}
 use Rattle.zarrs_plain_vlen.specs.VlenLayout.{VlenLayout, span_bytes, span_numbers, head_of, layout_of}
 use Rattle.zarrs_data_type.specs.ElementType.{ElementType}
@@ -16,9 +17,6 @@ use Rattle.zarrs_plain_vlen.specs.PlainRead.{plain_read}
 use Rattle.zarrs_plain_vlen.specs.VlenRead.{stored_vlen_read, offsets_read, elements_read, vlen_read, numbers_in, elements_at, rests_on}
 use Rattle.zarrs_plain_vlen.proofs.IndexOffsets.{offsets_long}
 use Rattle.zarrs_plain_vlen.proofs.LayoutParts.{parts_at, parts_are}
-
-next_ok : {A B : Type 0} (r : Result A CodecError) (x : A) (f : A → Result B CodecError) → r ≡ Ok x → (r >>= f) ≡ f x
-next_ok r x f e = rw e refl
 
 next_err : {A B : Type 0} (r : Result A CodecError) (cause : CodecError) (f : A → Result B CodecError) → r ≡ Err cause → (r >>= f) ≡ err cause
 next_err r cause f e = rw e refl
@@ -30,18 +28,18 @@ module _ (form : PlainForm) (count : ℕ) (value places : List ℕ) where
   rest parts = offsets_read form count parts.0 >>= λ offsets. elements_read offsets parts.1 places
 
   parts_ok : (layout : VlenLayout) → layout_of form.at_end value ≡ Ok layout → vlen_parts form.at_end value ≡ ok (parts_at value layout)
-  parts_ok layout e = parts_are form.at_end value ∙ next_ok (layout_of form.at_end value) layout (λ l. ok (parts_at value l)) e
+  parts_ok layout e = parts_are form.at_end value ∙ next_answer (layout_of form.at_end value) layout (λ l. ok (parts_at value l)) e
 
   pub read_unindexed : (layout : VlenLayout) (cause : CodecError) → layout_of form.at_end value ≡ Ok layout → offsets_read form count (span_bytes value layout.index) ≡ Err cause → vlen_read form count value places ≡ Err cause
   read_unindexed layout cause e f =
-      next_ok (vlen_parts form.at_end value) (parts_at value layout) rest (parts_ok layout e)
+      next_answer (vlen_parts form.at_end value) (parts_at value layout) rest (parts_ok layout e)
       ∙ next_err (offsets_read form count (span_bytes value layout.index)) cause (λ offsets. elements_read offsets (span_bytes value layout.content) places) f
 
   pub read_indexed : (layout : VlenLayout) (offsets : List ℕ) → layout_of form.at_end value ≡ Ok layout → offsets_read form count (span_bytes value layout.index) ≡ Ok offsets
       → vlen_read form count value places ≡ elements_read offsets (span_bytes value layout.content) places
   read_indexed layout offsets e f =
-      next_ok (vlen_parts form.at_end value) (parts_at value layout) rest (parts_ok layout e)
-      ∙ next_ok (offsets_read form count (span_bytes value layout.index)) offsets (λ offsets. elements_read offsets (span_bytes value layout.content) places) f
+      next_answer (vlen_parts form.at_end value) (parts_at value layout) rest (parts_ok layout e)
+      ∙ next_answer (offsets_read form count (span_bytes value layout.index)) offsets (λ offsets. elements_read offsets (span_bytes value layout.content) places) f
 
 -- ---- sure bytes
 

@@ -22,10 +22,6 @@ use Rattle.zarrs_plain_vlen.specs.VlenRead.{is_there, element_numbers, elements_
 abbrev pub blank_element : List ℕ → ℕ → List ℕ
 blank_element offsets place = replicate (slice_index offsets (place + 1) - slice_index offsets place) 0
 
--- how many bytes a run of elements has
-abbrev pub run_size : List ℕ → ℕ → ℕ → ℕ
-run_size offsets first count = slice_index offsets (first + count) - slice_index offsets first
-
 -- how many bytes the elements of the runs have
 abbrev pub joined_size : List ℕ → List (ℕ × ℕ) → ℕ
 joined_size offsets runs = length (flat_map (blank_element offsets) (joined_runs runs))

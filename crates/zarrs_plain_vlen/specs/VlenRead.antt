@@ -1,30 +1,24 @@
 -- What a read in part answers through a plain `vlen`, and the bytes that the answer rests on.
-use Rattle.std.specs.Prelude.{ℕ, ◌+◌, ◌-◌, Bool, nat_le, ◌||◌, Option, Some, None, List, [], ◌∷◌, ◌++◌, length, map, slice_index, Result, Ok, Err}
+use Rattle.std.specs.Prelude.{ℕ, ◌+◌, ◌-◌, Bool, nat_le, ◌||◌, Option, Some, None, List, [], ◌++◌, length, map, slice_index, Result, Ok, Err}
 use Rattle.std.specs.List.{flat_map, list_all, range_with_len}
 use Rattle.zarrs_chunk.specs.Answer.{◌>>=◌, demand, checked_u64, seen}
 use Rattle.zarrs_chunk.specs.declared.codec_error.CodecError.{CodecError}
 use Rattle.zarrs_chunk.specs.declared.codec_error.CodecError.TheVariants.{InvalidOffsets, InvalidByteRange}
 use Rattle.zarrs_data_type.specs.Element.{plain, Chunk}
-use Rattle.zarrs_data_type.specs.Form.{Form, form_of}
 use Rattle.zarrs_array_bytes.specs.Elements.{cut}
 use Rattle.zarrs_array_bytes.specs.Offsets.{rises}
 use Rattle.zarrs_bytes.specs.BytesCodec.{bytes_chunk}
 use Rattle.zarrs_chain_laws.specs.Decode.{offsets_in_chunk, vlen_parts}
-use Rattle.zarrs_chain_laws.specs.Encode.{offset_bytes}
-use Rattle.zarrs_chain_laws.specs.Representation.{offset_type}
 use Rattle.zarrs_chain_laws.specs.vlen.PlainVlen.{PlainForm}
 use Rattle.zarrs_plain_vlen.specs.VlenLayout.{span_numbers, head_of, layout_of, span_bytes}
+use Rattle.zarrs_chain_laws.specs.vlen.VlenSteps.{offsets_form}
 
 -- ---- the answer
-
--- the form of an index of so many offsets: a row of them
-abbrev pub index_form : Bool → ℕ → Form
-index_form wide count = form_of (count ∷ []) (offset_type wide) (offset_bytes wide 0)
 
 -- so many offsets that an index part stands for, or the first refusal
 abbrev pub offsets_of_index : PlainForm → ℕ → List ℕ → Result (List ℕ) CodecError
 offsets_of_index form count index = do
-  chunk ← bytes_chunk (Some form.order) (index_form form.wide count) index
+  chunk ← bytes_chunk (Some form.order) (offsets_form form.wide count) index
   _ ← demand (rises (offsets_in_chunk form.wide chunk)) InvalidOffsets
   Ok (offsets_in_chunk form.wide chunk)
 

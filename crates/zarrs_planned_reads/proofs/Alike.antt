@@ -21,9 +21,10 @@ use Rattle.zarrs_packbits.specs.PartialRead.{all_below, packed_places_bytes, rea
 use Rattle.zarrs_packbits.proofs.CodecLaws as packed
 use Rattle.zarrs_chain_laws.specs.Chain.{taken_form}
 use Rattle.zarrs_chain_laws.specs.PlainChain.{PlainCodec, bytes_codec, packbits_codec, vlen_codec, optional_codec}
-use Rattle.zarrs_chain_laws.proofs.ArraySteps.{ok, bind_ok}
+use Rattle.zarrs_bytes.proofs.Coding.{ok, bind_ok}
 use Rattle.zarrs_codec_chain.specs.ChunkRead.{ChunkForm, asks_in_part, codec_plans, codec_read, codec_rests_on, encoded_places, outer_stored, reads_places}
 use Rattle.zarrs_planned_reads.specs.PlannedReads.{ArePlanned, PlannedIsAsked, PlannedReadsAlike, SizedReadsAlike}
+use Rattle.zarrs_packbits.proofs.Tests.{from_nat_lt, from_nat_le}
 
 -- ---- bytes inside values of one length
 
@@ -36,22 +37,16 @@ passes_at test [] k d all l = absurd (omega arith)
 passes_at test (n ∷ numbers) zero d all l = grind (arith, nat_tests)
 passes_at test (n ∷ numbers) (suc k) d all l = grind (arith, nat_tests, passes_at test numbers k d)
 
-below_is : (n count : ℕ) → nat_lt n count ≡ true → n < count
-below_is n count e = grind (arith, nat_tests)
-
 -- values of one length that agree at numbers inside both have these bytes
 same_bytes : (value other numbers : List ℕ) → length value ≡ length other → all_below (length value) numbers ≡ true → Agree value other numbers → All (SameByte value other) numbers
 same_bytes value other numbers long inside same k d l =
     let n : ℕ = get_or numbers k d in
-    let here : n < length value = below_is n (length value) (passes_at (λ number. nat_lt number (length value)) numbers k d inside l) in
+    let here : n < length value = from_nat_lt n (length value) (passes_at (λ number. nat_lt number (length value)) numbers k d inside l) in
     record { in_value = here; in_other = omega (arith, here, long); same = same k d l }
 
 row_below : (start len count : ℕ) → start + len ≤ count → all_below count (range_with_len start len) ≡ true
 row_below start zero count l = refl
 row_below start (suc len) count l = grind (arith, nat_tests, row_below (start + 1) len count)
-
-le_is : (a b : ℕ) → nat_le a b ≡ true → a ≤ b
-le_is a b e = grind (arith, nat_tests)
 
 -- where a value has places, it has their bytes
 places_below : (type : ElementType) (value places : List ℕ) → list_all (has_place type value) places ≡ true → all_below (length value) (place_bytes (place_size type) places) ≡ true
@@ -61,7 +56,7 @@ places_below type value (place ∷ places) all =
     let first : has_place type value place ≡ true = grind (arith, nat_tests) in
     let rest : list_all (has_place type value) places ≡ true = grind (arith, nat_tests) in
     list_all-append (λ number. nat_lt number (length value)) (range_with_len (place * size) size) (place_bytes size places)
-    ∙ and_from _ _ (row_below (place * size) size (length value) (le_is _ _ first)) (places_below type value places rest)
+    ∙ and_from _ _ (row_below (place * size) size (length value) (from_nat_le _ _ first)) (places_below type value places rest)
 
 -- ---- values of one length
 

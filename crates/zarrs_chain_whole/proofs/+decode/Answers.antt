@@ -8,7 +8,7 @@ use Rattle.zarrs_array_to_array.specs.declared.array_to_array_codec.ArrayToArray
 use Rattle.zarrs_chunk.specs.Answer.{AnswersBy, memory, checked_u64}
 use Rattle.zarrs_chunk.specs.declared.codec_error.CodecError.{CodecError}
 use Rattle.zarrs_codec.specs.MappedChunk.{decoded_chunk}
-use Rattle.zarrs_chain_laws.proofs.ArraySteps.{ok}
+use Rattle.zarrs_bytes.proofs.Coding.{ok}
 use Rattle.zarrs_chain_laws.proofs.ChainSteps.{chunk_back}
 use Rattle.zarrs_chain_laws.proofs.OptionalSteps.{mask_refused, part_refused, part_expanded}
 use Rattle.zarrs_chain_laws.proofs.PartSteps.{chunk_of_none}

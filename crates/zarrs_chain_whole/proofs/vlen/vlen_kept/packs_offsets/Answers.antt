@@ -1,6 +1,6 @@
 use Rattle.std.proofs.Common.{rules, arith, ap, ◌∙◌}
 use Rattle.zarrs_chain_laws.specs.vlen.VlenSettings.{is_wide}
-use Rattle.zarrs_chain_laws.proofs.ArraySteps.{ok}
+use Rattle.zarrs_bytes.proofs.Coding.{ok}
 use Rattle.zarrs_chain_whole.proofs.VlenKept.{packed_answer}
 use Rattle.zarrs_chain_whole.proofs.vlen.vlen_kept.packs_offsets.Goals as goal
 

@@ -3,7 +3,7 @@ use Rattle.std.proofs.lemmas.Result.{err_from_is_err_and}
 use Rattle.zarrs_chunk.specs.Indexer.{selection_of}
 use Rattle.zarrs_chunk.specs.Runs.{joined_runs}
 use Rattle.zarrs_codec_chain.specs.ChunkReader.{reader_form}
-use Rattle.zarrs_chain_laws.proofs.ArraySteps.{ok}
+use Rattle.zarrs_bytes.proofs.Coding.{ok}
 use Rattle.zarrs_codec_chain.proofs.RegionReads.{kept_bounds}
 use Rattle.zarrs_codec_chain.proofs.SureReads.{in_bounds, out_of_bounds, sure_anyway, where_sure}
 use Rattle.zarrs_codec_chain.proofs.partial_decoder.chunk_reader.ChunkReader.read.Goals as goal

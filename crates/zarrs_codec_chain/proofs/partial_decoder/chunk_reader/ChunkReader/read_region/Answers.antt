@@ -7,7 +7,7 @@ use Rattle.zarrs_chunk.specs.Selection.{subset}
 use Rattle.zarrs_array_bytes.specs.Validity.{Holds}
 use Rattle.zarrs_array_to_array.specs.Mapping.{mapping_of}
 use Rattle.zarrs_array_regions.specs.Windows.{TakesRegion, TakeType, window_of, decoded_of}
-use Rattle.zarrs_chain_laws.proofs.ArraySteps.{ok}
+use Rattle.zarrs_bytes.proofs.Coding.{ok}
 use Rattle.zarrs_codec_chain.specs.ChunkReader.{reader_form, reader_source}
 use Rattle.zarrs_codec_chain.proofs.PartialReads.{is_readable}
 use Rattle.zarrs_codec_chain.proofs.RegionReads.{takes_region, takes_type, region_refused, region_valid, region_answered, region_sure_where, runs_at}

@@ -1,7 +1,7 @@
 use Rattle.std.proofs.Common.{ap, sym, ◌∙◌}
 use Rattle.zarrs_chunk.specs.Indexer.{selection_of}
 use Rattle.zarrs_chunk.specs.Runs.{joined_runs}
-use Rattle.zarrs_chain_laws.proofs.ArraySteps.{ok}
+use Rattle.zarrs_bytes.proofs.Coding.{ok}
 use Rattle.zarrs_codec_chain.specs.vlen.VlenPartialDecoder.{vlen_form_of}
 use Rattle.zarrs_codec_chain.proofs.VlenReads.{where_sure}
 use Rattle.zarrs_codec_chain.proofs.vlen.vlen_partial_decoder.VlenPartialDecoder.read.Goals as goal
