@@ -18,6 +18,7 @@ mod codecs;
 mod examples;
 mod forms;
 mod metadata;
+mod plain_moves;
 mod refusals;
 mod regions;
 mod stages;

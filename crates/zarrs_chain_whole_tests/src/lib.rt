@@ -32,3 +32,5 @@ mod targets;
 mod tool;
 #[cfg(test)]
 mod whole;
+#[cfg(test)]
+mod whole_rows;

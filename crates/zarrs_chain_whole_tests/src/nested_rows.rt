@@ -4,7 +4,7 @@
 use crate::forms::{Chunk, Elements, OPTIONS, TEXTS};
 use crate::nested::Nested;
 use crate::targets::Into;
-use crate::whole::Row;
+use crate::whole_rows::Row;
 use zarrs_chunk::CodecError::{TargetMismatch, UnsupportedTarget};
 use zarrs_codec::BytesRepresentation::{BoundedSize, UnboundedSize};
 

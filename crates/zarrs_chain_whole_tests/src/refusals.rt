@@ -2,7 +2,7 @@
 //! stand for none.
 
 use crate::forms::{Chunk, Elements, OPTIONS, PAIR, TEXTS};
-use crate::whole::Row;
+use crate::whole_rows::Row;
 use zarrs_chunk::CodecError::{ArrayBytesKind, InvalidBytesLength, UnsupportedDataType};
 use zarrs_chunk::CodecName;
 use zarrs_codec::BytesRepresentation::{BoundedSize, UnboundedSize};

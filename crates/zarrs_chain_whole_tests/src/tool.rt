@@ -10,6 +10,7 @@
 //! plain `vlen` on the offsets and the bytes of its texts, whatever the rest is.
 mod damage;
 mod lines;
+mod packed_rows;
 mod rows;
 mod sent;
 mod writers;

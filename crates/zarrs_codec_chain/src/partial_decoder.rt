@@ -5,3 +5,4 @@ mod codec_read;
 pub(crate) mod encoded_runs;
 pub(crate) mod fill_runs;
 mod make_cache;
+mod source_reads;

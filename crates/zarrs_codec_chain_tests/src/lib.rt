@@ -16,6 +16,8 @@ mod checks;
 #[cfg(test)]
 mod chunks;
 #[cfg(test)]
+mod coder_rows;
+#[cfg(test)]
 mod coders;
 #[cfg(test)]
 mod edits;

@@ -3,8 +3,9 @@
 
 use crate::checks::{is, is_cause, is_plan};
 use crate::chunks::{Chunk, Part, case_of};
+use crate::coder_rows::{ENCODERS, FAILING, NEVER_MADE, OF_VLEN};
 use crate::coders::{Decoder, Encoder, Kind, VlenDecoder, decoder, encoder, failing, vlen_decoder};
-use crate::rows::{ENCODERS, FAILING, NEVER_MADE, OF_VLEN, Row, WITH_CACHE, WITHOUT_CACHE};
+use crate::rows::{Row, WITH_CACHE, WITHOUT_CACHE};
 use std::alloc::Global;
 use std::process::Abort;
 use std::test::Fail;

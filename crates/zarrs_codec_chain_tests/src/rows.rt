@@ -1,11 +1,11 @@
 //! Coders, what is stored under them, and what they answer.
 
 use crate::chunks::{
-    A_AND_BC, BYTES, FOUR_BITS, HALF_BYTES, OPTIONAL, ORDERLESS, TEXTS, THREE_LEVELS, TURNED_TEXTS,
-    TURNED_TWICE, TWO_BYTES, TWO_BYTES_WITH_LENGTH, WITH_LENGTH,
+    A_AND_BC, BYTES, HALF_BYTES, OPTIONAL, TEXTS, THREE_LEVELS, TURNED_TEXTS, TURNED_TWICE,
+    TWO_BYTES, TWO_BYTES_WITH_LENGTH,
 };
 use crate::coders::Kind;
-use zarrs_chunk::{CodecError, CodecName, StorageError};
+use zarrs_chunk::{CodecError, StorageError};
 
 /// A coder of a chunk over a handle that keeps this value.
 pub(crate) struct Row {
@@ -29,12 +29,12 @@ pub(crate) struct Row {
     pub(crate) size_held: usize,
 }
 
-const NONE: [Option<CodecError>; 3] = [None, None, None];
+pub(crate) const NONE: [Option<CodecError>; 3] = [None, None, None];
 
 /// What the first call of a handle answers where it fails, and what the second.
-const FIRST: CodecError = CodecError::Storage(StorageError { code: 1 });
+pub(crate) const FIRST: CodecError = CodecError::Storage(StorageError { code: 1 });
 
-const SECOND: CodecError = CodecError::Storage(StorageError { code: 2 });
+pub(crate) const SECOND: CodecError = CodecError::Storage(StorageError { code: 2 });
 
 /// Decoders without a cache keep what their handles do.
 pub(crate) const WITHOUT_CACHE: &'static [Row] = &[
@@ -366,268 +366,6 @@ pub(crate) const WITH_CACHE: &'static [Row] = &[
         fails_at: 0,
         part: r#"{"at":{"ranges":[[0,2]]},"data":[null,null]}"#,
         refusals: NONE,
-        in_part: false,
-        planned: None,
-        size_held: 0,
-    },
-];
-
-/// Encoders keep what their handles do.
-pub(crate) const ENCODERS: &'static [Row] = &[
-    Row {
-        name: "an encoder of bytes",
-        coder: Kind::Encoder,
-        chunk: BYTES,
-        value: Some(b"\x0a\x0b\x0c\x0d"),
-        fails_at: 0,
-        part: r#"{"at":{"ranges":[[1,2]]},"data":["0b"]}"#,
-        refusals: NONE,
-        in_part: true,
-        planned: Some(&[(1, 2)]),
-        size_held: 4,
-    },
-    Row {
-        name: "an encoder of texts, whose handle keeps the value",
-        coder: Kind::Encoder,
-        chunk: TEXTS,
-        value: Some(A_AND_BC),
-        fails_at: 0,
-        part: r#"{"at":{"ranges":[[1,2]]},"data":["6263"]}"#,
-        refusals: NONE,
-        in_part: true,
-        planned: None,
-        size_held: 35,
-    },
-    Row {
-        name: "an encoder of four bits",
-        coder: Kind::Encoder,
-        chunk: FOUR_BITS,
-        value: Some(b"\x0f"),
-        fails_at: 0,
-        part: r#"{"at":{"ranges":[[0,1]]},"data":["ff"]}"#,
-        refusals: NONE,
-        in_part: true,
-        planned: Some(&[(0, 1)]),
-        size_held: 1,
-    },
-    Row {
-        name: "an encoder of four bits, of which nothing is stored",
-        coder: Kind::Encoder,
-        chunk: FOUR_BITS,
-        value: None,
-        fails_at: 0,
-        part: r#"{"at":{"ranges":[[0,1]]},"data":["0f"]}"#,
-        refusals: NONE,
-        in_part: true,
-        planned: Some(&[(0, 1)]),
-        size_held: 0,
-    },
-];
-
-/// The decoder of a `vlen` codec looks at the places first, and then reads the value each time: of a
-/// plain one in part.
-pub(crate) const OF_VLEN: &'static [Row] = &[
-    Row {
-        name: "one of two texts",
-        coder: Kind::OfVlen,
-        chunk: TEXTS,
-        value: Some(A_AND_BC),
-        fails_at: 0,
-        part: r#"{"at":{"ranges":[[1,2]]},"data":["6263"]}"#,
-        refusals: NONE,
-        in_part: true,
-        planned: None,
-        size_held: 35,
-    },
-    Row {
-        name: "none of two texts",
-        coder: Kind::OfVlen,
-        chunk: TEXTS,
-        value: Some(A_AND_BC),
-        fails_at: 0,
-        part: r#"{"at":{"ranges":[[1,1]]},"data":[]}"#,
-        refusals: NONE,
-        in_part: true,
-        planned: None,
-        size_held: 35,
-    },
-    Row {
-        name: "both texts",
-        coder: Kind::OfVlen,
-        chunk: TEXTS,
-        value: Some(A_AND_BC),
-        fails_at: 0,
-        part: r#"{"at":{"ranges":[[0,2]]},"data":["61","6263"]}"#,
-        refusals: NONE,
-        in_part: true,
-        planned: None,
-        size_held: 35,
-    },
-    Row {
-        name: "a text of half bytes",
-        coder: Kind::OfVlen,
-        chunk: HALF_BYTES,
-        value: Some(b"\x18\0\0\0\0\0\0\0\0\0\0\0\0\0\0\0\x01\0\0\0\0\0\0\0\x02\0\0\0\0\0\0\0\x21"),
-        fails_at: 0,
-        part: r#"{"at":{"ranges":[[1,2]]},"data":["02"]}"#,
-        refusals: NONE,
-        in_part: false,
-        planned: None,
-        size_held: 33,
-    },
-    Row {
-        name: "texts where nothing is stored",
-        coder: Kind::OfVlen,
-        chunk: TEXTS,
-        value: None,
-        fails_at: 0,
-        part: r#"{"at":{"ranges":[[0,2]]},"data":["",""]}"#,
-        refusals: NONE,
-        in_part: true,
-        planned: None,
-        size_held: 0,
-    },
-    Row {
-        name: "a value that stands for no texts",
-        coder: Kind::OfVlen,
-        chunk: TEXTS,
-        value: Some(b"\xff\xff\xff\xff\xff\xff\xff\xff"),
-        fails_at: 0,
-        part: r#"{"at":{"ranges":[[0,1]]},"data":[]}"#,
-        refusals: [
-            None,
-            Some(CodecError::IndexLength),
-            Some(CodecError::IndexLength),
-        ],
-        in_part: true,
-        planned: None,
-        size_held: 8,
-    },
-    Row {
-        name: "places past the end, before such a value",
-        coder: Kind::OfVlen,
-        chunk: TEXTS,
-        value: Some(b"\xff\xff\xff\xff\xff\xff\xff\xff"),
-        fails_at: 0,
-        part: r#"{"at":{"ranges":[[0,3]]},"data":[]}"#,
-        refusals: [
-            None,
-            Some(CodecError::OutOfBounds),
-            Some(CodecError::OutOfBounds),
-        ],
-        in_part: true,
-        planned: None,
-        size_held: 8,
-    },
-    Row {
-        name: "places with two axes, before such a value",
-        coder: Kind::OfVlen,
-        chunk: TEXTS,
-        value: Some(b"\xff\xff\xff\xff\xff\xff\xff\xff"),
-        fails_at: 0,
-        part: r#"{"at":{"ranges":[[0,1],[0,1]]},"data":[]}"#,
-        refusals: [
-            None,
-            Some(CodecError::IncompatibleDimensionality),
-            Some(CodecError::IncompatibleDimensionality),
-        ],
-        in_part: true,
-        planned: None,
-        size_held: 8,
-    },
-];
-
-/// A decoder without a cache asks its handle at each read, and one with a cache never again once it
-/// is made.
-pub(crate) const FAILING: &'static [Row] = &[
-    Row {
-        name: "bytes, where the first call fails",
-        coder: Kind::Decoder,
-        chunk: BYTES,
-        value: Some(b"\x0a\x0b\x0c\x0d"),
-        fails_at: 1,
-        part: r#"{"at":{"ranges":[[1,2]]},"data":["0b"]}"#,
-        refusals: [None, Some(FIRST), None],
-        in_part: true,
-        planned: Some(&[(1, 2)]),
-        size_held: 4,
-    },
-    Row {
-        name: "bytes, where the second call fails",
-        coder: Kind::Decoder,
-        chunk: BYTES,
-        value: Some(b"\x0a\x0b\x0c\x0d"),
-        fails_at: 2,
-        part: r#"{"at":{"ranges":[[1,2]]},"data":["0b"]}"#,
-        refusals: [None, None, Some(SECOND)],
-        in_part: true,
-        planned: Some(&[(1, 2)]),
-        size_held: 4,
-    },
-    Row {
-        name: "bytes under a length, where the second call fails",
-        coder: Kind::Decoder,
-        chunk: WITH_LENGTH,
-        value: Some(b"\x04\0\0\0\0\0\0\0\x0a\x0b\x0c\x0d"),
-        fails_at: 2,
-        part: r#"{"at":{"ranges":[[1,2]]},"data":["0b"]}"#,
-        refusals: NONE,
-        in_part: false,
-        planned: None,
-        size_held: 4,
-    },
-    Row {
-        name: "bytes under a length, where the first call fails",
-        coder: Kind::Decoder,
-        chunk: WITH_LENGTH,
-        value: Some(b"\x04\0\0\0\0\0\0\0\x0a\x0b\x0c\x0d"),
-        fails_at: 1,
-        part: r#"{"at":{"ranges":[[1,2]]},"data":["0b"]}"#,
-        refusals: [Some(FIRST), None, None],
-        in_part: false,
-        planned: None,
-        size_held: 0,
-    },
-];
-
-/// Coders that are never made.
-pub(crate) const NEVER_MADE: &'static [Row] = &[
-    Row {
-        name: "an encoder of words without an order",
-        coder: Kind::Encoder,
-        chunk: ORDERLESS,
-        value: Some(b"\0"),
-        fails_at: 0,
-        part: r#"{"at":{"ranges":[[1,2]]},"data":[]}"#,
-        refusals: [Some(CodecError::EndiannessMissing), None, None],
-        in_part: false,
-        planned: None,
-        size_held: 0,
-    },
-    Row {
-        name: "a length that isn't that of the bytes",
-        coder: Kind::Decoder,
-        chunk: WITH_LENGTH,
-        value: Some(b"\x03\0\0\0\0\0\0\0\x01\x02"),
-        fails_at: 0,
-        part: r#"{"at":{"ranges":[[1,2]]},"data":[]}"#,
-        refusals: [Some(CodecError::BytesCodec(2)), None, None],
-        in_part: false,
-        planned: None,
-        size_held: 0,
-    },
-    Row {
-        name: "bytes, which a vlen codec doesn't take",
-        coder: Kind::OfVlen,
-        chunk: r#"{"shape":[4],"data_type":"uint8","fill_value":"00","codecs":[{"name":"zarrs.vlen","configuration":{"index_codecs":[{"name":"bytes","configuration":{"endian":"little"}}],"data_codecs":["bytes"],"index_data_type":"uint64"}}]}"#,
-        value: Some(b"\x07"),
-        fails_at: 0,
-        part: r#"{"at":{"ranges":[[1,2]]},"data":[]}"#,
-        refusals: [
-            Some(CodecError::UnsupportedDataType(CodecName::Vlen)),
-            None,
-            None,
-        ],
         in_part: false,
         planned: None,
         size_held: 0,

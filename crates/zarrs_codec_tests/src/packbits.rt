@@ -17,5 +17,6 @@ mod checks;
 mod forms;
 mod lengths;
 mod metadata;
+mod plain_bits;
 mod reads;
 mod settings;

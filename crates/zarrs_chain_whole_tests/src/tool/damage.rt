@@ -1,7 +1,8 @@
 //! Each value damaged in each way, and what is answered to it.
 
 use crate::tool::lines::{answer, asked};
-use crate::tool::rows::{FIXED, PACKED, Place, Row, VARIABLE};
+use crate::tool::packed_rows::PACKED;
+use crate::tool::rows::{FIXED, Place, Row, VARIABLE};
 use std::alloc::Global;
 use std::fmt::Debug;
 use std::process::Abort;

@@ -1,44 +1,34 @@
 //! Reading a chunk in part through a chain, over a handle that the caller keeps.
 ghost use Rattle.zarrs_data_type.specs.Form.{form_of};
-ghost use Rattle.std.specs.Prelude.{◌≡◌, ◌<◌, ◌≤◌, ◌+◌, ◌^◌, All, Ok, Err, IfOk, IfErr, IfSome, Some, None, length, option_map, is_ok, is_some, true, false};
-ghost use Rattle.zarrs_chunk.specs.Answer.{Answers, AnswersBy, fault, memory, memory_or_fault, is_fault, seen, Gives, GivesBy};
+ghost use Rattle.std.specs.Prelude.{◌≡◌, ◌<◌, ◌≤◌, ◌+◌, ◌^◌, All, Ok, IfOk, IfSome, length, is_ok, is_some, true, false};
+ghost use Rattle.zarrs_chunk.specs.Answer.{Answers, fault, is_fault, Gives};
 ghost use Rattle.zarrs_chunk.specs.ChunkShape.{product};
 ghost use Rattle.zarrs_chunk.specs.Indexer.{selection_of};
 ghost use Rattle.zarrs_chunk.specs.Runs.{joined_runs, AreApart};
-ghost use Rattle.zarrs_chunk.specs.Selection.{subset as subset_of, bounds_of};
+ghost use Rattle.zarrs_chunk.specs.Selection.{subset as subset_of};
 ghost use Rattle.zarrs_chunk.specs.Tuples.{is_box_inside};
-ghost use Rattle.zarrs_data_type.specs.Element.{Chunk};
 ghost use Rattle.zarrs_data_type.specs.FillValue.{fill_fits};
 ghost use Rattle.zarrs_array_bytes.specs.Blank.{AbsentAreBlank};
-ghost use Rattle.zarrs_array_bytes.specs.Elements.{elements, select};
-ghost use Rattle.zarrs_array_bytes.specs.Held.{items_of};
-ghost use Rattle.zarrs_array_bytes.specs.Validity.{Holds};
-ghost use Rattle.zarrs_codec.specs.StorageState.{after_reading, are_sure};
+ghost use Rattle.zarrs_codec.specs.StorageState.{after_reading};
 ghost use Rattle.zarrs_array_regions.specs.KeptRegions.{keeps_regions};
 ghost use Rattle.zarrs_chain_laws.specs.Chain.{chain_reads, codec_reads as codec_reads_of, taken_form as taken_form_of};
 ghost use Rattle.zarrs_chain_whole.specs.ChainView.{plain_chain};
-ghost use Rattle.zarrs_codec_chain.specs.ChunkRead.{asks_in_part, codec_rests_on, encoded_places, IsReadPlan, planned_places, reads_places, WhereSure, ReadsChunk, HasForm, form_places, RefusedAtSelection, PlansRead};
-ghost use Rattle.zarrs_codec_chain.specs.ChunkSource.{bytes_above, cache_fits, cache_stage as cache_stage_of, chunk_below, has_cache, held_by, is_kept, is_there, opened_chunk, source_made, source_places, source_read, wants_cache};
+ghost use Rattle.zarrs_codec_chain.specs.ChunkRead.{reads_places, WhereSure, ReadsChunk, HasForm, form_places, RefusedAtSelection, PlansRead};
+ghost use Rattle.zarrs_codec_chain.specs.ChunkSource.{cache_fits, cache_stage as cache_stage_of, held_by, is_kept, is_there, wants_cache};
 ghost use Rattle.zarrs_codec_chain.specs.CacheBlank.{CacheIsBlank, CacheIsBlank-prop};
 ghost use Rattle.zarrs_codec_chain.specs.RefusedFirst.{RefusedFirst};
 ghost use Rattle.zarrs_chain_laws.specs.Laws.{IsChainOfMappings};
 ghost use Rattle.zarrs_chain_laws.specs.Representation.{codec_representation};
 
 use crate::partial_decoder::cache::{Cache, CacheStage};
-use crate::partial_decoder::codec_read::{
-    planned_runs, plans_reads, read_runs, read_runs_of_bytes,
-};
+use crate::partial_decoder::codec_read::{planned_runs, plans_reads};
 use crate::partial_decoder::encoded_runs::encoded_runs;
-use crate::partial_decoder::fill_runs::fill_runs;
-use crate::partial_decoder::make_cache::{
-    cache_stage, chunk_below as chunk_of_value, codec_reads, make_cache,
-};
+use crate::partial_decoder::make_cache::{cache_stage, make_cache};
 use std::alloc::Global;
-use std::borrow::CowSlice;
-use zarrs_array_bytes::{ArrayBytes, ArrayBytesRaw};
+use zarrs_array_bytes::ArrayBytes;
 use zarrs_array_regions::{decoded_window, kept_region, last_window};
 use zarrs_chain_whole::CodecChain;
-use zarrs_chain_whole::stages::{chain_is_sound, decode_bytes, taken_form};
+use zarrs_chain_whole::stages::{chain_is_sound, taken_form};
 use zarrs_chunk::{ArraySubset, ChunkShape, CodecError, Indexer};
 use zarrs_codec::{
     ByteRange, BytesPartialDecoderTraits, BytesRepresentation, BytesToBytesCodecTraits, CodecTraits,
@@ -50,12 +40,12 @@ use zarrs_data_type::{DataType, FillValue};
 #[derive(Drop)]
 pub(crate) struct ChunkReader<'a, B: BytesToBytesCodecTraits> {
     pub(crate) chain: &'a CodecChain<B>,
-    cache: Cache,
+    pub(crate) cache: Cache,
     pub(crate) shape: ChunkShape,
     pub(crate) encoded: ChunkShape,
     pub(crate) data_type: DataType,
     pub(crate) fill_value: FillValue,
-    representation: BytesRepresentation,
+    pub(crate) representation: BytesRepresentation,
     ghost taken: { taken_form_of B.functions (plain_chain chain.now) shape data_type fill_value ≡ Ok (encoded, representation) },
     ghost measured: { is_ok (codec_representation B.functions (plain_chain chain.now).codec encoded data_type fill_value) ≡ true },
     ghost filling: { fill_fits data_type fill_value ≡ true },
@@ -66,7 +56,7 @@ pub(crate) struct ChunkReader<'a, B: BytesToBytesCodecTraits> {
 }
 
 impl<'a, B: BytesToBytesCodecTraits> ChunkReader<'a, B> {
-    ghost use Rattle.zarrs_codec_chain.specs.ChunkReader.{IsFilledFrom, reader_form, reader_is_cached, reader_source, MeasuresReader, MakesReader, reader_reads_parts, stored_source, kept_source, GivesSource, ReadsSource, GivesOpened, SureSource, is_reader_cache, ReadsSelection, IsKeptRegion};
+    ghost use Rattle.zarrs_codec_chain.specs.ChunkReader.{IsFilledFrom, reader_form, reader_is_cached, reader_source, MeasuresReader, MakesReader, ReadsSelection, IsKeptRegion};
 
     /// A reader of such a chunk without a cache. Refusals: those of the chain's representation.
     pub(crate) fn uncached(
@@ -195,191 +185,6 @@ impl<'a, B: BytesToBytesCodecTraits> ChunkReader<'a, B> {
             &self.shape,
             indexer,
         )
-    }
-
-    /// The elements at the places of these runs, by the bytes above so many of the first bytes
-    /// codecs, or by none. Refusals, the first that holds, `OutOfMemory` aside: `BytesCodec` of the
-    /// last of these codecs, then of the one before; of the codec to bytes those that
-    /// `partial_decode` of `ArrayPartialDecoder` names.
-    fn read_above(
-        &self,
-        alloc: Global,
-        value: Option<ArrayBytesRaw<'_>>,
-        below: usize,
-        runs: &[(u64, u64)],
-    ) -> Result<ArrayBytes<'static>, CodecError>
-        requires in_part { reader_reads_parts self.now ≡ true }
-        requires known { below ≤ length (plain_chain self.now.chain.now).outer }
-        requires filled { All (λ run. 0 < run.1) runs.now }
-        requires inside { All (λ run. run.0 + run.1 ≤ product self.now.encoded) runs.now }
-        requires count { length (joined_runs runs.now) < 2 ^ 64 }
-        ensures answer { GivesSource B.functions self.now
-            (bytes_above below (option_map (λ bytes. items_of bytes) value.entry)) runs.now result }
-        ensures blank { IfOk result (AbsentAreBlank self.now.data_type) }
-    {
-        match value {
-            None => read_runs_of_bytes::<B>(
-                alloc,
-                self.chain.array_to_bytes_codec(),
-                None,
-                &self.encoded,
-                &self.data_type,
-                &self.fill_value,
-                runs,
-            ),
-            Some(value) => {
-                let codecs = &self.chain.bytes_to_bytes_codecs()[..below];
-                let bytes = decode_bytes(alloc, codecs, &self.representation, value)?;
-                read_runs_of_bytes::<B>(
-                    alloc,
-                    self.chain.array_to_bytes_codec(),
-                    Some(bytes.as_slice()),
-                    &self.encoded,
-                    &self.data_type,
-                    &self.fill_value,
-                    runs,
-                )
-            }
-        }
-    }
-
-    /// The same, by what the handle keeps. Without bytes codecs the handle is asked for what the places
-    /// rest on alone, and else for the whole value.
-    fn read_stored<H: BytesPartialDecoderTraits>(
-        &self,
-        alloc: Global,
-        handle: &mut H,
-        runs: &[(u64, u64)],
-    ) -> Result<ArrayBytes<'static>, CodecError>
-        requires in_part { reader_reads_parts self.now ≡ true }
-        requires filled { All (λ run. 0 < run.1) runs.now }
-        requires inside { All (λ run. run.0 + run.1 ≤ product self.now.encoded) runs.now }
-        requires count { length (joined_runs runs.now) < 2 ^ 64 }
-        ensures answer { ReadsSource B.functions self.now
-            (stored_source self.now (H.state handle.old).value) runs.now result }
-        ensures blank { IfOk result (AbsentAreBlank self.now.data_type) }
-        ensures sure { SureSource self.now (H.state handle.old) runs.now result }
-        ensures left { H.state handle.new ≡ after_reading result (H.state handle.old) }
-        ensures same_reference { H.lent handle.new ≡ H.lent handle.old }
-    {
-        if self.chain.bytes_to_bytes_codecs().is_empty() {
-            return read_runs::<H, B>(
-                alloc,
-                self.chain.array_to_bytes_codec(),
-                handle,
-                &self.encoded,
-                &self.data_type,
-                &self.fill_value,
-                runs,
-            );
-        }
-        let value = match handle.decode(alloc)? {
-            None => None,
-            Some(value) => Some(CowSlice::Owned(value)),
-        };
-        let below = self.chain.bytes_to_bytes_codecs().len();
-        self.read_above(alloc, value, below, runs)
-    }
-
-    /// The same, where the codec to bytes reads no part: by the whole chunk.
-    fn read_whole<H: BytesPartialDecoderTraits>(
-        &self,
-        alloc: Global,
-        handle: &mut H,
-        runs: &[(u64, u64)],
-    ) -> Result<ArrayBytes<'static>, CodecError>
-        requires whole { reader_reads_parts self.now ≡ false }
-        requires inside { All (λ run. run.0 + run.1 ≤ product self.now.encoded) runs.now }
-        requires count { length (joined_runs runs.now) < 2 ^ 64 }
-        ensures answer { ReadsSource B.functions self.now
-            (stored_source self.now (H.state handle.old).value) runs.now result }
-        ensures blank { IfOk result (AbsentAreBlank self.now.data_type) }
-        ensures left { H.state handle.new ≡ after_reading result (H.state handle.old) }
-        ensures same_reference { H.lent handle.new ≡ H.lent handle.old }
-    {
-        match handle.decode(alloc)? {
-            None => fill_runs(alloc, &self.data_type, &self.fill_value, runs),
-            Some(value) => self.runs_of_value(alloc, value, runs),
-        }
-    }
-
-    /// The elements at the places of these runs of the chunk that the codec to bytes reads of a value.
-    fn runs_of_value(
-        &self,
-        alloc: Global,
-        value: Vec<u8>,
-        runs: &[(u64, u64)],
-    ) -> Result<ArrayBytes<'static>, CodecError>
-        requires inside { All (λ run. run.0 + run.1 ≤ product self.now.encoded) runs.now }
-        ensures answer { GivesOpened B.functions self.now value.items runs.now result }
-        ensures blank { IfOk result (AbsentAreBlank self.now.data_type) }
-    {
-        let held = chunk_of_value(
-            alloc,
-            self.chain,
-            &self.encoded,
-            &self.data_type,
-            &self.fill_value,
-            &self.representation,
-            value,
-        )?;
-        let count = self.encoded.num_elements()?;
-        held.extract_runs(alloc, runs, count, &self.data_type)
-    }
-
-    /// The elements at the places of these runs, of a chunk that is kept, or of none.
-    fn read_kept(
-        &self,
-        alloc: Global,
-        chunk: &Option<ArrayBytes<'static>>,
-        runs: &[(u64, u64)],
-    ) -> Result<ArrayBytes<'static>, CodecError>
-        requires fits { is_reader_cache self.now (Cache.Chunk chunk.now) ≡ true }
-        requires inside { All (λ run. run.0 + run.1 ≤ product self.now.encoded) runs.now }
-        requires count { length (joined_runs runs.now) < 2 ^ 64 }
-        ensures answer { GivesSource B.functions self.now
-            (kept_source self.now chunk.now) runs.now result }
-        ensures blank { CacheIsBlank self.now.data_type (Cache.Chunk chunk.now) →
-            IfOk result (AbsentAreBlank self.now.data_type) }
-    {
-        match chunk {
-            None => fill_runs(alloc, &self.data_type, &self.fill_value, runs),
-            Some(held) => {
-                let count = self.encoded.num_elements()?;
-                held.extract_runs(alloc, runs, count, &self.data_type)
-            }
-        }
-    }
-
-    /// The elements at the places of these runs of the chunk that the codec to bytes gets.
-    fn read_runs<H: BytesPartialDecoderTraits>(
-        &self,
-        alloc: Global,
-        handle: &mut H,
-        runs: &[(u64, u64)],
-    ) -> Result<ArrayBytes<'static>, CodecError>
-        requires filled { All (λ run. 0 < run.1) runs.now }
-        requires inside { All (λ run. run.0 + run.1 ≤ product self.now.encoded) runs.now }
-        requires count { length (joined_runs runs.now) < 2 ^ 64 }
-        ensures answer { ReadsSource B.functions self.now
-            (reader_source self.now (H.state handle.old).value) runs.now result }
-        ensures blank { IfOk result (AbsentAreBlank self.now.data_type) }
-        ensures sure { SureSource self.now (H.state handle.old) runs.now result }
-        ensures left { H.state handle.new ≡ after_reading result (H.state handle.old) }
-        ensures same_reference { H.lent handle.new ≡ H.lent handle.old }
-        ensures no_fault_if_cached { is_kept self.now.cache ≡ true → is_fault result ≡ false }
-    {
-        match &self.cache {
-            Cache::Handle => {
-                if codec_reads(self.chain).partial_decode {
-                    self.read_stored(alloc, handle, runs)
-                } else {
-                    self.read_whole(alloc, handle, runs)
-                }
-            }
-            Cache::Bytes(below, value) => self.read_above(alloc, lent_bytes(value), *below, runs),
-            Cache::Chunk(chunk) => self.read_kept(alloc, chunk, runs),
-        }
     }
 
     /// The box that the indexer means, where it goes through the array codecs as a box.
@@ -544,16 +349,5 @@ fn asks_for_places<B: BytesToBytesCodecTraits>(chain: &CodecChain<B>) -> bool
     match chain.bytes_to_bytes_codecs() {
         [] => plans_reads(chain.array_to_bytes_codec()),
         _ => false,
-    }
-}
-
-/// The bytes that are kept, lent.
-fn lent_bytes(value: &Option<Vec<u8>>) -> Option<ArrayBytesRaw<'_>>
-    ensures value { option_map (λ bytes. (items_of bytes)) result ≡
-        option_map (λ items. items.items) value.now }
-{
-    match value {
-        None => None,
-        Some(value) => Some(CowSlice::Borrowed(value.as_slice())),
     }
 }

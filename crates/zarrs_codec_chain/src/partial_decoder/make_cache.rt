@@ -179,13 +179,8 @@ pub(crate) fn make_cache<H: BytesPartialDecoderTraits, B: BytesToBytesCodecTrait
         CacheStage::Bytes(below) => match handle.decode(alloc)? {
             None => Ok(Cache::Bytes(below, None)),
             Some(value) => {
-                let bytes = bytes_above(
-                    alloc,
-                    chain.bytes_to_bytes_codecs(),
-                    below,
-                    representation,
-                    value,
-                )?;
+                let codecs = chain.bytes_to_bytes_codecs();
+                let bytes = bytes_above(alloc, codecs, below, representation, value)?;
                 Ok(Cache::Bytes(below, Some(bytes)))
             }
         },

@@ -1,0 +1,223 @@
+//! Where the answer to a read in part comes from: the handle, bytes that are kept, or a chunk that is.
+ghost use Rattle.std.specs.Prelude.{◌≡◌, ◌<◌, ◌≤◌, ◌+◌, ◌^◌, All, IfOk, length, option_map, true, false};
+ghost use Rattle.zarrs_chunk.specs.Answer.{is_fault};
+ghost use Rattle.zarrs_chunk.specs.ChunkShape.{product};
+ghost use Rattle.zarrs_chunk.specs.Runs.{joined_runs};
+ghost use Rattle.zarrs_array_bytes.specs.Blank.{AbsentAreBlank};
+ghost use Rattle.zarrs_array_bytes.specs.Held.{items_of};
+ghost use Rattle.zarrs_codec.specs.StorageState.{after_reading};
+ghost use Rattle.zarrs_chain_whole.specs.ChainView.{plain_chain};
+ghost use Rattle.zarrs_codec_chain.specs.ChunkSource.{bytes_above, is_kept};
+ghost use Rattle.zarrs_codec_chain.specs.CacheBlank.{CacheIsBlank};
+
+use crate::partial_decoder::cache::Cache;
+use crate::partial_decoder::chunk_reader::ChunkReader;
+use crate::partial_decoder::codec_read::{read_runs, read_runs_of_bytes};
+use crate::partial_decoder::fill_runs::fill_runs;
+use crate::partial_decoder::make_cache::{chunk_below as chunk_of_value, codec_reads};
+use std::alloc::Global;
+use std::borrow::CowSlice;
+use zarrs_array_bytes::{ArrayBytes, ArrayBytesRaw};
+use zarrs_chain_whole::stages::decode_bytes;
+use zarrs_chunk::CodecError;
+use zarrs_codec::{BytesPartialDecoderTraits, BytesToBytesCodecTraits};
+
+impl<'a, B: BytesToBytesCodecTraits> ChunkReader<'a, B> {
+    ghost use Rattle.zarrs_codec_chain.specs.ChunkReader.{reader_source, reader_reads_parts, stored_source, kept_source, GivesSource, ReadsSource, GivesOpened, SureSource, is_reader_cache};
+
+    /// The elements at the places of these runs, by the bytes above so many of the first bytes
+    /// codecs, or by none. Refusals, the first that holds, `OutOfMemory` aside: `BytesCodec` of the
+    /// last of these codecs, then of the one before; of the codec to bytes those that
+    /// `partial_decode` of `ArrayPartialDecoder` names.
+    fn read_above(
+        &self,
+        alloc: Global,
+        value: Option<ArrayBytesRaw<'_>>,
+        below: usize,
+        runs: &[(u64, u64)],
+    ) -> Result<ArrayBytes<'static>, CodecError>
+        requires in_part { reader_reads_parts self.now ≡ true }
+        requires known { below ≤ length (plain_chain self.now.chain.now).outer }
+        requires filled { All (λ run. 0 < run.1) runs.now }
+        requires inside { All (λ run. run.0 + run.1 ≤ product self.now.encoded) runs.now }
+        requires count { length (joined_runs runs.now) < 2 ^ 64 }
+        ensures answer { GivesSource B.functions self.now
+            (bytes_above below (option_map (λ bytes. items_of bytes) value.entry)) runs.now result }
+        ensures blank { IfOk result (AbsentAreBlank self.now.data_type) }
+    {
+        match value {
+            None => read_runs_of_bytes::<B>(
+                alloc,
+                self.chain.array_to_bytes_codec(),
+                None,
+                &self.encoded,
+                &self.data_type,
+                &self.fill_value,
+                runs,
+            ),
+            Some(value) => {
+                let codecs = &self.chain.bytes_to_bytes_codecs()[..below];
+                let bytes = decode_bytes(alloc, codecs, &self.representation, value)?;
+                read_runs_of_bytes::<B>(
+                    alloc,
+                    self.chain.array_to_bytes_codec(),
+                    Some(bytes.as_slice()),
+                    &self.encoded,
+                    &self.data_type,
+                    &self.fill_value,
+                    runs,
+                )
+            }
+        }
+    }
+
+    /// The same, by what the handle keeps. Without bytes codecs the handle is asked for what the places
+    /// rest on alone, and else for the whole value.
+    fn read_stored<H: BytesPartialDecoderTraits>(
+        &self,
+        alloc: Global,
+        handle: &mut H,
+        runs: &[(u64, u64)],
+    ) -> Result<ArrayBytes<'static>, CodecError>
+        requires in_part { reader_reads_parts self.now ≡ true }
+        requires filled { All (λ run. 0 < run.1) runs.now }
+        requires inside { All (λ run. run.0 + run.1 ≤ product self.now.encoded) runs.now }
+        requires count { length (joined_runs runs.now) < 2 ^ 64 }
+        ensures answer { ReadsSource B.functions self.now
+            (stored_source self.now (H.state handle.old).value) runs.now result }
+        ensures blank { IfOk result (AbsentAreBlank self.now.data_type) }
+        ensures sure { SureSource self.now (H.state handle.old) runs.now result }
+        ensures left { H.state handle.new ≡ after_reading result (H.state handle.old) }
+        ensures same_reference { H.lent handle.new ≡ H.lent handle.old }
+    {
+        if self.chain.bytes_to_bytes_codecs().is_empty() {
+            return read_runs::<H, B>(
+                alloc,
+                self.chain.array_to_bytes_codec(),
+                handle,
+                &self.encoded,
+                &self.data_type,
+                &self.fill_value,
+                runs,
+            );
+        }
+        let value = match handle.decode(alloc)? {
+            None => None,
+            Some(value) => Some(CowSlice::Owned(value)),
+        };
+        let below = self.chain.bytes_to_bytes_codecs().len();
+        self.read_above(alloc, value, below, runs)
+    }
+
+    /// The same, where the codec to bytes reads no part: by the whole chunk.
+    fn read_whole<H: BytesPartialDecoderTraits>(
+        &self,
+        alloc: Global,
+        handle: &mut H,
+        runs: &[(u64, u64)],
+    ) -> Result<ArrayBytes<'static>, CodecError>
+        requires whole { reader_reads_parts self.now ≡ false }
+        requires inside { All (λ run. run.0 + run.1 ≤ product self.now.encoded) runs.now }
+        requires count { length (joined_runs runs.now) < 2 ^ 64 }
+        ensures answer { ReadsSource B.functions self.now
+            (stored_source self.now (H.state handle.old).value) runs.now result }
+        ensures blank { IfOk result (AbsentAreBlank self.now.data_type) }
+        ensures left { H.state handle.new ≡ after_reading result (H.state handle.old) }
+        ensures same_reference { H.lent handle.new ≡ H.lent handle.old }
+    {
+        match handle.decode(alloc)? {
+            None => fill_runs(alloc, &self.data_type, &self.fill_value, runs),
+            Some(value) => self.runs_of_value(alloc, value, runs),
+        }
+    }
+
+    /// The elements at the places of these runs of the chunk that the codec to bytes reads of a value.
+    fn runs_of_value(
+        &self,
+        alloc: Global,
+        value: Vec<u8>,
+        runs: &[(u64, u64)],
+    ) -> Result<ArrayBytes<'static>, CodecError>
+        requires inside { All (λ run. run.0 + run.1 ≤ product self.now.encoded) runs.now }
+        ensures answer { GivesOpened B.functions self.now value.items runs.now result }
+        ensures blank { IfOk result (AbsentAreBlank self.now.data_type) }
+    {
+        let held = chunk_of_value(
+            alloc,
+            self.chain,
+            &self.encoded,
+            &self.data_type,
+            &self.fill_value,
+            &self.representation,
+            value,
+        )?;
+        let count = self.encoded.num_elements()?;
+        held.extract_runs(alloc, runs, count, &self.data_type)
+    }
+
+    /// The elements at the places of these runs, of a chunk that is kept, or of none.
+    fn read_kept(
+        &self,
+        alloc: Global,
+        chunk: &Option<ArrayBytes<'static>>,
+        runs: &[(u64, u64)],
+    ) -> Result<ArrayBytes<'static>, CodecError>
+        requires fits { is_reader_cache self.now (Cache.Chunk chunk.now) ≡ true }
+        requires inside { All (λ run. run.0 + run.1 ≤ product self.now.encoded) runs.now }
+        requires count { length (joined_runs runs.now) < 2 ^ 64 }
+        ensures answer { GivesSource B.functions self.now
+            (kept_source self.now chunk.now) runs.now result }
+        ensures blank { CacheIsBlank self.now.data_type (Cache.Chunk chunk.now) →
+            IfOk result (AbsentAreBlank self.now.data_type) }
+    {
+        match chunk {
+            None => fill_runs(alloc, &self.data_type, &self.fill_value, runs),
+            Some(held) => {
+                let count = self.encoded.num_elements()?;
+                held.extract_runs(alloc, runs, count, &self.data_type)
+            }
+        }
+    }
+
+    /// The elements at the places of these runs of the chunk that the codec to bytes gets.
+    pub(crate) fn read_runs<H: BytesPartialDecoderTraits>(
+        &self,
+        alloc: Global,
+        handle: &mut H,
+        runs: &[(u64, u64)],
+    ) -> Result<ArrayBytes<'static>, CodecError>
+        requires filled { All (λ run. 0 < run.1) runs.now }
+        requires inside { All (λ run. run.0 + run.1 ≤ product self.now.encoded) runs.now }
+        requires count { length (joined_runs runs.now) < 2 ^ 64 }
+        ensures answer { ReadsSource B.functions self.now
+            (reader_source self.now (H.state handle.old).value) runs.now result }
+        ensures blank { IfOk result (AbsentAreBlank self.now.data_type) }
+        ensures sure { SureSource self.now (H.state handle.old) runs.now result }
+        ensures left { H.state handle.new ≡ after_reading result (H.state handle.old) }
+        ensures same_reference { H.lent handle.new ≡ H.lent handle.old }
+        ensures no_fault_if_cached { is_kept self.now.cache ≡ true → is_fault result ≡ false }
+    {
+        match &self.cache {
+            Cache::Handle => {
+                if codec_reads(self.chain).partial_decode {
+                    self.read_stored(alloc, handle, runs)
+                } else {
+                    self.read_whole(alloc, handle, runs)
+                }
+            }
+            Cache::Bytes(below, value) => self.read_above(alloc, lent_bytes(value), *below, runs),
+            Cache::Chunk(chunk) => self.read_kept(alloc, chunk, runs),
+        }
+    }
+}
+
+/// The bytes that are kept, lent.
+fn lent_bytes(value: &Option<Vec<u8>>) -> Option<ArrayBytesRaw<'_>>
+    ensures value { option_map (λ bytes. (items_of bytes)) result ≡
+        option_map (λ items. items.items) value.now }
+{
+    match value {
+        None => None,
+        Some(value) => Some(CowSlice::Borrowed(value.as_slice())),
+    }
+}
