@@ -138,11 +138,8 @@ same_runs xs ys e = cc
 
 module _ {B : Type 0} (f : BytesCodecs B) (form : ChunkForm B) (encoded : List ℕ) (r : BytesRepresentation) (h : IsReadable f form.chain form.sizes form.type form.fill encoded r) (are : All IsMapping form.chain.arrays) (positive : All (λ size. 0 < size) form.sizes) (counted : product form.sizes < 2 ^ 64)
     (region : Region) (inside : is_box_inside form.sizes region.starts region.lengths ≡ true) (kept : keeps_regions form.chain.arrays ≡ true) where
-  abbrev window : Window
-  window = window_of form.sizes region
-
   abbrev last : Window
-  last = last_window form.chain.arrays window
+  last = last_window form.chain.arrays (window_of form.sizes region)
 
   chained_is : chained form.chain.arrays form.sizes ≡ Ok h.map_is
   chained_is = chained_of form.type form.chain.arrays form.sizes h.map_is h.mapped
@@ -154,7 +151,7 @@ module _ {B : Type 0} (f : BytesCodecs B) (form : ChunkForm B) (encoded : List �
   takes_type = types_taken form.type form.chain.arrays form.sizes h.map_is h.mapped
 
   -- where its places go
-  pub region_goes : encoded_places form.type form.chain.arrays form.sizes (subset region) ≡ Ok (map h.map_is.to (window_places window))
+  pub region_goes : encoded_places form.type form.chain.arrays form.sizes (subset region) ≡ Ok (map h.map_is.to (window_places (window_of form.sizes region)))
   region_goes = rw (places_are form.sizes region inside counted, h.mapped) refl
 
   module _ (source : Source) where
@@ -167,7 +164,7 @@ module _ {B : Type 0} (f : BytesCodecs B) (form : ChunkForm B) (encoded : List �
     any : ReadsInAnyOrder read_last
     any = source_any f form.chain encoded form.type form.fill r source
 
-    wanted_is : wanted ≡ read_last (map h.map_is.to (window_places window))
+    wanted_is : wanted ≡ read_last (map h.map_is.to (window_places (window_of form.sizes region)))
     wanted_is = rw region_goes refl
 
     -- the read of the last window is refused
@@ -175,7 +172,7 @@ module _ {B : Type 0} (f : BytesCodecs B) (form : ChunkForm B) (encoded : List �
     region_refused places e at answer = λ unexcused.
         wanted_is
         ∙ region_read form.chain.arrays form.sizes h.map_is region are positive chained_is kept inside read_last any
-        ∙ ap (seen (decoded_elements form.chain.arrays window)) (ap read_last (same_runs (window_places last) places at) ∙ answer unexcused)
+        ∙ ap (seen (decoded_elements form.chain.arrays (window_of form.sizes region))) (ap read_last (same_runs (window_places last) places at) ∙ answer unexcused)
 
     -- its elements are valid, and decoded they are what is read
     pub region_valid : (places : List ℕ) (held : Held) → ok (window_places last) ≡ ok places → IsOkAnd (read_last places) (Holds form.type held) → validity form.type (product region.lengths) held ≡ Ok tt
@@ -184,19 +181,19 @@ module _ {B : Type 0} (f : BytesCodecs B) (form : ChunkForm B) (encoded : List �
         (subst (λ ps. IsOkAnd (read_last ps) (Holds form.type held)) (sym (same_runs (window_places last) places at)) answer)).0
 
     pub region_answered : (places : List ℕ) (held : Held) (result : Result Held CodecError) → ok (window_places last) ≡ ok places → IsOkAnd (read_last places) (Holds form.type held)
-        → AnswersBy memory (Holds form.type) result (ok (decoded_of form.chain.arrays form.type window held)) → AnswersBy memory_or_fault (Holds form.type) result wanted
+        → AnswersBy memory (Holds form.type) result (ok (decoded_of form.chain.arrays form.type (window_of form.sizes region) held)) → AnswersBy memory_or_fault (Holds form.type) result wanted
     region_answered places held (Ok decoded) at answer d =
         subst (λ x. IsOkAnd x (Holds form.type decoded)) (sym wanted_is)
         ((region_decoded form.chain.arrays form.sizes h.map_is region are positive chained_is kept inside read_last form.type held decoded any
         (subst (λ ps. IsOkAnd (read_last ps) (Holds form.type held)) (sym (same_runs (window_places last) places at)) answer)).1 d)
-    region_answered places held (Err e) at answer d = λ unexcused. absurd (ok_no_err (decoded_of form.chain.arrays form.type window held) e (d (memory_too e unexcused)))
+    region_answered places held (Err e) at answer d = λ unexcused. absurd (ok_no_err (decoded_of form.chain.arrays form.type (window_of form.sizes region) held) e (d (memory_too e unexcused)))
 
   -- the bytes that a read of the last window rests on
   pub region_sure_where : (before : StorageState) (places : List ℕ) (P : Type 0) → ok (window_places last) ≡ ok places → taken_form f form.chain form.sizes form.type form.fill ≡ Ok (encoded, r)
       → (asks_in_part form.chain.outer form.chain.codec ≡ true → IfOk (codec_rests_on form.chain.codec encoded form.type form.fill before.value places) (λ numbers. are_sure before.sure numbers ≡ true → P)) → WhereSure f form before (subset region) P
   region_sure_where before places P at taken sure =
-      where_sure f form before (subset region) P encoded r (map h.map_is.to (window_places window)) region_goes taken
-      (λ asks. codec_alike before.sure (map h.map_is.to (window_places window)) (window_places last) (λ numbers. region_sure form.chain.arrays form.sizes h.map_is region are positive chained_is kept inside before.sure numbers) form.chain.codec encoded form.type form.fill before.value P
+      where_sure f form before (subset region) P encoded r (map h.map_is.to (window_places (window_of form.sizes region))) region_goes taken
+      (λ asks. codec_alike before.sure (map h.map_is.to (window_places (window_of form.sizes region))) (window_places last) (λ numbers. region_sure form.chain.arrays form.sizes h.map_is region are positive chained_is kept inside before.sure numbers) form.chain.codec encoded form.type form.fill before.value P
       (subst (λ ps. IfOk (codec_rests_on form.chain.codec encoded form.type form.fill before.value ps) (λ numbers. are_sure before.sure numbers ≡ true → P)) (sym (same_runs (window_places last) places at)) (sure asks)))
 
 -- ---- calls

@@ -89,6 +89,11 @@ planned_is : (t : Bool) (found numbers : List ℕ) → ok (if t then Some found 
 planned_is true found numbers e = (refl, cc)
 planned_is false found numbers e = absurd (cc)
 
+-- the bytes that a read of places tells beforehand, where it does
+abbrev plan_of : {B : Type 0} → List B → PlainCodec B → List ℕ → ElementType → List ℕ → List ℕ → Result (Option (List ℕ)) CodecError
+plan_of outer codec encoded type fill places =
+    codec_rests_on codec encoded type fill None places >>= λ found. ok (if reads_places outer codec then Some found else None)
+
 module _ {B : Type 0} (f : BytesCodecs B) (value other : List ℕ) (Agreeing : List ℕ → Type 0)
     (of_bytes : (order : Option Endianness) (type : ElementType) (fill places : List ℕ) → Agreeing (place_bytes (place_size type) places) → read_places order type fill (Some value) places ≡ read_places order type fill (Some other) places)
     (of_packed : (settings : PackBitsSettings) (sizes : List ℕ) (type : ElementType) (fill : List ℕ) (l : _) (places : List ℕ) → packed_layout settings (form_of sizes type fill) ≡ Ok l → Agreeing (packed_places_bytes l places)
@@ -106,10 +111,6 @@ module _ {B : Type 0} (f : BytesCodecs B) (value other : List ℕ) (Agreeing : L
       ∙ sym (ap (λ r. r >>= λ l. read_packed_places l type fill (Some other) places) b.1)
   codec_alike (vlen_codec ia ix ib da dx db wide at_end) sizes type fill places numbers plans is agree = absurd (cc)
   codec_alike (optional_codec ma mx mb da dx db) sizes type fill places numbers plans is agree = absurd (cc)
-
-  abbrev plan_of : List B → PlainCodec B → List ℕ → ElementType → List ℕ → List ℕ → Result (Option (List ℕ)) CodecError
-  plan_of outer codec encoded type fill places =
-      codec_rests_on codec encoded type fill None places >>= λ found. ok (if reads_places outer codec then Some found else None)
 
   abbrev read_below : List B → PlainCodec B → List ℕ → ElementType → List ℕ → BytesRepresentation → List ℕ → List ℕ → Result Chunk CodecError
   read_below outer codec encoded type fill r places v =
@@ -167,15 +168,11 @@ module _ {B : Type 0} where
   asked_of outer codec encoded type fill places stored =
       codec_rests_on codec encoded type fill stored places >>= λ found. ok (if asks_in_part outer codec then Some found else None)
 
-  abbrev planned_of : List B → PlainCodec B → List ℕ → ElementType → List ℕ → List ℕ → Result (Option (List ℕ)) CodecError
-  planned_of outer codec encoded type fill places =
-      codec_rests_on codec encoded type fill None places >>= λ found. ok (if reads_places outer codec then Some found else None)
-
   plans : (outer : List B) (codec : PlainCodec B) → reads_places outer codec ≡ true → codec_plans codec ≡ true
   plans [] codec e = e
   plans (first ∷ rest) codec e = absurd (cc)
 
-  at_asked : (outer : List B) (codec : PlainCodec B) (encoded : List ℕ) (type : ElementType) (fill places : List ℕ) (stored : Option (List ℕ)) (numbers : List ℕ) → planned_of outer codec encoded type fill places ≡ Ok (Some numbers)
+  at_asked : (outer : List B) (codec : PlainCodec B) (encoded : List ℕ) (type : ElementType) (fill places : List ℕ) (stored : Option (List ℕ)) (numbers : List ℕ) → plan_of outer codec encoded type fill places ≡ Ok (Some numbers)
       → (asks_in_part outer codec ≡ true) × (asked_of outer codec encoded type fill places stored ≡ Ok (Some numbers))
   at_asked outer codec encoded type fill places stored numbers is =
       let b = bind_ok (codec_rests_on codec encoded type fill None places) (λ found. ok (if reads_places outer codec then Some found else None)) (Some numbers) is in
@@ -189,7 +186,7 @@ module _ {B : Type 0} where
       )
 
   chain_asked : (form : ChunkForm B) (stored : Option (List ℕ)) (p : Result (List ℕ) CodecError) (t : Result (List ℕ × BytesRepresentation) CodecError) (numbers : List ℕ)
-      → (p >>= λ places. t >>= λ taken. planned_of form.chain.outer form.chain.codec taken.0 form.type form.fill places) ≡ Ok (Some numbers)
+      → (p >>= λ places. t >>= λ taken. plan_of form.chain.outer form.chain.codec taken.0 form.type form.fill places) ≡ Ok (Some numbers)
       → (asks_in_part form.chain.outer form.chain.codec ≡ true) × ((p >>= λ places. t >>= λ taken. asked_of form.chain.outer form.chain.codec taken.0 form.type form.fill places stored) ≡ Ok (Some numbers))
   chain_asked form stored (Err e) t numbers is = absurd (cc)
   chain_asked form stored (Ok places) (Err e) numbers is = absurd (cc)
