@@ -11,7 +11,8 @@ use Rattle.zarrs_chain_json.specs.declared.refusal.Refusal.TheVariants.{Codec}
 use Rattle.zarrs_chain_header.specs.Header.{Header}
 use Rattle.zarrs_calls.specs.Calls.{header_given}
 use Rattle.zarrs_calls.specs.Codes.{codec_answer}
-use Rattle.zarrs_calls.specs.Reads.{form_read, header_form, part_read}
+use Rattle.zarrs_chain_lines.specs.Commands.{form_of}
+use Rattle.zarrs_calls.specs.Reads.{form_read, part_read}
 use Rattle.zarrs_calls.specs.Selections.{selection_given}
 use Rattle.zarrs_calls.specs.Told.{Elements, HoldsThese}
 use Rattle.zarrs_calls.specs.declared.cause.Cause.{Cause}
@@ -39,20 +40,20 @@ elements_not_due type error (Err other) e = cc
 
 -- where the header and the selection are read
 pub read_by : (text : List ℕ) (stored : Option (List ℕ)) (tuples : ℕ) (numbers : List ℕ) (header : Header) (selection : Selection) → header_given text ≡ Ok header → selection_given (length header.sizes) tuples numbers ≡ Ok selection
-    → part_read text stored tuples numbers ≡ (codec_answer (form_read (header_form header) stored selection) >>= typed header.data_type)
+    → part_read text stored tuples numbers ≡ (codec_answer (form_read (form_of header) stored selection) >>= typed header.data_type)
 read_by text stored tuples numbers header selection e f = rw (e, f) refl
 
 module _ (text : List ℕ) (stored value : Option (List ℕ)) (tuples : ℕ) (numbers : List ℕ) (header : Header) (selection : Selection) (reads : header_given text ≡ Ok header) (means : selection_given (length header.sizes) tuples numbers ≡ Ok selection) (same : value ≡ stored) where
-  of_value : part_read text stored tuples numbers ≡ (codec_answer (form_read (header_form header) value selection) >>= typed header.data_type)
+  of_value : part_read text stored tuples numbers ≡ (codec_answer (form_read (form_of header) value selection) >>= typed header.data_type)
   of_value =
       read_by text stored tuples numbers header selection reads means
-      ∙ ap (λ (v : Option (List ℕ)). codec_answer (form_read (header_form header) v selection) >>= typed header.data_type) (sym same)
+      ∙ ap (λ (v : Option (List ℕ)). codec_answer (form_read (form_of header) v selection) >>= typed header.data_type) (sym same)
 
   -- a container that holds what is read of the chunk holds what is due
-  pub read_due : (held : Held) → IsOkAnd (form_read (header_form header) value selection) (Holds header.data_type held) → IsOkAnd (part_read text stored tuples numbers) (HoldsThese held)
+  pub read_due : (held : Held) → IsOkAnd (form_read (form_of header) value selection) (Holds header.data_type held) → IsOkAnd (part_read text stored tuples numbers) (HoldsThese held)
   read_due held h =
-      subst (λ (x : Result Elements Cause). IsOkAnd x (HoldsThese held)) (sym of_value) (elements_due header.data_type held (form_read (header_form header) value selection) h)
+      subst (λ (x : Result Elements Cause). IsOkAnd x (HoldsThese held)) (sym of_value) (elements_due header.data_type held (form_read (form_of header) value selection) h)
 
   -- and a refusal of it is the one that is due
-  pub read_refused : (excused : Bool) (error : CodecError) → Excused excused (form_read (header_form header) value selection ≡ Err error) → Excused excused (part_read text stored tuples numbers ≡ Err (of_codec error))
-  read_refused excused error h = λ wants. of_value ∙ elements_not_due header.data_type error (form_read (header_form header) value selection) (h wants)
+  pub read_refused : (excused : Bool) (error : CodecError) → Excused excused (form_read (form_of header) value selection ≡ Err error) → Excused excused (part_read text stored tuples numbers ≡ Err (of_codec error))
+  read_refused excused error h = λ wants. of_value ∙ elements_not_due header.data_type error (form_read (form_of header) value selection) (h wants)

@@ -1,5 +1,5 @@
 -- Ranges that are told for a plan have all bytes that are planned.
-use Rattle.std.proofs.Common.{◌≡◌, ℕ, zero, suc, ◌+◌, ◌-◌, ◌<◌, ◌≤◌, Bool, true, false, if◌then◌else◌, Option, Some, None, List, [], ◌∷◌, Result, Ok, Err, IsOkAnd, refl, ap, sym, ◌∙◌, subst, arith}
+use Rattle.std.proofs.Common.{◌≡◌, ℕ, ◌+◌, ◌-◌, ◌<◌, ◌≤◌, Bool, true, false, if◌then◌else◌, Option, Some, None, List, [], ◌∷◌, Result, Ok, Err, IsOkAnd, refl, ap, sym, ◌∙◌, subst, arith}
 use Rattle.std.specs.List.{list_all, range_with_len}
 use Rattle.std.proofs.lemmas.Bool.{and_from, or_left, or_right}
 use Rattle.std.proofs.lemmas.Bool.Decides.{nat_tests}
@@ -30,15 +30,11 @@ use Rattle.zarrs_planned_reads.specs.PlannedReads.{ArePlanned}
 use Rattle.zarrs_calls.specs.Codes.{codec_answer}
 use Rattle.zarrs_calls.specs.Enough.{PlanIsEnough}
 use Rattle.zarrs_calls.specs.Plans.{Planned, places_planned}
-use Rattle.zarrs_calls.specs.Reads.{header_form}
+use Rattle.zarrs_chain_lines.specs.Commands.{form_of as header_form}
 use Rattle.zarrs_calls.proofs.PlanLemmas.{plan_by, with_header}
+use Rattle.zarrs_packbits.proofs.RunLemmas.{all_from}
 
 -- ---- the bytes of ranges
-
-row_passes : (test : ℕ → Bool) (start len : ℕ) → ((n : ℕ) → start ≤ n → n < start + len → test n ≡ true) → list_all test (range_with_len start len) ≡ true
-row_passes test start zero h = refl
-row_passes test start (suc len) h =
-    and_from _ _ (h start (omega arith) (omega arith)) (row_passes test (start + 1) len (λ n l m. h n (omega (arith, l)) (omega (arith, m))))
 
 in_range : (range : ByteSpan) (n : ℕ) → range.start ≤ n → n < range.start + (range.end - range.start) → has_number range n ≡ true
 in_range range n l m =
@@ -50,7 +46,7 @@ passes : (test : ℕ → Bool) (ranges : List ByteSpan) → ((n : ℕ) → have_
 passes test [] h = refl
 passes test (range ∷ ranges) h =
     list_all-append test (range_with_len range.start (range.end - range.start)) (range_indices ranges)
-    ∙ and_from _ _ (row_passes test range.start (range.end - range.start) (λ n l m. h n (or_left (has_number range n) (have_number ranges n) (in_range range n l m))))
+    ∙ and_from _ _ (all_from test range.start (range.end - range.start) (λ n l m. h n (or_left (has_number range n) (have_number ranges n) (in_range range n l m))))
     (passes test ranges (λ n e. h n (or_right (has_number range n) (have_number ranges n) e)))
 
 -- ---- of a codec to bytes

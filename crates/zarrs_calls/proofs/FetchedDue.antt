@@ -19,7 +19,8 @@ use Rattle.zarrs_calls.specs.Buffers.{Buffers, crossed}
 use Rattle.zarrs_calls.specs.Calls.{header_given}
 use Rattle.zarrs_calls.specs.Codes.{IsRefusal, cause_code, codec_answer}
 use Rattle.zarrs_calls.specs.Fetched.{HasPlannedPieces, TellsOrLacks, cause_lacks, memory_or_lack, pieces_given, pieces_read}
-use Rattle.zarrs_calls.specs.Reads.{form_read, header_form, part_read}
+use Rattle.zarrs_chain_lines.specs.Commands.{form_of}
+use Rattle.zarrs_calls.specs.Reads.{form_read, part_read}
 use Rattle.zarrs_calls.specs.Selections.{selection_given}
 use Rattle.zarrs_calls.specs.Told.{Elements, HoldsThese, ToldParts}
 use Rattle.zarrs_calls.specs.declared.cause.Cause.{Cause}
@@ -32,7 +33,7 @@ use Rattle.zarrs_calls.proofs.FetchedLemmas.{made_is, parts_alike}
 -- ---- where all is read that says what is meant
 
 pieces_by : (text : List ℕ) (len : ℕ) (ranges fetched : List ℕ) (tuples : ℕ) (numbers : List ℕ) (header : Header) (selection : Selection) (pieces : List PlainPiece) → header_given text ≡ Ok header → selection_given (length header.sizes) tuples numbers ≡ Ok selection
-    → pieces_given ranges fetched ≡ Ok pieces → are_apart len 0 pieces ≡ true → pieces_read text len ranges fetched tuples numbers ≡ (codec_answer (form_read (header_form header) (Some (value_with len pieces)) selection) >>= typed header.data_type)
+    → pieces_given ranges fetched ≡ Ok pieces → are_apart len 0 pieces ≡ true → pieces_read text len ranges fetched tuples numbers ≡ (codec_answer (form_read (form_of header) (Some (value_with len pieces)) selection) >>= typed header.data_type)
 pieces_by text len ranges fetched tuples numbers header selection pieces e f g h = rw (e, f, g, h) refl
 
 ok_same : {A E : Type 0} (r : Result A E) (a b : A) → r ≡ Ok a → r ≡ Ok b → a ≡ b
@@ -41,7 +42,7 @@ ok_same r a b e f = (let g = sym e ∙ f in cc)
 -- what is planned of a selection is at hand, in pieces that a value has
 record PlannedHere (header : Header) (selection : Selection) (pieces : List PlainPiece) (len : ℕ) (value : List ℕ) : Type 0 where
   planned : List ℕ
-  planned_are : ArePlanned sample_codecs (header_form header) selection planned
+  planned_are : ArePlanned sample_codecs (form_of header) selection planned
   at_hand : are_at_hand pieces planned ≡ true
   has : HasPieces len pieces value
 
@@ -65,43 +66,43 @@ module _ (text : List ℕ) (len : ℕ) (ranges fetched : List ℕ) (tuples : ℕ
         (subst (λ (x : List PlainPiece). PlannedHere h.header h.selection x len value) (pieces_same value h) of_own))
 
     module _ (state : StorageState) (made : Ok state ≡ made_state len pieces) where
-      of_state : pieces_read text len ranges fetched tuples numbers ≡ (codec_answer (form_read (header_form header) state.value selection) >>= typed header.data_type)
+      of_state : pieces_read text len ranges fetched tuples numbers ≡ (codec_answer (form_read (form_of header) state.value selection) >>= typed header.data_type)
       of_state =
           let is = made_is len pieces state made in
           pieces_by text len ranges fetched tuples numbers header selection pieces reads means given is.stand_apart
-          ∙ ap (λ (v : Option (List ℕ)). codec_answer (form_read (header_form header) v selection) >>= typed header.data_type) (sym is.value_is)
+          ∙ ap (λ (v : Option (List ℕ)). codec_answer (form_read (form_of header) v selection) >>= typed header.data_type) (sym is.value_is)
 
       -- a container that holds what is read of the pieces holds what is due
-      pub pieces_due : (held : Held) → IsOkAnd (form_read (header_form header) state.value selection) (Holds header.data_type held) → IsOkAnd (pieces_read text len ranges fetched tuples numbers) (HoldsThese held)
+      pub pieces_due : (held : Held) → IsOkAnd (form_read (form_of header) state.value selection) (Holds header.data_type held) → IsOkAnd (pieces_read text len ranges fetched tuples numbers) (HoldsThese held)
       pieces_due held h =
-          subst (λ (x : Result Elements Cause). IsOkAnd x (HoldsThese held)) (sym of_state) (elements_due header.data_type held (form_read (header_form header) state.value selection) h)
+          subst (λ (x : Result Elements Cause). IsOkAnd x (HoldsThese held)) (sym of_state) (elements_due header.data_type held (form_read (form_of header) state.value selection) h)
 
       -- what is read of the pieces is what is read of a value that has them, where the planned bytes are among them
-      read_alike : (value : List ℕ) → HasPlannedPieces text len ranges fetched tuples numbers value → form_read (header_form header) state.value selection ≡ form_read (header_form header) (Some value) selection
+      read_alike : (value : List ℕ) → HasPlannedPieces text len ranges fetched tuples numbers value → form_read (form_of header) state.value selection ≡ form_read (form_of header) (Some value) selection
       read_alike value h =
           let here = planned_here value h in
           let is = made_is len pieces state made in
-          ap (λ (v : Option (List ℕ)). form_read (header_form header) v selection) is.value_is
-          ∙ parts_alike (header_form header) len pieces value here.planned selection here.planned_are here.has here.at_hand
+          ap (λ (v : Option (List ℕ)). form_read (form_of header) v selection) is.value_is
+          ∙ parts_alike (form_of header) len pieces value here.planned selection here.planned_are here.has here.at_hand
 
       -- and what holds where the planned bytes are sure does
-      pub where_sure : (P : Type 0) (value : List ℕ) → HasPlannedPieces text len ranges fetched tuples numbers value → ((planned : List ℕ) → ArePlanned sample_codecs (header_form header) selection planned → are_sure state.sure planned ≡ true → P) → P
+      pub where_sure : (P : Type 0) (value : List ℕ) → HasPlannedPieces text len ranges fetched tuples numbers value → ((planned : List ℕ) → ArePlanned sample_codecs (form_of header) selection planned → are_sure state.sure planned ≡ true → P) → P
       where_sure P value h sure =
           let here = planned_here value h in
           let is = made_is len pieces state made in
           sure here.planned here.planned_are (subst (λ (s : Option (ℕ → Bool)). are_sure s here.planned ≡ true) (sym is.sure_is) here.at_hand)
 
-      pub alike_due : (value : List ℕ) (held : Held) → HasPlannedPieces text len ranges fetched tuples numbers value → IsOkAnd (form_read (header_form header) state.value selection) (Holds header.data_type held)
+      pub alike_due : (value : List ℕ) (held : Held) → HasPlannedPieces text len ranges fetched tuples numbers value → IsOkAnd (form_read (form_of header) state.value selection) (Holds header.data_type held)
           → IsOkAnd (part_read text (Some value) tuples numbers) (HoldsThese held)
       alike_due value held h holds =
           read_due text (Some value) (Some value) tuples numbers header selection reads means refl held (subst (λ (x : Result Chunk CodecError). IsOkAnd x (Holds header.data_type held)) (read_alike value h) holds)
 
-      pub alike_refused : (value : List ℕ) (error : CodecError) → HasPlannedPieces text len ranges fetched tuples numbers value → fault error ≡ false → Excused (memory_or_fault error) (form_read (header_form header) state.value selection ≡ Err error)
+      pub alike_refused : (value : List ℕ) (error : CodecError) → HasPlannedPieces text len ranges fetched tuples numbers value → fault error ≡ false → Excused (memory_or_fault error) (form_read (form_of header) state.value selection ≡ Err error)
           → Excused (memory error) (part_read text (Some value) tuples numbers ≡ Err (of_codec error))
       alike_refused value error h quiet refuses =
-          let of_value : Excused (memory_or_fault error) (form_read (header_form header) (Some value) selection ≡ Err error) = subst (λ (x : Result Chunk CodecError). Excused (memory_or_fault error) (x ≡ Err error)) (read_alike value h) refuses in
+          let of_value : Excused (memory_or_fault error) (form_read (form_of header) (Some value) selection ≡ Err error) = subst (λ (x : Result Chunk CodecError). Excused (memory_or_fault error) (x ≡ Err error)) (read_alike value h) refuses in
           read_refused text (Some value) (Some value) tuples numbers header selection reads means refl (memory error) error
-          (excused_less (memory error) (fault error) (form_read (header_form header) (Some value) selection ≡ Err error) quiet of_value)
+          (excused_less (memory error) (fault error) (form_read (form_of header) (Some value) selection ≡ Err error) quiet of_value)
 
 -- ---- codes
 

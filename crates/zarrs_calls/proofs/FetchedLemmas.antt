@@ -12,17 +12,18 @@ use Rattle.zarrs_array_bytes.specs.Validity.{Holds}
 use Rattle.zarrs_codec.specs.SampleBytesCodec.{sample_codecs}
 use Rattle.zarrs_codec.specs.StorageState.{StorageState, are_sure}
 use Rattle.zarrs_codec.specs.declared.bytes_representation.BytesRepresentation.{BytesRepresentation}
-use Rattle.zarrs_codec.specs.declared.sample_bytes_codec.SampleBytesCodec.{SampleBytesCodec}
 use Rattle.zarrs_chain_laws.specs.Chain.{taken_form}
-use Rattle.zarrs_chain_laws.proofs.ArraySteps.{ok}
-use Rattle.zarrs_codec_chain.specs.ChunkRead.{ChunkForm, WhereSure, asks_in_part, stored_read}
+use Rattle.zarrs_bytes.proofs.Coding.{ok}
+use Rattle.zarrs_codec_chain.specs.ChunkRead.{WhereSure, asks_in_part, stored_read}
 use Rattle.zarrs_codec_chain.specs.ChunkSource.{Source, bytes_above, source_made, source_made_at}
 use Rattle.zarrs_codec_chain.proofs.CachePlaces.{no_place, no_stage}
 use Rattle.zarrs_pieces.specs.PiecesHandle.{made_state}
 use Rattle.zarrs_pieces.specs.Pieces.{PlainPiece, HasPieces, are_apart, are_at_hand, byte_at, is_at_hand, value_with}
 use Rattle.zarrs_planned_reads.specs.PlannedReads.{ArePlanned}
 use Rattle.zarrs_planned_reads.proofs.Alike.{planned_is_asked, sized_alike}
-use Rattle.zarrs_calls.specs.Reads.{form_read, reads_none}
+use Rattle.zarrs_chain_lines.specs.Commands.{sample_reads}
+use Rattle.zarrs_calls.specs.Reads.{form_read}
+use Rattle.zarrs_chain_lines.proofs.WriteLemmas.{Form}
 
 -- ---- the bytes at hand
 
@@ -53,9 +54,6 @@ agree len ps value planned has hand = λ k d l. same_at len (get_or planned k d)
 
 -- ---- reads by a decoder that is made for them
 
-abbrev pub Form : Type 0
-Form = ChunkForm SampleBytesCodec
-
 by_taken : (f : Form) (stored : Option (List ℕ)) (x : Result Chunk CodecError) (t : Result (List ℕ × BytesRepresentation) CodecError)
     → ((t >>= λ _. ok (bytes_above (length f.chain.outer) stored)) >>= λ _. x) ≡ (t >>= λ _. x)
 by_taken f stored x (Ok taken) = refl
@@ -63,9 +61,9 @@ by_taken f stored x (Err e) = refl
 
 -- without a cache the making refuses only what the chain doesn't take
 uncached : (f : Form) (stored : Option (List ℕ)) (x : Result Chunk CodecError) → asks_in_part f.chain.outer f.chain.codec ≡ true
-    → (source_made sample_codecs reads_none f stored >>= λ _. x) ≡ (taken_form sample_codecs f.chain f.sizes f.type f.fill >>= λ _. x)
+    → (source_made sample_codecs sample_reads f stored >>= λ _. x) ≡ (taken_form sample_codecs f.chain f.sizes f.type f.fill >>= λ _. x)
 uncached f stored x asks =
-    ap (λ s. source_made_at sample_codecs f s stored >>= λ _. x) (no_stage reads_none f.chain (no_place reads_none f.chain asks))
+    ap (λ s. source_made_at sample_codecs f s stored >>= λ _. x) (no_stage sample_reads f.chain (no_place sample_reads f.chain asks))
     ∙ by_taken f stored x (taken_form sample_codecs f.chain f.sizes f.type f.fill)
 
 -- a value that has the pieces is read as the one with zeros elsewhere, where the planned bytes are at hand
@@ -91,19 +89,19 @@ stops (Ok a) x e h = absurd (cc)
 stops (Err f) x e h = cc
 
 -- what it answers
-pub part_answered : (chunk form : Form) (stored value : Option (List ℕ)) (selection : Selection) (r : Result Held CodecError) (source : Source) → form ≡ chunk → value ≡ stored → source_made sample_codecs reads_none chunk stored ≡ Ok source
+pub part_answered : (chunk form : Form) (stored value : Option (List ℕ)) (selection : Selection) (r : Result Held CodecError) (source : Source) → form ≡ chunk → value ≡ stored → source_made sample_codecs sample_reads chunk stored ≡ Ok source
     → AnswersBy memory_or_fault (Holds form.type) r (stored_read sample_codecs form value selection) → AnswersBy memory_or_fault (Holds chunk.type) r (form_read chunk stored selection)
 part_answered chunk form stored value selection r source same_form same_value made h =
     let of_chunk : AnswersBy memory_or_fault (Holds chunk.type) r (stored_read sample_codecs chunk stored selection) =
     subst (λ (v : Option (List ℕ)). AnswersBy memory_or_fault (Holds chunk.type) r (stored_read sample_codecs chunk v selection)) same_value
     (subst (λ (f : Form). AnswersBy memory_or_fault (Holds f.type) r (stored_read sample_codecs f value selection)) same_form h) in
     subst (λ (y : Result Chunk CodecError). AnswersBy memory_or_fault (Holds chunk.type) r y)
-    (sym (goes_on (source_made sample_codecs reads_none chunk stored) source (stored_read sample_codecs chunk stored selection) made)) of_chunk
+    (sym (goes_on (source_made sample_codecs sample_reads chunk stored) source (stored_read sample_codecs chunk stored selection) made)) of_chunk
 
 -- where none is made
-pub part_stopped : (chunk : Form) (stored : Option (List ℕ)) (selection : Selection) (e : CodecError) → Excused (memory_or_fault e) (source_made sample_codecs reads_none chunk stored ≡ Err e)
+pub part_stopped : (chunk : Form) (stored : Option (List ℕ)) (selection : Selection) (e : CodecError) → Excused (memory_or_fault e) (source_made sample_codecs sample_reads chunk stored ≡ Err e)
     → Excused (memory_or_fault e) (form_read chunk stored selection ≡ Err e)
-part_stopped chunk stored selection e h = λ wants. stops (source_made sample_codecs reads_none chunk stored) (stored_read sample_codecs chunk stored selection) e (h wants)
+part_stopped chunk stored selection e h = λ wants. stops (source_made sample_codecs sample_reads chunk stored) (stored_read sample_codecs chunk stored selection) e (h wants)
 
 pub planned_quietly_made : (chunk : Form) (selection : Selection) (planned : List ℕ) → ArePlanned sample_codecs chunk selection planned → asks_in_part chunk.chain.outer chunk.chain.codec ≡ true
 planned_quietly_made chunk selection planned are = (planned_is_asked sample_codecs chunk None selection planned are).in_part

@@ -5,22 +5,19 @@ use Rattle.zarrs_chunk.specs.Selection.{Selection}
 use Rattle.zarrs_chunk.specs.declared.codec_error.CodecError.{CodecError}
 use Rattle.zarrs_codec.specs.ByteSpan.{ByteSpan}
 use Rattle.zarrs_codec.specs.SampleBytesCodec.{sample_codecs}
-use Rattle.zarrs_codec.specs.declared.sample_bytes_codec.SampleBytesCodec.{SampleBytesCodec}
 use Rattle.zarrs_chain_laws.specs.Representation.{chain_representation}
-use Rattle.zarrs_codec_chain.specs.ChunkRead.{ChunkForm, planned_places}
+use Rattle.zarrs_codec_chain.specs.ChunkRead.{planned_places}
 use Rattle.zarrs_chain_header.specs.Header.{Header}
 use Rattle.zarrs_calls.specs.Calls.{header_given}
 use Rattle.zarrs_calls.specs.Codes.{cause_code, cause_memory, codec_answer}
 use Rattle.zarrs_calls.specs.Plans.{Planned, PlanBuffers, TellsPlan, ToldRanges, places_planned, planned}
 use Rattle.zarrs_calls.specs.PlanSeen.{AreNumbersOf, IsPlanAsNumbers, IsPlanOf}
-use Rattle.zarrs_calls.specs.Reads.{header_form}
+use Rattle.zarrs_chain_lines.specs.Commands.{form_of}
 use Rattle.zarrs_calls.specs.Selections.{selection_given}
 use Rattle.zarrs_calls.specs.Told.{ToldBytes}
 use Rattle.zarrs_calls.specs.declared.cause.Cause.{Cause}
 use Rattle.zarrs_calls.proofs.CodeLemmas.{refused}
-
-abbrev Form : Type 0
-Form = ChunkForm SampleBytesCodec
+use Rattle.zarrs_chain_lines.proofs.WriteLemmas.{Form}
 
 -- ---- by a coder that is made for it
 
@@ -50,12 +47,12 @@ plan_made chunk form selection r same made h =
 abbrev pub with_header : Header → Option (List ℕ) → Result Planned Cause
 with_header header places = Ok (header, places)
 
-none_joined : (header : Header) (places : Result (Option (List ℕ)) CodecError) → IsOkAnd places (IsPlanOf (header_form header) None) → IsOkAnd (codec_answer places >>= with_header header) (IsPlanAsNumbers None)
+none_joined : (header : Header) (places : Result (Option (List ℕ)) CodecError) → IsOkAnd places (IsPlanOf (form_of header) None) → IsOkAnd (codec_answer places >>= with_header header) (IsPlanAsNumbers None)
 none_joined header (Ok None) h = refl
 none_joined header (Ok (Some places)) h = absurd h
 none_joined header (Err e) h = absurd h
 
-some_joined : (header : Header) (places : Result (Option (List ℕ)) CodecError) (ranges : Vec ByteSpan Global) (numbers : Vec ℕ Global) → IsOkAnd places (IsPlanOf (header_form header) (Some ranges)) → AreNumbersOf ranges.items numbers
+some_joined : (header : Header) (places : Result (Option (List ℕ)) CodecError) (ranges : Vec ByteSpan Global) (numbers : Vec ℕ Global) → IsOkAnd places (IsPlanOf (form_of header) (Some ranges)) → AreNumbersOf ranges.items numbers
     → IsOkAnd (codec_answer places >>= with_header header) (IsPlanAsNumbers (Some numbers))
 some_joined header (Ok None) ranges numbers h joined = absurd h
 some_joined header (Ok (Some places)) ranges numbers h joined = (joined.0, joined.1, (places, ranges.items, refl, h, joined.2))
@@ -63,22 +60,22 @@ some_joined header (Err e) ranges numbers h joined = absurd h
 
 module _ (text : List ℕ) (tuples : ℕ) (numbers : List ℕ) (header : Header) (selection : Selection) (reads : header_given text ≡ Ok header) (means : selection_given (length header.sizes) tuples numbers ≡ Ok selection) where
   abbrev places : Result (Option (List ℕ)) CodecError
-  places = places_planned (header_form header) selection
+  places = places_planned (form_of header) selection
 
   pub plan_by : planned text tuples numbers ≡ (codec_answer places >>= with_header header)
   plan_by = rw (reads, means) refl
 
   -- where none is planned, none is due
-  pub none_due : (ranges : Option (Vec ByteSpan Global)) → IsOkAnd places (IsPlanOf (header_form header) ranges) → ranges ≡ None → IsOkAnd (planned text tuples numbers) (IsPlanAsNumbers None)
+  pub none_due : (ranges : Option (Vec ByteSpan Global)) → IsOkAnd places (IsPlanOf (form_of header) ranges) → ranges ≡ None → IsOkAnd (planned text tuples numbers) (IsPlanAsNumbers None)
   none_due ranges h is =
-      let of_none : IsOkAnd places (IsPlanOf (header_form header) None) = subst (λ (r : Option (Vec ByteSpan Global)). IsOkAnd places (IsPlanOf (header_form header) r)) is h in
+      let of_none : IsOkAnd places (IsPlanOf (form_of header) None) = subst (λ (r : Option (Vec ByteSpan Global)). IsOkAnd places (IsPlanOf (form_of header) r)) is h in
       subst (λ (x : Result Planned Cause). IsOkAnd x (IsPlanAsNumbers None)) (sym plan_by) (none_joined header places of_none)
 
   -- those that are planned are due, joined
-  pub some_due : (ranges : Option (Vec ByteSpan Global)) (made : Vec ByteSpan Global) (told : Vec ℕ Global) → IsOkAnd places (IsPlanOf (header_form header) ranges) → ranges ≡ Some made → AreNumbersOf made.items told
+  pub some_due : (ranges : Option (Vec ByteSpan Global)) (made : Vec ByteSpan Global) (told : Vec ℕ Global) → IsOkAnd places (IsPlanOf (form_of header) ranges) → ranges ≡ Some made → AreNumbersOf made.items told
       → IsOkAnd (planned text tuples numbers) (IsPlanAsNumbers (Some told))
   some_due ranges made told h is joined =
-      let of_some : IsOkAnd places (IsPlanOf (header_form header) (Some made)) = subst (λ (r : Option (Vec ByteSpan Global)). IsOkAnd places (IsPlanOf (header_form header) r)) is h in
+      let of_some : IsOkAnd places (IsPlanOf (form_of header) (Some made)) = subst (λ (r : Option (Vec ByteSpan Global)). IsOkAnd places (IsPlanOf (form_of header) r)) is h in
       subst (λ (x : Result Planned Cause). IsOkAnd x (IsPlanAsNumbers (Some told))) (sym plan_by) (some_joined header places made told of_some joined)
 
 -- ---- told

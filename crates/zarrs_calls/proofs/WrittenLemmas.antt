@@ -9,22 +9,18 @@ use Rattle.zarrs_codec.specs.SampleBytesCodec.{sample_codecs}
 use Rattle.zarrs_codec.specs.declared.sample_bytes_codec.SampleBytesCodec.{SampleBytesCodec}
 use Rattle.zarrs_chain_laws.specs.PlainChain.{PlainCodec, bytes_codec, packbits_codec, vlen_codec, optional_codec}
 use Rattle.zarrs_chain_laws.specs.Representation.{chain_representation}
-use Rattle.zarrs_codec_chain.specs.ChunkRead.{ChunkForm}
 use Rattle.zarrs_codec_chain.specs.ChunkWrite.{order_in_place, stored_written, value_left}
-use Rattle.zarrs_chain_lines.specs.Commands.{chunk_left}
+use Rattle.zarrs_chain_lines.specs.Commands.{chunk_left, form_of}
 use Rattle.zarrs_chain_header.specs.Header.{Header}
 use Rattle.zarrs_calls.specs.Buffers.{Buffers}
 use Rattle.zarrs_calls.specs.Calls.{header_given}
 use Rattle.zarrs_calls.specs.Codes.{cause_memory, codec_answer}
 use Rattle.zarrs_calls.specs.Given.{elements_given}
-use Rattle.zarrs_calls.specs.Reads.{header_form}
 use Rattle.zarrs_calls.specs.Selections.{selection_given}
 use Rattle.zarrs_calls.specs.Writes.{form_written, left_of_value, part_written, places_written}
 use Rattle.zarrs_calls.specs.declared.cause.Cause.{Cause}
 use Rattle.zarrs_calls.proofs.AnswerLemmas.{of_codec}
-
-abbrev Form : Type 0
-Form = ChunkForm SampleBytesCodec
+use Rattle.zarrs_chain_lines.proofs.WriteLemmas.{Form}
 
 -- ---- what an encoder leaves
 
@@ -76,7 +72,7 @@ refusal_is_answer error (Err other) e = cc
 module _ (text : List ℕ) (stored before : Option (List ℕ)) (tuples : ℕ) (numbers : List ℕ) (b : Buffers) (header : Header) (selection : Selection) (new : Held) (reads : header_given text ≡ Ok header) (means : selection_given (length header.sizes) tuples numbers ≡ Ok selection)
     (given : elements_given header.data_type b ≡ Ok new) (same : before ≡ stored) where
   abbrev left : Result (List ℕ) CodecError
-  left = form_written (header_form header) before selection new
+  left = form_written (form_of header) before selection new
 
   of_value : part_written text stored tuples numbers b ≡ codec_answer left
   of_value = subst (λ (v : Option (List ℕ)). part_written text v tuples numbers b ≡ codec_answer left) same (rw (reads, means, given) refl)

@@ -9,12 +9,12 @@ use Rattle.zarrs_pieces.specs.Pieces.{PlainPiece, are_at_hand, is_at_hand}
 use Rattle.zarrs_planned_reads.specs.PlannedReads.{ArePlanned}
 use Rattle.zarrs_calls.specs.Calls.{header_given}
 use Rattle.zarrs_calls.specs.Plans.{Planned, AreForPlan, planned}
-use Rattle.zarrs_calls.specs.Reads.{header_form}
+use Rattle.zarrs_chain_lines.specs.Commands.{form_of}
 use Rattle.zarrs_calls.specs.Selections.{selection_given}
 
 -- all bytes that a read of the selection plans to ask for are among the pieces
 abbrev pub HavePlanned : Header → Selection → List PlainPiece → Type 0
-HavePlanned header selection pieces = (numbers : List ℕ) × ArePlanned sample_codecs (header_form header) selection numbers × (are_at_hand pieces numbers ≡ true)
+HavePlanned header selection pieces = (numbers : List ℕ) × ArePlanned sample_codecs (form_of header) selection numbers × (are_at_hand pieces numbers ≡ true)
 
 -- Where ranges are told for a plan, pieces that have all bytes of these ranges have all that are planned.
 abbrev pub PlanIsEnough : Type 0

@@ -12,7 +12,8 @@ use Rattle.zarrs_planned_reads.specs.PlannedReads.{ArePlanned}
 use Rattle.zarrs_calls.specs.Buffers.{Buffers, crossed}
 use Rattle.zarrs_calls.specs.Calls.{header_given}
 use Rattle.zarrs_calls.specs.Codes.{IsRefusal, cause_memory, codec_answer}
-use Rattle.zarrs_calls.specs.Reads.{form_read, header_form}
+use Rattle.zarrs_chain_lines.specs.Commands.{form_of}
+use Rattle.zarrs_calls.specs.Reads.{form_read}
 use Rattle.zarrs_calls.specs.Selections.{selection_given}
 use Rattle.zarrs_calls.specs.Told.{Elements, HoldsThese, ToldParts}
 use Rattle.zarrs_calls.specs.declared.cause.Cause.{Cause}
@@ -42,7 +43,7 @@ pieces_read text len ranges fetched tuples numbers = do
   selection ← selection_given (length header.sizes) tuples numbers
   pieces ← pieces_given ranges fetched
   _ ← codec_answer (demand (are_apart len 0 pieces) InvalidByteRange)
-  chunk ← codec_answer (form_read (header_form header) (Some (value_with len pieces)) selection)
+  chunk ← codec_answer (form_read (form_of header) (Some (value_with len pieces)) selection)
   Ok (header.data_type, chunk)
 
 -- The value has so many bytes and these pieces, and all bytes that a read of the selection plans to ask for are among them.
@@ -55,7 +56,7 @@ pub record HasPlannedPieces (text : List ℕ) (len : ℕ) (ranges fetched : List
   pub selection_is : selection_given (length header.sizes) tuples numbers ≡ Ok selection
   pub pieces_are : pieces_given ranges fetched ≡ Ok pieces
   pub stand_apart : are_apart len 0 pieces ≡ true
-  pub planned_are : ArePlanned sample_codecs (header_form header) selection planned
+  pub planned_are : ArePlanned sample_codecs (form_of header) selection planned
   pub at_hand : are_at_hand pieces planned ≡ true
   pub has : HasPieces len pieces value
 

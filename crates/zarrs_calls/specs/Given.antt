@@ -1,18 +1,15 @@
 -- The container of elements that a caller gives.
-use Rattle.std.specs.Prelude.{ℕ, ◌==◌, ◌/◌, ◌%◌, ◌^◌, ◌-◌, nat_le, min, false, if◌then◌else◌, List, length, take, drop, Option, Some, None, ok_or, Result, Ok}
+use Rattle.std.specs.Prelude.{ℕ, ◌==◌, ◌/◌, ◌%◌, ◌^◌, ◌-◌, nat_le, min, if◌then◌else◌, List, length, take, drop, Option, Some, None, ok_or, Result, Ok}
 use Rattle.zarrs_chunk.specs.Answer.{◌>>=◌, demand}
 use Rattle.zarrs_data_type.specs.ElementType.{ElementType, fixed, text, bytes, optional, optional_levels}
-use Rattle.zarrs_array_bytes.specs.Held.{Raw, Held, flen}
+use Rattle.zarrs_array_bytes.specs.Held.{Held, flen}
 use Rattle.zarrs_array_bytes.specs.Offsets.{offsets_of}
 use Rattle.zarrs_array_bytes.specs.Parts.{with_offsets, with_mask}
 use Rattle.zarrs_calls.specs.Buffers.{Buffers}
 use Rattle.zarrs_calls.specs.Codes.{codec_answer}
 use Rattle.zarrs_calls.specs.declared.cause.Cause.{Cause}
 use Rattle.zarrs_calls.specs.declared.cause.Cause.TheVariants.{Argument}
-
--- bytes that the caller keeps
-abbrev pub lent_bytes : List ℕ → Raw
-lent_bytes items = record { items = items; is_owned = false }
+use Rattle.zarrs_chain_laws.specs.vlen.VlenSteps.{lent_bytes}
 
 -- how many masks stand over elements of the type; 2^64 - 1 where they are more
 abbrev pub level_count : ElementType → ℕ

@@ -22,7 +22,7 @@ use Rattle.zarrs_calls.specs.Buffers.{Buffers}
 use Rattle.zarrs_calls.specs.Calls.{header_given}
 use Rattle.zarrs_calls.specs.Codes.{codec_answer}
 use Rattle.zarrs_calls.specs.Given.{elements_given}
-use Rattle.zarrs_calls.specs.Reads.{header_form}
+use Rattle.zarrs_chain_lines.specs.Commands.{form_of}
 use Rattle.zarrs_calls.specs.Selections.{selection_given}
 use Rattle.zarrs_calls.specs.declared.cause.Cause.{Cause}
 
@@ -65,7 +65,7 @@ part_written text stored tuples numbers elements = do
   header ← header_given text
   selection ← selection_given (length header.sizes) tuples numbers
   new ← elements_given header.data_type elements
-  codec_answer (form_written (header_form header) stored selection new)
+  codec_answer (form_written (form_of header) stored selection new)
 
 -- the value with the new elements is stored afterwards, or the first refusal is answered
 abbrev pub StoresPart : ChunkForm SampleBytesCodec → (before after : Option (List ℕ)) → Selection → Held → Result (Unit {0}) CodecError → Type 0

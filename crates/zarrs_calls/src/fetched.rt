@@ -11,7 +11,8 @@ ghost use Rattle.zarrs_planned_reads.specs.PlannedReads.{ArePlanned};
 ghost use Rattle.zarrs_chain_header.specs.HeaderRead.{header_seen};
 ghost use Rattle.zarrs_calls.specs.Codes.{cause_memory};
 ghost use Rattle.zarrs_calls.specs.Fetched.{front_bytes, pieces_given as pieces_of, pieces_read, HasPlannedPieces, memory_or_lack};
-ghost use Rattle.zarrs_calls.specs.Reads.{form_read, header_form, part_read};
+ghost use Rattle.zarrs_chain_lines.specs.Commands.{form_of as header_form};
+ghost use Rattle.zarrs_calls.specs.Reads.{form_read, part_read};
 ghost use Rattle.zarrs_calls.specs.Told.{HoldsThese};
 
 use crate::calls::form_given;

@@ -7,7 +7,8 @@ ghost use Rattle.zarrs_array_bytes.specs.Validity.{Holds};
 ghost use Rattle.zarrs_pieces.specs.LentHandle.{lent_value};
 ghost use Rattle.zarrs_chain_header.specs.HeaderRead.{header_seen};
 ghost use Rattle.zarrs_calls.specs.Codes.{cause_memory};
-ghost use Rattle.zarrs_calls.specs.Reads.{form_read, header_form, part_read, stored_value};
+ghost use Rattle.zarrs_chain_lines.specs.Commands.{form_of as header_form};
+ghost use Rattle.zarrs_calls.specs.Reads.{form_read, part_read, stored_value};
 ghost use Rattle.zarrs_calls.specs.Told.{HoldsThese};
 
 use crate::calls::form_given;

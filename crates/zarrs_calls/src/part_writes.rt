@@ -7,7 +7,7 @@ ghost use Rattle.zarrs_codec.specs.MemoryHandle.{handle_value};
 ghost use Rattle.zarrs_chain_header.specs.HeaderRead.{header_seen};
 ghost use Rattle.zarrs_calls.specs.Buffers.{buffers};
 ghost use Rattle.zarrs_calls.specs.Codes.{cause_memory};
-ghost use Rattle.zarrs_calls.specs.Reads.{header_form};
+ghost use Rattle.zarrs_chain_lines.specs.Commands.{form_of as header_form};
 ghost use Rattle.zarrs_calls.specs.Writes.{part_written, StoresPart};
 
 use crate::calls::form_given;

@@ -7,7 +7,7 @@ ghost use Rattle.zarrs_chain_header.specs.HeaderRead.{header_seen};
 ghost use Rattle.zarrs_calls.specs.Codes.{cause_memory};
 ghost use Rattle.zarrs_calls.specs.PlanSeen.{AreNumbersOf, IsPlanAsNumbers, PlansPart};
 ghost use Rattle.zarrs_calls.specs.Plans.{planned, range_numbers};
-ghost use Rattle.zarrs_calls.specs.Reads.{header_form};
+ghost use Rattle.zarrs_chain_lines.specs.Commands.{form_of as header_form};
 
 use crate::calls::form_given;
 use crate::cause::Cause;

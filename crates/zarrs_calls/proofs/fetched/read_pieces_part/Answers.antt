@@ -3,7 +3,7 @@ use Rattle.zarrs_chunk.specs.Indexer.{selection_of}
 use Rattle.zarrs_chain_header.specs.HeaderRead.{header_seen}
 use Rattle.zarrs_codec_chain.specs.PartialDecoder.{form_of, handle_of, decoder_source}
 use Rattle.zarrs_pieces.specs.PiecesHandle.{pieces_state}
-use Rattle.zarrs_calls.specs.Reads.{header_form}
+use Rattle.zarrs_chain_lines.specs.Commands.{form_of as header_form}
 use Rattle.zarrs_calls.proofs.FetchedLemmas.{part_answered, part_stopped, planned_quiet, planned_quietly_made}
 use Rattle.zarrs_calls.proofs.fetched.read_pieces_part.Goals as goal
 

@@ -5,7 +5,7 @@ use Rattle.zarrs_chain_header.specs.HeaderRead.{header_seen}
 use Rattle.zarrs_codec_chain.specs.PartialDecoder.{form_of, handle_of, decoder_source}
 use Rattle.zarrs_chain_lines.proofs.ReadLemmas.{no_fault, part_read, part_refused}
 use Rattle.zarrs_pieces.specs.LentHandle.{lent_value}
-use Rattle.zarrs_calls.specs.Reads.{header_form}
+use Rattle.zarrs_chain_lines.specs.Commands.{form_of as header_form}
 use Rattle.zarrs_calls.proofs.part_reads.read_part.Goals as goal
 
 pub returns-in-Err : goal.returns-in-Err

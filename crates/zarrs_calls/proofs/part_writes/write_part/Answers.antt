@@ -4,13 +4,13 @@ use Rattle.zarrs_codec.specs.MemoryHandle.{handle_value}
 use Rattle.zarrs_chain_header.specs.HeaderRead.{header_seen}
 use Rattle.zarrs_codec_chain.specs.PartialEncoder.{encoder_form, encoder_handle}
 use Rattle.zarrs_chain_lines.proofs.WriteLemmas.{write_quiet, part_written, part_unwritten}
-use Rattle.zarrs_calls.specs.Reads.{header_form}
+use Rattle.zarrs_chain_lines.specs.Commands.{form_of}
 use Rattle.zarrs_calls.proofs.WrittenLemmas.{by_encoder, by_no_encoder}
 use Rattle.zarrs_calls.proofs.part_writes.write_part.Goals as goal
 
 pub returns-in-Err : goal.returns-in-Err
 returns-in-Err c =
-    let chunk = header_form (header_seen c.args.form.now) in
+    let chunk = form_of (header_seen c.args.form.now) in
     let before = handle_value c.args.handle.now in
     let selection = selection_of c.args.indexer.now in
     let new = c.args.new.now in
@@ -21,7 +21,7 @@ returns-in-Err c =
 
 pub returns-in-Ok : goal.returns-in-Ok
 returns-in-Ok c =
-    let chunk = header_form (header_seen c.args.form.now) in
+    let chunk = form_of (header_seen c.args.form.now) in
     let before = handle_value c.args.handle.now in
     let selection = selection_of c.args.indexer.now in
     let new = c.args.new.now in
