@@ -21,7 +21,7 @@ use Rattle.zarrs_packbits.specs.ReadPlan.{IsPlan}
 use Rattle.zarrs_chain_laws.specs.Chain.{taken_form}
 use Rattle.zarrs_chain_laws.specs.PlainChain.{PlainCodec, bytes_codec, packbits_codec, vlen_codec, optional_codec}
 use Rattle.zarrs_chain_laws.specs.Representation.{chain_representation}
-use Rattle.zarrs_chain_laws.proofs.ArraySteps.{bind_ok, ok}
+use Rattle.zarrs_bytes.proofs.Coding.{bind_ok, ok}
 use Rattle.zarrs_codec_chain.specs.ChunkRead.{ChunkForm, IsCodecPlan, IsReadPlan, codec_rests_on, encoded_places, planned_places, reads_places}
 use Rattle.zarrs_chain_header.specs.Header.{Header}
 use Rattle.zarrs_pieces.specs.Joined.{has_number, have_number}
