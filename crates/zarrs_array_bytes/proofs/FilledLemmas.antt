@@ -13,7 +13,7 @@ use Rattle.zarrs_array_bytes.specs.Elements.{under_flag, element_at}
 use Rattle.zarrs_array_bytes.specs.Validity.{LengthRefusal, sizes_fit, levels_fit, Holds}
 use Rattle.zarrs_array_bytes.specs.Pieces.{bytes_with_offsets}
 use Rattle.zarrs_array_bytes.specs.Filled.{copies, blank_elements, container_fill}
-use Rattle.zarrs_array_bytes.proofs.OffsetLemmas.{both_true}
+use Rattle.zarrs_array_bytes.specs.SameBytesLaws.{both_true}
 use Rattle.zarrs_array_bytes.proofs.FillLemmas.{length-copies}
 use Rattle.zarrs_array_bytes.proofs.RunLemmas.{piece_is}
 use Rattle.zarrs_array_bytes.proofs.ElementLemmas.{piece_at, cut_at, length_ends}

@@ -173,6 +173,11 @@ put_old size done place out mask old items part l none room len same =
     ∙ append_assoc (take (place * size) out) part rest
     ∙ ap (λ xs. take (place * size) out ++ xs) (sym told)
 
+-- bytes that stand in front of others
+pub held_in_front : (held element behind : List ℕ) → held ≡ element → take (length element) (held ++ behind) ≡ element
+held_in_front held element behind e =
+    ap (λ xs. take (length element) (xs ++ behind)) e ∙ take_at element behind (length element) refl
+
 -- an element of zeros
 pub zeros_at : (size n place : ℕ) → place < n → size ≤ 16 → take {A = ℕ} size (replicate 16 0) ≡ piece size (replicate (n * size) 0) place
 zeros_at size n place l short =

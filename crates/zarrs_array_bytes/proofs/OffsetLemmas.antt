@@ -1,13 +1,9 @@
 -- What follows from offsets that rise.
-use Rattle.std.proofs.Common.{◌≡◌, ℕ, zero, suc, ◌+◌, ◌<◌, ◌≤◌, Bool, true, false, List, [], ◌∷◌, length, map, slice_index, get_or, ◌&&◌, ◌++◌, refl, ap, ◌∙◌, arith, leb-true, le-leb, add-one, sub-one, zero-add, length-append}
-use Rattle.std.proofs.lemmas.Bool.{false≢true}
+use Rattle.std.proofs.Common.{◌≡◌, ℕ, zero, suc, ◌+◌, ◌<◌, ◌≤◌, true, List, [], ◌∷◌, length, map, slice_index, get_or, ◌++◌, refl, ap, ◌∙◌, arith, leb-true, le-leb, add-one, sub-one, zero-add, length-append}
 use Rattle.std.specs.List.{concat, flat_map}
 use Rattle.zarrs_array_bytes.specs.Offsets.{rises, is_offsets, last_of}
 use Rattle.zarrs_array_bytes.specs.Pieces.{ends, bytes_with_offsets}
-
-pub both_true : (a b : Bool) → a && b ≡ true → (a ≡ true) × (b ≡ true)
-both_true true b h = (refl, h)
-both_true false b h = absurd (false≢true h)
+use Rattle.zarrs_array_bytes.specs.SameBytesLaws.{both_true}
 
 steps : (o : ℕ) (os : List ℕ) → rises (o ∷ os) ≡ true → (k : ℕ) → k < length os → get_or (o ∷ os) k 0 ≤ get_or os k 0
 steps o [] h k l = omega arith

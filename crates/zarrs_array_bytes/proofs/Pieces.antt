@@ -1,5 +1,5 @@
 -- Lists cut into pieces of one size, and put together again.
-use Rattle.std.proofs.Common.{◌≡◌, Bool, ℕ, zero, suc, ◌+◌, ◌*◌, ◌≤◌, List, [], ◌∷◌, ◌++◌, length, map, take, drop, refl, sym, ap, ap₂, subst, ◌∙◌, arith, take_at, drop_at, drop-drop, length-append, length-take-le, length-drop}
+use Rattle.std.proofs.Common.{◌≡◌, Bool, ℕ, zero, suc, ◌+◌, ◌*◌, ◌≤◌, List, [], ◌∷◌, ◌++◌, length, map, take, drop, refl, sym, ap, ap₂, subst, ◌∙◌, arith, take_at, drop_at, drop-drop, length-append, length-take-le, length-drop, ◌-◌}
 use Rattle.std.specs.List.{concat, range_with_len}
 use Rattle.std.proofs.lemmas.Simd.{map-map}
 use Rattle.std.proofs.lemmas.List.{nil_from_length, take-append-drop, take-take, drop-take}
@@ -10,6 +10,13 @@ use Rattle.zarrs_array_bytes.specs.Held.{Raw, flen}
 use Rattle.zarrs_array_bytes.specs.Elements.{piece, elements}
 use Rattle.zarrs_array_bytes.specs.Pieces.{pieces}
 use Rattle.zarrs_array_bytes.proofs.RunLemmas.{piece_is}
+
+-- what lies within the first items
+pub take-drop-take : (count s n : ℕ) (xs : List ℕ) → s + count ≤ n → take count (drop s (take n xs)) ≡ take count (drop s xs)
+take-drop-take count s n xs h =
+    ap (λ k. take count (drop s (take k xs))) (let e : n ≡ s + (n - s) = omega arith in e)
+    ∙ ap (take count) (drop-take s (n - s) xs)
+    ∙ take-take count (n - s) (drop s xs) (omega arith)
 
 -- each part has so many items
 abbrev pub AllSized : ℕ → List (List ℕ) → Type 0

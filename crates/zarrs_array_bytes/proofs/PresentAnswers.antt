@@ -138,6 +138,10 @@ expands t h a m e =
           (expanded_holds t (container_expansion t h m.items) m (elements t (length (present_places m.items)) h) both.1 stands);
     }
 
+-- then the mask's bytes are 0 and 1
+pub expanded_flags : (t : ElementType) (h a : Held) (m : Raw) → expansion_of t h m.items ≡ Ok a → list_all (λ byte. nat_lt byte 2) m.items ≡ true
+expanded_flags t h a m e = (expands t h a m e).mask
+
 pub expanded_answers : (t : ElementType) (h a : Held) (m : Raw) (r : Result Held CodecError) → expansion_of t h m.items ≡ Ok a → Answers memory (λ (x : Held). x) r (with_mask a m) → AnswersBy memory (Holds (optional t)) r (expanded_chunk t h m.items)
 expanded_answers t h a m (Ok x) e gives =
     let known = expands t h a m e in

@@ -1,8 +1,8 @@
 -- The places that a mask marks, and the elements there.
-use Rattle.std.proofs.Common.{◌≡◌, ℕ, zero, suc, ◌+◌, ◌-◌, ◌<◌, ◌≤◌, Bool, true, false, cond, nat_lt, List, [], ◌∷◌, ◌++◌, length, map, set, get_or, slice_index, refl, sym, ap, ap₂, ◌∙◌, arith, lt-ltb, ltb-true, append-nil, append_assoc}
+use Rattle.std.proofs.Common.{◌≡◌, ℕ, zero, suc, ◌+◌, ◌-◌, ◌<◌, ◌≤◌, Bool, true, false, cond, nat_lt, List, [], ◌∷◌, ◌++◌, length, map, take, drop, set, get_or, slice_index, refl, sym, ap, ap₂, ◌∙◌, arith, lt-ltb, ltb-true, append-nil, append_assoc}
 use Rattle.std.specs.List.{filter, list_all, range_with_len}
 use Rattle.std.proofs.lemmas.Simd.{map-map}
-use Rattle.std.proofs.lemmas.List.{length-map}
+use Rattle.std.proofs.lemmas.List.{length-map, take-take, drop-take}
 use Rattle.std.proofs.lemmas.List.Elements.{filter-append, All-tail}
 use Rattle.zarrs_chunk.proofs.Consecutive.{range-append}
 use Rattle.zarrs_data_type.specs.ElementType.{ElementType, optional}
@@ -10,7 +10,7 @@ use Rattle.zarrs_data_type.specs.Element.{Element, plain, absent, present, Chunk
 use Rattle.zarrs_array_bytes.specs.Elements.{select}
 use Rattle.zarrs_array_bytes.specs.Update.{update}
 use Rattle.zarrs_array_bytes.specs.Present.{present_elements, mask_of, expansion, present_places}
-use Rattle.zarrs_array_bytes.proofs.OffsetLemmas.{both_true}
+use Rattle.zarrs_array_bytes.specs.SameBytesLaws.{both_true}
 use Rattle.zarrs_array_bytes.proofs.UpdatedLemmas.{flags}
 
 -- ---- the places
@@ -72,6 +72,32 @@ pub length_marked : (mask : List ℕ) → length (marked mask) ≤ length mask
 length_marked [] = omega arith
 length_marked (zero ∷ mask) = omega (arith, length-map (marked mask) suc, length_marked mask)
 length_marked (suc byte ∷ mask) = omega (arith, length-map (marked mask) suc, length_marked mask)
+
+-- how many of the first bytes are marked, and of those behind them
+pub marked_front : (n : ℕ) (mask : List ℕ) → length (marked (take n mask)) + length (marked (drop n mask)) ≡ length (marked mask)
+marked_front zero mask = omega arith
+marked_front (suc n) [] = omega arith
+marked_front (suc n) (zero ∷ mask) = omega (arith, marked_front n mask, length-map (marked (take n mask)) suc, length-map (marked mask) suc)
+marked_front (suc n) (suc byte ∷ mask) = omega (arith, marked_front n mask, length-map (marked (take n mask)) suc, length-map (marked mask) suc)
+
+marked_next : (at n : ℕ) (mask : List ℕ) → length (marked (take (at + n) mask)) ≡ length (marked (take at mask)) + length (marked (take n (drop at mask)))
+marked_next at n mask =
+    sym (marked_front at (take (at + n) mask))
+    ∙ ap₂ (λ xs ys. length (marked xs) + length (marked ys)) (take-take at (at + n) mask (omega arith)) (drop-take at n mask)
+
+-- those of a block are counted
+pub block_counted : (at n count few : ℕ) (mask : List ℕ) → count ≡ length (marked (take at mask)) → few ≡ length (present_places (take (at + n - at) (drop at mask))) → count + few ≡ length (marked (take (at + n) mask))
+block_counted at n count few mask e f =
+    let size : at + n - at ≡ n = omega arith in
+    let is : few ≡ length (marked (take n (drop at mask))) = f ∙ count_is (take (at + n - at) (drop at mask)) ∙ ap (λ k. length (marked (take k (drop at mask)))) size in
+    ap₂ (λ x y. x + y) e is ∙ sym (marked_next at n mask)
+
+pub front_counted : (n : ℕ) (mask : List ℕ) → length (marked (take n mask)) ≤ length mask
+front_counted n mask = omega (arith, marked_front n mask, length_marked mask)
+
+-- and those behind the last block
+pub rest_counted : (at count rest : ℕ) (mask : List ℕ) → count ≡ length (marked (take at mask)) → rest ≡ length (present_places (drop at mask)) → count + rest ≡ length (present_places mask)
+rest_counted at count rest mask e f = omega (arith, e, f, count_is (drop at mask), count_is mask, marked_front at mask)
 
 -- one place more in the run that is open
 pub open_more : (done : List ℕ) (start i : ℕ) → start ≤ i → done ++ range_with_len start (i + 1 - start) ≡ (done ++ range_with_len start (i - start)) ++ i ∷ []

@@ -58,7 +58,7 @@ pieces_of_run size bs start len =
     let e : len * size ≡ start * size + len * size - start * size = omega arith in
     pieces_in_run size bs start len ∙ ap (λ n. take n (drop (start * size) bs)) e
 
-range_below : (n start len : ℕ) → start + len ≤ n → All (λ place. place < n) (range_with_len start len)
+pub range_below : (n start len : ℕ) → start + len ≤ n → All (λ place. place < n) (range_with_len start len)
 range_below n start zero l = λ k d h. absurd (omega arith)
 range_below n start (suc len) l = All-cons (λ place. place < n) start (range_with_len (start + 1) len) (omega arith) (range_below n (start + 1) len (omega arith))
 

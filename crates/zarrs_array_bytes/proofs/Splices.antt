@@ -1,5 +1,5 @@
 -- Writes at runs that rise: between the runs the old items stay, and in them stand the new ones.
-use Rattle.std.proofs.Common.{◌≡◌, ℕ, zero, suc, ◌+◌, ◌-◌, ◌<◌, ◌≤◌, true, List, [], ◌∷◌, ◌++◌, length, map, map-id, drop, get_or, refl, sym, ap, ap₂, ◌∙◌, arith, leb-true, append_assoc, length-append, subst}
+use Rattle.std.proofs.Common.{◌≡◌, ℕ, ◌+◌, ◌-◌, ◌<◌, ◌≤◌, true, List, [], ◌∷◌, ◌++◌, length, map, map-id, drop, get_or, refl, sym, ap, ap₂, ◌∙◌, arith, leb-true, append_assoc, length-append, subst}
 use Rattle.std.specs.List.{All, concat, flat_map, range_with_len}
 use Rattle.std.proofs.lemmas.List.{drop_more, map-append}
 use Rattle.std.proofs.lemmas.List.Concat.{concat_is}
@@ -9,9 +9,10 @@ use Rattle.zarrs_chunk.specs.Runs.{joined_runs}
 use Rattle.zarrs_array_bytes.specs.Elements.{cut}
 use Rattle.zarrs_array_bytes.specs.Pieces.{ends}
 use Rattle.zarrs_array_bytes.specs.Update.{update, is_rising, with_parts, cuts, cuts_update}
-use Rattle.zarrs_array_bytes.proofs.OffsetLemmas.{both_true}
+use Rattle.zarrs_array_bytes.specs.SameBytesLaws.{both_true}
 use Rattle.zarrs_array_bytes.proofs.WriteLemmas.{update-append, update-run}
 use Rattle.zarrs_array_bytes.proofs.Stretches.{with_parts-append}
+use Rattle.zarrs_chunk.proofs.Consecutive.{range-append}
 
 -- the old items from a place on, with those in the runs behind it replaced by the next new ones
 abbrev pub spliced : {A : Type 0} → (ℕ → A) → (ℕ → A) → ℕ → ℕ → ℕ → List (ℕ × ℕ) → List A
@@ -19,19 +20,9 @@ spliced old new count at done [] = map old (range_with_len at (count - at))
 spliced old new count at done (run ∷ runs) =
     map old (range_with_len at (run.0 - at)) ++ (map new (range_with_len done run.1) ++ spliced old new count (run.0 + run.1) (done + run.1) runs)
 
-range_two : (a m n : ℕ) → range_with_len a (m + n) ≡ range_with_len a m ++ range_with_len (a + m) n
-range_two a zero n =
-    let e : 0 + n ≡ n = omega arith in
-    let f : a + 0 ≡ a = omega arith in
-    ap (range_with_len a) e ∙ ap (λ k. range_with_len k n) (sym f)
-range_two a (suc m) n =
-    let e : suc m + n ≡ suc (m + n) = omega arith in
-    let f : a + 1 + m ≡ a + suc m = omega arith in
-    ap (range_with_len a) e ∙ ap (λ xs. a ∷ xs) (range_two (a + 1) m n ∙ ap (λ k. range_with_len (a + 1) m ++ range_with_len k n) f)
-
 map-range_two : {A : Type 0} (f : ℕ → A) (a b m n total : ℕ) → a + m ≡ b → m + n ≡ total → map f (range_with_len a total) ≡ map f (range_with_len a m) ++ map f (range_with_len b n)
 map-range_two f a b m n total e g =
-    ap (λ k. map f (range_with_len a k)) (sym g) ∙ ap (map f) (range_two a m n ∙ ap (λ k. range_with_len a m ++ range_with_len k n) e)
+    ap (λ k. map f (range_with_len a k)) (sym g) ∙ ap (map f) (range-append a m n ∙ ap (λ k. range_with_len a m ++ range_with_len k n) e)
     ∙ map-append f (range_with_len a m) (range_with_len b n)
 
 -- behind a front that is written already

@@ -1,6 +1,6 @@
 -- Decode targets: which chunks they take, and what a container has for them.
 use Rattle.std.proofs.Common.{◌≡◌, ℕ, ◌+◌, ◌*◌, ◌<◌, Bool, true, false, ◌==◌, ◌&&◌, List, [], ◌∷◌, ◌++◌, length, map, get_or, take, drop, set, IsOk, Ok, refl, sym, ap, ap₂, ◌∙◌, arith, eqb-true, eq-eqb}
-use Rattle.std.proofs.lemmas.Bool.{false≢true}
+use Rattle.std.proofs.lemmas.Bool.{false≢true, and_from}
 use Rattle.std.proofs.lemmas.List.{length-drop, drop_more, drop-set-lt, take_more_set, get_or-map, length-map, map-set, append_assoc}
 use Rattle.zarrs_chunk.specs.Answer.{demand}
 use Rattle.zarrs_chunk.specs.declared.codec_error.CodecError.TheVariants.{InvalidBytesLength, UnsupportedTarget, TargetMismatch}
@@ -10,7 +10,7 @@ use Rattle.zarrs_array_bytes.specs.FixedView.{FixedView, written_view}
 use Rattle.zarrs_array_bytes.specs.Held.{Held, flen, vlen, masked}
 use Rattle.zarrs_array_bytes.specs.Parts.{bytes_in, inner_in, optional_part}
 use Rattle.zarrs_array_bytes.specs.Validity.{sizes_fit, levels_fit, validity}
-use Rattle.zarrs_array_bytes.proofs.OffsetLemmas.{both_true}
+use Rattle.zarrs_array_bytes.specs.SameBytesLaws.{both_true}
 use Rattle.zarrs_array_bytes.proofs.ValidLemmas.{demand_ok, both_ok, length_found}
 
 and_false : (a : Bool) (b : Bool) → b ≡ false → (a && b) ≡ false
@@ -87,10 +87,6 @@ levels_written f masks level d w held l e =
 
 -- ---- a container for a target that takes its chunk
 
-both_are : (a b : Bool) → a ≡ true → b ≡ true → (a && b) ≡ true
-both_are true b e f = f
-both_are false b e f = absurd (false≢true e)
-
 level_bytes : (view : FixedView) (size count n : ℕ) → takes_elements view size count ≡ true → n ≡ count * size → (n == length view.places * view.element_size) ≡ true
 level_bytes view size count n t e =
     let sizes : view.element_size ≡ size = eqb-true _ _ (both_true _ _ t).0 in
@@ -116,14 +112,14 @@ levels_filled (optional type) count (mask ∷ masks) values (vlen raw offsets) t
 levels_filled (optional type) count (mask ∷ masks) values (masked inner flags) t v =
     let flagged : length flags.items ≡ count * 1 = one_each _ _ (length_found InvalidBytesLength _ _ (both_ok _ _ v).0) in
     let rest : LevelsFilled masks values inner = levels_filled type count masks values inner (both_true _ _ t).1 (both_ok _ _ v).1 in
-    (both_are _ _ (level_bytes mask 1 count (length flags.items) (both_true _ _ t).0 flagged) rest.0, rest.1)
+    (and_from _ _ (level_bytes mask 1 count (length flags.items) (both_true _ _ t).0 flagged) rest.0, rest.1)
 
 -- a container with so many elements of the type fills a target that takes such a chunk
 pub taken_filled : (type : ElementType) (count : ℕ) (target : DecodeTarget) (held : Held) → target_fit type count target ≡ Ok tt → validity type count held ≡ Ok tt → fills target held ≡ true
 taken_filled type count target held t v =
     let taken : levels_taken type count target.masks target.values ≡ true = demand_ok _ TargetMismatch (both_ok (demand (has_one_size type) UnsupportedTarget) _ t).1 in
     let filled = levels_filled type count target.masks target.values held taken (both_ok (sizes_fit type count) _ v).1 in
-    both_are _ _ filled.0 filled.1
+    and_from _ _ filled.0 filled.1
 
 -- the two parts of a container that fills a target
 pub filled_parts : (target : DecodeTarget) (held : Held) → fills target held ≡ true → LevelsFilled target.masks target.values held

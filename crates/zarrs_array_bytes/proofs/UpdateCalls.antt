@@ -14,7 +14,8 @@ use Rattle.zarrs_array_bytes.specs.Validity.{LengthRefusal, levels_fit}
 use Rattle.zarrs_array_bytes.specs.Update.{update, cuts, cuts_update, container_update, with_runs}
 use Rattle.zarrs_array_bytes.specs.Sources.{sources, source_bytes, IsSourceOf}
 use Rattle.zarrs_array_bytes.specs.declared.sources.Source.TheVariants.{Old, New}
-use Rattle.zarrs_array_bytes.proofs.OffsetLemmas.{offsets_rise, offsets_end, both_true}
+use Rattle.zarrs_array_bytes.specs.SameBytesLaws.{both_true}
+use Rattle.zarrs_array_bytes.proofs.OffsetLemmas.{offsets_rise, offsets_end}
 use Rattle.zarrs_array_bytes.proofs.ValidLemmas.{raw_items, fixed_fits, variable_fits, inner_fits}
 use Rattle.zarrs_array_bytes.proofs.WriteLemmas.{map-update, with_runs-update}
 
@@ -76,7 +77,7 @@ new_sources : (n m a k : ℕ) → a + k ≤ m → All (IsSourceOf n m) (map New 
 new_sources n m a zero l = λ i d h. absurd (omega arith)
 new_sources n m a (suc k) l = All-cons (IsSourceOf n m) (New a) (map New (range_with_len (a + 1) k)) (let at : a < m = omega arith in at) (new_sources n m (a + 1) k (omega arith))
 
-All-update : {A : Type 0} (P : A → Type 0) (xs : List A) (ps : List ℕ) (ys : List A) → All P xs → All P ys → All P (update xs ps ys)
+pub All-update : {A : Type 0} (P : A → Type 0) (xs : List A) (ps : List ℕ) (ys : List A) → All P xs → All P ys → All P (update xs ps ys)
 All-update P xs [] ys h e = h
 All-update P xs (p ∷ ps) [] h e = h
 All-update P xs (p ∷ ps) (y ∷ ys) h e = All-update P (set xs p y) ps ys (All-set P xs p y (e 0 y (omega arith)) h) (All-tail P y ys e)

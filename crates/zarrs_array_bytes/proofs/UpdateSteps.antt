@@ -4,7 +4,7 @@ use Rattle.std.specs.List.{range_with_len}
 use Rattle.std.proofs.lemmas.List.{drop_more, map-append}
 use Rattle.zarrs_array_bytes.specs.Update.{update, with_items_at, with_runs}
 
-range_more : (a n : ℕ) → range_with_len a (n + 1) ≡ range_with_len a n ++ (a + n) ∷ []
+pub range_more : (a n : ℕ) → range_with_len a (n + 1) ≡ range_with_len a n ++ (a + n) ∷ []
 range_more a zero = let e : a ≡ a + 0 = omega arith in ap (λ x. x ∷ []) e
 range_more a (suc n) =
     let e : suc n + 1 ≡ suc (n + 1) = omega arith in

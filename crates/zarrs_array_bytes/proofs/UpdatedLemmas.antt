@@ -19,12 +19,12 @@ use Rattle.zarrs_array_bytes.proofs.WriteLemmas.{length-update, map-update}
 
 -- ---- parts of one size
 
-set_sized : (size : ℕ) (parts : List (List ℕ)) (place : ℕ) (part : List ℕ) → AllSized size parts → length part ≡ size → AllSized size (set parts place part)
+pub set_sized : (size : ℕ) (parts : List (List ℕ)) (place : ℕ) (part : List ℕ) → AllSized size parts → length part ≡ size → AllSized size (set parts place part)
 set_sized size [] place part h e = h
 set_sized size (first ∷ parts) zero part h e = (e, h.1)
 set_sized size (first ∷ parts) (suc place) part h e = (h.0, set_sized size parts place part h.1 e)
 
-update_sized : (size : ℕ) (xs : List (List ℕ)) (ps : List ℕ) (ys : List (List ℕ)) → AllSized size xs → AllSized size ys → AllSized size (update xs ps ys)
+pub update_sized : (size : ℕ) (xs : List (List ℕ)) (ps : List ℕ) (ys : List (List ℕ)) → AllSized size xs → AllSized size ys → AllSized size (update xs ps ys)
 update_sized size xs [] ys h e = h
 update_sized size xs (p ∷ ps) [] h e = h
 update_sized size xs (p ∷ ps) (y ∷ ys) h e = update_sized size (set xs p y) ps ys (set_sized size xs p y h e.0) e.1

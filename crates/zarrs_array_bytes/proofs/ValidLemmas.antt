@@ -11,7 +11,7 @@ use Rattle.zarrs_data_type.specs.ElementType.{ElementType, fixed, text, bytes, o
 use Rattle.zarrs_array_bytes.specs.Held.{Raw, Held, flen, vlen, masked, raw_of}
 use Rattle.zarrs_array_bytes.specs.Validity.{LengthRefusal, levels_fit, length_is, sizes_fit}
 use Rattle.zarrs_array_bytes.specs.Extracted.{IsSmall}
-use Rattle.zarrs_array_bytes.proofs.OffsetLemmas.{both_true}
+use Rattle.zarrs_array_bytes.specs.SameBytesLaws.{both_true}
 
 pub demand_ok : (b : Bool) (e : CodecError) → demand b e ≡ Ok tt → b ≡ true
 demand_ok true e h = refl

@@ -1,6 +1,6 @@
 -- What stands in an array's bytes after a view was written: at its places the new elements, elsewhere the old ones.
-use Rattle.std.proofs.Common.{◌≡◌, ◌≢◌, ℕ, zero, suc, ◌+◌, ◌*◌, ◌^◌, ◌<◌, ◌==◌, Bool, true, false, nat_lt, List, [], ◌∷◌, length, map, set, get_or, Result, Ok, Err, refl, sym, ap, ◌∙◌, arith, eqb-true, subst}
-use Rattle.std.specs.List.{All, concat, range_with_len}
+use Rattle.std.proofs.Common.{◌≡◌, ◌≢◌, ℕ, ◌*◌, ◌^◌, ◌<◌, ◌==◌, Bool, true, false, nat_lt, List, [], length, map, get_or, Result, Ok, Err, refl, sym, ap, ◌∙◌, arith, eqb-true, subst}
+use Rattle.std.specs.List.{All, concat}
 use Rattle.std.specs.List.Sorted.{IsStrictlyIncreasing}
 use Rattle.std.specs.Prelude.{IfOk}
 use Rattle.std.proofs.lemmas.List.{get_or-map, ext_get_or, length-map}
@@ -23,16 +23,7 @@ use Rattle.zarrs_array_bytes.proofs.Pieces.{AllSized, length-pieces, pieces_size
 use Rattle.zarrs_array_bytes.proofs.UpdateLaw.{untouched, written}
 use Rattle.zarrs_array_bytes.proofs.ValidLemmas.{demand_ok}
 use Rattle.zarrs_array_bytes.proofs.WriteLemmas.{length-update}
-
-sized-set : (size : ℕ) (parts : List (List ℕ)) (i : ℕ) (part : List ℕ) → AllSized size parts → length part ≡ size → AllSized size (set parts i part)
-sized-set size [] i part all e = all
-sized-set size (first ∷ rest) zero part all e = (e, all.1)
-sized-set size (first ∷ rest) (suc i) part all e = (all.0, sized-set size rest i part all.1 e)
-
-sized-update : (size : ℕ) (old : List (List ℕ)) (places : List ℕ) (new : List (List ℕ)) → AllSized size old → AllSized size new → AllSized size (update old places new)
-sized-update size old [] new a b = a
-sized-update size old (place ∷ places) [] a b = a
-sized-update size old (place ∷ places) (part ∷ new) a b = sized-update size (set old place part) places new (sized-set size old place part a b.0) b.1
+use Rattle.zarrs_array_bytes.proofs.UpdatedLemmas.{update_sized}
 
 -- the array's elements after a write
 written_pieces : (view : FixedView) (new : List ℕ) → IsView view → length new ≡ length view.places * view.element_size
@@ -42,7 +33,7 @@ written_pieces view new v e =
     let old : List (List ℕ) = pieces size view.count view.bytes in
     let parts : List (List ℕ) = pieces size (length view.places) new in
     let all : List (List ℕ) = update old view.places parts in
-    let sized : AllSized size all = sized-update size old view.places parts (pieces_sized size view.count view.bytes (omega (arith, v.whole))) (pieces_sized size (length view.places) new (omega (arith, e))) in
+    let sized : AllSized size all = update_sized size old view.places parts (pieces_sized size view.count view.bytes (omega (arith, v.whole))) (pieces_sized size (length view.places) new (omega (arith, e))) in
     let count : length all ≡ view.count = length-update old view.places parts ∙ length-pieces size view.count view.bytes in
     ap (λ n. pieces size n (concat all)) (sym count) ∙ pieces-concat size all sized
 

@@ -12,18 +12,18 @@ contents (flen r) = flen (owned_bytes r.items)
 contents (vlen r os) = vlen (owned_bytes r.items) os
 contents (masked h m) = masked (contents h) (owned_bytes m.items)
 
-both_true : (a b : Bool) → a && b ≡ true → (a ≡ true) × (b ≡ true)
+pub both_true : (a b : Bool) → a && b ≡ true → (a ≡ true) × (b ≡ true)
 both_true true b h = (refl, h)
 both_true false b h = absurd (false≢true h)
 
-same_numbers : (xs ys : List ℕ) → pointwise nat_eq xs ys ≡ true → xs ≡ ys
+pub same_numbers : (xs ys : List ℕ) → pointwise nat_eq xs ys ≡ true → xs ≡ ys
 same_numbers [] [] h = refl
 same_numbers [] (y ∷ ys) h = absurd (false≢true h)
 same_numbers (x ∷ xs) [] h = absurd (false≢true h)
 same_numbers (x ∷ xs) (y ∷ ys) h =
     ap (λ z. z ∷ xs) (eqb-true x y (both_true _ _ h).0) ∙ ap (λ zs. y ∷ zs) (same_numbers xs ys (both_true _ _ h).1)
 
-numbers_same : (xs : List ℕ) → pointwise nat_eq xs xs ≡ true
+pub numbers_same : (xs : List ℕ) → pointwise nat_eq xs xs ≡ true
 numbers_same [] = refl
 numbers_same (x ∷ xs) = ap (λ b. b && pointwise nat_eq xs xs) (eq-eqb x x refl) ∙ numbers_same xs
 

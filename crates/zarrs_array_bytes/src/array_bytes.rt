@@ -104,6 +104,19 @@ impl<'a> ArrayBytes<'a> {
         if !is_mask(mask.as_slice()) {
             return Err(CodecError::MaskValue);
         }
+        self.under_mask(alloc, mask)
+    }
+
+    /// The same, where the bytes of the mask are known to be 0 and 1.
+    pub(crate) fn under_mask(
+        self,
+        alloc: Global,
+        mask: ArrayBytesRaw<'a>,
+    ) -> Result<ArrayBytes<'a>, CodecError>
+        requires flags { list_all (λ byte. nat_lt byte 2) (raw_of mask).items ≡ true }
+        ensures answer { Answers memory (λ array. array) result
+            (with_mask self.entry (raw_of mask.entry)) }
+    {
         Ok(ArrayBytes {
             parts: Parts::Optional(Box::new(alloc, self)?, mask),
         })
@@ -112,7 +125,7 @@ impl<'a> ArrayBytes<'a> {
     pub(crate) fn of_variable(bytes: Vec<u8>, offsets: Vec<usize>) -> ArrayBytes<'a>
         requires rising { is_offsets offsets.items ≡ true }
         requires ending { last_of offsets.items ≡ length bytes.items }
-        ensures { result ≡ vlen (owned_bytes bytes.items) offsets.items }
+        ensures made { result ≡ vlen (owned_bytes bytes.items) offsets.items }
     {
         ArrayBytes {
             parts: Parts::Variable(
@@ -127,7 +140,7 @@ impl<'a> ArrayBytes<'a> {
         inner: ArrayBytes<'a>,
         mask: Vec<u8>,
     ) -> Result<ArrayBytes<'a>, CodecError>
-        requires { list_all (λ byte. nat_lt byte 2) mask.items ≡ true }
+        requires flags { list_all (λ byte. nat_lt byte 2) mask.items ≡ true }
         ensures small { IfOk result (λ array. IsSmall inner.entry → IsSmall array) }
         ensures exact { GivesHeld result (Ok (masked_by inner.entry mask.items)) }
     {
@@ -320,7 +333,7 @@ impl<'a> Eq for ArrayBytes<'a> {
 }
 
 pub(crate) fn is_mask(mask: &[u8]) -> bool
-    ensures { result ≡ list_all (λ byte. nat_lt byte 2) mask.now }
+    ensures value { result ≡ list_all (λ byte. nat_lt byte 2) mask.now }
 {
     let mut largest = 0;
     for byte in mask {

@@ -65,7 +65,7 @@ impl<'a> ArrayBytesDecodeIntoTarget<'a> {
 
 /// Whether the elements of the type, under their masks, are of one size.
 fn has_one_size(data_type: &DataType) -> bool
-    ensures { result ≡ has_one_size_of data_type.now }
+    ensures value { result ≡ has_one_size_of data_type.now }
 {
     match data_type.as_optional() {
         Some(inner) => has_one_size(inner),
@@ -75,7 +75,7 @@ fn has_one_size(data_type: &DataType) -> bool
 
 /// Whether a chunk of this shape has so many elements.
 fn has_count(shape: &ChunkShape, count: u64) -> bool
-    ensures { result ≡ (count == product shape.now) }
+    ensures value { result ≡ (count == product shape.now) }
 {
     match shape.num_elements() {
         Ok(found) => count == found,
@@ -90,7 +90,7 @@ fn levels_taken(
     count: u64,
     data_type: &DataType,
 ) -> bool
-    ensures { result
+    ensures value { result
         ≡ levels_taken_of data_type.now count (map view_of masks.now) (view_of values.now) }
 {
     match (masks, data_type.as_optional()) {

@@ -40,8 +40,8 @@ impl ArrayBytesOffsets {
     }
 
     pub(crate) fn of_rising(offsets: Vec<usize>) -> ArrayBytesOffsets
-        requires { is_offsets offsets.items ≡ true }
-        ensures { result ≡ offsets.items }
+        requires rising { is_offsets offsets.items ≡ true }
+        ensures made { result ≡ offsets.items }
     {
         ArrayBytesOffsets { offsets }
     }
@@ -78,7 +78,7 @@ impl Eq for ArrayBytesOffsets {
 }
 
 fn are_rising(offsets: &[usize]) -> bool
-    ensures { result ≡ is_offsets offsets.now }
+    ensures value { result ≡ is_offsets offsets.now }
 {
     match offsets {
         [] => false,
@@ -87,7 +87,7 @@ fn are_rising(offsets: &[usize]) -> bool
 }
 
 fn rises_from(first: usize, rest: &[usize]) -> bool
-    ensures { result ≡ rises (first ∷ rest.now) }
+    ensures value { result ≡ rises (first ∷ rest.now) }
 {
     let mut last = first;
     for offset in rest {

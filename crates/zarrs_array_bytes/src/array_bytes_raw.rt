@@ -12,7 +12,7 @@ pub type ArrayBytesRaw<'a> = CowSlice<'a, u8>;
 
 /// Equal bytes. Borrowed bytes stay borrowed.
 pub(crate) fn clone_raw<'a>(raw: &ArrayBytesRaw<'a>) -> Result<ArrayBytesRaw<'a>, CodecError>
-    ensures { Answers memory raw_of result (Ok (raw_of raw.now)) }
+    ensures copy { Answers memory raw_of result (Ok (raw_of raw.now)) }
 {
     match raw {
         CowSlice::Borrowed(bytes) => Ok(CowSlice::Borrowed(*bytes)),

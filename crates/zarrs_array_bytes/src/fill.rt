@@ -46,7 +46,7 @@ pub(crate) fn blank_elements<'a>(
     data_type: &DataType,
     count: u64,
 ) -> Result<ArrayBytes<'a>, CodecError>
-    requires { sizes_fit data_type.now count ≡ Ok tt }
+    requires sizes { sizes_fit data_type.now count ≡ Ok tt }
     ensures small { IfOk result IsSmall }
     ensures exact { GivesHeld result (Ok (blank_of data_type.now count)) }
 {
@@ -71,7 +71,7 @@ fn fill_elements<'a>(
     count: u64,
     fill: &[u8],
 ) -> Result<ArrayBytes<'a>, CodecError>
-    requires { sizes_fit data_type.now count ≡ Ok tt }
+    requires sizes { sizes_fit data_type.now count ≡ Ok tt }
     ensures small { IfOk result IsSmall }
     ensures exact { GivesHeld result (Ok (container_fill data_type.now count fill.now)) }
 {

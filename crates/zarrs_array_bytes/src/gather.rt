@@ -17,7 +17,7 @@ pub(crate) fn gather_pieces(
     size: usize,
     runs: &[(u64, u64)],
 ) -> Result<Vec<u8>, CodecError>
-    requires { All (λ run. (run.0 + run.1) * size ≤ length bytes.now) runs.now }
+    requires inside { All (λ run. (run.0 + run.1) * size ≤ length bytes.now) runs.now }
     ensures small { IfOk result (λ v. length v.items < 2 ^ 64) }
     ensures exact { GivesItems result (pieces_at size bytes.now (joined_runs runs.now)) }
 {
@@ -36,7 +36,7 @@ pub(crate) fn gather_flags(
     flags: &[u8],
     runs: &[(u64, u64)],
 ) -> Result<Vec<u8>, CodecError>
-    requires { All (λ run. run.0 + run.1 ≤ length flags.now) runs.now }
+    requires inside { All (λ run. run.0 + run.1 ≤ length flags.now) runs.now }
     ensures exact { GivesItems result (map (slice_index flags.now) (joined_runs runs.now)) }
 {
     gather_pieces(alloc, flags, 1, runs)
@@ -129,7 +129,7 @@ pub(crate) fn cut_of<'a>(bytes: &'a [u8], offsets: &[usize], place: usize) -> &'
     requires rising { is_offsets offsets.now ≡ true }
     requires ending { last_of offsets.now ≡ length bytes.now }
     requires known { place < length offsets.now - 1 }
-    ensures { result.now ≡ cut offsets.now bytes.now place }
+    ensures bytes { result.now ≡ cut offsets.now bytes.now place }
 {
     &bytes[offsets[place]..offsets[place + 1]]
 }

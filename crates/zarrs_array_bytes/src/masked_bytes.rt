@@ -7,11 +7,15 @@ ghost use Rattle.std.specs.List.{between};
 ghost use Rattle.zarrs_array_bytes.specs.Given.{GivesItems};
 ghost use Rattle.zarrs_array_bytes.specs.Pieces.{pieces_at};
 ghost use Rattle.zarrs_array_bytes.specs.Present.{present_places};
-ghost use Rattle.zarrs_array_bytes.specs.Update.{pieces_update};
+ghost use Rattle.zarrs_array_bytes.specs.Update.{pieces_update, with_items_at};
 
 use crate::write::copy_to;
 use std::alloc::Global;
 use zarrs_chunk::CodecError;
+
+/// An element of zeros. A static has a place in memory, so that to choose between it and an element is
+/// to choose where to read; between a local array and an element it would be a branch.
+static BLANK: [u8; 16] = [0; 16];
 
 /// Whether elements of so many bytes are moved one by one: each is a move or two of constant length.
 pub(crate) fn is_word(size: usize) -> bool
@@ -70,7 +74,7 @@ fn keep_each(out: &mut [u8], bytes: &[u8], size: usize, mask: &[u8])
     let mut kept = 0;
     for place in 0..mask.len() {
         let from = place * size;
-        copy_to(out, kept * size, &bytes[from..from + size]);
+        put_element(out, kept * size, &bytes[from..from + size]);
         if mask[place] != 0 {
             kept += 1;
         }
@@ -102,7 +106,7 @@ fn put_elements(out: &mut [u8], bytes: &[u8], size: usize, mask: &[u8])
     requires short { size ≤ 16 }
     requires blank { out.old ≡ replicate (length mask.now * size) 0 }
     requires enough { length bytes.now ≡ length (present_places mask.now) * size }
-    ensures { out.new
+    ensures written { out.new
         ≡ pieces_update size (length mask.now) out.old (present_places mask.now) bytes.now }
 {
     match size {
@@ -120,21 +124,36 @@ fn put_each(out: &mut [u8], bytes: &[u8], size: usize, mask: &[u8])
     requires short { size ≤ 16 }
     requires blank { out.old ≡ replicate (length mask.now * size) 0 }
     requires enough { length bytes.now ≡ length (present_places mask.now) * size }
-    ensures { out.new
+    ensures written { out.new
         ≡ pieces_update size (length mask.now) out.old (present_places mask.now) bytes.now }
 {
-    let blank = [0u8; 16];
     let mut done = 0;
     for place in 0..mask.len() {
-        copy_to(
+        put_element(
             out,
             place * size,
-            element_or_blank(bytes, done * size, size, mask[place], &blank),
+            element_or_blank(bytes, done * size, size, mask[place], &BLANK),
         );
         if mask[place] != 0 {
             done += 1;
         }
     }
+}
+
+/// Writes an element from a place on. One of at most 16 bytes goes through an array of its own, so that
+/// it is one move: of two slices it isn't known that they lie apart, and their bytes are moved singly.
+#[inline(always)]
+fn put_element(out: &mut [u8], at: usize, element: &[u8])
+    requires inside { at + length element.now ≤ length out.old }
+    ensures written { out.new ≡ with_items_at out.old at element.now }
+{
+    if element.len() > 16 {
+        copy_to(out, at, element);
+        return;
+    }
+    let mut word = [0u8; 16];
+    word[..element.len()].copy_from_slice(element);
+    copy_to(out, at, &word[..element.len()]);
 }
 
 /// The element of `size` from a byte on, or zeros where the mask byte is 0.

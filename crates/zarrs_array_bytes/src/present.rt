@@ -26,6 +26,9 @@ use std::borrow::CowSlice;
 use zarrs_chunk::CodecError;
 use zarrs_data_type::DataType;
 
+/// How many mask bytes are counted in a byte.
+const BLOCK: usize = 128;
+
 /// How many elements are present under a mask with a byte for each: 0 for absent, 1 for present.
 /// Refusals: `MaskValue` where a byte is another number.
 pub fn count_present(mask: &[u8]) -> Result<u64, CodecError>
@@ -40,6 +43,24 @@ pub fn count_present(mask: &[u8]) -> Result<u64, CodecError>
 
 /// How many mask bytes aren't 0.
 fn count_set(mask: &[u8]) -> usize
+    ensures count { result ≡ length (present_places mask.now) }
+{
+    let blocks = mask.len() / BLOCK;
+    let mut count = 0;
+    for block in 0..blocks {
+        let start = block * BLOCK;
+        let few = count_few(&mask[start..start + BLOCK]);
+        count += few as usize;
+    }
+    let rest = count_few(&mask[blocks * BLOCK..]);
+    count + rest as usize
+}
+
+/// How many of these mask bytes aren't 0, so few that a byte counts them: then a register counts many
+/// of them at once.
+#[inline(always)]
+fn count_few(mask: &[u8]) -> u8
+    requires few { length mask.now ≤ 128 }
     ensures { result ≡ length (present_places mask.now) }
 {
     let mut count = 0;
@@ -169,7 +190,7 @@ impl<'a> ArrayBytes<'a> {
             → IfOk result (AbsentAreBlank (optional data_type.now)) }
     {
         let inner = self.expanded(alloc, mask.as_slice(), data_type)?;
-        inner.with_optional_mask(alloc, mask)
+        inner.under_mask(alloc, mask)
     }
 
     /// What stands under the mask.

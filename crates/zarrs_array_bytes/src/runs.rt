@@ -7,7 +7,7 @@ use zarrs_chunk::CodecError;
 
 /// How many places the runs have.
 pub(crate) fn count_places(runs: &[(u64, u64)]) -> u128
-    ensures { result ≡ length (joined_runs runs.now) }
+    ensures count { result ≡ length (joined_runs runs.now) }
 {
     let mut count: u128 = 0;
     for run in runs {
@@ -27,7 +27,7 @@ pub(crate) fn bytes_of_runs(runs: &[(u64, u64)], size: usize) -> usize {
 
 /// How many bytes to reserve for the elements between the offsets at the runs.
 pub(crate) fn bytes_of_cuts(runs: &[(u64, u64)], offsets: &[usize]) -> usize
-    requires { All (λ run. run.0 + run.1 < length offsets.now) runs.now }
+    requires inside { All (λ run. run.0 + run.1 < length offsets.now) runs.now }
 {
     let mut count: usize = 0;
     for run in runs {
@@ -40,7 +40,7 @@ pub(crate) fn bytes_of_cuts(runs: &[(u64, u64)], offsets: &[usize]) -> usize
 
 /// The places of the runs, in order.
 pub(crate) fn places_of_runs(alloc: Global, runs: &[(u64, u64)]) -> Result<Vec<u64>, CodecError>
-    requires { All (λ run. run.0 + run.1 < 2 ^ 64) runs.now }
+    requires ends { All (λ run. run.0 + run.1 < 2 ^ 64) runs.now }
     ensures exact { GivesItems result (joined_runs runs.now) }
 {
     let mut places = Vec::with_capacity(alloc, bytes_of_runs(runs, 1))?;

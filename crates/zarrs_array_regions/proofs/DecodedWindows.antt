@@ -18,7 +18,8 @@ use Rattle.zarrs_array_regions.specs.Windows.{window_of, part_map, region_map, d
 use Rattle.zarrs_array_regions.proofs.Rearranged.{rearranged, is_rearranged, length-rearranged, rearranged_at}
 use Rattle.zarrs_array_regions.proofs.WindowMaps.{moved_back_is}
 use Rattle.zarrs_array_regions.proofs.WindowCalls.{WindowStep, WindowStays}
-use Rattle.zarrs_array_regions.proofs.HeldElements.{length-elements, holds_own}
+use Rattle.zarrs_array_to_array.proofs.MappedChunks.{holds_elements}
+use Rattle.zarrs_array_bytes.proofs.UpdatedLemmas.{length-elements}
 
 -- ---- one codec after others
 
@@ -69,7 +70,7 @@ pub decoded_stay : (all : List ArrayMapping) (sizes : List ℕ) (region : Region
 decoded_stay all sizes region type held s v =
     subst (Holds type held)
     (sym (kept_places region.lengths (elements type (product region.lengths) held) (length-elements type (product region.lengths) held)) ∙ sym (ap (λ m. moved_chunk (inverse_map region.lengths m) (elements type (product region.lengths) held)) s.map_is))
-    (holds_own type (product region.lengths) held v)
+    (holds_elements type (product region.lengths) held v)
 
 -- ---- a last codec
 

@@ -17,7 +17,8 @@ use Rattle.zarrs_array_regions.specs.declared.window.Window.{Window}
 use Rattle.zarrs_array_regions.specs.Parts.{part_encoded}
 use Rattle.zarrs_array_regions.specs.Windows.{IsWindow, window_of, part_map, region_map, encoded_of, IsEncodedWindow}
 use Rattle.zarrs_array_regions.proofs.WindowCalls.{WindowStep, WindowStays}
-use Rattle.zarrs_array_regions.proofs.HeldElements.{length-elements, holds_own}
+use Rattle.zarrs_array_to_array.proofs.MappedChunks.{holds_elements}
+use Rattle.zarrs_array_bytes.proofs.UpdatedLemmas.{length-elements}
 
 -- the elements of the next window are those of the region, moved
 part_is_encoded : (codec : ArrayMapping) (type : ElementType) (sizes : List ℕ) (region : Region) (held : Held) → product (part_map codec (window_of sizes region)).encoded ≡ product region.lengths
@@ -32,7 +33,7 @@ encoded_stay all sizes region type window held s is v = (
   is ∙ sym s.last_is,
   subst (Holds type held)
       (sym (kept_places region.lengths (elements type (product region.lengths) held) (length-elements type (product region.lengths) held)) ∙ sym (ap (λ m. moved_chunk m (elements type (product region.lengths) held)) s.map_is))
-      (holds_own type (product region.lengths) held v),
+      (holds_elements type (product region.lengths) held v),
 )
 
 pub map_stays : (all : List ArrayMapping) (sizes : List ℕ) (region : Region) → WindowStays all sizes region → IsCoordinateMap region.lengths (region_map all (window_of sizes region))

@@ -1,17 +1,39 @@
--- The elements of a container.
-use Rattle.std.proofs.Common.{◌≡◌, ℕ, length, Ok, ap, sym, subst}
-use Rattle.std.proofs.lemmas.List.FromFn.{length-map-range_with_len}
+-- How many elements a region has, and its encoded part.
+use Rattle.std.proofs.Common.{◌≡◌, ◌∙◌, ◌<◌, ◌^◌, nat_lt, ℕ, true, List, length, Result, Ok, Err, refl, subst}
+use Rattle.std.proofs.lemmas.Bool.{lt-ltb}
+use Rattle.zarrs_chunk.specs.Answer.{checked_u64, GivesBy}
+use Rattle.zarrs_chunk.specs.ChunkShape.{product}
+use Rattle.zarrs_chunk.specs.Region.{Region}
+use Rattle.zarrs_chunk.specs.declared.codec_error.CodecError.{CodecError}
 use Rattle.zarrs_data_type.specs.ElementType.{ElementType}
-use Rattle.zarrs_array_bytes.specs.Elements.{element_at, elements}
+use Rattle.zarrs_array_bytes.specs.Elements.{elements}
 use Rattle.zarrs_array_bytes.specs.Held.{Held}
-use Rattle.zarrs_array_bytes.specs.Validity.{Holds, validity}
+use Rattle.zarrs_array_bytes.specs.Validity.{Holds}
+use Rattle.zarrs_array_to_array.specs.ArrayToArrayCodec.{ArrayMapping, transpose}
+use Rattle.zarrs_array_to_array.specs.Transpose.{transposed_chunk}
+use Rattle.zarrs_array_regions.specs.Parts.{EncodesPart, FitsRegion}
 
-pub length-elements : (type : ElementType) (n : ℕ) (held : Held) → length (elements type n held) ≡ n
-length-elements type n held = length-map-range_with_len (element_at type held) 0 n
+-- few elements are counted
+pub no_count : (n : ℕ) (e : CodecError) → n < 2 ^ 64 → ◌≡◌ {A = Result ℕ CodecError} (Err e) (checked_u64 n) → ⊥
+no_count n e l h =
+    let test : nat_lt n (2 ^ 64) ≡ true = lt-ltb n (2 ^ 64) l in
+    let bad : ◌≡◌ {A = Result ℕ CodecError} (Err e) (Ok n) = h ∙ (rw test refl) in
+    cc
 
--- a container holds its own elements
-pub holds_own : (type : ElementType) (n : ℕ) (held : Held) → validity type n held ≡ Ok tt → Holds type held (elements type n held)
-holds_own type n held v = record {
-  valid = subst (λ k. validity type k held ≡ Ok tt) (sym (length-elements type n held)) v;
-  elements_are = ap (λ k. elements type k held) (length-elements type n held);
-}
+pub count_is : (n count : ℕ) → n < 2 ^ 64 → ◌≡◌ {A = Result ℕ CodecError} (Ok count) (checked_u64 n) → count ≡ n
+count_is n count l h =
+    let test : nat_lt n (2 ^ 64) ≡ true = lt-ltb n (2 ^ 64) l in
+    let same : ◌≡◌ {A = Result ℕ CodecError} (Ok count) (Ok n) = h ∙ (rw test refl) in
+    cc
+
+-- an order of a region's axes names as many
+pub axes_fit : (order : List ℕ) (mapping : ArrayMapping) (region : Region) → mapping ≡ transpose order → FitsRegion mapping region → length order ≡ length region.lengths
+axes_fit order mapping region e fits = subst (λ m. FitsRegion m region) e fits
+
+-- what is transposed at a region's own lengths is its encoded part
+pub transposed_part : (order : List ℕ) (type : ElementType) (region : Region) (held : Held) (lengths : List ℕ) (axes : List ℕ) (count : ℕ) (result : Result Held CodecError) → axes ≡ order → lengths ≡ region.lengths → count ≡ product region.lengths
+    → GivesBy (Holds type) result (Ok (transposed_chunk axes lengths (elements type count held))) → EncodesPart (transpose order) type region held result
+transposed_part order type region held lengths axes count result a l n h =
+    subst (λ xs. GivesBy (Holds type) result (Ok (transposed_chunk xs region.lengths (elements type (product region.lengths) held)))) a
+    (subst (λ xs. GivesBy (Holds type) result (Ok (transposed_chunk axes xs (elements type (product region.lengths) held)))) l
+    (subst (λ k. GivesBy (Holds type) result (Ok (transposed_chunk axes lengths (elements type k held)))) n h))

@@ -18,7 +18,8 @@ use Rattle.zarrs_array_regions.specs.declared.window.Window.{Window}
 use Rattle.zarrs_array_regions.specs.KeptRegions.{keeps_places, keeps_regions}
 use Rattle.zarrs_array_regions.specs.Windows.{KeepsWindow, window_of, next_window, part_map, behind, last_window, region_map}
 use Rattle.zarrs_array_regions.proofs.WindowMaps.{windows_compose, here_is}
-use Rattle.zarrs_array_regions.proofs.KeptWindows.{codec_keeps, same_keeps, map_is}
+use Rattle.zarrs_array_to_array.proofs.Readers.{same_map}
+use Rattle.zarrs_array_regions.proofs.KeptWindows.{codec_keeps, same_keeps}
 
 -- ---- places that stay
 
@@ -26,16 +27,16 @@ place_stays : (codec : ArrayMapping) (sizes : List ℕ) (m : CoordinateMap) (pla
 place_stays (transpose order) sizes m place h e = absurd (cc)
 place_stays (reshape dims) sizes m place h e =
     let found = step_ok (reshaped dims sizes) (λ encoded. Ok (same_places encoded)) m e in
-    ap (λ (x : CoordinateMap). x.to place) (sym (map_is m (same_places found.0) found.2))
-place_stays squeeze sizes m place h e = ap (λ (x : CoordinateMap). x.to place) (sym (map_is m (same_places (squeezed sizes)) e))
+    ap (λ (x : CoordinateMap). x.to place) (sym (same_map m (same_places found.0) found.2))
+place_stays squeeze sizes m place h e = ap (λ (x : CoordinateMap). x.to place) (sym (same_map m (same_places (squeezed sizes)) e))
 
 pub places_stay : (codecs : List ArrayMapping) (sizes : List ℕ) (m : CoordinateMap) (place : ℕ) → list_all keeps_places codecs ≡ true → chained codecs sizes ≡ Ok m → m.to place ≡ place
-places_stay [] sizes m place h e = ap (λ (x : CoordinateMap). x.to place) (sym (map_is m (same_places sizes) e))
+places_stay [] sizes m place h e = ap (λ (x : CoordinateMap). x.to place) (sym (same_map m (same_places sizes) e))
 places_stay (codec ∷ codecs) sizes m place h e =
     let both = and_parts (keeps_places codec) (list_all keeps_places codecs) h in
     let first = step_ok (coordinates codec sizes) (λ f. chained codecs f.encoded >>= λ rest. Ok (composition f rest)) m e in
     let rest = step_ok (chained codecs first.0.encoded) (λ rest. Ok (composition first.0 rest)) m first.2 in
-    ap (λ (x : CoordinateMap). x.to place) (sym (map_is m (composition first.0 rest.0) rest.2))
+    ap (λ (x : CoordinateMap). x.to place) (sym (same_map m (composition first.0 rest.0) rest.2))
     ∙ places_stay codecs first.0.encoded rest.0 (first.0.to place) both.1 rest.1
     ∙ place_stays codec sizes first.0 place both.0 first.1
 
@@ -44,10 +45,10 @@ places_stay (codec ∷ codecs) sizes m place h e =
 pub next_sizes : (codec : ArrayMapping) (sizes : List ℕ) (region : Region) (m : CoordinateMap) (next : Window) → coordinates codec sizes ≡ Ok m → next_window codec (window_of sizes region) ≡ Some next → m.encoded ≡ next.sizes
 next_sizes (transpose order) sizes region m next h e =
     let step = step_ok (demand (length order == length sizes) IncompatibleDimensionality) (λ _. Ok (transposition order sizes)) m h in
-    ap (λ (x : CoordinateMap). x.encoded) (sym (map_is m (transposition order sizes) step.2)) ∙ ap (λ (o : Option Window). behind o sizes (λ w. w.sizes)) e
+    ap (λ (x : CoordinateMap). x.encoded) (sym (same_map m (transposition order sizes) step.2)) ∙ ap (λ (o : Option Window). behind o sizes (λ w. w.sizes)) e
 next_sizes (reshape dims) sizes region m next h e = absurd (cc)
 next_sizes squeeze sizes region m next h e =
-    ap (λ (x : CoordinateMap). x.encoded) (sym (map_is m (same_places (squeezed sizes)) h)) ∙ ap (λ (o : Option Window). behind o sizes (λ w. w.sizes)) e
+    ap (λ (x : CoordinateMap). x.encoded) (sym (same_map m (same_places (squeezed sizes)) h)) ∙ ap (λ (o : Option Window). behind o sizes (λ w. w.sizes)) e
 
 -- codecs behind one that has a next window
 rest_keeps : (codec : ArrayMapping) (codecs : List ArrayMapping) (window next : Window) → next_window codec window ≡ Some next → keeps_regions (codec ∷ codecs) ≡ true → keeps_regions codecs ≡ true
@@ -85,7 +86,7 @@ module _ (codec : ArrayMapping) (codecs : List ArrayMapping) (sizes : List ℕ) 
       let there : chained codecs next.sizes ≡ Ok rest.0 = ap (chained codecs) (sym same) ∙ rest.1 in
       let then = more next.sizes rest.0 next.region (subst (All (λ size. 0 < size)) same (one.positive positive)) there (rest_keeps codec codecs (window_of sizes region) next e kept) keeps.next_is.inside in
       let both = windows_compose (product sizes) first.0 rest.0 (window_of sizes region) next (last_window codecs next) (part_map codec (window_of sizes region)) (region_map codecs next) keeps (subst (λ n. KeepsWindow n rest.0 next (last_window codecs next) (region_map codecs next)) keeps.next_is.count_is then) in
-      subst (λ x. KeepsWindow (product sizes) x (window_of sizes region) (last_window codecs next) (composition (part_map codec (window_of sizes region)) (region_map codecs next))) (map_is m (composition first.0 rest.0) rest.2) both
+      subst (λ x. KeepsWindow (product sizes) x (window_of sizes region) (last_window codecs next) (composition (part_map codec (window_of sizes region)) (region_map codecs next))) (same_map m (composition first.0 rest.0) rest.2) both
 
   one_more : (o : Option Window) → next_window codec (window_of sizes region) ≡ o
       → KeepsWindow (product sizes) m (window_of sizes region) (behind o (window_of sizes region) (last_window codecs)) (behind o (same_places region.lengths) (λ next. composition (part_map codec (window_of sizes region)) (region_map codecs next)))

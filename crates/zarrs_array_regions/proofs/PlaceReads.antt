@@ -32,6 +32,7 @@ use Rattle.zarrs_array_regions.specs.Windows.{window_of, window_places, last_win
 use Rattle.zarrs_array_regions.proofs.Rearranged.{rearranged, is_rearranged, length-rearranged, rearranged_at, map-rearranged}
 use Rattle.zarrs_array_regions.proofs.WindowMaps.{moved_back_is, kept_places_are, next_count, here_is}
 use Rattle.zarrs_array_regions.proofs.KeptChains.{chain_keeps}
+use Rattle.zarrs_packbits.proofs.PartReads.{same_bools}
 
 -- ---- a test of all items
 
@@ -48,15 +49,10 @@ all_from : {A : Type 0} (test : A → Bool) (xs : List A) (d : A) → ((k : ℕ)
 all_from test [] d h = refl
 all_from test (x ∷ xs) d h = and_from (test x) (list_all test xs) (h 0 (omega arith)) (all_from test xs d (λ k l. h (suc k) (omega arith)))
 
-same_truth : (a b : Bool) → (a ≡ true → b ≡ true) → (b ≡ true → a ≡ true) → a ≡ b
-same_truth true b f g = sym (f refl)
-same_truth false true f g = g refl
-same_truth false false f g = refl
-
 all-rearranged : {A : Type 0} (test : A → Bool) (n : ℕ) (to from : ℕ → ℕ) (d : A) (xs : List A) → IsOneToOne n to from → length xs ≡ n → list_all test (rearranged to n d xs) ≡ list_all test xs
 all-rearranged test n to from d xs one e =
     let counted = length-rearranged to n d xs in
-    same_truth (list_all test (rearranged to n d xs)) (list_all test xs)
+    same_bools (list_all test (rearranged to n d xs)) (list_all test xs)
     (λ h. all_from test xs d (λ k l.
     let k_in : k < n = omega (arith, e) in
     let below = one.from_below k k_in in

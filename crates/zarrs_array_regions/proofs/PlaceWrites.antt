@@ -39,7 +39,7 @@ use Rattle.zarrs_array_regions.proofs.Rearranged.{rearranged, length-rearranged,
 use Rattle.zarrs_array_regions.proofs.WindowMaps.{places_apart, places_count, next_count, moved_apart, moved_is, here_is}
 use Rattle.zarrs_array_regions.proofs.KeptChains.{chain_keeps}
 use Rattle.zarrs_array_regions.proofs.PlaceReads.{places_back}
-use Rattle.zarrs_array_regions.proofs.HeldElements.{length-elements}
+use Rattle.zarrs_array_bytes.proofs.UpdatedLemmas.{length-elements}
 
 -- ---- the furthest place
 

@@ -1,8 +1,7 @@
 -- What the calls on windows ask for and answer.
-use Rattle.std.proofs.Common.{◌≡◌, ◌==◌, ◌^◌, ◌<◌, ◌+◌, ℕ, suc, true, false, Option, Some, None, List, [], ◌∷◌, length, get_or, map, Result, Ok, Err, take, drop, ◌-◌, ◌≤◌, arith, refl, ap, ◌∙◌, sym, subst, inl, inr}
+use Rattle.std.proofs.Common.{◌≡◌, ◌==◌, ◌^◌, ◌<◌, ◌+◌, ℕ, suc, true, false, Option, Some, None, List, [], ◌∷◌, length, get_or, map, Result, Ok, Err, ◌≤◌, arith, refl, ap, ◌∙◌, sym, subst, inl, inr}
 use Rattle.std.specs.Prelude.{is_ok, IfOk, IsSome}
 use Rattle.std.proofs.lemmas.Bool.{and_from, eq-eqb, eqb-true, lt-ltb, cases_Bool}
-use Rattle.std.proofs.lemmas.List.{take_all}
 use Rattle.std.proofs.lemmas.List.Elements.{All-tail}
 use Rattle.zarrs_chunk.specs.Answer.{◌>>=◌}
 use Rattle.zarrs_chunk.specs.ArraySubset.{ends_fit, subset_of_start_shape}
@@ -27,8 +26,10 @@ use Rattle.zarrs_array_regions.specs.declared.window.Window.{Window}
 use Rattle.zarrs_array_regions.specs.Parts.{FitsRegion}
 use Rattle.zarrs_array_regions.specs.Windows.{IsWindow, TakesRegion, TakeType, window_of, window_places, permuted_region, next_window, part_map, behind, last_window, region_map}
 use Rattle.zarrs_array_regions.proofs.KeptChains.{next_sizes}
-use Rattle.zarrs_array_regions.proofs.KeptWindows.{codec_keeps, positive_of}
+use Rattle.zarrs_array_to_array.proofs.BoxNumbers.{factors_positive}
+use Rattle.zarrs_array_regions.proofs.KeptWindows.{codec_keeps}
 use Rattle.zarrs_array_regions.proofs.WindowMaps.{places_count, here_is}
+use Rattle.zarrs_array_to_array.proofs.CodecLists.{rest_of, mappings_are, no_mappings}
 
 -- ---- permuted boxes
 
@@ -59,27 +60,10 @@ order_starts order sizes region h inside = order_axes order sizes h ∙ sym (is_
 
 -- ---- the parts of a list of codecs
 
-abbrev pub rest_of : {X : Type 0} → List X → List X
-rest_of xs = take (length xs - 1) (drop 1 xs)
-
-take_whole : {X : Type 0} (xs : List X) (n : ℕ) → n ≡ length xs → take n xs ≡ xs
-take_whole {X} xs n e = ap (λ (k : ℕ). take k xs) e ∙ take_all (length xs) xs (omega arith)
-
-first_is : {X : Type 0} (xs : List X) (first : X) → 1 ≤ length xs → first ≡ get_or xs 0 first → xs ≡ first ∷ rest_of xs
-first_is [] first l e = absurd (omega arith)
-first_is (x ∷ xs) first l e = ap (λ y. y ∷ xs) (sym e) ∙ ap (λ ys. first ∷ ys) (sym (take_whole xs (length (x ∷ xs) - 1) (omega arith)))
-
-mappings_are : (codecs : List ArrayToArrayCodec) (first : ArrayToArrayCodec) → 1 ≤ length codecs → first ≡ get_or codecs 0 first → map mapping_of codecs ≡ mapping_of first ∷ map mapping_of (rest_of codecs)
-mappings_are codecs first l e = ap (map mapping_of) (first_is codecs first l e)
-
 pub one_mapping : (codecs : List ArrayToArrayCodec) (first : ArrayToArrayCodec) → length codecs ≡ 1 → first ≡ get_or codecs 0 first → map mapping_of codecs ≡ mapping_of first ∷ []
 one_mapping [] first l e = absurd (omega (arith, l))
 one_mapping (x ∷ []) first l e = ap (λ (y : ArrayToArrayCodec). mapping_of y ∷ []) (sym e)
 one_mapping (x ∷ (y ∷ xs)) first l e = absurd (omega (arith, l))
-
-no_mappings : (codecs : List ArrayToArrayCodec) → length codecs < 1 → map mapping_of codecs ≡ []
-no_mappings [] l = refl
-no_mappings (codec ∷ codecs) l = absurd (omega (arith, l))
 
 -- ---- what is taken
 
@@ -201,7 +185,7 @@ none_stay codecs sizes region l = no_codecs_stay (map mapping_of codecs) sizes r
 -- sizes of a positive product are a shape
 pub shape_there : (sizes xs : List ℕ) (r : Option (List ℕ)) → 0 < product sizes → xs ≡ sizes → r ≡ shape_of xs → IsSome r
 shape_there sizes xs r p e is =
-    let made : r ≡ Some sizes = is ∙ ap shape_of e ∙ shape_of-positive sizes (positive_of sizes p) in
+    let made : r ≡ Some sizes = is ∙ ap shape_of e ∙ shape_of-positive sizes (factors_positive sizes p) in
     rw made refl
 
 -- a window that lies inside chunks of as many elements

@@ -189,15 +189,12 @@ permuted_box order sizes starts lengths o e h =
     rw (permuted_at order sizes i k, permuted_at order starts i k, permuted_at order lengths i k) (is_box_inside-at sizes starts lengths (get_or order i 0) h (omega arith)))
 
 module _ (order sizes : List ℕ) (region : Region) (o : IsOrder order) (axes : length order ≡ length sizes) (inside : is_box_inside sizes region.starts region.lengths ≡ true) where
-  abbrev here_window : Window
-  here_window = window_of sizes region
-
   abbrev there_window : Window
   there_window = window_of (permuted order sizes) (permuted_region order region)
 
   -- the place of a number of the permuted box
   pub permuted_place : (k : ℕ) → k < product region.lengths
-      → get_or (window_places there_window) (transposed_place order region.lengths k) 0 ≡ transposed_place order sizes (get_or (window_places here_window) k 0)
+      → get_or (window_places there_window) (transposed_place order region.lengths k) 0 ≡ transposed_place order sizes (get_or (window_places (window_of sizes region)) k 0)
   permuted_place k l =
       let both = is_box_inside-lengths sizes region.starts region.lengths inside in
       let same : length region.starts ≡ length region.lengths = both.0 ∙ sym both.1 in
@@ -215,7 +212,7 @@ module _ (order sizes : List ℕ) (region : Region) (o : IsOrder order) (axes : 
       ∙ sym (ap (transposed_place order sizes) (window_place sizes region.starts region.lengths k same l)
       ∙ transposed_tuple order sizes o axes (box_tuple region.starts region.lengths k) (box_tuple-inside sizes region.starts region.lengths k inside l))
 
-  pub transposition_keeps : KeepsWindow (product sizes) (transposition order sizes) here_window there_window (transposition order region.lengths)
+  pub transposition_keeps : KeepsWindow (product sizes) (transposition order sizes) (window_of sizes region) there_window (transposition order region.lengths)
   transposition_keeps =
       let both = is_box_inside-lengths sizes region.starts region.lengths inside in
       record {

@@ -18,7 +18,7 @@ use zarrs_codec::ArrayToArrayCodecTraits;
 use zarrs_data_type::{DataType, FillValue};
 
 /// The shape that a region with elements has as a chunk. Refusals: `OutOfMemory`.
-pub(crate) fn region_shape(alloc: Global, region: &ArraySubset) -> Result<ChunkShape, CodecError>
+fn region_shape(alloc: Global, region: &ArraySubset) -> Result<ChunkShape, CodecError>
     requires filled { 0 < product region.now.lengths }
     ensures answer { Gives (λ shape. shape) result (Ok region.now.lengths) }
 {
@@ -40,7 +40,8 @@ fn decoded_part<'a>(
     requires counted { product region.now.lengths < 2 ^ 64 }
     requires takes { type_taken (mapping_of codec.now) data_type.now ≡ Ok tt }
     requires valid { validity data_type.now (product region.now.lengths) held ≡ Ok tt }
-    ensures decoded { DecodesPart (mapping_of codec.now) data_type.now region.now held.entry result }
+    ensures decoded { DecodesPart (mapping_of codec.now) data_type.now region.now
+        held.entry result }
     ensures blank { KeepsBlanks data_type.now held.entry result }
 {
     match codec {

@@ -7,15 +7,13 @@ ghost use Rattle.zarrs_array_to_array.specs.Mapping.{mapping_of};
 ghost use Rattle.zarrs_array_regions.specs.Windows.{IsWindow, TakesRegion, TakeType, window_of, IsRegionMap, EncodesWindow};
 ghost use Rattle.zarrs_array_regions.specs.Parts.{FitsRegion, EncodesPart};
 
-use crate::decoded::region_shape;
 use crate::next::next_window;
 use crate::window::Window;
 use std::alloc::Global;
 use zarrs_array_bytes::ArrayBytes;
-use zarrs_array_to_array::ArrayToArrayCodec;
+use zarrs_array_to_array::{ArrayToArrayCodec, transposed};
 use zarrs_chunk::{ArraySubset, ChunkShape, CodecError};
-use zarrs_codec::ArrayToArrayCodecTraits;
-use zarrs_data_type::{DataType, FillValue};
+use zarrs_data_type::DataType;
 
 /// The elements of the window behind one codec, encoded at the region's own lengths from those of the
 /// region.
@@ -25,19 +23,26 @@ fn encoded_part<'a>(
     region: &ArraySubset,
     held: ArrayBytes<'a>,
     data_type: &DataType,
-    fill_value: &FillValue,
 ) -> Result<ArrayBytes<'a>, CodecError>
     requires axes { FitsRegion (mapping_of codec.now) region.now }
     requires filled { 0 < product region.now.lengths }
     requires counted { product region.now.lengths < 2 ^ 64 }
     requires takes { type_taken (mapping_of codec.now) data_type.now ≡ Ok tt }
     requires valid { validity data_type.now (product region.now.lengths) held ≡ Ok tt }
-    ensures encoded { EncodesPart (mapping_of codec.now) data_type.now region.now held.entry result }
+    ensures encoded { EncodesPart (mapping_of codec.now) data_type.now region.now
+        held.entry result }
 {
     match codec {
         ArrayToArrayCodec::Transpose(codec) => {
-            let shape = region_shape(alloc, region)?;
-            codec.encode(alloc, held, &shape, data_type, fill_value)
+            let count = region.num_elements()?;
+            transposed(
+                alloc,
+                &held,
+                codec.order(),
+                region.shape(),
+                count,
+                data_type,
+            )
         }
         ArrayToArrayCodec::Reshape(_) => Ok(held),
         ArrayToArrayCodec::Squeeze(_) => Ok(held),
@@ -51,7 +56,6 @@ fn encoded_through<'a>(
     window: Window,
     held: ArrayBytes<'a>,
     data_type: &DataType,
-    fill_value: &FillValue,
 ) -> Result<(Window, ArrayBytes<'a>), CodecError>
     requires region { TakesRegion (map mapping_of codecs.now) window.sizes window.region }
     requires takes { TakeType (map mapping_of codecs.now) data_type.now }
@@ -69,15 +73,8 @@ fn encoded_through<'a>(
             match next_window(alloc, first, &window.sizes, &window.region)? {
                 None => Ok((window, held)),
                 Some(next) => {
-                    let held = encoded_part(
-                        alloc,
-                        first,
-                        &window.region,
-                        held,
-                        data_type,
-                        fill_value,
-                    )?;
-                    encoded_through(alloc, rest, next, held, data_type, fill_value)
+                    let held = encoded_part(alloc, first, &window.region, held, data_type)?;
+                    encoded_through(alloc, rest, next, held, data_type)
                 }
             }
         }
@@ -97,7 +94,6 @@ pub fn encoded_window<'a>(
     region: &ArraySubset,
     held: ArrayBytes<'a>,
     data_type: &DataType,
-    fill_value: &FillValue,
 ) -> Result<(Window, ArrayBytes<'a>), CodecError>
     requires region { TakesRegion (map mapping_of codecs.now) shape.now region.now }
     requires takes { TakeType (map mapping_of codecs.now) data_type.now }
@@ -114,8 +110,8 @@ pub fn encoded_window<'a>(
             match next_window(alloc, first, shape, region)? {
                 None => Ok((Window::new(shape, region)?, held)),
                 Some(next) => {
-                    let held = encoded_part(alloc, first, region, held, data_type, fill_value)?;
-                    encoded_through(alloc, rest, next, held, data_type, fill_value)
+                    let held = encoded_part(alloc, first, region, held, data_type)?;
+                    encoded_through(alloc, rest, next, held, data_type)
                 }
             }
         }

@@ -72,7 +72,8 @@ pub(crate) fn next_window(
 ) -> Result<Option<Window>, CodecError>
     requires taken { is_ok (coordinates (mapping_of codec.now) shape.now) ≡ true }
     requires inside { is_box_inside shape.now region.now.starts region.now.lengths ≡ true }
-    ensures answer { GivesNextWindow (mapping_of codec.now) (window_of shape.now region.now) result }
+    ensures answer { GivesNextWindow (mapping_of codec.now)
+        (window_of shape.now region.now) result }
 {
     match codec {
         ArrayToArrayCodec::Transpose(codec) => {

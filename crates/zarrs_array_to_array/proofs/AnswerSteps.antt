@@ -1,5 +1,5 @@
 -- What follows from an answer that was given.
-use Rattle.std.specs.Prelude.{◌≡◌, Bool, Result, Ok, Err, IfOk}
+use Rattle.std.specs.Prelude.{◌≡◌, Bool, Some, Result, Ok, Err, IfOk}
 use Rattle.std.proofs.Common.{refl}
 use Rattle.zarrs_chunk.specs.Answer.{◌>>=◌, AnswersBy}
 
@@ -13,3 +13,6 @@ found_by excuse R (Err e) expected P h f = tt
 pub step_ok : {E A B : Type 0} (r : Result A E) (f : A → Result B E) (y : B) → (r >>= f) ≡ Ok y → (x : A) × (r ≡ Ok x) × (f x ≡ Ok y)
 step_ok (Ok x) f y h = (x, refl, h)
 step_ok (Err e) f y h = absurd (cc)
+
+pub some_is : {X : Type 0} (x y : X) → Some x ≡ Some y → x ≡ y
+some_is x y e = cc

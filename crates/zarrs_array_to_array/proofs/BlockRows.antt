@@ -1,7 +1,6 @@
 -- The elements of a block that was copied row by row, column by column.
 use Rattle.std.proofs.Common.{◌≡◌, ℕ, zero, suc, ◌+◌, ◌-◌, ◌*◌, ◌/◌, ◌<◌, ◌≤◌, List, [], ◌∷◌, ◌++◌, length, get_or, map, take, drop, arith, refl, ap, ap₂, ◌∙◌, sym, drop-drop, append_assoc}
 use Rattle.std.specs.List.{flat_map, range_with_len}
-use Rattle.std.proofs.lemmas.List.{take-take, drop-take}
 use Rattle.std.proofs.lemmas.List.Concat.{flat_map-append}
 use Rattle.std.proofs.lemmas.Nat.{div-mul-add}
 use Rattle.std.proofs.Math.Nat.{mul-le-mul_right}
@@ -12,7 +11,9 @@ use Rattle.zarrs_array_to_array.specs.declared.axis.Axis.{Axis}
 use Rattle.zarrs_array_to_array.specs.Strides.{row, next_rows}
 use Rattle.zarrs_array_to_array.specs.Axes.{behind, reach, stretch}
 use Rattle.zarrs_array_to_array.proofs.AxisRows.{behind-append, behind-nil, behind-moved, behind_below}
-use Rattle.zarrs_array_to_array.proofs.PlaneRows.{row_is_run, run_split}
+use Rattle.zarrs_chunk.proofs.Consecutive.{range-append}
+use Rattle.zarrs_array_to_array.proofs.PlaneRows.{row_is_run}
+use Rattle.zarrs_array_bytes.proofs.Pieces.{take-drop-take}
 
 -- more neighbouring columns
 pub more_columns : (out : List ℕ) (f : ℕ → List ℕ) (axes : List Axis) (front done n : ℕ)
@@ -23,7 +24,7 @@ more_columns out f axes front done n =
     (sym (flat_map-append f (behind axes (row front 1 done)) (behind axes (row (front + done) 1 n)))
     ∙ ap (flat_map f)
     (sym (behind-append axes (row front 1 done) (row (front + done) 1 n))
-    ∙ ap (behind axes) (ap₂ (λ xs ys. xs ++ ys) (row_is_run front done) (row_is_run (front + done) n) ∙ sym (run_split front done n) ∙ sym (row_is_run front (done + n)))))
+    ∙ ap (behind axes) (ap₂ (λ xs ys. xs ++ ys) (row_is_run front done) (row_is_run (front + done) n) ∙ sym (range-append front done n) ∙ sym (row_is_run front (done + n)))))
 
 -- ---- a column, and columns
 
@@ -59,12 +60,6 @@ module _ (f g : ℕ → List ℕ) (axes : List Axis) (front s : ℕ) where
 
 -- ---- an element of a block
 
--- what lies within the first bytes
-window : (size at len : ℕ) (items : List ℕ) → at + size ≤ len → take size (drop at (take len items)) ≡ take size (drop at items)
-window size at len items h =
-    let e : at + (len - at) ≡ len = omega arith in
-    ap (λ n. take size (drop at (take n items))) (sym e) ∙ ap (take size) (drop-take at (len - at) items) ∙ take-take size (len - at) (drop at items) (omega arith)
-
 stretch_is : (len size : ℕ) (items : List ℕ) (place : ℕ) → stretch len size items place ≡ take len (drop (place * size) items)
 stretch_is len size items place = let e : place * size + len - place * size ≡ len = omega arith in ap (λ n. take n (drop (place * size) items)) e
 
@@ -96,9 +91,9 @@ module _ (size width : ℕ) (items places : List ℕ) (inside : (j : ℕ) → j 
       piece_is size (0 + x * 1 + k * width) block
       ∙ ap (λ n. take size (drop n block)) (in_block x k width size)
       ∙ ap (take size) (sym (drop-drop (x * size) (k * len) block))
-      ∙ sym (window size (x * size) len (drop (k * len) block) (fits_in_row x width size below))
+      ∙ sym (take-drop-take size (x * size) len (drop (k * len) block) (fits_in_row x width size below))
       ∙ ap (λ xs. take size (drop (x * size) xs)) here
-      ∙ window size (x * size) len (drop (place * size) items) (fits_in_row x width size below)
+      ∙ take-drop-take size (x * size) len (drop (place * size) items) (fits_in_row x width size below)
       ∙ ap (take size) (drop-drop (x * size) (place * size) items)
       ∙ ap (λ n. take size (drop n items)) (in_chunk place x size)
       ∙ sym (piece_is size (x * 1 + place) items)

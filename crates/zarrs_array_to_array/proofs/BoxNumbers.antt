@@ -35,7 +35,7 @@ box_ordered order starts lengths count e c =
 pub box_empty : (order starts lengths : List ℕ) → length starts ≡ length lengths → product lengths ≡ 0 → map (permuted order) (box_tuples starts lengths) ≡ []
 box_empty order starts lengths e c = ap (map (permuted order)) (nil_from_length (box_tuples starts lengths) (length-box_tuples starts lengths e ∙ c))
 
-factors_positive : (sizes : List ℕ) → 0 < product sizes → All (λ size. 0 < size) sizes
+pub factors_positive : (sizes : List ℕ) → 0 < product sizes → All (λ size. 0 < size) sizes
 factors_positive [] h = λ k d l. absurd (omega arith)
 factors_positive (zero ∷ sizes) h = absurd (omega arith)
 factors_positive (suc size ∷ sizes) h = All-cons (λ n. 0 < n) (suc size) sizes (omega arith) (factors_positive sizes (factor_positive 0 (suc size) (product sizes) h))

@@ -1,8 +1,7 @@
 -- What the codecs ask for of their encoded chunks lies inside them, at the mapped places.
-use Rattle.std.proofs.Common.{◌≡◌, ◌==◌, ◌&&◌, ◌||◌, nat_lt, nat_le, ℕ, zero, suc, ◌+◌, ◌<◌, ◌≤◌, Bool, true, false, List, [], ◌∷◌, ◌++◌, length, get_or, replicate, map, Ok, Vec, Global, arith, refl, ap, ap₂, ◌∙◌, sym, inl, inr}
+use Rattle.std.proofs.Common.{◌≡◌, ◌==◌, ◌&&◌, ◌||◌, nat_le, ℕ, zero, suc, ◌+◌, ◌<◌, ◌≤◌, Bool, true, false, List, [], ◌∷◌, ◌++◌, length, get_or, replicate, map, Ok, Vec, Global, arith, refl, ap, ap₂, ◌∙◌, sym, inl, inr}
 use Rattle.std.specs.List.{flat_map, range_with_len, list_all, list_any}
-use Rattle.std.proofs.lemmas.Bool.{cases_Bool, and_parts, and_from}
-use Rattle.std.proofs.lemmas.Bool.Decides.{nat_tests}
+use Rattle.std.proofs.lemmas.Bool.{cases_Bool, and_parts, and_from, or_parts}
 use Rattle.std.proofs.lemmas.List.{append-nil, map-append}
 use Rattle.std.proofs.lemmas.List.Folds.{list_all-append}
 use Rattle.std.proofs.lemmas.Simd.{map-map}
@@ -15,7 +14,7 @@ use Rattle.zarrs_chunk.specs.Selection.{Selection, subset, indices, tuples_of, b
 use Rattle.zarrs_chunk.specs.Tuples.{row_major, box_tuples, is_box_inside, is_tuple_inside}
 use Rattle.zarrs_chunk.specs.declared.codec_error.CodecError.TheVariants.{IncompatibleDimensionality, OutOfBounds}
 use Rattle.zarrs_chunk.proofs.BoxTuples.{box_tuples-nothing}
-use Rattle.zarrs_chunk.proofs.Inside.{is_tuple_inside-length, row_major-below, is_box_inside-lengths}
+use Rattle.zarrs_chunk.proofs.Inside.{is_tuple_inside-length, row_major-below, is_box_inside-lengths, le_test, from_le_test, lt_test}
 use Rattle.zarrs_codec.specs.CoordinateMap.{same_places}
 use Rattle.zarrs_array_to_array.specs.EncodedSelection.{drops_empty_range, squeezed_lengths, squeezed_region}
 use Rattle.zarrs_codec.specs.MappedSelection.{IsImage}
@@ -29,18 +28,8 @@ use Rattle.zarrs_array_to_array.proofs.Orders.{permuted_inside}
 use Rattle.zarrs_array_to_array.proofs.Squeezing.{is_one}
 use Rattle.zarrs_array_to_array.proofs.Transposition.{transposed_tuple}
 use Rattle.zarrs_chunk.proofs.NumberedTuples.{tuple_of_number-inside, row_major-tuple_of_number}
-
-eq_from : (a b : ℕ) → a ≡ b → (a == b) ≡ true
-eq_from a b h = grind (arith, nat_tests)
-
-le_from : (a b : ℕ) → a ≤ b → nat_le a b ≡ true
-le_from a b h = grind (arith, nat_tests)
-
-from_le : (a b : ℕ) → nat_le a b ≡ true → a ≤ b
-from_le a b h = grind (arith, nat_tests)
-
-lt_from : (a b : ℕ) → a < b → nat_lt a b ≡ true
-lt_from a b h = grind (arith, nat_tests)
+use Rattle.zarrs_codec.specs.SampleLaws.{eq_test}
+use Rattle.zarrs_array_to_array.specs.CountLaws.{or_axes}
 
 -- ---- the tuples of a selection in bounds
 
@@ -48,7 +37,7 @@ inside_row : (size index : ℕ) (sizes : List ℕ) (tuples : List (List ℕ)) �
 inside_row size index sizes [] l h = refl
 inside_row size index sizes (tuple ∷ tuples) l h =
     let parts = and_parts (is_tuple_inside sizes tuple) (list_all (λ tuple. is_tuple_inside sizes tuple) tuples) h in
-    and_from _ _ (and_from _ _ (lt_from index size l) parts.0) (inside_row size index sizes tuples l parts.1)
+    and_from _ _ (and_from _ _ (lt_test index size l) parts.0) (inside_row size index sizes tuples l parts.1)
 
 inside_rows : (size : ℕ) (sizes : List ℕ) (tuples : List (List ℕ)) (n start : ℕ) → start + n ≤ size → list_all (λ tuple. is_tuple_inside sizes tuple) tuples ≡ true
     → list_all (λ tuple. is_tuple_inside (size ∷ sizes) tuple) (flat_map (λ index. map (λ tuple. index ∷ tuple) tuples) (range_with_len start n)) ≡ true
@@ -65,7 +54,7 @@ box_inside (size ∷ sizes) [] lengths h = absurd (cc)
 box_inside (size ∷ sizes) (start ∷ starts) [] h = absurd (cc)
 box_inside (size ∷ sizes) (start ∷ starts) (len ∷ lengths) h =
     let parts = and_parts (nat_le (start + len) size) (is_box_inside sizes starts lengths) h in
-    inside_rows size sizes (box_tuples starts lengths) len start (from_le _ _ parts.0) (box_inside sizes starts lengths parts.1)
+    inside_rows size sizes (box_tuples starts lengths) len start (from_le_test _ _ parts.0) (box_inside sizes starts lengths parts.1)
 
 pub subset_inside : (region : Region) (sizes : List ℕ) → bounds_of (subset region) sizes ≡ Ok tt → is_box_inside sizes region.starts region.lengths ≡ true
 subset_inside region sizes h =
@@ -90,9 +79,9 @@ tuples_have_axes : (sizes : List ℕ) (tuples : List (List ℕ)) → list_all (�
 tuples_have_axes sizes [] h = refl
 tuples_have_axes sizes (tuple ∷ tuples) h =
     let parts = and_parts (is_tuple_inside sizes tuple) (list_all (λ tuple. is_tuple_inside sizes tuple) tuples) h in
-    and_from _ _ (eq_from _ _ (is_tuple_inside-length sizes tuple parts.0)) (tuples_have_axes sizes tuples parts.1)
+    and_from _ _ (eq_test _ _ (is_tuple_inside-length sizes tuple parts.0)) (tuples_have_axes sizes tuples parts.1)
 
-indices_bounds : (sizes : List ℕ) (tuples : List (List ℕ)) → list_all (λ tuple. is_tuple_inside sizes tuple) tuples ≡ true → bounds_of (indices tuples) sizes ≡ Ok tt
+pub indices_bounds : (sizes : List ℕ) (tuples : List (List ℕ)) → list_all (λ tuple. is_tuple_inside sizes tuple) tuples ≡ true → bounds_of (indices tuples) sizes ≡ Ok tt
 indices_bounds sizes tuples h = rw (tuples_have_axes sizes tuples h, h) refl
 
 -- ---- tuples that are moved one by one
@@ -170,10 +159,6 @@ dropped_row : (size : ℕ) (sizes : List ℕ) (tuples : List (List ℕ)) → (si
 dropped_row size sizes [] one = refl
 dropped_row size sizes (tuple ∷ tuples) one = ap₂ (λ x xs. x ∷ xs) (rw one refl) (dropped_row size sizes tuples one)
 
-or_parts : (a b : Bool) → (a || b) ≡ false → (a ≡ false) × (b ≡ false)
-or_parts true b h = absurd (cc)
-or_parts false b h = (refl, h)
-
 one_index : (size start len : ℕ) → (size == 1) ≡ true → start + len ≤ size → (size == 1 && len == 0) ≡ false → (start ≡ 0) × (len ≡ 1)
 one_index size start len one fits some = let s : size ≡ 1 = is_one size one in let l : 0 < len = above size len one some in (omega arith, omega arith)
   where
@@ -193,7 +178,7 @@ kept_box (size ∷ sizes) (start ∷ starts) (len ∷ lengths) h some =
     let rest = kept_box sizes starts lengths parts.1 filled.1 in
     let tuples = box_tuples starts lengths in
     elim (cases_Bool (size == 1)) [
-      | inl one ↦ (let at = one_index size start len one (from_le _ _ parts.0) filled.0 in
+      | inl one ↦ (let at = one_index size start len one (from_le_test _ _ parts.0) filled.0 in
           rw one (rest ∙ sym (ap₂ (λ s n. map (kept_indices (size ∷ sizes)) (flat_map (λ index. map (λ tuple. index ∷ tuple) tuples) (range_with_len s n))) at.0 at.1
           ∙ ap (map (kept_indices (size ∷ sizes))) (append-nil (map (λ tuple. 0 ∷ tuple) tuples))
           ∙ dropped_row size sizes tuples one)))
@@ -242,12 +227,6 @@ some_empty (size ∷ sizes) (len ∷ lengths) h =
     later true false c e h = h
     later false b c e h = h
 
-length-or_one : (starts lengths : List ℕ) → length starts ≡ length lengths → length (or_zero starts) ≡ length (or_one lengths)
-length-or_one [] [] e = refl
-length-or_one [] (len ∷ lengths) e = absurd (omega arith)
-length-or_one (start ∷ starts) [] e = absurd (omega arith)
-length-or_one (start ∷ starts) (len ∷ lengths) e = e
-
 length-zeros : (n : ℕ) → length {A = ℕ} (replicate n 0) ≡ n
 length-zeros zero = refl
 length-zeros (suc n) = ap suc (length-zeros n)
@@ -262,7 +241,7 @@ squeezed_box sizes starts lengths h =
     let same : length (kept_indices sizes starts) ≡ length (kept_indices sizes lengths) = length-kept sizes starts axes.0 ∙ sym (length-kept sizes lengths axes.1) in
     elim (cases_Bool (drops_empty_range sizes lengths)) [
       | inl empty ↦ (let none : box_tuples starts lengths ≡ [] = box_tuples-nothing starts lengths (axes.0 ∙ sym axes.1) (some_empty sizes lengths empty) in
-          rw (empty, none) (box_tuples-nothing (or_zero (kept_indices sizes starts)) (replicate (length (or_one (kept_indices sizes lengths))) 0) (length-or_one (kept_indices sizes starts) (kept_indices sizes lengths) same ∙ sym (length-zeros (length (or_one (kept_indices sizes lengths))))) (zeros_empty (kept_indices sizes lengths))))
+          rw (empty, none) (box_tuples-nothing (or_zero (kept_indices sizes starts)) (replicate (length (or_one (kept_indices sizes lengths))) 0) (or_axes (kept_indices sizes starts) (kept_indices sizes lengths) same ∙ sym (length-zeros (length (or_one (kept_indices sizes lengths))))) (zeros_empty (kept_indices sizes lengths))))
       | inr some ↦ rw some (or_box (kept_indices sizes starts) (kept_indices sizes lengths) same ∙ ap (map or_zero) (kept_box sizes starts lengths h some) ∙ map-map or_zero (kept_indices sizes) (box_tuples starts lengths))
     ]
 
@@ -295,8 +274,8 @@ emptied_inside (size ∷ sizes) [] lengths h = absurd (cc)
 emptied_inside (size ∷ sizes) (start ∷ starts) [] h = absurd (cc)
 emptied_inside (size ∷ sizes) (start ∷ starts) (len ∷ lengths) h =
     let parts = and_parts (nat_le (start + len) size) (is_box_inside sizes starts lengths) h in
-    let l : start + len ≤ size = from_le _ _ parts.0 in
-    and_from _ _ (le_from (start + 0) size (omega arith)) (emptied_inside sizes starts lengths parts.1)
+    let l : start + len ≤ size = from_le_test _ _ parts.0 in
+    and_from _ _ (le_test (start + 0) size (omega arith)) (emptied_inside sizes starts lengths parts.1)
 
 pub squeezed_box_inside : (sizes starts lengths : List ℕ) → is_box_inside sizes starts lengths ≡ true → is_box_inside (squeezed sizes) (or_zero (kept_indices sizes starts)) (squeezed_lengths sizes lengths) ≡ true
 squeezed_box_inside sizes starts lengths h =
@@ -312,7 +291,7 @@ squeezed_image_subset sizes region h =
     let inside = squeezed_box_inside sizes region.starts region.lengths box in
     let axes = is_box_inside-lengths (squeezed sizes) (or_zero (kept_indices sizes region.starts)) (squeezed_lengths sizes region.lengths) inside in
     record {
-      inside = rw (eq_from _ _ axes.0, inside) refl;
+      inside = rw (eq_test _ _ axes.0, inside) refl;
       places = ap (map (row_major (squeezed sizes))) (squeezed_box sizes region.starts region.lengths box)
           ∙ each_number sizes (squeezed sizes) (same_places (squeezed sizes)).to (squeezed_tuple sizes) (squeezed_goes sizes) (box_tuples region.starts region.lengths) (box_inside sizes region.starts region.lengths box);
     }

@@ -1,5 +1,5 @@
 -- What encoded indexers answer.
-use Rattle.std.proofs.Common.{◌≡◌, ◌==◌, nat_lt, nat_le, ℕ, zero, suc, ◌+◌, ◌<◌, ◌≤◌, ◌^◌, ◌/◌, Bool, true, false, List, [], ◌∷◌, ◌++◌, length, get_or, map, drop, Ok, Err, Result, Vec, Global, arith, refl, ap, ap₂, ◌∙◌, sym, inl, inr, if◌then◌else◌}
+use Rattle.std.proofs.Common.{◌≡◌, ◌==◌, nat_lt, nat_le, ℕ, zero, suc, ◌+◌, ◌<◌, ◌≤◌, ◌^◌, ◌/◌, true, false, List, [], ◌∷◌, ◌++◌, length, get_or, map, drop, Ok, Err, Result, Vec, Global, arith, refl, ap, ap₂, ◌∙◌, sym, inl, inr}
 use Rattle.std.specs.List.{All, list_all}
 use Rattle.std.proofs.lemmas.Bool.{cases_Bool, and_parts, and_from}
 use Rattle.std.proofs.lemmas.Bool.Decides.{nat_tests}
@@ -14,7 +14,7 @@ use Rattle.zarrs_chunk.specs.Region.{Region}
 use Rattle.zarrs_chunk.specs.Selection.{Selection, subset, indices, tuples_of, bounds_of, len_of, places_of}
 use Rattle.zarrs_chunk.specs.Tuples.{row_major, box_tuples, is_box_inside, is_tuple_inside}
 use Rattle.zarrs_chunk.specs.declared.codec_error.CodecError.{CodecError}
-use Rattle.zarrs_chunk.specs.declared.codec_error.CodecError.TheVariants.{Overflow, ReshapeElements}
+use Rattle.zarrs_chunk.specs.declared.codec_error.CodecError.TheVariants.{ReshapeElements}
 use Rattle.zarrs_chunk.proofs.BoxTuples.{length-box_tuples}
 use Rattle.zarrs_chunk.proofs.Inside.{is_box_inside-lengths, is_tuple_inside-length}
 use Rattle.zarrs_array_to_array.proofs.CheckedTuples.{tuples_inside}
@@ -32,6 +32,8 @@ use Rattle.zarrs_chunk.specs.Indices.{tuple_of_number}
 use Rattle.zarrs_array_to_array.proofs.Chains.{codec_map}
 use Rattle.zarrs_array_to_array.proofs.Images.{squeezed_box_inside, squeezed_image_subset, squeezed_image_indices, transposed_image, reshaped_image}
 use Rattle.zarrs_metadata.proofs.Orders.{order_parts}
+use Rattle.zarrs_array_bytes.proofs.AnswerLemmas.{checked_is}
+use Rattle.zarrs_codec.specs.SampleLaws.{eq_test}
 
 -- ---- numbers that fit
 
@@ -118,17 +120,10 @@ squeezed_list sizes encoded tuples made h =
 
 -- ---- counts
 
-checked_same : (n k : ℕ) → checked_u64 n ≡ Ok k → n ≡ k
-checked_same n k e = go (nat_lt n (2 ^ 64)) n k e
-  where
-    go : (b : Bool) (n k : ℕ) → (if b then Ok n else Err Overflow) ≡ Ok k → n ≡ k
-    go true n k e = cc
-    go false n k e = cc
-
 pub box_count : (sizes : List ℕ) (region : Region) (count : ℕ) → is_box_inside sizes region.starts region.lengths ≡ true → len_of (subset region) ≡ Ok count → product region.lengths ≡ count
 box_count sizes region count h e =
     let axes = is_box_inside-lengths sizes region.starts region.lengths h in
-    sym (length-box_tuples region.starts region.lengths (axes.0 ∙ sym axes.1)) ∙ checked_same (length (box_tuples region.starts region.lengths)) count e
+    sym (length-box_tuples region.starts region.lengths (axes.0 ∙ sym axes.1)) ∙ checked_is (length (box_tuples region.starts region.lengths)) count e
 
 pub reshaped_counted : (dims : List Dim) (sizes encoded : List ℕ) → reshaped dims sizes ≡ Ok encoded → (n : ℕ) × (checked_u64 (product sizes) ≡ Ok n)
 reshaped_counted dims sizes encoded h =
@@ -156,9 +151,6 @@ map_to codec sizes next is positive h = go (coordinates codec sizes) refl h
     go (Err x) e h = absurd (cc)
 
 -- ---- transposition
-
-eq_test : (a b : ℕ) → a ≡ b → (a == b) ≡ true
-eq_test a b h = grind (arith, nat_tests)
 
 pub transposed_image_by : (order sizes : List ℕ) (selection : Selection) → is_order order ≡ true → length order ≡ length sizes → bounds_of selection sizes ≡ Ok tt → IsImageBy (coordinates (transpose order) sizes) sizes selection (indices (map (permuted order) (tuples_of selection)))
 transposed_image_by order sizes selection o axes h = rw (eq_test (length order) (length sizes) axes) (transposed_image order sizes selection (order_parts order o) axes h)

@@ -29,3 +29,6 @@ pub mod BlockRows
 pub mod Writers
 pub mod WritingStages
 pub mod TransposedBlank
+pub mod InPlace
+pub mod CodecLists
+pub mod ListedPlaces

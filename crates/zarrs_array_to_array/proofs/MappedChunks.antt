@@ -60,7 +60,7 @@ decoded_refused order sizes type held e P h =
 
 -- ---- elements that keep their places
 
-holds_elements : (type : ElementType) (count : ℕ) (held : Held) → validity type count held ≡ Ok tt → Holds type held (elements type count held)
+pub holds_elements : (type : ElementType) (count : ℕ) (held : Held) → validity type count held ≡ Ok tt → Holds type held (elements type count held)
 holds_elements type count held h =
     let n : length (elements type count held) ≡ count = length-map-range_with_len (element_at type held) 0 count in
     record { valid = ap (λ c. validity type c held) n ∙ h; elements_are = ap (λ c. elements type c held) n }

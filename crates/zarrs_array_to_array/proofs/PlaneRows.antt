@@ -32,7 +32,7 @@ more_of_plane out f s m front step n =
 
 -- ---- neighbours
 
-counted : (front at n : ℕ) → map (λ index. front + index * 1) (range_with_len at n) ≡ range_with_len (front + at) n
+pub counted : (front at n : ℕ) → map (λ index. front + index * 1) (range_with_len at n) ≡ range_with_len (front + at) n
 counted front at zero = refl
 counted front at (suc n) =
     let e : front + (at + 1) ≡ front + at + 1 = omega arith in
@@ -50,16 +50,6 @@ stretches_are_runs size n items (place ∷ places) =
     ap₂ (λ xs ys. xs ++ ys) (sym (ap (flat_map (piece size items)) (row_is_run place n) ∙ pieces_of_run size items place n)) (stretches_are_runs size n items places)
     ∙ sym (flat_map-append (piece size items) (row place 1 n) (next_rows 1 n places))
 
-pub run_split : (at m n : ℕ) → range_with_len at (m + n) ≡ range_with_len at m ++ range_with_len (at + m) n
-run_split at zero n =
-    let e : 0 + n ≡ n = omega arith in
-    let f : at ≡ at + 0 = omega arith in
-    ap₂ (λ a k. range_with_len a k) f e
-run_split at (suc m) n =
-    let e : suc m + n ≡ suc (m + n) = omega arith in
-    let f : at + 1 + m ≡ at + suc m = omega arith in
-    ap (λ k. range_with_len at k) e ∙ ap (λ xs. at ∷ xs) (run_split (at + 1) m n ∙ ap (λ a. range_with_len (at + 1) m ++ range_with_len a n) f)
-
 -- ---- what lies within
 
 -- an index steps no further than the last one
@@ -73,6 +63,3 @@ bytes_below m n size limit l h = omega (arith, mul-le-mul_right {m = m} {n = n} 
 -- a place is no more than the bytes before it
 pub places_are_bytes : (m size : ℕ) → 0 < size → m ≤ m * size
 places_are_bytes m size l = omega (arith, mul-le-mul_left {m = 1} {n = size} m l)
-
-pub spread : (m n size : ℕ) → (m + n) * size ≡ m * size + n * size
-spread m n size = omega arith

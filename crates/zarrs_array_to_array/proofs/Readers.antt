@@ -1,7 +1,6 @@
 -- What a reader answers over the reader of an encoded chunk, by places.
-use Rattle.std.proofs.Common.{◌≡◌, ◌==◌, nat_lt, ℕ, ◌<◌, ◌^◌, Bool, true, List, length, map, Result, Ok, Err, arith, refl, ap, ◌∙◌}
+use Rattle.std.proofs.Common.{◌≡◌, ◌==◌, ℕ, ◌<◌, ◌^◌, Bool, List, length, map, Result, Ok, Err, arith, refl, ap, ◌∙◌}
 use Rattle.std.specs.List.{All}
-use Rattle.std.proofs.lemmas.Bool.Decides.{nat_tests}
 use Rattle.std.proofs.lemmas.List.{length-map}
 use Rattle.std.proofs.lemmas.Simd.{map-map}
 use Rattle.zarrs_chunk.specs.Answer.{◌>>=◌, demand, checked_u64}
@@ -30,22 +29,18 @@ use Rattle.zarrs_array_to_array.proofs.CoordinateMaps.{moved_select}
 use Rattle.zarrs_array_to_array.proofs.Images.{transposed_image, reshaped_image}
 use Rattle.zarrs_array_to_array.proofs.Indexers.{squeezed_image}
 use Rattle.zarrs_array_to_array.proofs.Reshaping.{reshaped_product}
-
-eq_test : (a b : ℕ) → (a == b) ≡ true → a ≡ b
-eq_test a b h = grind (arith, nat_tests)
-
-lt_from : (n limit : ℕ) → n < limit → nat_lt n limit ≡ true
-lt_from n limit h = grind (arith, nat_tests)
+use Rattle.zarrs_array_to_array.proofs.Orders.{eq_true}
+use Rattle.zarrs_chunk.proofs.Inside.{lt_test}
 
 -- ---- what is asked for
 
-same_map : (m n : CoordinateMap) → ◌≡◌ {A = Result CoordinateMap CodecError} (Ok n) (Ok m) → n ≡ m
+pub same_map : (m n : CoordinateMap) → ◌≡◌ {A = Result CoordinateMap CodecError} (Ok n) (Ok m) → n ≡ m
 same_map m n e = cc
 
 pub codec_image : (codec : ArrayMapping) (sizes : List ℕ) (m : CoordinateMap) (selection : Selection) → IsMapping codec → coordinates codec sizes ≡ Ok m → bounds_of selection sizes ≡ Ok tt → IsImage sizes m selection (selection_in codec sizes m.encoded selection)
 codec_image (transpose order) sizes m selection is takes inside =
     let step = step_ok (demand (length order == length sizes) IncompatibleDimensionality) (λ _. Ok (transposition order sizes)) m takes in
-    let axes : length order ≡ length sizes = eq_test _ _ (demand_ok (length order == length sizes) IncompatibleDimensionality step.1) in
+    let axes : length order ≡ length sizes = eq_true _ _ (demand_ok (length order == length sizes) IncompatibleDimensionality step.1) in
     rw (← same_map m (transposition order sizes) step.2) (transposed_image order sizes selection (order_parts order is) axes inside)
 codec_image (reshape dims) sizes m selection is takes inside =
     let found = step_ok (reshaped dims sizes) (λ encoded. Ok (same_places encoded)) m takes in
@@ -56,7 +51,7 @@ codec_image squeeze sizes m selection is takes inside =
 -- ---- what is answered
 
 few_counted : (selection : Selection) → length (tuples_of selection) < 2 ^ 64 → len_of selection ≡ Ok (length (tuples_of selection))
-few_counted selection few = rw (lt_from (length (tuples_of selection)) (2 ^ 64) few) refl
+few_counted selection few = rw (lt_test (length (tuples_of selection)) (2 ^ 64) few) refl
 
 module _ (codec : ArrayMapping) (sizes : List ℕ) (m : CoordinateMap) (is : IsMapping codec) (positive : All (λ size. 0 < size) sizes) (takes : coordinates codec sizes ≡ Ok m) where
   map_is : IsCoordinateMap sizes m

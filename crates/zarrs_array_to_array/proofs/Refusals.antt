@@ -24,11 +24,11 @@ no_fault_from view (Err e) expected h n = go e expected h n
     go (Storage x) expected h n = absurd (let is : expected ≡ Err (Storage x) = h refl in let bad : true ≡ false = (rw is at n) in cc)
     go _ expected h n = refl
 
-bind_no_fault : {A B : Type 0} (r : Result A CodecError) (f : A → Result B CodecError) → is_fault r ≡ false → ((x : A) → is_fault (f x) ≡ false) → is_fault (r >>= f) ≡ false
+pub bind_no_fault : {A B : Type 0} (r : Result A CodecError) (f : A → Result B CodecError) → is_fault r ≡ false → ((x : A) → is_fault (f x) ≡ false) → is_fault (r >>= f) ≡ false
 bind_no_fault (Ok x) f h g = g x
 bind_no_fault (Err e) f h g = h
 
-demand_no_fault : (passed : Bool) (cause : CodecError) → fault cause ≡ false → is_fault (demand passed cause) ≡ false
+pub demand_no_fault : (passed : Bool) (cause : CodecError) → fault cause ≡ false → is_fault (demand passed cause) ≡ false
 demand_no_fault true cause h = refl
 demand_no_fault false cause h = h
 
@@ -73,7 +73,7 @@ form_no_fault codec sizes type fill =
     bind_no_fault (type_taken codec type) (λ _. coordinates codec sizes >>= λ m. Ok (m.encoded, type, fill)) (taken_no_fault codec type)
     (λ _. bind_no_fault (coordinates codec sizes) (λ m. Ok (m.encoded, type, fill)) (coordinates_no_fault codec sizes) (λ _. refl))
 
-seen_no_fault : {A B : Type 0} (f : A → B) (r : Result A CodecError) → is_fault r ≡ false → is_fault (seen f r) ≡ false
+pub seen_no_fault : {A B : Type 0} (f : A → B) (r : Result A CodecError) → is_fault r ≡ false → is_fault (seen f r) ≡ false
 seen_no_fault f (Ok x) h = refl
 seen_no_fault f (Err e) h = h
 

@@ -8,7 +8,7 @@ use Rattle.zarrs_codec.specs.CoordinateMap.{CoordinateMap}
 use Rattle.zarrs_codec.specs.MappedSelection.{image_of}
 use Rattle.zarrs_codec.specs.StorageState.{StorageState, after_reading}
 
-first_false : (a b : Bool) → (a || b) ≡ false → a ≡ false
+pub first_false : (a b : Bool) → (a || b) ≡ false → a ≡ false
 first_false true b h = absurd (cc)
 first_false false b h = refl
 

@@ -1,5 +1,5 @@
 -- Transposed elements are never absent, so nothing stands under absent ones.
-use Rattle.std.proofs.Common.{◌≡◌, Bool, true, false, Result, None, refl}
+use Rattle.std.proofs.Common.{◌≡◌, false, Result, refl}
 use Rattle.std.specs.Prelude.{is_some}
 use Rattle.zarrs_data_type.specs.ElementType.{ElementType, fixed, text, bytes, optional, inner_of}
 use Rattle.zarrs_array_bytes.specs.Blank.{KeepsBlanks}

@@ -1,14 +1,10 @@
 -- Writers over the writers of encoded chunks.
-use Rattle.std.proofs.Common.{◌≡◌, Bool, true, false, Option, Some, Result, Ok, Err, refl, inl, IfErr, ◌||◌}
+use Rattle.std.proofs.Common.{◌≡◌, false, Option, Some, Result, Ok, Err, refl, inl, IfErr}
 use Rattle.zarrs_chunk.specs.Answer.{◌>>=◌, Answers, memory, fault, memory_or_fault, seen}
 use Rattle.zarrs_chunk.specs.declared.codec_error.CodecError.{CodecError}
 use Rattle.zarrs_codec.specs.ArrayWriter.{IsRefusedWrite}
 use Rattle.zarrs_codec.specs.StorageState.{StorageState}
-use Rattle.zarrs_array_to_array.proofs.Stages.{left_alone}
-
-first_false : (a b : Bool) → (a || b) ≡ false → a ≡ false
-first_false true b h = absurd (cc)
-first_false false b h = refl
+use Rattle.zarrs_array_to_array.proofs.Stages.{left_alone, first_false}
 
 -- what is written at the encoded indexer is what is written
 pub passed_write : {T V W : Type 0} (view : T → Option W) (r : Result T CodecError) (image : Result V CodecError) (v : V) (f : V → Result W CodecError) → image ≡ Ok v → Answers memory_or_fault view r (seen Some (f v)) → Answers memory_or_fault view r (seen Some (image >>= f))

@@ -2,7 +2,6 @@
 use Rattle.std.specs.Prelude.{◌≡◌, ℕ, ◌+◌, ◌*◌, ◌-◌, ◌<◌, ◌≤◌, List, Vec, [], ◌∷◌, ◌++◌, length, map, slice_index, Result, OnOk}
 use Rattle.std.specs.List.{between, flat_map}
 use Rattle.std.proofs.Common.{Global}
-use Rattle.zarrs_array_bytes.specs.Elements.{piece}
 use Rattle.zarrs_array_to_array.specs.declared.axis.Axis.{Axis}
 use Rattle.zarrs_array_to_array.specs.Orders.{permuted}
 use Rattle.zarrs_array_to_array.specs.Strides.{row, next_rows, strides, stepped, last_tuple, all_stepped}
@@ -58,10 +57,6 @@ stretch len size items place = between (place * size) (place * size + len) items
 -- so many from the element at each of these places on
 abbrev pub stretches_at : ℕ → ℕ → List ℕ → List ℕ → List ℕ
 stretches_at len size items places = flat_map (stretch len size items) places
-
--- the bytes of the elements at these places
-abbrev pub pieces_at : ℕ → List ℕ → List ℕ → List ℕ
-pieces_at size items places = flat_map (piece size items) places
 
 -- so many bytes are there from each element of a row on: it has `count` elements, a step apart
 abbrev pub RowInside : ℕ → ℕ → ℕ → ℕ → ℕ → List ℕ → Type 0

@@ -19,15 +19,13 @@ use Rattle.zarrs_array_to_array.specs.ArrayToArrayCodec.{ArrayMapping, transpose
 use Rattle.zarrs_array_to_array.specs.EncodedSelection.{drops_empty_range, squeezed_lengths, selection_in}
 use Rattle.zarrs_array_to_array.specs.Orders.{permuted}
 use Rattle.zarrs_array_to_array.specs.Squeeze.{kept_indices, or_one, or_zero, squeezed_tuple}
+use Rattle.zarrs_chunk.proofs.Products.{is_zero}
+use Rattle.zarrs_array_bytes.specs.SameBytesLaws.{both_true}
 
 -- ---- boxes without their axes of size one
 
 one_left : (size start len : ℕ) → (size == 1) ≡ true → start + len ≤ size → (len == 0) ≡ false → len ≡ 1
 one_left size start len one h some = grind (arith, nat_tests)
-
-both_true : (a b : Bool) → a && b ≡ true → (a ≡ true) × (b ≡ true)
-both_true true b h = (refl, h)
-both_true false b h = absurd (false≢true h)
 
 neither : (a b c : Bool) → (a && b) || c ≡ false → a ≡ true → (b ≡ false) × (c ≡ false)
 neither true false false h e = (refl, refl)
@@ -60,22 +58,19 @@ kept_product (size ∷ sizes) (start ∷ starts) (len ∷ lengths) h some =
       | inr other ↦ rw other (ap (λ n. len * n) rest)
     ]
 
-is_nothing : (len : ℕ) → (len == 0) ≡ true → len ≡ 0
-is_nothing len h = grind (arith, nat_tests)
-
 emptied_product : (sizes lengths : List ℕ) → drops_empty_range sizes lengths ≡ true → product lengths ≡ 0
 emptied_product [] lengths h = absurd (false≢true h)
 emptied_product (size ∷ sizes) [] h = absurd (false≢true h)
 emptied_product (size ∷ sizes) (len ∷ lengths) h =
     elim (cases_Bool (size == 1 && len == 0)) [
-      | inl empty ↦ ap (λ n. n * product lengths) (is_nothing len (both_true (size == 1) (len == 0) empty).1) ∙ omega arith
+      | inl empty ↦ ap (λ n. n * product lengths) (is_zero len (both_true (size == 1) (len == 0) empty).1) ∙ omega arith
       | inr some ↦ ap (λ n. len * n) (emptied_product sizes lengths (rw some at h)) ∙ omega arith
     ]
 
 product-nothing : (n : ℕ) → product (replicate (suc n) 0) ≡ 0
 product-nothing n = omega arith
 
-product-or_one : (xs : List ℕ) → product (or_one xs) ≡ product xs
+pub product-or_one : (xs : List ℕ) → product (or_one xs) ≡ product xs
 product-or_one [] = refl
 product-or_one (x ∷ xs) = refl
 
@@ -109,7 +104,7 @@ kept_axes (size ∷ sizes) (x ∷ xs) (y ∷ ys) h =
     let rest : length (kept_indices sizes xs) ≡ length (kept_indices sizes ys) = kept_axes sizes xs ys (omega arith) in
     elim (cases_Bool (size == 1)) [ inl one ↦ rw one rest | inr other ↦ rw other (ap suc rest) ]
 
-or_axes : (xs ys : List ℕ) → length xs ≡ length ys → length (or_zero xs) ≡ length (or_one ys)
+pub or_axes : (xs ys : List ℕ) → length xs ≡ length ys → length (or_zero xs) ≡ length (or_one ys)
 or_axes [] [] h = refl
 or_axes [] (y ∷ ys) h = absurd (omega arith)
 or_axes (x ∷ xs) [] h = absurd (omega arith)

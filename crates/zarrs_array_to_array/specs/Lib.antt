@@ -9,6 +9,7 @@ pub mod ArrayToArrayCodec
 pub mod ChainLaws
 pub mod Strides
 pub mod TransposeCodec
+pub mod MovedLists
 pub mod Mapping
 pub mod TupleLaws
 pub mod EncodedSelection

@@ -154,7 +154,7 @@ impl ArrayToArrayCodec {
         data_type: &DataType,
         fill_value: &FillValue,
     ) -> Result<(ArrayToArrayCodec, ChunkShape), CodecError>
-        ensures { MakesParts mapping_of self.now (mapping_of self.now)
+        ensures answer { MakesParts mapping_of self.now (mapping_of self.now)
             (form_of shape.now data_type.now fill_value.now) result }
     {
         self.encoded_representation(alloc, shape, data_type, fill_value)?;

@@ -47,7 +47,7 @@ fn push_axis(axes: &mut Vec<Axis>, axis: Axis) -> Result<(), AllocError>
 }
 
 fn push_one(axes: &mut Vec<Axis>, axis: Axis) -> Result<(), AllocError>
-    ensures { OnOk result (axes.new.items ≡ axes.old.items ++ axis ∷ []) }
+    ensures appended { OnOk result (axes.new.items ≡ axes.old.items ++ axis ∷ []) }
 {
     axes.push(axis)?;
     Ok(())
@@ -66,7 +66,7 @@ fn push_behind(axes: &mut Vec<Axis>, first: Axis, second: Axis) -> Result<(), Al
 }
 
 fn push_both(axes: &mut Vec<Axis>, first: Axis, second: Axis) -> Result<(), AllocError>
-    ensures { OnOk result (axes.new.items ≡ axes.old.items ++ first ∷ second ∷ []) }
+    ensures appended { OnOk result (axes.new.items ≡ axes.old.items ++ first ∷ second ∷ []) }
 {
     axes.push(first)?;
     axes.push(second)?;
@@ -90,7 +90,9 @@ fn axes_in_order(
         (λ v. reach v.items ≤ reach (axes_of sizes.now steps.now order.now)) }
     ensures plane { IfOk result (λ v. 2 ≤ length v.items) }
 {
-    let mut axes = vec![in alloc; Axis { size: 1, step: 0 }; 2]?;
+    let mut axes = Vec::with_capacity(alloc, order.len() + 2)?;
+    let one = Axis { size: 1, step: 0 };
+    push_both(&mut axes, one, one)?;
     for axis in order {
         let next = Axis {
             size: sizes[*axis] as usize,
@@ -121,7 +123,7 @@ pub(crate) fn ordered_axes(
 /// The places of all tuples over the axes, the last axis fastest.
 pub(crate) fn places_over(alloc: Global, axes: &[Axis]) -> Result<Vec<u64>, AllocError>
     requires fits { reach axes.now < 2 ^ 64 }
-    ensures { IfOk result (λ v. v.items ≡ behind axes.now (0 ∷ [])) }
+    ensures places { IfOk result (λ v. v.items ≡ behind axes.now (0 ∷ [])) }
 {
     let mut places = vec![in alloc; 0]?;
     let mut rows = Vec::new(alloc);

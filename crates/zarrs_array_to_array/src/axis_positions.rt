@@ -6,8 +6,8 @@ use std::alloc::{AllocError, Global};
 
 /// Where each axis stands in the order.
 pub(crate) fn positions(alloc: Global, axes: &[usize]) -> Result<Vec<usize>, AllocError>
-    requires { is_order axes.now ≡ true }
-    ensures { IfOk result (λ v. v.items ≡ inverse axes.now) }
+    requires order { is_order axes.now ≡ true }
+    ensures value { IfOk result (λ v. v.items ≡ inverse axes.now) }
 {
     let mut positions = vec![in alloc; 0; axes.len()]?;
     for (place, axis) in axes.iter().enumerate() {

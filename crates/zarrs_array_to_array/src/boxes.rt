@@ -11,7 +11,7 @@ use zarrs_chunk::{ArrayIndices, ArraySubset, ChunkShape, CodecError, unravel_ind
 
 /// The tuple that has this row-major number in a chunk.
 fn tuple_at(alloc: Global, number: u64, shape: &ChunkShape) -> Result<ArrayIndices, CodecError>
-    requires { number < product shape.now }
+    requires known { number < product shape.now }
     ensures answer { Gives (λ tuple. tuple.items) result (Ok (tuple_of_number shape.now number)) }
 {
     match unravel_index(alloc, number, shape)? {
@@ -26,7 +26,7 @@ pub(crate) fn tuples_at(
     numbers: &[u64],
     shape: &ChunkShape,
 ) -> Result<Vec<ArrayIndices>, CodecError>
-    requires { All (λ number. number < product shape.now) numbers.now }
+    requires known { All (λ number. number < product shape.now) numbers.now }
     ensures answer { Gives tuples_in result (Ok (map (tuple_of_number shape.now) numbers.now)) }
 {
     let mut tuples = Vec::with_capacity(alloc, numbers.len())?;
@@ -46,7 +46,7 @@ fn indices_behind(
     requires order { All (λ axis. axis < length starts.now) order.now }
     requires axes { length tuple.now ≡ length starts.now }
     requires fits { EndsFit starts.now tuple.now }
-    ensures { IfOk result
+    ensures value { IfOk result
         (λ v. v.items ≡ permuted_of order.now (indices_behind_of starts.now tuple.now)) }
 {
     let mut indices = Vec::with_capacity(alloc, order.len())?;

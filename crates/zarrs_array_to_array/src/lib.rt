@@ -26,5 +26,5 @@ pub use reshape::reshape_codec_partial::ReshapeCodecPartial;
 pub use squeeze::squeeze_codec::{SqueezeCodec, squeezed_subset};
 pub use squeeze::squeeze_codec_partial::SqueezeCodecPartial;
 pub use strides::permuted;
-pub use transpose::transpose_codec::TransposeCodec;
+pub use transpose::transpose_codec::{TransposeCodec, transposed};
 pub use transpose::transpose_codec_partial::TransposeCodecPartial;

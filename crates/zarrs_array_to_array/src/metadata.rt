@@ -85,7 +85,7 @@ impl ReshapeCodec {
 
 /// Whether the codec `squeeze` is known by this name.
 fn is_squeeze(name: &str) -> bool
-    ensures { result ≡ is_squeeze_name name.now }
+    ensures value { result ≡ is_squeeze_name name.now }
 {
     name == "zarrs.squeeze" || name == "https://codec.zarrs.dev/array_to_array/squeeze"
 }

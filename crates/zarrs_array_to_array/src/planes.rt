@@ -1,7 +1,8 @@
 //! The elements of a chunk, appended row by row and plane by plane.
 ghost use Rattle.std.specs.Prelude.{◌≡◌, ◌<◌, ◌≤◌, ◌+◌, ◌*◌, ◌∷◌, [], length, IfOk};
 ghost use Rattle.zarrs_array_to_array.specs.Strides.{row, next_rows};
-ghost use Rattle.zarrs_array_to_array.specs.Axes.{behind, reach, axes_places, plane_places, plane_end, stretches_at, pieces_at, Appends};
+ghost use Rattle.zarrs_array_bytes.specs.Pieces.{pieces_at};
+ghost use Rattle.zarrs_array_to_array.specs.Axes.{behind, reach, axes_places, plane_places, plane_end, stretches_at, Appends};
 
 use crate::axis::Axis;
 use crate::row_groups::append_row;
@@ -9,6 +10,9 @@ use std::alloc::{AllocError, Global};
 
 /// How many bytes a row of a block has, which is what memory brings at once.
 const BLOCK: usize = 64;
+
+/// How many bytes stay in the nearest cache, so that blocks of them bring nothing.
+const NEAR: usize = 16384;
 
 /// Appends the columns of a block, one after another: it has `count` rows of `width` elements.
 fn append_columns(
@@ -20,7 +24,7 @@ fn append_columns(
 ) -> Result<(), AllocError>
     requires sized { 0 < size }
     requires whole { length block.now ≡ count * (width * size) }
-    ensures { Appends out.old out.new result
+    ensures appended { Appends out.old out.new result
         (pieces_at size block.now (next_rows width count (row 0 1 width))) }
 {
     for column in 0..width {
@@ -45,7 +49,7 @@ fn append_stretches(
     requires sized { 0 < size }
     requires axes { 1 ≤ length axes.now }
     requires inside { (front + reach axes.now) * size + len ≤ length bytes.now }
-    ensures { Appends out.old out.new result
+    ensures appended { Appends out.old out.new result
         (stretches_at len size bytes.now (behind axes.now (front ∷ []))) }
 {
     let first = axes[0];
@@ -81,7 +85,7 @@ fn append_turned(
     requires axes { 1 ≤ length axes.now }
     requires wide { 0 < width }
     requires inside { (front + reach axes.now) * size + width * size ≤ length bytes.now }
-    ensures { Appends out.old out.new result
+    ensures appended { Appends out.old out.new result
         (pieces_at size bytes.now (behind axes.now (row front 1 width))) }
 {
     let len = width * size;
@@ -89,6 +93,16 @@ fn append_turned(
     append_stretches(block, bytes, size, front, axes, len)?;
     let count = block.len() / len;
     append_columns(out, block.as_slice(), size, count, width)
+}
+
+/// How many bytes a block has whose rows have so many, or `usize::MAX` where they are more. It has a row
+/// for each tuple over the axes.
+fn block_room(axes: &[Axis], len: usize) -> usize {
+    let mut room = len;
+    for axis in axes {
+        room = room.saturating_mul(axis.size);
+    }
+    room
 }
 
 /// Appends `count` neighbouring columns, one after another, so many bytes wide blocks at a time.
@@ -106,9 +120,11 @@ fn append_blocks(
     requires axes { 1 ≤ length axes.now }
     requires wide { 0 < wide }
     requires inside { (front + reach axes.now + count) * size ≤ length bytes.now }
-    ensures { Appends out.old out.new result
+    ensures appended { Appends out.old out.new result
         (pieces_at size bytes.now (behind axes.now (row front 1 count))) }
 {
+    block.clear();
+    block.reserve_exact(block_room(axes, wide.saturating_mul(size)))?;
     let mut done = 0;
     while done < count {
         let width = wide.min(count - done);
@@ -129,7 +145,7 @@ fn append_rows(
 ) -> Result<(), AllocError>
     requires sized { 0 < size }
     requires inside { plane_end front rows columns * size ≤ length bytes.now }
-    ensures { Appends out.old out.new result
+    ensures appended { Appends out.old out.new result
         (pieces_at size bytes.now (plane_places front rows columns)) }
 {
     for index in 0..rows.size {
@@ -150,7 +166,7 @@ fn append_plane(
 ) -> Result<(), AllocError>
     requires sized { 0 < size }
     requires inside { plane_end front rows columns * size ≤ length bytes.now }
-    ensures { Appends out.old out.new result
+    ensures appended { Appends out.old out.new result
         (pieces_at size bytes.now (plane_places front rows columns)) }
 {
     if columns.step == 1 {
@@ -173,12 +189,12 @@ fn append_axes(
     requires sized { 0 < size }
     requires plane { 2 ≤ length axes.now }
     requires inside { (front + reach axes.now + 1) * size ≤ length bytes.now }
-    ensures { Appends out.old out.new result
+    ensures appended { Appends out.old out.new result
         (pieces_at size bytes.now (behind axes.now (front ∷ []))) }
 {
     let first = axes[0];
     let wide = (BLOCK / size).min(first.size / 2);
-    if first.step == 1 && wide > 1 {
+    if first.step == 1 && wide > 1 && bytes.len() > NEAR {
         return append_blocks(out, block, bytes, size, front, &axes[1..], first.size, wide);
     }
     if axes.len() == 2 {
@@ -207,7 +223,7 @@ pub(crate) fn gather_axes(
     requires sized { 0 < size }
     requires plane { 2 ≤ length axes.now }
     requires inside { (reach axes.now + 1) * size ≤ length bytes.now }
-    ensures { IfOk result (λ v. v.items ≡ pieces_at size bytes.now (axes_places axes.now)) }
+    ensures value { IfOk result (λ v. v.items ≡ pieces_at size bytes.now (axes_places axes.now)) }
 {
     let mut out = Vec::with_capacity(alloc, bytes.len())?;
     let mut block = Vec::new(alloc);

@@ -15,7 +15,7 @@ fn put_row(items: &mut [u8], bytes: &[u8], size: usize, front: usize, axis: Axis
     requires len { length items.old ≡ axis.size * len }
     requires sized { 0 < size }
     requires inside { RowInside len size front axis.step axis.size bytes.now }
-    ensures { items.new ≡ stretches_at len size bytes.now (row front axis.step axis.size) }
+    ensures written { items.new ≡ stretches_at len size bytes.now (row front axis.step axis.size) }
 {
     for index in 0..axis.size {
         let start = index * len;
@@ -38,7 +38,7 @@ fn append_group<const BYTES: usize>(
     requires short { len ≤ 16 }
     requires sized { 0 < size }
     requires inside { RowInside len size front step 16 bytes.now }
-    ensures { Appends out.old out.new result
+    ensures appended { Appends out.old out.new result
         (stretches_at len size bytes.now (row front step 16)) }
 {
     let mut group = [0u8; BYTES];
@@ -63,7 +63,7 @@ fn append_groups<const BYTES: usize>(
     requires fits { groups * 16 < 2 ^ 64 }
     requires sized { 0 < size }
     requires inside { RowInside len size front step (groups * 16) bytes.now }
-    ensures { Appends out.old out.new result
+    ensures appended { Appends out.old out.new result
         (stretches_at len size bytes.now (row front step (groups * 16))) }
 {
     for index in 0..groups {
@@ -84,7 +84,7 @@ fn append_row_of(
 ) -> Result<(), AllocError>
     requires sized { 0 < size }
     requires inside { RowInside len size front axis.step axis.size bytes.now }
-    ensures { Appends out.old out.new result
+    ensures appended { Appends out.old out.new result
         (stretches_at len size bytes.now (row front axis.step axis.size)) }
 {
     for index in 0..axis.size {
@@ -109,7 +109,7 @@ fn append_grouped_row<const BYTES: usize>(
     requires short { len ≤ 16 }
     requires sized { 0 < size }
     requires inside { RowInside len size front axis.step axis.size bytes.now }
-    ensures { Appends out.old out.new result
+    ensures appended { Appends out.old out.new result
         (stretches_at len size bytes.now (row front axis.step axis.size)) }
 {
     let groups = axis.size / GROUP;
@@ -137,7 +137,7 @@ pub(crate) fn append_row(
 ) -> Result<(), AllocError>
     requires sized { 0 < size }
     requires inside { RowInside len size front axis.step axis.size bytes.now }
-    ensures { Appends out.old out.new result
+    ensures appended { Appends out.old out.new result
         (stretches_at len size bytes.now (row front axis.step axis.size)) }
 {
     match len {

@@ -1,8 +1,7 @@
 -- Values that have the same bytes at some places are read alike there.
-use Rattle.std.proofs.Common.{◌≡◌, ℕ, zero, suc, ◌+◌, ◌-◌, ◌*◌, ◌≤◌, true, nat_le, Option, Some, List, [], ◌∷◌, ◌++◌, length, take, drop, map, arith, refl, ap, sym, ◌∙◌}
+use Rattle.std.proofs.Common.{◌≡◌, ℕ, zero, suc, ◌+◌, ◌-◌, ◌*◌, ◌≤◌, true, Option, Some, List, [], ◌∷◌, ◌++◌, length, take, drop, map, arith, refl, ap, sym, ◌∙◌}
 use Rattle.std.specs.List.{All, list_all, range_with_len}
 use Rattle.std.proofs.lemmas.Bool.{and_from}
-use Rattle.std.proofs.lemmas.Bool.Decides.{nat_tests}
 use Rattle.std.proofs.lemmas.List.{drop_more, get_or-append-add, get_or_append_left, length-append}
 use Rattle.std.proofs.lemmas.List.Elements.{All-head, All-tail, All-weaker}
 use Rattle.zarrs_data_type.specs.Element.{plain}
@@ -14,18 +13,19 @@ use Rattle.zarrs_bytes.specs.ByteOrder.{bytes_in_order}
 use Rattle.zarrs_bytes.specs.BytesCodec.{bytes_element}
 use Rattle.zarrs_bytes.specs.PartialRead.{place_bytes, place_size, has_place, read_places}
 use Rattle.zarrs_bytes.proofs.Coding.{ok}
+use Rattle.zarrs_chunk.proofs.Inside.{le_test}
 
 -- ---- a list in two parts
 
-All-first : {X : Type 0} (P : X → Type 0) (xs ys : List X) → All P (xs ++ ys) → All P xs
+pub All-first : {X : Type 0} (P : X → Type 0) (xs ys : List X) → All P (xs ++ ys) → All P xs
 All-first P xs ys h k d l = rw (← get_or_append_left xs ys d k l) (h k d (omega (arith, length-append xs ys, l)))
 
-All-second : {X : Type 0} (P : X → Type 0) (xs ys : List X) → All P (xs ++ ys) → All P ys
+pub All-second : {X : Type 0} (P : X → Type 0) (xs ys : List X) → All P (xs ++ ys) → All P ys
 All-second P xs ys h k d l = rw (← get_or-append-add xs ys k d) (h (length xs + k) d (omega (arith, length-append xs ys, l)))
 
 -- ---- one place
 
-same_taken : (value other : List ℕ) (start len : ℕ) → All (SameByte value other) (range_with_len start len) → take len (drop start value) ≡ take len (drop start other)
+pub same_taken : (value other : List ℕ) (start len : ℕ) → All (SameByte value other) (range_with_len start len) → take len (drop start value) ≡ take len (drop start other)
 same_taken value other start zero h = refl
 same_taken value other start (suc len) h =
     let one : SameByte value other start = All-head (SameByte value other) start (range_with_len (start + 1) len) h in
@@ -45,9 +45,6 @@ reaches value other start (suc len) h =
 has_bytes : (value other : List ℕ) (size place : ℕ) → All (SameByte value other) (range_with_len (place * size) size) → place * size + size ≤ length value
 has_bytes value other zero place h = omega arith
 has_bytes value other (suc size) place h = reaches value other (place * suc size) size h
-
-le_test : (a b : ℕ) → a ≤ b → nat_le a b ≡ true
-le_test a b h = grind (arith, nat_tests)
 
 same_piece : (value other : List ℕ) (size place : ℕ) → All (SameByte value other) (range_with_len (place * size) size) → piece size value place ≡ piece size other place
 same_piece value other size place h =

@@ -1,9 +1,7 @@
 -- Runs of elements as runs of their bytes.
-use Rattle.std.proofs.Common.{◌≡◌, ℕ, zero, suc, ◌+◌, ◌*◌, ◌<◌, ◌≤◌, ◌^◌, ◌==◌, max, true, nat_lt, Result, Ok, List, [], ◌∷◌, ◌++◌, length, take, drop, set, get_or, arith, refl, ap, ap₂, sym, ◌∙◌}
+use Rattle.std.proofs.Common.{◌≡◌, ℕ, zero, suc, ◌+◌, ◌*◌, ◌<◌, ◌^◌, max, true, nat_lt, Result, Ok, List, [], ◌∷◌, ◌++◌, length, take, drop, set, get_or, arith, refl, ap, ap₂, sym, ◌∙◌}
 use Rattle.std.specs.List.{All, list_all, range_with_len}
 use Rattle.std.proofs.Math.Seq.{set-append_seam}
-use Rattle.std.proofs.Math.Nat.{mul-le-mul_left}
-use Rattle.std.proofs.lemmas.Bool.Decides.{nat_tests}
 use Rattle.std.proofs.lemmas.List.{drop_more, take_more, map-append, length-map, length-take-le, append_assoc}
 use Rattle.std.proofs.lemmas.List.Elements.{All-tail}
 use Rattle.zarrs_chunk.specs.Runs.{joined_runs}
@@ -13,6 +11,9 @@ use Rattle.zarrs_array_bytes.specs.Update.{update}
 use Rattle.zarrs_bytes.specs.PartialRead.{place_bytes}
 use Rattle.zarrs_bytes.specs.PartialWrite.{end_of_places, with_place_bytes, byte_runs}
 use Rattle.zarrs_bytes.proofs.Ranges.{place_bytes-run, place_bytes-append, place_lengths}
+use Rattle.zarrs_chunk.proofs.WholeAxes.{positive_whole}
+use Rattle.zarrs_codec.specs.SampleLaws.{eq_test}
+use Rattle.zarrs_chunk.proofs.Inside.{lt_test}
 
 -- ---- one run after another, in place
 
@@ -75,26 +76,14 @@ end_of_places-run size start (suc (suc count)) h =
     let all : suc (suc count) * size ≡ size + suc count * size = omega arith in
     omega (arith, rest, next, all)
 
-positive_product : (a b : ℕ) → 0 < a → 0 < b → 0 < a * b
-positive_product a b p q =
-    let one : 1 ≤ b = omega arith in
-    let more : a * 1 ≤ a * b = mul-le-mul_left a one in
-    omega (arith, more)
-
 pub byte_runs-end : (size : ℕ) (runs : List (ℕ × ℕ)) → 0 < size → All (λ run. 0 < run.1) runs → furthest_end (byte_runs size runs) ≡ end_of_places size (joined_runs runs)
 byte_runs-end size [] p h = refl
 byte_runs-end size (run ∷ runs) p h =
     let filled : 0 < run.1 = h 0 run (omega arith) in
     let here : end_of (run.0 * size) (run.1 * size) ≡ end_of_places size (range_with_len run.0 run.1)
-    = end_of_filled (run.0 * size) (run.1 * size) (positive_product run.1 size filled p) ∙ sym (end_of_places-run size run.0 run.1 filled) in
+    = end_of_filled (run.0 * size) (run.1 * size) (positive_whole run.1 size filled p) ∙ sym (end_of_places-run size run.0 run.1 filled) in
     ap₂ (λ a b. max a b) here (byte_runs-end size runs p (All-tail (λ (r : ℕ × ℕ). 0 < r.1) run runs h))
     ∙ sym (end_of_places-append size (range_with_len run.0 run.1) (joined_runs runs))
-
-lt_test : (a b : ℕ) → a < b → nat_lt a b ≡ true
-lt_test a b h = grind (arith, nat_tests)
-
-eq_test : (a b : ℕ) → a ≡ b → (a == b) ≡ true
-eq_test a b h = grind (arith, nat_tests)
 
 byte_runs-fit : (size : ℕ) (runs : List (ℕ × ℕ)) → All (λ run. (run.0 + run.1) * size < 2 ^ 64) runs → list_all (λ piece. nat_lt (piece.0 + piece.1) (2 ^ 64)) (byte_runs size runs) ≡ true
 byte_runs-fit size [] h = refl
@@ -103,7 +92,7 @@ byte_runs-fit size (run ∷ runs) h =
     let spread : (run.0 + run.1) * size ≡ run.0 * size + run.1 * size = omega arith in
     rw (lt_test (run.0 * size + run.1 * size) (2 ^ 64) (omega (arith, here, spread))) (byte_runs-fit size runs (All-tail (λ (r : ℕ × ℕ). (r.0 + r.1) * size < 2 ^ 64) run runs h))
 
-abbrev ready : Result (Unit {0}) CodecError
+abbrev pub ready : Result (Unit {0}) CodecError
 ready = Ok tt
 
 -- the bytes of runs can be written

@@ -109,7 +109,7 @@ read_refused size stored xs ys e h =
 pub joined_runs-append : (xs ys : List (ℕ × ℕ)) → joined_runs (xs ++ ys) ≡ joined_runs xs ++ joined_runs ys
 joined_runs-append xs ys = flat_map-append (λ (run : ℕ × ℕ). range_with_len run.0 run.1) xs ys
 
-sure_parts : (sure : Option (ℕ → Bool)) (xs ys : List ℕ) → are_sure sure (xs ++ ys) ≡ true → (are_sure sure xs ≡ true) × (are_sure sure ys ≡ true)
+pub sure_parts : (sure : Option (ℕ → Bool)) (xs ys : List ℕ) → are_sure sure (xs ++ ys) ≡ true → (are_sure sure xs ≡ true) × (are_sure sure ys ≡ true)
 sure_parts None xs ys h = absurd cc
 sure_parts (Some sure) xs ys h = and_parts (list_all sure xs) (list_all sure ys) (sym (list_all-append sure xs ys) ∙ h)
 

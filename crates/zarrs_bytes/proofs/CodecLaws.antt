@@ -1,10 +1,9 @@
 -- The laws of the codec.
 use Rattle.zarrs_data_type.specs.Form.{form_of}
-use Rattle.std.proofs.Common.{◌≡◌, ◌==◌, ◌↔◌, ℕ, suc, ◌+◌, ◌*◌, ◌<◌, ◌≤◌, Bool, true, nat_le, Option, Some, Ok, List, [], ◌∷◌, length, map, get_or, arith, refl, ap, sym, ◌∙◌, subst}
+use Rattle.std.proofs.Common.{◌≡◌, ◌==◌, ◌↔◌, ℕ, suc, ◌+◌, ◌*◌, ◌<◌, ◌≤◌, Bool, true, Option, Some, Ok, List, [], ◌∷◌, length, map, get_or, arith, refl, ap, sym, ◌∙◌, subst}
 use Rattle.std.specs.List.{All, list_all, range_with_len}
 use Rattle.std.proofs.Math.Nat.{mul-le-mul_right}
 use Rattle.std.proofs.lemmas.Bool.{and_from}
-use Rattle.std.proofs.lemmas.Bool.Decides.{nat_tests}
 use Rattle.std.proofs.lemmas.List.{length-map}
 use Rattle.std.proofs.lemmas.List.FromFn.{length-range_with_len, get_or-map-range_with_len}
 use Rattle.zarrs_chunk.specs.Answer.{demand}
@@ -18,6 +17,7 @@ use Rattle.zarrs_bytes.specs.BytesCodec.{bytes_length, bytes_element, spelling, 
 use Rattle.zarrs_bytes.specs.PartialRead.{has_place, place_size, read_places}
 use Rattle.zarrs_bytes.proofs.Coding.{bind_ok, ok, taken}
 use Rattle.zarrs_bytes.proofs.Exact.{decoded_only, stands_length}
+use Rattle.zarrs_chunk.proofs.Inside.{le_test}
 
 pub written_stands : (order : Option Endianness) (sizes : List ℕ) (type : ElementType) (fill value : List ℕ) (chunk : Chunk) → BytesWritten order (form_of sizes type fill) value chunk → BytesStands order (form_of sizes type fill) value chunk
 written_stands order sizes type fill value chunk written = record {
@@ -27,7 +27,7 @@ written_stands order sizes type fill value chunk written = record {
   value_is = written.value_is;
 }
 
-chunk_is : (x y : Chunk) → ok x ≡ ok y → x ≡ y
+pub chunk_is : (x y : Chunk) → ok x ≡ ok y → x ≡ y
 chunk_is x y e = cc
 
 pub stands_for_one : (order : Option Endianness) (sizes : List ℕ) (type : ElementType) (fill value : List ℕ) (chunk other : Chunk) → BytesStands order (form_of sizes type fill) value chunk → BytesStands order (form_of sizes type fill) value other → chunk ≡ other
@@ -49,9 +49,6 @@ has_represented_length order sizes type fill value chunk len written e =
 
 -- ---- reading selects
 
-le_test : (a b : ℕ) → a ≤ b → nat_le a b ≡ true
-le_test a b h = grind (arith, nat_tests)
-
 all_inside : (type : ElementType) (value places : List ℕ) (count : ℕ) → length value ≡ count * place_size type → All (λ place. place < count) places → list_all (has_place type value) places ≡ true
 all_inside type value [] count long h = refl
 all_inside type value (place ∷ places) count long h =
@@ -60,7 +57,7 @@ all_inside type value (place ∷ places) count long h =
     and_from _ _ (le_test _ _ (omega (arith, mul-le-mul_right (place_size type) next, long)))
     (all_inside type value places count long (λ k d l. h (suc k) d (omega arith)))
 
-read_each : (f : ℕ → Element) (count : ℕ) (places : List ℕ) → All (λ place. place < count) places → map f places ≡ select (map f (range_with_len 0 count)) places
+pub read_each : (f : ℕ → Element) (count : ℕ) (places : List ℕ) → All (λ place. place < count) places → map f places ≡ select (map f (range_with_len 0 count)) places
 read_each f count [] h = refl
 read_each f count (place ∷ places) h =
     let lt : place < count = h 0 place (omega arith) in

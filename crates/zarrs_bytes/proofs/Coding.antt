@@ -51,7 +51,7 @@ pub record IsTaken (order : Option Endianness) (sizes : List ℕ) (width compone
   pub filled : fill_fits (fixed width components sign) fill ≡ true
   pub order_is : has_order order width ≡ true
 
-number_is : (n m : ℕ) → ok n ≡ ok m → n ≡ m
+pub number_is : (n m : ℕ) → ok n ≡ ok m → n ≡ m
 number_is n m e = cc
 
 pub taken : (order : Option Endianness) (sizes : List ℕ) (width components : ℕ) (sign : Bool) (fill : List ℕ) (len : ℕ) → bytes_length order (form_of sizes (fixed width components sign) fill) ≡ Ok len → IsTaken order sizes width components sign fill len
@@ -78,7 +78,7 @@ two_steps (Ok a) (Ok b) x y z e f = refl
 two_steps (Ok a) (Err d) x y z e f = absurd cc
 two_steps (Err d) s x y z e f = absurd cc
 
-part_is : (r s : Raw) → ok r ≡ ok s → r ≡ s
+pub part_is : (r s : Raw) → ok r ≡ ok s → r ≡ s
 part_is r s e = cc
 
 fixed_encoded : (order : Option Endianness) (sizes : List ℕ) (width components : ℕ) (sign : Bool) (fill : List ℕ) (raw : Raw) (len : ℕ) → bytes_length order (form_of sizes (fixed width components sign) fill) ≡ Ok len → validity (fixed width components sign) (product sizes) (flen raw) ≡ Ok tt

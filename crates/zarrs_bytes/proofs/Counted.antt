@@ -1,6 +1,6 @@
 -- A container that holds a chunk which a value stands for has as many elements as were asked for.
 use Rattle.zarrs_data_type.specs.Form.{Form, form_of}
-use Rattle.std.proofs.Common.{◌≡◌, ℕ, true, List, Result, Ok, Err, subst, sym, refl, Option, None, Global}
+use Rattle.std.proofs.Common.{◌≡◌, ℕ, List, Result, Ok, Err, subst, sym, refl, Option, None, Global}
 use Rattle.std.specs.Prelude.{IfOk, IsOk}
 use Rattle.std.specs.declared.borrow.CowSlice.{CowSlice}
 use Rattle.zarrs_chunk.specs.ChunkShape.{product}

@@ -67,7 +67,7 @@ encoded_only order sizes text fill value held chunk holds written = absurd cc
 encoded_only order sizes bytes fill value held chunk holds written = absurd cc
 encoded_only order sizes (optional type) fill value held chunk holds written = absurd cc
 
-bytes_are : (x y : List ℕ) → ok x ≡ ok y → y ≡ x
+pub bytes_are : (x y : List ℕ) → ok x ≡ ok y → y ≡ x
 bytes_are x y e = cc
 
 pub encoded_found : (order : Option Endianness) (sizes : List ℕ) (type : ElementType) (fill value : List ℕ) (held : Held) → bytes_value order (form_of sizes type fill) held ≡ Ok value → (chunk : Chunk) × Holds type held chunk × BytesWritten order (form_of sizes type fill) value chunk
@@ -122,7 +122,7 @@ encoded_found order sizes (optional type) fill value held e = absurd cc
 
 -- ---- decoding
 
-chunk_are : (x y : Chunk) → ok x ≡ ok y → y ≡ x
+pub chunk_are : (x y : Chunk) → ok x ≡ ok y → y ≡ x
 chunk_are x y e = cc
 
 pub decoded_found : (order : Option Endianness) (sizes : List ℕ) (type : ElementType) (fill value : List ℕ) (chunk : Chunk) → bytes_chunk order (form_of sizes type fill) value ≡ Ok chunk → BytesStands order (form_of sizes type fill) value chunk

@@ -12,6 +12,7 @@ use Rattle.zarrs_array_bytes.proofs.Pieces.{AllSized, length-concat}
 use Rattle.zarrs_array_bytes.proofs.WriteLemmas.{update-append}
 use Rattle.zarrs_bytes.specs.PartialRead.{place_bytes}
 use Rattle.zarrs_bytes.specs.PartialWrite.{end_of_places, with_place_bytes}
+use Rattle.zarrs_array_bytes.proofs.UpdatedLemmas.{set_sized}
 
 -- one piece replaced
 concat-set : (size : ℕ) (xs : List (List ℕ)) (place : ℕ) (y : List ℕ) → AllSized size xs → place < length xs → take (place * size) (concat xs) ++ (y ++ drop (place * size + size) (concat xs)) ≡ concat (set xs place y)
@@ -35,16 +36,6 @@ concat-set size (x ∷ xs) (suc place) y h l =
     take-past zero n (x ∷ xs) ys e = absurd (omega arith)
     take-past (suc m) n [] ys e = absurd (omega arith)
     take-past (suc m) n (x ∷ xs) ys e = ap (λ k. take k (x ∷ (xs ++ ys))) (let z : suc m + n ≡ suc (m + n) = omega arith in z) ∙ ap (λ zs. x ∷ zs) (take-past m n xs ys (omega arith))
-
-pub set_sized : (size : ℕ) (parts : List (List ℕ)) (place : ℕ) (part : List ℕ) → AllSized size parts → length part ≡ size → AllSized size (set parts place part)
-set_sized size [] place part h e = h
-set_sized size (first ∷ parts) zero part h e = (e, h.1)
-set_sized size (first ∷ parts) (suc place) part h e = (h.0, set_sized size parts place part h.1 e)
-
-pub update_sized : (size : ℕ) (xs : List (List ℕ)) (places : List ℕ) (ys : List (List ℕ)) → AllSized size xs → AllSized size ys → AllSized size (update xs places ys)
-update_sized size xs [] ys h g = h
-update_sized size xs (place ∷ places) [] h g = h
-update_sized size xs (place ∷ places) (y ∷ ys) h g = update_sized size (set xs place y) places ys (set_sized size xs place y h g.0) g.1
 
 one_place : (size : ℕ) (xs : List (List ℕ)) (place : ℕ) (y : List ℕ) → AllSized size xs → length y ≡ size → place < length xs → update (concat xs) (range_with_len (place * size) size) y ≡ concat (set xs place y)
 one_place size xs place y h e l =

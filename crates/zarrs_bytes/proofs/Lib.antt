@@ -1,5 +1,6 @@
 pub mod Alike
 pub mod BytesAt
+pub mod PlaceBatches
 pub mod CodecLaws
 pub mod Coding
 pub mod ReversedPieces
@@ -13,6 +14,7 @@ pub mod Ranges
 pub mod Reading
 pub mod PartReads
 pub mod PartWrites
+pub mod LentElements
 pub mod Spelled
 pub mod Taken
 pub mod Counted

@@ -1,6 +1,6 @@
 -- What is written in part is what the definitions say.
 use Rattle.zarrs_data_type.specs.Form.{form_of}
-use Rattle.std.proofs.Common.{◌≡◌, ℕ, zero, suc, ◌*◌, ◌<◌, ◌^◌, ◌==◌, ◌||◌, Bool, true, nat_lt, Option, Some, None, Result, Ok, Err, List, [], ◌∷◌, length, map, replicate, get_or, arith, refl, ap, ap₂, sym, ◌∙◌, subst}
+use Rattle.std.proofs.Common.{◌≡◌, ℕ, zero, suc, ◌*◌, ◌<◌, ◌^◌, ◌==◌, Bool, true, nat_lt, Option, Some, None, Result, Ok, Err, List, [], ◌∷◌, length, map, replicate, get_or, arith, refl, ap, ap₂, sym, ◌∙◌, subst}
 use Rattle.std.specs.List.{All, concat}
 use Rattle.std.specs.Prelude.{IsOk, IsOkAnd, OnOk, is_ok, is_some}
 use Rattle.std.proofs.lemmas.Bool.Decides.{nat_tests}
@@ -30,7 +30,8 @@ use Rattle.zarrs_bytes.specs.PartialWrite.{bytes_left, filled_chunk, with_place_
 use Rattle.zarrs_codec.specs.ChunkEdits.{data_places, with_elements, edited_chunk}
 use Rattle.zarrs_bytes.proofs.Coding.{ok, taken}
 use Rattle.zarrs_bytes.proofs.Exact.{pieces_of}
-use Rattle.zarrs_bytes.proofs.InPlace.{pieces_written, update_sized}
+use Rattle.zarrs_array_bytes.proofs.UpdatedLemmas.{update_sized}
+use Rattle.zarrs_bytes.proofs.InPlace.{pieces_written}
 use Rattle.zarrs_bytes.proofs.Spelled.{ordered_sized, spelled_chunk-plain, turned_is}
 
 -- ---- new elements of a fixed type
@@ -84,12 +85,12 @@ turned_spelling order sizes (optional type) fill count new t fit = absurd cc
 spelled_pieces : (order : Option Endianness) (width components : ℕ) (chunk : Chunk) (parts : List (List ℕ)) → chunk ≡ map plain parts → spelled_chunk order width components chunk ≡ concat (map (bytes_in_order order width components) parts)
 spelled_pieces order width components chunk parts are = ap (spelled_chunk order width components) are ∙ spelled_chunk-plain order width components parts
 
-ok_length : (r : Result ℕ CodecError) → is_ok r ≡ true → (n : ℕ) × (r ≡ Ok n)
+pub ok_length : (r : Result ℕ CodecError) → is_ok r ≡ true → (n : ℕ) × (r ≡ Ok n)
 ok_length (Ok n) h = (n, refl)
 ok_length (Err e) h = absurd cc
 
 -- pieces of an element's size are elements
-sized_elements : (width components : ℕ) (sign : Bool) (parts : List (List ℕ)) → AllSized (element_size width components) parts → AreElements (fixed width components sign) (map plain parts)
+pub sized_elements : (width components : ℕ) (sign : Bool) (parts : List (List ℕ)) → AllSized (element_size width components) parts → AreElements (fixed width components sign) (map plain parts)
 sized_elements width components sign [] h = λ k d l. absurd (omega arith)
 sized_elements width components sign (part ∷ parts) h = λ k d.
     elim k as (λ j. j < length (map plain (part ∷ parts)) → IsElement (fixed width components sign) (get_or (map plain (part ∷ parts)) j d)) [

@@ -17,6 +17,8 @@ use Rattle.zarrs_array_bytes.specs.Elements.{piece}
 use Rattle.zarrs_codec.specs.ByteRanges.{range_indices, bytes_in_ranges, read_value}
 use Rattle.zarrs_bytes.specs.PartialRead.{place_bytes}
 use Rattle.zarrs_codec.specs.ByteSpan.{ByteSpan}
+use Rattle.zarrs_chunk.proofs.Consecutive.{range-append}
+use Rattle.zarrs_chunk.proofs.Inside.{from_le_test}
 
 -- ---- bytes by number
 
@@ -28,7 +30,7 @@ take_drop-numbers value s (suc n) h =
     let le : (s + 1) + n ≤ length value = omega arith in
     ap (take (suc n)) (drop_more value s 0 lt) ∙ ap (λ (rest : List ℕ). get_or value s 0 ∷ rest) (take_drop-numbers value (s + 1) n le)
 
-below_both : (s b n : ℕ) → s < b → (nat_lt s n && nat_le b n) ≡ nat_le b n
+pub below_both : (s b n : ℕ) → s < b → (nat_lt s n && nat_le b n) ≡ nat_le b n
 below_both s b n h = grind (arith, nat_tests)
 
 -- the end of a run that isn't empty bounds its numbers
@@ -63,15 +65,12 @@ spans_within-numbers n (span ∷ spans) h =
     ∙ ap (λ (b : Bool). b && list_all (λ k. nat_lt k n) (joined_runs spans)) (sym (all_below-range n span.0 span.1 first))
     ∙ sym (list_all-append (λ k. nat_lt k n) (range_with_len span.0 span.1) (joined_runs spans))
 
-from_le : (a b : ℕ) → nat_le a b ≡ true → a ≤ b
-from_le a b h = grind (arith, nat_tests)
-
 -- and their bytes are those with these numbers
 spans_bytes-numbers : (value : List ℕ) (spans : List (ℕ × ℕ)) → spans_within (length value) spans ≡ true → spans_bytes value spans ≡ map (λ k. get_or value k 0) (joined_runs spans)
 spans_bytes-numbers value [] h = refl
 spans_bytes-numbers value (span ∷ spans) h =
     let both = and_parts (nat_le (span.0 + span.1) (length value)) (spans_within (length value) spans) h in
-    ap (λ (l : List ℕ). l ++ spans_bytes value spans) (take_drop-numbers value span.0 span.1 (from_le _ _ both.0))
+    ap (λ (l : List ℕ). l ++ spans_bytes value spans) (take_drop-numbers value span.0 span.1 (from_le_test _ _ both.0))
     ∙ ap (λ (l : List ℕ). map (λ k. get_or value k 0) (range_with_len span.0 span.1) ++ l) (spans_bytes-numbers value spans both.1)
     ∙ sym (map-append (λ k. get_or value k 0) (range_with_len span.0 span.1) (joined_runs spans))
 
@@ -183,13 +182,6 @@ read_value-places size value places ranges positive numbers filled =
 
 -- ---- making the ranges
 
-range_with_len-append : (s m n : ℕ) → range_with_len s (m + n) ≡ range_with_len s m ++ range_with_len (s + m) n
-range_with_len-append s zero n = ap (λ k. range_with_len s k) (let z : 0 + n ≡ n = omega arith in z) ∙ ap (λ k. range_with_len k n) (let z : s ≡ s + 0 = omega arith in z)
-range_with_len-append s (suc m) n =
-    let e : suc m + n ≡ suc (m + n) = omega arith in
-    let f : s + 1 + m ≡ s + suc m = omega arith in
-    ap (range_with_len s) e ∙ ap (λ (l : List ℕ). s ∷ l) (range_with_len-append (s + 1) m n) ∙ ap (λ k. s ∷ (range_with_len (s + 1) m ++ range_with_len k n)) f
-
 -- the bytes of consecutive places are consecutive
 pub place_bytes-run : (size start len : ℕ) → place_bytes size (range_with_len start len) ≡ range_with_len (start * size) (len * size)
 place_bytes-run size start zero = ap (range_with_len (start * size)) (let z : 0 ≡ 0 * size = omega arith in z)
@@ -198,7 +190,7 @@ place_bytes-run size start (suc len) =
     let all : size + len * size ≡ suc len * size = omega arith in
     ap (λ (l : List ℕ). range_with_len (start * size) size ++ l) (place_bytes-run size (start + 1) len)
     ∙ ap (λ k. range_with_len (start * size) size ++ range_with_len k (len * size)) next
-    ∙ sym (range_with_len-append (start * size) size (len * size))
+    ∙ sym (range-append (start * size) size (len * size))
     ∙ ap (range_with_len (start * size)) all
 
 pub place_bytes-append : (size : ℕ) (xs ys : List ℕ) → place_bytes size (xs ++ ys) ≡ place_bytes size xs ++ place_bytes size ys

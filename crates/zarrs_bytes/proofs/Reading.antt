@@ -3,7 +3,6 @@ use Rattle.std.proofs.Common.{◌≡◌, ℕ, ◌+◌, ◌-◌, ◌*◌, ◌<◌
 use Rattle.std.specs.List.{concat, flat_map, list_all}
 use Rattle.std.specs.Prelude.{IsOkAnd}
 use Rattle.std.proofs.lemmas.Bool.{and_parts}
-use Rattle.std.proofs.lemmas.Bool.Decides.{nat_tests}
 use Rattle.std.proofs.lemmas.List.{length-drop, length-take-le}
 use Rattle.zarrs_chunk.specs.Answer.{◌>>=◌, demand, Excused}
 use Rattle.zarrs_chunk.specs.declared.codec_error.CodecError.{CodecError}
@@ -23,17 +22,15 @@ use Rattle.zarrs_bytes.specs.PartialRead.{bytes_at, place_size, IsFilledType, re
 use Rattle.zarrs_bytes.proofs.Coding.{ok}
 use Rattle.zarrs_bytes.proofs.BytesAt.{bytes_if, has_all, none_if}
 use Rattle.zarrs_bytes.proofs.Spelled.{length-turned_bytes, turned_is, Holds-pieces}
+use Rattle.zarrs_chunk.proofs.Inside.{from_le_test}
 
 -- ---- pieces at places
-
-from_le : (a b : ℕ) → nat_le a b ≡ true → a ≤ b
-from_le a b h = grind (arith, nat_tests)
 
 places_sized : (size : ℕ) (value places : List ℕ) → list_all (λ place. nat_le (place * size + size) (length value)) places ≡ true → AllSized size (map (piece size value) places)
 places_sized size value [] h = tt
 places_sized size value (place ∷ places) h =
     let both = and_parts (nat_le (place * size + size) (length value)) (list_all (λ place. nat_le (place * size + size) (length value)) places) h in
-    let within : place * size + size ≤ length value = from_le _ _ both.0 in
+    let within : place * size + size ≤ length value = from_le_test _ _ both.0 in
     let one : place * size + size - place * size ≡ size = omega arith in (
       ap (λ n. length (take n (drop (place * size) value))) one ∙ length-take-le size (drop (place * size) value) (omega (arith, length-drop (place * size) value)),
       places_sized size value places both.1,

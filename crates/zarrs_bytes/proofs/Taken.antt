@@ -1,19 +1,16 @@
 -- What is known of chunks that the codec takes.
 use Rattle.zarrs_data_type.specs.Form.{form_of}
-use Rattle.std.proofs.Common.{◌≡◌, ℕ, ◌+◌, ◌-◌, ◌*◌, ◌<◌, ◌≤◌, ◌^◌, true, Option, Result, Ok, Err, List, arith, refl, ap, sym, ◌∙◌}
+use Rattle.std.proofs.Common.{◌≡◌, ℕ, ◌+◌, ◌-◌, ◌*◌, ◌<◌, ◌≤◌, ◌^◌, true, Option, Ok, List, arith, refl, ap, sym, ◌∙◌}
 use Rattle.std.specs.Prelude.{is_ok, is_some}
 use Rattle.zarrs_chunk.specs.ChunkShape.{product}
-use Rattle.zarrs_chunk.specs.declared.codec_error.CodecError.{CodecError}
 use Rattle.zarrs_data_type.specs.ElementType.{ElementType, fixed, text, bytes, optional, fixed_size_of}
 use Rattle.zarrs_data_type.specs.FillValue.{fill_fits}
 use Rattle.zarrs_data_type.specs.declared.endianness.Endianness.{Endianness}
 use Rattle.zarrs_bytes.specs.BytesCodec.{bytes_length}
 use Rattle.zarrs_bytes.specs.PartialRead.{place_size}
 use Rattle.zarrs_bytes.proofs.Coding.{taken}
-
-ok_is : (r : Result ℕ CodecError) → is_ok r ≡ true → (n : ℕ) × (r ≡ Ok n)
-ok_is (Ok n) h = (n, refl)
-ok_is (Err e) h = absurd cc
+use Rattle.zarrs_bytes.proofs.PartWrites.{ok_length}
+use Rattle.std.proofs.Math.Nat.{add-mul}
 
 -- its type is fixed
 pub taken_fixed : (order : Option Endianness) (sizes : List ℕ) (type : ElementType) (fill : List ℕ) → is_ok (bytes_length order (form_of sizes type fill)) ≡ true → is_some (fixed_size_of type) ≡ true
@@ -25,7 +22,7 @@ taken_fixed order sizes (optional type) fill h = absurd cc
 -- its fill value fits the type
 pub taken_fill : (order : Option Endianness) (sizes : List ℕ) (type : ElementType) (fill : List ℕ) → is_ok (bytes_length order (form_of sizes type fill)) ≡ true → fill_fits type fill ≡ true
 taken_fill order sizes (fixed width components sign) fill h =
-    let n = ok_is (bytes_length order (form_of sizes (fixed width components sign) fill)) h in
+    let n = ok_length (bytes_length order (form_of sizes (fixed width components sign) fill)) h in
     (taken order sizes width components sign fill n.0 n.1).filled
 taken_fill order sizes text fill h = absurd cc
 taken_fill order sizes bytes fill h = absurd cc
@@ -34,7 +31,7 @@ taken_fill order sizes (optional type) fill h = absurd cc
 -- 64 bits count its bytes
 pub taken_small : (order : Option Endianness) (sizes : List ℕ) (type : ElementType) (fill : List ℕ) → is_ok (bytes_length order (form_of sizes type fill)) ≡ true → product sizes * place_size type < 2 ^ 64
 taken_small order sizes (fixed width components sign) fill h =
-    let n = ok_is (bytes_length order (form_of sizes (fixed width components sign) fill)) h in
+    let n = ok_length (bytes_length order (form_of sizes (fixed width components sign) fill)) h in
     let t = taken order sizes width components sign fill n.0 n.1 in
     omega (arith, t.len_is, t.small)
 taken_small order sizes text fill h = absurd cc
@@ -47,9 +44,6 @@ length_is order sizes (fixed width components sign) fill len e = (taken order si
 length_is order sizes text fill len e = absurd cc
 length_is order sizes bytes fill len e = absurd cc
 length_is order sizes (optional type) fill len e = absurd cc
-
-more_elements : (count more size : ℕ) → (count + more) * size ≡ count * size + more * size
-more_elements count more size = omega arith
 
 up_to : (count other : ℕ) → count ≤ other → other ≡ count + (other - count)
 up_to count other l = omega arith
@@ -70,5 +64,5 @@ length_grows order sizes other_sizes type fill other_fill len other_len e f l =
     let more = product other_sizes - product sizes in
     length_is order other_sizes type other_fill other_len f
     ∙ ap (λ (count : ℕ). count * size) (up_to (product sizes) (product other_sizes) l)
-    ∙ more_elements (product sizes) more size
+    ∙ add-mul (product sizes) more size
     ∙ ap (λ (bytes : ℕ). bytes + more * size) (sym (length_is order sizes type fill len e))

@@ -1,11 +1,10 @@
 -- What is read in part has as many elements as were asked for.
-use Rattle.std.specs.Prelude.{◌≡◌, ℕ, Bool, Option, Some, None, List, length, map, Result, Ok}
+use Rattle.std.specs.Prelude.{◌≡◌, ℕ, Bool, Option, Some, None, List, length, map, Ok}
 use Rattle.std.specs.List.{list_all}
 use Rattle.std.proofs.Common.{◌∙◌, ap, sym}
 use Rattle.std.proofs.lemmas.List.{length-map}
-use Rattle.zarrs_chunk.specs.Answer.{◌>>=◌, demand}
+use Rattle.zarrs_chunk.specs.Answer.{demand}
 use Rattle.zarrs_chunk.specs.Selection.{places_of}
-use Rattle.zarrs_chunk.specs.declared.codec_error.CodecError.{CodecError}
 use Rattle.zarrs_chunk.specs.declared.codec_error.CodecError.TheVariants.{InvalidByteRange}
 use Rattle.zarrs_data_type.specs.Element.{Chunk, fill_element}
 use Rattle.zarrs_data_type.specs.ElementType.{ElementType}
@@ -13,7 +12,7 @@ use Rattle.zarrs_data_type.specs.declared.endianness.Endianness.{Endianness}
 use Rattle.zarrs_codec.specs.ArrayReader.{IsCounted}
 use Rattle.zarrs_codec.specs.CountLaws.{passed, same_value, places_counted}
 use Rattle.zarrs_bytes.specs.BytesCodec.{bytes_element}
-use Rattle.zarrs_bytes.specs.BytesCodecPartial.{BytesForm, form_in, bytes_reader}
+use Rattle.zarrs_bytes.specs.BytesCodecPartial.{BytesForm, bytes_reader}
 use Rattle.zarrs_bytes.specs.PartialRead.{has_place, read_places}
 
 pub read_count : (order : Option Endianness) (type : ElementType) (fill : List ℕ) (stored : Option (List ℕ)) (places : List ℕ) (chunk : Chunk) → read_places order type fill stored places ≡ Ok chunk → length chunk ≡ length places

@@ -40,6 +40,14 @@ bytes_at size (Some value) places = do
 abbrev pub bytes_at_runs : ℕ → StorageState → List (ℕ × ℕ) → Result (Option (List ℕ)) CodecError
 bytes_at_runs size before runs = bytes_at size before.value (joined_runs runs)
 
+-- the same at places that are given one by one
+abbrev pub bytes_at_places : ℕ → StorageState → List ℕ → Result (Option (List ℕ)) CodecError
+bytes_at_places size before places = bytes_at size before.value places
+
+-- all bytes of elements of one size at these places are sure to be read
+abbrev pub places_are_sure : ℕ → StorageState → List ℕ → Bool
+places_are_sure size before places = are_sure before.sure (place_bytes size places)
+
 -- these bytes, and behind them those that are read, where there are any
 abbrev pub with_read : List ℕ → Result (Option (List ℕ)) CodecError → Result (Option (List ℕ)) CodecError
 with_read before read = seen (option_map (λ more. before ++ more)) read
@@ -84,6 +92,14 @@ ReadsRuns order type fill before runs result =
 -- Where all bytes of the elements at the places of these runs are sure, no failure of the handle comes.
 abbrev pub ReadsRunsSurely : {T : Type 0} → ElementType → StorageState → List (ℕ × ℕ) → Result T CodecError → Type 0
 ReadsRunsSurely type before runs result = NeverFailsIf (runs_are_sure (place_size type) before runs) result
+
+-- the same of places that are given one by one
+abbrev pub ReadsPlaces : Option Endianness → ElementType → List ℕ → StorageState → List ℕ → Result Held CodecError → Type 0
+ReadsPlaces order type fill before places result =
+    AnswersBy memory_or_fault (Holds type) result (read_places order type fill before.value places)
+
+abbrev pub ReadsPlacesSurely : {T : Type 0} → ElementType → StorageState → List ℕ → Result T CodecError → Type 0
+ReadsPlacesSurely type before places result = NeverFailsIf (places_are_sure (place_size type) before places) result
 
 -- how many bytes the elements at the places of these runs have
 abbrev pub byte_count_of : ElementType → List (ℕ × ℕ) → ℕ

@@ -1,7 +1,6 @@
 -- What a write in part leaves: of a stored value all but the bytes of the places that are written.
-use Rattle.std.specs.Prelude.{◌≡◌, ℕ, ◌+◌, ◌*◌, ◌≤◌, max, Option, Some, None, List, [], ◌∷◌, length, map, replicate, Result, Ok, OnOk}
+use Rattle.std.specs.Prelude.{◌≡◌, ℕ, ◌+◌, ◌*◌, max, Option, Some, None, List, [], ◌∷◌, length, map, replicate, Result, Ok, OnOk}
 use Rattle.std.proofs.Common.{Global}
-use Rattle.std.specs.List.{All}
 use Rattle.std.specs.declared.borrow.CowSlice.{CowSlice}
 use Rattle.zarrs_chunk.specs.Answer.{◌>>=◌, Answers, Gives, memory_or_fault}
 use Rattle.zarrs_chunk.specs.ChunkShape.{product}

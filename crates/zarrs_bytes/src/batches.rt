@@ -16,7 +16,7 @@ use zarrs_chunk::CodecError;
 use zarrs_codec::{ByteRange, BytesPartialDecoderTraits};
 
 /// How many ranges are made at a time, where they would take more memory than their bytes.
-const BATCH: usize = 1024;
+pub(crate) const BATCH: usize = 1024;
 
 /// One range of bytes for each run of elements of `size` bytes.
 pub fn run_ranges(
@@ -70,7 +70,7 @@ fn first_batch(size: u64, runs: &[(u64, u64)]) -> usize
 }
 
 /// Appends the bytes of these runs, by one call of the handle.
-fn append_batch<H: BytesPartialDecoderTraits>(
+pub(crate) fn append_batch<H: BytesPartialDecoderTraits>(
     elements: &mut Vec<u8>,
     alloc: Global,
     handle: &mut H,

@@ -23,7 +23,7 @@ const BLOCK: usize = 3072;
 /// a few moves where the size is known.
 #[inline(always)]
 fn reverse_piece(piece: &mut [u8])
-    ensures { piece.new ≡ reverse piece.old }
+    ensures written { piece.new ≡ reverse piece.old }
 {
     match piece.len() {
         2 => piece.swap(0, 1),
@@ -45,8 +45,8 @@ fn reverse_piece(piece: &mut [u8])
 /// Turns each piece of `size` bytes round, one after another. What is left over stays.
 #[inline(always)]
 fn reverse_pieces(bytes: &mut [u8], size: usize)
-    requires { 0 < size }
-    ensures { bytes.new ≡ turned_bytes (Some size) bytes.old }
+    requires sized { 0 < size }
+    ensures written { bytes.new ≡ turned_bytes (Some size) bytes.old }
 {
     for index in 0..bytes.len() / size {
         let start = index * size;
@@ -60,7 +60,7 @@ fn reverse_pieces(bytes: &mut [u8], size: usize)
 fn reverse_group(group: &mut [u8], size: usize)
     requires len { length group.now ≡ 16 }
     requires sized { 0 < size }
-    ensures { group.new ≡ turned_bytes (Some size) group.old }
+    ensures written { group.new ≡ turned_bytes (Some size) group.old }
 {
     match size {
         2 => {
@@ -102,7 +102,7 @@ fn reverse_group(group: &mut [u8], size: usize)
 fn reverse_groups(bytes: &mut [u8], size: usize)
     requires sized { 0 < size }
     requires divides { 16 / size * size ≡ 16 }
-    ensures { bytes.new ≡ turned_bytes (Some size) bytes.old }
+    ensures written { bytes.new ≡ turned_bytes (Some size) bytes.old }
 {
     let groups = bytes.len() / GROUP;
     for index in 0..groups {
@@ -115,8 +115,8 @@ fn reverse_groups(bytes: &mut [u8], size: usize)
 /// Turns each piece of `size` bytes round. What is left over stays. The usual sizes are constants
 /// here, so that each gets a loop of its own.
 fn reverse_each(bytes: &mut [u8], size: usize)
-    requires { 0 < size }
-    ensures { bytes.new ≡ turned_bytes (Some size) bytes.old }
+    requires sized { 0 < size }
+    ensures written { bytes.new ≡ turned_bytes (Some size) bytes.old }
 {
     match size {
         2 => reverse_groups(bytes, 2),
@@ -129,8 +129,9 @@ fn reverse_each(bytes: &mut [u8], size: usize)
 
 /// Appends the bytes with each piece of `size` bytes turned round.
 fn append_turned(copy: &mut Vec<u8>, part: &[u8], size: usize) -> Result<(), AllocError>
-    requires { 0 < size }
-    ensures { OnOk result (copy.new.items ≡ copy.old.items ++ turned_bytes (Some size) part.now) }
+    requires sized { 0 < size }
+    ensures appended { OnOk result
+        (copy.new.items ≡ copy.old.items ++ turned_bytes (Some size) part.now) }
 {
     let start = copy.len();
     copy.extend_from_slice(part)?;
@@ -140,7 +141,7 @@ fn append_turned(copy: &mut Vec<u8>, part: &[u8], size: usize) -> Result<(), All
 
 /// How many bytes of whole pieces are copied and turned round at a time.
 fn block_of(size: usize) -> usize
-    requires { 0 < size }
+    requires sized { 0 < size }
     ensures positive { 0 < result }
     ensures whole { result / size * size ≡ result }
 {
@@ -154,8 +155,8 @@ fn block_of(size: usize) -> usize
 /// A copy of the bytes with each piece of `size` bytes turned round. It is made block by block, so
 /// that the bytes go through memory once.
 fn turned_copy(alloc: Global, bytes: &[u8], size: usize) -> Result<Vec<u8>, AllocError>
-    requires { 0 < size }
-    ensures { IfOk result (λ copy. copy.items ≡ turned_bytes (Some size) bytes.now) }
+    requires sized { 0 < size }
+    ensures value { IfOk result (λ copy. copy.items ≡ turned_bytes (Some size) bytes.now) }
 {
     let block = block_of(size);
     let blocks = bytes.len() / block;

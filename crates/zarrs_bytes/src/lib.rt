@@ -9,9 +9,11 @@ mod array_to_bytes;
 mod batches;
 mod byte_order;
 mod bytes_codec;
+mod bytes_codec_coders;
 mod bytes_codec_partial;
 pub mod laws;
 mod metadata;
+mod place_batches;
 mod planned_runs;
 mod write_runs;
 

@@ -19,7 +19,7 @@ use zarrs_metadata::{
 
 /// Whether the codec is known by this name.
 fn has_name(name: &str) -> bool
-    ensures { result ≡ is_bytes_name name.now }
+    ensures value { result ≡ is_bytes_name name.now }
 {
     name == "bytes" || name == "endian"
 }

@@ -1,11 +1,11 @@
 //! New elements written at runs of places, over a handle that keeps a chunk's value.
 ghost use Rattle.zarrs_data_type.specs.Form.{form_of};
 ghost use Rattle.std.specs.Prelude.{◌≡◌, ◌<◌, ◌+◌, ◌*◌, ◌^◌, Ok, All, IsOk, OnOk, OnErr, length};
-ghost use Rattle.zarrs_chunk.specs.Answer.{Gives, Answers, memory_or_fault};
+ghost use Rattle.zarrs_chunk.specs.Answer.{Gives, Answers, memory_or_fault, seen};
 ghost use Rattle.zarrs_array_bytes.specs.Held.{items_of};
 ghost use Rattle.zarrs_chunk.specs.ChunkShape.{product};
 ghost use Rattle.zarrs_chunk.specs.Runs.{joined_runs, EndWithin};
-ghost use Rattle.zarrs_array_bytes.specs.Parts.{fixed_part, bytes_in};
+ghost use Rattle.zarrs_array_bytes.specs.Parts.{fixed_part, fixed_items, bytes_in};
 ghost use Rattle.zarrs_bytes.specs.BytesCodec.{BytesTakes};
 ghost use Rattle.zarrs_codec.specs.StorageState.{KeptIfAtomic, LeftByWriting};
 ghost use Rattle.zarrs_codec.specs.ArrayWriter.{LeftByRefusal};
@@ -55,21 +55,30 @@ fn put_runs<H: BytesPartialEncoderTraits>(
     handle.partial_encode_many(alloc, runs.as_slice(), bytes)
 }
 
+/// Elements of one size, lent.
+fn lent<'b>(elements: &'b ArrayBytes<'_>) -> Result<ArrayBytes<'b>, CodecError>
+    requires kind { IsOk (fixed_part elements.now) }
+    ensures items { seen fixed_items result ≡ Ok (fixed_items elements.now) }
+{
+    let bytes = elements.as_fixed()?;
+    Ok(ArrayBytes::new_flen(CowSlice::Borrowed(bytes)))
+}
+
 impl BytesCodec {
     /// The bytes of elements of a fixed type as they stand in a value. Refusals: `ArrayBytesKind` for
     /// any other elements; `OutOfMemory`.
     fn spelled<'b>(
         &self,
         alloc: Global,
-        elements: &'b ArrayBytes<'_>,
+        elements: ArrayBytes<'b>,
         data_type: &DataType,
     ) -> Result<ArrayBytesRaw<'b>, CodecError>
-        requires kind { IsOk (fixed_part elements.now) }
+        requires kind { IsOk (fixed_part elements) }
         ensures answer { Gives items_of result
-            (Ok (value_bytes self.now data_type.now elements.now)) }
+            (Ok (value_bytes self.now data_type.now elements.entry)) }
     {
-        let bytes = elements.as_fixed()?;
-        turn(alloc, CowSlice::Borrowed(bytes), self.turn_size(data_type))
+        let bytes = elements.into_fixed()?;
+        turn(alloc, bytes, self.turn_size(data_type))
     }
 
     /// Writes the bytes of new elements over those of the runs' places, by one call of the handle.
@@ -80,16 +89,17 @@ impl BytesCodec {
         data_type: &DataType,
         size: u64,
         runs: Vec<(u64, u64)>,
-        elements: &ArrayBytes<'_>,
+        elements: ArrayBytes<'_>,
     ) -> Result<(), CodecError>
         requires filled { All (λ run. 0 < run.1) runs.items }
         requires ends { All (λ run. (run.0 + run.1) * size < 2 ^ 64) runs.items }
         requires sized { 0 < size }
-        requires kind { IsOk (fixed_part elements.now) }
-        requires enough { length (bytes_in elements.now) ≡ length (joined_runs runs.items) * size }
+        requires kind { IsOk (fixed_part elements) }
+        requires enough { length (bytes_in elements) ≡ length (joined_runs runs.items) * size }
         ensures answer { Answers memory_or_fault (λ done. done) result (Ok tt) }
         ensures written { PutsBytes size runs.items
-            (value_bytes self.now data_type.now elements.now) H.state handle.old handle.new result }
+            (value_bytes self.now data_type.now elements.entry)
+            H.state handle.old handle.new result }
         ensures one_write { OnOk result (LeftByWriting H.state handle.old handle.new result) }
         ensures refused { OnErr result (LeftByRefusal H.state handle.old handle.new result) }
         ensures kept_if_atomic { KeptIfAtomic H.atomic H.state handle.old handle.new result }
@@ -129,7 +139,46 @@ impl BytesCodec {
     /// ends within the chunk, and there is one new element of the type for each place. Refusals:
     /// `OutOfMemory` and `Storage`.
     ///
-    /// The handle is asked whether a value is stored, and then one writing call is made.
+    /// The handle is asked whether a value is stored, and then one writing call is made. Elements that
+    /// own their bytes are turned round where they stand.
+    pub fn write_given_runs<H: BytesPartialEncoderTraits>(
+        &self,
+        alloc: Global,
+        handle: &mut H,
+        shape: &ChunkShape,
+        data_type: &DataType,
+        fill_value: &FillValue,
+        runs: Vec<(u64, u64)>,
+        elements: ArrayBytes<'_>,
+    ) -> Result<(), CodecError>
+        requires taken { BytesTakes self.now (form_of shape.now data_type.now fill_value.now) }
+        requires filled { All (λ run. 0 < run.1) runs.items }
+        requires below { EndWithin (product shape.now) runs.items }
+        requires fit { FitRuns data_type.now runs.items elements }
+        ensures answer { WritesRuns self.now (form_of shape.now data_type.now fill_value.now)
+            runs.items elements.entry H.state handle.old handle.new result }
+        ensures one_write { OnOk result (LeftByWriting H.state handle.old handle.new result) }
+        ensures refused { OnErr result (LeftByRefusal H.state handle.old handle.new result) }
+        ensures kept_if_atomic { KeptIfAtomic H.atomic H.state handle.old handle.new result }
+        ensures same_reference { H.lent handle.new ≡ H.lent handle.old }
+    {
+        if handle.exists()? {
+            let size = element_size(data_type, fill_value) as u64;
+            self.write_over(alloc, handle, data_type, size, runs, elements)
+        } else {
+            let value = self.value_from_fill(
+                alloc,
+                shape,
+                data_type,
+                fill_value,
+                runs.as_slice(),
+                &elements,
+            )?;
+            handle.replace(alloc, value.as_slice())
+        }
+    }
+
+    /// The same as [`BytesCodec::write_given_runs`] of elements that are lent.
     pub fn write_runs<H: BytesPartialEncoderTraits>(
         &self,
         alloc: Global,
@@ -151,19 +200,7 @@ impl BytesCodec {
         ensures kept_if_atomic { KeptIfAtomic H.atomic H.state handle.old handle.new result }
         ensures same_reference { H.lent handle.new ≡ H.lent handle.old }
     {
-        if handle.exists()? {
-            let size = element_size(data_type, fill_value) as u64;
-            self.write_over(alloc, handle, data_type, size, runs, elements)
-        } else {
-            let value = self.value_from_fill(
-                alloc,
-                shape,
-                data_type,
-                fill_value,
-                runs.as_slice(),
-                elements,
-            )?;
-            handle.replace(alloc, value.as_slice())
-        }
+        let elements = lent(elements)?;
+        self.write_given_runs(alloc, handle, shape, data_type, fill_value, runs, elements)
     }
 }

@@ -1,28 +1,37 @@
 -- Ranges that are told for a plan have all bytes that are planned.
-use Rattle.std.proofs.Common.{◌≡◌, ℕ, ◌+◌, ◌-◌, ◌<◌, ◌≤◌, Bool, true, false, if◌then◌else◌, Option, Some, None, List, [], ◌∷◌, Result, Ok, Err, IsOkAnd, refl, ap, sym, ◌∙◌, subst, arith}
-use Rattle.std.specs.List.{list_all, range_with_len}
+use Rattle.std.proofs.Common.{◌≡◌, ℕ, ◌+◌, ◌-◌, ◌*◌, ◌<◌, ◌≤◌, ◌&&◌, ◌||◌, Bool, true, false, not, if◌then◌else◌, Option, Some, None, List, [], ◌∷◌, Result, Ok, Err, IsOkAnd, refl, ap, sym, ◌∙◌, subst, arith}
+use Rattle.std.specs.Prelude.{is_some}
+use Rattle.std.specs.List.{All, list_all, list_any, range_with_len}
+use Rattle.std.specs.List.Sorted.{IsPermutation}
 use Rattle.std.proofs.lemmas.Bool.{and_from, or_left, or_right}
 use Rattle.std.proofs.lemmas.Bool.Decides.{nat_tests}
 use Rattle.std.proofs.lemmas.List.Folds.{list_all-append}
+use Rattle.std.proofs.lemmas.List.Sorted.{list_any-IsPermutation}
 use Rattle.zarrs_chunk.specs.Answer.{◌>>=◌, seen}
+use Rattle.zarrs_chunk.specs.Region.{Region}
 use Rattle.zarrs_chunk.specs.Selection.{Selection}
 use Rattle.zarrs_chunk.specs.declared.codec_error.CodecError.{CodecError}
 use Rattle.zarrs_data_type.specs.ElementType.{ElementType}
 use Rattle.zarrs_data_type.specs.Form.{form_of}
+use Rattle.zarrs_data_type.specs.declared.endianness.Endianness.{Endianness}
 use Rattle.zarrs_codec.specs.ByteRanges.{range_indices}
 use Rattle.zarrs_codec.specs.ByteSpan.{ByteSpan}
 use Rattle.zarrs_codec.specs.SampleBytesCodec.{sample_codecs}
 use Rattle.zarrs_codec.specs.declared.bytes_representation.BytesRepresentation.{BytesRepresentation}
 use Rattle.zarrs_codec.specs.declared.sample_bytes_codec.SampleBytesCodec.{SampleBytesCodec}
+use Rattle.zarrs_array_to_array.specs.ArrayToArrayCodec.{IsMapping}
 use Rattle.zarrs_bytes.specs.PartialRead.{place_bytes, place_size}
 use Rattle.zarrs_packbits.specs.PackBitsSettings.{packed_layout}
 use Rattle.zarrs_packbits.specs.PartialRead.{packed_places_bytes}
 use Rattle.zarrs_packbits.specs.ReadPlan.{IsPlan}
 use Rattle.zarrs_chain_laws.specs.Chain.{taken_form}
+use Rattle.zarrs_chain_laws.specs.Laws.{HasMappings, IsChainOfMappings}
 use Rattle.zarrs_chain_laws.specs.PlainChain.{PlainCodec, bytes_codec, packbits_codec, vlen_codec, optional_codec}
 use Rattle.zarrs_chain_laws.specs.Representation.{chain_representation}
 use Rattle.zarrs_bytes.proofs.Coding.{bind_ok, ok}
-use Rattle.zarrs_codec_chain.specs.ChunkRead.{ChunkForm, IsCodecPlan, IsReadPlan, codec_rests_on, encoded_places, planned_places, reads_places}
+use Rattle.zarrs_codec_chain.specs.ChunkRead.{ChunkForm, IsCodecPlan, IsReadPlan, codec_rests_on, encoded_places, form_in_place, places_in_order, planned_places, planned_region, reads_places, standing_places}
+use Rattle.zarrs_codec_chain.proofs.PlaceWrites.{bytes_alone}
+use Rattle.zarrs_codec_chain.proofs.PlannedPlaces.{planned_are_meant, standing_is}
 use Rattle.zarrs_chain_header.specs.Header.{Header}
 use Rattle.zarrs_pieces.specs.Joined.{has_number, have_number}
 use Rattle.zarrs_pieces.specs.Pieces.{is_at_hand}
@@ -31,6 +40,7 @@ use Rattle.zarrs_calls.specs.Codes.{codec_answer}
 use Rattle.zarrs_calls.specs.Enough.{PlanIsEnough}
 use Rattle.zarrs_calls.specs.Plans.{Planned, places_planned}
 use Rattle.zarrs_chain_lines.specs.Commands.{form_of as header_form}
+use Rattle.zarrs_calls.proofs.HeaderLemmas.{header_sound}
 use Rattle.zarrs_calls.proofs.PlanLemmas.{plan_by, with_header}
 use Rattle.zarrs_packbits.proofs.RunLemmas.{all_from}
 
@@ -48,6 +58,38 @@ passes test (range ∷ ranges) h =
     list_all-append test (range_with_len range.start (range.end - range.start)) (range_indices ranges)
     ∙ and_from _ _ (all_from test range.start (range.end - range.start) (λ n l m. h n (or_left (has_number range n) (have_number ranges n) (in_range range n l m))))
     (passes test ranges (λ n e. h n (or_right (has_number range n) (have_number ranges n) e)))
+
+-- ---- places in another order
+
+neither : (a b : Bool) → (a && not b) ≡ not (not a || b)
+neither true true = refl
+neither true false = refl
+neither false true = refl
+neither false false = refl
+
+none_fails : {X : Type 0} (test : X → Bool) (xs : List X) → list_all test xs ≡ not (list_any (λ x. not (test x)) xs)
+none_fails test [] = refl
+none_fails test (x ∷ xs) = ap (λ (t : Bool). test x && t) (none_fails test xs) ∙ neither (test x) (list_any (λ y. not (test y)) xs)
+
+all_permuted : {X : Type 0} (test : X → Bool) (xs ys : List X) → IsPermutation xs ys → list_all test xs ≡ list_all test ys
+all_permuted test xs ys same =
+    none_fails test xs ∙ ap not (list_any-IsPermutation (λ x. not (test x)) xs ys same) ∙ sym (none_fails test ys)
+
+place_by_place : (test : ℕ → Bool) (size : ℕ) (places : List ℕ) → list_all test (place_bytes size places) ≡ list_all (λ place. list_all test (range_with_len (place * size) size)) places
+place_by_place test size [] = refl
+place_by_place test size (place ∷ places) =
+    list_all-append test (range_with_len (place * size) size) (place_bytes size places)
+    ∙ ap (λ (t : Bool). list_all test (range_with_len (place * size) size) && t) (place_by_place test size places)
+
+same_bytes : (test : ℕ → Bool) (size : ℕ) (places others : List ℕ) → IsPermutation places others → list_all test (place_bytes size places) ≡ list_all test (place_bytes size others)
+same_bytes test size places others same =
+    place_by_place test size places
+    ∙ all_permuted (λ place. list_all test (range_with_len (place * size) size)) places others same
+    ∙ sym (place_by_place test size others)
+
+in_place : (order : Option (Option Endianness)) (kept : Option Region) (region : Region) → (if is_some order then kept else None) ≡ Some region → (own : Option Endianness) × (order ≡ Some own)
+in_place None kept region e = absurd (cc)
+in_place (Some own) kept region e = (own, refl)
 
 -- ---- of a codec to bytes
 
@@ -68,6 +110,12 @@ module _ (made : List ByteSpan) (test : ℕ → Bool) (all : (n : ℕ) → have_
   codec_passes (vlen_codec ia ix ib da dx db wide at_end) sizes type fill places plan = absurd plan
   codec_passes (optional_codec ma mx mb da dx db) sizes type fill places plan = absurd plan
 
+  -- over `bytes` in whatever order the places are planned
+  moved_passes : (order : Option Endianness) (sizes : List ℕ) (type : ElementType) (fill places planned : List ℕ) → IsPermutation places planned → IsCodecPlan {B = SampleBytesCodec} (bytes_codec order) sizes type fill planned made → Passing (codec_rests_on {B = SampleBytesCodec} (bytes_codec order) sizes type fill None places)
+  moved_passes order sizes type fill places planned same plan =
+      let all_planned : list_all test (place_bytes (place_size type) planned) ≡ true = subst (λ (ns : List ℕ). list_all test ns ≡ true) plan.0 (passes test made all) in
+      (place_bytes (place_size type) places, refl, same_bytes test (place_size type) places planned same ∙ all_planned)
+
   -- ---- through a chain
 
   abbrev some_if : Bool → List ℕ → Option (List ℕ)
@@ -77,24 +125,40 @@ module _ (made : List ByteSpan) (test : ℕ → Bool) (all : (n : ℕ) → have_
   was_planned true found places e = (refl, cc)
   was_planned false found places e = absurd (cc)
 
-  chain_passes : (b : Bool) (codec : PlainCodec SampleBytesCodec) (type : ElementType) (fill : List ℕ) (p : Result (List ℕ) CodecError) (t : Result (List ℕ × BytesRepresentation) CodecError) (places : List ℕ) → seen (some_if b) p ≡ Ok (Some places)
-      → IsOkAnd t (λ taken. IsCodecPlan codec taken.0 type fill places made)
+  chain_passes : (b : Bool) (arrange : List ℕ → List ℕ) (codec : PlainCodec SampleBytesCodec) (type : ElementType) (fill : List ℕ) (p : Result (List ℕ) CodecError) (t : Result (List ℕ × BytesRepresentation) CodecError) (places : List ℕ)
+      → ((sizes meant : List ℕ) → p ≡ Ok meant → IsCodecPlan codec sizes type fill (arrange meant) made → Passing (codec_rests_on codec sizes type fill None meant))
+      → seen (some_if b) (seen arrange p) ≡ Ok (Some places) → IsOkAnd t (λ taken. IsCodecPlan codec taken.0 type fill places made)
       → (numbers : List ℕ) × ((p >>= λ found. t >>= λ taken. codec_rests_on codec taken.0 type fill None found >>= λ bytes. ok (some_if b bytes)) ≡ Ok (Some numbers)) × (list_all test numbers ≡ true)
-  chain_passes b codec type fill (Err e) t places is plan = absurd (cc)
-  chain_passes b codec type fill (Ok found) (Err e) places is plan = absurd plan
-  chain_passes b codec type fill (Ok found) (Ok taken) places is plan =
-      let was = was_planned b found places is in
-      let own : IsCodecPlan codec taken.0 type fill found made = subst (λ (ps : List ℕ). IsCodecPlan codec taken.0 type fill ps made) (sym was.1) plan in
-      let found_numbers = codec_passes codec taken.0 type fill found own in (
+  chain_passes b arrange codec type fill (Err e) t places passing is plan = absurd (cc)
+  chain_passes b arrange codec type fill (Ok meant) (Err e) places passing is plan = absurd plan
+  chain_passes b arrange codec type fill (Ok meant) (Ok taken) places passing is plan =
+      let was = was_planned b (arrange meant) places is in
+      let own : IsCodecPlan codec taken.0 type fill (arrange meant) made = subst (λ (ps : List ℕ). IsCodecPlan codec taken.0 type fill ps made) (sym was.1) plan in
+      let found_numbers = passing taken.0 meant refl own in (
         found_numbers.0,
         ap (λ (r : Result (List ℕ) CodecError). r >>= λ bytes. ok (some_if b bytes)) found_numbers.1 ∙ ap (λ (s : Bool). ok (some_if s found_numbers.0)) was.0,
         found_numbers.2,
       )
 
-  form_passes : (form : ChunkForm SampleBytesCodec) (selection : Selection) (places : List ℕ) → planned_places form selection ≡ Ok (Some places) → IsReadPlan sample_codecs form (Some made) (Some places)
-      → (numbers : List ℕ) × ArePlanned sample_codecs form selection numbers × (list_all test numbers ≡ true)
-  form_passes form selection places is plan =
-      chain_passes (reads_places form.chain.outer form.chain.codec) form.chain.codec form.type form.fill (encoded_places form.type form.chain.arrays form.sizes selection) (taken_form sample_codecs form.chain form.sizes form.type form.fill) places is plan
+  module _ (form : ChunkForm SampleBytesCodec) (selection : Selection) (are : All IsMapping form.chain.arrays) (positive : All (λ size. 0 < size) form.sizes) where
+    -- the places that are meant, where these are planned in their order
+    ordered_passes : (planned : Option Region) → planned_region form selection ≡ planned → (sizes meant : List ℕ) → encoded_places form.type form.chain.arrays form.sizes selection ≡ Ok meant
+        → IsCodecPlan form.chain.codec sizes form.type form.fill (places_in_order form.chain.arrays form.sizes planned meant) made → Passing (codec_rests_on form.chain.codec sizes form.type form.fill None meant)
+    ordered_passes None p sizes meant e plan = codec_passes form.chain.codec sizes form.type form.fill meant plan
+    ordered_passes (Some region) p sizes meant e plan =
+        let own = in_place (form_in_place form) _ region p in
+        let codec_is : form.chain.codec ≡ bytes_codec own.0 = (bytes_alone form.chain.outer form.chain.codec own.0 own.1).1 in
+        let chain_is : IsChainOfMappings form.chain = record { mappings = are; inner_mappings = subst (λ (c : PlainCodec SampleBytesCodec). HasMappings c) (sym codec_is) tt } in
+        let standing : List ℕ = standing_places form.chain.arrays form.sizes region in
+        let order = planned_are_meant SampleBytesCodec form selection meant standing chain_is positive e (standing_is form selection region meant p e) in
+        subst (λ (c : PlainCodec SampleBytesCodec). Passing (codec_rests_on c sizes form.type form.fill None meant)) (sym codec_is)
+        (moved_passes own.0 sizes form.type form.fill meant standing order.same (subst (λ (c : PlainCodec SampleBytesCodec). IsCodecPlan c sizes form.type form.fill standing made) codec_is plan))
+
+    form_passes : (places : List ℕ) → planned_places form selection ≡ Ok (Some places) → IsReadPlan sample_codecs form (Some made) (Some places)
+        → (numbers : List ℕ) × ArePlanned sample_codecs form selection numbers × (list_all test numbers ≡ true)
+    form_passes places is plan =
+        chain_passes (reads_places form.chain.outer form.chain.codec) (places_in_order form.chain.arrays form.sizes (planned_region form selection)) form.chain.codec form.type form.fill (encoded_places form.type form.chain.arrays form.sizes selection) (taken_form sample_codecs form.chain form.sizes form.type form.fill) places
+        (ordered_passes (planned_region form selection) refl) is plan
 
 -- ---- of a header
 
@@ -112,4 +176,5 @@ plan_is_enough text tuples numbers header selection plan ranges pieces reads mea
     let p = planned_is header (places_planned form selection) plan (sym (plan_by text tuples numbers header selection reads means) ∙ is) in
     let b = bind_ok (chain_representation sample_codecs form.chain form.sizes form.type form.fill) (λ _. planned_places form selection) (Some places) (p.0 ∙ ap ok told.2) in
     let own : IsReadPlan sample_codecs form (Some made) (Some places) = subst (λ (h : Header). IsReadPlan sample_codecs (header_form h) (Some made) (Some places)) (sym p.1) told.3 in
-    form_passes made (is_at_hand pieces) (λ n e. all n (told.4.same n ∙ e)) form selection places b.2 own
+    let sound = header_sound text header reads in
+    form_passes made (is_at_hand pieces) (λ n e. all n (told.4.same n ∙ e)) form selection sound.mappings sound.positive places b.2 own

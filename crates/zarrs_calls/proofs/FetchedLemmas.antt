@@ -1,6 +1,6 @@
 -- Reads of a value of which pieces are at hand.
 use Rattle.std.proofs.Common.{◌≡◌, ℕ, zero, suc, ◌<◌, ◌≤◌, nat_lt, Bool, true, false, Option, Some, None, List, [], ◌∷◌, length, slice_index, get_or, Result, Ok, Err, IfOk, IfSome, refl, ap, sym, ◌∙◌, subst, arith}
-use Rattle.std.specs.List.{All, list_all}
+use Rattle.std.specs.List.{All}
 use Rattle.std.proofs.lemmas.Bool.Decides.{nat_tests}
 use Rattle.std.proofs.lemmas.List.FromFn.{get_or-map-range_with_len, length-map-range_with_len}
 use Rattle.zarrs_chunk.specs.Answer.{AnswersBy, Excused, is_fault, memory_or_fault, ◌>>=◌}
@@ -20,17 +20,13 @@ use Rattle.zarrs_codec_chain.proofs.CachePlaces.{no_place, no_stage}
 use Rattle.zarrs_pieces.specs.PiecesHandle.{made_state}
 use Rattle.zarrs_pieces.specs.Pieces.{PlainPiece, HasPieces, are_apart, are_at_hand, byte_at, is_at_hand, value_with}
 use Rattle.zarrs_planned_reads.specs.PlannedReads.{ArePlanned}
-use Rattle.zarrs_planned_reads.proofs.Alike.{planned_is_asked, sized_alike}
+use Rattle.zarrs_planned_reads.proofs.Alike.{planned_is_asked, sized_alike, passes_at}
 use Rattle.zarrs_chain_lines.specs.Commands.{sample_reads}
 use Rattle.zarrs_calls.specs.Reads.{form_read}
 use Rattle.zarrs_chain_lines.proofs.WriteLemmas.{Form}
+use Rattle.zarrs_chain_lines.proofs.ReadLemmas.{passes, stops}
 
 -- ---- the bytes at hand
-
-passes_at : (test : ℕ → Bool) (numbers : List ℕ) (k d : ℕ) → list_all test numbers ≡ true → k < length numbers → test (get_or numbers k d) ≡ true
-passes_at test [] k d all l = absurd (omega arith)
-passes_at test (n ∷ numbers) zero d all l = grind (arith, nat_tests)
-passes_at test (n ∷ numbers) (suc k) d all l = grind (arith, nat_tests, passes_at test numbers k d)
 
 past : (xs : List ℕ) (n : ℕ) → length xs ≤ n → get_or xs n 0 ≡ 0
 past [] n l = refl
@@ -80,14 +76,6 @@ parts_alike f len ps value planned selection are has hand =
 
 -- ---- a decoder over pieces
 
-goes_on : {A B : Type 0} (r : Result A CodecError) (a : A) (x : Result B CodecError) → r ≡ Ok a → (r >>= λ _. x) ≡ x
-goes_on (Ok b) a x h = refl
-goes_on (Err e) a x h = absurd (cc)
-
-stops : {A B : Type 0} (r : Result A CodecError) (x : Result B CodecError) (e : CodecError) → r ≡ Err e → (r >>= λ _. x) ≡ Err e
-stops (Ok a) x e h = absurd (cc)
-stops (Err f) x e h = cc
-
 -- what it answers
 pub part_answered : (chunk form : Form) (stored value : Option (List ℕ)) (selection : Selection) (r : Result Held CodecError) (source : Source) → form ≡ chunk → value ≡ stored → source_made sample_codecs sample_reads chunk stored ≡ Ok source
     → AnswersBy memory_or_fault (Holds form.type) r (stored_read sample_codecs form value selection) → AnswersBy memory_or_fault (Holds chunk.type) r (form_read chunk stored selection)
@@ -96,7 +84,7 @@ part_answered chunk form stored value selection r source same_form same_value ma
     subst (λ (v : Option (List ℕ)). AnswersBy memory_or_fault (Holds chunk.type) r (stored_read sample_codecs chunk v selection)) same_value
     (subst (λ (f : Form). AnswersBy memory_or_fault (Holds f.type) r (stored_read sample_codecs f value selection)) same_form h) in
     subst (λ (y : Result Chunk CodecError). AnswersBy memory_or_fault (Holds chunk.type) r y)
-    (sym (goes_on (source_made sample_codecs sample_reads chunk stored) source (stored_read sample_codecs chunk stored selection) made)) of_chunk
+    (sym (passes (source_made sample_codecs sample_reads chunk stored) source (stored_read sample_codecs chunk stored selection) made)) of_chunk
 
 -- where none is made
 pub part_stopped : (chunk : Form) (stored : Option (List ℕ)) (selection : Selection) (e : CodecError) → Excused (memory_or_fault e) (source_made sample_codecs sample_reads chunk stored ≡ Err e)

@@ -5,6 +5,7 @@ pub mod EnoughLemmas
 pub mod FetchedDue
 pub mod FetchedLemmas
 pub mod GivenPieces
+pub mod HeaderLemmas
 pub mod ListLemmas
 pub mod PlanLemmas
 pub mod SelectionLemmas

@@ -17,17 +17,13 @@ use Rattle.zarrs_calls.specs.Selections.{selection_given}
 use Rattle.zarrs_calls.specs.Told.{ToldBytes}
 use Rattle.zarrs_calls.specs.declared.cause.Cause.{Cause}
 use Rattle.zarrs_calls.proofs.CodeLemmas.{refused}
-use Rattle.zarrs_chain_lines.proofs.WriteLemmas.{Form}
+use Rattle.zarrs_chain_lines.proofs.WriteLemmas.{Form, fits}
 
 -- ---- by a coder that is made for it
 
 stops : {A B : Type 0} (r : Result A CodecError) (x : Result B CodecError) (e : CodecError) → seen (λ _. tt {0}) r ≡ Err e → (r >>= λ _. x) ≡ Err e
 stops (Ok a) x e h = absurd (cc)
 stops (Err f) x e h = cc
-
-fits : {A B : Type 0} (r : Result A CodecError) (x : Result B CodecError) → seen (λ _. tt {0}) r ≡ Ok tt → (r >>= λ _. x) ≡ x
-fits (Ok a) x h = refl
-fits (Err e) x h = absurd (cc)
 
 pub plan_refused : (chunk : Form) (selection : Selection) (e : CodecError) → Excused (memory e) (seen (λ _. tt {0}) (chain_representation sample_codecs chunk.chain chunk.sizes chunk.type chunk.fill) ≡ Err e)
     → Excused (memory e) (places_planned chunk selection ≡ Err e)

@@ -1,9 +1,8 @@
 -- What calls tell, by what the inner ones answer.
-use Rattle.std.proofs.Common.{◌≡◌, ℕ, ◌-◌, ◌^◌, ◌<◌, ◌&&◌, nat_le, min, Bool, true, false, List, length, Result, Ok, Err, IsOkAnd, inl, inr, refl, sym, ap, ◌∙◌, arith}
-use Rattle.std.proofs.lemmas.Bool.Decides.{nat_tests}
+use Rattle.std.proofs.Common.{◌≡◌, ℕ, List, Result, Ok, Err, IsOkAnd, inl, inr, refl}
 use Rattle.zarrs_chunk.specs.Answer.{Excused}
 use Rattle.zarrs_array_bytes.specs.Held.{Held}
-use Rattle.zarrs_calls.specs.Buffers.{Buffers, crossed, have_room, sizes_fit, sizes_of, with_fronts}
+use Rattle.zarrs_calls.specs.Buffers.{Buffers, crossed}
 use Rattle.zarrs_calls.specs.Codes.{cause_code, cause_memory}
 use Rattle.zarrs_codec.specs.declared.bytes_representation.BytesRepresentation.{BytesRepresentation}
 use Rattle.zarrs_calls.specs.Told.{Elements, HoldsThese, ToldBytes, ToldParts, TellsBytes, TellsElements, TellsRepresentation, kind_of, size_of}
@@ -39,21 +38,3 @@ pub representation_refused : (cause : Cause) (expected : Result BytesRepresentat
 representation_refused cause expected code kind size gives is = inr (rw is (refused cause expected gives), refl, refl)
 
 -- ---- parts that have room, or not
-
-capped : (l m most : ℕ) → m < most → nat_le (min l most) m ≡ nat_le l m
-capped l m most h = grind (arith, nat_tests)
-
-fits_room : (parts old : Buffers) (needed : Sizes) → needed ≡ sizes_of parts → length old.masks < 2 ^ 64 - 1 → sizes_fit needed (length old.masks) (length old.offsets) (length old.bytes) ≡ have_room old parts
-fits_room parts old needed is l =
-    ap (λ (n : Sizes). sizes_fit n (length old.masks) (length old.offsets) (length old.bytes)) is
-    ∙ ap (λ (t : Bool). t && nat_le (length parts.offsets) (length old.offsets) && nat_le (length parts.bytes) (length old.bytes)) (capped (length parts.masks) (length old.masks) (2 ^ 64 - 1) l)
-
-pub short_told : (parts old : Buffers) (needed : Sizes) → needed ≡ sizes_of parts → length old.masks < 2 ^ 64 - 1 → sizes_fit needed (length old.masks) (length old.offsets) (length old.bytes) ≡ false → ToldParts parts 1 old old needed
-short_told parts old needed is l none =
-    let room : have_room old parts ≡ false = sym (fits_room parts old needed is l) ∙ none in
-    record { code_is = rw room refl; buffers_are = rw room refl; needed_is = is }
-
-pub parts_told : (parts old new : Buffers) (needed : Sizes) → needed ≡ sizes_of parts → length old.masks < 2 ^ 64 - 1 → sizes_fit needed (length old.masks) (length old.offsets) (length old.bytes) ≡ true → new ≡ with_fronts old parts → ToldParts parts 0 old new needed
-parts_told parts old new needed is l all written =
-    let room : have_room old parts ≡ true = sym (fits_room parts old needed is l) ∙ all in
-    record { code_is = rw room refl; buffers_are = rw room written; needed_is = is }

@@ -9,7 +9,8 @@ use Rattle.zarrs_codec.specs.SampleBytesCodec.{sample_codecs}
 use Rattle.zarrs_codec.specs.declared.sample_bytes_codec.SampleBytesCodec.{SampleBytesCodec}
 use Rattle.zarrs_chain_laws.specs.PlainChain.{PlainCodec, bytes_codec, packbits_codec, vlen_codec, optional_codec}
 use Rattle.zarrs_chain_laws.specs.Representation.{chain_representation}
-use Rattle.zarrs_codec_chain.specs.ChunkWrite.{order_in_place, stored_written, value_left}
+use Rattle.zarrs_codec_chain.specs.ChunkRead.{order_in_place}
+use Rattle.zarrs_codec_chain.specs.ChunkWrite.{stored_written, value_left}
 use Rattle.zarrs_chain_lines.specs.Commands.{chunk_left, form_of}
 use Rattle.zarrs_chain_header.specs.Header.{Header}
 use Rattle.zarrs_calls.specs.Buffers.{Buffers}

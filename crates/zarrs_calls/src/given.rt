@@ -37,7 +37,7 @@ fn mask_length(levels: usize, count: usize) -> Option<usize>
 }
 
 fn rising(alloc: Global, offsets: &[u64]) -> Result<ArrayBytesOffsets, Cause>
-    ensures { Answers cause_memory (λ starts. starts) result
+    ensures answer { Answers cause_memory (λ starts. starts) result
         (codec_answer (offsets_of offsets.now)) }
 {
     let mut starts = Vec::with_capacity(alloc, offsets.len())?;
@@ -52,7 +52,8 @@ fn variable_given<'a>(
     offsets: &[u64],
     bytes: &'a [u8],
 ) -> Result<ArrayBytes<'a>, Cause>
-    ensures { Answers cause_memory (λ held. held) result (variable_of offsets.now bytes.now) }
+    ensures answer { Answers cause_memory (λ held. held) result
+        (variable_of offsets.now bytes.now) }
 {
     let starts = rising(alloc, offsets)?;
     Ok(ArrayBytes::new_vlen(CowSlice::Borrowed(bytes), starts)?)
@@ -67,7 +68,7 @@ fn given_under<'a>(
     offsets: &[u64],
     bytes: &'a [u8],
 ) -> Result<ArrayBytes<'a>, Cause>
-    ensures { Answers cause_memory (λ held. held) result
+    ensures answer { Answers cause_memory (λ held. held) result
         (held_under data_type.now each masks.now offsets.now bytes.now) }
 {
     if let Some(inner_type) = data_type.as_optional() {

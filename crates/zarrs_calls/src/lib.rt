@@ -19,6 +19,8 @@ mod given;
 pub mod laws;
 mod names;
 mod part_reads;
+#[cfg(test)]
+mod part_tests;
 mod part_writes;
 mod plan;
 mod planned_ranges;

@@ -25,7 +25,8 @@ fn ranges_of(
     form: &ChunkHeader,
     indexer: &Indexer,
 ) -> Result<Option<Vec<ByteRange>>, CodecError>
-    ensures plan { PlansPart (header_form (header_seen form.now)) (selection_of indexer.now) result }
+    ensures plan { PlansPart (header_form (header_seen form.now))
+        (selection_of indexer.now) result }
 {
     let chain = &form.chain;
     let handle = MemoryHandle::new();

@@ -14,7 +14,7 @@ use zarrs_codec::{SampleBytesCodec, SampleMaker};
 use zarrs_metadata::{MetadataV3, PluginCreateError};
 
 fn metadata_in(alloc: Global, items: &Vec<Value>) -> Result<Vec<MetadataV3>, PluginCreateError>
-    ensures { Answers plugin_memory (λ list. map metadata_seen list.items) result
+    ensures answer { Answers plugin_memory (λ list. map metadata_seen list.items) result
         (metadata_among (items_view items.now.items)) }
 {
     let mut list = Vec::with_capacity(alloc, items.len())?;

@@ -27,7 +27,7 @@ pub struct ChunkHeader {
 }
 
 fn shape(alloc: Global, tree: Option<&Value>) -> Result<ChunkShape, Refusal>
-    ensures { Answers wants_memory (λ shape. shape) result
+    ensures answer { Answers wants_memory (λ shape. shape) result
         (shape_at (option_map (λ v. view v.now) tree.entry)) }
 {
     let Some(tree) = tree else {
@@ -38,7 +38,7 @@ fn shape(alloc: Global, tree: Option<&Value>) -> Result<ChunkShape, Refusal>
 }
 
 fn named_type(alloc: Global, tree: Option<&Value>) -> Result<DataType, Refusal>
-    ensures { Answers wants_memory (λ data_type. data_type) result
+    ensures answer { Answers wants_memory (λ data_type. data_type) result
         (data_type_at (option_map (λ v. view v.now) tree.entry)) }
 {
     match tree {
@@ -48,7 +48,7 @@ fn named_type(alloc: Global, tree: Option<&Value>) -> Result<DataType, Refusal>
 }
 
 fn fill_value(alloc: Global, tree: Option<&Value>) -> Result<FillValue, Refusal>
-    ensures { Answers wants_memory (λ fill. fill) result
+    ensures answer { Answers wants_memory (λ fill. fill) result
         (fill_value_at (option_map (λ v. view v.now) tree.entry)) }
 {
     let Some(tree) = tree else {
@@ -59,7 +59,7 @@ fn fill_value(alloc: Global, tree: Option<&Value>) -> Result<FillValue, Refusal>
 }
 
 fn codecs(alloc: Global, tree: Option<&Value>) -> Result<CodecChain<SampleBytesCodec>, Refusal>
-    ensures { Answers wants_memory plain_chain result
+    ensures answer { Answers wants_memory plain_chain result
         (codecs_at (option_map (λ v. view v.now) tree.entry)) }
 {
     match tree {
@@ -69,7 +69,7 @@ fn codecs(alloc: Global, tree: Option<&Value>) -> Result<CodecChain<SampleBytesC
 }
 
 fn header_among(alloc: Global, members: &Members) -> Result<ChunkHeader, Refusal>
-    ensures { Answers wants_memory header_seen result
+    ensures answer { Answers wants_memory header_seen result
         (header_in (members_view members.now.entries)) }
 {
     let shape = shape(alloc, member(members, "shape"))?;

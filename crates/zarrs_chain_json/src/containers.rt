@@ -20,7 +20,7 @@ use zarrs_data_type::DataType;
 type Slot<'e> = Option<&'e Element>;
 
 fn plain_bytes(slot: Slot<'_>) -> Option<&[u8]>
-    ensures { option_map (λ bytes. bytes.now) result ≡ plain_bytes_of (slot_seen slot.entry) }
+    ensures value { option_map (λ bytes. bytes.now) result ≡ plain_bytes_of (slot_seen slot.entry) }
 {
     match slot {
         Some(Element::Plain(bytes)) => Some(bytes.as_slice()),
@@ -29,14 +29,14 @@ fn plain_bytes(slot: Slot<'_>) -> Option<&[u8]>
 }
 
 fn append_zeros(out: &mut Vec<u8>, size: usize) -> Result<(), AllocError>
-    ensures { OnOk result (out.new.items ≡ out.old.items ++ replicate size 0) }
+    ensures appended { OnOk result (out.new.items ≡ out.old.items ++ replicate size 0) }
 {
     append_copies(out, &[0], size as u64)
 }
 
 /// Appends the bytes of an element, or zeros where there is none.
 fn append_element(out: &mut Vec<u8>, size: usize, slot: Slot<'_>) -> Result<(), AllocError>
-    ensures { OnOk result
+    ensures appended { OnOk result
         (out.new.items ≡ out.old.items ++ bytes_or_zeros size (slot_seen slot.entry)) }
 {
     match plain_bytes(slot) {
@@ -47,7 +47,7 @@ fn append_element(out: &mut Vec<u8>, size: usize, slot: Slot<'_>) -> Result<(), 
 
 /// The bytes of elements of one size, one after another.
 fn fixed_bytes(alloc: Global, size: usize, slots: &[Slot<'_>]) -> Result<Vec<u8>, AllocError>
-    ensures { IfOk result (λ bytes. bytes.items ≡ chunk_bytes size (slots_seen slots.now)) }
+    ensures value { IfOk result (λ bytes. bytes.items ≡ chunk_bytes size (slots_seen slots.now)) }
 {
     let mut bytes = Vec::new(alloc);
     for slot in slots {
@@ -58,7 +58,7 @@ fn fixed_bytes(alloc: Global, size: usize, slots: &[Slot<'_>]) -> Result<Vec<u8>
 
 /// The bytes of elements of any length, one after another, and their offsets.
 fn variable_parts(alloc: Global, slots: &[Slot<'_>]) -> Result<(Vec<u8>, Vec<usize>), AllocError>
-    ensures { IfOk result
+    ensures value { IfOk result
         (λ parts. (parts.0.items, parts.1.items) ≡ chunk_cuts (slots_seen slots.now)) }
 {
     let mut bytes = Vec::new(alloc);
@@ -72,7 +72,7 @@ fn variable_parts(alloc: Global, slots: &[Slot<'_>]) -> Result<(Vec<u8>, Vec<usi
 }
 
 fn mask_byte(slot: Slot<'_>) -> u8
-    ensures { result ≡ presence (slot_seen slot.entry) }
+    ensures value { result ≡ presence (slot_seen slot.entry) }
 {
     match slot {
         Some(Element::Present(_)) => 1,
@@ -82,7 +82,7 @@ fn mask_byte(slot: Slot<'_>) -> u8
 
 /// The mask over elements that may be absent.
 fn mask(alloc: Global, slots: &[Slot<'_>]) -> Result<Vec<u8>, AllocError>
-    ensures { IfOk result (λ mask. mask.items ≡ mask_of (slots_seen slots.now)) }
+    ensures value { IfOk result (λ mask. mask.items ≡ mask_of (slots_seen slots.now)) }
 {
     let mut mask = Vec::with_capacity(alloc, slots.len())?;
     for slot in slots {
@@ -92,7 +92,7 @@ fn mask(alloc: Global, slots: &[Slot<'_>]) -> Result<Vec<u8>, AllocError>
 }
 
 fn inside(slot: Slot<'_>) -> Slot<'_>
-    ensures { slot_seen result ≡ under_mask (slot_seen slot.entry) }
+    ensures value { slot_seen result ≡ under_mask (slot_seen slot.entry) }
 {
     match slot {
         Some(Element::Present(inner)) => Some(inner),
@@ -102,7 +102,7 @@ fn inside(slot: Slot<'_>) -> Slot<'_>
 
 /// What stands under the mask of elements that may be absent.
 fn slots_inside<'e>(alloc: Global, slots: &[Slot<'e>]) -> Result<Vec<Slot<'e>>, AllocError>
-    ensures { IfOk result (λ v. slots_seen v.items ≡ map under_mask (slots_seen slots.now)) }
+    ensures value { IfOk result (λ v. slots_seen v.items ≡ map under_mask (slots_seen slots.now)) }
 {
     let mut inner = Vec::with_capacity(alloc, slots.len())?;
     for slot in slots {
@@ -112,14 +112,14 @@ fn slots_inside<'e>(alloc: Global, slots: &[Slot<'e>]) -> Result<Vec<Slot<'e>>, 
 }
 
 fn of_parts(bytes: Vec<u8>, offsets: Vec<usize>) -> Result<ArrayBytes<'static>, CodecError>
-    ensures { result ≡ variable_answer bytes.items offsets.items }
+    ensures answer { result ≡ variable_answer bytes.items offsets.items }
 {
     let offsets = ArrayBytesOffsets::new(offsets)?;
     ArrayBytes::new_vlen(CowSlice::Owned(bytes), offsets)
 }
 
 fn variable(alloc: Global, slots: &[Slot<'_>]) -> Result<ArrayBytes<'static>, Refusal>
-    ensures { Reads result (Ok (container_of text (slots_seen slots.now))) }
+    ensures answer { Reads result (Ok (container_of text (slots_seen slots.now))) }
 {
     let (bytes, offsets) = variable_parts(alloc, slots)?;
     match of_parts(bytes, offsets) {
@@ -133,7 +133,7 @@ fn under(
     inner: ArrayBytes<'static>,
     mask: Vec<u8>,
 ) -> Result<ArrayBytes<'static>, Refusal>
-    ensures { Reads result (codec_answer (with_mask inner.entry (owned_bytes mask.items))) }
+    ensures answer { Reads result (codec_answer (with_mask inner.entry (owned_bytes mask.items))) }
 {
     Ok(inner.with_optional_mask(alloc, CowSlice::Owned(mask))?)
 }

@@ -14,7 +14,7 @@ use std::alloc::Global;
 use zarrs_data_type::DataType;
 
 fn type_by_name(name: &str) -> Option<DataType>
-    ensures { result ≡ type_named name.now }
+    ensures value { result ≡ type_named name.now }
 {
     match name {
         "bool" => Some(DataType::bool()),
@@ -37,7 +37,7 @@ fn type_by_name(name: &str) -> Option<DataType>
 }
 
 fn number(members: &Members, key: &str) -> Result<u64, Refusal>
-    ensures { result ≡ ok_or (number_at key.now (members_seen members.now)) Refusal.Syntax }
+    ensures answer { result ≡ ok_or (number_at key.now (members_seen members.now)) Refusal.Syntax }
 {
     match member(members, key) {
         Some(Value::Number(number)) => number.as_u64().ok_or(Refusal::Syntax),
@@ -46,7 +46,7 @@ fn number(members: &Members, key: &str) -> Result<u64, Refusal>
 }
 
 fn truth(members: &Members, key: &str) -> Result<bool, Refusal>
-    ensures { result ≡ ok_or (truth_at key.now (members_seen members.now)) Refusal.Syntax }
+    ensures answer { result ≡ ok_or (truth_at key.now (members_seen members.now)) Refusal.Syntax }
 {
     match member(members, key) {
         Some(Value::Bool(truth)) => Ok(*truth),
@@ -56,7 +56,7 @@ fn truth(members: &Members, key: &str) -> Result<bool, Refusal>
 
 #[tactic(auto, using(crate::proofs::JsonLemmas::member_count_of_view))]
 fn components(members: &Members) -> Result<DataType, Refusal>
-    ensures { result ≡ components_in (members_seen members.now) }
+    ensures answer { result ≡ components_in (members_seen members.now) }
 {
     if members.len() != 3 {
         return Err(Refusal::Syntax);
@@ -69,7 +69,7 @@ fn components(members: &Members) -> Result<DataType, Refusal>
 }
 
 fn components_of(members: &Members) -> Result<&Members, Refusal>
-    ensures { seen lent_object result ≡ components_alone (members_seen members.now) }
+    ensures answer { seen lent_object result ≡ components_alone (members_seen members.now) }
 {
     match only_member(members, "components") {
         Some(Value::Object(inner)) => Ok(inner),
@@ -78,14 +78,14 @@ fn components_of(members: &Members) -> Result<&Members, Refusal>
 }
 
 fn several(members: &Members) -> Result<DataType, Refusal>
-    ensures { Reads result (components_among (members_seen members.now)) }
+    ensures answer { Reads result (components_among (members_seen members.now)) }
 {
     components(components_of(members)?)
 }
 
 /// The type of elements that may be absent, by what was read of the type inside.
 fn optional(alloc: Global, inner: Result<DataType, Refusal>) -> Result<DataType, Refusal>
-    ensures { (expected : Result ElementType Refusal) → Reads inner expected
+    ensures answer { (expected : Result ElementType Refusal) → Reads inner expected
         → Reads result (seen optional_of expected) }
 {
     match inner {

@@ -26,7 +26,7 @@ pub struct Edit {
 }
 
 fn value_at<'v>(members: &'v Members, key: &str) -> Result<&'v Value, Refusal>
-    ensures { seen (λ value. view value.now) result
+    ensures answer { seen (λ value. view value.now) result
         ≡ needed_member key.now (members_seen members.now) }
 {
     member(members, key).ok_or(Refusal::Syntax)
@@ -34,7 +34,8 @@ fn value_at<'v>(members: &'v Members, key: &str) -> Result<&'v Value, Refusal>
 
 /// The indexer is read before the elements.
 fn edit_of(alloc: Global, data_type: &DataType, at: &Value, items: &Value) -> Result<Edit, Refusal>
-    ensures { ReadsAs edit_seen result (edit_at data_type.now (view at.now) (view items.now)) }
+    ensures answer { ReadsAs edit_seen result
+        (edit_at data_type.now (view at.now) (view items.now)) }
 {
     let indexer = indexer(alloc, at)?;
     let elements = elements(alloc, data_type, items)?;
@@ -43,7 +44,7 @@ fn edit_of(alloc: Global, data_type: &DataType, at: &Value, items: &Value) -> Re
 
 #[tactic(auto, using(crate::proofs::JsonLemmas::member_count_of_view))]
 fn edit_among(alloc: Global, data_type: &DataType, members: &Members) -> Result<Edit, Refusal>
-    ensures { ReadsAs edit_seen result
+    ensures answer { ReadsAs edit_seen result
         (edit_among_members data_type.now (members_seen members.now)) }
 {
     if members.len() != 2 {

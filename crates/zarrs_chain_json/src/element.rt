@@ -25,7 +25,7 @@ pub enum Element {
 }
 
 fn bytes(alloc: Global, tree: &Value) -> Result<Vec<u8>, Refusal>
-    ensures { ReadsAs (λ v. v.items) result (bytes_in (view tree.now)) }
+    ensures answer { ReadsAs (λ v. v.items) result (bytes_in (view tree.now)) }
 {
     match tree {
         Value::String(_) => hex_bytes(alloc, tree),
@@ -36,7 +36,7 @@ fn bytes(alloc: Global, tree: &Value) -> Result<Vec<u8>, Refusal>
 
 /// An element that is bytes: as many as the type has, where it has a size.
 fn plain_element(alloc: Global, size: Option<usize>, tree: &Value) -> Result<Vec<u8>, Refusal>
-    ensures { ReadsAs (λ bytes. plain bytes.items) result (plain_in size (view tree.now)) }
+    ensures answer { ReadsAs (λ bytes. plain bytes.items) result (plain_in size (view tree.now)) }
 {
     let bytes = bytes(alloc, tree)?;
     match size {

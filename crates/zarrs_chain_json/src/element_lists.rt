@@ -19,7 +19,8 @@ fn elements_among(
     data_type: &DataType,
     items: &Vec<Value>,
 ) -> Result<Vec<Element>, Refusal>
-    ensures { ReadsAs chunk_seen result (elements_in data_type.now (items_view items.now.items)) }
+    ensures answer { ReadsAs chunk_seen result
+        (elements_in data_type.now (items_view items.now.items)) }
 {
     let mut elements = Vec::new(alloc);
     for item in items {
@@ -31,7 +32,7 @@ fn elements_among(
 
 /// The places of elements, each with its element.
 fn slots(alloc: Global, elements: &[Element]) -> Result<Vec<Option<&Element>>, AllocError>
-    ensures { IfOk result (λ slots. slots_seen slots.items ≡ map element_seen elements.now) }
+    ensures value { IfOk result (λ slots. slots_seen slots.items ≡ map element_seen elements.now) }
 {
     let mut slots = Vec::with_capacity(alloc, elements.len())?;
     for element in elements {

@@ -14,7 +14,7 @@ use std::ops::Range;
 use zarrs_chunk::{ArrayIndices, ArraySubset, Indexer};
 
 fn between(ends: &[u64]) -> Option<Range<u64>>
-    ensures { result ≡ range_between ends.now }
+    ensures value { result ≡ range_between ends.now }
 {
     match ends {
         [start, end] => Some(*start..*end),
@@ -23,14 +23,14 @@ fn between(ends: &[u64]) -> Option<Range<u64>>
 }
 
 fn range(alloc: Global, tree: &Value) -> Result<Range<u64>, Refusal>
-    ensures { Reads result (range_in (view tree.now)) }
+    ensures answer { Reads result (range_in (view tree.now)) }
 {
     let ends = numbers(alloc, tree)?;
     between(&ends).ok_or(Refusal::Syntax)
 }
 
 fn ranges_among(alloc: Global, items: &Vec<Value>) -> Result<Vec<Range<u64>>, Refusal>
-    ensures { ReadsAs (λ v. v.items) result (ranges_in (items_view items.now.items)) }
+    ensures answer { ReadsAs (λ v. v.items) result (ranges_in (items_view items.now.items)) }
 {
     let mut ranges = Vec::new(alloc);
     for item in items {
@@ -41,7 +41,8 @@ fn ranges_among(alloc: Global, items: &Vec<Value>) -> Result<Vec<Range<u64>>, Re
 }
 
 fn tuples_among(alloc: Global, items: &Vec<Value>) -> Result<Vec<ArrayIndices>, Refusal>
-    ensures { ReadsAs (λ v. tuples_seen v.items) result (tuples_in (items_view items.now.items)) }
+    ensures answer { ReadsAs (λ v. tuples_seen v.items) result
+        (tuples_in (items_view items.now.items)) }
 {
     let mut tuples = Vec::new(alloc);
     for item in items {
@@ -52,7 +53,7 @@ fn tuples_among(alloc: Global, items: &Vec<Value>) -> Result<Vec<ArrayIndices>, 
 }
 
 fn subset(alloc: Global, tree: &Value) -> Result<Indexer, Refusal>
-    ensures { ReadsAs selection_of result (ranges_selection (view tree.now)) }
+    ensures answer { ReadsAs selection_of result (ranges_selection (view tree.now)) }
 {
     let Value::Array(items) = tree else {
         return Err(Refusal::Syntax);
@@ -63,7 +64,7 @@ fn subset(alloc: Global, tree: &Value) -> Result<Indexer, Refusal>
 }
 
 fn indices(alloc: Global, tree: &Value) -> Result<Indexer, Refusal>
-    ensures { ReadsAs selection_of result (indices_selection (view tree.now)) }
+    ensures answer { ReadsAs selection_of result (indices_selection (view tree.now)) }
 {
     match tree {
         Value::Array(items) => Ok(Indexer::Indices(tuples_among(alloc, items)?)),

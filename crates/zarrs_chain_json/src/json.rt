@@ -18,7 +18,7 @@ pub type Members = Map<String, Value>;
 
 #[cycle(floats)]
 fn holds_float(value: &Value) -> bool
-    ensures { result ≡ has_float (view value.now) }
+    ensures value { result ≡ has_float (view value.now) }
 {
     match value {
         Value::Null => false,
@@ -32,7 +32,7 @@ fn holds_float(value: &Value) -> bool
 
 #[cycle(floats)]
 fn items_hold_float(items: &Vec<Value>) -> bool
-    ensures { result ≡ items_have_float (items_view items.now.items) }
+    ensures value { result ≡ items_have_float (items_view items.now.items) }
 {
     for item in items {
         if holds_float(item) {
@@ -44,7 +44,7 @@ fn items_hold_float(items: &Vec<Value>) -> bool
 
 #[cycle(floats)]
 fn members_hold_float(members: &Members) -> bool
-    ensures { result ≡ members_have_float (members_seen members.now) }
+    ensures value { result ≡ members_have_float (members_seen members.now) }
 {
     for (key, member) in members.iter() {
         if holds_float(member) {
@@ -118,13 +118,14 @@ pub fn lone(items: &Vec<Value>) -> Option<&Value>
 }
 
 fn number(tree: &Value) -> Result<u64, Refusal>
-    ensures { result ≡ ok_or (option_and_then as_u64 (as_number (view tree.now))) Refusal.Syntax }
+    ensures answer { result
+        ≡ ok_or (option_and_then as_u64 (as_number (view tree.now))) Refusal.Syntax }
 {
     tree.as_u64().ok_or(Refusal::Syntax)
 }
 
 fn numbers_among(alloc: Global, items: &Vec<Value>) -> Result<Vec<u64>, Refusal>
-    ensures { ReadsAs (λ v. v.items) result (numbers_in (items_view items.now.items)) }
+    ensures answer { ReadsAs (λ v. v.items) result (numbers_in (items_view items.now.items)) }
 {
     let mut numbers = Vec::new(alloc);
     for item in items {

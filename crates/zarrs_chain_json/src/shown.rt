@@ -20,7 +20,7 @@ use zarrs_chunk::CodecError;
 use zarrs_data_type::DataType;
 
 fn hex_value(alloc: Global, bytes: &[u8]) -> Result<Value, Refusal>
-    ensures { ReadsAs view result (Ok (hex_tree bytes.now)) }
+    ensures answer { ReadsAs view result (Ok (hex_tree bytes.now)) }
 {
     let text = hex::encode(alloc, bytes)?;
     Ok(Value::String(text))
@@ -28,8 +28,8 @@ fn hex_value(alloc: Global, bytes: &[u8]) -> Result<Value, Refusal>
 
 /// The element at a place, where each has so many bytes.
 fn fixed_value(alloc: Global, size: usize, bytes: &[u8], place: usize) -> Result<Value, Refusal>
-    requires { place * size + size ≤ length bytes.now }
-    ensures { ReadsAs view result (Ok (hex_tree (piece size bytes.now place))) }
+    requires inside { place * size + size ≤ length bytes.now }
+    ensures answer { ReadsAs view result (Ok (hex_tree (piece size bytes.now place))) }
 {
     let start = place * size;
     hex_value(alloc, &bytes[start..start + size])
@@ -45,14 +45,14 @@ fn variable_value(
     requires inside { place + 1 < length offsets.now }
     requires rising { is_offsets offsets.now ≡ true }
     requires ending { last_of offsets.now ≡ length bytes.now }
-    ensures { ReadsAs view result (Ok (hex_tree (cut offsets.now bytes.now place))) }
+    ensures answer { ReadsAs view result (Ok (hex_tree (cut offsets.now bytes.now place))) }
 {
     hex_value(alloc, &bytes[offsets[place]..offsets[place + 1]])
 }
 
 /// A list of one.
 fn lone_value(alloc: Global, tree: Value) -> Result<Value, Refusal>
-    ensures { ReadsAs view result (Ok (array (item (view tree) no_items))) }
+    ensures answer { ReadsAs view result (Ok (array (item (view tree) no_items))) }
 {
     let mut items = Vec::with_capacity(alloc, 1)?;
     items.push(tree)?;
@@ -66,8 +66,8 @@ fn value_at(
     elements: &ArrayBytes<'_>,
     place: usize,
 ) -> Result<Value, Refusal>
-    requires { HasElement data_type.now elements.now place }
-    ensures { ReadsAs view result (Ok (tree_at data_type.now elements.now place)) }
+    requires known { HasElement data_type.now elements.now place }
+    ensures answer { ReadsAs view result (Ok (tree_at data_type.now elements.now place)) }
 {
     if let Some(inner_type) = data_type.as_optional() {
         let (inner, mask) = elements.as_optional()?;
@@ -111,8 +111,8 @@ fn values(
     elements: &ArrayBytes<'_>,
     count: usize,
 ) -> Result<Vec<Value>, Refusal>
-    requires { HasElements data_type.now count elements.now }
-    ensures { ReadsAs trees_in result (Ok (trees_of data_type.now elements.now count)) }
+    requires known { HasElements data_type.now count elements.now }
+    ensures answer { ReadsAs trees_in result (Ok (trees_of data_type.now elements.now count)) }
 {
     let mut values = Vec::with_capacity(alloc, count)?;
     for place in 0..count {

@@ -1,7 +1,6 @@
 -- One array codec after another.
-use Rattle.std.proofs.Common.{◌≡◌, ℕ, ◌<◌, ◌^◌, nat_lt, if◌then◌else◌, Bool, true, ◌≤◌, ◌-◌, arith, take, drop, get_or, List, [], ◌∷◌, length, map, Result, Ok, Err, IfOk, false, refl, ap, sym, subst, ◌∙◌}
+use Rattle.std.proofs.Common.{◌≡◌, ℕ, ◌<◌, ◌^◌, nat_lt, if◌then◌else◌, Bool, true, List, [], ◌∷◌, length, Result, Ok, Err, IfOk, false, refl, ap, sym, subst, ◌∙◌}
 use Rattle.std.specs.List.{All}
-use Rattle.std.proofs.lemmas.List.{take_all}
 use Rattle.zarrs_chunk.specs.Answer.{◌>>=◌, seen, checked_u64, Answers, AnswersBy, memory}
 use Rattle.zarrs_chunk.specs.ChunkShape.{product}
 use Rattle.zarrs_chunk.specs.declared.codec_error.CodecError.{CodecError}
@@ -15,12 +14,11 @@ use Rattle.zarrs_codec.specs.CoordinateMap.{CoordinateMap, IsCoordinateMap, IsMa
 use Rattle.zarrs_codec.specs.MappedChunk.{encoded_chunk, decoded_chunk}
 use Rattle.zarrs_array_to_array.specs.ArrayToArrayCodec.{ArrayMapping, coordinates}
 use Rattle.zarrs_array_to_array.specs.CodecAnswers.{type_taken}
-use Rattle.zarrs_array_to_array.specs.Mapping.{mapping_of}
-use Rattle.zarrs_array_to_array.specs.declared.array_to_array_codec.ArrayToArrayCodec.{ArrayToArrayCodec}
 use Rattle.zarrs_array_to_array.proofs.CoordinateMaps.{composed_map, undone_map, length-moved, moved_twice, kept_places}
 use Rattle.zarrs_chain_laws.specs.ArrayStages.{codec_map, arrays_map, IsMapWhere}
 use Rattle.zarrs_bytes.proofs.Coding.{ok, bind_ok}
 use Rattle.zarrs_array_bytes.proofs.UpdatedLemmas.{length-elements}
+use Rattle.zarrs_array_to_array.proofs.MappedChunks.{holds_elements}
 
 -- ---- answers
 
@@ -44,24 +42,6 @@ pub error_is : {A : Type 0} (x : A) (cause error : CodecError) → err {A = A} c
 error_is x cause error e = cc
 
 -- ---- the parts of a list of codecs
-
--- all items but the first
-abbrev pub behind : {X : Type 0} → List X → List X
-behind xs = take (length xs - 1) (drop 1 xs)
-
-take_whole : {X : Type 0} (xs : List X) (n : ℕ) → n ≡ length xs → take n xs ≡ xs
-take_whole {X} xs n e = ap (λ (k : ℕ). take k xs) e ∙ take_all (length xs) xs (omega arith)
-
-first_is : {X : Type 0} (xs : List X) (first : X) → 1 ≤ length xs → first ≡ get_or xs 0 first → xs ≡ first ∷ behind xs
-first_is [] first l e = absurd (omega arith)
-first_is (x ∷ xs) first l e = ap (λ y. y ∷ xs) (sym e) ∙ ap (λ ys. first ∷ ys) (sym (take_whole xs (length (x ∷ xs) - 1) (omega arith)))
-
-pub mappings_are : (codecs : List ArrayToArrayCodec) (first : ArrayToArrayCodec) → 1 ≤ length codecs → first ≡ get_or codecs 0 first → map mapping_of codecs ≡ mapping_of first ∷ map mapping_of (behind codecs)
-mappings_are codecs first l e = ap (map mapping_of) (first_is codecs first l e)
-
-pub no_mappings : (codecs : List ArrayToArrayCodec) → length codecs < 1 → map mapping_of codecs ≡ []
-no_mappings [] l = refl
-no_mappings (codec ∷ codecs) l = absurd (omega (arith, l))
 
 -- ---- shapes
 
@@ -179,13 +159,6 @@ encoded_whole takes coordinates type sizes held t = rw (t.taken, t.done, t.count
 
 pub decoded_whole : (takes : Result (Unit {0}) CodecError) (coordinates : Result CoordinateMap CodecError) (type : ElementType) (sizes : List ℕ) (held : Held) (t : TakenChunk takes coordinates type sizes held) → decoded_chunk takes coordinates type sizes held ≡ Ok (moved_chunk (inverse_map sizes t.map_is) (elements type (product sizes) held))
 decoded_whole takes coordinates type sizes held t = rw (t.taken, t.done, t.counted, t.valid) refl
-
--- a container of so many elements holds them
-pub holds_elements : (type : ElementType) (count : ℕ) (held : Held) → validity type count held ≡ Ok tt → Holds type held (elements type count held)
-holds_elements type count held e = record {
-  valid = ap (λ n. validity type n held) (length-elements type count held) ∙ e;
-  elements_are = ap (λ n. elements type n held) (length-elements type count held);
-}
 
 -- ---- encoding
 

@@ -21,7 +21,7 @@ use Rattle.zarrs_chain_laws.specs.Stands.{ChainStands}
 use Rattle.zarrs_chain_laws.specs.Written.{ChainWritten}
 use Rattle.zarrs_bytes.proofs.Coding.{bind_ok}
 use Rattle.zarrs_array_bytes.proofs.UpdatedLemmas.{length-elements}
-use Rattle.zarrs_chain_laws.proofs.ArraySteps.{holds_elements}
+use Rattle.zarrs_array_to_array.proofs.MappedChunks.{holds_elements}
 use Rattle.zarrs_chain_laws.proofs.ChainSteps.{held_chunk}
 use Rattle.zarrs_chain_laws.proofs.NestedDecode.{chain_chunk_only}
 use Rattle.zarrs_chain_laws.proofs.NestedEncode.{chain_value_only}

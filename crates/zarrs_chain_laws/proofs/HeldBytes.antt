@@ -1,5 +1,5 @@
 -- A container of bytes holds a chunk of bytes, and what is written for that chunk is decoded again.
-use Rattle.std.proofs.Common.{◌≡◌, ℕ, zero, suc, ◌<◌, List, length, map, get_or, Ok, refl, sym, subst}
+use Rattle.std.proofs.Common.{◌≡◌, ℕ, zero, suc, ◌<◌, List, length, get_or, Ok, refl, sym, subst}
 use Rattle.std.specs.List.{All, range_with_len}
 use Rattle.std.specs.Prelude.{IsOk, slice_index}
 use Rattle.std.proofs.lemmas.List.Elements.{All-take, All-drop, All-map}

@@ -14,7 +14,7 @@ use Rattle.zarrs_array_to_array.specs.ArrayToArrayCodec.{ArrayMapping, IsMapping
 use Rattle.zarrs_array_to_array.proofs.CoordinateMaps.{moved_back}
 use Rattle.zarrs_bytes.proofs.Exact.{decoded_only}
 use Rattle.zarrs_packbits.proofs.Exact as packbits
-use Rattle.zarrs_packbits.proofs.Tests.{to_nat_lt}
+use Rattle.zarrs_chunk.proofs.Inside.{lt_test}
 use Rattle.zarrs_chain_laws.specs.PlainChain.{PlainCodec, bytes_codec, packbits_codec, vlen_codec, optional_codec, PlainChain}
 use Rattle.zarrs_chain_laws.specs.Decode.{Decoder, part_chunk, length_of, offsets_in_chunk, slices, vlen_parts, vlen_chunk, optional_parts, flags_in, count_set, under_flags, optional_chunk, around_chunk, codec_chunk, chain_chunk}
 use Rattle.zarrs_chain_laws.specs.Encode.{offset_bytes, all_bytes, flag_of, present_of}
@@ -76,7 +76,7 @@ optional_parts_of head next mask items a8 b8 hm hd lt =
     let dx : drop (length_of (take 8 v)) (drop 16 v) ≡ items = (λ i. drop (m i) (rest i)) ∙ drop_at mask items (length mask) refl in
     let total : 16 + length_of (take 8 v) + length_of (take 8 (drop 8 v)) ≡ length v = omega (arith, m, d, long) in
     let first : nat_le 16 (length v) ≡ true = le-leb 16 (length v) (omega arith) in
-    let second : nat_lt (16 + length_of (take 8 v) + length_of (take 8 (drop 8 v))) (2 ^ 64) ≡ true = to_nat_lt (16 + length_of (take 8 v) + length_of (take 8 (drop 8 v))) (2 ^ 64) (omega (arith, lt, total)) in
+    let second : nat_lt (16 + length_of (take 8 v) + length_of (take 8 (drop 8 v))) (2 ^ 64) ≡ true = lt_test (16 + length_of (take 8 v) + length_of (take 8 (drop 8 v))) (2 ^ 64) (omega (arith, lt, total)) in
     let third : nat_eq (length v) (16 + length_of (take 8 v) + length_of (take 8 (drop 8 v))) ≡ true = eq-eqb (length v) (16 + length_of (take 8 v) + length_of (take 8 (drop 8 v))) (sym total) in
     rw (first, second, third) (λ i. ok (mx i, dx i))
 
@@ -92,7 +92,7 @@ vlen_only : (wide at_end : Bool) (is cs : Standing) (ie ce : Decoder) → Decode
 vlen_only wide at_end is cs ie ce ilaw claw count value chunk s =
     let parts : vlen_parts at_end value ≡ Ok (s.index_part, s.data_part) = ap (vlen_parts at_end) s.parts ∙ vlen_parts_of at_end s.head s.index_part s.data_part s.head_size s.head_is in
     let offsets = offsets_in_chunk wide s.offset_chunk in
-    vlen_steps wide at_end ie ce count value s.index_part s.data_part s.offset_chunk s.byte_chunk parts (to_nat_lt (count + 1) (2 ^ 64) s.countable)
+    vlen_steps wide at_end ie ce count value s.index_part s.data_part s.offset_chunk s.byte_chunk parts (lt_test (count + 1) (2 ^ 64) s.countable)
     (ilaw ((count + 1) ∷ []) (offset_type wide) (offset_bytes wide 0) s.index_part s.offset_chunk (row_positive (count + 1) (omega arith)) s.index_stands) s.rising
     (subst (λ (n : ℕ). part_chunk ce byte_type (0 ∷ []) n s.data_part ≡ Ok s.byte_chunk) s.byte_count (part_only cs ce claw byte_type (0 ∷ []) s.data_part s.byte_chunk s.data_stands))
     ∙ ap (λ (c : Chunk). ok c) (sym s.elements)

@@ -1,7 +1,5 @@
 -- What codecs to bytes answer is what is written, with chains inside too.
-use Rattle.std.proofs.Common.{◌≡◌, ℕ, ◌<◌, ◌^◌, nat_eq, nat_lt, Bool, true, List, [], ◌∷◌, length, map, Ok, arith, refl, ap, sym, subst, ◌∙◌}
-use Rattle.std.specs.Cmp.Lexicographic.{pointwise}
-use Rattle.std.proofs.lemmas.Bool.{eq-eqb}
+use Rattle.std.proofs.Common.{◌≡◌, ℕ, ◌<◌, ◌^◌, nat_lt, Bool, true, List, [], ◌∷◌, length, map, Ok, arith, refl, ap, sym, subst, ◌∙◌}
 use Rattle.std.proofs.lemmas.Bool.Decides.{nat_tests}
 use Rattle.zarrs_data_type.specs.ElementType.{ElementType, fixed, text, bytes, optional}
 use Rattle.zarrs_data_type.specs.Element.{Chunk}
@@ -18,6 +16,7 @@ use Rattle.zarrs_chain_laws.specs.Stands.{Standing}
 use Rattle.zarrs_chain_laws.specs.Written.{PartWritten, VlenWritten, OptionalWrittenFor, WrittenThrough, CodecWritten, ChainWritten}
 use Rattle.zarrs_bytes.proofs.Coding.{ok}
 use Rattle.zarrs_chain_laws.proofs.NestedNormal.{Keeping}
+use Rattle.zarrs_array_bytes.specs.SameBytesLaws.{numbers_same}
 
 -- what is written is answered
 abbrev pub Encodes : Standing → Encoder → Type 0
@@ -37,16 +36,9 @@ outer_only : {B : Type 0} (f : BytesCodecs B) (codecs : List B) (below value : L
 outer_only f [] below value h = memory_so below h.0 ∙ ap ok (sym h.1)
 outer_only f (codec ∷ codecs) below value h = rw (memory_so below h.0) (outer_only f codecs (f.encoded_bytes codec below) value h.1)
 
-same_number : (n : ℕ) → nat_eq n n ≡ true
-same_number n = eq-eqb n n refl
-
-pub same_items : (xs : List ℕ) → pointwise nat_eq xs xs ≡ true
-same_items [] = refl
-same_items (x ∷ xs) = rw (same_number x) (same_items xs)
-
 pub same_bytes : (chunk : Chunk) → is_same_bytes chunk chunk ≡ true
 same_bytes [] = refl
-same_bytes (element ∷ chunk) = rw (same_items (bytes_of element)) (same_bytes chunk)
+same_bytes (element ∷ chunk) = rw (numbers_same (bytes_of element)) (same_bytes chunk)
 
 part_only : (write : Standing) (encode : Encoder) → Encodes write encode → (type : ElementType) (fill part : List ℕ) (chunk : Chunk) → PartWritten write type fill part chunk → part_value encode type fill chunk ≡ Ok part
 part_only write encode law type fill part [] w = ap ok (sym w)

@@ -5,7 +5,8 @@ use Rattle.zarrs_data_type.specs.Element.{plain, absent, present, Chunk}
 use Rattle.zarrs_packbits.specs.KeptBits.{component_bits, kept_component}
 use Rattle.zarrs_packbits.specs.PackBitsSettings.{first_of, last_of, has_bits}
 use Rattle.zarrs_packbits.specs.Packing.{packing}
-use Rattle.zarrs_packbits.proofs.Tests.{and_first, and_second, from_nat_le, from_nat_lt}
+use Rattle.zarrs_codec.proofs.Fences.{second_true, first_true}
+use Rattle.zarrs_chunk.proofs.Inside.{from_lt_test, from_le_test}
 use Rattle.zarrs_chain_laws.specs.PlainChain.{PlainCodec, bytes_codec, packbits_codec, vlen_codec, optional_codec}
 use Rattle.zarrs_chain_laws.specs.Encode.{flag_of}
 use Rattle.zarrs_chain_laws.specs.NormalForm.{normal_element}
@@ -23,8 +24,8 @@ kept_flag first last byte = packing (flat_map (λ part. kept_component first (la
 
 only_bit : (first last byte : ℕ) → (nat_le first last && nat_lt last 1) ≡ true → kept_flag 0 0 byte ≡ byte ∷ [] → kept_flag first last byte ≡ byte ∷ []
 only_bit first last byte h e =
-    let le = from_nat_le first last (and_first (nat_le first last) (nat_lt last 1) h) in
-    let lt = from_nat_lt last 1 (and_second (nat_le first last) (nat_lt last 1) h) in
+    let le = from_le_test first last (first_true (nat_le first last) (nat_lt last 1) h) in
+    let lt = from_lt_test last 1 (second_true (nat_le first last) (nat_lt last 1) h) in
     let last_zero : last ≡ 0 = omega arith in
     let first_zero : first ≡ 0 = omega arith in
     (λ i. kept_flag (first_zero i) (last_zero i) byte) ∙ e

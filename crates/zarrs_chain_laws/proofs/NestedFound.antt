@@ -3,7 +3,6 @@ use Rattle.zarrs_data_type.specs.Form.{form_of}
 use Rattle.std.proofs.Common.{◌≡◌, ℕ, suc, ◌<◌, ◌^◌, nat_eq, nat_lt, if◌then◌else◌, Bool, true, false, List, [], ◌∷◌, length, map, Ok, arith, refl, ap, sym, subst, ◌∙◌}
 use Rattle.std.specs.Cmp.Lexicographic.{pointwise}
 use Rattle.std.specs.List.{All}
-use Rattle.std.proofs.lemmas.Bool.{eqb-true}
 use Rattle.std.proofs.lemmas.Bool.Decides.{nat_tests}
 use Rattle.std.proofs.lemmas.List.{length-map}
 use Rattle.std.proofs.lemmas.List.Elements.{All-nil, All-cons}
@@ -24,7 +23,7 @@ use Rattle.zarrs_bytes.proofs.Coding.{demand_ok, ok, bind_ok}
 use Rattle.zarrs_packbits.specs.BitStream.{chunk_stream}
 use Rattle.zarrs_packbits.specs.PackBitsSettings.{packed_layout}
 use Rattle.zarrs_packbits.specs.PaddingByte.{value_with}
-use Rattle.zarrs_packbits.proofs.Tests.{and_first, and_second}
+use Rattle.zarrs_codec.proofs.Fences.{second_true, first_true}
 use Rattle.zarrs_chain_laws.specs.PlainChain.{PlainCodec, bytes_codec, packbits_codec, vlen_codec, optional_codec, PlainChain}
 use Rattle.zarrs_chain_laws.specs.ArrayStages.{arrays_map}
 use Rattle.zarrs_chain_laws.specs.BytesStages.{in_memory, outer_value, OuterWritten}
@@ -40,6 +39,7 @@ use Rattle.zarrs_chain_laws.proofs.NestedForNormal.{items_are, present_are, row_
 use Rattle.zarrs_chain_laws.proofs.NestedNormal.{Keeping, KeepsTypes, kept_is}
 use Rattle.zarrs_chain_laws.proofs.NestedStages.{outer_small, arrays_are_map, row_positive}
 use Rattle.zarrs_chain_laws.proofs.NestedWrittenStands.{moved_is}
+use Rattle.zarrs_array_bytes.specs.SameBytesLaws.{same_numbers}
 
 -- what a chain answers of elements of the type is written
 abbrev pub Founds : Standing → Encoder → Type 0
@@ -87,15 +87,6 @@ offsets_are : (wide : Bool) (offsets : List ℕ) → AreElements (offset_type wi
 offsets_are wide [] = All-nil (IsElement (offset_type wide))
 offsets_are wide (offset ∷ offsets) = All-cons (IsElement (offset_type wide)) (plain (offset_bytes wide offset)) (offset_elements wide offsets) (offset_is wide offset) (offsets_are wide offsets)
 
-same_numbers : (xs ys : List ℕ) → pointwise nat_eq xs ys ≡ true → xs ≡ ys
-same_numbers [] [] h = refl
-same_numbers [] (y ∷ ys) h = absurd cc
-same_numbers (x ∷ xs) [] h = absurd cc
-same_numbers (x ∷ xs) (y ∷ ys) h =
-    let first : x ≡ y = eqb-true x y (and_first (nat_eq x y) (pointwise nat_eq xs ys) h) in
-    let rest = same_numbers xs ys (and_second (nat_eq x y) (pointwise nat_eq xs ys) h) in
-    λ i. first i ∷ rest i
-
 fixed_plain : (width components : ℕ) (sign : Bool) (element : Element) → IsElement (fixed width components sign) element → element ≡ plain (bytes_of element)
 fixed_plain width components sign (plain items) h = refl
 fixed_plain width components sign absent h = absurd h
@@ -112,8 +103,8 @@ offsets_same wide keep k [] h = refl
 offsets_same wide keep k (offset ∷ offsets) h =
     let here = pointwise nat_eq (bytes_of (keep (offset_type wide) (plain (offset_bytes wide offset)))) (offset_bytes wide offset) in
     let more = is_same_bytes (map (keep (offset_type wide)) (offset_elements wide offsets)) (offset_elements wide offsets) in
-    let first = offset_same wide keep k offset (and_first here more h) in
-    let rest = offsets_same wide keep k offsets (and_second here more h) in
+    let first = offset_same wide keep k offset (first_true here more h) in
+    let rest = offsets_same wide keep k offsets (second_true here more h) in
     λ i. first i ∷ rest i
 
 -- ---- codecs with chains inside

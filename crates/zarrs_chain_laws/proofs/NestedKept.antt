@@ -1,7 +1,6 @@
 -- Written values are bytes, as many as was said, by chains with chains inside too.
 use Rattle.zarrs_data_type.specs.Form.{form_of}
-use Rattle.std.proofs.Common.{◌≡◌, ℕ, zero, suc, ◌+◌, ◌/◌, ◌<◌, ◌≤◌, ◌^◌, nat_lt, if◌then◌else◌, Bool, true, false, List, [], ◌∷◌, ◌++◌, length, map, Result, Ok, Err, arith, refl, ap, sym, subst, ◌∙◌}
-use Rattle.std.specs.Int.{byte_at, bytes_low_first}
+use Rattle.std.proofs.Common.{◌≡◌, ℕ, suc, ◌+◌, ◌<◌, ◌≤◌, ◌^◌, nat_lt, if◌then◌else◌, Bool, true, false, List, [], ◌∷◌, ◌++◌, length, map, Result, Ok, Err, arith, refl, ap, sym, subst, ◌∙◌}
 use Rattle.std.specs.List.{All}
 use Rattle.std.proofs.lemmas.List.{length-append}
 use Rattle.std.proofs.lemmas.List.Elements.{All-append, All-nil, All-cons, All-head, All-tail}
@@ -35,6 +34,7 @@ use Rattle.zarrs_chain_laws.proofs.NestedGrowth.{Grows, is_both, vlen_unbounded,
 use Rattle.zarrs_chain_laws.proofs.NestedNormal.{Keeping}
 use Rattle.zarrs_chain_laws.proofs.NestedStages.{all_selected, spelling_bytes, element_bytes, outer_opened, arrays_are_map, row_positive, is_byte}
 use Rattle.zarrs_chain_laws.proofs.PackedElements.{packed_bytes}
+use Rattle.zarrs_codec.specs.SampleLaws.{low_first_are_bytes}
 
 -- bytes, as many as was said
 pub record AreKept (r : BytesRepresentation) (value : List ℕ) : Type 0 where
@@ -61,17 +61,9 @@ WritesMeasured write measure =
 
 -- ---- bytes of numbers
 
-byte_small : (i n : ℕ) → byte_at i n < 256
-byte_small zero n = omega arith
-byte_small (suc i) n = let part = n / 256 ^ suc i in omega arith
-
-low_first : (i k n : ℕ) → AreBytes (bytes_low_first i k n)
-low_first i zero n = All-nil is_byte
-low_first i (suc k) n = All-cons is_byte (byte_at i n) (bytes_low_first (suc i) k n) (byte_small i n) (low_first (suc i) k n)
-
 length_are : (part : List ℕ) → AreBytes (length_bytes part)
 unfolding length_bytes
-length_are part = low_first 0 8 (length part)
+length_are part = low_first_are_bytes 0 8 (length part)
 
 pub length_long : (part : List ℕ) → length (length_bytes part) ≡ 8
 unfolding length_bytes
@@ -79,8 +71,8 @@ length_long part = refl
 
 offset_are : (wide : Bool) (offset : ℕ) → AreBytes (offset_bytes wide offset)
 unfolding offset_bytes
-offset_are true offset = low_first 0 8 offset
-offset_are false offset = low_first 0 4 offset
+offset_are true offset = low_first_are_bytes 0 8 offset
+offset_are false offset = low_first_are_bytes 0 4 offset
 
 -- ---- bytes of the chunks of inner chains
 

@@ -1,5 +1,5 @@
 -- What codecs keep of elements, those with chains inside too.
-use Rattle.std.proofs.Common.{◌≡◌, ℕ, zero, suc, List, [], ◌∷◌, get_or, map, set, arith, refl, ap, sym, ◌∙◌}
+use Rattle.std.proofs.Common.{◌≡◌, ℕ, List, [], ◌∷◌, get_or, map, set, arith, refl, ap, sym, ◌∙◌}
 use Rattle.std.proofs.lemmas.List.{length-map}
 use Rattle.std.proofs.lemmas.List.Elements.{All-nil, All-cons, All-head, All-tail}
 use Rattle.std.proofs.Math.ListN.{get_or-map}
@@ -12,7 +12,8 @@ use Rattle.zarrs_bytes.specs.BytesCodec.{IsChunk}
 use Rattle.zarrs_chain_laws.specs.PlainChain.{PlainCodec, bytes_codec, packbits_codec, vlen_codec, optional_codec}
 use Rattle.zarrs_chain_laws.specs.NormalForm.{the_byte, vlen_normal, optional_normal, normal_element, normal_form}
 use Rattle.zarrs_chain_laws.specs.Representation.{byte_type}
-use Rattle.zarrs_chain_laws.proofs.PackedElements.{element_is, element_again, absent_stays}
+use Rattle.zarrs_chain_laws.proofs.PackedElements.{element_is, element_again}
+use Rattle.zarrs_packbits.proofs.CodecLaws.{map_set, normal_absent}
 
 -- what is kept of elements
 abbrev pub Keeping : Type 0
@@ -139,7 +140,7 @@ optional_absent keep (optional type) = refl
 kept_absent : {B : Type 0} (codec : PlainCodec B) (type : ElementType) → normal_element codec type absent ≡ absent
 unfolding normal_element
 kept_absent (bytes_codec order) type = refl
-kept_absent (packbits_codec settings) type = absent_stays settings type
+kept_absent (packbits_codec settings) type = normal_absent settings type
 kept_absent (vlen_codec ia ix ib da dx db wide at_end) type = vlen_absent (normal_element dx) type
 kept_absent (optional_codec ma mx mb da dx db) type = optional_absent (normal_element dx) type
 
@@ -156,11 +157,6 @@ pub normal_moved : {B : Type 0} (codec : PlainCodec B) (type : ElementType) (m :
 normal_moved codec type m chunk = normal_selected codec type chunk (origins m)
 
 -- ---- updated elements
-
-map_set : (keep : Element → Element) (chunk : Chunk) (place : ℕ) (element : Element) → map keep (set chunk place element) ≡ set (map keep chunk) place (keep element)
-map_set keep [] place element = refl
-map_set keep (x ∷ chunk) zero element = refl
-map_set keep (x ∷ chunk) (suc place) element = ap (λ (c : Chunk). keep x ∷ c) (map_set keep chunk place element)
 
 -- the normal form of an updated chunk is the normal form updated with that of the new elements
 pub normal_updated : {B : Type 0} (codec : PlainCodec B) (type : ElementType) (chunk : Chunk) (places : List ℕ) (new : Chunk) → normal_form codec type (update chunk places new) ≡ update (normal_form codec type chunk) places (normal_form codec type new)

@@ -8,7 +8,7 @@ use Rattle.zarrs_chunk.specs.declared.codec_error.CodecError.TheVariants.{Invali
 use Rattle.zarrs_data_type.specs.ElementType.{ElementType, optional}
 use Rattle.zarrs_data_type.specs.Element.{Element, plain, absent, present, Chunk, IsElement, AreElements}
 use Rattle.zarrs_bytes.proofs.Coding.{demand_ok, ok, bind_ok}
-use Rattle.zarrs_packbits.proofs.Tests.{from_nat_lt, from_nat_le}
+use Rattle.zarrs_chunk.proofs.Inside.{from_lt_test, from_le_test}
 use Rattle.zarrs_chain_laws.specs.Decode.{length_of, vlen_parts, optional_parts, flag_in, flags_in, count_set, under_flags}
 use Rattle.zarrs_chain_laws.specs.Encode.{flag_of, present_of}
 use Rattle.zarrs_chain_laws.specs.Stands.{arranged}
@@ -69,8 +69,8 @@ vlen_cut false value parts e =
     let size = length_of (take 8 value) in
     let a = bind_ok (demand (nat_le 8 (length value)) (InvalidBytesLength (length value) 8)) _ parts e in
     let b = bind_ok (demand (nat_le size (length value - 8)) IndexLength) _ parts a.2 in
-    let enough = from_nat_le 8 (length value) (demand_ok (nat_le 8 (length value)) (InvalidBytesLength (length value) 8) a.0 a.1) in
-    let inside = from_nat_le size (length value - 8) (demand_ok (nat_le size (length value - 8)) IndexLength b.0 b.1) in
+    let enough = from_le_test 8 (length value) (demand_ok (nat_le 8 (length value)) (InvalidBytesLength (length value) 8) a.0 a.1) in
+    let inside = from_le_test size (length value - 8) (demand_ok (nat_le size (length value - 8)) IndexLength b.0 b.1) in
     let c = front_cut value size enough inside in
     subst (IsVlenCut false value) (ok_is (take size (drop 8 value), drop size (drop 8 value)) parts b.2) (record { head = take 8 value; parts = c.0; head_size = c.1; head_is = sym c.2 })
 vlen_cut true value parts e =
@@ -78,8 +78,8 @@ vlen_cut true value parts e =
     let size = length_of (drop at value) in
     let a = bind_ok (demand (nat_le 8 (length value)) (InvalidBytesLength (length value) 8)) _ parts e in
     let b = bind_ok (demand (nat_le size at) IndexLength) _ parts a.2 in
-    let enough = from_nat_le 8 (length value) (demand_ok (nat_le 8 (length value)) (InvalidBytesLength (length value) 8) a.0 a.1) in
-    let inside = from_nat_le size at (demand_ok (nat_le size at) IndexLength b.0 b.1) in
+    let enough = from_le_test 8 (length value) (demand_ok (nat_le 8 (length value)) (InvalidBytesLength (length value) 8) a.0 a.1) in
+    let inside = from_le_test size at (demand_ok (nat_le size at) IndexLength b.0 b.1) in
     let c = back_cut value at size (omega (arith, enough)) inside in
     subst (IsVlenCut true value) (ok_is (take size (drop (at - size) value), take (at - size) value) parts b.2) (record { head = drop at value; parts = c.0; head_size = c.1; head_is = sym c.2 })
 
@@ -105,7 +105,7 @@ optional_cut_found value parts e =
     let a = bind_ok (demand (nat_le 16 (length value)) (InvalidBytesLength (length value) 16)) _ parts e in
     let b = bind_ok (demand (nat_lt size (2 ^ 64)) HeaderOverflow) _ parts a.2 in
     let c = bind_ok (demand (nat_eq (length value) size) (InvalidBytesLength (length value) size)) _ parts b.2 in
-    let small : size < 2 ^ 64 = from_nat_lt size (2 ^ 64) (demand_ok (nat_lt size (2 ^ 64)) HeaderOverflow b.0 b.1) in
+    let small : size < 2 ^ 64 = from_lt_test size (2 ^ 64) (demand_ok (nat_lt size (2 ^ 64)) HeaderOverflow b.0 b.1) in
     let long : length value ≡ size = eqb-true (length value) size (demand_ok (nat_eq (length value) size) (InvalidBytesLength (length value) size) c.0 c.1) in
     let d = optional_cut value mask content long in
     subst (IsOptionalCut value) (ok_is (take mask (drop 16 value), drop mask (drop 16 value)) parts c.2)

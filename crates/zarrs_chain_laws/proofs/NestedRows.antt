@@ -14,7 +14,7 @@ use Rattle.zarrs_bytes.specs.ByteOrder.{bytes_of}
 use Rattle.zarrs_chain_laws.specs.Decode.{length_of, offset_of, offsets_in_chunk, slices}
 use Rattle.zarrs_chain_laws.specs.Encode.{chunk_offsets, offset_bytes, length_bytes, offset_elements, offset_fits, byte_elements, all_bytes, vlen_layout}
 use Rattle.zarrs_chain_laws.specs.Stands.{arranged}
-use Rattle.zarrs_packbits.proofs.Tests.{from_nat_lt, to_nat_lt}
+use Rattle.zarrs_chunk.proofs.Inside.{from_lt_test, lt_test}
 
 -- ---- lengths
 
@@ -36,11 +36,11 @@ index_small true index items lt = omega (arith, lt, length-append items (index +
 offset_again : (wide : Bool) (offset : ℕ) → offset < 2 ^ 64 → offset_fits wide offset ≡ true → offset_of wide (offset_bytes wide offset) ≡ offset
 unfolding offset_of offset_bytes
 offset_again true offset lt h = from_le_bytes-to_le_bytes_8 offset lt
-offset_again false offset lt h = from_le_bytes-to_le_bytes_4 offset (from_nat_lt offset (2 ^ 32) h)
+offset_again false offset lt h = from_le_bytes-to_le_bytes_4 offset (from_lt_test offset (2 ^ 32) h)
 
 fits_below : (wide : Bool) (m n : ℕ) → m ≤ n → offset_fits wide n ≡ true → offset_fits wide m ≡ true
 fits_below true m n le h = refl
-fits_below false m n le h = let lt = from_nat_lt n (2 ^ 32) h in to_nat_lt m (2 ^ 32) (omega arith)
+fits_below false m n le h = let lt = from_lt_test n (2 ^ 32) h in lt_test m (2 ^ 32) (omega arith)
 
 row_again : (wide : Bool) (at : ℕ) (chunk : Chunk) → at + length (all_bytes chunk) < 2 ^ 64 → offset_fits wide (at + length (all_bytes chunk)) ≡ true
     → offsets_in_chunk wide (offset_elements wide (at ∷ ends at (map bytes_of chunk))) ≡ at ∷ ends at (map bytes_of chunk)

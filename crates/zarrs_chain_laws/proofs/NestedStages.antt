@@ -2,7 +2,6 @@
 use Rattle.std.proofs.Common.{◌≡◌, ℕ, zero, suc, ◌+◌, ◌*◌, ◌-◌, ◌<◌, ◌^◌, Option, Some, None, List, [], ◌∷◌, length, take, drop, get_or, reverse, map, Ok, ap, sym, subst, ◌∙◌}
 use Rattle.std.specs.List.{All, concat, range_with_len}
 use Rattle.std.proofs.lemmas.List.Elements.{All-append, All-nil, All-cons, All-head, All-tail}
-use mathlib.Core.List.{reverse-cons}
 use Rattle.zarrs_chunk.specs.Answer.{◌>>=◌}
 use Rattle.zarrs_data_type.specs.ElementType.{ElementType, fixed, text, bytes, optional, component_bytes}
 use Rattle.zarrs_data_type.specs.Element.{Element, plain, absent, present, Chunk}
@@ -21,6 +20,7 @@ use Rattle.zarrs_chain_laws.specs.ArrayStages.{arrays_map}
 use Rattle.zarrs_chain_laws.specs.BytesStages.{outer_bytes, outer_representation, OuterWritten}
 use Rattle.zarrs_bytes.proofs.Coding.{ok}
 use Rattle.zarrs_chain_laws.proofs.ArraySteps.{map_parts, next_answer}
+use Rattle.zarrs_codec.specs.SampleLaws.{reversed_are_bytes}
 
 -- ---- bytes
 
@@ -37,15 +37,10 @@ all_drop zero xs h = h
 all_drop (suc n) [] h = All-nil is_byte
 all_drop (suc n) (x ∷ xs) h = all_drop n xs (All-tail is_byte x xs h)
 
-all_reverse : (xs : List ℕ) → AreBytes xs → AreBytes (reverse xs)
-all_reverse [] h = h
-all_reverse (x ∷ xs) h =
-    rw (reverse-cons x xs) (All-append is_byte (reverse xs) (x ∷ []) (all_reverse xs (All-tail is_byte x xs h)) (All-cons is_byte x [] (All-head is_byte x xs h) (All-nil is_byte)))
-
 all_pieces : (size : ℕ) (xs : List ℕ) (places : List ℕ) → AreBytes xs → AreBytes (concat (map reverse (map (piece size xs) places)))
 all_pieces size xs [] h = All-nil is_byte
 all_pieces size xs (place ∷ places) h =
-    All-append is_byte (reverse (piece size xs place)) (concat (map reverse (map (piece size xs) places))) (all_reverse (piece size xs place) (all_take (place * size + size - place * size) (drop (place * size) xs) (all_drop (place * size) xs h))) (all_pieces size xs places h)
+    All-append is_byte (reverse (piece size xs place)) (concat (map reverse (map (piece size xs) places))) (reversed_are_bytes (piece size xs place) (all_take (place * size + size - place * size) (drop (place * size) xs) (all_drop (place * size) xs h))) (all_pieces size xs places h)
 
 all_ordered : (order : Option Endianness) (width components : ℕ) (xs : List ℕ) → AreBytes xs → AreBytes (bytes_in_order order width components xs)
 all_ordered None width components xs h = h

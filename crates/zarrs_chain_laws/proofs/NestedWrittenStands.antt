@@ -21,7 +21,7 @@ use Rattle.zarrs_bytes.proofs.Coding.{demand_ok}
 use Rattle.zarrs_bytes.proofs.CodecLaws.{written_stands}
 use Rattle.zarrs_packbits.specs.Laws.{HasBytes}
 use Rattle.zarrs_packbits.proofs.CodecLaws as packbits
-use Rattle.zarrs_packbits.proofs.Tests.{from_nat_lt}
+use Rattle.zarrs_chunk.proofs.Inside.{from_lt_test}
 use Rattle.zarrs_chain_laws.specs.PlainChain.{PlainCodec, bytes_codec, packbits_codec, vlen_codec, optional_codec, PlainChain}
 use Rattle.zarrs_chain_laws.specs.Decode.{offsets_in_chunk, slices}
 use Rattle.zarrs_chain_laws.specs.Encode.{chunk_offsets, offset_bytes, length_bytes, offset_elements, byte_elements, all_bytes, flag_of, present_of, optional_layout}
@@ -99,7 +99,7 @@ string_stands wide at_end own keep iw cw is cs string ilaw claw k s type count v
     }
 
 one_more : (count : ℕ) → demand (nat_lt (count + 1) (2 ^ 64)) Overflow ≡ Ok tt → count + 1 < 2 ^ 64
-one_more count e = from_nat_lt (count + 1) (2 ^ 64) (demand_ok (nat_lt (count + 1) (2 ^ 64)) Overflow tt e)
+one_more count e = from_lt_test (count + 1) (2 ^ 64) (demand_ok (nat_lt (count + 1) (2 ^ 64)) Overflow tt e)
 
 strings_are : (keep : Keeping) (type : ElementType) (chunk : Chunk) → KeepsTypes keep → AreElements type chunk → AreElements type (map (keep type) chunk)
 strings_are keep type [] k h = All-nil (IsElement type)

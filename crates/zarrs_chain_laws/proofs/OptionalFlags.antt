@@ -19,7 +19,7 @@ use Rattle.zarrs_array_bytes.proofs.Pieces.{pieces-suc, elements-pieces}
 use Rattle.zarrs_array_bytes.proofs.PresentLemmas.{marked, present_places-marked}
 use Rattle.zarrs_array_bytes.proofs.ValidLemmas.{both_ok, then_ok}
 use Rattle.zarrs_bytes.proofs.Coding.{demand_ok, ok}
-use Rattle.zarrs_packbits.proofs.Tests.{to_nat_lt}
+use Rattle.zarrs_chunk.proofs.Inside.{lt_test}
 use Rattle.zarrs_chain_laws.specs.Decode.{flags_in, count_set, under_flags}
 use Rattle.zarrs_chain_laws.specs.Encode.{byte_elements, flag_of, present_of}
 use Rattle.zarrs_chain_laws.specs.Representation.{flag_type}
@@ -105,7 +105,7 @@ pub flags_valid : (raw : Raw) → length raw.items < 2 ^ 64 → validity flag_ty
 flags_valid raw small =
     let n = length raw.items in
     let one : n * element_size 1 1 ≡ n = omega arith in
-    let fits : sizes_fit flag_type n ≡ Ok tt = ap (λ (b : Bool). demand b Overflow) (to_nat_lt (n * element_size 1 1) (2 ^ 64) (omega (arith, one, small))) in
+    let fits : sizes_fit flag_type n ≡ Ok tt = ap (λ (b : Bool). demand b Overflow) (lt_test (n * element_size 1 1) (2 ^ 64) (omega (arith, one, small))) in
     let long : levels_fit InvalidBytesLength flag_type n (flen raw) ≡ Ok tt = ap (λ (b : Bool). demand b (InvalidBytesLength n (n * element_size 1 1))) (eq-eqb n (n * element_size 1 1) (sym one)) in
     then_ok (sizes_fit flag_type n) (levels_fit InvalidBytesLength flag_type n (flen raw)) fits long
 

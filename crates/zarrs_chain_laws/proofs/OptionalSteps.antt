@@ -30,7 +30,8 @@ use Rattle.zarrs_chain_laws.specs.Decode.{Decoder, part_chunk, optional_parts, c
 use Rattle.zarrs_chain_laws.specs.Encode.{Encoder, part_value, byte_elements, flag_of, present_of, optional_layout, optional_value, chain_value, codec_value}
 use Rattle.zarrs_chain_laws.specs.optional.OptionalParts.{optional_inner, elements_under, present_part}
 use Rattle.zarrs_chain_laws.specs.Representation.{flag_type, blank_fill, both_representations, chain_representation, codec_representation}
-use Rattle.zarrs_chain_laws.proofs.ArraySteps.{ok_is, ok_no_err, holds_elements}
+use Rattle.zarrs_array_to_array.proofs.MappedChunks.{holds_elements}
+use Rattle.zarrs_chain_laws.proofs.ArraySteps.{ok_is, ok_no_err}
 use Rattle.zarrs_chain_laws.proofs.ChainRelations.{held_value_is}
 use Rattle.zarrs_chain_laws.proofs.ChainSteps.{held_chunk}
 use Rattle.zarrs_chain_laws.proofs.OptionalFlags.{set_in, flags_or_refusal, flags_read, count_present, expansion_under, present_same, flag_elements, flags_valid, flags_bytes}

@@ -1,9 +1,9 @@
 -- Elements of which some bits are kept, and the bytes of packed chunks.
 use Rattle.zarrs_data_type.specs.Form.{form_of}
-use Rattle.std.proofs.Common.{◌≡◌, ℕ, zero, suc, ◌+◌, ◌-◌, ◌*◌, ◌/◌, ◌<◌, ◌≤◌, nat_lt, nat_le, Bool, true, false, List, [], ◌∷◌, ◌++◌, length, take, drop, replicate, get_or, if◌then◌else◌, arith, refl, ap, sym, subst, ◌∙◌}
+use Rattle.std.proofs.Common.{◌≡◌, ℕ, zero, suc, ◌+◌, ◌-◌, ◌*◌, ◌/◌, ◌<◌, ◌≤◌, nat_lt, nat_le, Bool, true, false, List, [], ◌∷◌, ◌++◌, length, take, drop, get_or, if◌then◌else◌, arith, refl, ap, sym, subst, ◌∙◌}
 use Rattle.std.specs.List.{flat_map, range_with_len}
 use Rattle.std.proofs.Math.Nat.{mul-le-mul_right}
-use Rattle.std.proofs.lemmas.List.{append-nil, length-drop, length-replicate, take_at, drop_at}
+use Rattle.std.proofs.lemmas.List.{append-nil, length-drop}
 use Rattle.std.proofs.lemmas.List.Elements.{All-append, All-nil, All-cons, All-head, All-tail}
 use Rattle.zarrs_chunk.specs.ChunkShape.{product}
 use Rattle.zarrs_metadata.specs.declared.codec.packbits.PackBitsPaddingEncoding.{PackBitsPaddingEncoding}
@@ -14,7 +14,7 @@ use Rattle.zarrs_array_bytes.specs.Elements.{select}
 use Rattle.zarrs_codec.specs.BytesToBytesCodec.{AreBytes}
 use Rattle.zarrs_packbits.specs.Bits.{field}
 use Rattle.zarrs_packbits.specs.BitStream.{element_stream, chunk_stream}
-use Rattle.zarrs_packbits.specs.KeptBits.{component_bits, top_of, full_component, kept_component}
+use Rattle.zarrs_packbits.specs.KeptBits.{component_bits, kept_component}
 use Rattle.zarrs_packbits.specs.NormalForm.{kept_element, normal_element, normal_chunk}
 use Rattle.zarrs_packbits.specs.PackBitsCodec.{PackBitsWritten}
 use Rattle.zarrs_packbits.specs.PackBitsSettings.{PackBitsSettings, first_of, last_of, has_bits, layout_for}
@@ -25,25 +25,14 @@ use Rattle.zarrs_packbits.proofs.BitLemmas.{AreBits, are_bits-append, are_bits-b
 use Rattle.zarrs_packbits.proofs.LayoutLemmas.{spare_small}
 use Rattle.zarrs_packbits.proofs.LocalLemmas.{flat_range_same}
 use Rattle.zarrs_packbits.proofs.LowBits.{bits_of-drop, bits_of-take}
-use Rattle.zarrs_packbits.proofs.Standing.{component_len, field_len, widened_len}
+use Rattle.zarrs_packbits.proofs.Standing.{component_len, field_len, widened_len, keep_widened}
 use Rattle.zarrs_packbits.proofs.Taken.{taken}
-use Rattle.zarrs_packbits.proofs.Tests.{and_first, and_second, from_nat_le, from_nat_lt}
+use Rattle.zarrs_codec.proofs.Fences.{second_true, first_true}
+use Rattle.zarrs_chunk.proofs.Inside.{from_lt_test, from_le_test}
 use Rattle.zarrs_chain_laws.proofs.NestedStages.{is_byte}
+use Rattle.zarrs_packbits.proofs.CodecLaws.{normal_absent}
 
 -- ---- one component
-
--- the kept bits stand in a component that was made of them
-field_again : (first above : ℕ) (sign : Bool) (kept : List ℕ) → field first (length kept) (full_component first above sign kept) ≡ kept
-field_again first above sign kept =
-    ap (take (length kept)) (drop_at (replicate first 0) (kept ++ replicate above (top_of sign kept)) first (length-replicate {A = ℕ} first 0))
-    ∙ take_at kept (replicate above (top_of sign kept)) (length kept) refl
-
-full_again : (first count above : ℕ) (sign : Bool) (kept : List ℕ) → length kept ≡ count → kept_component first count sign (full_component first above sign kept) ≡ full_component first above sign kept
-full_again first count above sign kept e =
-    let n : length (full_component first above sign kept) - (first + count) ≡ above = omega (arith, widened_len first above sign kept) in
-    ap (λ k. full_component first k sign (field first count (full_component first above sign kept))) n
-    ∙ ap (λ k. full_component first above sign (field first k (full_component first above sign kept))) (sym e)
-    ∙ ap (full_component first above sign) (field_again first above sign kept)
 
 -- ---- the components of an element
 
@@ -102,7 +91,7 @@ packed_again first count sign size group items s e =
     (λ part lt.
     let component = component_bits size items part in
     ap (kept_component first count sign) (part_again first count sign size group items part s e lt)
-    ∙ full_again first count (length component - (first + count)) sign (field first count component) (field_long first count size group items part s e lt)))
+    ∙ keep_widened first count (length component - (first + count)) sign (field first count component) (field_long first count size group items part s e lt)))
 
 -- ---- elements
 
@@ -114,8 +103,8 @@ has_field : (settings : PackBitsSettings) (width : ℕ) → has_bits settings wi
 has_field settings width h =
     let first = first_of settings in
     let last = last_of settings width in
-    let ordered : first ≤ last = from_nat_le first last (and_first (nat_le first last) (nat_lt last width) h) in
-    let within : last < width = from_nat_lt last width (and_second (nat_le first last) (nat_lt last width) h) in
+    let ordered : first ≤ last = from_le_test first last (first_true (nat_le first last) (nat_lt last width) h) in
+    let within : last < width = from_lt_test last width (second_true (nat_le first last) (nat_lt last width) h) in
     omega arith
 
 -- what is kept of an element is an element of the type
@@ -198,19 +187,9 @@ packed_bytes settings sizes (optional type) fill value chunk w = absurd (let e =
 
 -- ---- chunks
 
-pub absent_test : (test : Bool) → (if test then absent else absent) ≡ absent
-absent_test true = refl
-absent_test false = refl
-
-pub absent_stays : (settings : PackBitsSettings) (type : ElementType) → normal_element settings type absent ≡ absent
-absent_stays settings (fixed width components sign) = absent_test (has_bits settings width)
-absent_stays settings text = refl
-absent_stays settings bytes = refl
-absent_stays settings (optional type) = refl
-
 -- an element at a place is of the type, where what is kept of it is
 at_place : (settings : PackBitsSettings) (type : ElementType) (chunk : Chunk) (place : ℕ) → AreElements type chunk → IsElement type (normal_element settings type (get_or chunk place absent)) → IsElement type (get_or chunk place absent)
-at_place settings type [] place h is = subst (IsElement type) (absent_stays settings type) is
+at_place settings type [] place h is = subst (IsElement type) (normal_absent settings type) is
 at_place settings type (element ∷ chunk) zero h is = All-head (IsElement type) element chunk h
 at_place settings type (element ∷ chunk) (suc place) h is = at_place settings type chunk place (All-tail (IsElement type) element chunk h) is
 

@@ -4,15 +4,13 @@ use Rattle.zarrs_data_type.specs.declared.endianness.Endianness.{Endianness}
 use Rattle.zarrs_array_to_array.specs.ArrayToArrayCodec.{ArrayMapping}
 use Rattle.zarrs_chain_laws.specs.PlainChain.{PlainCodec, bytes_codec, packbits_codec, vlen_codec, optional_codec}
 use Rattle.zarrs_chain_laws.specs.vlen.PlainVlen.{PlainForm, lone_bytes, form_of_chains, PlainIsPlain}
+use Rattle.zarrs_array_to_array.proofs.AnswerSteps.{some_is}
 
 -- the parts of a chain that is a lone codec `bytes`
 record IsLone {B : Type 0} (arrays : List ArrayMapping) (codec : PlainCodec B) (outer : List B) (order : Option Endianness) : Type 0 where
   pub arrays_are : arrays ≡ []
   pub codec_is : codec ≡ bytes_codec order
   pub outer_is : outer ≡ []
-
-some_is : {X : Type 0} (x y : X) → Some x ≡ Some y → x ≡ y
-some_is x y e = cc
 
 lone : {B : Type 0} (arrays : List ArrayMapping) (codec : PlainCodec B) (outer : List B) (order : Option Endianness) → lone_bytes arrays codec outer ≡ Some order → IsLone arrays codec outer order
 lone [] (bytes_codec found) [] order e = record { arrays_are = refl; codec_is = ap bytes_codec (some_is found order e); outer_is = refl }

@@ -37,7 +37,7 @@ without_faults : (type : ElementType) (r : Result Held CodecError) (expected : R
 without_faults type (Ok held) expected quiet h = h
 without_faults type (Err e) expected quiet h = excused_less (memory e) (fault e) (expected ≡ Err e) quiet h
 
-passes : {A B : Type 0} (r : Result A CodecError) (a : A) (x : Result B CodecError) → r ≡ Ok a → (r >>= λ _. x) ≡ x
+pub passes : {A B : Type 0} (r : Result A CodecError) (a : A) (x : Result B CodecError) → r ≡ Ok a → (r >>= λ _. x) ≡ x
 passes (Ok b) a x h = refl
 passes (Err e) a x h = absurd (cc)
 
@@ -52,7 +52,7 @@ part_read chunk form stored value selection r source same_form same_value made q
     (sym (passes (source_made sample_codecs sample_reads chunk stored) source (stored_read sample_codecs chunk stored selection) made))
     (without_faults chunk.type r (stored_read sample_codecs chunk stored selection) quiet of_chunk)
 
-stops : {A B : Type 0} (r : Result A CodecError) (x : Result B CodecError) (e : CodecError) → r ≡ Err e → (r >>= λ _. x) ≡ Err e
+pub stops : {A B : Type 0} (r : Result A CodecError) (x : Result B CodecError) (e : CodecError) → r ≡ Err e → (r >>= λ _. x) ≡ Err e
 stops (Ok a) x e h = absurd (cc)
 stops (Err f) x e h = cc
 

@@ -34,7 +34,7 @@ left_without_faults : {T V : Type 0} (after : V) (r : Result T CodecError) (expe
 left_without_faults after (Ok x) expected quiet h = h
 left_without_faults after (Err e) expected quiet h = excused_less (memory e) (fault e) (expected ≡ Err e) quiet h
 
-fits : {A B : Type 0} (r : Result A CodecError) (x : Result B CodecError) → seen (λ _. tt {0}) r ≡ Ok tt → (r >>= λ _. x) ≡ x
+pub fits : {A B : Type 0} (r : Result A CodecError) (x : Result B CodecError) → seen (λ _. tt {0}) r ≡ Ok tt → (r >>= λ _. x) ≡ x
 fits (Ok a) x h = refl
 fits (Err e) x h = absurd (cc)
 

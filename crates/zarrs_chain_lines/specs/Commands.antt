@@ -25,7 +25,6 @@ use Rattle.zarrs_chain_json.specs.Containers.{container_of}
 use Rattle.zarrs_chain_json.specs.Indexer.{selection_in}
 use Rattle.zarrs_chain_json.specs.Edit.{PlainEdit, edit_in}
 use Rattle.zarrs_chain_header.specs.Header.{Header, line_codecs}
-use Rattle.zarrs_data_type.specs.ElementType.{ElementType}
 use Rattle.zarrs_array_bytes.specs.Held.{Held}
 use Rattle.zarrs_array_bytes.specs.Validity.{Holds}
 use Rattle.zarrs_data_type.specs.Form.{Form}

@@ -27,7 +27,7 @@ pub enum Command<'a> {
 }
 
 fn with_argument<'a>(word: &[u8], argument: &'a [u8]) -> Command<'a>
-    ensures { command_seen result ≡ command_named word.now (Some argument.now) }
+    ensures value { command_seen result ≡ command_named word.now (Some argument.now) }
 {
     if word == b"encode".as_slice() {
         Command::Encode(argument)
@@ -45,7 +45,7 @@ fn with_argument<'a>(word: &[u8], argument: &'a [u8]) -> Command<'a>
 }
 
 fn alone(word: &[u8]) -> Command<'static>
-    ensures { command_seen result ≡ command_named word.now None }
+    ensures value { command_seen result ≡ command_named word.now None }
 {
     if word == b"decode".as_slice() {
         Command::Decode
@@ -59,7 +59,7 @@ fn alone(word: &[u8]) -> Command<'static>
 }
 
 fn first_space(line: &[u8]) -> Option<usize>
-    ensures { result ≡ position (λ byte. byte == 32) line.now }
+    ensures value { result ≡ position (λ byte. byte == 32) line.now }
 {
     line.iter().position(|byte| *byte == b' ')
 }

@@ -12,7 +12,7 @@ use std::io::{BufRead, ErrorKind, Write};
 use zarrs_chain_json::Refusal;
 
 fn drop_line_end(line: &mut Vec<u8>)
-    ensures { line.new.items ≡ strip_last 10 line.old.items }
+    ensures written { line.new.items ≡ strip_last 10 line.old.items }
 {
     let len = line.len();
     if len > 0 && line[len - 1] == b'\n' {
@@ -22,7 +22,7 @@ fn drop_line_end(line: &mut Vec<u8>)
 
 /// Reads the next line, without its end, or answers `false` where there is none.
 fn next_line<R: BufRead>(reader: &mut R, line: &mut Vec<u8>) -> io::Result<bool>
-    ensures { IfOk result
+    ensures next { IfOk result
         (ReadsLine (R.remaining reader.old) (R.remaining reader.new) line.new.items) }
 {
     line.clear();

@@ -66,7 +66,7 @@ fn serve<R: BufRead, W: Write>(
     writer: &mut W,
     line: &mut Vec<u8>,
 ) -> Result<(), StreamFault>
-    ensures { OnOk result
+    ensures done { OnOk result
         (EndsReplied (state_of session.old) (R.remaining reader.old) (R.remaining reader.new)
         (W.contents writer.old) (W.contents writer.new)) }
 {

@@ -110,7 +110,7 @@ impl Session {
     }
 
     fn encode(&self, alloc: Global, text: &[u8]) -> Result<Vec<u8>, Refusal>
-        ensures { Answers wants_memory (λ line. (line.items, state_of self.now)) result
+        ensures answer { Answers wants_memory (λ line. (line.items, state_of self.now)) result
             (encode_answer (state_of self.now) text.now) }
     {
         let tree = tree(alloc, text)?;
@@ -139,7 +139,7 @@ impl Session {
     }
 
     fn decode_value(&self, alloc: Global, value: &[u8]) -> Result<Vec<u8>, Refusal>
-        ensures { Answers wants_memory (λ line. (line.items, state_of self.now)) result
+        ensures answer { Answers wants_memory (λ line. (line.items, state_of self.now)) result
             (chunk_answer (state_of self.now) value.now) }
     {
         let elements = self.chain.decode(
@@ -153,7 +153,7 @@ impl Session {
     }
 
     fn decode(&self, alloc: Global) -> Result<Vec<u8>, Refusal>
-        ensures { Answers wants_memory (λ line. (line.items, state_of self.now)) result
+        ensures answer { Answers wants_memory (λ line. (line.items, state_of self.now)) result
             (decode_answer (state_of self.now)) }
     {
         match self.handle.value() {
@@ -232,7 +232,7 @@ impl Session {
     }
 
     fn value(&self, alloc: Global) -> Result<Vec<u8>, Refusal>
-        ensures { Answers wants_memory (λ line. (line.items, state_of self.now)) result
+        ensures answer { Answers wants_memory (λ line. (line.items, state_of self.now)) result
             (value_answer (state_of self.now)) }
     {
         match self.handle.value() {
@@ -247,7 +247,7 @@ impl Session {
         to: &CodecChain<SampleBytesCodec>,
         value: &[u8],
     ) -> Result<Vec<u8>, Refusal>
-        ensures { Answers wants_memory (λ line. (line.items, state_of self.now)) result
+        ensures answer { Answers wants_memory (λ line. (line.items, state_of self.now)) result
             (reencoded_answer (plain_chain to.now) (state_of self.now) value.now) }
     {
         let other = reencode(
@@ -263,7 +263,7 @@ impl Session {
     }
 
     fn reencode(&self, alloc: Global, text: &[u8]) -> Result<Vec<u8>, Refusal>
-        ensures { Answers wants_memory (λ line. (line.items, state_of self.now)) result
+        ensures answer { Answers wants_memory (λ line. (line.items, state_of self.now)) result
             (reencode_answer (state_of self.now) text.now) }
     {
         let to = read_codecs(alloc, text)?;

@@ -28,7 +28,7 @@ use Rattle.zarrs_chain_whole.specs.declared.vlen.vlen_codec.VlenCodec.{VlenCodec
 use Rattle.zarrs_chain_laws.proofs.Answered.{from_ok}
 use Rattle.zarrs_bytes.proofs.Coding.{bind_ok}
 use Rattle.zarrs_array_bytes.proofs.UpdatedLemmas.{length-elements}
-use Rattle.zarrs_chain_laws.proofs.ArraySteps.{holds_elements}
+use Rattle.zarrs_array_to_array.proofs.MappedChunks.{holds_elements}
 use Rattle.zarrs_chain_laws.proofs.ChainSteps.{held_chunk}
 use Rattle.zarrs_chain_laws.proofs.NestedDecode.{chunk_only}
 use Rattle.zarrs_chain_laws.proofs.NestedEncode.{value_only}

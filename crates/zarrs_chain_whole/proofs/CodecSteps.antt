@@ -1,7 +1,7 @@
 -- One codec to bytes.
 use Rattle.zarrs_data_type.specs.Form.{form_of}
 use Rattle.std.proofs.Common.{◌≡◌, ◌&&◌, ℕ, ◌^◌, nat_lt, Bool, true, false, if◌then◌else◌, List, [], Option, Result, Ok, Err, refl, sym}
-use Rattle.zarrs_chunk.specs.Answer.{◌>>=◌, Answers, memory, demand, checked_u64, seen, fault, is_fault}
+use Rattle.zarrs_chunk.specs.Answer.{◌>>=◌, Answers, memory, demand, checked_u64, seen, is_fault}
 use Rattle.zarrs_chunk.specs.declared.codec_error.CodecError.{CodecError}
 use Rattle.zarrs_chunk.specs.declared.codec_error.CodecError.TheVariants.{InvalidFillValue, BitRange, Overflow}
 use Rattle.zarrs_data_type.specs.ElementType.{ElementType, fixed, text, bytes, optional}
@@ -27,6 +27,7 @@ use Rattle.zarrs_chain_laws.specs.Decode.{codec_chunk}
 use Rattle.zarrs_chain_laws.specs.Encode.{codec_value}
 use Rattle.zarrs_chain_laws.specs.Representation.{vlen_representation, codec_representation}
 use Rattle.zarrs_chain_whole.specs.declared.vlen.vlen_codec.VlenCodec.{VlenCodec}
+use Rattle.zarrs_array_to_array.proofs.Refusals.{bind_no_fault, demand_no_fault, seen_no_fault}
 
 seen_then : {A : Type 0} (r : Result ℕ CodecError) (f : Result A CodecError) → seen FixedSize r >>= (λ _. f) ≡ r >>= (λ _. f)
 seen_then (Ok n) f = refl
@@ -48,32 +49,19 @@ packbits_held_value f settings sizes type fill held =
 
 -- ---- refusals of a representation are no faults of a handle
 
--- where one step is no fault, and the next is none, both are none
-then_no_fault : {A X : Type 0} (r : Result A CodecError) (g : A → Result X CodecError) → is_fault r ≡ false → ((x : A) → is_fault (g x) ≡ false) → is_fault (r >>= g) ≡ false
-then_no_fault (Ok x) g e h = h x
-then_no_fault (Err cause) g e h = e
-
-demand_no_fault : (test : Bool) (cause : CodecError) → fault cause ≡ false → is_fault (demand test cause) ≡ false
-demand_no_fault true cause e = refl
-demand_no_fault false cause e = e
-
 count_no_fault : (test : Bool) (n : ℕ) → is_fault {T = ℕ} (if test then Ok n else Err Overflow) ≡ false
 count_no_fault true n = refl
 count_no_fault false n = refl
 
 layout_no_fault : (settings : PackBitsSettings) (sizes : List ℕ) (type : ElementType) (fill : List ℕ) → is_fault (packed_layout settings (form_of sizes type fill)) ≡ false
 layout_no_fault settings sizes (fixed width components sign) fill =
-    then_no_fault (demand (fill_fits (fixed width components sign) fill) InvalidFillValue) _ (demand_no_fault (fill_fits (fixed width components sign) fill) InvalidFillValue refl)
-    (λ _. then_no_fault (demand (has_bits settings width && nat_lt 0 components) BitRange) _ (demand_no_fault (has_bits settings width && nat_lt 0 components) BitRange refl)
-    (λ _. then_no_fault (checked_u64 (product sizes)) _ (count_no_fault (nat_lt (product sizes) (2 ^ 64)) (product sizes))
-    (λ count. then_no_fault (demand (is_in_reach (layout_for settings count width components sign)) Overflow) _ (demand_no_fault (is_in_reach (layout_for settings count width components sign)) Overflow refl) (λ _. refl))))
+    bind_no_fault (demand (fill_fits (fixed width components sign) fill) InvalidFillValue) _ (demand_no_fault (fill_fits (fixed width components sign) fill) InvalidFillValue refl)
+    (λ _. bind_no_fault (demand (has_bits settings width && nat_lt 0 components) BitRange) _ (demand_no_fault (has_bits settings width && nat_lt 0 components) BitRange refl)
+    (λ _. bind_no_fault (checked_u64 (product sizes)) _ (count_no_fault (nat_lt (product sizes) (2 ^ 64)) (product sizes))
+    (λ count. bind_no_fault (demand (is_in_reach (layout_for settings count width components sign)) Overflow) _ (demand_no_fault (is_in_reach (layout_for settings count width components sign)) Overflow refl) (λ _. refl))))
 layout_no_fault settings sizes text fill = refl
 layout_no_fault settings sizes bytes fill = refl
 layout_no_fault settings sizes (optional type) fill = refl
-
-seen_no_fault : {X Y : Type 0} (view : X → Y) (r : Result X CodecError) → is_fault r ≡ false → is_fault (seen view r) ≡ false
-seen_no_fault view (Ok x) e = refl
-seen_no_fault view (Err cause) e = e
 
 pub packbits_no_fault : (settings : PackBitsSettings) (sizes : List ℕ) (type : ElementType) (fill : List ℕ) → is_fault (seen FixedSize (packbits_length settings (form_of sizes type fill))) ≡ false
 packbits_no_fault settings sizes type fill =

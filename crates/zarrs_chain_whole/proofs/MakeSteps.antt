@@ -1,5 +1,5 @@
 -- A list of metadata, codec by codec.
-use Rattle.std.proofs.Common.{◌≡◌, ◌∙◌, ℕ, zero, suc, ◌+◌, ◌<◌, ◌≤◌, length, List, [], ◌∷◌, Ok, Err, Bool, ◌||◌, Option, map, drop, get_or, ap, sym, arith}
+use Rattle.std.proofs.Common.{◌≡◌, ◌∙◌, ℕ, zero, suc, ◌+◌, ◌<◌, ◌≤◌, length, List, [], ◌∷◌, Ok, Err, Bool, Option, map, drop, get_or, ap, sym, arith}
 use Rattle.std.specs.Prelude.{Result}
 use Rattle.std.proofs.lemmas.List.{at_drop_more, at_drop_all}
 use Rattle.zarrs_chunk.specs.Answer.{◌>>=◌, Answers, Excused, seen}

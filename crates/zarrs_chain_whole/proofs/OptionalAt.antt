@@ -1,7 +1,7 @@
 -- One level of the codec `optional`, as the code opens it.
 use Rattle.std.proofs.Common.{◌≡◌, ℕ, nat_lt, true, List, [], ◌∷◌, Result, Ok, Err, refl, ap, sym, subst, ◌∙◌}
 use Rattle.std.specs.List.{list_all}
-use Rattle.std.specs.Prelude.{IfOk}
+use Rattle.std.specs.Prelude.{IfOk, IsOk}
 use Rattle.zarrs_chunk.specs.Answer.{◌>>=◌, demand, checked_u64, Answers, AnswersBy, memory}
 use Rattle.zarrs_chunk.specs.ChunkShape.{product}
 use Rattle.zarrs_chunk.specs.declared.codec_error.CodecError.{CodecError}
@@ -37,9 +37,14 @@ representation_at f codec sizes type fill =
     ap (λ x. codec_representation f x sizes type fill) (plain_optional_at codec)
     ∙ representation_opened f (plain_chain (out-OptionalCodec _ codec).mask_codecs.value) (plain_chain (out-OptionalCodec _ codec).data_codecs.value) sizes type fill
 
-pub counted_at : {B : Type 0} (f : BytesCodecs B) (codec : OptionalCodec B) (sizes : List ℕ) (type : ElementType) (fill : List ℕ) (r : BytesRepresentation) → codec_representation f (plain_optional codec) sizes type fill ≡ Ok r → checked_u64 (product sizes) ≡ Ok (product sizes)
-counted_at f codec sizes type fill r e =
-    representation_counted f (plain_chain (out-OptionalCodec _ codec).mask_codecs.value) (plain_chain (out-OptionalCodec _ codec).data_codecs.value) sizes type fill r (sym (ap (λ x. codec_representation f x sizes type fill) (plain_optional_at codec)) ∙ e)
+ok_of : {X : Type 0} (r : Result X CodecError) → IsOk r → (x : X) × (r ≡ Ok x)
+ok_of (Ok x) taken = (x, refl)
+ok_of (Err cause) taken = absurd cc
+
+pub counted_at : {B : Type 0} (f : BytesCodecs B) (codec : OptionalCodec B) (sizes : List ℕ) (type : ElementType) (fill : List ℕ) → IsOk (codec_representation f (plain_optional codec) sizes type fill) → checked_u64 (product sizes) ≡ Ok (product sizes)
+counted_at f codec sizes type fill taken =
+    let known = ok_of (codec_representation f (plain_optional codec) sizes type fill) taken in
+    representation_counted f (plain_chain (out-OptionalCodec _ codec).mask_codecs.value) (plain_chain (out-OptionalCodec _ codec).data_codecs.value) sizes type fill known.0 (sym (ap (λ x. codec_representation f x sizes type fill) (plain_optional_at codec)) ∙ known.1)
 
 -- ---- encoding
 
@@ -97,15 +102,24 @@ value_taken_at f codec sizes type fill held r taken valid =
     let first : codec_held_value f (plain_optional codec) sizes type fill held ≡ codec_value f (plain_optional codec) sizes type fill (elements type (product sizes) held) = rw (taken, valid) refl in
     first ∙ value_opened_at f codec sizes type fill (elements type (product sizes) held) ∙ sym (value_opened_at f codec sizes type [] (elements type (product sizes) held))
 
-pub value_at : {B X : Type 0} (view : X → List ℕ) (result : Result X CodecError) (f : BytesCodecs B) (codec : OptionalCodec B) (sizes : List ℕ) (type inner : ElementType) (fill : List ℕ) (held : Held) (r : BytesRepresentation)
-    → Ok inner ≡ optional_inner type → codec_representation f (plain_optional codec) sizes type fill ≡ Ok r → validity type (product sizes) held ≡ Ok tt
+-- a container that it doesn't take
+pub unfit_at : {B : Type 0} (f : BytesCodecs B) (codec : OptionalCodec B) (sizes : List ℕ) (type : ElementType) (fill : List ℕ) (held : Held) (cause : CodecError) → IsOk (codec_representation f (plain_optional codec) sizes type fill) → validity type (product sizes) held ≡ Err cause
+    → codec_held_value f (plain_optional codec) sizes type fill held ≡ Err cause
+unfit_at f codec sizes type fill held cause taken e =
+    let known = ok_of (codec_representation f (plain_optional codec) sizes type fill) taken in
+    let measured : codec_representation f (plain_optional codec) sizes type fill ≡ Ok known.0 = known.1 in
+    rw (measured, e) refl
+
+pub value_at : {B X : Type 0} (view : X → List ℕ) (result : Result X CodecError) (f : BytesCodecs B) (codec : OptionalCodec B) (sizes : List ℕ) (type inner : ElementType) (fill : List ℕ) (held : Held)
+    → Ok inner ≡ optional_inner type → IsOk (codec_representation f (plain_optional codec) sizes type fill) → validity type (product sizes) held ≡ Ok tt
     → Answers memory view result (codec_value f (plain_optional codec) sizes (optional inner) [] (elements (optional inner) (product sizes) held))
     → Answers memory view result (codec_held_value f (plain_optional codec) sizes type fill held)
-value_at view result f codec sizes type inner fill held r e taken valid gives =
+value_at view result f codec sizes type inner fill held e taken valid gives =
+    let known = ok_of (codec_representation f (plain_optional codec) sizes type fill) taken in
     let is : type ≡ optional inner = inner_is type inner (sym e) in
     let here : Answers memory view result (codec_value f (plain_optional codec) sizes type [] (elements type (product sizes) held))
     = subst (λ (t : ElementType). Answers memory view result (codec_value f (plain_optional codec) sizes t [] (elements t (product sizes) held))) (sym is) gives in
-    subst (λ (x : Result (List ℕ) CodecError). Answers memory view result x) (sym (value_taken_at f codec sizes type fill held r taken valid)) here
+    subst (λ (x : Result (List ℕ) CodecError). Answers memory view result x) (sym (value_taken_at f codec sizes type fill held known.0 known.1 valid)) here
 
 -- a container that was taken has the inner type
 pub inner_valid : (held : Held) (type inner : ElementType) (count : ℕ) → Ok inner ≡ optional_inner type → validity type count held ≡ Ok tt → validity (optional inner) count held ≡ Ok tt

@@ -1,5 +1,5 @@
 -- Elements of a type that a codec without a mask takes are never absent.
-use Rattle.std.proofs.Common.{◌≡◌, ℕ, List, Option, None, Result, Ok, Err, refl, subst}
+use Rattle.std.proofs.Common.{◌≡◌, ℕ, List, Option, None, Result, refl, subst}
 use Rattle.std.specs.Prelude.{IfOk, IsOk}
 use Rattle.zarrs_chunk.specs.declared.codec_error.CodecError.{CodecError}
 use Rattle.zarrs_data_type.specs.ElementType.{ElementType, fixed, text, bytes, optional, inner_of}

@@ -1,6 +1,6 @@
 //! Chains and their codecs to bytes as every codec of chunks to bytes.
 use crate::array_to_bytes_codec::{
-    ArrayToBytesCodec, codec_decode, codec_encode, codec_is_sound, codec_representation,
+    ArrayToBytesCodec, codec_decode, codec_is_sound, codec_representation, codec_taken_encode,
 };
 use crate::codec_chain::{CodecChain, chain_is_sound};
 use crate::representation::taken_form;
@@ -120,7 +120,7 @@ impl<B: BytesToBytesCodecTraits> ArrayToBytesCodecTraits for ArrayToBytesCodec<B
         codec_is_sound(self);
         elements_are_bytes(&elements);
         shape.as_slice();
-        codec_encode(alloc, self, elements, shape, data_type, fill_value)
+        codec_taken_encode(alloc, self, elements, shape, data_type, fill_value)
     }
 
     #[tactic(auto, using(crate::proofs::Counted::content_valid))]

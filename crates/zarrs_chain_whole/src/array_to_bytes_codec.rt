@@ -100,7 +100,8 @@ pub(crate) fn codec_representation<B: BytesToBytesCodecTraits>(
     }
 }
 
-/// The value of the chunk that `elements` hold. Refusals: the codec's own.
+/// The value of the chunk that `elements` hold, where the codec takes such chunks. Refusals: those of
+/// the codec's `encode` behind those of its `encoded_representation`.
 #[cycle(encode)]
 #[tactic(auto, unfolding(crate::specs::ChainView::plain_codec), using(crate::proofs::CodecSteps::bytes_held_value, crate::proofs::CodecSteps::packbits_held_value))]
 pub(crate) fn codec_encode<'a, B: BytesToBytesCodecTraits>(
@@ -111,6 +112,8 @@ pub(crate) fn codec_encode<'a, B: BytesToBytesCodecTraits>(
     data_type: &DataType,
     fill_value: &FillValue,
 ) -> Result<ArrayBytesRaw<'a>, CodecError>
+    requires taken { IsTaken B.functions (plain_codec codec.now)
+        (form_of shape.now data_type.now fill_value.now) }
     ensures answer { GivesCodecValue B.functions (plain_codec codec.now)
         (form_of shape.now data_type.now fill_value.now) elements.entry result }
 {
@@ -128,6 +131,22 @@ pub(crate) fn codec_encode<'a, B: BytesToBytesCodecTraits>(
             optional_encode(alloc, codec, elements, shape, data_type, fill_value)
         }
     }
+}
+
+/// The value of the chunk that `elements` hold. Refusals: the codec's own.
+pub(crate) fn codec_taken_encode<'a, B: BytesToBytesCodecTraits>(
+    alloc: Global,
+    codec: &ArrayToBytesCodec<B>,
+    elements: ArrayBytes<'a>,
+    shape: &ChunkShape,
+    data_type: &DataType,
+    fill_value: &FillValue,
+) -> Result<ArrayBytesRaw<'a>, CodecError>
+    ensures answer { GivesCodecValue B.functions (plain_codec codec.now)
+        (form_of shape.now data_type.now fill_value.now) elements.entry result }
+{
+    codec_representation(alloc, codec, shape, data_type, fill_value)?;
+    codec_encode(alloc, codec, elements, shape, data_type, fill_value)
 }
 
 /// The chunk that a value stands for, with blank elements under absent ones, where the codec takes

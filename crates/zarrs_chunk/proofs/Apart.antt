@@ -5,7 +5,7 @@ use Rattle.std.specs.List.{range_with_len}
 use Rattle.std.proofs.Math.Nat.{mul-le-mul_right}
 use Rattle.std.proofs.Math.Seq.{set-append_seam}
 use Rattle.std.proofs.lemmas.Bool.{cases_Bool, ltb-true, ltb-false}
-use Rattle.std.proofs.lemmas.List.{take_more, take_all, append_assoc, length-take, map-append}
+use Rattle.std.proofs.lemmas.List.{take_more, take_all, append_assoc, length-take}
 use Rattle.zarrs_chunk.specs.Runs.{joined_runs, AreApart}
 use Rattle.zarrs_chunk.proofs.BoxTuples.{joined_runs-push}
 use Rattle.zarrs_chunk.proofs.Consecutive.{range-append}
@@ -106,7 +106,3 @@ rows_apart size start len whole (front ∷ next ∷ fronts) some short rest =
     AreApart-cons ((front * size + start) * whole, len * whole) ((next * size + start) * whole, len * whole) (map (λ front. ((front * size + start) * whole, len * whole)) fronts)
     (row_apart size start len whole front next some short rest)
     (rows_apart size start len whole (next ∷ fronts) some short rest)
-
--- the row of one front more
-pub map-take_more : {X Y : Type 0} (f : X → Y) (xs : List X) (i : ℕ) (d : X) → i < length xs → map f (take (i + 1) xs) ≡ map f (take i xs) ++ f (get_or xs i d) ∷ []
-map-take_more f xs i d h = ap (map f) (take_more xs i d h) ∙ map-append f (take i xs) (get_or xs i d ∷ [])

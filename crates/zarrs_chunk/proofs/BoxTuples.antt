@@ -5,7 +5,7 @@ use Rattle.std.proofs.lemmas.Bool.Decides.{nat_tests}
 use Rattle.std.proofs.lemmas.List.{take_more, append-nil, map-append, drop_more, drop_all, length-append, length-map}
 use Rattle.std.proofs.lemmas.List.Concat.{flat_map-append}
 use Rattle.zarrs_chunk.specs.ChunkShape.{product}
-use Rattle.zarrs_chunk.specs.Levels.{number_behind, numbers_behind, box_places}
+use Rattle.zarrs_chunk.specs.Levels.{number_behind, numbers_behind, box_places, rows_behind}
 use Rattle.zarrs_chunk.specs.Runs.{joined_runs}
 use Rattle.zarrs_chunk.specs.Tuples.{row_major, box_tuples}
 
@@ -15,10 +15,6 @@ flat_map-take_more f xs i d h =
     ap (flat_map f) (take_more xs i d h)
     ∙ flat_map-append f (take i xs) (get_or xs i d ∷ [])
     ∙ ap (λ ys. flat_map f (take i xs) ++ ys) (append-nil (f (get_or xs i d)))
-
--- the fronts that one axis more gives
-abbrev pub next_fronts : ℕ → ℕ → ℕ → List ℕ → List ℕ
-next_fronts size start len fronts = flat_map (λ front. range_with_len (front * size + start) len) fronts
 
 number_step : (front size index b rest number : ℕ) → b ≡ front * size + index → front * (size * rest) + (index * rest + number) ≡ b * rest + number
 number_step front size index b rest number e =
@@ -40,15 +36,15 @@ row_level front size sizes tuples (suc len) start b e =
     ∙ ap (λ ns. map (number_behind b sizes) tuples ++ ns) (row_level front size sizes tuples len (start + 1) (b + 1) (omega (arith, e)))
 
 -- the next axis, behind all fronts
-pub numbers_behind-next : (size start len : ℕ) (sizes starts lengths fronts : List ℕ) → numbers_behind (size ∷ sizes) (start ∷ starts) (len ∷ lengths) fronts ≡ numbers_behind sizes starts lengths (next_fronts size start len fronts)
+pub numbers_behind-next : (size start len : ℕ) (sizes starts lengths fronts : List ℕ) → numbers_behind (size ∷ sizes) (start ∷ starts) (len ∷ lengths) fronts ≡ numbers_behind sizes starts lengths (rows_behind size start len fronts)
 numbers_behind-next size start len sizes starts lengths [] = refl
 numbers_behind-next size start len sizes starts lengths (front ∷ fronts) =
     ap (λ ns. ns ++ numbers_behind (size ∷ sizes) (start ∷ starts) (len ∷ lengths) fronts) (row_level front size sizes (box_tuples starts lengths) len start (front * size + start) refl)
     ∙ ap (λ ns. numbers_behind sizes starts lengths (range_with_len (front * size + start) len) ++ ns) (numbers_behind-next size start len sizes starts lengths fronts)
-    ∙ sym (flat_map-append (λ front. map (number_behind front sizes) (box_tuples starts lengths)) (range_with_len (front * size + start) len) (next_fronts size start len fronts))
+    ∙ sym (flat_map-append (λ front. map (number_behind front sizes) (box_tuples starts lengths)) (range_with_len (front * size + start) len) (rows_behind size start len fronts))
 
 -- the step of a loop over the axes
-pub numbers_behind-more : (sizes starts lengths fronts : List ℕ) (axis : ℕ) → axis < length sizes → axis < length starts → axis < length lengths → numbers_behind (drop axis sizes) (drop axis starts) (drop axis lengths) fronts ≡ numbers_behind (drop (axis + 1) sizes) (drop (axis + 1) starts) (drop (axis + 1) lengths) (next_fronts (get_or sizes axis 0) (get_or starts axis 0) (get_or lengths axis 0) fronts)
+pub numbers_behind-more : (sizes starts lengths fronts : List ℕ) (axis : ℕ) → axis < length sizes → axis < length starts → axis < length lengths → numbers_behind (drop axis sizes) (drop axis starts) (drop axis lengths) fronts ≡ numbers_behind (drop (axis + 1) sizes) (drop (axis + 1) starts) (drop (axis + 1) lengths) (rows_behind (get_or sizes axis 0) (get_or starts axis 0) (get_or lengths axis 0) fronts)
 numbers_behind-more sizes starts lengths fronts axis p q r =
     rw (drop_more sizes axis 0 p, drop_more starts axis 0 q, drop_more lengths axis 0 r) (numbers_behind-next (get_or sizes axis 0) (get_or starts axis 0) (get_or lengths axis 0) (drop (axis + 1) sizes) (drop (axis + 1) starts) (drop (axis + 1) lengths) fronts)
 

@@ -4,9 +4,8 @@ use Rattle.std.specs.List.{All, range_with_len}
 use Rattle.std.proofs.lemmas.List.FromFn.{length-range_with_len, get_or-range_with_len}
 use Rattle.std.proofs.Math.Nat.{mul-le-mul_left, mul-le-mul_right}
 use Rattle.zarrs_chunk.specs.ChunkShape.{product}
-use Rattle.zarrs_chunk.specs.Levels.{IsFitting}
+use Rattle.zarrs_chunk.specs.Levels.{IsFitting, rows_behind}
 use Rattle.zarrs_chunk.specs.Tuples.{is_box_inside}
-use Rattle.zarrs_chunk.proofs.BoxTuples.{next_fronts}
 use Rattle.zarrs_chunk.proofs.Inside.{is_box_inside-at}
 use Rattle.zarrs_chunk.proofs.Products.{product_drop, product_positive-drop}
 
@@ -23,10 +22,10 @@ IsFitting-range total rest len b size top room fits = λ k h.
     let l : k < len = omega (arith, length-range_with_len b len) in
     rw (get_or-range_with_len b len k 0 l) (let m : b + k + 1 ≤ top * size + size = omega arith in omega (arith, mul-le-mul_right rest m))
 
-IsFitting-next : (total rest size start len : ℕ) (fronts : List ℕ) → start + len ≤ size → IsFitting total (size * rest) fronts → IsFitting total rest (next_fronts size start len fronts)
+IsFitting-next : (total rest size start len : ℕ) (fronts : List ℕ) → start + len ≤ size → IsFitting total (size * rest) fronts → IsFitting total rest (rows_behind size start len fronts)
 IsFitting-next total rest size start len [] h p = λ k l. absurd (omega arith)
 IsFitting-next total rest size start len (front ∷ fronts) h p =
-    IsFitting-append total rest (range_with_len (front * size + start) len) (next_fronts size start len fronts)
+    IsFitting-append total rest (range_with_len (front * size + start) len) (rows_behind size start len fronts)
     (IsFitting-range total rest len (front * size + start) size front (p 0 (omega arith)) (omega (arith, h)))
     (IsFitting-next total rest size start len fronts h (λ k l. p (suc k) (omega arith)))
 
@@ -52,7 +51,7 @@ row_fits sizes starts lengths fronts axis k h inside positive fitting l =
     (rw (← product_drop sizes axis h) (fitting k l))
 
 -- the fronts over one axis more fit too
-pub IsFitting-more : (sizes starts lengths fronts : List ℕ) (axis : ℕ) → axis < length sizes → is_box_inside sizes starts lengths ≡ true → IsFitting (product sizes) (product (drop axis sizes)) fronts → IsFitting (product sizes) (product (drop (axis + 1) sizes)) (next_fronts (get_or sizes axis 0) (get_or starts axis 0) (get_or lengths axis 0) fronts)
+pub IsFitting-more : (sizes starts lengths fronts : List ℕ) (axis : ℕ) → axis < length sizes → is_box_inside sizes starts lengths ≡ true → IsFitting (product sizes) (product (drop axis sizes)) fronts → IsFitting (product sizes) (product (drop (axis + 1) sizes)) (rows_behind (get_or sizes axis 0) (get_or starts axis 0) (get_or lengths axis 0) fronts)
 IsFitting-more sizes starts lengths fronts axis h inside fitting =
     IsFitting-next (product sizes) (product (drop (axis + 1) sizes)) (get_or sizes axis 0) (get_or starts axis 0) (get_or lengths axis 0) fronts
     (is_box_inside-at sizes starts lengths axis inside h)

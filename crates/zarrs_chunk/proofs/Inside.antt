@@ -1,6 +1,6 @@
 -- Boxes and tuples that lie inside the sizes of a chunk, axis by axis.
-use Rattle.std.proofs.Common.{◌≡◌, ℕ, zero, suc, ◌+◌, ◌*◌, ◌<◌, ◌≤◌, ◌∙◌, Bool, true, false, List, [], ◌∷◌, length, get_or, drop, replicate, nat_le, nat_lt, arith, refl, ap}
-use Rattle.std.proofs.lemmas.Bool.{and_parts, and_from}
+use Rattle.std.proofs.Common.{◌≡◌, ℕ, zero, suc, ◌+◌, ◌*◌, ◌<◌, ◌≤◌, ◌∙◌, true, false, List, [], ◌∷◌, length, get_or, drop, replicate, nat_le, nat_lt, arith, refl, ap}
+use Rattle.std.proofs.lemmas.Bool.{and_parts, and_from, false_from_ne_true}
 use Rattle.std.proofs.lemmas.Bool.Decides.{nat_tests}
 use Rattle.std.specs.List.{All}
 use Rattle.std.proofs.lemmas.List.{drop_more, drop_all, get_or_default}
@@ -10,22 +10,17 @@ use Rattle.zarrs_chunk.specs.Levels.{number_behind}
 use Rattle.zarrs_chunk.specs.Tuples.{row_major, is_box_inside, is_tuple_inside}
 use Rattle.zarrs_chunk.proofs.Products.{product_positive-drop}
 
-le_test : (a b : ℕ) → a ≤ b → nat_le a b ≡ true
+pub le_test : (a b : ℕ) → a ≤ b → nat_le a b ≡ true
 le_test a b h = grind (arith, nat_tests)
 
-from_le_test : (a b : ℕ) → nat_le a b ≡ true → a ≤ b
+pub from_le_test : (a b : ℕ) → nat_le a b ≡ true → a ≤ b
 from_le_test a b h = grind (arith, nat_tests)
 
-lt_test : (a b : ℕ) → a < b → nat_lt a b ≡ true
+pub lt_test : (a b : ℕ) → a < b → nat_lt a b ≡ true
 lt_test a b h = grind (arith, nat_tests)
 
-from_lt_test : (a b : ℕ) → nat_lt a b ≡ true → a < b
+pub from_lt_test : (a b : ℕ) → nat_lt a b ≡ true → a < b
 from_lt_test a b h = grind (arith, nat_tests)
-
--- a test is false where its truth contradicts
-false_unless : (b : Bool) → (b ≡ true → ⊥) → b ≡ false
-false_unless true h = absurd (h refl)
-false_unless false h = refl
 
 -- ---- boxes
 
@@ -53,7 +48,7 @@ is_box_inside-at (size ∷ sizes) (start ∷ starts) (len ∷ lengths) (suc axis
 
 pub is_box_inside-not : (sizes starts lengths : List ℕ) (axis : ℕ) → axis < length sizes → get_or sizes axis 0 < get_or starts axis 0 + get_or lengths axis 0 → is_box_inside sizes starts lengths ≡ false
 is_box_inside-not sizes starts lengths axis l h =
-    false_unless _ (λ e. let b = is_box_inside-at sizes starts lengths axis e l in omega arith)
+    false_from_ne_true _ (λ e. let b = is_box_inside-at sizes starts lengths axis e l in omega arith)
 
 pub is_box_inside-lengths : (sizes starts lengths : List ℕ) → is_box_inside sizes starts lengths ≡ true → (length starts ≡ length sizes) × (length lengths ≡ length sizes)
 is_box_inside-lengths [] [] [] h = (refl, refl)
@@ -88,10 +83,10 @@ is_tuple_inside-at (size ∷ sizes) (index ∷ tuple) (suc axis) h l = is_tuple_
 
 pub is_tuple_inside-not : (sizes tuple : List ℕ) (axis : ℕ) → axis < length sizes → get_or sizes axis 0 ≤ get_or tuple axis 0 → is_tuple_inside sizes tuple ≡ false
 is_tuple_inside-not sizes tuple axis l h =
-    false_unless _ (λ e. let b = is_tuple_inside-at sizes tuple axis e l in omega arith)
+    false_from_ne_true _ (λ e. let b = is_tuple_inside-at sizes tuple axis e l in omega arith)
 
 pub is_tuple_inside-axes : (sizes tuple : List ℕ) → ¬ (length tuple ≡ length sizes) → is_tuple_inside sizes tuple ≡ false
-is_tuple_inside-axes sizes tuple h = false_unless _ (λ e. h (is_tuple_inside-length sizes tuple e))
+is_tuple_inside-axes sizes tuple h = false_from_ne_true _ (λ e. h (is_tuple_inside-length sizes tuple e))
 
 -- the number of a tuple inside is below the number of elements
 pub row_major-below : (sizes tuple : List ℕ) → is_tuple_inside sizes tuple ≡ true → row_major sizes tuple < product sizes

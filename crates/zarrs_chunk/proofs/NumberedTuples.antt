@@ -1,28 +1,24 @@
 -- Tuples by their numbers.
-use Rattle.std.proofs.Common.{◌≡◌, ℕ, zero, suc, ◌+◌, ◌*◌, ◌/◌, ◌%◌, ◌<◌, nat_lt, true, get_or, List, [], ◌∷◌, ◌++◌, length, map, arith, refl, ap, ap₂, ◌∙◌, sym}
+use Rattle.std.proofs.Common.{◌≡◌, ℕ, zero, suc, ◌+◌, ◌*◌, ◌/◌, ◌%◌, ◌<◌, true, get_or, List, [], ◌∷◌, ◌++◌, length, map, arith, refl, ap, ap₂, ◌∙◌, sym}
 use Rattle.std.specs.List.{flat_map, range_with_len}
 use Rattle.std.proofs.lemmas.Bool.{and_from}
-use Rattle.std.proofs.lemmas.Bool.Decides.{nat_tests}
 use Rattle.std.proofs.lemmas.Nat.{div_below, mod_below, div-add-mod', div-mul-add, mod-mul-add}
 use Rattle.std.proofs.lemmas.Simd.{map-map}
 use Rattle.zarrs_chunk.specs.ChunkShape.{product}
 use Rattle.zarrs_chunk.specs.Indices.{tuple_of_number, indices_behind, box_tuple}
 use Rattle.zarrs_chunk.specs.Tuples.{row_major, box_tuples, is_tuple_inside}
-use Rattle.zarrs_chunk.proofs.Inside.{row_major-below}
+use Rattle.zarrs_chunk.proofs.Inside.{row_major-below, lt_test}
 use Rattle.zarrs_chunk.proofs.NumberLaws.{same_tuple}
 
 pub factor_positive : (n size total : ℕ) → n < size * total → 0 < total
 factor_positive n size zero h = absurd (omega arith)
 factor_positive n size (suc total) h = omega arith
 
-true_lt : (a b : ℕ) → a < b → nat_lt a b ≡ true
-true_lt a b h = grind (arith, nat_tests)
-
 pub tuple_of_number-inside : (sizes : List ℕ) (number : ℕ) → number < product sizes → is_tuple_inside sizes (tuple_of_number sizes number) ≡ true
 tuple_of_number-inside [] number h = refl
 tuple_of_number-inside (size ∷ sizes) number h =
     let some : 0 < product sizes = factor_positive number size (product sizes) h in
-    and_from _ _ (true_lt _ _ (div_below number (product sizes) size some h)) (tuple_of_number-inside sizes (number % product sizes) (mod_below number (product sizes) some))
+    and_from _ _ (lt_test _ _ (div_below number (product sizes) size some h)) (tuple_of_number-inside sizes (number % product sizes) (mod_below number (product sizes) some))
 
 pub row_major-tuple_of_number : (sizes : List ℕ) (number : ℕ) → number < product sizes → row_major sizes (tuple_of_number sizes number) ≡ number
 row_major-tuple_of_number [] number h = omega arith

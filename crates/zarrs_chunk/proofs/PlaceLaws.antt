@@ -3,7 +3,6 @@ use Rattle.std.proofs.Common.{◌≡◌, ◌==◌, ℕ, zero, suc, ◌<◌, ◌^
 use Rattle.std.specs.List.{All, list_all}
 use Rattle.std.specs.List.Sorted.{IsStrictlyIncreasing}
 use Rattle.std.proofs.lemmas.Bool.{and_parts}
-use Rattle.std.proofs.lemmas.Bool.Decides.{nat_tests}
 use Rattle.zarrs_chunk.specs.Answer.{demand, ◌>>=◌}
 use Rattle.zarrs_chunk.specs.ChunkShape.{product}
 use Rattle.zarrs_chunk.specs.Region.{Region}
@@ -11,7 +10,7 @@ use Rattle.zarrs_chunk.specs.Selection.{Selection, subset, indices, places_of}
 use Rattle.zarrs_chunk.specs.Tuples.{row_major, box_tuples, is_box_inside, is_tuple_inside}
 use Rattle.zarrs_chunk.specs.declared.codec_error.CodecError.{CodecError}
 use Rattle.zarrs_chunk.specs.declared.codec_error.CodecError.TheVariants.{IncompatibleDimensionality, OutOfBounds, Overflow}
-use Rattle.zarrs_chunk.proofs.Inside.{row_major-below}
+use Rattle.zarrs_chunk.proofs.Inside.{row_major-below, from_lt_test}
 use Rattle.zarrs_chunk.proofs.Rising.{Rises-box, Rises-below, Rises-increasing, Rises-room}
 
 -- what holds where both tests pass holds of each answer
@@ -50,15 +49,12 @@ places_rise region sizes =
     subset_where_passed IsStrictlyIncreasing region sizes
     (λ h _. Rises-increasing 0 (product sizes) (map (row_major sizes) (box_tuples region.starts region.lengths)) (Rises-box sizes region.starts region.lengths h))
 
-from_fits : (count limit : ℕ) → nat_lt count limit ≡ true → count < limit
-from_fits count limit h = grind (arith, nat_tests)
-
 -- a subset has no more places than the chunk has elements
 places_few : (region : Region) (sizes : List ℕ) → IfOk (places_of (subset region) sizes) (λ places. length places < 2 ^ 64)
 places_few region sizes =
     subset_where_passed (λ places. length places < 2 ^ 64) region sizes
     (λ h fits. let room = Rises-room 0 (product sizes) (map (row_major sizes) (box_tuples region.starts region.lengths)) (Rises-box sizes region.starts region.lengths h) in
-    omega (arith, room, from_fits (product sizes) (2 ^ 64) fits))
+    omega (arith, room, from_lt_test (product sizes) (2 ^ 64) fits))
 
 -- the same of places that are known
 pub places_counted : (region : Region) (sizes places : List ℕ) → places_of (subset region) sizes ≡ Ok places → length places < 2 ^ 64

@@ -5,23 +5,20 @@ use Rattle.std.proofs.Math.Nat.{mul-le-mul_left, mul_assoc}
 use Rattle.std.proofs.lemmas.Bool.Decides.{nat_tests}
 use Rattle.std.proofs.lemmas.List.{drop_more, get_or-drop, length-drop}
 use Rattle.zarrs_chunk.specs.ChunkShape.{product}
+use Rattle.std.proofs.lemmas.Bool.{or_parts}
 
 -- one size, by the test for zero
-is_zero : (size : ℕ) → (size == 0) ≡ true → size ≡ 0
+pub is_zero : (size : ℕ) → (size == 0) ≡ true → size ≡ 0
 is_zero size h = grind (arith, nat_tests)
 
-is_positive : (size : ℕ) → (size == 0) ≡ false → 0 < size
+pub is_positive : (size : ℕ) → (size == 0) ≡ false → 0 < size
 is_positive size h = grind (arith, nat_tests)
-
-neither : (a b : Bool) → (a || b) ≡ false → (a ≡ false) × (b ≡ false)
-neither true b h = absurd (cc)
-neither false b h = (refl, h)
 
 -- where no size is zero, each is positive
 pub All-positive : (sizes : List ℕ) → list_any (λ size. size == 0) sizes ≡ false → All (λ size. 0 < size) sizes
 All-positive [] h = λ k d l. absurd (omega arith)
 All-positive (size ∷ sizes) h = λ k d.
-    let p = neither (size == 0) (list_any (λ size. size == 0) sizes) h in
+    let p = or_parts (size == 0) (list_any (λ size. size == 0) sizes) h in
     elim k as (λ j. j < length (size ∷ sizes) → 0 < get_or (size ∷ sizes) j d) [
       | zero ↦ (λ l. is_positive size p.0)
       | suc j ↦ (λ l. All-positive sizes p.1 j d (omega arith))

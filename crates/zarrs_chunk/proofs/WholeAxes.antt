@@ -5,11 +5,11 @@ use Rattle.std.proofs.lemmas.List.{drop_all}
 use Rattle.std.proofs.lemmas.List.Concat.{flat_map-append}
 use Rattle.std.proofs.Math.Nat.{mul-le-mul_right}
 use Rattle.zarrs_chunk.specs.ChunkShape.{product}
-use Rattle.zarrs_chunk.specs.Levels.{numbers_behind, box_places, IsFitting, AreWhole}
+use Rattle.zarrs_chunk.specs.Levels.{numbers_behind, box_places, IsFitting, AreWhole, rows_behind}
 use Rattle.zarrs_chunk.specs.Runs.{joined_runs}
 use Rattle.zarrs_chunk.specs.Tuples.{is_box_inside}
 use Rattle.std.proofs.lemmas.List.Elements.{All-push}
-use Rattle.zarrs_chunk.proofs.BoxTuples.{next_fronts, numbers_behind-more, numbers_behind-end, numbers_behind-start}
+use Rattle.zarrs_chunk.proofs.BoxTuples.{numbers_behind-more, numbers_behind-end, numbers_behind-start}
 use Rattle.zarrs_chunk.proofs.Consecutive.{range-append}
 use Rattle.zarrs_chunk.proofs.Inside.{is_box_inside-at}
 use Rattle.zarrs_chunk.proofs.Products.{product_drop}
@@ -30,11 +30,11 @@ spread-range whole (suc n) b =
     ∙ sym (range-append (b * whole) whole (n * whole))
     ∙ ap (range_with_len (b * whole)) (let e : whole + n * whole ≡ suc n * whole = omega arith in e)
 
-pub spread-rows : (whole size start len : ℕ) (fronts : List ℕ) → spread whole (next_fronts size start len fronts) ≡ spread_rows size start len whole fronts
+pub spread-rows : (whole size start len : ℕ) (fronts : List ℕ) → spread whole (rows_behind size start len fronts) ≡ spread_rows size start len whole fronts
 spread-rows whole size start len [] = refl
 spread-rows whole size start len (front ∷ fronts) =
-    flat_map-append (λ number. range_with_len (number * whole) whole) (range_with_len (front * size + start) len) (next_fronts size start len fronts)
-    ∙ ap (λ ns. ns ++ spread whole (next_fronts size start len fronts)) (spread-range whole len (front * size + start))
+    flat_map-append (λ number. range_with_len (number * whole) whole) (range_with_len (front * size + start) len) (rows_behind size start len fronts)
+    ∙ ap (λ ns. ns ++ spread whole (rows_behind size start len fronts)) (spread-range whole len (front * size + start))
     ∙ ap (λ ns. range_with_len ((front * size + start) * whole) (len * whole) ++ ns) (spread-rows whole size start len fronts)
 
 whole_rows : (whole size : ℕ) (fronts : List ℕ) → spread_rows size 0 size whole fronts ≡ spread (size * whole) fronts
@@ -58,9 +58,9 @@ whole_behind (suc n) axes sizes starts lengths fronts e f g w =
     let whole = product (drop (axes + 1) sizes) in
     let is = w axes (omega arith) (omega arith) in
     numbers_behind-more sizes starts lengths fronts axes (omega arith) (omega arith) (omega arith)
-    ∙ whole_behind n (axes + 1) sizes starts lengths (next_fronts size (get_or starts axes 0) (get_or lengths axes 0) fronts) (omega arith) f g (λ k p q. w k (omega arith) q)
-    ∙ ap (λ start. spread whole (next_fronts size start (get_or lengths axes 0) fronts)) is.0
-    ∙ ap (λ len. spread whole (next_fronts size 0 len fronts)) is.1
+    ∙ whole_behind n (axes + 1) sizes starts lengths (rows_behind size (get_or starts axes 0) (get_or lengths axes 0) fronts) (omega arith) f g (λ k p q. w k (omega arith) q)
+    ∙ ap (λ start. spread whole (rows_behind size start (get_or lengths axes 0) fronts)) is.0
+    ∙ ap (λ len. spread whole (rows_behind size 0 len fronts)) is.1
     ∙ spread-rows whole size 0 size fronts
     ∙ whole_rows whole size fronts
     ∙ ap (λ t. spread t fronts) (sym (product_drop sizes axes (omega arith)))
@@ -72,8 +72,8 @@ rows_before_whole sizes starts lengths fronts last axes e h f g w =
     let start = get_or starts last 0 in
     let len = get_or lengths last 0 in
     numbers_behind-more sizes starts lengths fronts last (omega arith) (omega arith) (omega arith)
-    ∙ ap (λ n. numbers_behind (drop n sizes) (drop n starts) (drop n lengths) (next_fronts size start len fronts)) (sym e)
-    ∙ whole_behind (length sizes - axes) axes sizes starts lengths (next_fronts size start len fronts) (omega arith) f g w
+    ∙ ap (λ n. numbers_behind (drop n sizes) (drop n starts) (drop n lengths) (rows_behind size start len fronts)) (sym e)
+    ∙ whole_behind (length sizes - axes) axes sizes starts lengths (rows_behind size start len fronts) (omega arith) f g w
     ∙ spread-rows (product (drop axes sizes)) size start len fronts
 
 -- a row ends within the elements, and so does what its numbers stand for

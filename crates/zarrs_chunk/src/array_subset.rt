@@ -34,7 +34,7 @@ impl Model for ArraySubset {
 
 /// Whether each range of a box ends where 64 bits hold it.
 fn all_ends_fit(starts: &[u64], lengths: &[u64]) -> bool
-    ensures { result ≡ ends_fit starts.now lengths.now }
+    ensures value { result ≡ ends_fit starts.now lengths.now }
 {
     starts
         .iter()

@@ -40,8 +40,8 @@ pub fn is_box_inside(sizes: &[u64], starts: &[u64], lengths: &[u64]) -> bool
 
 /// One axis more, on which the box has one index: each front gives way to the number behind it.
 fn step_fronts(fronts: &mut [u64], size: u64, start: u64)
-    requires { RowsFit size start 1 fronts.old }
-    ensures { fronts.new ≡ rows_behind size start 1 fronts.old }
+    requires fits { RowsFit size start 1 fronts.old }
+    ensures fronts { fronts.new ≡ rows_behind size start 1 fronts.old }
 {
     for index in 0..fronts.len() {
         fronts[index] = fronts[index] * size + start;
@@ -57,8 +57,8 @@ fn write_rows(
     start: u64,
     len: u64,
 ) -> Result<(), AllocError>
-    requires { RowsFit size start len fronts.now }
-    ensures { OnOk result (rows.new.items ≡ rows_behind size start len fronts.now) }
+    requires fits { RowsFit size start len fronts.now }
+    ensures fronts { OnOk result (rows.new.items ≡ rows_behind size start len fronts.now) }
 {
     rows.clear();
     rows.reserve_exact(fronts.len().saturating_mul(len as usize))?;
@@ -78,8 +78,8 @@ fn next_fronts(
     start: u64,
     len: u64,
 ) -> Result<(), AllocError>
-    requires { RowsFit size start len fronts.old.items }
-    ensures { OnOk result (fronts.new.items ≡ rows_behind size start len fronts.old.items) }
+    requires fits { RowsFit size start len fronts.old.items }
+    ensures fronts { OnOk result (fronts.new.items ≡ rows_behind size start len fronts.old.items) }
 {
     if len == 1 {
         step_fronts(fronts.as_mut_slice(), size, start);
@@ -108,9 +108,14 @@ fn box_fronts(
     ensures fronts { IfOk result (λ v. AreFronts axes sizes.now starts.now lengths.now v.items) }
     ensures fits { IfOk result (λ v. FrontsFit axes sizes.now v.items) }
 {
-    let mut fronts = vec![in alloc; 0]?;
+    if axes == 0 {
+        let fronts = vec![in alloc; 0]?;
+        return Ok(fronts);
+    }
+    let mut fronts = Vec::new(alloc);
+    write_rows(&mut fronts, &[0], sizes[0], starts[0], lengths[0])?;
     let mut rows = Vec::new(alloc);
-    for axis in 0..axes {
+    for axis in 1..axes {
         let len = lengths[axis];
         next_fronts(&mut fronts, &mut rows, sizes[axis], starts[axis], len)?;
     }
@@ -159,8 +164,8 @@ fn outer_axes(sizes: &[u64], starts: &[u64], lengths: &[u64]) -> usize
 
 /// The product of sizes, where the caller knows that 64 bits hold it.
 fn known_product(sizes: &[u64]) -> u64
-    requires { product sizes.now < 2 ^ 64 }
-    ensures { result ≡ product sizes.now }
+    requires fits { product sizes.now < 2 ^ 64 }
+    ensures value { result ≡ product sizes.now }
 {
     match checked_product(sizes) {
         Some(count) => count,

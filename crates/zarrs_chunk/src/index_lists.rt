@@ -15,13 +15,13 @@ use crate::runs::append_place;
 use std::alloc::Global;
 
 fn have_axes(axes: usize, tuples: &[ArrayIndices]) -> bool
-    ensures { result ≡ are_of_axes axes tuples.now }
+    ensures value { result ≡ are_of_axes axes tuples.now }
 {
     tuples.iter().all(|tuple| tuple.len() == axes)
 }
 
 fn are_inside(sizes: &[u64], tuples: &[ArrayIndices]) -> bool
-    ensures { result ≡ are_tuples_inside sizes.now tuples.now }
+    ensures value { result ≡ are_tuples_inside sizes.now tuples.now }
 {
     tuples
         .iter()

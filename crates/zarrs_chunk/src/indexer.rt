@@ -23,7 +23,7 @@ pub enum Indexer {
 }
 
 fn check_subset(sizes: &[u64], subset: &ArraySubset) -> Result<(), CodecError>
-    ensures { result ≡ bounds_of (subset_of subset.now) sizes.now }
+    ensures answer { result ≡ bounds_of (subset_of subset.now) sizes.now }
 {
     let starts = subset.start();
     let lengths = subset.shape();

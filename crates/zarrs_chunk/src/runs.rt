@@ -9,14 +9,14 @@ use std::alloc::{AllocError, Global};
 
 /// Whether the second place is the next one after the first.
 fn follows(place: u64, next: u64) -> bool
-    ensures { result ≡ true ↔ next ≡ place + 1 }
+    ensures value { result ≡ true ↔ next ≡ place + 1 }
 {
     next > place && next - place == 1
 }
 
 /// How many of the first places follow one another.
 fn run_length(places: &[u64]) -> usize
-    requires { 0 < length places.now }
+    requires some { 0 < length places.now }
     ensures some { 0 < result }
     ensures within { result ≤ length places.now }
     ensures run { take result places.now ≡ range_with_len (slice_index places.now 0) result }
@@ -33,7 +33,7 @@ fn run_length(places: &[u64]) -> usize
 
 /// How many runs these places make: one for each place that doesn't follow the one before it.
 fn count_runs(places: &[u64]) -> usize
-    ensures { result ≤ length places.now }
+    ensures within { result ≤ length places.now }
 {
     let mut count = 0;
     for index in 0..places.len() {

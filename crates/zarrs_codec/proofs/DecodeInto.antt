@@ -1,17 +1,13 @@
 -- Decoding into a target: the decoded container has what the target takes, and what was written of it.
-use Rattle.std.proofs.Common.{◌≡◌, ℕ, true, Ok, Err, Result, IsOkAnd}
+use Rattle.std.proofs.Common.{◌≡◌, true, Ok, Err, Result, IsOkAnd}
 use Rattle.zarrs_chunk.specs.declared.codec_error.CodecError.{CodecError}
 use Rattle.zarrs_data_type.specs.Element.{Chunk}
 use Rattle.zarrs_data_type.specs.ElementType.{ElementType}
 use Rattle.zarrs_array_bytes.specs.Blank.{AbsentAreBlank, has_flags}
-use Rattle.zarrs_array_bytes.specs.DecodeTarget.{DecodeTarget, TargetHolds, target_fit, fills, written_target}
+use Rattle.zarrs_array_bytes.specs.DecodeTarget.{DecodeTarget, TargetHolds, written_target}
 use Rattle.zarrs_array_bytes.specs.Held.{Held}
-use Rattle.zarrs_array_bytes.specs.Validity.{Holds, validity}
-use Rattle.zarrs_array_bytes.proofs.TargetLemmas.{taken_filled}
+use Rattle.zarrs_array_bytes.specs.Validity.{Holds}
 use Rattle.zarrs_codec.specs.DecodeInto.{decoded_into}
-
-pub filled_after : (type : ElementType) (count : ℕ) (target : DecodeTarget) (held : Held) → target_fit type count target ≡ Ok tt → validity type count held ≡ Ok tt → fills target held ≡ true
-filled_after type count target held t v = taken_filled type count target held t v
 
 pub written_after : {R : Type 0} (type : ElementType) (before after : DecodeTarget) (held : Held) (represented : Result R CodecError) (fit : Result (Unit {0}) CodecError) (chunk : Result Chunk CodecError) (r : R) → represented ≡ Ok r → fit ≡ Ok tt → after ≡ written_target before held → has_flags held ≡ true → AbsentAreBlank type held → IsOkAnd chunk (Holds type held)
     → IsOkAnd (decoded_into represented fit chunk) (λ c. TargetHolds type before after c)

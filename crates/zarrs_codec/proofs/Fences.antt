@@ -6,11 +6,11 @@ use Rattle.std.proofs.lemmas.List.Folds.{list_any_at}
 use Rattle.zarrs_codec.specs.ByteSpan.{ByteSpan}
 use Rattle.zarrs_codec.specs.FencedHandle.{has_byte, is_fenced}
 
-first_true : (a b : Bool) → (a && b) ≡ true → a ≡ true
+pub first_true : (a b : Bool) → (a && b) ≡ true → a ≡ true
 first_true true b both = refl
 first_true false b both = both
 
-second_true : (a b : Bool) → (a && b) ≡ true → b ≡ true
+pub second_true : (a b : Bool) → (a && b) ≡ true → b ≡ true
 second_true true b both = both
 second_true false b both = grind (arith, both)
 

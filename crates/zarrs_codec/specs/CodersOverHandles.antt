@@ -1,5 +1,5 @@
 -- What is promised of a coder of chunks in part that stands over a storage handle.
-use Rattle.std.specs.Prelude.{◌≡◌, ℕ, Bool, true, false, Option, Some, None, List, map, Result, Ok, Err, IfOk, IfErr, OnOk, OnErr, is_ok, replicate}
+use Rattle.std.specs.Prelude.{◌≡◌, ℕ, Bool, true, false, Option, Some, None, List, map, Result, Err, IfOk, IfErr, OnOk, OnErr, is_ok, replicate}
 use Rattle.zarrs_chunk.specs.Answer.{Answers, AnswersBy, memory, memory_or_fault, is_fault, seen}
 use Rattle.zarrs_chunk.specs.ChunkShape.{product}
 use Rattle.zarrs_chunk.specs.Selection.{Selection, bounds_of, places_of}

@@ -7,11 +7,10 @@ use Rattle.zarrs_chunk.specs.ChunkShape.{product}
 use Rattle.zarrs_chunk.specs.Selection.{Selection, bounds_of, places_of, tuples_of}
 use Rattle.zarrs_chunk.specs.Tuples.{row_major}
 use Rattle.zarrs_chunk.specs.declared.codec_error.CodecError.{CodecError}
-use Rattle.zarrs_data_type.specs.ElementType.{ElementType}
 use Rattle.zarrs_array_bytes.specs.Held.{Held}
 use Rattle.zarrs_array_bytes.specs.Validity.{data_fit}
 use Rattle.zarrs_codec.specs.ArrayReader.{ArrayReader}
-use Rattle.zarrs_codec.specs.ArrayWriter.{ArrayWriter, ChecksData}
+use Rattle.zarrs_codec.specs.ArrayWriter.{ChecksData}
 use Rattle.zarrs_codec.specs.ChunkEdits.{data_checked, data_places}
 
 -- the first of two steps passed, and gave this to the second

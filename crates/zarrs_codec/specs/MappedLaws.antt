@@ -2,11 +2,10 @@
 use Rattle.std.specs.Prelude.{◌≡◌, ℕ, Bool, List, Result, Ok, Err, IfErr, refl}
 use Rattle.std.proofs.Common.{subst, ◌∙◌}
 use Rattle.zarrs_chunk.specs.Answer.{◌>>=◌}
-use Rattle.zarrs_chunk.specs.Selection.{Selection, bounds_of, len_of, tuples_of}
+use Rattle.zarrs_chunk.specs.Selection.{Selection, bounds_of, len_of}
 use Rattle.zarrs_chunk.specs.declared.codec_error.CodecError.{CodecError}
-use Rattle.zarrs_array_bytes.specs.Held.{Held}
 use Rattle.zarrs_array_bytes.specs.Validity.{data_fit}
-use Rattle.zarrs_codec.specs.ArrayReader.{ArrayReader, CountsTuples, IsCounted, mapped_reader}
+use Rattle.zarrs_codec.specs.ArrayReader.{ArrayReader, IsCounted, mapped_reader}
 use Rattle.zarrs_codec.specs.ArrayWriter.{ArrayWriter, ChecksData, mapped_writer}
 use Rattle.zarrs_codec.specs.CoordinateMap.{CoordinateMap}
 use Rattle.zarrs_codec.specs.CountLaws.{passed}

@@ -15,6 +15,7 @@ use Rattle.zarrs_codec.specs.declared.bytes_representation.BytesRepresentation.{
 use Rattle.zarrs_codec.specs.declared.bytes_representation.BytesRepresentation.TheVariants.{FixedSize, BoundedSize, UnboundedSize}
 use Rattle.zarrs_codec.specs.declared.sample_bytes_codec.SampleBytesCodec.{SampleBytesCodec}
 use Rattle.zarrs_codec.specs.declared.sample_bytes_codec.SampleBytesCodec.TheVariants.{Reverse, Length}
+use Rattle.zarrs_chunk.proofs.Inside.{le_test}
 
 -- ---- the length
 
@@ -30,10 +31,7 @@ behind : (bytes : List ℕ) → drop 8 (length_bytes bytes ++ bytes) ≡ bytes
 unfolding length_bytes
 behind bytes = refl
 
-le_test : (a b : ℕ) → a ≤ b → nat_le a b ≡ true
-le_test a b h = grind (arith, nat_tests)
-
-eq_test : (a b : ℕ) → a ≡ b → (a == b) ≡ true
+pub eq_test : (a b : ℕ) → a ≡ b → (a == b) ≡ true
 eq_test a b h = grind (arith, nat_tests)
 
 length_undone : (bytes : List ℕ) → length bytes < 2 ^ 64 → behind_length (length_bytes bytes ++ bytes) ≡ Ok bytes
@@ -47,11 +45,11 @@ length_undone bytes small =
 -- ---- bytes
 
 -- each byte of a number is below 256
-byte_below : (i n : ℕ) → byte_at i n < 256
+pub byte_below : (i n : ℕ) → byte_at i n < 256
 byte_below zero n = omega arith
 byte_below (suc i) n = omega arith
 
-low_first_are_bytes : (i k n : ℕ) → AreBytes (bytes_low_first i k n)
+pub low_first_are_bytes : (i k n : ℕ) → AreBytes (bytes_low_first i k n)
 low_first_are_bytes i zero n k' d l = absurd (omega (arith, l))
 low_first_are_bytes i (suc k) n zero d l = byte_below i n
 low_first_are_bytes i (suc k) n (suc j) d l = low_first_are_bytes (suc i) k n j d (omega (arith, l))
@@ -64,7 +62,7 @@ one_byte : (byte : ℕ) → byte < 256 → AreBytes (byte ∷ [])
 one_byte byte lt zero d l = lt
 one_byte byte lt (suc k) d l = absurd (omega (arith, l))
 
-reversed_are_bytes : (bytes : List ℕ) → AreBytes bytes → AreBytes (reverse bytes)
+pub reversed_are_bytes : (bytes : List ℕ) → AreBytes bytes → AreBytes (reverse bytes)
 reversed_are_bytes [] h = h
 reversed_are_bytes (byte ∷ bytes) h =
     let is_byte = λ (x : ℕ). x < 256 in

@@ -4,8 +4,9 @@ ghost use Rattle.zarrs_chunk.specs.Indexer.{selection_of};
 ghost use Rattle.zarrs_array_bytes.specs.Blank.{AbsentAreBlank};
 ghost use Rattle.zarrs_codec.specs.ArrayReader.{ArrayReader, IsCounted, ReadsSelection, IndexerFirstOfRead};
 ghost use Rattle.zarrs_codec.specs.ArrayWriter.{ArrayWriter, no_writer};
+ghost use Rattle.zarrs_codec.specs.CodersOverHandles.{OnlyReads};
 ghost use Rattle.zarrs_codec.specs.HandleCalls.{Tells};
-ghost use Rattle.zarrs_codec.specs.StorageState.{StorageState, after_reading};
+ghost use Rattle.zarrs_codec.specs.StorageState.{StorageState};
 
 use std::alloc::Global;
 use zarrs_array_bytes::ArrayBytes;
@@ -38,9 +39,7 @@ pub trait ArrayPartialDecoderTraits {
     /// Whether the chunk is stored. Refusals: `Storage`.
     fn exists(&mut self) -> Result<bool, CodecError>
         ensures answer { Tells result (reader self.old).is_stored }
-        ensures left { state self.new ≡ after_reading result (state self.old) }
-        ensures same_reference { lent self.new ≡ lent self.old }
-        ensures reader_kept { reader self.new ≡ reader self.old }
+        ensures left { OnlyReads state lent reader self.old self.new result }
         ensures writer_kept { writer self.new ≡ writer self.old };
 
     /// How many bytes are kept in memory.
@@ -58,9 +57,7 @@ pub trait ArrayPartialDecoderTraits {
         ensures answer { ReadsSelection (reader self.old) (selection_of indexer.now) result }
         ensures indexer_first { IndexerFirstOfRead (reader self.old) indexer.now result }
         ensures blank { IfOk result (AbsentAreBlank (reader self.old).type) }
-        ensures left { state self.new ≡ after_reading result (state self.old) }
-        ensures same_reference { lent self.new ≡ lent self.old }
-        ensures reader_kept { reader self.new ≡ reader self.old }
+        ensures left { OnlyReads state lent reader self.old self.new result }
         ensures writer_kept { writer self.new ≡ writer self.old };
 
     /// Whether a part is read without the rest of the chunk.

@@ -1,6 +1,7 @@
-ghost use Rattle.std.specs.Prelude.{◌≡◌, Bool, None, Ok, OnOk, OnErr};
+ghost use Rattle.std.specs.Prelude.{◌≡◌, Bool, None, Ok, OnErr};
 ghost use Rattle.zarrs_chunk.specs.Answer.{Answers, fault, memory_or_fault};
-ghost use Rattle.zarrs_codec.specs.ArrayWriter.{ChecksData, ChecksFirst, IndexerFirst, LeftByRefusal, edit_check, written_value};
+ghost use Rattle.zarrs_codec.specs.ArrayWriter.{ChecksData, ChecksFirst, IndexerFirst, edit_check, written_value};
+ghost use Rattle.zarrs_codec.specs.CodersOverHandles.{OnlyWrites};
 ghost use Rattle.zarrs_codec.specs.StorageState.{KeptIfAtomic, LeftByWriting};
 
 use crate::array_partial_decoder_traits::ArrayPartialDecoderTraits;
@@ -38,11 +39,8 @@ pub trait ArrayPartialEncoderTraits: ArrayPartialDecoderTraits {
         ensures checked_first { ChecksFirst (Self.writer self.old) indexer.now elements.now result }
         ensures untouched { OnErr (edit_check (Self.writer self.old) indexer.now elements.now)
             (Self.state self.new ≡ Self.state self.old) }
-        ensures one_write { OnOk result (LeftByWriting Self.state self.old self.new result) }
-        ensures refused { OnErr result (LeftByRefusal Self.state self.old self.new result) }
-        ensures kept_if_atomic { KeptIfAtomic atomic Self.state self.old self.new result }
-        ensures same_reference { Self.lent self.new ≡ Self.lent self.old }
-        ensures writer_kept { Self.writer self.new ≡ Self.writer self.old };
+        ensures left { OnlyWrites Self.state Self.lent Self.writer atomic
+            self.old self.new result };
 
     /// Leaves no value; there may have been none. Refusals: `Storage`.
     fn erase(&mut self) -> Result<(), CodecError>

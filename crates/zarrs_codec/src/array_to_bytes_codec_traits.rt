@@ -83,7 +83,7 @@ pub trait ArrayToBytesCodecTraits: ArrayCodecTraits {
     /// the first that holds, `OutOfMemory` aside, which all leave the target: those of
     /// `encoded_representation`; those of `ArrayBytesDecodeIntoTarget::check`, `UnsupportedTarget` and
     /// `TargetMismatch`; those of `decode`.
-    #[tactic(auto, using(crate::proofs::DecodeInto::filled_after, crate::proofs::DecodeInto::written_after))]
+    #[tactic(auto, using(zarrs_array_bytes::proofs::TargetLemmas::taken_filled, crate::proofs::DecodeInto::written_after))]
     fn decode_into<'a>(
         &self,
         alloc: Global,

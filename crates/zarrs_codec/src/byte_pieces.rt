@@ -60,8 +60,8 @@ fn overwrite(value: &mut [u8], start: usize, piece: &[u8])
     value[start..start + piece.len()].copy_from_slice(piece);
 }
 
-/// Writes a piece from a byte on, an empty one anywhere. The sizes of most elements are constants
-/// here, so that each of these is a single move and no call to copy.
+/// Writes a piece from a byte on, an empty one anywhere. The sizes of most elements and of short rows
+/// of them are constants here, so that each of these is a move or two and no call to copy.
 #[inline(always)]
 fn write_piece(value: &mut [u8], start: usize, piece: &[u8])
     requires inside { end_of start (length piece.now) ≤ length value.old }
@@ -73,6 +73,8 @@ fn write_piece(value: &mut [u8], start: usize, piece: &[u8])
         2 => overwrite(value, start, &piece[..2]),
         4 => overwrite(value, start, &piece[..4]),
         8 => overwrite(value, start, &piece[..8]),
+        16 => overwrite(value, start, &piece[..16]),
+        32 => overwrite(value, start, &piece[..32]),
         _ => overwrite(value, start, piece),
     }
 }

@@ -29,7 +29,7 @@ fn room_for(len: usize, ranges: &[ByteRange]) -> usize {
 /// single move and no call to copy.
 #[inline(always)]
 fn append_piece(bytes: &mut Vec<u8>, piece: &[u8]) -> Result<(), AllocError>
-    ensures { OnOk result (bytes.new.items ≡ bytes.old.items ++ piece.now) }
+    ensures appended { OnOk result (bytes.new.items ≡ bytes.old.items ++ piece.now) }
 {
     match piece.len() {
         1 => bytes.extend_from_slice(&piece[..1]),

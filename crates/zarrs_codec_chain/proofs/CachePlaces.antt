@@ -18,7 +18,8 @@ use Rattle.zarrs_codec_chain.specs.declared.partial_decoder.cache.Cache.{Cache}
 use Rattle.zarrs_codec_chain.specs.declared.partial_decoder.cache.Cache.TheVariants as kept
 use Rattle.zarrs_codec_chain.specs.declared.partial_decoder.cache.CacheStage.{CacheStage}
 use Rattle.zarrs_codec_chain.specs.declared.partial_decoder.cache.CacheStage.TheVariants as stage
-use Rattle.zarrs_chain_laws.proofs.ArraySteps.{holds_elements}
+use Rattle.zarrs_array_to_array.proofs.MappedChunks.{holds_elements}
+use Rattle.zarrs_chunk.proofs.Inside.{le_test}
 
 abbrev some : ℕ → Option ℕ
 some n = Some n
@@ -40,9 +41,6 @@ abbrev place_of : ℕ → CacheStage → Option ℕ
 place_of count stage.Nowhere = None
 place_of count (stage.Bytes below) = Some (count - below)
 place_of count stage.Chunk = Some (suc count)
-
-le_test : (n m : ℕ) → n ≤ m → nat_le n m ≡ true
-le_test n m l = grind (arith, nat_tests)
 
 gt_test : (n : ℕ) → nat_le (suc n) n ≡ false
 gt_test n = grind (arith, nat_tests)

@@ -1,9 +1,9 @@
 -- What a write in part leaves through a chain.
-use Rattle.std.proofs.Common.{◌≡◌, ℕ, ◌<◌, ◌||◌, Bool, true, false, Option, Some, None, List, [], ◌∷◌, length, replicate, set, Result, Ok, Err, arith, refl, ap, sym, ◌∙◌, subst}
+use Rattle.std.proofs.Common.{◌≡◌, ℕ, ◌<◌, ◌||◌, Bool, true, false, Option, Some, None, List, length, replicate, Result, Ok, Err, refl, ap, sym, ◌∙◌, subst}
 use Rattle.std.specs.List.{All}
 use Rattle.std.specs.Prelude.{IsOkAnd}
 use Rattle.std.proofs.lemmas.List.{length-replicate}
-use Rattle.std.proofs.lemmas.List.Elements.{All-replicate, All-set, All-tail}
+use Rattle.std.proofs.lemmas.List.Elements.{All-replicate}
 use Rattle.zarrs_chunk.specs.Answer.{demand, Answers, memory, fault, memory_or_fault}
 use Rattle.zarrs_chunk.specs.ChunkShape.{product}
 use Rattle.zarrs_chunk.specs.declared.codec_error.CodecError.{CodecError}
@@ -15,7 +15,6 @@ use Rattle.zarrs_data_type.proofs.FillLemmas.{fill_element-IsElement}
 use Rattle.zarrs_array_bytes.specs.Chunks.{fill_chunk, update_at_places}
 use Rattle.zarrs_array_bytes.specs.Elements.{elements}
 use Rattle.zarrs_array_bytes.specs.Held.{Held}
-use Rattle.zarrs_array_bytes.specs.Update.{update}
 use Rattle.zarrs_array_bytes.specs.Validity.{Holds, data_fit, data_mismatch, sizes_fit, validity}
 use Rattle.zarrs_array_bytes.proofs.ElementLaw.{AreElements-elements}
 use Rattle.zarrs_array_bytes.proofs.WriteLemmas.{length-update}
@@ -33,6 +32,7 @@ use Rattle.zarrs_chain_laws.proofs.ArraySteps.{ok_is}
 use Rattle.zarrs_chain_laws.proofs.ChainRelations.{held_value_is}
 use Rattle.zarrs_chain_laws.proofs.NestedRead.{chain_read_found}
 use Rattle.zarrs_codec_chain.proofs.PartialCalls.{held_of}
+use Rattle.zarrs_array_bytes.proofs.UpdateCalls.{All-update}
 
 -- ---- new elements in a container
 
@@ -89,11 +89,6 @@ left_answer view result f form stored chunk places new e h =
     weaker view result (value_left f form None stored places new) (subst (λ (x : Result (List ℕ) CodecError). Answers memory view result x) (sym (left_is f form stored chunk places new e)) h)
 
 -- ---- elements of a chunk with new elements
-
-pub All-update : {A : Type 0} (P : A → Type 0) (xs : List A) (ps : List ℕ) (ys : List A) → All P xs → All P ys → All P (update xs ps ys)
-All-update P xs [] ys h e = h
-All-update P xs (p ∷ ps) [] h e = h
-All-update P xs (p ∷ ps) (y ∷ ys) h e = All-update P (set xs p y) ps ys (All-set P xs p y (e 0 y (omega arith)) h) (All-tail P y ys e)
 
 -- they are of the type, where the old and the new ones are
 pub edited_is : (sizes : List ℕ) (type : ElementType) (chunk : Chunk) (places : List ℕ) (new : Held) → IsChunk type (product sizes) chunk → data_fit type (length places) new ≡ Ok tt → IsChunk type (product sizes) (with_elements type chunk places new)

@@ -21,8 +21,8 @@ use Rattle.zarrs_codec.specs.declared.bytes_representation.BytesRepresentation.{
 use Rattle.zarrs_bytes.specs.BytesCodec.{IsChunk}
 use Rattle.zarrs_bytes.specs.PartialWrite.{filled_chunk}
 use Rattle.zarrs_packbits.specs.Laws.{HasBytes}
-use Rattle.zarrs_codec_chain.specs.ChunkRead.{ChunkForm}
-use Rattle.zarrs_codec_chain.specs.ChunkWrite.{order_in_place, stored_written, value_left}
+use Rattle.zarrs_codec_chain.specs.ChunkRead.{ChunkForm, order_in_place}
+use Rattle.zarrs_codec_chain.specs.ChunkWrite.{stored_written, value_left}
 use Rattle.zarrs_codec_chain.specs.Edits.{chunk_or_fill, edited_state, states_edited, edited_store, stores_edited, AcceptsEdits, edit_excuse, excuse_at, EditHasBytes, IsStoredFor, IsWritable, StateHasBytes}
 use Rattle.zarrs_chain_laws.specs.Laws.{IsChainOfMappings}
 use Rattle.zarrs_chain_laws.specs.MachineBytes.{HeldHasBytes}
@@ -33,7 +33,8 @@ use Rattle.zarrs_codec_chain.specs.declared.partial_encoder.edits.Edit.TheVarian
 use Rattle.zarrs_bytes.proofs.Coding.{bind_ok}
 use Rattle.zarrs_chain_laws.proofs.ChainSteps.{seen_ok}
 use Rattle.zarrs_chain_laws.proofs.HeldBytes.{held_bytes}
-use Rattle.zarrs_codec_chain.proofs.ChunkWrites.{All-update, edited_is}
+use Rattle.zarrs_array_bytes.proofs.UpdateCalls.{All-update}
+use Rattle.zarrs_codec_chain.proofs.ChunkWrites.{edited_is}
 use Rattle.zarrs_chain_laws.proofs.NestedForNormal.{written_for_normal}
 use Rattle.zarrs_chain_laws.proofs.NestedNormal.{normal_elements, normal_twice, normal_updated}
 use Rattle.zarrs_chain_laws.proofs.NestedWrittenStands.{chain_stands}

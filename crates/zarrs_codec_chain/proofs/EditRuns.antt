@@ -1,21 +1,19 @@
 -- What a run of edits leaves of a handle.
-use Rattle.std.proofs.Common.{◌≡◌, inl, inr, ℕ, ◌+◌, ◌%◌, ◌^◌, true, Result, Ok, Err, add-one, arith, ap, sym, ◌∙◌, subst}
+use Rattle.std.proofs.Common.{◌≡◌, inl, inr, ℕ, ◌+◌, ◌%◌, ◌^◌, true, Result, Err, add-one, arith, ap, sym, ◌∙◌, subst}
 use Rattle.zarrs_chunk.specs.declared.codec_error.CodecError.{CodecError}
 use Rattle.zarrs_codec.specs.ArrayWriter.{IsRefusedWrite}
 use Rattle.zarrs_codec.specs.StorageState.{StorageState, after_writing, apart_from_value, count_if}
 use Rattle.zarrs_codec_chain.specs.Edits.{advanced, after_edits}
-
-abbrev done : Result (Unit {0}) CodecError
-done = Ok tt
+use Rattle.zarrs_bytes.proofs.ByteRuns.{ready}
 
 abbrev refused : CodecError → Result (Unit {0}) CodecError
 refused e = Err e
 
 -- one accepted edit more
-pub left_more : (n : ℕ) (old mid new : StorageState) → mid ≡ after_edits n mid.value old → apart_from_value new ≡ after_writing done mid → new ≡ after_edits (n + 1) new.value old
+pub left_more : (n : ℕ) (old mid new : StorageState) → mid ≡ after_edits n mid.value old → apart_from_value new ≡ after_writing ready mid → new ≡ after_edits (n + 1) new.value old
 left_more n old mid new left one =
     ap (λ (s : StorageState). record s { value = new.value }) one
-    ∙ ap (λ (s : StorageState). record (after_writing done s) { value = new.value }) left
+    ∙ ap (λ (s : StorageState). record (after_writing ready s) { value = new.value }) left
     ∙ ap (λ (k : ℕ). after_edits k new.value old) (sym (add-one n))
 
 -- a refused edit behind so many accepted ones

@@ -13,3 +13,5 @@ pub mod Making
 pub mod ReadLaws
 pub mod RegionReads
 pub mod RegionWrites
+pub mod PlannedPlaces
+pub mod ListedReads

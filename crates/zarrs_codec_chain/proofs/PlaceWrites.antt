@@ -27,11 +27,11 @@ use Rattle.zarrs_array_to_array.proofs.CoordinateMaps.{length-moved, moved_each,
 use Rattle.zarrs_bytes.specs.BytesCodec.{bytes_length, BytesStands, BytesWritten, IsChunk}
 use Rattle.zarrs_bytes.specs.PartialWrite.{bytes_left, filled_chunk, StartsFrom}
 use Rattle.zarrs_bytes.proofs.Coding as bytes_coding
-use Rattle.zarrs_bytes.proofs.PartWrites.{write_updates}
+use Rattle.zarrs_bytes.proofs.PartWrites.{write_updates, ok_length}
 use Rattle.zarrs_chain_laws.specs.ArrayStages.{arrays_map}
 use Rattle.zarrs_chain_laws.specs.BytesStages.{outer_bytes, OuterWritten}
-use Rattle.zarrs_codec_chain.specs.ChunkRead.{ChunkForm, encoded_places}
-use Rattle.zarrs_codec_chain.specs.ChunkWrite.{edited_value, EditStarts, order_in_place, selection_left, stored_written, StoresChunk, value_left, written_places}
+use Rattle.zarrs_codec_chain.specs.ChunkRead.{ChunkForm, encoded_places, order_in_place}
+use Rattle.zarrs_codec_chain.specs.ChunkWrite.{edited_value, EditStarts, selection_left, stored_written, StoresChunk, value_left, written_places}
 use Rattle.zarrs_chain_laws.specs.Laws.{IsChainOfMappings}
 use Rattle.zarrs_chain_laws.specs.PlainChain.{PlainCodec, bytes_codec, packbits_codec, vlen_codec, optional_codec}
 use Rattle.zarrs_chain_laws.specs.Representation.{codec_representation}
@@ -64,10 +64,6 @@ bytes_alone (first ∷ rest) codec order e = absurd cc
 pub in_place_taken : {B : Type 0} (f : BytesCodecs B) (outer : List B) (codec : PlainCodec B) (order : Option Endianness) (sizes : List ℕ) (type : ElementType) (fill : List ℕ) → order_in_place outer codec ≡ Some order → is_ok (codec_representation f codec sizes type fill) ≡ true → is_ok (bytes_length order (form_of sizes type fill)) ≡ true
 in_place_taken f outer codec order sizes type fill alone e =
     bytes_is_ok f order sizes type fill (subst (λ x. is_ok (codec_representation f x sizes type fill) ≡ true) (bytes_alone outer codec order alone).1 e)
-
-ok_length : (r : Result ℕ CodecError) → is_ok r ≡ true → (n : ℕ) × (r ≡ Ok n)
-ok_length (Ok n) h = (n, refl)
-ok_length (Err e) h = absurd cc
 
 bytes_countable : (order : Option Endianness) (sizes : List ℕ) (type : ElementType) (fill : List ℕ) → is_ok (bytes_length order (form_of sizes type fill)) ≡ true → sizes_fit type (product sizes) ≡ Ok tt
 bytes_countable order sizes (fixed width components sign) fill t =

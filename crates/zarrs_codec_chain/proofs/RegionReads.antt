@@ -42,7 +42,7 @@ use Rattle.zarrs_chain_laws.specs.Decode.{codec_chunk, vlen_parts}
 use Rattle.zarrs_chain_laws.specs.PlainChain.{PlainCodec, bytes_codec, packbits_codec, vlen_codec, optional_codec, PlainChain}
 use Rattle.zarrs_chain_laws.specs.vlen.PlainVlen.{PlainForm, plain_form_of}
 use Rattle.zarrs_bytes.proofs.Coding.{ok, bind_ok}
-use Rattle.zarrs_chain_laws.proofs.ArraySteps.{ok_no_err}
+use Rattle.zarrs_chain_laws.proofs.ArraySteps.{ok_is, ok_no_err}
 use Rattle.zarrs_chain_laws.proofs.NestedStages.{chained_of}
 use Rattle.zarrs_codec_chain.specs.ChunkRead.{ChunkForm, WhereSure, asks_in_part, codec_read, codec_rests_on, encoded_places, form_rests_on, read_by_form, whole_read}
 use Rattle.zarrs_codec_chain.specs.ChunkSource.{Source, bytes_above, chunk_below, source_places, source_read}
@@ -133,9 +133,6 @@ types_taken type (codec ∷ codecs) sizes m e =
     let c = bind_ok (arrays_map type codecs a.0.encoded) _ m a.2 in
     All-cons (λ codec. type_taken codec type ≡ Ok tt) codec codecs b.1 (types_taken type codecs a.0.encoded c.0 c.1)
 
-same_runs : (xs ys : List ℕ) → ok xs ≡ ok ys → xs ≡ ys
-same_runs xs ys e = cc
-
 module _ {B : Type 0} (f : BytesCodecs B) (form : ChunkForm B) (encoded : List ℕ) (r : BytesRepresentation) (h : IsReadable f form.chain form.sizes form.type form.fill encoded r) (are : All IsMapping form.chain.arrays) (positive : All (λ size. 0 < size) form.sizes) (counted : product form.sizes < 2 ^ 64)
     (region : Region) (inside : is_box_inside form.sizes region.starts region.lengths ≡ true) (kept : keeps_regions form.chain.arrays ≡ true) where
   abbrev last : Window
@@ -172,20 +169,20 @@ module _ {B : Type 0} (f : BytesCodecs B) (form : ChunkForm B) (encoded : List �
     region_refused places e at answer = λ unexcused.
         wanted_is
         ∙ region_read form.chain.arrays form.sizes h.map_is region are positive chained_is kept inside read_last any
-        ∙ ap (seen (decoded_elements form.chain.arrays (window_of form.sizes region))) (ap read_last (same_runs (window_places last) places at) ∙ answer unexcused)
+        ∙ ap (seen (decoded_elements form.chain.arrays (window_of form.sizes region))) (ap read_last (ok_is (window_places last) places at) ∙ answer unexcused)
 
     -- its elements are valid, and decoded they are what is read
     pub region_valid : (places : List ℕ) (held : Held) → ok (window_places last) ≡ ok places → IsOkAnd (read_last places) (Holds form.type held) → validity form.type (product region.lengths) held ≡ Ok tt
     region_valid places held at answer =
         (region_decoded form.chain.arrays form.sizes h.map_is region are positive chained_is kept inside read_last form.type held held any
-        (subst (λ ps. IsOkAnd (read_last ps) (Holds form.type held)) (sym (same_runs (window_places last) places at)) answer)).0
+        (subst (λ ps. IsOkAnd (read_last ps) (Holds form.type held)) (sym (ok_is (window_places last) places at)) answer)).0
 
     pub region_answered : (places : List ℕ) (held : Held) (result : Result Held CodecError) → ok (window_places last) ≡ ok places → IsOkAnd (read_last places) (Holds form.type held)
         → AnswersBy memory (Holds form.type) result (ok (decoded_of form.chain.arrays form.type (window_of form.sizes region) held)) → AnswersBy memory_or_fault (Holds form.type) result wanted
     region_answered places held (Ok decoded) at answer d =
         subst (λ x. IsOkAnd x (Holds form.type decoded)) (sym wanted_is)
         ((region_decoded form.chain.arrays form.sizes h.map_is region are positive chained_is kept inside read_last form.type held decoded any
-        (subst (λ ps. IsOkAnd (read_last ps) (Holds form.type held)) (sym (same_runs (window_places last) places at)) answer)).1 d)
+        (subst (λ ps. IsOkAnd (read_last ps) (Holds form.type held)) (sym (ok_is (window_places last) places at)) answer)).1 d)
     region_answered places held (Err e) at answer d = λ unexcused. absurd (ok_no_err (decoded_of form.chain.arrays form.type (window_of form.sizes region) held) e (d (memory_too e unexcused)))
 
   -- the bytes that a read of the last window rests on
@@ -194,7 +191,7 @@ module _ {B : Type 0} (f : BytesCodecs B) (form : ChunkForm B) (encoded : List �
   region_sure_where before places P at taken sure =
       where_sure f form before (subset region) P encoded r (map h.map_is.to (window_places (window_of form.sizes region))) region_goes taken
       (λ asks. codec_alike before.sure (map h.map_is.to (window_places (window_of form.sizes region))) (window_places last) (λ numbers. region_sure form.chain.arrays form.sizes h.map_is region are positive chained_is kept inside before.sure numbers) form.chain.codec encoded form.type form.fill before.value P
-      (subst (λ ps. IfOk (codec_rests_on form.chain.codec encoded form.type form.fill before.value ps) (λ numbers. are_sure before.sure numbers ≡ true → P)) (sym (same_runs (window_places last) places at)) (sure asks)))
+      (subst (λ ps. IfOk (codec_rests_on form.chain.codec encoded form.type form.fill before.value ps) (λ numbers. are_sure before.sure numbers ≡ true → P)) (sym (ok_is (window_places last) places at)) (sure asks)))
 
 -- ---- calls
 

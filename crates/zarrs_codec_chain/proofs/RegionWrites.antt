@@ -1,10 +1,10 @@
 -- Writes of regions that go through array codecs as regions.
-use Rattle.std.proofs.Common.{◌≡◌, ◌^◌, ◌*◌, ◌<◌, ◌≤◌, nat_lt, ℕ, true, Option, Some, List, length, map, Result, Ok, Err, arith, refl, ap, sym, ◌∙◌, subst}
+use Rattle.std.proofs.Common.{◌≡◌, ◌^◌, ◌*◌, ◌<◌, ◌≤◌, ℕ, true, Option, Some, List, length, map, Result, Ok, Err, arith, refl, ap, sym, ◌∙◌, subst}
 use Rattle.std.specs.Prelude.{is_ok, IsOk}
 use Rattle.std.specs.List.{All}
 use Rattle.std.proofs.Math.Nat.{mul-le-mul_right}
 use Rattle.std.proofs.lemmas.Bool.{lt-ltb}
-use Rattle.zarrs_chunk.specs.Answer.{◌>>=◌, checked_u64, seen}
+use Rattle.zarrs_chunk.specs.Answer.{◌>>=◌, seen}
 use Rattle.zarrs_chunk.specs.ChunkShape.{product}
 use Rattle.zarrs_chunk.specs.Region.{Region}
 use Rattle.zarrs_chunk.specs.Selection.{subset}
@@ -39,8 +39,8 @@ use Rattle.zarrs_array_to_array.proofs.CoordinateMaps.{length-moved}
 use Rattle.zarrs_codec.specs.CoordinateMap.{moved_chunk}
 use Rattle.zarrs_bytes.proofs.Coding.{ok}
 use Rattle.zarrs_chain_laws.proofs.NestedStages.{chained_of}
-use Rattle.zarrs_codec_chain.specs.ChunkRead.{ChunkForm}
-use Rattle.zarrs_codec_chain.specs.ChunkWrite.{LendsData, form_checked, form_written, order_in_place, selection_left}
+use Rattle.zarrs_codec_chain.specs.ChunkRead.{ChunkForm, order_in_place}
+use Rattle.zarrs_codec_chain.specs.ChunkWrite.{LendsData, form_checked, form_written, selection_left}
 use Rattle.zarrs_codec_chain.proofs.PartialReads.{IsReadable, is_ok_of}
 use Rattle.zarrs_codec_chain.proofs.PlaceWrites.{in_place_taken, selection_in_place}
 use Rattle.zarrs_chain_laws.specs.Representation.{codec_representation}
@@ -140,19 +140,6 @@ module _ {B : Type 0} (f : BytesCodecs B) (form : ChunkForm B) (encoded : List �
         fits_valid order encoded form.type form.fill (length places) held taken (subst (λ n. validity form.type n held ≡ Ok tt) (long ∙ sym there) holds.valid)
 
 -- ---- answers of calls
-
--- few elements are counted
-pub no_count : (n : ℕ) (e : CodecError) → n < 2 ^ 64 → ◌≡◌ {A = Result ℕ CodecError} (Err e) (checked_u64 n) → ⊥
-no_count n e l h =
-    let test : nat_lt n (2 ^ 64) ≡ true = lt-ltb n (2 ^ 64) l in
-    let bad : ◌≡◌ {A = Result ℕ CodecError} (Err e) (Ok n) = h ∙ (rw test refl) in
-    cc
-
-pub count_is : (n count : ℕ) → n < 2 ^ 64 → ◌≡◌ {A = Result ℕ CodecError} (Ok count) (checked_u64 n) → count ≡ n
-count_is n count l h =
-    let test : nat_lt n (2 ^ 64) ≡ true = lt-ltb n (2 ^ 64) l in
-    let same : ◌≡◌ {A = Result ℕ CodecError} (Ok count) (Ok n) = h ∙ (rw test refl) in
-    cc
 
 -- the bytes of elements of one size that are lent
 pub fixed_of : (new : Held) (items : List ℕ) → ◌≡◌ {A = Result (List ℕ) CodecError} (Ok items) (seen (λ (raw : Raw). raw.items) (fixed_part new)) → (raw : Raw) × (fixed_part new ≡ Ok raw) × (items ≡ raw.items)

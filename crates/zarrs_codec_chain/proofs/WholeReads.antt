@@ -1,5 +1,5 @@
 -- Reads by the whole chunk, and readers without a cache.
-use Rattle.std.proofs.Common.{◌≡◌, ℕ, ◌^◌, nat_lt, if◌then◌else◌, Bool, true, false, Option, Some, None, List, ◌||◌, length, Result, Ok, Err, refl, ap, sym, ◌∙◌, subst}
+use Rattle.std.proofs.Common.{◌≡◌, ℕ, ◌^◌, nat_lt, if◌then◌else◌, Bool, true, false, Option, Some, None, List, length, Result, Ok, Err, refl, ap, sym, ◌∙◌, subst}
 use Rattle.std.specs.Prelude.{is_some}
 use Rattle.zarrs_chunk.specs.Answer.{◌>>=◌, checked_u64, seen, AnswersBy, fault, memory, memory_or_fault}
 use Rattle.zarrs_chunk.specs.ChunkShape.{product}
@@ -25,6 +25,7 @@ use Rattle.zarrs_codec_chain.specs.declared.partial_decoder.cache.Cache.TheVaria
 use Rattle.zarrs_codec_chain.specs.declared.partial_decoder.cache.CacheStage.{CacheStage}
 use Rattle.zarrs_bytes.proofs.Coding.{ok}
 use Rattle.zarrs_codec_chain.proofs.PartialReads.{take_codecs}
+use Rattle.zarrs_array_to_array.proofs.Stages.{first_false}
 
 -- a count that 64 bits hold is the number itself
 pub count_so : (n m : ℕ) → ◌≡◌ {A = Result ℕ CodecError} (Ok m) (checked_u64 n) → m ≡ n
@@ -84,10 +85,6 @@ pub chunk_at_runs : {B : Type 0} (f : BytesCodecs B) (chain : PlainChain B) (enc
 chunk_at_runs f chain encoded type fill r value held places count result opened valid same h =
     let is : chunk_at type count places held ≡ seen (λ chunk. select chunk places) (opened_chunk f chain encoded type fill r value) = rw (same, valid, opened) refl in
     subst (λ (x : Result Chunk CodecError). AnswersBy memory (Holds type) result x) is h
-
-first_false : (a b : Bool) → (a || b) ≡ false → a ≡ false
-first_false false b h = refl
-first_false true b h = absurd cc
 
 -- a call that never fails, as an answer of one that may
 pub fails_too : {T V : Type 0} (R : T → V → Type 0) (r : Result T CodecError) (expected : Result V CodecError) → AnswersBy memory R r expected → AnswersBy memory_or_fault R r expected

@@ -3,13 +3,15 @@ use Rattle.zarrs_chain_laws.specs.Stands.{ChainStands}
 use Rattle.zarrs_array_bytes.specs.Validity.{Holds}
 use Rattle.zarrs_array_bytes.specs.Held.{Held}
 use Rattle.zarrs_data_type.specs.Form.{form_of, Form}
-use Rattle.std.specs.Prelude.{◌≡◌, ℕ, ◌-◌, ◌*◌, Bool, true, false, if◌then◌else◌, Option, Some, None, IfSome, IfOk, IsOkAnd, List, [], ◌∷◌, length, map, sum_by, Result, Ok, Err, IfErr, is_ok, option_map, Vec}
+use Rattle.std.specs.Prelude.{◌≡◌, ℕ, ◌-◌, ◌*◌, Bool, true, false, if◌then◌else◌, Option, Some, None, IfSome, IfOk, IsOkAnd, List, [], ◌∷◌, length, map, sum_by, Result, Ok, Err, IfErr, is_ok, is_some, option_map, Vec}
 use Rattle.zarrs_chunk.specs.ChunkShape.{product}
 use Rattle.zarrs_chunk.specs.Answer.{◌>>=◌, seen, AnswersBy, memory, memory_or_fault, is_fault, GivesBy, no_refusal, Gives}
+use Rattle.zarrs_chunk.specs.Region.{Region}
 use Rattle.zarrs_chunk.specs.Selection.{Selection, places_of, bounds_of}
 use Rattle.zarrs_chunk.specs.declared.codec_error.CodecError.{CodecError}
 use Rattle.zarrs_data_type.specs.Element.{Chunk, fill_element}
 use Rattle.zarrs_data_type.specs.ElementType.{ElementType}
+use Rattle.zarrs_data_type.specs.declared.endianness.Endianness.{Endianness}
 use Rattle.zarrs_array_bytes.specs.Elements.{select, elements}
 use Rattle.zarrs_codec.specs.ByteRanges.{range_indices}
 use Rattle.zarrs_codec.specs.ByteSpan.{ByteSpan}
@@ -17,6 +19,8 @@ use Rattle.zarrs_codec.specs.BytesToBytesCodec.{BytesCodecs}
 use Rattle.zarrs_codec.specs.StorageState.{are_sure, StorageState}
 use Rattle.zarrs_codec.specs.declared.bytes_representation.BytesRepresentation.{BytesRepresentation}
 use Rattle.zarrs_array_to_array.specs.ArrayToArrayCodec.{ArrayMapping}
+use Rattle.zarrs_array_regions.specs.KeptRegions.{kept_region}
+use Rattle.zarrs_array_regions.specs.Windows.{window_of, window_places, last_window}
 use Rattle.zarrs_bytes.specs.PartialRead.{place_bytes, place_size, read_places}
 use Rattle.zarrs_packbits.specs.PackBitsSettings.{packed_layout}
 use Rattle.zarrs_packbits.specs.PartialRead.{bytes_of_places, read_places_of}
@@ -105,10 +109,40 @@ abbrev pub reads_places : {B : Type 0} → List B → PlainCodec B → Bool
 reads_places [] codec = codec_plans codec
 reads_places (first ∷ rest) codec = false
 
--- the places whose bytes a read asks for, of the chunk that the codec to bytes gets, where it asks for these alone; or the first refusal
+-- the byte order of `bytes` without bytes codecs: there the bytes of places are those of their elements, and a write over a stored value replaces them alone
+abbrev pub order_in_place : {B : Type 0} → List B → PlainCodec B → Option (Option Endianness)
+order_in_place [] (bytes_codec order) = Some order
+order_in_place [] (packbits_codec settings) = None
+order_in_place [] (vlen_codec ia ix ib da dx db wide at_end) = None
+order_in_place [] (optional_codec ma mx mb da dx db) = None
+order_in_place (first ∷ rest) codec = None
+
+abbrev pub form_in_place : {B : Type 0} → ChunkForm B → Option (Option Endianness)
+form_in_place form = order_in_place form.chain.outer form.chain.codec
+
+-- the region that a selection means, where its bytes are planned in the order in which they stand: over `bytes` without bytes codecs, of one that goes through the array codecs as a region
+abbrev pub planned_region : {B : Type 0} → ChunkForm B → Selection → Option Region
+planned_region form selection =
+    if is_some (form_in_place form) then kept_region form.chain.arrays form.sizes selection else None
+
+-- where a region stands in the encoded chunk: the places of its last window, which rise
+abbrev pub standing_places : List ArrayMapping → List ℕ → Region → List ℕ
+standing_places arrays sizes region = window_places (last_window arrays (window_of sizes region))
+
+-- places of the encoded chunk in the order in which their bytes are planned: in their own; of a region in which they stand
+abbrev pub places_in_order : List ArrayMapping → List ℕ → Option Region → List ℕ → List ℕ
+places_in_order arrays sizes None places = places
+places_in_order arrays sizes (Some region) places = standing_places arrays sizes region
+
+-- where the places that a selection means go, in the order in which their bytes are planned, or the first refusal
+abbrev pub ordered_places : {B : Type 0} → ChunkForm B → Selection → Result (List ℕ) CodecError
+ordered_places form selection =
+    seen (places_in_order form.chain.arrays form.sizes (planned_region form selection)) (encoded_places form.type form.chain.arrays form.sizes selection)
+
+-- the places whose bytes a read asks for, of the chunk that the codec to bytes gets, in the order in which they are planned, where it asks for these alone; or the first refusal
 abbrev pub planned_places : {B : Type 0} → ChunkForm B → Selection → Result (Option (List ℕ)) CodecError
 planned_places form selection =
-    seen (λ places. if reads_places form.chain.outer form.chain.codec then Some places else None) (encoded_places form.type form.chain.arrays form.sizes selection)
+    seen (λ places. if reads_places form.chain.outer form.chain.codec then Some places else None) (ordered_places form selection)
 
 -- The ranges are the bytes of these places and no others. Of `bytes` they come in the places' order, and their lengths sum to the elements' bytes. Of `packbits` each is the bytes of one run of places.
 abbrev pub IsCodecPlan : {B : Type 0} → PlainCodec B → List ℕ → ElementType → List ℕ → List ℕ → List ByteSpan → Type 0

@@ -1,11 +1,12 @@
 -- What a reader of chunks is made of.
-use Rattle.std.specs.Prelude.{◌≡◌, ℕ, Bool, Option, List, length, Ok, true, option_map, IfOk, Result, false}
+use Rattle.std.specs.Prelude.{◌≡◌, ℕ, Bool, Option, List, Vec, length, Ok, true, option_map, IfOk, Result, false}
+use Rattle.std.proofs.Common.{Global}
 use Rattle.zarrs_chunk.specs.ChunkShape.{product}
-use Rattle.zarrs_array_regions.specs.KeptRegions.{IsKept}
+use Rattle.zarrs_array_regions.specs.KeptRegions.{IsKept, kept_region}
 use Rattle.zarrs_chunk.specs.Region.{Region}
 use Rattle.zarrs_chain_whole.specs.ChainView.{plain_chain}
 use Rattle.zarrs_codec.specs.BytesToBytesCodec.{BytesCodecs}
-use Rattle.zarrs_codec_chain.specs.ChunkRead.{ChunkForm, asks_in_part, chunk_form, codec_rests_on}
+use Rattle.zarrs_codec_chain.specs.ChunkRead.{ChunkForm, asks_in_part, chunk_form, codec_rests_on, standing_places}
 use Rattle.zarrs_codec_chain.specs.ChunkSource.{Source, is_kept, kept_stage, source_made_at, source_of, bytes_above, chunk_below, is_cache_of, opened_chunk, source_made, source_places, source_read}
 use Rattle.zarrs_codec_chain.specs.declared.partial_decoder.chunk_reader.ChunkReader.{ChunkReader}
 use Rattle.zarrs_chunk.specs.Answer.{Answers, AnswersBy, Gives, GivesBy, memory_or_fault, seen, is_fault}
@@ -106,3 +107,12 @@ ReadsSelection f reader stored selection result = AnswersBy memory_or_fault (Hol
 -- the selection means this region, which goes through the array codecs of the reader's chain as a region
 abbrev pub IsKeptRegion : {B : Type 0} {b : _} → ChunkReader B b → Selection → Region → Type 0
 IsKeptRegion reader selection region = IsKept (plain_chain reader.chain.now).arrays reader.shape selection region
+
+-- the region that a selection means, where it goes through the array codecs of the reader's chain as a region
+abbrev pub reader_region : {B : Type 0} {b : _} → ChunkReader B b → Selection → Option Region
+reader_region reader selection = kept_region (plain_chain reader.chain.now).arrays reader.shape selection
+
+-- what is given are runs of the places where a region stands in the encoded chunk, in their order
+abbrev pub GivesStanding : {B : Type 0} {b : _} → ChunkReader B b → Region → Result (Vec (ℕ × ℕ) Global) CodecError → Type 0
+GivesStanding reader region result =
+    Gives (λ runs. joined_runs runs.items) result (Ok (standing_places (plain_chain reader.chain.now).arrays reader.shape region))

@@ -1,6 +1,6 @@
 -- What a write in part leaves through a chain.
 use Rattle.zarrs_codec.specs.StorageState.{StorageState}
-use Rattle.std.specs.Prelude.{◌≡◌, ℕ, Bool, Option, Some, None, List, [], ◌∷◌, length, map, Result, Ok, Err, IfErr, OnOk, IsOkAnd, ◌+◌, ◌≤◌, All}
+use Rattle.std.specs.Prelude.{◌≡◌, ℕ, Bool, Option, Some, None, List, length, map, Result, Ok, Err, IfErr, OnOk, IsOkAnd, ◌+◌, ◌≤◌, All}
 use Rattle.zarrs_chunk.specs.Answer.{◌>>=◌, Answers, memory, memory_or_fault, seen, Gives}
 use Rattle.zarrs_chunk.specs.ChunkShape.{product}
 use Rattle.zarrs_chunk.specs.Region.{Region}
@@ -21,11 +21,10 @@ use Rattle.zarrs_bytes.specs.BytesCodec.{spelling}
 use Rattle.zarrs_bytes.specs.PartialRead.{place_size}
 use Rattle.zarrs_bytes.specs.PartialWrite.{bytes_left, filled_chunk, with_place_bytes}
 use Rattle.zarrs_chain_laws.specs.ArrayStages.{arrays_map}
-use Rattle.zarrs_codec_chain.specs.ChunkRead.{ChunkForm}
+use Rattle.zarrs_codec_chain.specs.ChunkRead.{ChunkForm, order_in_place}
 use Rattle.zarrs_chain_laws.specs.Decode.{chain_chunk}
 use Rattle.zarrs_chain_laws.specs.Encode.{chain_value}
 use Rattle.zarrs_codec_chain.specs.PartialDecoder.{chunk_reader}
-use Rattle.zarrs_chain_laws.specs.PlainChain.{PlainCodec, bytes_codec, packbits_codec, vlen_codec, optional_codec}
 use Rattle.zarrs_chain_laws.specs.Stands.{ChainStands}
 use Rattle.zarrs_chain_laws.specs.Written.{ChainWritten}
 use Rattle.std.proofs.Common.{Global}
@@ -34,14 +33,6 @@ use Rattle.zarrs_chunk.specs.Runs.{joined_runs}
 use Rattle.zarrs_array_bytes.specs.Validity.{data_fit, validity}
 use Rattle.zarrs_codec.specs.declared.capabilities.PartialEncoderCapability.{PartialEncoderCapability}
 use Rattle.zarrs_chain_laws.specs.Chain.{chain_writes}
-
--- the byte order of `bytes` without bytes codecs: there a write over a stored value replaces the bytes of its places alone
-abbrev pub order_in_place : {B : Type 0} → List B → PlainCodec B → Option (Option Endianness)
-order_in_place [] (bytes_codec order) = Some order
-order_in_place [] (packbits_codec settings) = None
-order_in_place [] (vlen_codec ia ix ib da dx db wide at_end) = None
-order_in_place [] (optional_codec ma mx mb da dx db) = None
-order_in_place (first ∷ rest) codec = None
 
 -- the value of a chunk with new elements at these places, or the first refusal
 abbrev pub edited_value : {B : Type 0} → BytesCodecs B → ChunkForm B → Chunk → List ℕ → Held → Result (List ℕ) CodecError
@@ -119,10 +110,6 @@ form_checked form selection new = data_checked form.sizes form.type selection ne
 -- where they go through the array codecs
 abbrev pub form_written : {B : Type 0} → ChunkForm B → Selection → Held → Result (List ℕ) CodecError
 form_written form selection new = written_places form.type form.chain.arrays form.sizes selection new
-
--- the byte order of `bytes` without bytes codecs
-abbrev pub form_in_place : {B : Type 0} → ChunkForm B → Option (Option Endianness)
-form_in_place form = order_in_place form.chain.outer form.chain.codec
 
 -- all codecs encode a part
 abbrev pub form_encodes_parts : {B : Type 0} → (B → PartialEncoderCapability) → ChunkForm B → Bool

@@ -23,7 +23,7 @@ use Rattle.zarrs_chain_laws.specs.Decode.{Decoder, codec_chunk, vlen_parts}
 use Rattle.zarrs_chain_laws.specs.PlainChain.{PlainCodec, bytes_codec, packbits_codec, vlen_codec, optional_codec}
 use Rattle.zarrs_chain_laws.specs.vlen.PlainVlen.{PlainForm, plain_form_of}
 use Rattle.zarrs_plain_vlen.specs.PlainRead.{plain_read}
-use Rattle.zarrs_plain_vlen.specs.VlenRead.{is_there, offsets_read, elements_read, vlen_read}
+use Rattle.zarrs_plain_vlen.specs.VlenRead.{is_there, offsets_read, elements_read}
 use Rattle.zarrs_codec_chain.specs.ChunkRead.{ChunkForm, whole_read, read_by_form, codec_read, encoded_places, outer_stored}
 use Rattle.zarrs_codec_chain.specs.PartialDecoder.{chunk_reader}
 use Rattle.zarrs_codec_chain.specs.vlen.VlenPartialDecoder.{CodecForm, codec_reader}

@@ -1,6 +1,7 @@
 -- Laws of reads in part through a chain.
-use Rattle.std.specs.Prelude.{◌≡◌, ℕ, ◌<◌, Some, List, length, slice_index, Result, Ok, IfOk}
+use Rattle.std.specs.Prelude.{◌≡◌, ℕ, ◌<◌, Some, List, length, slice_index, Result, Ok, IfOk, IfSome}
 use Rattle.std.specs.List.{All}
+use Rattle.std.specs.List.Sorted.{IsPermutation, IsStrictlyIncreasing}
 use Rattle.zarrs_chunk.specs.Answer.{◌>>=◌, seen}
 use Rattle.zarrs_chunk.specs.Selection.{Selection, places_of}
 use Rattle.zarrs_chunk.specs.declared.codec_error.CodecError.{CodecError}
@@ -12,7 +13,7 @@ use Rattle.zarrs_chain_laws.specs.Chain.{taken_form}
 use Rattle.zarrs_chain_laws.specs.Laws.{IsChainOfMappings}
 use Rattle.zarrs_chain_laws.specs.vlen.PlainVlen.{PlainForm, plain_form_of}
 use Rattle.zarrs_chain_laws.specs.Stands.{ChainStands}
-use Rattle.zarrs_codec_chain.specs.ChunkRead.{ChunkForm, codec_rests_on, encoded_places, stored_read}
+use Rattle.zarrs_codec_chain.specs.ChunkRead.{ChunkForm, codec_rests_on, encoded_places, ordered_places, planned_region, stored_read}
 
 -- Of a stored value that stands for a chunk, a read in part answers the chunk's elements that the selection means, or the selection's refusal.
 abbrev pub StoredSelects : {B : Type 0} → BytesCodecs B → Type 0
@@ -41,3 +42,14 @@ StoredReadsAlike {B} f =
     → plain_form_of form.chain.codec ≡ Some plain → bytes_below f form value ≡ Ok below → bytes_below f form other ≡ Ok beside
     → length below ≡ length beside → IfOk (selection_rests_on f form below selection) (All (λ number. slice_index below number ≡ slice_index beside number))
     → stored_read f form (Some value) selection ≡ stored_read f form (Some other) selection
+
+-- The places whose bytes are planned are those that a selection means, each as often. Those of a region that is planned as it stands rise.
+pub record IsInOrder {B : Type 0} (form : ChunkForm B) (selection : Selection) (meant ordered : List ℕ) : Type 0 where
+  pub same : IsPermutation meant ordered
+  pub rising : IfSome (planned_region form selection) (λ _. IsStrictlyIncreasing ordered)
+
+abbrev pub PlannedPlacesAreMeant : Type 0 → Type 0
+PlannedPlacesAreMeant B =
+    (form : ChunkForm B) (selection : Selection) (meant ordered : List ℕ)
+    → IsChainOfMappings form.chain → All (λ size. 0 < size) form.sizes → encoded_places form.type form.chain.arrays form.sizes selection ≡ Ok meant → ordered_places form selection ≡ Ok ordered
+    → IsInOrder form selection meant ordered

@@ -1,6 +1,6 @@
 //! Laws over the definitions alone. The functions do nothing; their contracts are the laws.
 ghost use Rattle.zarrs_codec.specs.BytesToBytesCodec.{BytesCodecs};
-ghost use Rattle.zarrs_codec_chain.specs.ReadLaws.{StoredReadsAlike, StoredSelects};
+ghost use Rattle.zarrs_codec_chain.specs.ReadLaws.{PlannedPlacesAreMeant, StoredReadsAlike, StoredSelects};
 ghost use Rattle.zarrs_codec_chain.specs.SizeLaws.{ChunkSizesAreExact, SizesAreExact};
 
 /// Where elements all take as many bytes, with their mask bytes, a cache of a chunk has these bytes and
@@ -22,4 +22,11 @@ pub fn reads_select<B>()
 /// are, the answer or the refusal is the same.
 pub fn reads_are_alike<B>()
     ensures law { (f : BytesCodecs B) → StoredReadsAlike f }
+{}
+
+/// The places whose bytes `planned_ranges` answers are those that the indexer means, each as often:
+/// over `bytes` without bytes codecs those of a box that goes through the array codecs as one in the
+/// order in which they stand in the value, so that they rise, and all others in the indexer's order.
+pub fn planned_places_are_meant<B>()
+    ensures law { PlannedPlacesAreMeant B }
 {}

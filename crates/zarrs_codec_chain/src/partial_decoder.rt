@@ -1,7 +1,8 @@
 pub(crate) mod array_partial_decoder;
 mod cache;
+mod chunk_plans;
 pub(crate) mod chunk_reader;
-mod codec_read;
+pub(crate) mod codec_read;
 pub(crate) mod encoded_runs;
 pub(crate) mod fill_runs;
 mod make_cache;

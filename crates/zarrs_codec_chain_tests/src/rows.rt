@@ -75,6 +75,18 @@ pub(crate) const WITHOUT_CACHE: &'static [Row] = &[
         size_held: 0,
     },
     Row {
+        name: "a box of turned axes, whose neighbours are joined",
+        coder: Kind::Decoder,
+        chunk: r#"{"shape":[4,4],"data_type":"uint8","fill_value":"00","codecs":[{"name":"transpose","configuration":{"order":[1,0]}},"bytes"]}"#,
+        value: Some(b"\0\x01\x02\x03\x04\x05\x06\x07\x08\x09\x0a\x0b\x0c\x0d\x0e\x0f"),
+        fails_at: 0,
+        part: r#"{"at":{"ranges":[[0,2],[1,3]]},"data":["04","08","05","09"]}"#,
+        refusals: NONE,
+        in_part: true,
+        planned: Some(&[(4, 6), (8, 10)]),
+        size_held: 16,
+    },
+    Row {
         name: "words of axes that are turned twice",
         coder: Kind::Decoder,
         chunk: TURNED_TWICE,

@@ -55,8 +55,8 @@ impl Model for DataType {
 
 impl DataType {
     fn of_components(width: u64, count: u64, sign: bool) -> DataType
-        requires { IsFixedType width count }
-        ensures { result ≡ fixed width count sign }
+        requires components { IsFixedType width count }
+        ensures made { result ≡ fixed width count sign }
     {
         DataType {
             kind: Kind::Fixed(Components {
@@ -68,8 +68,8 @@ impl DataType {
     }
 
     fn single(width: u64, sign: bool) -> DataType
-        requires { IsFixedType width 1 }
-        ensures { result ≡ fixed width 1 sign }
+        requires components { IsFixedType width 1 }
+        ensures made { result ≡ fixed width 1 sign }
     {
         DataType::of_components(width, 1, sign)
     }
@@ -248,7 +248,7 @@ impl DataType {
     }
 
     pub(crate) fn accepts(&self, fill: &[u8]) -> bool
-        ensures { result ≡ fill_fits self.now fill.now }
+        ensures value { result ≡ fill_fits self.now fill.now }
     {
         match &self.kind {
             Kind::Fixed(_) => match self.fixed_size() {

@@ -5,7 +5,7 @@ use Rattle.std.proofs.lemmas.Bool.{and_parts, and_from, leb-true, le-leb}
 use Rattle.std.proofs.lemmas.Bool.Decides.{nat_tests}
 use Rattle.zarrs_metadata.specs.Dims.{Dim, size, auto, input_dims, is_nonzero, has_no_zero, autos, is_reshape, IsReshape}
 
-nonzero_positive : (n : ℕ) → not (n == 0) ≡ true → 0 < n
+pub nonzero_positive : (n : ℕ) → not (n == 0) ≡ true → 0 < n
 nonzero_positive n h = grind (arith, nat_tests)
 
 positive_nonzero : (n : ℕ) → 0 < n → not (n == 0) ≡ true

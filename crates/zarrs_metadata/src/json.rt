@@ -29,7 +29,7 @@ pub(crate) fn holds_float(tree: &Value) -> bool
 
 #[cycle(floats)]
 fn items_hold_float(items: &Vec<Value>) -> bool
-    ensures { result ≡ items_have_float (items_view items.now.items) }
+    ensures value { result ≡ items_have_float (items_view items.now.items) }
 {
     for item in items {
         if holds_float(item) {
@@ -89,7 +89,7 @@ pub(crate) fn numbers_among(
 }
 
 fn number(tree: &Value) -> Result<u64, PluginCreateError>
-    ensures { result ≡ needed (whole_number (view tree.now)) }
+    ensures answer { result ≡ needed (whole_number (view tree.now)) }
 {
     tree.as_u64().ok_or(PluginCreateError::InvalidConfiguration)
 }

@@ -26,7 +26,7 @@ pub struct MetadataV3 {
 }
 
 fn name_of(value: Option<&Value>) -> Result<&str, PluginCreateError>
-    ensures { seen (λ name. name.now) result ≡ needed_text (lent_tree value.entry) }
+    ensures answer { seen (λ name. name.now) result ≡ needed_text (lent_tree value.entry) }
 {
     match value {
         Some(Value::String(name)) => Ok(name.as_str()),
@@ -35,7 +35,7 @@ fn name_of(value: Option<&Value>) -> Result<&str, PluginCreateError>
 }
 
 fn configuration_of(value: Option<&Value>) -> Result<Option<&Configuration>, PluginCreateError>
-    ensures { seen lent_members result ≡ optional_key as_object (lent_tree value.entry) }
+    ensures answer { seen lent_members result ≡ optional_key as_object (lent_tree value.entry) }
 {
     match value {
         None => Ok(None),
@@ -46,7 +46,7 @@ fn configuration_of(value: Option<&Value>) -> Result<Option<&Configuration>, Plu
 }
 
 fn must_understand_of(value: Option<&Value>) -> Result<bool, PluginCreateError>
-    ensures { result ≡ seen unless_false (optional_key as_bool (lent_tree value.entry)) }
+    ensures answer { result ≡ seen unless_false (optional_key as_bool (lent_tree value.entry)) }
 {
     match value {
         None => Ok(true),
@@ -60,7 +60,8 @@ fn copied_where_there(
     configuration: Option<&Configuration>,
     alloc: Global,
 ) -> Result<Option<Configuration>, PluginCreateError>
-    ensures { Makes (option_map configuration_seen) result (Ok (lent_members configuration.entry)) }
+    ensures copy { Makes (option_map configuration_seen) result
+        (Ok (lent_members configuration.entry)) }
 {
     match configuration {
         None => Ok(None),
@@ -69,7 +70,7 @@ fn copied_where_there(
 }
 
 fn metadata_among(alloc: Global, members: &Configuration) -> Result<MetadataV3, PluginCreateError>
-    ensures { Makes metadata_seen result (metadata_in (configuration_seen members.now)) }
+    ensures answer { Makes metadata_seen result (metadata_in (configuration_seen members.now)) }
 {
     let name = name_of(member(members, "name"))?;
     let configuration = configuration_of(member(members, "configuration"))?;
@@ -181,7 +182,7 @@ impl MetadataV3 {
     }
 
     fn members(&self, alloc: Global) -> Result<Configuration, PluginCreateError>
-        ensures { Writes result (metadata_members (metadata_seen self.now)) }
+        ensures answer { Writes result (metadata_members (metadata_seen self.now)) }
     {
         let mut members = Map::new(alloc);
         if let Some(configuration) = &self.configuration {

@@ -29,7 +29,7 @@ pub layout_kept : (r : Result PackedLayout CodecError) → keeps_all_bytes r ≡
 layout_kept (Ok l) h = (l, refl, h)
 layout_kept (Err e) h = absurd cc
 
-same_layout : (k l : PackedLayout) (r : Result PackedLayout CodecError) → r ≡ Ok k → r ≡ Ok l → k ≡ l
+pub same_layout : (k l : PackedLayout) (r : Result PackedLayout CodecError) → r ≡ Ok k → r ≡ Ok l → k ≡ l
 same_layout k l r e f = cc
 
 pub spelling_is : (width components : ℕ) (sign : Bool) (chunk : Chunk) → spelling (Some Little) (fixed width components sign) chunk ≡ joined chunk

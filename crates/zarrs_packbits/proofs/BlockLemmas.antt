@@ -11,8 +11,8 @@ use Rattle.zarrs_packbits.specs.BitStream.{components_from}
 use Rattle.zarrs_packbits.specs.BlockBits.{cut_byte, fields_of, lifted_byte}
 use Rattle.zarrs_packbits.specs.KeptBits.{component_bits, full_component, sign_weight}
 use Rattle.zarrs_packbits.specs.declared.layout.PackedLayout.{PackedLayout}
-use Rattle.zarrs_packbits.proofs.FieldLemmas.{field_more, flat_more, flat_map_same}
-use Rattle.zarrs_packbits.proofs.FlagLemmas.{flat_split}
+use Rattle.zarrs_packbits.proofs.FieldLemmas.{flat_more, flat_map_same}
+use Rattle.zarrs_packbits.proofs.ElementBits.{flat_split}
 use Rattle.zarrs_packbits.proofs.LowBits.{low_bits-cat, length-low_bits, length-bits_of, low_bits-split, low_bits-mod, bits_of-drop, bits_of-take, bit_of-place}
 use Rattle.zarrs_packbits.proofs.WordLemmas.{component_is, field_within, low_bits-take}
 

@@ -1,11 +1,9 @@
 -- The laws of the codec.
 use Rattle.zarrs_data_type.specs.Form.{form_of}
-use Rattle.std.proofs.Common.{◌≡◌, ◌==◌, ℕ, zero, suc, ◌+◌, ◌-◌, ◌*◌, ◌%◌, ◌<◌, ◌≤◌, ◌&&◌, Bool, true, false, nat_lt, Some, Result, Ok, List, [], ◌∷◌, ◌++◌, length, map, take, drop, get_or, arith, refl, ap, sym, ◌∙◌, subst, if◌then◌else◌, set}
+use Rattle.std.proofs.Common.{◌≡◌, ◌==◌, ℕ, zero, suc, ◌+◌, ◌-◌, ◌*◌, ◌%◌, ◌<◌, ◌≤◌, ◌&&◌, Bool, true, false, nat_lt, Some, Result, Ok, List, [], ◌∷◌, length, map, get_or, arith, refl, ap, sym, ◌∙◌, subst, if◌then◌else◌, set}
 use Rattle.std.specs.List.{All, range_with_len}
 use Rattle.std.proofs.lemmas.Bool.Decides.{nat_tests}
-use Rattle.std.proofs.lemmas.List.{drop_more, length-append, get_or-append-add, get_or_append_left}
 use Rattle.std.proofs.lemmas.List.Elements.{All-head, All-tail}
-use Rattle.std.proofs.lemmas.List.FromFn.{get_or-map-range_with_len}
 use Rattle.zarrs_chunk.specs.Answer.{◌>>=◌, demand, seen}
 use Rattle.zarrs_chunk.specs.ChunkShape.{product}
 use Rattle.zarrs_chunk.specs.declared.codec_error.CodecError.{CodecError}
@@ -14,10 +12,10 @@ use Rattle.zarrs_data_type.specs.Element.{Element, plain, absent, Chunk}
 use Rattle.zarrs_data_type.specs.ElementType.{ElementType, fixed, text, bytes, optional}
 use Rattle.zarrs_array_bytes.specs.Elements.{select}
 use Rattle.zarrs_array_bytes.specs.Update.{update}
-use Rattle.zarrs_bytes.proofs.Coding.{bind_ok, ok}
+use Rattle.zarrs_bytes.proofs.Coding.{bind_ok, ok, number_is}
 use Rattle.zarrs_codec.specs.ByteRanges.{SameByte}
 use Rattle.zarrs_packbits.specs.Bits.{bits_of}
-use Rattle.zarrs_packbits.specs.BitStream.{chunk_stream, components_from, element_bits, packed_element}
+use Rattle.zarrs_packbits.specs.BitStream.{chunk_stream, components_from, element_bits, packed_element, bytes_packed}
 use Rattle.zarrs_packbits.specs.declared.layout.PackedLayout.{PackedLayout}
 use Rattle.zarrs_packbits.specs.Laws as laws
 use Rattle.zarrs_packbits.specs.NormalForm.{kept_element, normal_element, normal_chunk}
@@ -28,16 +26,16 @@ use Rattle.zarrs_packbits.specs.PaddingByte.{padding_holds, value_len, value_wit
 use Rattle.zarrs_packbits.specs.Packing.{packing}
 use Rattle.zarrs_packbits.specs.PartialRead.{span_start, span_end, packed_place_bytes, packed_places_bytes, all_below, read_packed_places}
 use Rattle.zarrs_packbits.proofs.Exact.{joined, cut, is_cut, normal_cut, stream_cut, stands_flat, decoded_only}
-use Rattle.zarrs_packbits.proofs.FlatChunk.{nf, encoded}
+use Rattle.zarrs_packbits.proofs.FlatChunk.{nf}
 use Rattle.zarrs_packbits.proofs.LocalLemmas.{element_of_piece, element_some}
 use Rattle.zarrs_packbits.proofs.Standing.{encoded_stands, stream_nf, places_inside}
 use Rattle.zarrs_packbits.proofs.ElementBits.{stream_of_pieces}
 use Rattle.zarrs_packbits.proofs.Taken.{taken}
+use Rattle.zarrs_packbits.proofs.AsBytes.{same_layout}
+use Rattle.zarrs_bytes.proofs.CodecLaws.{chunk_is, read_each}
+use Rattle.zarrs_bytes.proofs.Alike.{All-first, All-second, same_taken}
 
 -- ---- the normal form
-
-layout_same : (k l : PackedLayout) (r : Result PackedLayout CodecError) → r ≡ Ok k → r ≡ Ok l → k ≡ l
-layout_same k l r e f = cc
 
 written_flat : (settings : PackBitsSettings) (sizes : List ℕ) (width components : ℕ) (sign : Bool) (fill value : List ℕ) (chunk : Chunk) → PackBitsWritten settings (form_of sizes (fixed width components sign) fill) value chunk → PackBitsStands settings (form_of sizes (fixed width components sign) fill) value (normal_chunk settings (fixed width components sign) chunk)
 written_flat settings sizes width components sign fill value chunk w =
@@ -46,10 +44,10 @@ written_flat settings sizes width components sign fill value chunk w =
     let t = taken settings sizes width components sign fill l w.taken in
     let c = is_cut l (product sizes) width components sign chunk w.elements t.size t.elements in
     let flat = encoded_stands l (joined chunk) t.sound c.long in
-    let value_is : encoded l (joined chunk) ≡ value = sym (w.spelt ∙ ap (value_with l) (stream_cut l chunk c)) in
+    let value_is : bytes_packed l (joined chunk) ≡ value = sym (w.spelt ∙ ap (value_with l) (stream_cut l chunk c)) in
     let normal : cut l (nf l (joined chunk)) ≡ normal_chunk settings type chunk = sym (ap (normal_chunk settings type) c.are ∙ normal_cut settings sizes width components sign fill (joined chunk) l t c.long) in
     subst (λ (v : List ℕ). PackBitsStands settings (form_of sizes type fill) v (normal_chunk settings type chunk)) value_is
-    (subst (PackBitsStands settings (form_of sizes type fill) (encoded l (joined chunk))) normal (stands_flat settings sizes width components sign fill (encoded l (joined chunk)) (nf l (joined chunk)) l w.taken flat))
+    (subst (PackBitsStands settings (form_of sizes type fill) (bytes_packed l (joined chunk))) normal (stands_flat settings sizes width components sign fill (bytes_packed l (joined chunk)) (nf l (joined chunk)) l w.taken flat))
 
 pub written_stands : laws.WrittenStands
 written_stands settings sizes (fixed width components sign) fill value chunk w = written_flat settings sizes width components sign fill value chunk w
@@ -66,7 +64,7 @@ normal_once settings sizes type fill value chunk w = (written_stands settings si
 pub normal_written : laws.NormalWritten
 normal_written settings sizes type fill value chunk w =
     let s = written_stands settings sizes type fill value chunk w in
-    let same : s.layout ≡ w.layout = layout_same s.layout w.layout (packed_layout settings (form_of sizes type fill)) s.taken w.taken in
+    let same : s.layout ≡ w.layout = same_layout s.layout w.layout (packed_layout settings (form_of sizes type fill)) s.taken w.taken in
     record {
       layout = w.layout;
       taken = w.taken;
@@ -96,7 +94,7 @@ map_select f chunk (p ∷ ps) h = λ i. one chunk p i ∷ map_select f chunk ps 
     one (c ∷ chunk) zero = refl
     one (c ∷ chunk) (suc p) = one chunk p
 
-map_set : (f : Element → Element) (chunk : Chunk) (p : ℕ) (c : Element) → map f (set chunk p c) ≡ set (map f chunk) p (f c)
+pub map_set : (f : Element → Element) (chunk : Chunk) (p : ℕ) (c : Element) → map f (set chunk p c) ≡ set (map f chunk) p (f c)
 map_set f [] p c = refl
 map_set f (x ∷ chunk) zero c = refl
 map_set f (x ∷ chunk) (suc p) c = ap (λ (k : Chunk). f x ∷ k) (map_set f chunk p c)
@@ -110,7 +108,7 @@ if_same : (b : Bool) (x y : Element) → x ≡ y → (if b then x else y) ≡ y
 if_same true x y e = e
 if_same false x y e = refl
 
-normal_absent : (settings : PackBitsSettings) (type : ElementType) → normal_element settings type absent ≡ absent
+pub normal_absent : (settings : PackBitsSettings) (type : ElementType) → normal_element settings type absent ≡ absent
 normal_absent settings (fixed width components sign) = if_same (has_bits settings width) (kept_element (layout_for settings 1 width components sign) absent) absent refl
 normal_absent settings text = refl
 normal_absent settings bytes = refl
@@ -124,9 +122,6 @@ normal_updated settings type chunk places new = map_update (normal_element setti
 
 -- ---- values
 
-chunk_is : (x y : Chunk) → ok x ≡ ok y → x ≡ y
-chunk_is x y e = cc
-
 pub stands_for_one : laws.StandsForOne
 stands_for_one settings sizes type fill value chunk other one two =
     chunk_is chunk other (sym (decoded_only settings sizes type fill value chunk one) ∙ decoded_only settings sizes type fill value other two)
@@ -137,12 +132,9 @@ written_alike settings sizes type fill value other_value chunk other one two = (
   λ e.
       let a = normal_written settings sizes type fill value chunk one in
       let b = normal_written settings sizes type fill other_value other two in
-      let same : a.layout ≡ b.layout = layout_same a.layout b.layout (packed_layout settings (form_of sizes type fill)) a.taken b.taken in
+      let same : a.layout ≡ b.layout = same_layout a.layout b.layout (packed_layout settings (form_of sizes type fill)) a.taken b.taken in
       a.spelt ∙ ap (λ (k : PackedLayout). value_with k (chunk_stream k (normal_chunk settings type chunk))) same ∙ ap (λ (c : Chunk). value_with b.layout (chunk_stream b.layout c)) e ∙ sym b.spelt,
 )
-
-number_is : (n m : ℕ) → ok n ≡ ok m → n ≡ m
-number_is n m e = cc
 
 pub has_represented_length : laws.HasRepresentedLength
 has_represented_length settings sizes type fill value chunk len w e =
@@ -150,13 +142,6 @@ has_represented_length settings sizes type fill value chunk len w e =
     s.len ∙ number_is (value_len s.layout) len (sym (ap (seen value_len) s.taken) ∙ e)
 
 -- ---- reading
-
-read_each : (f : ℕ → Element) (count : ℕ) (places : List ℕ) → All (λ place. place < count) places → map f places ≡ select (map f (range_with_len 0 count)) places
-read_each f count [] h = refl
-read_each f count (place ∷ places) h =
-    let lt : place < count = h 0 place (omega arith) in
-    let one : f place ≡ get_or (map f (range_with_len 0 count)) place absent = sym (get_or-map-range_with_len f 0 count place place absent lt (omega arith)) in
-    λ i. one i ∷ read_each f count places (λ k d l. h (suc k) d (omega arith)) i
 
 below_tests : (n : ℕ) (places : List ℕ) → All (λ place. place < n) places → all_below n places ≡ true
 below_tests n [] h = refl
@@ -178,7 +163,7 @@ read_selects settings sizes (fixed width components sign) fill value chunk place
     let a = bind_ok (packed_layout settings (form_of sizes type fill)) _ chunk all in
     let b = bind_ok (demand (length value == value_len a.0) (InvalidBytesLength (length value) (value_len a.0))) _ chunk a.2 in
     let c = bind_ok (demand (padding_holds a.0 value) PaddingByte) _ chunk b.2 in
-    let same : a.0 ≡ l = layout_same a.0 l (packed_layout settings (form_of sizes type fill)) a.1 stands.taken in
+    let same : a.0 ≡ l = same_layout a.0 l (packed_layout settings (form_of sizes type fill)) a.1 stands.taken in
     let is : map (packed_element l value) (range_with_len 0 n) ≡ chunk = ap (λ (k : PackedLayout). map (packed_element k value) (range_with_len 0 n)) (sym same) ∙ chunk_is _ chunk c.2 in
     let below : All (λ place. place < n) places = subst (λ k. All (λ place. place < k) places) stands.elements.count_is h in
     let tests : all_below l.elements places ≡ true = ap (λ k. all_below k places) t.elements ∙ below_tests n places below in
@@ -188,22 +173,6 @@ read_selects settings sizes (fixed width components sign) fill value chunk place
 read_selects settings sizes text fill value chunk places stands h = absurd (let e = stands.taken in cc)
 read_selects settings sizes bytes fill value chunk places stands h = absurd (let e = stands.taken in cc)
 read_selects settings sizes (optional type) fill value chunk places stands h = absurd (let e = stands.taken in cc)
-
-All-first : {X : Type 0} (P : X → Type 0) (xs ys : List X) → All P (xs ++ ys) → All P xs
-All-first P xs ys h k d l = rw (← get_or_append_left xs ys d k l) (h k d (omega (arith, length-append xs ys, l)))
-
-All-second : {X : Type 0} (P : X → Type 0) (xs ys : List X) → All P (xs ++ ys) → All P ys
-All-second P xs ys h k d l = rw (← get_or-append-add xs ys k d) (h (length xs + k) d (omega (arith, length-append xs ys, l)))
-
--- values that have the same bytes
-same_taken : (value other : List ℕ) (start len : ℕ) → All (SameByte value other) (range_with_len start len) → take len (drop start value) ≡ take len (drop start other)
-same_taken value other start zero h = refl
-same_taken value other start (suc len) h =
-    let one : SameByte value other start = All-head (SameByte value other) start (range_with_len (start + 1) len) h in
-    let rest = same_taken value other (start + 1) len (All-tail (SameByte value other) start (range_with_len (start + 1) len) h) in
-    ap (take (suc len)) (drop_more value start 0 one.in_value)
-    ∙ (λ i. one.same i ∷ rest i)
-    ∙ sym (ap (take (suc len)) (drop_more other start 0 one.in_other))
 
 reaches : (value other : List ℕ) (start len : ℕ) → All (SameByte value other) (range_with_len start (suc len)) → (start + suc len ≤ length value) × (start + suc len ≤ length other)
 reaches value other start zero h =

@@ -18,7 +18,7 @@ use Rattle.zarrs_array_bytes.specs.Validity.{Holds, validity}
 use Rattle.zarrs_array_bytes.proofs.Pieces.{elements-pieces, length-concat}
 use Rattle.std.proofs.lemmas.List.{length-map}
 use Rattle.std.proofs.lemmas.List.FromFn.{length-range_with_len}
-use Rattle.zarrs_bytes.proofs.Coding.{bind_ok, demand_ok, ok}
+use Rattle.zarrs_bytes.proofs.Coding.{bind_ok, demand_ok, ok, part_is}
 use Rattle.zarrs_packbits.specs.Bits.{bits_of}
 use Rattle.zarrs_packbits.specs.BitStream.{chunk_stream, stream_of_bytes, components_from, element_bits, packed_element}
 use Rattle.zarrs_packbits.specs.declared.layout.PackedLayout.{PackedLayout}
@@ -42,9 +42,6 @@ two_of (Ok a) (Ok b) f x y e h = ap (λ z. ok (f z)) (same a x e)
     same a x e = cc
 two_of (Ok a) (Err d) f x y e h = absurd cc
 two_of (Err d) s f x y e h = absurd cc
-
-part_is : (r s : Raw) → ok r ≡ ok s → r ≡ s
-part_is r s e = cc
 
 -- the kept bits of a container's elements are those of its bytes
 pub stream_of_elements : (l : PackedLayout) (width components n : ℕ) (sign : Bool) (raw : Raw) → element_size width components ≡ l.group * l.size → l.elements ≡ n → chunk_stream l (elements (fixed width components sign) n (flen raw)) ≡ stream_of_bytes l raw.items

@@ -1,9 +1,7 @@
 -- What a partial decoder answers of runs of places.
 use Rattle.zarrs_data_type.specs.Form.{form_of}
-use Rattle.std.proofs.Common.{◌≡◌, ℕ, suc, ◌+◌, ◌*◌, ◌<◌, ◌≤◌, [], ◌∷◌, true, Option, Some, None, Result, Ok, Err, List, length, map, arith, refl, sym, subst}
-use Rattle.std.specs.List.{All, range_with_len}
-use Rattle.std.proofs.lemmas.List.Elements.{All-nil, All-append}
-use Rattle.std.proofs.lemmas.List.FromFn.{length-range_with_len, get_or-range_with_len}
+use Rattle.std.proofs.Common.{◌≡◌, ℕ, ◌+◌, ◌*◌, ◌<◌, ◌≤◌, true, Option, Some, None, Result, Ok, Err, List, length, map, arith, refl, sym, subst}
+use Rattle.std.specs.List.{All}
 use Rattle.std.specs.Prelude.{is_ok}
 use Rattle.std.proofs.Math.Nat.{mul-le-mul_left}
 use Rattle.std.proofs.lemmas.Bool.Decides.{nat_tests}
@@ -20,6 +18,7 @@ use Rattle.zarrs_packbits.specs.PackBitsSettings.{PackBitsSettings, packed_layou
 use Rattle.zarrs_packbits.specs.PartialRead.{read_places_of}
 use Rattle.zarrs_packbits.proofs.CodecLaws.{read_selects}
 use Rattle.zarrs_packbits.proofs.Taken.{taken}
+use Rattle.zarrs_array_bytes.proofs.RunLemmas.{places_below}
 
 -- a fill value of a taken chunk has a byte
 pub taken_fill : (settings : PackBitsSettings) (sizes : List ℕ) (type : ElementType) (fill : List ℕ) (l : PackedLayout) → packed_layout settings (form_of sizes type fill) ≡ Ok l → 0 < length fill
@@ -35,23 +34,11 @@ taken_fill settings sizes text fill l e = absurd cc
 taken_fill settings sizes bytes fill l e = absurd cc
 taken_fill settings sizes (optional type) fill l e = absurd cc
 
-All-from : (limit at len : ℕ) → at + len ≤ limit → All (λ place. place < limit) (range_with_len at len)
-All-from limit at len h k d l =
-    let short : k < len = omega (arith, l, length-range_with_len at len) in
-    rw (get_or-range_with_len at len k d short) (omega (arith, h, short))
-
-runs_below : (limit : ℕ) (runs : List (ℕ × ℕ)) → All (λ run. run.0 + run.1 ≤ limit) runs → All (λ place. place < limit) (joined_runs runs)
-runs_below limit [] h = All-nil (λ place. place < limit)
-runs_below limit (run ∷ runs) h =
-    All-append (λ place. place < limit) (range_with_len run.0 run.1) (joined_runs runs)
-    (All-from limit run.0 run.1 (h 0 run (omega arith)))
-    (runs_below limit runs (λ k d l. h (suc k) d (omega arith)))
-
 -- what is read of runs of a value that stands for a chunk is the chunk's selection
 pub runs_select : (settings : PackBitsSettings) (sizes : List ℕ) (type : ElementType) (fill : List ℕ) (stored : Option (List ℕ)) (runs slice : List (ℕ × ℕ)) (places : Result (List ℕ) CodecError) → slice ≡ runs → All (λ run. run.0 + run.1 ≤ product sizes) runs → places ≡ Ok (joined_runs runs) → (value : List ℕ) (chunk : Chunk) → stored ≡ Some value → PackBitsStands settings (form_of sizes type fill) value chunk → read_places_of settings (form_of sizes type fill) stored (joined_runs slice) ≡ seen (select chunk) places
 runs_select settings sizes type fill stored runs slice places view below is value chunk here stands =
     let count = stands.elements.count_is in
-    let inside : All (λ place. place < length chunk) (joined_runs runs) = subst (λ k. All (λ place. place < k) (joined_runs runs)) (sym count) (runs_below (product sizes) runs below) in
+    let inside : All (λ place. place < length chunk) (joined_runs runs) = subst (λ k. All (λ place. place < k) (joined_runs runs)) (sym count) (places_below (product sizes) runs below) in
     rw view (rw here (rw is (read_selects settings sizes type fill value chunk (joined_runs runs) stands inside)))
 
 filled_read : (r : Result PackedLayout CodecError) (c : Chunk) → is_ok r ≡ true → (r >>= λ (_ : PackedLayout). Ok c) ≡ Ok c

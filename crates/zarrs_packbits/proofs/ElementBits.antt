@@ -11,7 +11,7 @@ use Rattle.zarrs_array_bytes.specs.Elements.{piece, elements}
 use Rattle.zarrs_array_bytes.specs.Held.{Raw, flen}
 use Rattle.zarrs_array_bytes.specs.Pieces.{pieces}
 use Rattle.zarrs_array_bytes.specs.Validity.{Holds}
-use Rattle.zarrs_array_bytes.proofs.Pieces.{AllSized, length-concat, pieces-concat, elements-pieces}
+use Rattle.zarrs_array_bytes.proofs.Pieces.{AllSized, length-concat, pieces-concat, elements-pieces, take-drop-take}
 use Rattle.zarrs_array_bytes.proofs.RunLemmas.{piece_is as piece_at}
 use Rattle.zarrs_packbits.specs.Bits.{bits_of, field}
 use Rattle.zarrs_packbits.specs.BitStream.{chunk_stream, element_stream, stream_of_bytes, element_bits, packed_element}
@@ -26,7 +26,7 @@ use Rattle.zarrs_packbits.proofs.BitLemmas.{length-bytes_of, length-pieces}
 use Rattle.zarrs_packbits.proofs.FieldLemmas.{flat_more}
 use Rattle.zarrs_packbits.proofs.FlatChunk.{nf}
 use Rattle.zarrs_packbits.proofs.LocalLemmas.{flat_range_same}
-use Rattle.zarrs_packbits.proofs.LowBits.{length-bits_of, take-drop-take}
+use Rattle.zarrs_packbits.proofs.LowBits.{length-bits_of}
 use Rattle.zarrs_packbits.proofs.Standing.{component_len, field_len, widened_len}
 
 -- ---- lists made part by part
@@ -35,7 +35,7 @@ flat_map-map : {X Y : Type 0} (f : Y → List ℕ) (g : X → Y) (xs : List X) �
 flat_map-map f g [] = refl
 flat_map-map f g (x ∷ xs) = ap (λ (l : List ℕ). f (g x) ++ l) (flat_map-map f g xs)
 
-flat_split : (f : ℕ → List ℕ) (a b : ℕ) → flat_map f (range_with_len 0 (a + b)) ≡ flat_map f (range_with_len 0 a) ++ flat_map (λ j. f (a + j)) (range_with_len 0 b)
+pub flat_split : (f : ℕ → List ℕ) (a b : ℕ) → flat_map f (range_with_len 0 (a + b)) ≡ flat_map f (range_with_len 0 a) ++ flat_map (λ j. f (a + j)) (range_with_len 0 b)
 flat_split f a zero =
     ap (λ n. flat_map f (range_with_len 0 n)) (let e : a + 0 ≡ a = omega arith in e) ∙ sym (append-nil (flat_map f (range_with_len 0 a)))
 flat_split f a (suc b) =

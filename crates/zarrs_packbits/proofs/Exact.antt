@@ -4,13 +4,12 @@ use Rattle.std.proofs.Common.{◌≡◌, ℕ, zero, suc, ◌+◌, ◌*◌, ◌<�
 use Rattle.std.specs.List.{concat, flat_map, range_with_len}
 use Rattle.std.proofs.lemmas.Bool.Decides.{nat_tests}
 use Rattle.std.proofs.lemmas.List.{length-map}
-use Rattle.std.proofs.lemmas.List.Elements.{All-cons}
 use Rattle.std.proofs.lemmas.Simd.{map-map}
 use Rattle.zarrs_chunk.specs.Answer.{◌>>=◌, demand}
 use Rattle.zarrs_chunk.specs.ChunkShape.{product}
 use Rattle.zarrs_chunk.specs.declared.codec_error.CodecError.{CodecError}
 use Rattle.zarrs_chunk.specs.declared.codec_error.CodecError.TheVariants.{InvalidBytesLength, Overflow, PaddingByte}
-use Rattle.zarrs_data_type.specs.Element.{Element, plain, Chunk, IsElement, AreElements}
+use Rattle.zarrs_data_type.specs.Element.{Element, plain, Chunk}
 use Rattle.zarrs_data_type.specs.ElementType.{ElementType, fixed, text, bytes, optional, element_size}
 use Rattle.zarrs_array_bytes.specs.Elements.{elements}
 use Rattle.zarrs_array_bytes.specs.Held.{Held, flen, vlen, masked}
@@ -20,7 +19,7 @@ use Rattle.zarrs_array_bytes.proofs.ElementLaw.{AreElements-held}
 use Rattle.zarrs_array_bytes.proofs.Pieces.{AllSized, length-pieces as count-pieces, pieces_sized, length-concat, pieces-concat, concat-pieces, elements-pieces}
 use Rattle.zarrs_bytes.specs.BytesCodec.{IsChunk}
 use Rattle.zarrs_bytes.proofs.Coding.{bind_ok, demand_ok, ok}
-use Rattle.zarrs_bytes.proofs.Exact.{pieces_of}
+use Rattle.zarrs_bytes.proofs.Exact.{pieces_of, chunk_are, bytes_are}
 use Rattle.zarrs_packbits.specs.BitStream.{chunk_stream, stream_of_bytes, element_bits, packed_element}
 use Rattle.zarrs_packbits.specs.declared.layout.PackedLayout.{PackedLayout}
 use Rattle.zarrs_packbits.specs.NormalForm.{normal_bytes, normal_element, normal_chunk}
@@ -35,6 +34,7 @@ use Rattle.zarrs_packbits.proofs.FlatChunk.{nf, decoded, FlatStands}
 use Rattle.zarrs_packbits.proofs.LayoutLemmas.{chosen}
 use Rattle.zarrs_packbits.proofs.Standing.{nf_small, encoded_stands, decoded_stands, stands_decoded}
 use Rattle.zarrs_packbits.proofs.Taken.{IsTaken, taken}
+use Rattle.zarrs_bytes.proofs.PartWrites.{sized_elements}
 
 -- ---- a chunk and its elements' bytes, joined
 
@@ -45,7 +45,7 @@ element_bytes element = []
 abbrev pub joined : Chunk → List ℕ
 joined chunk = concat (map element_bytes chunk)
 
-joined_plain : (parts : List (List ℕ)) → joined (map plain parts) ≡ concat parts
+pub joined_plain : (parts : List (List ℕ)) → joined (map plain parts) ≡ concat parts
 joined_plain [] = refl
 joined_plain (part ∷ parts) = ap (λ (l : List ℕ). part ++ l) (joined_plain parts)
 
@@ -74,16 +74,11 @@ is_cut l n width components sign chunk h size count =
       are = p.are ∙ ap (map plain) (sym (ap (pieces (l.group * l.size) l.elements) flat ∙ ap (λ k. pieces (l.group * l.size) k (concat p.parts)) (sym number) ∙ pieces-concat (l.group * l.size) p.parts sized));
     }
 
-plain_elements : (width components : ℕ) (sign : Bool) (parts : List (List ℕ)) → AllSized (element_size width components) parts → AreElements (fixed width components sign) (map plain parts)
-plain_elements width components sign [] h = λ k d l. absurd (omega arith)
-plain_elements width components sign (part ∷ parts) h =
-    All-cons (IsElement (fixed width components sign)) (plain part) (map plain parts) h.0 (plain_elements width components sign parts h.1)
-
 -- the pieces of so many bytes are a chunk
 pub cut_chunk : (l : PackedLayout) (n width components : ℕ) (sign : Bool) (items : List ℕ) → length items ≡ parts_of l * l.size → element_size width components ≡ l.group * l.size → l.elements ≡ n → IsChunk (fixed width components sign) n (cut l items)
 cut_chunk l n width components sign items e size count = record {
   count_is = length-map (pieces (l.group * l.size) l.elements items) plain ∙ count-pieces (l.group * l.size) l.elements items ∙ count;
-  each = plain_elements width components sign (pieces (l.group * l.size) l.elements items) (subst (λ k. AllSized k (pieces (l.group * l.size) l.elements items)) (sym size) (pieces_sized (l.group * l.size) l.elements items (let d : parts_of l * l.size ≡ l.elements * (l.group * l.size) = omega arith in omega (arith, e))));
+  each = sized_elements width components sign (pieces (l.group * l.size) l.elements items) (subst (λ k. AllSized k (pieces (l.group * l.size) l.elements items)) (sym size) (pieces_sized (l.group * l.size) l.elements items (let d : parts_of l * l.size ≡ l.elements * (l.group * l.size) = omega arith in omega (arith, e))));
 }
 
 -- ---- the normal form
@@ -108,9 +103,6 @@ normal_cut settings sizes width components sign fill items l t e =
     ∙ ap (map plain) (sym (ap (pieces size l.elements) (sym (normal_joined l items t.sound e)) ∙ ap (λ k. pieces size k (concat news)) (sym number) ∙ pieces-concat size news sized))
 
 -- ---- values and chunks
-
-chunk_is : (x y : Chunk) → ok x ≡ ok y → y ≡ x
-chunk_is x y e = cc
 
 pub stream_cut : (l : PackedLayout) (chunk : Chunk) → IsCut l chunk → chunk_stream l chunk ≡ stream_of_bytes l (joined chunk)
 stream_cut l chunk h = ap (chunk_stream l) h.are ∙ stream_of_pieces l (joined chunk)
@@ -161,9 +153,6 @@ encoded_only settings sizes type fill value held chunk holds written =
     two_of (packed_layout settings (form_of sizes type fill)) (validity type (product sizes) held) (λ k. value_with k (chunk_stream k (elements type (product sizes) held))) written.layout tt written.taken valid
     ∙ ap (λ (c : Chunk). ok (value_with written.layout (chunk_stream written.layout c))) same
     ∙ ap ok (sym written.spelt)
-
-bytes_are : (x y : List ℕ) → ok x ≡ ok y → y ≡ x
-bytes_are x y e = cc
 
 pub encoded_found : (settings : PackBitsSettings) (sizes : List ℕ) (type : ElementType) (fill value : List ℕ) (held : Held) → packbits_value settings (form_of sizes type fill) held ≡ Ok value → (chunk : Chunk) × Holds type held chunk × PackBitsWritten settings (form_of sizes type fill) value chunk
 encoded_found settings sizes (fixed width components sign) fill value (flen raw) e =
@@ -233,7 +222,7 @@ decoded_found settings sizes (fixed width components sign) fill value chunk e =
     let pad = demand_ok (padding_holds l value) PaddingByte c.0 c.1 in
     let t = taken settings sizes width components sign fill l a.1 in
     let items = packing (flat_map (element_bits l value) (range_with_len 0 l.elements)) in
-    let is : chunk ≡ cut l items = chunk_is _ chunk c.2 ∙ elements_cut settings sizes width components sign fill value l t long in
+    let is : chunk ≡ cut l items = chunk_are _ chunk c.2 ∙ elements_cut settings sizes width components sign fill value l t long in
     let flat : decoded l value ≡ Ok items = chosen (length value) (value_len l) (padding_holds l value) _ long pad ∙ ap (λ (bits : List ℕ). ok (packing bits)) (all_components l value) in
     subst (PackBitsStands settings (form_of sizes type fill) value) (sym is) (stands_flat settings sizes width components sign fill value items l a.1 (decoded_stands l value items t.sound flat))
 decoded_found settings sizes text fill value chunk e = absurd cc

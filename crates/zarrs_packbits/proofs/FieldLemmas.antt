@@ -8,14 +8,15 @@ use Rattle.std.specs.List.{flat_map, range_with_len}
 use Rattle.std.proofs.lemmas.List.{length-take}
 use Rattle.std.proofs.lemmas.List.Concat.{flat_map-append}
 use Rattle.zarrs_packbits.specs.Bits.{low_bits, bits_of, field}
-use Rattle.zarrs_packbits.proofs.LowBits.{length-low_bits, length-bits_of, range-more}
+use Rattle.zarrs_array_bytes.proofs.UpdateSteps.{range_more}
+use Rattle.zarrs_packbits.proofs.LowBits.{length-low_bits, length-bits_of}
 use Rattle.zarrs_packbits.specs.KeptBits.{component_bits}
 use Rattle.zarrs_packbits.specs.Packing.{number_of, bytes_from_bits, packing}
 
 -- one part more
 pub flat_more : (f : ℕ → List ℕ) (n : ℕ) → flat_map f (range_with_len 0 (n + 1)) ≡ flat_map f (range_with_len 0 n) ++ f n
 flat_more f n =
-    ap (flat_map f) (range-more 0 n)
+    ap (flat_map f) (range_more 0 n)
     ∙ flat_map-append f (range_with_len 0 n) ((0 + n) ∷ [])
     ∙ ap (λ ns. flat_map f (range_with_len 0 n) ++ ns) (append-nil (f (0 + n)) ∙ ap f (let e : 0 + n ≡ n = omega arith in e))
 
@@ -23,10 +24,6 @@ flat_more f n =
 pub field_more : (at n m : ℕ) (bits : List ℕ) → field at n bits ++ field (at + n) m bits ≡ field at (n + m) bits
 field_more at n m bits =
     sym (take-add n m (drop at bits) ∙ ap (λ ys. take n (drop at bits) ++ take m ys) (drop-drop n at bits))
-
-pub low_bits_zeros : (n : ℕ) → low_bits n 0 ≡ replicate n 0
-low_bits_zeros zero = refl
-low_bits_zeros (suc n) = ap (λ ns. 0 ∷ ns) (low_bits_zeros n)
 
 pub low_bits_ones : (n : ℕ) → low_bits n (2 ^ n - 1) ≡ replicate n 1
 low_bits_ones zero = refl

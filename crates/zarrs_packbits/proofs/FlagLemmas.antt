@@ -1,13 +1,15 @@
 -- One bit of each of some bytes.
-use Rattle.std.proofs.Common.{◌≡◌, ℕ, zero, suc, ◌+◌, ◌*◌, ◌/◌, ◌%◌, ◌^◌, ◌<◌, List, [], ◌∷◌, ◌++◌, length, take, drop, get_or, arith, ap, sym, ◌∙◌}
+use Rattle.std.proofs.Common.{◌≡◌, ℕ, ◌+◌, ◌*◌, ◌/◌, ◌%◌, ◌^◌, ◌<◌, List, [], ◌∷◌, ◌++◌, length, take, drop, get_or, arith, ap, sym, ◌∙◌}
 use Rattle.std.specs.List.{flat_map, range_with_len}
-use Rattle.std.proofs.lemmas.List.{append_assoc, append-nil, drop-drop, drop_more}
+use Rattle.std.proofs.lemmas.List.{drop-drop, drop_more}
 use Rattle.zarrs_packbits.specs.Bits.{low_bits, bits_of, field}
 use Rattle.zarrs_packbits.specs.KeptBits.{component_bits}
 use Rattle.zarrs_packbits.specs.WrittenBits.{flags_of}
 use Rattle.zarrs_packbits.proofs.FieldLemmas.{flat_more}
 use Rattle.zarrs_packbits.proofs.LocalLemmas.{flat_range_same}
-use Rattle.zarrs_packbits.proofs.LowBits.{bit_at-bytes, length-bits_of, low_bits-cat, take-drop-take}
+use Rattle.zarrs_array_bytes.proofs.Pieces.{take-drop-take}
+use Rattle.zarrs_packbits.proofs.LowBits.{bit_at-bytes, length-bits_of, low_bits-cat}
+use Rattle.zarrs_packbits.proofs.ElementBits.{flat_split}
 
 -- the bit of the byte at an index
 pub flag_at : (bytes : List ℕ) (index bit : ℕ) → index < length bytes → bit < 8 → field bit 1 (component_bits 1 bytes index) ≡ (get_or bytes index 0 / 2 ^ bit % 2) ∷ []
@@ -31,19 +33,6 @@ flags_more bytes index bit word flag h l below same e =
     ∙ ap (λ (x : ℕ). flags_before bit bytes index ++ x ∷ []) (small ∙ e)
     ∙ ap (λ (bits : List ℕ). flags_before bit bytes index ++ bits) (sym (flag_at bytes index bit h l))
     ∙ sym (flat_more (λ part. field bit 1 (component_bits 1 bytes part)) index)
-
-pub flat_split : (f : ℕ → List ℕ) (a b : ℕ) → flat_map f (range_with_len 0 (a + b)) ≡ flat_map f (range_with_len 0 a) ++ flat_map (λ j. f (a + j)) (range_with_len 0 b)
-flat_split f a zero =
-    ap (λ n. flat_map f (range_with_len 0 n)) (let e : a + 0 ≡ a = omega arith in e) ∙ sym (append-nil (flat_map f (range_with_len 0 a)))
-flat_split f a (suc b) =
-    let g : ℕ → List ℕ = λ j. f (a + j) in
-    let front = flat_map f (range_with_len 0 a) in
-    ap (λ n. flat_map f (range_with_len 0 n)) (let e : a + suc b ≡ (a + b) + 1 = omega arith in e)
-    ∙ flat_more f (a + b)
-    ∙ ap (λ (l : List ℕ). l ++ f (a + b)) (flat_split f a b)
-    ∙ append_assoc front (flat_map g (range_with_len 0 b)) (f (a + b))
-    ∙ ap (λ (l : List ℕ). front ++ l) (sym (flat_more g b))
-    ∙ ap (λ n. front ++ flat_map g (range_with_len 0 n)) (let e : b + 1 ≡ suc b = omega arith in e)
 
 -- those of a slice behind those of the bytes before it
 pub flags_split : (bytes slice : List ℕ) (bit done more : ℕ) → slice ≡ take more (drop done bytes) → length slice ≡ more → flags_before bit bytes (done + more) ≡ flags_before bit bytes done ++ flags_of bit slice

@@ -8,12 +8,8 @@ use Rattle.zarrs_packbits.specs.BitStream.{stream_of_bytes, components_from}
 use Rattle.zarrs_packbits.specs.KeptBits.{component_bits, kept_component}
 use Rattle.zarrs_packbits.specs.declared.layout.PackedLayout.{PackedLayout}
 use Rattle.zarrs_packbits.specs.PackedLayout.{parts_of, bits_in}
-use Rattle.zarrs_packbits.specs.PaddingByte.{lead, value_len, padding_holds, value_with}
+use Rattle.zarrs_packbits.specs.PaddingByte.{lead, value_len, padding_holds}
 use Rattle.zarrs_packbits.specs.Packing.{packing}
-
--- what is written of a chunk
-abbrev pub encoded : PackedLayout → List ℕ → List ℕ
-encoded l bytes = value_with l (stream_of_bytes l bytes)
 
 -- a chunk with the kept bits alone
 abbrev pub nf : PackedLayout → List ℕ → List ℕ

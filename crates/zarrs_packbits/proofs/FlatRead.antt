@@ -1,6 +1,6 @@
 -- Reads of runs and of places, as the bytes of the elements joined.
-use Rattle.std.proofs.Common.{◌≡◌, ℕ, zero, suc, ◌+◌, ◌-◌, ◌<◌, ◌≤◌, Bool, true, ◌&&◌, nat_lt, nat_le, List, [], ◌∷◌, take, drop, Option, Result, arith, refl, ap, ◌∙◌}
-use Rattle.std.specs.List.{All, list_all, range_with_len}
+use Rattle.std.proofs.Common.{◌≡◌, ℕ, ◌+◌, ◌-◌, ◌<◌, ◌≤◌, Bool, true, ◌&&◌, nat_lt, nat_le, List, [], ◌∷◌, take, drop, Option, Result, arith, refl, ap, ◌∙◌}
+use Rattle.std.specs.List.{All, list_all}
 use Rattle.std.proofs.lemmas.Bool.Decides.{nat_tests}
 use Rattle.std.proofs.lemmas.List.Elements.{All-head, All-tail}
 use Rattle.zarrs_chunk.specs.declared.codec_error.CodecError.{CodecError}
@@ -37,15 +37,3 @@ ranges_bytes v rs = bytes_in_ranges v rs
 -- each range ends within n bytes
 abbrev pub end_within : ℕ → List ByteSpan → Bool
 end_within n rs = list_all (λ r. nat_le r.end n) rs
-
-below_both : (s b n : ℕ) → s < b → (nat_lt s n && nat_le b n) ≡ nat_le b n
-below_both s b n h = grind (arith, nat_tests)
-
--- the end of a range that isn't empty bounds its bytes
-pub all_below-range : (n s m : ℕ) → 0 < m → list_all (λ k. nat_lt k n) (range_with_len s m) ≡ nat_le (s + m) n
-all_below-range n s zero h = absurd (omega arith)
-all_below-range n s (suc zero) h = grind (arith, nat_tests)
-all_below-range n s (suc (suc m)) h =
-    let e = all_below-range n (s + 1) (suc m) (omega arith) in
-    let more : s + 1 + suc m ≡ s + suc (suc m) = omega arith in
-    ap (λ (b : Bool). nat_lt s n && b) e ∙ below_both s (s + 1 + suc m) n (omega arith) ∙ ap (λ (k : ℕ). nat_le k n) more

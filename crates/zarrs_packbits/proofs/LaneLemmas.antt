@@ -2,19 +2,20 @@
 use Rattle.std.proofs.Common.{◌≡◌, ℕ, ◌+◌, ◌-◌, ◌*◌, ◌/◌, ◌%◌, ◌^◌, ◌<◌, ◌≤◌, List, ◌++◌, length, take, drop, replicate, arith, ap, sym, subst, ◌∙◌, lit<}
 use Rattle.std.specs.Prelude.{bit_or}
 use Rattle.std.specs.List.{flat_map, range_with_len}
-use Rattle.std.proofs.Math.Nat.{mul-le-mul_left, mul-le-mul_right, pow-le-pow_right}
+use Rattle.std.proofs.Math.Nat.{mul-le-mul_left, mul-le-mul_right, pow-le-pow_right, div-mul-le_self}
 use Rattle.std.proofs.lemmas.List.{append_assoc, drop-drop}
-use Rattle.std.proofs.lemmas.Nat.{div-add-mod', shl_whole, or_comm, or_shifted, pow-add, pow_pos}
+use Rattle.std.proofs.lemmas.Nat.{shl_whole, or_comm, or_shifted, pow-add, pow_pos}
 use Rattle.zarrs_packbits.specs.Bits.{low_bits, bits_of, field}
 use Rattle.zarrs_packbits.specs.BitStream.{components_from}
 use Rattle.zarrs_packbits.specs.BlockBits.{stream_before}
 use Rattle.zarrs_packbits.specs.KeptBits.{component_bits, full_component, top_of}
 use Rattle.zarrs_packbits.specs.declared.layout.PackedLayout.{PackedLayout}
 use Rattle.zarrs_packbits.proofs.BlockLemmas.{components_more}
-use Rattle.zarrs_packbits.proofs.FieldLemmas.{flat_more, low_bits_zeros}
-use Rattle.zarrs_packbits.proofs.FlagLemmas.{flat_split}
+use Rattle.zarrs_packbits.proofs.FieldLemmas.{flat_more}
+use Rattle.zarrs_packbits.proofs.ElementBits.{flat_split}
 use Rattle.zarrs_packbits.proofs.LocalLemmas.{flat_range_same, field_of_part}
-use Rattle.zarrs_packbits.proofs.LowBits.{low_bits-cat, take-drop-take}
+use Rattle.zarrs_array_bytes.proofs.Pieces.{take-drop-take}
+use Rattle.zarrs_packbits.proofs.LowBits.{low_bits-cat, low_bits-zero}
 use Rattle.zarrs_packbits.proofs.WordLemmas.{field_within, low_bits-take}
 
 -- a lane ends where all of them end, at the latest
@@ -25,14 +26,11 @@ lane_inside lane lanes size all h l =
     let next : (lane + 1) * size ≡ lane * size + size = omega arith in
     omega arith
 
-pub div_below : (n k : ℕ) → n / k * k ≤ n
-div_below n k = omega (arith, div-add-mod' n k)
-
 -- those of whole words, and the rest
 pub parts_inside : (at parts lanes count : ℕ) → (at + parts / lanes * (lanes * count) ≤ at + parts * count) × (at + parts / lanes * lanes * count + (parts - parts / lanes * lanes) * count ≡ at + parts * count)
 parts_inside at parts lanes count =
     let done = parts / lanes * lanes in
-    let less : done ≤ parts = div_below parts lanes in
+    let less : done ≤ parts = div-mul-le_self parts lanes in
     let row : done * count ≤ parts * count = mul-le-mul_right count less in
     let same : parts / lanes * (lanes * count) ≡ done * count = regroup (parts / lanes) lanes count in
     let sum : done * count + (parts - done) * count ≡ parts * count = join done (parts - done) count ∙ ap (λ n. n * count) (let e : done + (parts - done) ≡ parts = omega arith in e) in
@@ -49,7 +47,7 @@ pub word_inside : (parts group lanes size width len : ℕ) → len ≡ parts * s
 word_inside parts group lanes size width len is wide all lt =
     let each : lanes * (8 * size) ≡ 64 = ap (λ n. lanes * n) wide ∙ all in
     let eight : lanes * size ≡ 8 = omega arith in
-    let within : group * lanes + lanes ≤ parts = lane_inside group (parts / lanes) lanes parts lt (div_below parts lanes) in
+    let within : group * lanes + lanes ≤ parts = lane_inside group (parts / lanes) lanes parts lt (div-mul-le_self parts lanes) in
     let row : (group * lanes + lanes) * size ≤ parts * size = mul-le-mul_right size within in
     let next : (group * lanes + lanes) * size ≡ group * 8 + 8 = regroup group lanes size ∙ ap (λ n. group * n + n) eight in
     (within, omega arith)
@@ -113,7 +111,7 @@ spread_more l lane lanes width word kept part component size all lt is made fits
     = ap (λ n. low_bits n (component * 2 ^ l.first)) (sym start)
     ∙ ap (low_bits (l.first + high)) (let e : component * 2 ^ l.first ≡ component * 2 ^ l.first + 0 = omega arith in e)
     ∙ low_bits-cat l.first high 0 component (pow_pos l.first)
-    ∙ ap (λ (xs : List ℕ). xs ++ low_bits high component) (low_bits_zeros l.first)
+    ∙ ap (λ (xs : List ℕ). xs ++ low_bits high component) (low_bits-zero l.first)
     ∙ ap (λ (xs : List ℕ). replicate l.first 0 ++ xs) high_bits
     ∙ ap (full_component l.first l.above l.sign) (ap (low_bits l.count) is
     ∙ field_of_low (lanes * l.count) kept (lane * l.count) l.count (lane_inside lane lanes l.count (lanes * l.count) lt (omega arith))

@@ -17,9 +17,9 @@ use Rattle.zarrs_metadata.specs.declared.codec.packbits.PackBitsPaddingEncoding.
 use Rattle.zarrs_packbits.specs.KeptBits.{top_of, full_component, component_bits}
 use Rattle.zarrs_packbits.specs.Packing.{packing}
 use Rattle.zarrs_packbits.specs.PaddingByte.{value_len, lead, trail, bytes_before, bytes_behind}
-use Rattle.zarrs_packbits.specs.BitStream.{stream_of_bytes, components_from}
-use Rattle.zarrs_packbits.proofs.FlatChunk.{encoded}
+use Rattle.zarrs_packbits.specs.BitStream.{stream_of_bytes, components_from, bytes_packed}
 use Rattle.zarrs_chunk.specs.declared.codec_error.CodecError.TheVariants.{InvalidBytesLength, PaddingByte}
+use Rattle.zarrs_chunk.proofs.Inside.{from_lt_test}
 
 pub zero_first : (a b : ℕ) → ((a == 0) && (b == 0)) ≡ true → a ≡ 0
 zero_first a b h = grind (arith, nat_tests)
@@ -59,7 +59,7 @@ whole_stream l bytes s h len =
     ∙ joined_components l.size (parts_of l) bytes
     ∙ ap bits_of (take_all (parts_of l * l.size) bytes (omega arith))
 
-pub whole_encoded : (l : PackedLayout) (bytes : List ℕ) → IsPackedLayout l → is_whole l ≡ true → length bytes ≡ parts_of l * l.size → ((i : ℕ) → get_or bytes i 0 < 256) → encoded l bytes ≡ bytes
+pub whole_encoded : (l : PackedLayout) (bytes : List ℕ) → IsPackedLayout l → is_whole l ≡ true → length bytes ≡ parts_of l * l.size → ((i : ℕ) → get_or bytes i 0 < 256) → bytes_packed l bytes ≡ bytes
 whole_encoded l bytes s h len fits =
     let p = ap (λ (p : PackBitsPaddingEncoding). bytes_before p (spare_of l)) (s.bare h) in
     let q = ap (λ (p : PackBitsPaddingEncoding). bytes_behind p (spare_of l)) (s.bare h) in
@@ -111,16 +111,13 @@ reach_second true true b h e = absurd (false≢true (sym e))
 reach_second true false b h e = h
 reach_second false w b h e = absurd (false≢true h)
 
-is_below : (a b : ℕ) → nat_lt a b ≡ true → a < b
-is_below a b h = grind (arith, nat_tests)
-
 pub layout_sound : (l : PackedLayout) → 0 < l.count → 0 < l.group → l.first + l.count + l.above ≡ 8 * l.size → (is_whole l ≡ true → l.padding ≡ None) → is_in_reach l ≡ true → IsPackedLayout l
 layout_sound l some group size bare h = record {
   some = some;
   group = group;
   size = size;
-  bytes_fit = is_below (parts_of l * l.size) (2 ^ 64) (reach_first (nat_lt (parts_of l * l.size) (2 ^ 64)) (is_whole l) (nat_lt (bits_in l) (2 ^ 64)) h);
-  bits_fit = λ e. is_below (bits_in l) (2 ^ 64) (reach_second (nat_lt (parts_of l * l.size) (2 ^ 64)) (is_whole l) (nat_lt (bits_in l) (2 ^ 64)) h e);
+  bytes_fit = from_lt_test (parts_of l * l.size) (2 ^ 64) (reach_first (nat_lt (parts_of l * l.size) (2 ^ 64)) (is_whole l) (nat_lt (bits_in l) (2 ^ 64)) h);
+  bits_fit = λ e. from_lt_test (bits_in l) (2 ^ 64) (reach_second (nat_lt (parts_of l * l.size) (2 ^ 64)) (is_whole l) (nat_lt (bits_in l) (2 ^ 64)) h e);
   bare = bare;
 }
 

@@ -20,7 +20,6 @@ pub mod PartReads
 pub mod RunLemmas
 pub mod Standing
 pub mod Taken
-pub mod Tests
 pub mod WholeChunk
 pub mod WholeReads
 pub mod Counted

@@ -20,7 +20,7 @@ use Rattle.zarrs_packbits.specs.PaddingByte.{lead}
 use Rattle.zarrs_packbits.specs.Packing.{packing}
 use Rattle.zarrs_packbits.specs.PartialRead.{all_below, packed_place_bytes, packed_places_bytes, span_end}
 use Rattle.zarrs_packbits.proofs.LocalLemmas.{flat_range_same}
-use Rattle.zarrs_packbits.proofs.LowBits.{take-drop-take}
+use Rattle.zarrs_array_bytes.proofs.Pieces.{take-drop-take}
 use Rattle.zarrs_packbits.proofs.RunLemmas.{place_end}
 use Rattle.zarrs_packbits.proofs.Taken.{taken}
 

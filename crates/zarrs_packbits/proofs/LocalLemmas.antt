@@ -3,7 +3,8 @@ use Rattle.std.proofs.Common.{◌≡◌, ℕ, zero, suc, ◌+◌, ◌-◌, ◌*�
 use Rattle.std.specs.List.{flat_map, range_with_len}
 use Rattle.std.proofs.Math.Nat.{mul-le-mul_right}
 use Rattle.std.proofs.lemmas.List.{append_assoc, map-append, drop-drop, length-drop}
-use Rattle.zarrs_packbits.proofs.LowBits.{bits_of-drop, bits_of-take, take-drop-take}
+use Rattle.zarrs_array_bytes.proofs.Pieces.{take-drop-take}
+use Rattle.zarrs_packbits.proofs.LowBits.{bits_of-drop, bits_of-take}
 use Rattle.zarrs_packbits.specs.Bits.{bits_of, field}
 use Rattle.zarrs_codec.specs.ByteSpan.{ByteSpan}
 use Rattle.zarrs_packbits.specs.PartialRead.{span_start, span_end}

@@ -1,6 +1,4 @@
 use Rattle.std.proofs.Common.{◌≡◌, ℕ, zero, suc, ◌+◌, ◌-◌, ◌*◌, ◌/◌, ◌%◌, ◌^◌, ◌<◌, ◌≤◌, List, [], ◌∷◌, ◌++◌, length, arith, refl, ap, ◌∙◌, sym}
-use Rattle.std.specs.List.{range_with_len}
-use Rattle.std.proofs.lemmas.List.FromFn.{map-range_with_len_more}
 use Rattle.std.proofs.Common.{replicate}
 use Rattle.std.proofs.Math.Nat.{div-eq_of_lt}
 use Rattle.std.specs.Int.{bytes_low_first, byte_at, to_le_bytes, w64}
@@ -8,7 +6,7 @@ use Rattle.std.proofs.lemmas.Nat.{shr_split, shr_high, pow_pos, pow-add, or_shif
 use Rattle.std.proofs.Math.Nat.{add-mul-mod_self_right, add-mul-div_right, div-div-eq-div-mul, pow-suc}
 use Rattle.std.specs.Prelude.{bit_or}
 use Rattle.std.proofs.Common.{lit<}
-use Rattle.std.proofs.lemmas.List.{append_assoc, map-id, get_or_append_left, get_or-append_right, length-append, drop_at, drop_all, drop-drop, take_at, drop-take, take-take, length-take-le, take-append-drop}
+use Rattle.std.proofs.lemmas.List.{append_assoc, get_or_append_left, get_or-append_right, length-append, drop_at, drop_all, drop-drop, take_at, length-take-le, take-append-drop}
 use Rattle.std.proofs.Common.{get_or, take, drop}
 use Rattle.std.specs.Int.{from_le_bytes}
 use Rattle.std.proofs.lemmas.Nat.{le_bytes_8}
@@ -151,12 +149,6 @@ bit_of-place bytes place h =
 pub bits_of-read : (bytes : List ℕ) (word : ℕ) → length bytes ≡ 8 → ((i : ℕ) → get_or bytes i 0 < 256) → word ≡ from_le_bytes w64 bytes → low_bits 64 word ≡ bits_of bytes
 bits_of-read bytes word l fits e = sym (bits_of-to_le_bytes word) ∙ ap bits_of (le_bytes_8 bytes word l fits e)
 
-pub range-more : (a n : ℕ) → range_with_len a (n + 1) ≡ range_with_len a n ++ (a + n) ∷ []
-range-more a n =
-    sym (map-id (range_with_len a (n + 1)))
-    ∙ map-range_with_len_more (λ (x : ℕ). x) a n (a + n) refl
-    ∙ ap (λ ns. ns ++ (a + n) ∷ []) (map-id (range_with_len a n))
-
 -- ---- the last bytes
 
 take-bytes : (n k i v : ℕ) → n ≤ k → take n (bytes_low_first i k v) ≡ bytes_low_first i n v
@@ -164,7 +156,7 @@ take-bytes zero k i v h = refl
 take-bytes (suc n) zero i v h = absurd (omega arith)
 take-bytes (suc n) (suc k) i v h = ap (λ ns. byte_at i v ∷ ns) (take-bytes n k (suc i) v (omega arith))
 
-low_bits-zero : (n : ℕ) → low_bits n 0 ≡ replicate n 0
+pub low_bits-zero : (n : ℕ) → low_bits n 0 ≡ replicate n 0
 low_bits-zero zero = refl
 low_bits-zero (suc n) = ap (λ ns. 0 ∷ ns) (low_bits-zero n)
 
@@ -198,12 +190,6 @@ pub bits_of-take : (n : ℕ) (bytes : List ℕ) → n ≤ length bytes → bits_
 bits_of-take n bytes h =
     sym (take_at (bits_of (take n bytes)) (bits_of (drop n bytes)) (8 * n) (length-bits_of (take n bytes) ∙ ap (λ k. 8 * k) (length-take-le n bytes h)))
     ∙ ap (take (8 * n)) (sym (flat_map-append (low_bits 8) (take n bytes) (drop n bytes)) ∙ ap bits_of (take-append-drop n bytes))
-
-pub take-drop-take : (count s n : ℕ) (xs : List ℕ) → s + count ≤ n → take count (drop s (take n xs)) ≡ take count (drop s xs)
-take-drop-take count s n xs h =
-    ap (λ k. take count (drop s (take k xs))) (let e : n ≡ s + (n - s) = omega arith in e)
-    ∙ ap (take count) (drop-take s (n - s) xs)
-    ∙ take-take count (n - s) (drop s xs) (omega arith)
 
 -- the first bytes of a word
 pub first_bytes : (used word : ℕ) → used ≤ 8 → bits_of (take used (to_le_bytes w64 word)) ≡ low_bits (8 * used) word

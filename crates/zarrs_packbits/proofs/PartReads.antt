@@ -33,12 +33,11 @@ use Rattle.zarrs_packbits.proofs.ElementBits.{AllLong, element_long, places_hold
 use Rattle.zarrs_packbits.proofs.FlatRead.{are_runs}
 use Rattle.zarrs_packbits.proofs.RunLemmas.{all_at, all_from, is_run, place_end, runs_sure, whole_run_start, whole_run_end, head_of, tail_of}
 use Rattle.zarrs_packbits.proofs.Taken.{taken}
-use Rattle.zarrs_packbits.proofs.Tests.{and_first, and_second, from_nat_le}
+use Rattle.zarrs_codec.proofs.Fences.{second_true, first_true}
+use Rattle.zarrs_chunk.proofs.Inside.{from_le_test}
+use Rattle.zarrs_bytes.proofs.Exact.{bytes_are}
 
 -- ---- elements of the bytes that are read
-
-bytes_same : (x y : List ℕ) → ok x ≡ ok y → y ≡ x
-bytes_same x y e = cc
 
 refused_if : (b : Bool) (x : List ℕ) (c : Chunk) (e : CodecError) → (if b then ok x else Err InvalidByteRange) ≡ Err e → (demand b InvalidByteRange >>= λ _. ok c) ≡ Err e
 refused_if true x c e h = absurd cc
@@ -54,8 +53,8 @@ pub all_read : (l : PackedLayout) (v places : List ℕ) → IsPackedLayout l →
 all_read l v [] s h = tt
 all_read l v (p ∷ ps) s h =
     let both = sym (list_all-append (λ k. nat_lt k (length v)) (packed_place_bytes l p) (packed_places_bytes l ps)) ∙ h in
-    let end : span_end l p ≤ length v = from_nat_le _ _ (sym (place_end l (length v) p s) ∙ and_first _ _ both) in
-    (element_long l v p s end, all_read l v ps s (and_second _ _ both))
+    let end : span_end l p ≤ length v = from_le_test _ _ (sym (place_end l (length v) p s) ∙ first_true _ _ both) in
+    (element_long l v p s end, all_read l v ps s (second_true _ _ both))
 
 fills_sized : (size : ℕ) (fill places : List ℕ) → length fill ≡ size → AllSized size (map (λ (_ : ℕ). fill) places)
 fills_sized size fill [] h = tt
@@ -70,7 +69,7 @@ fills_plain fill [] = refl
 fills_plain fill (p ∷ ps) = λ i. plain fill ∷ fills_plain fill ps i
 
 found_if : (b : Bool) (x items : List ℕ) (c : Chunk) (P : Chunk → Type 0) → (if b then ok x else Err InvalidByteRange) ≡ ok items → (b ≡ true → items ≡ x → P c) → IsOkAnd (demand b InvalidByteRange >>= λ _. ok c) P
-found_if true x items c P h f = f refl (bytes_same x items h)
+found_if true x items c P h f = f refl (bytes_are x items h)
 found_if false x items c P h f = absurd cc
 
 -- the bytes that are read hold the elements at the places
@@ -79,7 +78,7 @@ pub places_found : (settings : PackBitsSettings) (sizes : List ℕ) (type : Elem
 places_found settings sizes (fixed width components sign) fill places items None l e h small =
     let t = taken settings sizes width components sign fill l e in
     let long : length fill ≡ element_size width components = (let f = t.filled in grind (arith, nat_tests)) in
-    let is : items ≡ flat_map (λ (_ : ℕ). fill) places = bytes_same _ _ h in
+    let is : items ≡ flat_map (λ (_ : ℕ). fill) places = bytes_are _ _ h in
     subst (Holds (fixed width components sign) (flen (owned_bytes items))) (fills_plain fill places)
     (plain_holds width components sign (owned_bytes items) (map (λ (_ : ℕ). fill) places) (fills_sized (element_size width components) fill places long) (is ∙ fills_joined fill places) small)
 places_found settings sizes (fixed width components sign) fill places items (Some v) l e h small =
@@ -112,13 +111,13 @@ runs_covered q l (p ∷ runs) (r ∷ rs) e h =
     let a : r.start ≡ run_start l p = ap (λ (x : ℕ × ℕ). x.0) pair in
     let b : r.end ≡ run_end l p = ap (λ (x : ℕ × ℕ). x.1) pair in
     let both = sym (list_all-append q (range_with_len r.start (r.end - r.start)) (range_indices rs)) ∙ h in
-    let here = places_covered q l r.start r.end p.0 p.1 (λ k x y. all_at q r.start (r.end - r.start) (and_first _ _ both) k x (omega arith)) (omega arith) (omega arith) in
+    let here = places_covered q l r.start r.end p.0 p.1 (λ k x y. all_at q r.start (r.end - r.start) (first_true _ _ both) k x (omega arith)) (omega arith) (omega arith) in
     ap (list_all q) (flat_map-append (packed_place_bytes l) (range_with_len p.0 p.1) (joined_runs runs))
     ∙ list_all-append q (packed_places_bytes l (range_with_len p.0 p.1)) (packed_places_bytes l (joined_runs runs))
     ∙ ap (λ (x : Bool). x && list_all q (packed_places_bytes l (joined_runs runs))) here
-    ∙ runs_covered q l runs rs rest (and_second _ _ both)
+    ∙ runs_covered q l runs rs rest (second_true _ _ both)
 
-same_bools : (a b : Bool) → (a ≡ true → b ≡ true) → (b ≡ true → a ≡ true) → a ≡ b
+pub same_bools : (a b : Bool) → (a ≡ true → b ≡ true) → (b ≡ true → a ≡ true) → a ≡ b
 same_bools true true f g = refl
 same_bools true false f g = sym (f refl)
 same_bools false true f g = g refl

@@ -4,21 +4,23 @@ use Rattle.std.specs.List.{flat_map, range_with_len, list_all}
 use Rattle.std.proofs.Common.{inl, inr}
 use Rattle.std.proofs.lemmas.Bool.{cases_lt}
 use Rattle.std.proofs.Math.Nat.{mul-le-mul_right}
-use Rattle.std.proofs.lemmas.List.{append_assoc, append-nil, length-take-le, length-drop, length-append, take_at, drop_at}
+use Rattle.std.proofs.lemmas.List.{append-nil, length-take-le, length-drop, length-append, take_at, drop_at}
 use Rattle.std.proofs.lemmas.List.Concat.{flat_map-append}
 use Rattle.std.proofs.lemmas.List.Folds.{list_all-append}
 use Rattle.std.proofs.lemmas.Bool.Decides.{nat_tests}
 use Rattle.zarrs_packbits.specs.Bits.{bits_of, field}
-use Rattle.zarrs_packbits.proofs.LowBits.{range-more}
+use Rattle.zarrs_array_bytes.proofs.UpdateSteps.{range_more}
 use Rattle.zarrs_codec.specs.ByteSpan.{ByteSpan}
 use Rattle.zarrs_packbits.specs.PartialRead.{all_below, span_start, span_end, packed_place_bytes}
-use Rattle.zarrs_packbits.proofs.FlatRead.{end_within, ranges_bytes, range_bytes, all_below-range, local_read, are_runs}
+use Rattle.zarrs_bytes.proofs.Ranges.{all_below-range}
+use Rattle.zarrs_packbits.proofs.FlatRead.{end_within, ranges_bytes, range_bytes, local_read, are_runs}
 use Rattle.zarrs_codec.specs.ByteRanges.{read_ranges, range_indices}
 use Rattle.zarrs_codec.specs.StorageState.{are_sure}
 use Rattle.zarrs_chunk.specs.Answer.{◌>>=◌, demand}
 use Rattle.zarrs_chunk.specs.declared.codec_error.CodecError.{CodecError}
 use Rattle.zarrs_chunk.specs.declared.codec_error.CodecError.TheVariants.{InvalidByteRange}
-use Rattle.zarrs_packbits.proofs.Tests.{from_nat_le, from_nat_lt, and_first, and_second}
+use Rattle.zarrs_codec.proofs.Fences.{second_true, first_true}
+use Rattle.zarrs_chunk.proofs.Inside.{from_lt_test, from_le_test}
 use Rattle.zarrs_packbits.specs.declared.layout.PackedLayout.{PackedLayout}
 use Rattle.zarrs_packbits.specs.PackedLayout.{IsPackedLayout, is_whole, parts_of, bits_in, element_bits_len}
 use Rattle.zarrs_metadata.specs.declared.codec.packbits.PackBitsPaddingEncoding.{PackBitsPaddingEncoding}
@@ -28,8 +30,8 @@ use Rattle.zarrs_packbits.specs.PaddingByte.{lead, bytes_before}
 use Rattle.zarrs_packbits.specs.BitStream.{components_from, element_bits}
 use Rattle.zarrs_packbits.specs.ReadPlan.{spans, run_start, run_end, run_span, run_bits, runs_len}
 use Rattle.zarrs_chunk.specs.Runs.{joined_runs}
-use Rattle.zarrs_packbits.proofs.FieldLemmas.{flat_more}
 use Rattle.zarrs_packbits.proofs.LocalLemmas.{ordered_run, whole_element, element_some, field_of_piece, field_of_rest, flat_range_same}
+use Rattle.zarrs_packbits.proofs.BlockLemmas.{components_more}
 
 pub run_within : (l : PackedLayout) (start len : ℕ) → start + len ≤ l.elements → (start + len) * element_bits_len l ≤ bits_in l
 run_within l start len h =
@@ -75,33 +77,18 @@ run_some l start len s h =
 
 -- ---- a run's components are its places' components
 
-restored_more : (l : PackedLayout) (at a b : ℕ) (bits : List ℕ) → components_from l at (a + b) bits ≡ components_from l at a bits ++ components_from l (at + a * l.count) b bits
-restored_more l at a zero bits =
-    ap (λ n. components_from l at n bits) (let e : a + 0 ≡ a = omega arith in e) ∙ sym (append-nil (components_from l at a bits))
-restored_more l at a (suc b) bits =
-    let f : ℕ → List ℕ = λ part. full_component l.first l.above l.sign (field (at + part * l.count) l.count bits) in
-    let g : ℕ → List ℕ = λ part. full_component l.first l.above l.sign (field (at + a * l.count + part * l.count) l.count bits) in
-    let one : suc b ≡ b + 1 = omega arith in
-    let last : f (a + b) ≡ g b = ap (λ n. full_component l.first l.above l.sign (field n l.count bits)) (let e : at + (a + b) * l.count ≡ at + a * l.count + b * l.count = omega arith in e) in
-    ap (λ n. components_from l at n bits) (let e : a + suc b ≡ (a + b) + 1 = omega arith in e)
-    ∙ flat_more f (a + b)
-    ∙ ap (λ xs. xs ++ f (a + b)) (restored_more l at a b bits)
-    ∙ ap (λ xs. (components_from l at a bits ++ components_from l (at + a * l.count) b bits) ++ xs) last
-    ∙ append_assoc (components_from l at a bits) (components_from l (at + a * l.count) b bits) (g b)
-    ∙ ap (λ xs. components_from l at a bits ++ xs) (sym (flat_more g b) ∙ ap (λ n. components_from l (at + a * l.count) n bits) (sym one))
-
 pub run_elements : (l : PackedLayout) (v : List ℕ) (start len : ℕ) → components_from l (start * element_bits_len l) (len * l.group) (bits_of (drop (lead l) v)) ≡ flat_map (element_bits l v) (range_with_len start len)
 run_elements l v start zero = ap (λ n. components_from l (start * element_bits_len l) n (bits_of (drop (lead l) v))) (let e : 0 * l.group ≡ 0 = omega arith in e)
 run_elements l v start (suc len) =
     let bits = bits_of (drop (lead l) v) in
     let at = start * element_bits_len l in
     ap (λ n. components_from l at n bits) (let e : suc len * l.group ≡ len * l.group + l.group = omega arith in e)
-    ∙ restored_more l at (len * l.group) l.group bits
+    ∙ components_more l at (len * l.group) l.group bits
     ∙ ap (λ xs. xs ++ components_from l (at + len * l.group * l.count) l.group bits) (run_elements l v start len)
     ∙ ap (λ n. flat_map (element_bits l v) (range_with_len start len) ++ components_from l n l.group bits) (let e : at + len * l.group * l.count ≡ (start + len) * element_bits_len l = omega arith in e)
     ∙ ap (λ xs. flat_map (element_bits l v) (range_with_len start len) ++ xs) (sym (append-nil (element_bits l v (start + len))))
     ∙ sym (flat_map-append (element_bits l v) (range_with_len start len) ((start + len) ∷ []))
-    ∙ ap (flat_map (element_bits l v)) (sym (range-more start len) ∙ ap (range_with_len start) (let e : len + 1 ≡ suc len = omega arith in e))
+    ∙ ap (flat_map (element_bits l v)) (sym (range_more start len) ∙ ap (range_with_len start) (let e : len + 1 ≡ suc len = omega arith in e))
 
 -- and its bytes lie inside where those of its places do
 both_le : (a b n : ℕ) → a ≤ b → (nat_le a n && nat_le b n) ≡ nat_le b n
@@ -126,7 +113,7 @@ run_inside l n start (suc len) s =
     let p = start + suc len in
     let front = flat_map (packed_place_bytes l) (range_with_len start (suc len)) in
     let more : (start + (len + 1)) * element_bits_len l ≤ (p + 1) * element_bits_len l = mul-le-mul_right (element_bits_len l) (let e : start + (len + 1) ≤ p + 1 = omega arith in e) in
-    ap (λ ns. all_below n (flat_map (packed_place_bytes l) ns)) (range-more start (suc len))
+    ap (λ ns. all_below n (flat_map (packed_place_bytes l) ns)) (range_more start (suc len))
     ∙ ap (all_below n) (flat_map-append (packed_place_bytes l) (range_with_len start (suc len)) (p ∷ []) ∙ ap (λ xs. front ++ xs) (append-nil (packed_place_bytes l p)))
     ∙ list_all-append (λ k. nat_lt k n) front (packed_place_bytes l p)
     ∙ ap (λ (b : Bool). b && all_below n (packed_place_bytes l p)) (ap (λ m. all_below n (flat_map (packed_place_bytes l) (range_with_len start m))) (let e : suc len ≡ len + 1 = omega arith in e) ∙ run_inside l n start len s)
@@ -167,11 +154,11 @@ pub record IsRun (count : ℕ) (r : ℕ × ℕ) (rs : List (ℕ × ℕ)) : Type 
 
 pub is_run : (count : ℕ) (r : ℕ × ℕ) (rs : List (ℕ × ℕ)) → are_runs count (r ∷ rs) ≡ true → IsRun count r rs
 is_run count r rs h =
-    let here = and_first (nat_lt 0 r.1 && nat_le (r.0 + r.1) count) (are_runs count rs) h in
+    let here = first_true (nat_lt 0 r.1 && nat_le (r.0 + r.1) count) (are_runs count rs) h in
     record {
-      some = from_nat_lt _ _ (and_first (nat_lt 0 r.1) (nat_le (r.0 + r.1) count) here);
-      within = from_nat_le _ _ (and_second (nat_lt 0 r.1) (nat_le (r.0 + r.1) count) here);
-      rest = and_second (nat_lt 0 r.1 && nat_le (r.0 + r.1) count) (are_runs count rs) h;
+      some = from_lt_test _ _ (first_true (nat_lt 0 r.1) (nat_le (r.0 + r.1) count) here);
+      within = from_le_test _ _ (second_true (nat_lt 0 r.1) (nat_le (r.0 + r.1) count) here);
+      rest = second_true (nat_lt 0 r.1 && nat_le (r.0 + r.1) count) (are_runs count rs) h;
     }
 
 -- ---- reading runs is reading places
@@ -190,7 +177,7 @@ run_bits_are l v (p ∷ runs) (r ∷ rs) e h =
     let rest = tail_of (r.start, r.end) (run_span l p) (spans rs) (map (run_span l) runs) e in
     let s : r.start ≡ run_start l p = ap (λ (x : ℕ × ℕ). x.0) pair in
     let t : r.end ≡ run_end l p = ap (λ (x : ℕ × ℕ). x.1) pair in
-    let within : r.end ≤ length v = from_nat_le _ _ (and_first _ _ h) in
+    let within : r.end ≤ length v = from_le_test _ _ (first_true _ _ h) in
     let o' = ordered_run l p.0 p.1 in
     let ordered : r.start ≤ r.end = omega arith in
     let len = run_end l p - run_start l p in
@@ -204,7 +191,7 @@ run_bits_are l v (p ∷ runs) (r ∷ rs) e h =
     ∙ ap (λ b. components_from l o g (bits_of b) ++ run_bits l (drop len (piece ++ more)) runs) (take_at piece more len n)
     ∙ ap (λ b. components_from l o g (bits_of piece) ++ run_bits l b runs) (drop_at piece more len n)
     ∙ ap (λ b. b ++ run_bits l more runs) (run_of_piece l v p.0 p.1 (omega arith) (omega arith) ∙ run_elements l v p.0 p.1)
-    ∙ ap (λ b. flat_map (element_bits l v) (range_with_len p.0 p.1) ++ b) (run_bits_are l v runs rs rest (and_second _ _ h))
+    ∙ ap (λ b. flat_map (element_bits l v) (range_with_len p.0 p.1) ++ b) (run_bits_are l v runs rs rest (second_true _ _ h))
     ∙ sym (flat_map-append (element_bits l v) (range_with_len p.0 p.1) (joined_runs runs))
 
 pub runs_len_is : (l : PackedLayout) (v : List ℕ) (runs : List (ℕ × ℕ)) (rs : List ByteSpan) → spans rs ≡ map (run_span l) runs → end_within (length v) rs ≡ true → length (ranges_bytes v rs) ≡ runs_len l runs
@@ -216,11 +203,11 @@ runs_len_is l v (p ∷ runs) (r ∷ rs) e h =
     let rest = tail_of (r.start, r.end) (run_span l p) (spans rs) (map (run_span l) runs) e in
     let s : r.start ≡ run_start l p = ap (λ (x : ℕ × ℕ). x.0) pair in
     let t : r.end ≡ run_end l p = ap (λ (x : ℕ × ℕ). x.1) pair in
-    let within : r.end ≤ length v = from_nat_le _ _ (and_first _ _ h) in
+    let within : r.end ≤ length v = from_le_test _ _ (first_true _ _ h) in
     let o' = ordered_run l p.0 p.1 in
     let ordered : r.start ≤ r.end = omega arith in
     let n : length (range_bytes v r) ≡ r.end - r.start = length-take-le (r.end - r.start) (drop r.start v) (omega (arith, length-drop r.start v)) in
-    omega (arith, length-append (range_bytes v r) (ranges_bytes v rs), runs_len_is l v runs rs rest (and_second _ _ h))
+    omega (arith, length-append (range_bytes v r) (ranges_bytes v rs), runs_len_is l v runs rs rest (second_true _ _ h))
 
 run_inside_at : (l : PackedLayout) (n start len : ℕ) → IsPackedLayout l → 0 < len → all_below n (flat_map (packed_place_bytes l) (range_with_len start len)) ≡ nat_le (run_end l (start, len)) n
 run_inside_at l n start len s h =
@@ -282,8 +269,8 @@ pub all_at : (q : ℕ → Bool) (s n : ℕ) → list_all q (range_with_len s n) 
 all_at q s zero h k a b = absurd (omega arith)
 all_at q s (suc n) h k a b =
     elim (cases_lt s k) [
-      | inl lt ↦ all_at q (s + 1) n (and_second _ _ h) k (omega arith) (omega arith)
-      | inr le ↦ ap q (let e : k ≡ s = omega arith in e) ∙ and_first _ _ h
+      | inl lt ↦ all_at q (s + 1) n (second_true _ _ h) k (omega arith) (omega arith)
+      | inr le ↦ ap q (let e : k ≡ s = omega arith in e) ∙ first_true _ _ h
     ]
 
 pub all_from : (q : ℕ → Bool) (s n : ℕ) → ((k : ℕ) → s ≤ k → k < s + n → q k ≡ true) → list_all q (range_with_len s n) ≡ true
@@ -302,15 +289,15 @@ run_sure q l start (suc len) s h k a b some =
     let front = flat_map (packed_place_bytes l) (range_with_len start len) in
     let p = start + len in
     let split : flat_map (packed_place_bytes l) (range_with_len start (suc len)) ≡ front ++ packed_place_bytes l p
-    = ap (λ m. flat_map (packed_place_bytes l) (range_with_len start m)) (let e : suc len ≡ len + 1 = omega arith in e) ∙ ap (flat_map (packed_place_bytes l)) (range-more start len)
+    = ap (λ m. flat_map (packed_place_bytes l) (range_with_len start m)) (let e : suc len ≡ len + 1 = omega arith in e) ∙ ap (flat_map (packed_place_bytes l)) (range_more start len)
     ∙ flat_map-append (packed_place_bytes l) (range_with_len start len) (p ∷ []) ∙ ap (λ xs. front ++ xs) (append-nil (packed_place_bytes l p)) in
     let both = all_split q front (packed_place_bytes l p) (sym (ap (list_all q) split) ∙ h) in
     let end : (p + 1) * element_bits_len l ≡ (start + suc len) * element_bits_len l = ap (λ n. n * element_bits_len l) (let e : p + 1 ≡ start + suc len = omega arith in e) in
     let next : (p + 1) * element_bits_len l ≡ p * element_bits_len l + element_bits_len l = omega arith in
-    let here : span_start l p ≤ k → q k ≡ true = λ le. all_at q (span_start l p) (span_end l p - span_start l p) (and_second _ _ both) k le (omega arith) in
+    let here : span_start l p ≤ k → q k ≡ true = λ le. all_at q (span_start l p) (span_end l p - span_start l p) (second_true _ _ both) k le (omega arith) in
     elim (cases_lt k (run_end l (start, len))) [
       | inl lt ↦ (elim (cases_lt 0 len) [
-        | inl more ↦ run_sure q l start len s (and_first _ _ both) k a lt more
+        | inl more ↦ run_sure q l start len s (first_true _ _ both) k a lt more
         | inr none ↦ here (let z : p * element_bits_len l ≡ start * element_bits_len l = ap (λ n. n * element_bits_len l) (let e : p ≡ start = omega arith in e) in omega arith)
       ])
       | inr le ↦ here (let z : p * element_bits_len l ≡ (start + len) * element_bits_len l = refl in omega arith)
@@ -329,10 +316,10 @@ runs_sure q l (p ∷ runs) (r ∷ rs) s h e g =
     let run = is_run l.elements p runs h in
     let both = all_split q (flat_map (packed_place_bytes l) (range_with_len p.0 p.1)) (flat_map (packed_place_bytes l) (joined_runs runs)) (sym (ap (list_all q) (flat_map-append (packed_place_bytes l) (range_with_len p.0 p.1) (joined_runs runs))) ∙ g) in
     let here : list_all q (range_with_len r.start (r.end - r.start)) ≡ true
-    = all_from q r.start (r.end - r.start) (λ k x y. run_sure q l p.0 p.1 s (and_first _ _ both) k (omega arith) (omega arith) run.some) in
+    = all_from q r.start (r.end - r.start) (λ k x y. run_sure q l p.0 p.1 s (first_true _ _ both) k (omega arith) (omega arith) run.some) in
     list_all-append q (range_with_len r.start (r.end - r.start)) (range_indices rs)
     ∙ ap (λ (x : Bool). x && list_all q (range_indices rs)) here
-    ∙ runs_sure q l runs rs s run.rest rest (and_second _ _ both)
+    ∙ runs_sure q l runs rs s run.rest rest (second_true _ _ both)
 
 pub sure_runs : (sure : Option (ℕ → Bool)) (l : PackedLayout) (runs : List (ℕ × ℕ)) (rs ls : List ByteSpan) → IsPackedLayout l → are_runs l.elements runs ≡ true → spans rs ≡ map (run_span l) runs → ls ≡ rs
     → are_sure sure (flat_map (packed_place_bytes l) (joined_runs runs)) ≡ true → are_sure sure (range_indices ls) ≡ true

@@ -9,7 +9,8 @@ use Rattle.std.proofs.lemmas.List.{get_or_at}
 use Rattle.std.proofs.Common.{nat_lt, ◌&&◌}
 use Rattle.std.proofs.lemmas.List.Folds.{list_all-append}
 use Rattle.zarrs_packbits.specs.Bits.{low_bits, bits_of, field}
-use Rattle.zarrs_packbits.proofs.LowBits.{length-bits_of, bits_of-drop, bits_of-take, take-drop-take}
+use Rattle.zarrs_array_bytes.proofs.Pieces.{take-drop-take}
+use Rattle.zarrs_packbits.proofs.LowBits.{length-bits_of, bits_of-drop, bits_of-take}
 use Rattle.zarrs_chunk.specs.declared.codec_error.CodecError.{CodecError}
 use Rattle.zarrs_chunk.specs.declared.codec_error.CodecError.TheVariants.{InvalidBytesLength, PaddingByte}
 use Rattle.zarrs_packbits.specs.declared.layout.PackedLayout.{PackedLayout}
@@ -19,11 +20,12 @@ use Rattle.zarrs_metadata.specs.declared.codec.packbits.PackBitsPaddingEncoding.
 use Rattle.zarrs_packbits.specs.KeptBits.{top_of, full_component, kept_component, component_bits}
 use Rattle.zarrs_packbits.specs.Packing.{packing}
 use Rattle.zarrs_packbits.specs.PaddingByte.{value_len, lead, bytes_before, bytes_behind, padding_holds, padding_is}
-use Rattle.zarrs_packbits.specs.BitStream.{stream_of_bytes}
-use Rattle.zarrs_packbits.proofs.FlatChunk.{nf, encoded, decoded, IsFlatChunk, FlatStands}
+use Rattle.zarrs_packbits.specs.BitStream.{stream_of_bytes, bytes_packed}
+use Rattle.zarrs_packbits.proofs.FlatChunk.{nf, decoded, IsFlatChunk, FlatStands}
 use Rattle.zarrs_packbits.proofs.LayoutLemmas.{chosen}
 use Rattle.zarrs_packbits.specs.PartialRead.{all_below, span_start, span_end, packed_place_bytes}
-use Rattle.zarrs_packbits.proofs.Tests.{to_nat_lt, from_nat_lt, and_first, and_second}
+use Rattle.zarrs_codec.proofs.Fences.{second_true, first_true}
+use Rattle.zarrs_chunk.proofs.Inside.{from_lt_test, lt_test}
 use Rattle.zarrs_packbits.proofs.LocalLemmas.{element_within, flat_range_same}
 use Rattle.zarrs_packbits.proofs.FieldLemmas.{joined_fields}
 use Rattle.zarrs_packbits.proofs.BitLemmas.{AreBits, are_bits-flat_map, are_bits-bits_of, are_bits-widened, are_bits-field, bits_of-packed, bits_of-full, length-bytes_of, bytes_of-small, length-pieces, piece_is}
@@ -38,13 +40,13 @@ widened_len first above sign kept =
     omega (arith, length-append (replicate first 0) (kept ++ replicate above (top_of sign kept)), length-append kept (replicate above (top_of sign kept)), length-replicate {A = ℕ} first 0, length-replicate above (top_of sign kept))
 
 -- a field is found again in its component_bits
-field_of_widened : (first above : ℕ) (sign : Bool) (kept : List ℕ) → field first (length kept) (full_component first above sign kept) ≡ kept
+pub field_of_widened : (first above : ℕ) (sign : Bool) (kept : List ℕ) → field first (length kept) (full_component first above sign kept) ≡ kept
 field_of_widened first above sign kept =
     ap (take (length kept)) (drop_at (replicate first 0) (kept ++ replicate above (top_of sign kept)) first (length-replicate {A = ℕ} first 0))
     ∙ take_at kept (replicate above (top_of sign kept)) (length kept) refl
 
 -- keeping the bits of a component_bits that was made of a field changes nothing
-keep_widened : (first count above : ℕ) (sign : Bool) (kept : List ℕ) → length kept ≡ count → kept_component first count sign (full_component first above sign kept) ≡ full_component first above sign kept
+pub keep_widened : (first count above : ℕ) (sign : Bool) (kept : List ℕ) → length kept ≡ count → kept_component first count sign (full_component first above sign kept) ≡ full_component first above sign kept
 keep_widened first count above sign kept e =
     let n : length (full_component first above sign kept) - (first + count) ≡ above = omega (arith, widened_len first above sign kept) in
     ap (λ k. full_component first k sign (field first count (full_component first above sign kept))) n
@@ -186,14 +188,14 @@ own_bits : (l : PackedLayout) (c : List ℕ) → IsPackedLayout l → length c �
 own_bits l c s e = are_bits-flat_map (own l c) (range_with_len 0 (parts_of l)) (own_fields l c s e).bits
 
 -- what is written_bits stands for the kept chunk
-pub encoded_stands : (l : PackedLayout) (c : List ℕ) → IsPackedLayout l → length c ≡ parts_of l * l.size → FlatStands l (encoded l c) (nf l c)
+pub encoded_stands : (l : PackedLayout) (c : List ℕ) → IsPackedLayout l → length c ≡ parts_of l * l.size → FlatStands l (bytes_packed l c) (nf l c)
 encoded_stands l c s e =
     let spare = spare_of l in
     let bits = stream_of_bytes l c in
     let n = own_len l c s e in
     let tail = packing bits ++ bytes_behind l.padding spare in
     let b = before_len l.padding spare in
-    let cut : drop (lead l) (encoded l c) ≡ tail = drop_at (bytes_before l.padding spare) tail (lead l) b in
+    let cut : drop (lead l) (bytes_packed l c) ≡ tail = drop_at (bytes_before l.padding spare) tail (lead l) b in
     let zeros = replicate (8 * ((length bits + 7) / 8) - length bits) 0 in
     let more = bits_of (bytes_behind l.padding spare) in
     let spread : bits_of tail ≡ bits ++ (zeros ++ more)
@@ -271,7 +273,7 @@ decoded_stands l v c s h =
 range_below : (b s n : ℕ) → s + n ≤ b → all_below b (range_with_len s n) ≡ true
 range_below b s zero h = refl
 range_below b s (suc n) h =
-    ap (λ (x : Bool). x && all_below b (range_with_len (s + 1) n)) (to_nat_lt s b (omega arith)) ∙ range_below b (s + 1) n (omega arith)
+    ap (λ (x : Bool). x && all_below b (range_with_len (s + 1) n)) (lt_test s b (omega arith)) ∙ range_below b (s + 1) n (omega arith)
 
 pub place_inside : (l : PackedLayout) (p : ℕ) → p < l.elements → all_below (value_len l) (packed_place_bytes l p) ≡ true
 place_inside l p h =
@@ -282,5 +284,5 @@ pub places_inside : (l : PackedLayout) (ps : List ℕ) → all_below l.elements 
 places_inside l [] h = refl
 places_inside l (p ∷ ps) h =
     list_all-append (λ k. nat_lt k (value_len l)) (packed_place_bytes l p) (flat_map (packed_place_bytes l) ps)
-    ∙ ap (λ (x : Bool). x && all_below (value_len l) (flat_map (packed_place_bytes l) ps)) (place_inside l p (from_nat_lt _ _ (and_first _ _ h)))
-    ∙ places_inside l ps (and_second _ _ h)
+    ∙ ap (λ (x : Bool). x && all_below (value_len l) (flat_map (packed_place_bytes l) ps)) (place_inside l p (from_lt_test _ _ (first_true _ _ h)))
+    ∙ places_inside l ps (second_true _ _ h)

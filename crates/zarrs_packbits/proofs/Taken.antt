@@ -11,7 +11,8 @@ use Rattle.zarrs_packbits.specs.declared.layout.PackedLayout.{PackedLayout}
 use Rattle.zarrs_packbits.specs.PackBitsSettings.{PackBitsSettings, first_of, last_of, has_bits, layout_for, packed_layout}
 use Rattle.zarrs_packbits.specs.PackedLayout.{IsPackedLayout, is_in_reach}
 use Rattle.zarrs_packbits.proofs.LayoutLemmas.{layout_sound, bare_padding}
-use Rattle.zarrs_packbits.proofs.Tests.{and_first, and_second, from_nat_lt, from_nat_le}
+use Rattle.zarrs_codec.proofs.Fences.{second_true, first_true}
+use Rattle.zarrs_chunk.proofs.Inside.{from_lt_test, from_le_test}
 
 pub record IsTaken (settings : PackBitsSettings) (sizes : List ℕ) (width components : ℕ) (sign : Bool) (fill : List ℕ) (l : PackedLayout) : Type 0 where
   pub is : l ≡ layout_for settings (product sizes) width components sign
@@ -28,8 +29,8 @@ sound_for : (settings : PackBitsSettings) (n width components : ℕ) (sign : Boo
 sound_for settings n width components sign h some reach =
     let first = first_of settings in
     let last = last_of settings width in
-    let ordered : first ≤ last = from_nat_le first last (and_first (nat_le first last) (nat_lt last width) h) in
-    let within : last < width = from_nat_lt last width (and_second (nat_le first last) (nat_lt last width) h) in
+    let ordered : first ≤ last = from_le_test first last (first_true (nat_le first last) (nat_lt last width) h) in
+    let within : last < width = from_lt_test last width (second_true (nat_le first last) (nat_lt last width) h) in
     let size = component_bytes width in
     layout_sound (layout_for settings n width components sign) (let e : 0 < last + 1 - first = omega arith in e) some
     (let e : first + (last + 1 - first) + (8 * size - (last + 1)) ≡ 8 * size = omega arith in e)
@@ -44,8 +45,8 @@ taken settings sizes width components sign fill l e =
     let count = checked_ok n c.0 c.1 in
     let d = bind_ok (demand (is_in_reach (layout_for settings c.0 width components sign)) Overflow) _ l c.2 in
     let both = demand_ok (has_bits settings width && nat_lt 0 components) BitRange b.0 b.1 in
-    let bits = and_first (has_bits settings width) (nat_lt 0 components) both in
-    let some = from_nat_lt 0 components (and_second (has_bits settings width) (nat_lt 0 components) both) in
+    let bits = first_true (has_bits settings width) (nat_lt 0 components) both in
+    let some = from_lt_test 0 components (second_true (has_bits settings width) (nat_lt 0 components) both) in
     let reach = demand_ok (is_in_reach (layout_for settings c.0 width components sign)) Overflow d.0 d.1 in
     let at : l ≡ layout_for settings c.0 width components sign = layout_is _ l d.2 in
     let is : l ≡ layout_for settings n width components sign = at ∙ ap (λ k. layout_for settings k width components sign) count.1 in

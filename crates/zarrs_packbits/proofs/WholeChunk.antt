@@ -28,7 +28,7 @@ use Rattle.zarrs_packbits.specs.PackedLayout.{is_whole, parts_of, spare_of}
 use Rattle.zarrs_packbits.specs.PaddingByte.{value_len, padding_holds, padding_is, value_with}
 use Rattle.zarrs_packbits.proofs.AsBytes.{layout_kept, length_fits, spelling_is, written_as_bytes}
 use Rattle.zarrs_packbits.proofs.Coding.{decoded_holds}
-use Rattle.zarrs_packbits.proofs.Exact.{encoded_only, joined}
+use Rattle.zarrs_packbits.proofs.Exact.{encoded_only, joined, joined_plain}
 use Rattle.zarrs_packbits.proofs.LayoutLemmas.{whole_len, whole_unpacked}
 use Rattle.zarrs_packbits.proofs.Taken.{taken}
 
@@ -56,10 +56,6 @@ have_bytes [] h = All-nil HasBytes
 have_bytes (part ∷ parts) h =
     All-cons HasBytes (plain part) (map plain parts) (small_first part (concat parts) h) (have_bytes parts (small_second part (concat parts) h))
 
-pub joined_parts : (parts : List (List ℕ)) → joined (map plain parts) ≡ concat parts
-joined_parts [] = refl
-joined_parts (part ∷ parts) = ap (λ (l : List ℕ). part ++ l) (joined_parts parts)
-
 -- what `bytes` writes of a container
 pub whole_value : (settings : PackBitsSettings) (sizes : List ℕ) (type : ElementType) (fill value : List ℕ) (held : Held) → keeps_all_bytes (packed_layout settings (form_of sizes type fill)) ≡ true → bytes_value (Some Little) (form_of sizes type fill) held ≡ Ok value → ((i : ℕ) → get_or value i 0 < 256)
     → packbits_value settings (form_of sizes type fill) held ≡ Ok value
@@ -69,7 +65,7 @@ whole_value settings sizes (fixed width components sign) fill value held keeps e
     let chunk = f.0 in
     let written = f.2 in
     let p = pieces_of width components sign chunk written.elements.each in
-    let flat : value ≡ concat p.parts = written.value_is ∙ spelling_is width components sign chunk ∙ ap joined p.are ∙ joined_parts p.parts in
+    let flat : value ≡ concat p.parts = written.value_is ∙ spelling_is width components sign chunk ∙ ap joined p.are ∙ joined_plain p.parts in
     let each : All HasBytes chunk = subst (λ (c : Chunk). All HasBytes c) (sym p.are) (have_bytes p.parts (subst (λ (b : List ℕ). (i : ℕ) → get_or b i 0 < 256) flat small)) in
     encoded_only settings sizes type fill value held chunk f.1 ((written_as_bytes settings sizes type fill value chunk keeps each).1 written)
 whole_value settings sizes text fill value held keeps e small = absurd cc

@@ -34,7 +34,7 @@ use Rattle.zarrs_codec.specs.StorageState.{are_sure}
 use Rattle.zarrs_packbits.specs.PartialRead.{all_below, bytes_of_places, packed_place_bytes, packed_places_bytes, read_packed_places, read_places_of, span_start, span_end}
 use Rattle.zarrs_packbits.proofs.CodecLaws.{read_at}
 use Rattle.zarrs_packbits.proofs.ElementBits.{places_hold}
-use Rattle.zarrs_packbits.proofs.Exact.{joined}
+use Rattle.zarrs_packbits.proofs.Exact.{joined, joined_plain}
 use Rattle.zarrs_packbits.proofs.FieldLemmas.{packed_bytes}
 use Rattle.zarrs_packbits.proofs.LayoutLemmas.{whole_restored}
 use Rattle.zarrs_packbits.proofs.LocalLemmas.{whole_element, whole_start, whole_end}
@@ -42,8 +42,8 @@ use Rattle.zarrs_packbits.proofs.LowBits.{bits_of-drop, bits_of-take}
 use Rattle.zarrs_packbits.proofs.PartReads.{all_read}
 use Rattle.zarrs_packbits.proofs.RunLemmas.{place_end}
 use Rattle.zarrs_packbits.proofs.Taken.{taken}
-use Rattle.zarrs_packbits.proofs.WholeChunk.{joined_parts}
-use Rattle.zarrs_packbits.proofs.Tests.{and_first, and_second, from_nat_le}
+use Rattle.zarrs_codec.proofs.Fences.{second_true, first_true}
+use Rattle.zarrs_chunk.proofs.Inside.{from_le_test}
 
 -- ---- the bytes of places
 
@@ -81,8 +81,8 @@ whole_bits_at : (l : PackedLayout) (v places : List ℕ) → IsPackedLayout l �
 whole_bits_at l v [] s h inside = refl
 whole_bits_at l v (p ∷ ps) s h inside =
     let size = l.group * l.size in
-    let here : p * size + size ≤ length v = from_nat_le _ _ (and_first _ _ inside) in
-    ap₂ (λ (xs ys : List ℕ). xs ++ ys) (whole_bits_of l v p s h here) (whole_bits_at l v ps s h (and_second _ _ inside))
+    let here : p * size + size ≤ length v = from_le_test _ _ (first_true _ _ inside) in
+    ap₂ (λ (xs ys : List ℕ). xs ++ ys) (whole_bits_of l v p s h here) (whole_bits_at l v ps s h (second_true _ _ inside))
     ∙ sym (flat_map-append (low_bits 8) (piece size v p) (concat (map (piece size v) ps)))
 
 -- ---- what a container holds
@@ -105,7 +105,7 @@ held_bytes width components sign raw chunk h =
     let test = demand_ok (length raw.items == n * size) (InvalidBytesLength (length raw.items) (n * size)) tt a.2 in
     let long : length raw.items ≡ n * size = grind (arith, nat_tests) in
     let small : n * size < 2 ^ 64 = grind (arith, nat_tests) in (
-      sym (ap joined (sym h.elements_are ∙ elements-pieces width components sign n raw) ∙ joined_parts (pieces size n raw.items) ∙ concat-pieces size n raw.items long),
+      sym (ap joined (sym h.elements_are ∙ elements-pieces width components sign n raw) ∙ joined_plain (pieces size n raw.items) ∙ concat-pieces size n raw.items long),
       omega arith,
     )
 

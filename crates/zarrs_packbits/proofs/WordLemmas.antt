@@ -9,8 +9,8 @@ use Rattle.std.proofs.lemmas.Nat.{shr_below, shr_high, one_shl, and_mask, xor_bl
 use Rattle.std.proofs.Math.Nat.{mod-eq_of_lt, add-mul-mod_self_right, pow-le-pow_right, div-eq_of_lt}
 use Rattle.zarrs_packbits.specs.Bits.{low_bits, bits_of, field}
 use Rattle.zarrs_packbits.specs.KeptBits.{full_component, top_of, sign_weight}
-use Rattle.zarrs_packbits.proofs.FieldLemmas.{field_more, low_bits_zeros, low_bits_ones}
-use Rattle.zarrs_packbits.proofs.LowBits.{get_or-low_bits, length-low_bits, length-bits_of, low_bits-split, low_bits-cat, low_bits-mod, bits_of-drop, bits_of-take, joined_is}
+use Rattle.zarrs_packbits.proofs.FieldLemmas.{field_more, low_bits_ones}
+use Rattle.zarrs_packbits.proofs.LowBits.{get_or-low_bits, length-low_bits, length-bits_of, low_bits-split, low_bits-cat, low_bits-mod, bits_of-drop, bits_of-take, joined_is, low_bits-zero}
 
 pub low_bits-take : (n m v : ℕ) → n ≤ m → take n (low_bits m v) ≡ low_bits n v
 low_bits-take n m v h =
@@ -130,7 +130,7 @@ sign_bits W count above x false some fits small =
     ∙ mod-eq_of_lt below
     ∙ (let e : x ≡ 0 * 2 ^ count + x = omega arith in e))
     ∙ low_bits-cat count above x 0 small
-    ∙ ap (λ (xs : List ℕ). low_bits count x ++ xs) (low_bits_zeros above)
+    ∙ ap (λ (xs : List ℕ). low_bits count x ++ xs) (low_bits-zero above)
 sign_bits W count above x true some fits small =
     let k = count - 1 in
     let is : k + 1 ≡ count = omega arith in
@@ -141,7 +141,7 @@ sign_bits W count above x true some fits small =
       | inl l ↦ (let none : x / 2 ^ k % 2 ≡ 0 = ap (λ n. n % 2) (div-eq_of_lt l) in
           ap (low_bits (count + above)) (sign_clear W k x (omega arith) l ∙ (let e : x ≡ 0 * 2 ^ count + x = omega arith in e))
           ∙ low_bits-cat count above x 0 small
-          ∙ ap (λ (xs : List ℕ). low_bits count x ++ xs) (low_bits_zeros above)
+          ∙ ap (λ (xs : List ℕ). low_bits count x ++ xs) (low_bits-zero above)
           ∙ ap (λ b. low_bits count x ++ replicate above b) (sym (last ∙ none)))
       | inr g ↦ (let r = x - 2 ^ k in
           let parts : x ≡ 2 ^ k + r = omega arith in
@@ -166,5 +166,5 @@ component_is W first count above x sign some fits small =
     ∙ ap (λ n. low_bits n (wide * 2 ^ first)) (let e : first + count + above ≡ first + (count + above) = omega arith in e)
     ∙ ap (low_bits (first + (count + above))) (let e : wide * 2 ^ first ≡ wide * 2 ^ first + 0 = omega arith in e)
     ∙ low_bits-cat first (count + above) 0 wide (pow_pos first)
-    ∙ ap (λ (xs : List ℕ). xs ++ low_bits (count + above) wide) (low_bits_zeros first)
+    ∙ ap (λ (xs : List ℕ). xs ++ low_bits (count + above) wide) (low_bits-zero first)
     ∙ ap (λ (xs : List ℕ). replicate first 0 ++ xs) (sign_bits W count above x sign some (omega arith) small)

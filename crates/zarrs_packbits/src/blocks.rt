@@ -12,7 +12,7 @@ use std::alloc::AllocError;
 /// The bits of eight bytes, each in a byte.
 #[inline(always)]
 fn spread_bits(from: &[u8; 8]) -> [u8; 64]
-    ensures { result ≡ flat_map (fields_of 1 8) from.now }
+    ensures value { result ≡ flat_map (fields_of 1 8) from.now }
 {
     let mut to = [0u8; 64];
     for place in 0..64usize {
@@ -24,7 +24,7 @@ fn spread_bits(from: &[u8; 8]) -> [u8; 64]
 /// The halves of 64 bytes, each in a byte.
 #[inline(always)]
 fn spread_halves(from: &[u8; 64]) -> [u8; 128]
-    ensures { result ≡ flat_map (fields_of 4 2) from.now }
+    ensures value { result ≡ flat_map (fields_of 4 2) from.now }
 {
     let mut to = [0u8; 128];
     for place in 0..64usize {
@@ -37,7 +37,7 @@ fn spread_halves(from: &[u8; 64]) -> [u8; 128]
 /// The quarters of 16 bytes, each in a byte.
 #[inline(always)]
 fn spread_quarters(from: &[u8; 16]) -> [u8; 64]
-    ensures { result ≡ flat_map (fields_of 2 4) from.now }
+    ensures value { result ≡ flat_map (fields_of 2 4) from.now }
 {
     let mut to = [0u8; 64];
     for place in 0..16usize {
@@ -52,8 +52,8 @@ fn spread_quarters(from: &[u8; 16]) -> [u8; 64]
 /// The bytes whose kept bits are these, from bit `first` on.
 #[inline(always)]
 fn lifted(kept: &[u8; 64], first: u64, weight: u8) -> [u8; 64]
-    requires { first < 8 }
-    ensures { result ≡ map (lifted_byte first weight) kept.now }
+    requires bit { first < 8 }
+    ensures value { result ≡ map (lifted_byte first weight) kept.now }
 {
     let mut to = [0u8; 64];
     for place in 0..64usize {
@@ -65,8 +65,8 @@ fn lifted(kept: &[u8; 64], first: u64, weight: u8) -> [u8; 64]
 /// The same of 128 bytes.
 #[inline(always)]
 fn lifted_wide(kept: &[u8; 128], first: u64, weight: u8) -> [u8; 128]
-    requires { first < 8 }
-    ensures { result ≡ map (lifted_byte first weight) kept.now }
+    requires bit { first < 8 }
+    ensures value { result ≡ map (lifted_byte first weight) kept.now }
 {
     let mut to = [0u8; 128];
     for place in 0..128usize {
@@ -78,8 +78,8 @@ fn lifted_wide(kept: &[u8; 128], first: u64, weight: u8) -> [u8; 128]
 /// The components, from bit `first` on, whose kept bits, one each, stand in eight bytes.
 #[inline(always)]
 fn bit_block(from: &[u8; 8], first: u64, weight: u8) -> [u8; 64]
-    requires { first < 8 }
-    ensures { result ≡ map (lifted_byte first weight) (flat_map (fields_of 1 8) from.now) }
+    requires bit { first < 8 }
+    ensures value { result ≡ map (lifted_byte first weight) (flat_map (fields_of 1 8) from.now) }
 {
     lifted(&spread_bits(from), first, weight)
 }
@@ -87,8 +87,8 @@ fn bit_block(from: &[u8; 8], first: u64, weight: u8) -> [u8; 64]
 /// The components, from bit `first` on, whose kept bits, four each, stand in 64 bytes.
 #[inline(always)]
 fn half_block(from: &[u8; 64], first: u64, weight: u8) -> [u8; 128]
-    requires { first < 8 }
-    ensures { result ≡ map (lifted_byte first weight) (flat_map (fields_of 4 2) from.now) }
+    requires bit { first < 8 }
+    ensures value { result ≡ map (lifted_byte first weight) (flat_map (fields_of 4 2) from.now) }
 {
     let kept = spread_halves(from);
     // Numbers without a sign whose lowest bits are kept stand as they are.
@@ -109,7 +109,8 @@ fn append_last_bits(
     requires size { layout.now.first + layout.now.count + layout.now.above ≡ 8 }
     requires few { parts ≤ 64 }
     requires inside { parts * layout.now.count ≤ 8 * length bytes.now }
-    ensures { AppendsComponents layout.now parts bytes.now out.old.items out.new.items result }
+    ensures appended { AppendsComponents layout.now parts bytes.now out.old.items
+        out.new.items result }
 {
     let left = (parts + 7) / 8;
     let mut from = [0u8; 8];
@@ -130,7 +131,8 @@ pub(crate) fn append_bits_spread(
     requires count { layout.now.count ≡ 1 }
     requires size { layout.now.first + layout.now.count + layout.now.above ≡ 8 }
     requires inside { parts * layout.now.count ≤ 8 * length bytes.now }
-    ensures { AppendsComponents layout.now parts bytes.now out.old.items out.new.items result }
+    ensures appended { AppendsComponents layout.now parts bytes.now out.old.items
+        out.new.items result }
 {
     let PackedLayout {
         first,
@@ -163,7 +165,8 @@ fn append_last_halves(
     requires size { layout.now.first + layout.now.count + layout.now.above ≡ 8 }
     requires few { parts ≤ 128 }
     requires inside { parts * layout.now.count ≤ 8 * length bytes.now }
-    ensures { AppendsComponents layout.now parts bytes.now out.old.items out.new.items result }
+    ensures appended { AppendsComponents layout.now parts bytes.now out.old.items
+        out.new.items result }
 {
     let left = (parts + 1) / 2;
     let mut from = [0u8; 64];
@@ -184,7 +187,8 @@ pub(crate) fn append_halves_spread(
     requires count { layout.now.count ≡ 4 }
     requires size { layout.now.first + layout.now.count + layout.now.above ≡ 8 }
     requires inside { parts * layout.now.count ≤ 8 * length bytes.now }
-    ensures { AppendsComponents layout.now parts bytes.now out.old.items out.new.items result }
+    ensures appended { AppendsComponents layout.now parts bytes.now out.old.items
+        out.new.items result }
 {
     let PackedLayout {
         first,
@@ -209,8 +213,8 @@ pub(crate) fn append_halves_spread(
 /// Four bits of each of 64 bytes, each in a byte.
 #[inline(always)]
 fn cut_halves(from: &[u8; 64], first: u64) -> [u8; 64]
-    requires { first < 8 }
-    ensures { result ≡ map (cut_byte first 4) from.now }
+    requires bit { first < 8 }
+    ensures value { result ≡ map (cut_byte first 4) from.now }
 {
     let mut to = [0u8; 64];
     for place in 0..64usize {
@@ -222,8 +226,8 @@ fn cut_halves(from: &[u8; 64], first: u64) -> [u8; 64]
 /// Numbers of four bits, two of them in a byte.
 #[inline(always)]
 fn join_halves(from: &[u8; 64]) -> [u8; 32]
-    requires { All (λ number. number < 2 ^ 4) from.now }
-    ensures { bits_of result ≡ flat_map (low_bits 4) from.now }
+    requires bits_fit { All (λ number. number < 2 ^ 4) from.now }
+    ensures bits { bits_of result ≡ flat_map (low_bits 4) from.now }
 {
     let mut to = [0u8; 32];
     for place in 0..32usize {
@@ -238,8 +242,8 @@ pub(crate) fn append_halves_joined(
     bytes: &[u8],
     first: u64,
 ) -> Result<(), AllocError>
-    requires { first + 4 ≤ 8 }
-    ensures { AppendsBits out.old.items out.new.items result
+    requires within { first + 4 ≤ 8 }
+    ensures appended { AppendsBits out.old.items out.new.items result
         (byte_fields first 4 (blocks_len bytes.now) bytes.now) }
 {
     let whole = bytes.len() / 64;
@@ -254,8 +258,8 @@ pub(crate) fn append_halves_joined(
 /// The components, from bit `first` on, whose kept bits, two each, stand in 16 bytes.
 #[inline(always)]
 fn quarter_block(from: &[u8; 16], first: u64, weight: u8) -> [u8; 64]
-    requires { first < 8 }
-    ensures { result ≡ map (lifted_byte first weight) (flat_map (fields_of 2 4) from.now) }
+    requires bit { first < 8 }
+    ensures value { result ≡ map (lifted_byte first weight) (flat_map (fields_of 2 4) from.now) }
 {
     lifted(&spread_quarters(from), first, weight)
 }
@@ -271,7 +275,8 @@ fn append_last_quarters(
     requires size { layout.now.first + layout.now.count + layout.now.above ≡ 8 }
     requires few { parts ≤ 64 }
     requires inside { parts * layout.now.count ≤ 8 * length bytes.now }
-    ensures { AppendsComponents layout.now parts bytes.now out.old.items out.new.items result }
+    ensures appended { AppendsComponents layout.now parts bytes.now out.old.items
+        out.new.items result }
 {
     let left = (parts + 3) / 4;
     let mut from = [0u8; 16];
@@ -292,7 +297,8 @@ pub(crate) fn append_quarters_spread(
     requires count { layout.now.count ≡ 2 }
     requires size { layout.now.first + layout.now.count + layout.now.above ≡ 8 }
     requires inside { parts * layout.now.count ≤ 8 * length bytes.now }
-    ensures { AppendsComponents layout.now parts bytes.now out.old.items out.new.items result }
+    ensures appended { AppendsComponents layout.now parts bytes.now out.old.items
+        out.new.items result }
 {
     let PackedLayout {
         first,
@@ -317,8 +323,8 @@ pub(crate) fn append_quarters_spread(
 /// Two bits of each of 64 bytes, each in a byte.
 #[inline(always)]
 fn cut_quarters(from: &[u8; 64], first: u64) -> [u8; 64]
-    requires { first < 8 }
-    ensures { result ≡ map (cut_byte first 2) from.now }
+    requires bit { first < 8 }
+    ensures value { result ≡ map (cut_byte first 2) from.now }
 {
     let mut to = [0u8; 64];
     for place in 0..64usize {
@@ -330,8 +336,8 @@ fn cut_quarters(from: &[u8; 64], first: u64) -> [u8; 64]
 /// Numbers of two bits, four of them in a byte.
 #[inline(always)]
 fn join_quarters(from: &[u8; 64]) -> [u8; 16]
-    requires { All (λ number. number < 2 ^ 2) from.now }
-    ensures { bits_of result ≡ flat_map (low_bits 2) from.now }
+    requires bits_fit { All (λ number. number < 2 ^ 2) from.now }
+    ensures bits { bits_of result ≡ flat_map (low_bits 2) from.now }
 {
     let mut to = [0u8; 16];
     for place in 0..16usize {
@@ -349,8 +355,8 @@ pub(crate) fn append_quarters_joined(
     bytes: &[u8],
     first: u64,
 ) -> Result<(), AllocError>
-    requires { first + 2 ≤ 8 }
-    ensures { AppendsBits out.old.items out.new.items result
+    requires within { first + 2 ≤ 8 }
+    ensures appended { AppendsBits out.old.items out.new.items result
         (byte_fields first 2 (blocks_len bytes.now) bytes.now) }
 {
     let whole = bytes.len() / 64;

@@ -35,7 +35,7 @@ fn spread_word(kept: u64, layout: PackedLayout, lanes: u64, width: u64) -> u64
     requires some { 0 < layout.count }
     requires size { layout.first + layout.count + layout.above ≡ width }
     requires lanes { lanes * width ≡ 64 }
-    ensures { low_bits 64 result
+    ensures bits { low_bits 64 result
         ≡ components_from layout 0 lanes (low_bits (lanes * layout.count) kept) }
 {
     let mut word = 0u64;

@@ -29,14 +29,14 @@ pub(crate) struct PackedLayout {
 impl PackedLayout {
     /// Whether all bits of whole bytes are kept.
     pub(crate) fn is_whole(&self) -> bool
-        ensures { result ≡ is_whole self.now }
+        ensures value { result ≡ is_whole self.now }
     {
         self.first == 0 && self.above == 0
     }
 
     /// Whether a word holds a component.
     pub(crate) fn is_narrow(&self) -> bool
-        ensures { IsTrue result → self.now.first + self.now.count + self.now.above ≤ 64 }
+        ensures fits { IsTrue result → self.now.first + self.now.count + self.now.above ≤ 64 }
     {
         self.first <= 64
             && self.count <= 64
@@ -58,8 +58,8 @@ impl PackedLayout {
     /// Whether 64 bits count the chunk's bytes and, where not all bits of whole bytes are kept, the
     /// kept bits.
     pub(crate) fn is_in_reach(&self) -> bool
-        requires { 0 < self.now.size }
-        ensures { result ≡ is_in_reach self.now }
+        requires sized { 0 < self.now.size }
+        ensures value { result ≡ is_in_reach self.now }
     {
         match self.elements.checked_mul(self.group) {
             None => false,
@@ -72,7 +72,7 @@ impl PackedLayout {
 
     /// How many bytes stand before the packed ones.
     pub(crate) fn lead(&self) -> usize
-        ensures { result ≡ lead self.now }
+        ensures value { result ≡ lead self.now }
     {
         match self.padding {
             PackBitsPaddingEncoding::FirstByte => 1,
@@ -82,7 +82,7 @@ impl PackedLayout {
 
     /// How many bytes stand behind the packed ones.
     fn trail(&self) -> usize
-        ensures { result ≡ trail self.now }
+        ensures value { result ≡ trail self.now }
     {
         match self.padding {
             PackBitsPaddingEncoding::LastByte => 1,
@@ -92,8 +92,8 @@ impl PackedLayout {
 
     /// How many bytes the chunk's value has.
     pub(crate) fn value_len(&self) -> u64
-        requires { IsPackedLayout self.now }
-        ensures { result ≡ value_len self.now }
+        requires layout { IsPackedLayout self.now }
+        ensures value { result ≡ value_len self.now }
     {
         if self.is_whole() {
             return self.elements * self.group * self.size;
@@ -104,8 +104,8 @@ impl PackedLayout {
 
     /// How many bits of the last packed byte hold nothing.
     pub(crate) fn spare(&self) -> u8
-        requires { IsPackedLayout self.now }
-        ensures { result ≡ spare_of self.now }
+        requires layout { IsPackedLayout self.now }
+        ensures value { result ≡ spare_of self.now }
     {
         if self.is_whole() {
             return 0;
@@ -118,7 +118,7 @@ impl PackedLayout {
     pub(crate) fn padding_holds(&self, value: &[u8]) -> bool
         requires layout { IsPackedLayout self.now }
         requires len { length value.now ≡ value_len self.now }
-        ensures { result ≡ padding_holds self.now value.now }
+        ensures value { result ≡ padding_holds self.now value.now }
     {
         match self.padding {
             PackBitsPaddingEncoding::None => true,

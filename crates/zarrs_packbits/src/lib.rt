@@ -6,6 +6,7 @@
 #![tactic(auto)]
 
 mod array_to_bytes;
+mod bit_appends;
 mod bit_places;
 mod bit_writer;
 mod blocks;
@@ -15,6 +16,7 @@ mod layout;
 mod metadata;
 mod packbits_codec;
 mod packbits_partial_decoder;
+mod packed_values;
 mod runs;
 mod words;
 

@@ -10,7 +10,7 @@ use zarrs_metadata::{
 };
 
 fn said(padding: Option<PackBitsPaddingEncoding>) -> PackBitsPaddingEncoding
-    ensures { result ≡ padding_or_none padding }
+    ensures value { result ≡ padding_or_none padding }
 {
     match padding {
         None => PackBitsPaddingEncoding::None,

@@ -2,8 +2,8 @@ ghost use Rattle.zarrs_data_type.specs.Form.{form_of};
 ghost use Rattle.zarrs_array_bytes.specs.Held.{items_of};
 ghost use Rattle.zarrs_codec.specs.Grammar.{Encodes, Decodes};
 ghost use Rattle.zarrs_packbits.specs.PackBitsGrammar.{packbits_grammar};
-ghost use Rattle.std.specs.Prelude.{◌≡◌, ℕ, ◌+◌, ◌*◌, ◌^◌, ◌<◌, ◌++◌, IfOk, Ok, Some, length, true, false, option_map, slice_index};
-ghost use Rattle.zarrs_chunk.specs.Answer.{Answers, is_fault, memory, Gives};
+ghost use Rattle.std.specs.Prelude.{◌≡◌, ℕ, ◌+◌, ◌^◌, ◌<◌, IfOk, Ok, Some, true, false, option_map, slice_index};
+ghost use Rattle.zarrs_chunk.specs.Answer.{Answers, is_fault};
 ghost use Rattle.zarrs_chunk.specs.ChunkShape.{product};
 ghost use Rattle.zarrs_metadata.specs.CodecMetadata.{packbits_name};
 ghost use Rattle.zarrs_metadata.specs.MetadataV3.{configuration_seen};
@@ -12,18 +12,14 @@ ghost use Rattle.zarrs_codec.specs.declared.capabilities.PartialDecoderCapabilit
 ghost use Rattle.zarrs_codec.specs.declared.capabilities.PartialEncoderCapability.{PartialEncoderCapability};
 ghost use Rattle.zarrs_bytes.specs.GivenBytes.{EncodesNow, DecodesNow, IsGiven, HoldsGiven};
 ghost use Rattle.zarrs_codec.specs.MadeAgain.{MadeAgain};
-ghost use Rattle.zarrs_packbits.specs.Bits.{bits_of};
-ghost use Rattle.zarrs_packbits.specs.BitStream.{bytes_packed, bytes_unpacked};
 ghost use Rattle.zarrs_packbits.specs.PackBitsCodec.{packbits_value, packbits_chunk, EncodesInPlace, DecodesInPlace};
 ghost use Rattle.zarrs_packbits.specs.PackBitsSettings.{all_bits, is_reversed, packbits_settings, packbits_represented, packed_layout, first_of, last_of, padding_for, KeepsAllBytes};
-ghost use Rattle.zarrs_packbits.specs.PackedLayout.{IsPackedLayout, is_whole, parts_of};
+ghost use Rattle.zarrs_packbits.specs.PackedLayout.{IsPackedLayout};
 ghost use Rattle.zarrs_packbits.specs.SettingsMetadata.{settings_made, write_settings};
-ghost use Rattle.zarrs_packbits.specs.PaddingByte.{padding_before, padding_behind, value_len};
 
-use crate::bit_writer::BitWriter;
 use crate::layout::PackedLayout;
-use std::alloc::{AllocError, Global};
-use std::borrow::CowSlice;
+use crate::packed_values::{packed_raw, unpacked_raw};
+use std::alloc::Global;
 use std::marker::Model;
 use zarrs_array_bytes::{ArrayBytes, ArrayBytesRaw};
 use zarrs_bytes::BytesCodec;
@@ -66,89 +62,8 @@ impl Model for PackBitsCodec {
 
 /// The bytes are below 256, as all bytes are.
 pub(crate) fn bytes_are(_bytes: &[u8])
-    ensures { (i : ℕ) → slice_index _bytes.now i < 256 }
+    ensures bytes { (i : ℕ) → slice_index _bytes.now i < 256 }
 {}
-
-/// Puts the padding byte, where it stands first.
-fn begun(alloc: Global, layout: &PackedLayout, room: usize) -> Result<BitWriter, AllocError>
-    requires { IsPackedLayout layout.now }
-    ensures { IfOk result (λ w. w ≡ bits_of (padding_before layout.now)) }
-{
-    let mut writer = BitWriter::with_capacity(alloc, room)?;
-    match layout.padding {
-        PackBitsPaddingEncoding::FirstByte => writer.put(layout.spare() as u64, 8)?,
-        _ => {}
-    }
-    Ok(writer)
-}
-
-/// Puts the padding byte, where it stands last.
-fn ended(layout: &PackedLayout, mut value: Vec<u8>) -> Result<Vec<u8>, AllocError>
-    requires { IsPackedLayout layout.now }
-    ensures { IfOk result (λ v. v.items ≡ value.items ++ padding_behind layout.now) }
-{
-    match layout.padding {
-        PackBitsPaddingEncoding::LastByte => value.push(layout.spare())?,
-        _ => {}
-    }
-    Ok(value)
-}
-
-/// The value of a chunk, of its elements' bytes joined.
-fn packed_value(alloc: Global, layout: &PackedLayout, bytes: &[u8]) -> Result<Vec<u8>, AllocError>
-    requires layout { IsPackedLayout layout.now }
-    requires last_fits { layout.now.first + layout.now.count < 2 ^ 64 }
-    requires len { length bytes.now ≡ parts_of layout.now * layout.now.size }
-    ensures { IfOk result (λ v. v.items ≡ bytes_packed layout.now bytes.now) }
-{
-    let mut writer = begun(alloc, layout, layout.value_len() as usize)?;
-    writer.put_stream(layout, bytes)?;
-    let value = ended(layout, writer.finish()?)?;
-    Ok(value)
-}
-
-/// The bytes of the elements of the chunk that a value of the right length stands for, joined.
-fn unpacked_bytes(alloc: Global, layout: &PackedLayout, value: &[u8]) -> Result<Vec<u8>, AllocError>
-    requires layout { IsPackedLayout layout.now }
-    requires in_part { is_whole layout.now ≡ false }
-    requires len { length value.now ≡ value_len layout.now }
-    ensures { IfOk result (λ v. v.items ≡ bytes_unpacked layout.now value.now) }
-{
-    let parts = layout.elements * layout.group;
-    let mut writer = BitWriter::with_capacity(alloc, (parts * layout.size) as usize)?;
-    writer.put_components(layout, &value[layout.lead()..], 0, parts)?;
-    writer.finish()
-}
-
-/// The value of a chunk, of its elements' bytes, which are let go.
-fn packed_raw<'a>(
-    alloc: Global,
-    layout: &PackedLayout,
-    raw: ArrayBytesRaw<'_>,
-) -> Result<ArrayBytesRaw<'a>, CodecError>
-    requires layout { IsPackedLayout layout.now }
-    requires last_fits { layout.now.first + layout.now.count < 2 ^ 64 }
-    requires len { length (items_of raw) ≡ parts_of layout.now * layout.now.size }
-    ensures exact { Gives items_of result (Ok (bytes_packed layout.now (items_of raw.entry))) }
-{
-    let value = packed_value(alloc, layout, &raw)?;
-    Ok(CowSlice::Owned(value))
-}
-
-/// The bytes of the elements of the chunk that a value stands for, which is let go.
-fn unpacked_raw<'a>(
-    alloc: Global,
-    layout: &PackedLayout,
-    value: ArrayBytesRaw<'_>,
-) -> Result<ArrayBytesRaw<'a>, CodecError>
-    requires layout { IsPackedLayout layout.now }
-    requires in_part { is_whole layout.now ≡ false }
-    requires len { length (items_of value) ≡ value_len layout.now }
-    ensures exact { Gives items_of result (Ok (bytes_unpacked layout.now (items_of value.entry))) }
-{
-    let bytes = unpacked_bytes(alloc, layout, &value)?;
-    Ok(CowSlice::Owned(bytes))
-}
 
 impl PackBitsCodec {
     /// The codec that keeps the bits `first_bit` to `last_bit` of each component, by default all of
@@ -189,7 +104,7 @@ impl PackBitsCodec {
 
     /// The last bit that is kept of a component of so many bits.
     fn last(&self, bits: u64) -> u64
-        requires { 0 < bits }
+        requires some { 0 < bits }
         ensures value { result ≡ last_of self.now bits }
     {
         match self.last_bit {

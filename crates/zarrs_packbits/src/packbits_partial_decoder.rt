@@ -39,7 +39,8 @@ pub struct PackBitsPartialDecoder<H> {
 
 /// The bytes of elements of one size are below 256, as all bytes are.
 fn elements_are_bytes(elements: &ArrayBytes<'_>)
-    ensures { (raw : Raw) → elements.now ≡ flen raw → (i : ℕ) → slice_index raw.items i < 256 }
+    ensures bytes { (raw : Raw) → elements.now ≡ flen raw → (i : ℕ)
+        → slice_index raw.items i < 256 }
 {
     if let Ok(bytes) = elements.as_fixed() {
         bytes_are(bytes);

@@ -54,7 +54,7 @@ fn put_runs(
     requires filled { All (λ run. 0 < run.1) runs.now }
     requires below { All (λ run. run.0 + run.1 ≤ layout.now.elements) runs.now }
     requires len { length bytes.now ≡ runs_len layout.now runs.now }
-    ensures { Puts writer.old writer.new result (run_bits layout.now bytes.now runs.now) }
+    ensures appended { Puts writer.old writer.new result (run_bits layout.now bytes.now runs.now) }
 {
     let mut at = 0;
     for (start, len) in runs {
@@ -69,7 +69,7 @@ fn put_runs(
 
 /// How many places the runs have, or `u64::MAX` where they have more.
 fn count_of(runs: &[(u64, u64)]) -> u64
-    ensures { result ≡ min (length (joined_runs runs.now)) (2 ^ 64 - 1) }
+    ensures count { result ≡ min (length (joined_runs runs.now)) (2 ^ 64 - 1) }
 {
     let mut count: u64 = 0;
     for (_, len) in runs {
@@ -90,7 +90,7 @@ fn unpack_runs(
     requires filled { All (λ run. 0 < run.1) runs.now }
     requires below { All (λ run. run.0 + run.1 ≤ layout.now.elements) runs.now }
     requires len { length bytes.now ≡ runs_len layout.now runs.now }
-    ensures { IfOk result (λ v. v.items ≡ packing (run_bits layout.now bytes.now runs.now)) }
+    ensures value { IfOk result (λ v. v.items ≡ packing (run_bits layout.now bytes.now runs.now)) }
 {
     let element = layout.group.saturating_mul(layout.size);
     let room = count_of(runs).saturating_mul(element);
@@ -102,8 +102,9 @@ fn unpack_runs(
 /// The fill element for each place of the runs. It is the same for each, so the places are counted,
 /// and nothing is made run by run. No memory has room for `u64::MAX` of them.
 fn fill_runs(alloc: Global, fill: &[u8], runs: &[(u64, u64)]) -> Result<Vec<u8>, AllocError>
-    requires { 0 < length fill.now }
-    ensures { IfOk result (λ bytes. bytes.items ≡ flat_map (λ _. fill.now) (joined_runs runs.now)) }
+    requires fill_some { 0 < length fill.now }
+    ensures value { IfOk result
+        (λ bytes. bytes.items ≡ flat_map (λ _. fill.now) (joined_runs runs.now)) }
 {
     let count = count_of(runs);
     let room = fill.len().saturating_mul(count as usize);

@@ -52,7 +52,7 @@ fn eight_flags(bytes: &[u8; 8], bit: u64) -> u64
 fn gather_word(bytes: &[u8], bit: u64) -> u64
     requires count { length bytes.now ≡ 64 }
     requires bit { bit < 8 }
-    ensures { low_bits 64 result ≡ flags_of bit bytes.now }
+    ensures bits { low_bits 64 result ≡ flags_of bit bytes.now }
 {
     let mut word = 0u64;
     for index in 0..8usize {
@@ -83,15 +83,15 @@ pub(crate) fn gather_flags(bytes: &[u8], bit: u64) -> u64
 
 /// The bits of eight bytes as a number.
 fn read_word(bytes: &[u8; 8]) -> u64
-    ensures { low_bits 64 result ≡ bits_of bytes.now }
+    ensures bits { low_bits 64 result ≡ bits_of bytes.now }
 {
     u64::from_le_bytes(*bytes)
 }
 
 /// The bits of fewer than eight bytes as a number.
 fn last_word(bytes: &[u8]) -> u64
-    requires { length bytes.now < 8 }
-    ensures { low_bits (8 * length bytes.now) result ≡ bits_of bytes.now }
+    requires len { length bytes.now < 8 }
+    ensures bits { low_bits (8 * length bytes.now) result ≡ bits_of bytes.now }
 {
     let mut eight = [0u8; 8];
     eight[..bytes.len()].copy_from_slice(bytes);
@@ -102,7 +102,7 @@ fn last_word(bytes: &[u8]) -> u64
 #[inline(always)]
 fn word_from(bytes: &[u8], start: usize) -> u64
     requires start { start ≤ length bytes.now }
-    ensures { IsWordFrom bytes.now start result }
+    ensures bits { IsWordFrom bytes.now start result }
 {
     if bytes.len() - start < 8 {
         return last_word(&bytes[start..]);
@@ -115,8 +115,8 @@ fn word_from(bytes: &[u8], start: usize) -> u64
 /// The lowest bits of a number, so many.
 #[inline(always)]
 pub(crate) fn lowest(word: u64, count: u32) -> u64
-    requires { count ≤ 64 }
-    ensures { result ≡ word % 2 ^ count }
+    requires count { count ≤ 64 }
+    ensures value { result ≡ word % 2 ^ count }
 {
     if count < 64 {
         word & ((1 << count) - 1)
@@ -150,7 +150,7 @@ pub(crate) fn read_bits(bytes: &[u8], at: u64, count: u32) -> u64
 pub(crate) fn weight_of_sign(count: u64, sign: bool) -> u64
     requires some { 0 < count }
     requires count { count ≤ 64 }
-    ensures { result ≡ sign_weight sign count }
+    ensures value { result ≡ sign_weight sign count }
 {
     if sign { 1 << (count - 1) } else { 0 }
 }

@@ -1,13 +1,13 @@
 -- Pieces in order, and the bytes that they have.
-use Rattle.std.proofs.Common.{◌≡◌, ℕ, zero, suc, ◌+◌, ◌-◌, ◌<◌, ◌≤◌, Bool, true, false, ◌&&◌, nat_le, nat_lt, Option, Some, None, is_some, List, [], ◌∷◌, length, map, take, drop, get_or, refl, sym, ap, ◌∙◌, arith, length-drop}
+use Rattle.std.proofs.Common.{◌≡◌, ℕ, zero, suc, ◌+◌, ◌-◌, ◌<◌, ◌≤◌, Bool, true, Some, None, List, [], ◌∷◌, length, take, drop, get_or, refl, sym, ap, ◌∙◌, arith}
 use Rattle.std.specs.List.{between, list_all, range_with_len}
 use Rattle.std.proofs.lemmas.Bool.Decides.{nat_tests}
 use Rattle.std.proofs.lemmas.List.{ext_get_or}
 use Rattle.std.proofs.Math.Seq.{take-length}
 use Rattle.std.proofs.lemmas.List.Edits.{get_or-between, length-between}
-use Rattle.std.proofs.lemmas.List.FromFn.{get_or-map-range_with_len, length-map-range_with_len, length-range_with_len}
+use Rattle.std.proofs.lemmas.List.FromFn.{get_or-map-range_with_len, length-map-range_with_len}
 use Rattle.zarrs_pieces.specs.declared.piece.Piece.{Piece}
-use Rattle.zarrs_pieces.specs.Pieces.{PlainPiece, piece_seen, pieces_seen, has_byte, piece_with, are_apart, is_at_hand, byte_at, value_with}
+use Rattle.zarrs_pieces.specs.Pieces.{PlainPiece, piece_seen, pieces_seen, piece_with, are_apart, byte_at, value_with}
 
 -- no piece has a byte before the first one
 none_below : (len free n : ℕ) (ps : List PlainPiece) → are_apart len free ps ≡ true → n < free → piece_with ps n ≡ None

@@ -9,7 +9,7 @@ use zarrs_codec::ByteRange;
 
 /// Appends a range, unless it is empty.
 fn push_filled(joined: &mut Vec<ByteRange>, start: u64, end: u64) -> Result<(), AllocError>
-    ensures { OnOk result (joined.new.items ≡ joined.old.items ++ filled start end []) }
+    ensures appended { OnOk result (joined.new.items ≡ joined.old.items ++ filled start end []) }
 {
     if start < end {
         if let Some(range) = ByteRange::new(start..end) {
@@ -21,7 +21,7 @@ fn push_filled(joined: &mut Vec<ByteRange>, start: u64, end: u64) -> Result<(), 
 
 /// Joins ranges none of which begins before the one before it.
 fn join_rising(alloc: Global, ranges: &[ByteRange]) -> Result<Vec<ByteRange>, AllocError>
-    ensures { IfOk result (λ joined. joined.items ≡ joined_from 0 0 ranges.now) }
+    ensures value { IfOk result (λ joined. joined.items ≡ joined_from 0 0 ranges.now) }
 {
     let mut joined = Vec::new(alloc);
     let mut start = 0u64;

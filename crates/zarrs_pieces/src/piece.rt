@@ -2,8 +2,9 @@
 ghost use Rattle.std.specs.Prelude.{◌≡◌, IfOk, IfErr, IfSome, Ok, true, false, length, ◌-◌, ◌<◌, ◌≤◌};
 ghost use Rattle.std.specs.List.{range_with_len};
 ghost use Rattle.std.specs.Option.{option_map};
-ghost use Rattle.zarrs_chunk.specs.Answer.{Answers, memory_or_fault, is_fault};
+ghost use Rattle.zarrs_chunk.specs.Answer.{Answers, memory_or_fault};
 ghost use Rattle.zarrs_codec.specs.ByteRanges.{read_value, range_indices, IsPieceOf};
+ghost use Rattle.zarrs_codec.specs.HandleCalls.{NeverFailsIf};
 ghost use Rattle.zarrs_pieces.specs.Pieces.{has_byte as is_inside, piece_with as first_with, are_apart as stand_apart, are_at_hand, value_with, piece_seen, pieces_seen, IsOutside};
 
 use crate::lent_handle::{append_piece, room_for};
@@ -80,9 +81,8 @@ fn part_of<'a>(len: u64, pieces: &[Piece<'a>], range: &ByteRange) -> Result<&'a 
     ensures inside { IfOk result (λ part.
         IsPieceOf (value_with len (pieces_seen pieces.now)) range.now part.now) }
     ensures outside { IfErr result (IsOutside (value_with len (pieces_seen pieces.now)) range.now) }
-    ensures sure { are_at_hand (pieces_seen pieces.now)
-        (range_with_len range.now.start (range.now.end - range.now.start)) ≡ true →
-        is_fault result ≡ false }
+    ensures sure { NeverFailsIf (are_at_hand (pieces_seen pieces.now)
+        (range_with_len range.now.start (range.now.end - range.now.start))) result }
 {
     let start = range.start();
     let end = range.end();
@@ -113,8 +113,8 @@ pub(crate) fn gather(
     requires apart { stand_apart len 0 (pieces_seen pieces.now) ≡ true }
     ensures answer { Answers memory_or_fault (λ bytes. bytes.items) result
         (read_value (value_with len (pieces_seen pieces.now)) ranges.now) }
-    ensures sure { are_at_hand (pieces_seen pieces.now) (range_indices ranges.now) ≡ true →
-        is_fault result ≡ false }
+    ensures sure { NeverFailsIf (are_at_hand (pieces_seen pieces.now) (range_indices ranges.now))
+        result }
 {
     let mut bytes = Vec::with_capacity(alloc, room_for(len, ranges))?;
     for range in ranges {
@@ -129,9 +129,8 @@ pub(crate) fn whole(alloc: Global, len: u64, pieces: &[Piece<'_>]) -> Result<Vec
     requires apart { stand_apart len 0 (pieces_seen pieces.now) ≡ true }
     ensures answer { Answers memory_or_fault (λ bytes. bytes.items) result
         (Ok (value_with len (pieces_seen pieces.now))) }
-    ensures sure { are_at_hand (pieces_seen pieces.now)
-        (range_with_len 0 (length (value_with len (pieces_seen pieces.now)))) ≡ true →
-        is_fault result ≡ false }
+    ensures sure { NeverFailsIf (are_at_hand (pieces_seen pieces.now)
+        (range_with_len 0 (length (value_with len (pieces_seen pieces.now))))) result }
 {
     let Some(range) = ByteRange::new(0..len) else {
         return Err(CodecError::InvalidByteRange);

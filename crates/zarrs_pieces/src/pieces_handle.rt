@@ -29,7 +29,8 @@ impl<'a> PiecesHandle<'a> {
     /// don't come in order, with at least a byte between one and the next, or one ends behind the
     /// value.
     pub fn new(len: u64, pieces: Vec<Piece<'a>>) -> Result<PiecesHandle<'a>, CodecError>
-        ensures answer { seen pieces_state result ≡ made_state len (pieces_seen pieces.entry.items) }
+        ensures answer { seen pieces_state result
+            ≡ made_state len (pieces_seen pieces.entry.items) }
     {
         if !are_apart(len, pieces.as_slice()) {
             return Err(CodecError::InvalidByteRange);

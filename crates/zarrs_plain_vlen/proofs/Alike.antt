@@ -3,7 +3,7 @@ use Rattle.std.proofs.Common.{◌≡◌, ℕ, ◌-◌, ◌≤◌, Bool, true, fa
 use Rattle.std.specs.List.{All, between, list_all}
 use Rattle.std.proofs.lemmas.Bool.{and_parts}
 use Rattle.std.proofs.lemmas.Bool.Decides.{nat_tests}
-use Rattle.std.proofs.lemmas.List.Elements.{All-cons, All-tail}
+use Rattle.std.proofs.lemmas.List.Elements.{All-tail}
 use Rattle.zarrs_chunk.specs.Answer.{◌>>=◌, demand, seen}
 use Rattle.zarrs_chunk.specs.declared.codec_error.CodecError.{CodecError}
 use Rattle.zarrs_chunk.specs.declared.codec_error.CodecError.TheVariants.{InvalidBytesLength, IndexLength, InvalidByteRange}
@@ -22,14 +22,7 @@ use Rattle.zarrs_plain_vlen.proofs.ElementBytes.{numbers_at, cut_numbered}
 use Rattle.zarrs_plain_vlen.proofs.LayoutParts.{parts_at, parts_are}
 use Rattle.zarrs_bytes.proofs.Ranges.{take_drop-numbers}
 use Rattle.zarrs_plain_vlen.proofs.RangesRead.{byte_of}
-
-all_left : {X : Type 0} (P : X → Type 0) (xs ys : List X) → All P (xs ++ ys) → All P xs
-all_left P [] ys h = λ k d l. absurd (omega arith)
-all_left P (x ∷ xs) ys h = All-cons P x xs (h 0 x (omega arith)) (all_left P xs ys (All-tail P x (xs ++ ys) h))
-
-all_right : {X : Type 0} (P : X → Type 0) (xs ys : List X) → All P (xs ++ ys) → All P ys
-all_right P [] ys h = h
-all_right P (x ∷ xs) ys h = all_right P xs ys (All-tail P x (xs ++ ys) h)
+use Rattle.zarrs_bytes.proofs.Alike.{All-first, All-second}
 
 map_alike : (f g : ℕ → ℕ) (xs : List ℕ) → All (λ x. f x ≡ g x) xs → map f xs ≡ map g xs
 map_alike f g [] h = refl
@@ -114,12 +107,12 @@ module _ (form : PlainForm) (count : ℕ) (value other places : List ℕ) (long 
   chunk_alike start end offsets [] ordered inside there h = refl
   chunk_alike start end offsets (place ∷ ps) ordered inside there h =
       let both = and_parts (is_there offsets (end - start) place) (list_all (is_there offsets (end - start)) ps) there in
-      let first = all_left Same (numbers_at start offsets place) (element_numbers start offsets ps) h in
+      let first = All-first Same (numbers_at start offsets place) (element_numbers start offsets ps) h in
       let cuts : cut offsets (between start end value) place ≡ cut offsets (between start end other) place =
       cut_numbered value start end offsets place ordered inside both.0
       ∙ map_alike (byte_of value) (byte_of other) (numbers_at start offsets place) first
       ∙ sym (cut_numbered other start end offsets place ordered (omega (arith, inside, long)) both.0) in
-      ap₂ (λ (c : List ℕ) (cs : Chunk). plain c ∷ cs) cuts (chunk_alike start end offsets ps ordered inside both.1 (all_right Same (numbers_at start offsets place) (element_numbers start offsets ps) h))
+      ap₂ (λ (c : List ℕ) (cs : Chunk). plain c ∷ cs) cuts (chunk_alike start end offsets ps ordered inside both.1 (All-second Same (numbers_at start offsets place) (element_numbers start offsets ps) h))
 
   chunk_if : (test : Bool) (span : ByteSpan) (offsets : List ℕ) → list_all (is_there offsets (span.end - span.start)) places ≡ test → IsInside n span → All Same (element_numbers span.start offsets places)
       → (demand test InvalidByteRange >>= λ _. ok (map (λ place. plain (cut offsets (span_bytes value span) place)) places)) ≡ (demand test InvalidByteRange >>= λ _. ok (map (λ place. plain (cut offsets (span_bytes other span) place)) places))
@@ -171,10 +164,10 @@ module _ (form : PlainForm) (count : ℕ) (value other places : List ℕ) (long 
       let head = numbers_in (seen span_numbers (head_of form.at_end n)) in
       let index = numbers_in (seen (λ layout. span_numbers layout.index) (layout_of form.at_end value)) in
       let elements = numbers_in (elements_at form count value places) in
-      let later = all_right Same head (index ++ elements) h in
+      let later = All-second Same head (index ++ elements) h in
       read_is value
-      ∙ from_layout (layout_of form.at_end value) (λ l e. layout_known (head_of form.at_end n) l refl e) (all_left Same index elements later) (all_right Same index elements later)
-      ∙ ap (read_at other) (layout_alike (all_left Same head (index ++ elements) h))
+      ∙ from_layout (layout_of form.at_end value) (λ l e. layout_known (head_of form.at_end n) l refl e) (All-first Same index elements later) (All-second Same index elements later)
+      ∙ ap (read_at other) (layout_alike (All-first Same head (index ++ elements) h))
       ∙ sym (read_is other)
 
 pub reads_alike : ReadsAlike

@@ -21,7 +21,7 @@ use Rattle.zarrs_array_bytes.proofs.ElementLemmas.{cut_at, length_ends}
 use Rattle.zarrs_array_bytes.proofs.OffsetLemmas.{rising_steps, rising_last, ends_rise, offsets_end, ends-append, flat_map-concat}
 use Rattle.zarrs_array_bytes.proofs.RunLemmas.{rising_between, ends_of_run, flat_map-take_runs, joined_runs-take_more}
 use Rattle.zarrs_array_bytes.proofs.ValidLemmas.{length_due}
-use Rattle.zarrs_packbits.proofs.LowBits.{take-drop-take}
+use Rattle.zarrs_array_bytes.proofs.Pieces.{take-drop-take}
 use Rattle.zarrs_plain_vlen.specs.Elements.{blank_element}
 use Rattle.zarrs_plain_vlen.specs.VlenRead.{is_there, element_numbers}
 use Rattle.zarrs_bytes.proofs.Ranges.{take_drop-numbers, all_below-range}

@@ -1,8 +1,6 @@
 -- A read in part, step by step, and the bytes that each step reads.
 use Rattle.std.proofs.Common.{◌≡◌, ℕ, ◌+◌, ◌<◌, ◌≤◌, Bool, true, Option, Some, None, List, ◌++◌, length, Result, Ok, Err, arith, refl, ap, sym, ◌∙◌}
-use Rattle.std.specs.List.{All, list_all}
-use Rattle.std.proofs.lemmas.Bool.{and_parts}
-use Rattle.std.proofs.lemmas.List.Folds.{list_all-append}
+use Rattle.std.specs.List.{All}
 use Rattle.zarrs_chunk.specs.Answer.{◌>>=◌, seen}
 use Rattle.zarrs_chunk.specs.declared.codec_error.CodecError.{CodecError}
 use Rattle.zarrs_data_type.specs.Element.{Chunk}
@@ -17,6 +15,7 @@ use Rattle.zarrs_plain_vlen.specs.PlainRead.{plain_read}
 use Rattle.zarrs_plain_vlen.specs.VlenRead.{stored_vlen_read, offsets_read, elements_read, vlen_read, numbers_in, elements_at, rests_on}
 use Rattle.zarrs_plain_vlen.proofs.IndexOffsets.{offsets_long}
 use Rattle.zarrs_plain_vlen.proofs.LayoutParts.{parts_at, parts_are}
+use Rattle.zarrs_bytes.proofs.BytesAt.{sure_parts}
 
 next_err : {A B : Type 0} (r : Result A CodecError) (cause : CodecError) (f : A → Result B CodecError) → r ≡ Err cause → (r >>= f) ≡ err cause
 next_err r cause f e = rw e refl
@@ -43,10 +42,6 @@ module _ (form : PlainForm) (count : ℕ) (value places : List ℕ) where
 
 -- ---- sure bytes
 
-sure_both : (sure : Option (ℕ → Bool)) (xs ys : List ℕ) → are_sure sure (xs ++ ys) ≡ true → (are_sure sure xs ≡ true) × (are_sure sure ys ≡ true)
-sure_both None xs ys h = absurd cc
-sure_both (Some sure) xs ys h = and_parts (list_all sure xs) (list_all sure ys) (sym (list_all-append sure xs ys) ∙ h)
-
 module _ (form : PlainForm) (count : ℕ) (value places : List ℕ) (sure : Option (ℕ → Bool)) (h : are_sure sure (rests_on form count value places) ≡ true) where
   abbrev pub head : List ℕ
   head = numbers_in (seen span_numbers (head_of form.at_end (length value)))
@@ -59,7 +54,7 @@ module _ (form : PlainForm) (count : ℕ) (value places : List ℕ) (sure : Opti
 
   pub sure_index : (layout : VlenLayout) → layout_of form.at_end value ≡ Ok layout → are_sure sure (span_numbers layout.index) ≡ true
   sure_index layout e =
-      let both = sure_both sure index elements (sure_both sure head (index ++ elements) h).1 in
+      let both = sure_parts sure index elements (sure_parts sure head (index ++ elements) h).1 in
       ap (λ (r : Result VlenLayout CodecError). are_sure sure (numbers_in (seen (λ layout. span_numbers layout.index) r))) (sym e) ∙ both.0
 
 -- ---- runs

@@ -1,5 +1,5 @@
 -- Elements of any length are never absent.
-use Rattle.std.proofs.Common.{◌≡◌, true, Option, None, Result, refl}
+use Rattle.std.proofs.Common.{◌≡◌, true, None, Result, refl}
 use Rattle.std.specs.Prelude.{IfOk}
 use Rattle.zarrs_chunk.specs.declared.codec_error.CodecError.{CodecError}
 use Rattle.zarrs_data_type.specs.ElementType.{ElementType, fixed, text, bytes, optional, inner_of, is_variable}

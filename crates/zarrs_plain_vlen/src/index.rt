@@ -1,6 +1,6 @@
 //! The offsets of a value.
 ghost use Rattle.std.specs.Prelude.{◌≡◌, ◌≤◌, ◌<◌, ◌∷◌, [], true, false, Ok, IfOk, is_some, length};
-ghost use Rattle.zarrs_chunk.specs.Answer.{Answers, is_fault, memory};
+ghost use Rattle.zarrs_chunk.specs.Answer.{Gives, is_fault};
 ghost use Rattle.zarrs_codec.specs.StorageState.{after_reading};
 ghost use Rattle.zarrs_chain_laws.specs.vlen.PlainVlen.{plain_form};
 ghost use Rattle.zarrs_chain_laws.specs.vlen.VlenSettings.{is_wide};
@@ -54,8 +54,7 @@ fn count_offsets(count: u64, data_type: VlenIndexDataType, found: u64) -> Result
 /// The shape of a row of so many elements.
 fn row_of(alloc: Global, count: u64) -> Result<ChunkShape, CodecError>
     requires some { 0 < count }
-    ensures answer { Answers memory (λ shape. shape) result (Ok (count ∷ [])) }
-    ensures no_fault { is_fault result ≡ false }
+    ensures answer { Gives (λ shape. shape) result (Ok (count ∷ [])) }
 {
     let sizes = vec![in alloc; count; 1]?;
     match ChunkShape::new(sizes) {
@@ -73,7 +72,6 @@ fn index_rows(
 ) -> Result<ArrayBytes<'static>, CodecError>
     requires some { 0 < count }
     ensures answer { GivesIndex (plain_form codec) count index.items result }
-    ensures no_fault { is_fault result ≡ false }
 {
     let shape = row_of(alloc, count)?;
     let fill_value = offset_fill(alloc, codec.index_data_type)?;

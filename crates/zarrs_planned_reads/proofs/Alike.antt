@@ -1,11 +1,10 @@
 -- Values that agree at the planned bytes are read alike.
-use Rattle.std.proofs.Common.{◌≡◌, ℕ, zero, suc, ◌+◌, ◌*◌, ◌<◌, ◌≤◌, ◌&&◌, Bool, true, false, nat_le, nat_lt, Option, Some, None, List, [], ◌∷◌, length, slice_index, get_or, Result, Ok, Err, if◌then◌else◌, refl, ap, sym, ◌∙◌, subst, arith}
+use Rattle.std.proofs.Common.{◌≡◌, ℕ, zero, suc, ◌+◌, ◌*◌, ◌<◌, ◌≤◌, Bool, true, false, nat_le, nat_lt, Option, Some, None, List, [], ◌∷◌, length, slice_index, get_or, Result, Ok, Err, if◌then◌else◌, refl, ap, sym, ◌∙◌, subst, arith}
 use Rattle.std.specs.List.{All, list_all, range_with_len}
 use Rattle.std.proofs.lemmas.Bool.{and_from}
 use Rattle.std.proofs.lemmas.Bool.Decides.{nat_tests}
 use Rattle.std.proofs.lemmas.List.Folds.{list_all-append}
-use Rattle.zarrs_chunk.specs.Answer.{◌>>=◌, demand, seen}
-use Rattle.zarrs_chunk.specs.Selection.{Selection}
+use Rattle.zarrs_chunk.specs.Answer.{◌>>=◌}
 use Rattle.zarrs_chunk.specs.declared.codec_error.CodecError.{CodecError}
 use Rattle.zarrs_data_type.specs.Element.{Chunk}
 use Rattle.zarrs_data_type.specs.ElementType.{ElementType}
@@ -23,8 +22,8 @@ use Rattle.zarrs_chain_laws.specs.Chain.{taken_form}
 use Rattle.zarrs_chain_laws.specs.PlainChain.{PlainCodec, bytes_codec, packbits_codec, vlen_codec, optional_codec}
 use Rattle.zarrs_bytes.proofs.Coding.{ok, bind_ok}
 use Rattle.zarrs_codec_chain.specs.ChunkRead.{ChunkForm, asks_in_part, codec_plans, codec_read, codec_rests_on, encoded_places, outer_stored, reads_places}
-use Rattle.zarrs_planned_reads.specs.PlannedReads.{ArePlanned, PlannedIsAsked, PlannedReadsAlike, SizedReadsAlike}
-use Rattle.zarrs_packbits.proofs.Tests.{from_nat_lt, from_nat_le}
+use Rattle.zarrs_planned_reads.specs.PlannedReads.{PlannedIsAsked, PlannedReadsAlike, SizedReadsAlike}
+use Rattle.zarrs_chunk.proofs.Inside.{from_lt_test, from_le_test}
 
 -- ---- bytes inside values of one length
 
@@ -32,7 +31,7 @@ use Rattle.zarrs_packbits.proofs.Tests.{from_nat_lt, from_nat_le}
 abbrev pub Agree : List ℕ → List ℕ → List ℕ → Type 0
 Agree value other numbers = All (λ number. slice_index value number ≡ slice_index other number) numbers
 
-passes_at : (test : ℕ → Bool) (numbers : List ℕ) (k d : ℕ) → list_all test numbers ≡ true → k < length numbers → test (get_or numbers k d) ≡ true
+pub passes_at : (test : ℕ → Bool) (numbers : List ℕ) (k d : ℕ) → list_all test numbers ≡ true → k < length numbers → test (get_or numbers k d) ≡ true
 passes_at test [] k d all l = absurd (omega arith)
 passes_at test (n ∷ numbers) zero d all l = grind (arith, nat_tests)
 passes_at test (n ∷ numbers) (suc k) d all l = grind (arith, nat_tests, passes_at test numbers k d)
@@ -41,7 +40,7 @@ passes_at test (n ∷ numbers) (suc k) d all l = grind (arith, nat_tests, passes
 same_bytes : (value other numbers : List ℕ) → length value ≡ length other → all_below (length value) numbers ≡ true → Agree value other numbers → All (SameByte value other) numbers
 same_bytes value other numbers long inside same k d l =
     let n : ℕ = get_or numbers k d in
-    let here : n < length value = from_nat_lt n (length value) (passes_at (λ number. nat_lt number (length value)) numbers k d inside l) in
+    let here : n < length value = from_lt_test n (length value) (passes_at (λ number. nat_lt number (length value)) numbers k d inside l) in
     record { in_value = here; in_other = omega (arith, here, long); same = same k d l }
 
 row_below : (start len count : ℕ) → start + len ≤ count → all_below count (range_with_len start len) ≡ true
@@ -56,7 +55,7 @@ places_below type value (place ∷ places) all =
     let first : has_place type value place ≡ true = grind (arith, nat_tests) in
     let rest : list_all (has_place type value) places ≡ true = grind (arith, nat_tests) in
     list_all-append (λ number. nat_lt number (length value)) (range_with_len (place * size) size) (place_bytes size places)
-    ∙ and_from _ _ (row_below (place * size) size (length value) (from_nat_le _ _ first)) (places_below type value places rest)
+    ∙ and_from _ _ (row_below (place * size) size (length value) (from_le_test _ _ first)) (places_below type value places rest)
 
 -- ---- values of one length
 

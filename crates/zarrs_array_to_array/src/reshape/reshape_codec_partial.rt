@@ -26,7 +26,7 @@ impl ReshapeCodec {
         data_type: &DataType,
         fill_value: &FillValue,
     ) -> Result<(ReshapeCodec, ChunkShape), CodecError>
-        ensures { MakesParts (λ codec. codec) self.now (reshape self.now)
+        ensures answer { MakesParts (λ codec. codec) self.now (reshape self.now)
             (form_of shape.now data_type.now fill_value.now) result }
     {
         self.encoded_representation(alloc, shape, data_type, fill_value)?;

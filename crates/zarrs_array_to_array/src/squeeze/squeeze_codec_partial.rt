@@ -26,7 +26,7 @@ impl SqueezeCodec {
         data_type: &DataType,
         fill_value: &FillValue,
     ) -> Result<(SqueezeCodec, ChunkShape), CodecError>
-        ensures { MakesParts (λ codec. codec) self.now squeeze
+        ensures answer { MakesParts (λ codec. codec) self.now squeeze
             (form_of shape.now data_type.now fill_value.now) result }
     {
         self.encoded_representation(alloc, shape, data_type, fill_value)?;

@@ -26,7 +26,8 @@ fn transposed_pieces(
     requires fits { product sizes.now < 2 ^ 64 }
     requires sized { 0 < size }
     requires whole { length bytes.now ≡ product sizes.now * size }
-    ensures { IfOk result (λ v. v.items ≡ transposed_bytes size order.now sizes.now bytes.now) }
+    ensures value { IfOk result
+        (λ v. v.items ≡ transposed_bytes size order.now sizes.now bytes.now) }
 {
     let axes = ordered_axes(alloc, order, sizes)?;
     gather_axes(alloc, bytes, size, axes.as_slice())

@@ -129,15 +129,7 @@ fn goes_along(
     let count = region.num_elements()?;
     let held = lent(ELEMENTS);
     held.validate(count, &form.data_type)?;
-    let (window, held) = encoded_window(
-        alloc,
-        codecs,
-        &form.shape,
-        region,
-        held,
-        &form.data_type,
-        &form.fill_value,
-    )?;
+    let (window, held) = encoded_window(alloc, codecs, &form.shape, region, held, &form.data_type)?;
     is_moved(rt, &window, &held)
 }
 

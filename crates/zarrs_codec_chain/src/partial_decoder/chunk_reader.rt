@@ -1,6 +1,6 @@
 //! Reading a chunk in part through a chain, over a handle that the caller keeps.
 ghost use Rattle.zarrs_data_type.specs.Form.{form_of};
-ghost use Rattle.std.specs.Prelude.{◌≡◌, ◌<◌, ◌≤◌, ◌+◌, ◌^◌, All, Ok, IfOk, IfSome, length, is_ok, is_some, true, false};
+ghost use Rattle.std.specs.Prelude.{◌≡◌, ◌<◌, ◌≤◌, ◌+◌, ◌^◌, All, Ok, IfOk, IfSome, Some, option_map, length, is_ok, is_some, true, false};
 ghost use Rattle.zarrs_chunk.specs.Answer.{Answers, fault, is_fault, Gives};
 ghost use Rattle.zarrs_chunk.specs.ChunkShape.{product};
 ghost use Rattle.zarrs_chunk.specs.Indexer.{selection_of};
@@ -9,11 +9,12 @@ ghost use Rattle.zarrs_chunk.specs.Selection.{subset as subset_of};
 ghost use Rattle.zarrs_chunk.specs.Tuples.{is_box_inside};
 ghost use Rattle.zarrs_data_type.specs.FillValue.{fill_fits};
 ghost use Rattle.zarrs_array_bytes.specs.Blank.{AbsentAreBlank};
+ghost use Rattle.zarrs_codec.specs.HandleCalls.{NeverFailsIf};
 ghost use Rattle.zarrs_codec.specs.StorageState.{after_reading};
 ghost use Rattle.zarrs_array_regions.specs.KeptRegions.{keeps_regions};
 ghost use Rattle.zarrs_chain_laws.specs.Chain.{chain_reads, codec_reads as codec_reads_of, taken_form as taken_form_of};
 ghost use Rattle.zarrs_chain_whole.specs.ChainView.{plain_chain};
-ghost use Rattle.zarrs_codec_chain.specs.ChunkRead.{reads_places, WhereSure, ReadsChunk, HasForm, form_places, RefusedAtSelection, PlansRead};
+ghost use Rattle.zarrs_codec_chain.specs.ChunkRead.{WhereSure, ReadsChunk, HasForm, form_places, RefusedAtSelection, form_in_place};
 ghost use Rattle.zarrs_codec_chain.specs.ChunkSource.{cache_fits, cache_stage as cache_stage_of, held_by, is_kept, is_there, wants_cache};
 ghost use Rattle.zarrs_codec_chain.specs.CacheBlank.{CacheIsBlank, CacheIsBlank-prop};
 ghost use Rattle.zarrs_codec_chain.specs.RefusedFirst.{RefusedFirst};
@@ -21,17 +22,19 @@ ghost use Rattle.zarrs_chain_laws.specs.Laws.{IsChainOfMappings};
 ghost use Rattle.zarrs_chain_laws.specs.Representation.{codec_representation};
 
 use crate::partial_decoder::cache::{Cache, CacheStage};
-use crate::partial_decoder::codec_read::{planned_runs, plans_reads};
+use crate::partial_decoder::codec_read::codec_in_place;
 use crate::partial_decoder::encoded_runs::encoded_runs;
 use crate::partial_decoder::make_cache::{cache_stage, make_cache};
 use std::alloc::Global;
 use zarrs_array_bytes::ArrayBytes;
 use zarrs_array_regions::{decoded_window, kept_region, last_window};
+use zarrs_array_to_array::encoded_places;
+use zarrs_bytes::BytesCodec;
 use zarrs_chain_whole::CodecChain;
 use zarrs_chain_whole::stages::{chain_is_sound, taken_form};
 use zarrs_chunk::{ArraySubset, ChunkShape, CodecError, Indexer};
 use zarrs_codec::{
-    ByteRange, BytesPartialDecoderTraits, BytesRepresentation, BytesToBytesCodecTraits, CodecTraits,
+    BytesPartialDecoderTraits, BytesRepresentation, BytesToBytesCodecTraits, CodecTraits,
 };
 use zarrs_data_type::{DataType, FillValue};
 
@@ -56,7 +59,7 @@ pub(crate) struct ChunkReader<'a, B: BytesToBytesCodecTraits> {
 }
 
 impl<'a, B: BytesToBytesCodecTraits> ChunkReader<'a, B> {
-    ghost use Rattle.zarrs_codec_chain.specs.ChunkReader.{IsFilledFrom, reader_form, reader_is_cached, reader_source, MeasuresReader, MakesReader, ReadsSelection, IsKeptRegion};
+    ghost use Rattle.zarrs_codec_chain.specs.ChunkReader.{IsFilledFrom, reader_form, reader_is_cached, reader_source, MeasuresReader, MakesReader, ReadsSelection, IsKeptRegion, reader_region};
 
     /// A reader of such a chunk without a cache. Refusals: those of the chain's representation.
     pub(crate) fn uncached(
@@ -187,8 +190,26 @@ impl<'a, B: BytesToBytesCodecTraits> ChunkReader<'a, B> {
         )
     }
 
+    /// The same places one by one.
+    fn places(&self, alloc: Global, indexer: &Indexer) -> Result<Vec<u64>, CodecError>
+        ensures answer { Gives (λ places. places.items) result
+            (form_places (reader_form self.now) (selection_of indexer.now)) }
+        ensures below { IfOk result
+            (λ places. All (λ place. place < product self.now.encoded) places.items) }
+    {
+        self.is_sound();
+        encoded_places(
+            alloc,
+            self.chain.array_to_array_codecs(),
+            &self.shape,
+            indexer,
+        )
+    }
+
     /// The box that the indexer means, where it goes through the array codecs as a box.
     pub(crate) fn kept_region<'i>(&self, indexer: &'i Indexer) -> Option<&'i ArraySubset>
+        ensures region { option_map (λ region. region.now) result
+            ≡ reader_region self.now (selection_of indexer.now) }
         ensures region_kept { IfSome result
             (λ region. IsKeptRegion self.now (selection_of indexer.now) region.now) }
     {
@@ -216,7 +237,7 @@ impl<'a, B: BytesToBytesCodecTraits> ChunkReader<'a, B> {
             (subset_of region.now) (is_fault result ≡ false) }
         ensures left { H.state handle.new ≡ after_reading result (H.state handle.old) }
         ensures same_reference { H.lent handle.new ≡ H.lent handle.old }
-        ensures no_fault_if_cached { is_kept self.now.cache ≡ true → is_fault result ≡ false }
+        ensures no_fault_if_cached { NeverFailsIf (is_kept self.now.cache) result }
     {
         self.is_sound();
         let codecs = self.chain.array_to_array_codecs();
@@ -232,6 +253,45 @@ impl<'a, B: BytesToBytesCodecTraits> ChunkReader<'a, B> {
             &self.data_type,
             &self.fill_value,
         )
+    }
+
+    /// The codec `bytes`, where the indexer is a list of tuples whose bytes are asked for by
+    /// themselves: there are no bytes codecs, and nothing is kept.
+    fn lister(&self, indexer: &Indexer) -> Option<&BytesCodec>
+        ensures writes_in_place { IfSome result
+            (λ codec. form_in_place (reader_form self.now) ≡ Some codec.now) }
+        ensures uncached { IfSome result (λ _. self.now.cache ≡ Cache.Handle) }
+    {
+        match (&self.cache, indexer) {
+            (Cache::Handle, Indexer::Indices(_)) => codec_in_place(self.chain),
+            _ => None,
+        }
+    }
+
+    /// The elements that a list of tuples means, in its order, over `bytes` alone: the places' bytes
+    /// are read a batch at a time, and no list of runs is made. Refusals, the first that holds,
+    /// `OutOfMemory` aside: those of `Indexer::check`; `Storage`; `InvalidByteRange`.
+    fn read_listed<H: BytesPartialDecoderTraits>(
+        &self,
+        alloc: Global,
+        codec: &BytesCodec,
+        handle: &mut H,
+        indexer: &Indexer,
+    ) -> Result<ArrayBytes<'static>, CodecError>
+        requires writes_in_place { form_in_place (reader_form self.now) ≡ Some codec.now }
+        requires uncached { self.now.cache ≡ Cache.Handle }
+        ensures answer { ReadsSelection B.functions self.now
+            (H.state handle.old).value (selection_of indexer.now) result }
+        ensures blank { IfOk result (AbsentAreBlank self.now.data_type) }
+        ensures indexer_first { RefusedAtSelection self.now.shape self.now.data_type
+            (selection_of indexer.now) result }
+        ensures sure { WhereSure B.functions (reader_form self.now) (H.state handle.old)
+            (selection_of indexer.now) (is_fault result ≡ false) }
+        ensures left { H.state handle.new ≡ after_reading result (H.state handle.old) }
+        ensures same_reference { H.lent handle.new ≡ H.lent handle.old }
+    {
+        let places = self.places(alloc, indexer)?;
+        codec.read_places(alloc, handle, &self.data_type, &self.fill_value, places)
     }
 
     /// The elements that the indexer means, in its order. Refusals, the first that holds,
@@ -253,10 +313,13 @@ impl<'a, B: BytesToBytesCodecTraits> ChunkReader<'a, B> {
             (selection_of indexer.now) (is_fault result ≡ false) }
         ensures left { H.state handle.new ≡ after_reading result (H.state handle.old) }
         ensures same_reference { H.lent handle.new ≡ H.lent handle.old }
-        ensures no_fault_if_cached { is_kept self.now.cache ≡ true → is_fault result ≡ false }
+        ensures no_fault_if_cached { NeverFailsIf (is_kept self.now.cache) result }
     {
         if let Some(region) = self.kept_region(indexer) {
             return self.read_region(alloc, handle, region);
+        }
+        if let Some(codec) = self.lister(indexer) {
+            return self.read_listed(alloc, codec, handle, indexer);
         }
         let runs = self.runs(alloc, indexer)?;
         self.read_runs(alloc, handle, &runs)
@@ -275,7 +338,7 @@ impl<'a, B: BytesToBytesCodecTraits> ChunkReader<'a, B> {
         ensures reads { ReadsChunk B.functions (reader_form self.now) (H.state handle.old)
             (selection_of indexer.now) result }
         ensures blank { IfOk result (AbsentAreBlank self.now.data_type) }
-        ensures no_fault_if_cached { reader_is_cached self.now ≡ true → is_fault result ≡ false }
+        ensures no_fault_if_cached { NeverFailsIf (reader_is_cached self.now) result }
         ensures left { H.state handle.new ≡ after_reading result (H.state handle.old) }
         ensures same_reference { H.lent handle.new ≡ H.lent handle.old }
     {
@@ -290,10 +353,10 @@ impl<'a, B: BytesToBytesCodecTraits> ChunkReader<'a, B> {
     ) -> Result<bool, CodecError>
         ensures answer { Answers fault (λ there. there) result
             (Ok (is_there (reader_source self.now (H.state handle.old).value))) }
-        ensures sure { is_some (H.state handle.old).sure ≡ true → is_fault result ≡ false }
+        ensures sure { NeverFailsIf (is_some (H.state handle.old).sure) result }
         ensures left { H.state handle.new ≡ after_reading result (H.state handle.old) }
         ensures same_reference { H.lent handle.new ≡ H.lent handle.old }
-        ensures no_fault_if_cached { is_kept self.now.cache ≡ true → is_fault result ≡ false }
+        ensures no_fault_if_cached { NeverFailsIf (is_kept self.now.cache) result }
     {
         match &self.cache {
             Cache::Handle => handle.exists(),
@@ -313,41 +376,5 @@ impl<'a, B: BytesToBytesCodecTraits> ChunkReader<'a, B> {
             Cache::Chunk(None) => 0,
             Cache::Chunk(Some(chunk)) => chunk.size(),
         }
-    }
-
-    /// The ranges of bytes that a read asks for, where it asks for the bytes of its places alone.
-    /// Refusals: those of `Indexer::check`; `OutOfMemory`.
-    pub(crate) fn planned_ranges(
-        &self,
-        alloc: Global,
-        indexer: &Indexer,
-    ) -> Result<Option<Vec<ByteRange>>, CodecError>
-        ensures plan { PlansRead B.functions (reader_form self.now)
-            (selection_of indexer.now) result }
-    {
-        let runs = self.runs(alloc, indexer)?;
-        if !asks_for_places(self.chain) {
-            return Ok(None);
-        }
-        let ranges = planned_runs::<B>(
-            alloc,
-            self.chain.array_to_bytes_codec(),
-            &self.encoded,
-            &self.data_type,
-            &self.fill_value,
-            &runs,
-        )?;
-        Ok(Some(ranges))
-    }
-}
-
-/// Whether a read asks for the bytes of its places alone.
-fn asks_for_places<B: BytesToBytesCodecTraits>(chain: &CodecChain<B>) -> bool
-    ensures value { result ≡
-        reads_places (plain_chain chain.now).outer (plain_chain chain.now).codec }
-{
-    match chain.bytes_to_bytes_codecs() {
-        [] => plans_reads(chain.array_to_bytes_codec()),
-        _ => false,
     }
 }

@@ -1,6 +1,6 @@
 //! Reading runs of places through a codec to bytes, of a handle or of bytes in memory.
 ghost use Rattle.zarrs_data_type.specs.Form.{form_of};
-ghost use Rattle.std.specs.Prelude.{◌≡◌, ◌<◌, ◌≤◌, ◌+◌, ◌^◌, IfOk, All, is_ok, length, option_map, true, false};
+ghost use Rattle.std.specs.Prelude.{◌≡◌, ◌<◌, ◌≤◌, ◌+◌, ◌^◌, [], IfOk, All, is_ok, length, option_map, true, false};
 ghost use Rattle.zarrs_chunk.specs.Answer.{AnswersBy, memory, memory_or_fault, is_fault, no_refusal, GivesBy};
 ghost use Rattle.zarrs_chunk.specs.ChunkShape.{product};
 ghost use Rattle.zarrs_chunk.specs.Runs.{joined_runs};
@@ -8,14 +8,15 @@ ghost use Rattle.zarrs_array_bytes.specs.Blank.{AbsentAreBlank};
 ghost use Rattle.zarrs_array_bytes.specs.Validity.{Holds};
 ghost use Rattle.zarrs_codec.specs.StorageState.{after_reading, are_sure};
 ghost use Rattle.zarrs_chain_laws.specs.Chain.{codec_reads as codec_reads_of};
-ghost use Rattle.zarrs_chain_whole.specs.ChainView.{plain_codec};
-ghost use Rattle.zarrs_codec_chain.specs.ChunkRead.{codec_plans, codec_read, codec_rests_on, IsCodecPlan, TakenBy, ReadsRuns, SureRuns, GivesRuns, PlansRuns};
+ghost use Rattle.zarrs_chain_whole.specs.ChainView.{plain_chain, plain_codec};
+ghost use Rattle.zarrs_codec_chain.specs.ChunkRead.{codec_plans, codec_read, codec_rests_on, order_in_place, IsCodecPlan, TakenBy, ReadsRuns, SureRuns, GivesRuns, PlansRuns};
 ghost use Rattle.zarrs_chain_laws.specs.Representation.{codec_representation};
 
 use crate::vlen::vlen_runs::vlen_runs;
 use std::alloc::Global;
 use zarrs_array_bytes::ArrayBytes;
-use zarrs_chain_whole::ArrayToBytesCodec;
+use zarrs_bytes::BytesCodec;
+use zarrs_chain_whole::{ArrayToBytesCodec, CodecChain};
 use zarrs_chunk::{ChunkShape, CodecError};
 use zarrs_codec::{ByteRange, BytesPartialDecoderTraits, BytesToBytesCodecTraits};
 use zarrs_data_type::{DataType, FillValue};
@@ -96,6 +97,31 @@ pub(crate) fn plans_reads<B>(codec: &ArrayToBytesCodec<B>) -> bool
     match codec {
         ArrayToBytesCodec::Bytes(_) | ArrayToBytesCodec::PackBits(_) => true,
         ArrayToBytesCodec::Vlen(_) | ArrayToBytesCodec::Optional(_) => false,
+    }
+}
+
+/// The codec `bytes`, where this is one.
+#[tactic(auto, unfolding(zarrs_chain_whole::specs::ChainView::plain_codec), using(zarrs_chain_whole::specs::ChainView::plain_vlen_at, zarrs_chain_whole::specs::ChainView::plain_optional_at))]
+fn as_bytes<B>(codec: &ArrayToBytesCodec<B>) -> Option<&BytesCodec>
+    ensures value { option_map (λ codec. codec.now) result ≡
+        order_in_place {B = B} [] (plain_codec codec.now) }
+{
+    match codec {
+        ArrayToBytesCodec::Bytes(codec) => Some(codec),
+        ArrayToBytesCodec::PackBits(_)
+        | ArrayToBytesCodec::Vlen(_)
+        | ArrayToBytesCodec::Optional(_) => None,
+    }
+}
+
+/// The codec `bytes`, where the chain has no bytes codecs around it.
+pub(crate) fn codec_in_place<B>(chain: &CodecChain<B>) -> Option<&BytesCodec>
+    ensures value { option_map (λ codec. codec.now) result ≡
+        order_in_place (plain_chain chain.now).outer (plain_chain chain.now).codec }
+{
+    match chain.bytes_to_bytes_codecs() {
+        [] => as_bytes(chain.array_to_bytes_codec()),
+        _ => None,
     }
 }
 

@@ -54,7 +54,7 @@ fn codecs_left<B: BytesToBytesCodecTraits>(codecs: &[B]) -> Option<usize>
 /// Where a cache stands, by what the codec to bytes reads in part and by how many bytes codecs it
 /// leaves.
 fn stage_of(codec: PartialDecoderCapability, left: Option<usize>) -> CacheStage
-    ensures { result ≡ stage_by codec left }
+    ensures value { result ≡ stage_by codec left }
 {
     if !codec.partial_decode {
         return CacheStage::Chunk;

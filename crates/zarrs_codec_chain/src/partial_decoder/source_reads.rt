@@ -5,6 +5,7 @@ ghost use Rattle.zarrs_chunk.specs.ChunkShape.{product};
 ghost use Rattle.zarrs_chunk.specs.Runs.{joined_runs};
 ghost use Rattle.zarrs_array_bytes.specs.Blank.{AbsentAreBlank};
 ghost use Rattle.zarrs_array_bytes.specs.Held.{items_of};
+ghost use Rattle.zarrs_codec.specs.HandleCalls.{NeverFailsIf};
 ghost use Rattle.zarrs_codec.specs.StorageState.{after_reading};
 ghost use Rattle.zarrs_chain_whole.specs.ChainView.{plain_chain};
 ghost use Rattle.zarrs_codec_chain.specs.ChunkSource.{bytes_above, is_kept};
@@ -195,7 +196,7 @@ impl<'a, B: BytesToBytesCodecTraits> ChunkReader<'a, B> {
         ensures sure { SureSource self.now (H.state handle.old) runs.now result }
         ensures left { H.state handle.new ≡ after_reading result (H.state handle.old) }
         ensures same_reference { H.lent handle.new ≡ H.lent handle.old }
-        ensures no_fault_if_cached { is_kept self.now.cache ≡ true → is_fault result ≡ false }
+        ensures no_fault_if_cached { NeverFailsIf (is_kept self.now.cache) result }
     {
         match &self.cache {
             Cache::Handle => {

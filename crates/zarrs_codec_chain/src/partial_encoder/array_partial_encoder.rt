@@ -1,9 +1,10 @@
 ghost use Rattle.zarrs_codec_chain.specs.ChunkReader.{reader_is_cached};
 ghost use Rattle.std.specs.Prelude.{◌≡◌, ◌<◌, ◌&&◌, All, Ok, IfOk, None, option_map, is_some, true, false};
-ghost use Rattle.zarrs_chunk.specs.Answer.{Answers, fault, memory, is_fault, GivesBy};
+ghost use Rattle.zarrs_chunk.specs.Answer.{Answers, fault, memory, GivesBy};
 ghost use Rattle.zarrs_chunk.specs.Indexer.{selection_of};
 ghost use Rattle.zarrs_array_bytes.specs.Blank.{AbsentAreBlank};
 ghost use Rattle.zarrs_codec.specs.BytesToBytesCodec.{AreBytes};
+ghost use Rattle.zarrs_codec.specs.HandleCalls.{NeverFailsIf};
 ghost use Rattle.zarrs_chain_laws.specs.Chain.{chain_reads, chain_writes};
 ghost use Rattle.zarrs_codec_chain.specs.ChunkWrite.{EditsChunk, form_encodes_parts};
 ghost use Rattle.zarrs_codec_chain.specs.ChunkRead.{IsReadPlan, planned_places, ReadsChunk, PlansRead, form_decodes_parts};
@@ -91,8 +92,7 @@ impl<'a, H: BytesPartialEncoderTraits, B: BytesToBytesCodecTraits> ArrayPartialE
     pub fn exists(&mut self) -> Result<bool, CodecError>
         ensures answer { Answers fault (λ there. there) result
             (Ok (is_some (H.state (encoder_handle self.old)).value)) }
-        ensures sure { is_some (H.state (encoder_handle self.old)).sure ≡ true →
-            is_fault result ≡ false }
+        ensures sure { NeverFailsIf (is_some (H.state (encoder_handle self.old)).sure) result }
         ensures left { EncoderReads H.state H.lent self.old self.new result }
     {
         self.handle.exists()
@@ -106,9 +106,11 @@ impl<'a, H: BytesPartialEncoderTraits, B: BytesToBytesCodecTraits> ArrayPartialE
     }
 
     /// The ranges, in bytes of the stored value, that a read asks for, where it asks for the bytes
-    /// of its places alone: they are these bytes and no others. `None` where bytes codecs, or
-    /// chains inside the codec to bytes, stand in the way. Refusals, the first that holds: those of
-    /// `Indexer::check`; `OutOfMemory`.
+    /// of its places alone: they are these bytes and no others. They come in the order in which the
+    /// places do, neighbours joined; over `bytes` those of a box that goes through the array codecs
+    /// as one in the order in which they stand. `None` where bytes codecs, or chains inside the
+    /// codec to bytes, stand in the way. Refusals, the first that holds: those of `Indexer::check`;
+    /// `OutOfMemory`.
     pub fn planned_ranges(
         &self,
         alloc: Global,

@@ -8,10 +8,11 @@ ghost use Rattle.zarrs_codec.specs.CodersOverHandles.{HandleWrites, OnlyWrites};
 ghost use Rattle.zarrs_codec.specs.ChunkEdits.{data_checked};
 ghost use Rattle.zarrs_codec.specs.StorageState.{after_writing, apart_from_value};
 ghost use Rattle.zarrs_chain_laws.specs.Chain.{chain_writes};
-ghost use Rattle.zarrs_codec_chain.specs.ChunkWrite.{stored_written, form_in_place, WritesChunk, WritesSelection, WriteRefusedAtSelection, RefusedAtData, UntouchedAtData, form_encodes_parts};
+ghost use Rattle.zarrs_codec_chain.specs.ChunkRead.{form_in_place};
+ghost use Rattle.zarrs_codec_chain.specs.ChunkWrite.{stored_written, WritesChunk, WritesSelection, WriteRefusedAtSelection, RefusedAtData, UntouchedAtData, form_encodes_parts};
 
 use crate::partial_decoder::chunk_reader::ChunkReader;
-use crate::partial_encoder::place_writer::codec_in_place;
+use crate::partial_decoder::codec_read::codec_in_place;
 use std::alloc::Global;
 use zarrs_array_bytes::ArrayBytes;
 use zarrs_chunk::{CodecError, Indexer};

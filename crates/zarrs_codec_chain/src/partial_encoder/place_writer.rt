@@ -11,8 +11,9 @@ ghost use Rattle.zarrs_codec.specs.ArrayWriter.{IsRefusedWrite};
 ghost use Rattle.zarrs_codec.specs.CodersOverHandles.{HandleWrites, OnlyWrites};
 ghost use Rattle.zarrs_codec.specs.ChunkEdits.{data_checked};
 ghost use Rattle.zarrs_codec.specs.StorageState.{after_writing, apart_from_value};
-ghost use Rattle.zarrs_chain_whole.specs.ChainView.{plain_chain, plain_codec};
-ghost use Rattle.zarrs_codec_chain.specs.ChunkWrite.{order_in_place, selection_left, written_places, WritesChunk, WritesSelection, WriteRefusedAtSelection, RefusedAtData, UntouchedAtData, form_written, form_checked, FitsRuns, form_in_place, LendsData, LeavesThere};
+ghost use Rattle.zarrs_chain_whole.specs.ChainView.{plain_chain};
+ghost use Rattle.zarrs_codec_chain.specs.ChunkWrite.{selection_left, written_places, WritesChunk, WritesSelection, WriteRefusedAtSelection, RefusedAtData, UntouchedAtData, form_written, form_checked, FitsRuns, LendsData, LeavesThere};
+ghost use Rattle.zarrs_codec_chain.specs.ChunkRead.{form_in_place};
 ghost use Rattle.zarrs_array_regions.specs.KeptRegions.{keeps_regions};
 
 use crate::partial_decoder::chunk_reader::ChunkReader;
@@ -22,34 +23,8 @@ use std::borrow::CowSlice;
 use zarrs_array_bytes::ArrayBytes;
 use zarrs_array_regions::encoded_window;
 use zarrs_bytes::BytesCodec;
-use zarrs_chain_whole::{ArrayToBytesCodec, CodecChain};
 use zarrs_chunk::{ArraySubset, CodecError, Indexer};
 use zarrs_codec::{BytesPartialEncoderTraits, BytesToBytesCodecTraits};
-
-/// The codec `bytes`, where this is one.
-#[tactic(auto, unfolding(zarrs_chain_whole::specs::ChainView::plain_codec), using(zarrs_chain_whole::specs::ChainView::plain_vlen_at, zarrs_chain_whole::specs::ChainView::plain_optional_at))]
-fn as_bytes<B>(codec: &ArrayToBytesCodec<B>) -> Option<&BytesCodec>
-    ensures value { option_map (λ codec. codec.now) result ≡
-        order_in_place {B = B} [] (plain_codec codec.now) }
-{
-    match codec {
-        ArrayToBytesCodec::Bytes(codec) => Some(codec),
-        ArrayToBytesCodec::PackBits(_)
-        | ArrayToBytesCodec::Vlen(_)
-        | ArrayToBytesCodec::Optional(_) => None,
-    }
-}
-
-/// The codec `bytes`, where the chain has no bytes codecs around it.
-pub(crate) fn codec_in_place<B>(chain: &CodecChain<B>) -> Option<&BytesCodec>
-    ensures value { option_map (λ codec. codec.now) result ≡
-        order_in_place (plain_chain chain.now).outer (plain_chain chain.now).codec }
-{
-    match chain.bytes_to_bytes_codecs() {
-        [] => as_bytes(chain.array_to_bytes_codec()),
-        _ => None,
-    }
-}
 
 impl<'a, B: BytesToBytesCodecTraits> ChunkReader<'a, B> {
     ghost use Rattle.zarrs_codec_chain.specs.ChunkReader.{reader_form};
@@ -117,14 +92,13 @@ impl<'a, B: BytesToBytesCodecTraits> ChunkReader<'a, B> {
         requires region_kept { keeps_regions (plain_chain self.now.chain.now).arrays ≡ true }
         ensures same_edit { IfOk result (λ there. LeavesThere B.functions (reader_form self.now)
             self.now.encoded codec.now (subset_of region.now) elements.now there.0.items there.1) }
-        ensures checked { Answers memory (λ _. tt) result
+        ensures checked { Gives (λ _. tt) result
             (form_checked (reader_form self.now) (subset_of region.now) elements.now) }
         ensures filled { IfOk result (λ there. All (λ run. 0 < run.1) there.0.items) }
         ensures inside { IfOk result
             (λ there. All (λ run. run.0 + run.1 ≤ product self.now.encoded) there.0.items) }
         ensures fit { IfOk result
             (λ there. FitsRuns (reader_form self.now) there.0.items there.1) }
-        ensures no_fault { is_fault result ≡ false }
     {
         self.is_sound();
         let codecs = self.chain.array_to_array_codecs();
@@ -136,7 +110,6 @@ impl<'a, B: BytesToBytesCodecTraits> ChunkReader<'a, B> {
             region,
             lent,
             &self.data_type,
-            &self.fill_value,
         )?;
         let runs = window.into_runs(alloc)?;
         Ok((runs, encoded))
@@ -162,14 +135,14 @@ impl<'a, B: BytesToBytesCodecTraits> ChunkReader<'a, B> {
         ensures left { HandleWrites H.state H.lent H.atomic handle.old handle.new result }
     {
         let (runs, encoded) = self.encoded_region(alloc, codec, region, elements)?;
-        codec.write_runs(
+        codec.write_given_runs(
             alloc,
             handle,
             &self.encoded,
             &self.data_type,
             &self.fill_value,
             runs,
-            &encoded,
+            encoded,
         )
     }
 

@@ -2,7 +2,7 @@ ghost use Rattle.zarrs_data_type.specs.Form.{form_of};
 ghost use Rattle.zarrs_chain_laws.specs.CallAnswers.{codec_represented};
 ghost use Rattle.zarrs_codec_chain.specs.ChunkRead.{TakenBy, MadeWhereTaken};
 ghost use Rattle.std.specs.Prelude.{◌≡◌, ◌<◌, ◌≤◌, ◌+◌, ◌^◌, ◌&&◌, ℕ, List, Ok, Err, IfOk, IfErr, All, Some, None, is_ok, is_some, length, map, option_map, true, false};
-ghost use Rattle.zarrs_chunk.specs.Answer.{Answers, AnswersBy, fault, memory, memory_or_fault, is_fault, seen, Gives, GivesBy};
+ghost use Rattle.zarrs_chunk.specs.Answer.{Answers, AnswersBy, fault, memory, memory_or_fault, seen, Gives, GivesBy};
 ghost use Rattle.zarrs_chunk.specs.ChunkShape.{product};
 ghost use Rattle.zarrs_chunk.specs.Indexer.{selection_of};
 ghost use Rattle.zarrs_chunk.specs.Runs.{joined_runs};
@@ -12,6 +12,7 @@ ghost use Rattle.zarrs_data_type.specs.FillValue.{fill_fits};
 ghost use Rattle.zarrs_array_bytes.specs.Blank.{AbsentAreBlank};
 ghost use Rattle.zarrs_array_bytes.specs.Elements.{elements, select};
 ghost use Rattle.zarrs_array_bytes.specs.Validity.{Holds, validity};
+ghost use Rattle.zarrs_codec.specs.HandleCalls.{NeverFailsIf};
 ghost use Rattle.zarrs_codec.specs.Refused.{outcome};
 ghost use Rattle.zarrs_codec.specs.StorageState.{after_reading};
 ghost use Rattle.zarrs_chain_laws.specs.Chain.{codec_reads};
@@ -179,8 +180,7 @@ impl<'a, H: BytesPartialDecoderTraits, B: BytesToBytesCodecTraits> VlenPartialDe
     pub fn exists(&mut self) -> Result<bool, CodecError>
         ensures answer { Answers fault (λ there. there) result
             (Ok (is_some (H.state (vlen_handle_of self.old)).value)) }
-        ensures sure { is_some (H.state (vlen_handle_of self.old)).sure ≡ true →
-            is_fault result ≡ false }
+        ensures sure { NeverFailsIf (is_some (H.state (vlen_handle_of self.old)).sure) result }
         ensures left { VlenLeaves H.state H.lent self.old self.new result }
     {
         self.handle.exists()

@@ -79,13 +79,13 @@ impl Model for ReshapeShape {
 
 /// Whether the size isn't the number zero.
 fn is_nonzero(dim: &ReshapeDim) -> bool
-    ensures { result ≡ nonzero_dim (dim_of dim.now) }
+    ensures value { result ≡ nonzero_dim (dim_of dim.now) }
 {
     !matches!(dim, ReshapeDim::Size(0))
 }
 
 fn have_no_zero(dims: &[ReshapeDim]) -> bool
-    ensures { result ≡ has_no_zero (map dim_of dims.now) }
+    ensures value { result ≡ has_no_zero (map dim_of dims.now) }
 {
     for dim in dims {
         if !is_nonzero(dim) {
@@ -96,14 +96,14 @@ fn have_no_zero(dims: &[ReshapeDim]) -> bool
 }
 
 fn is_auto(dim: &ReshapeDim) -> bool
-    ensures { result ≡ auto_dim (dim_of dim.now) }
+    ensures value { result ≡ auto_dim (dim_of dim.now) }
 {
     matches!(dim, ReshapeDim::Auto)
 }
 
 /// How many sizes are automatic.
 fn count_autos(dims: &[ReshapeDim]) -> usize
-    ensures { result ≡ autos (map dim_of dims.now) }
+    ensures count { result ≡ autos (map dim_of dims.now) }
 {
     let mut count = 0;
     for dim in dims {
@@ -115,7 +115,7 @@ fn count_autos(dims: &[ReshapeDim]) -> usize
 }
 
 fn cloned(alloc: Global, dims: &[ReshapeDim]) -> Result<Vec<ReshapeDim>, PluginCreateError>
-    ensures { Makes (λ v. map dim_of v.items) result (Ok (map dim_of dims.now)) }
+    ensures copy { Makes (λ v. map dim_of v.items) result (Ok (map dim_of dims.now)) }
 {
     let mut copies = Vec::with_capacity(alloc, dims.len())?;
     for dim in dims {

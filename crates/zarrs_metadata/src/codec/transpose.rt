@@ -32,7 +32,7 @@ impl Model for TransposeOrder {
 
 /// Whether the list names each of as many axes as it is long, once.
 fn names_each_once(alloc: Global, axes: &[usize]) -> Result<bool, AllocError>
-    ensures { IfOk result (λ each_once. each_once ≡ is_order axes.now) }
+    ensures value { IfOk result (λ each_once. each_once ≡ is_order axes.now) }
 {
     let mut named = vec![in alloc; false; axes.len()]?;
     for axis in axes {

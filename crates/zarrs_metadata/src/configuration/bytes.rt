@@ -26,7 +26,7 @@ pub struct BytesCodecConfigurationV1 {
 }
 
 fn endianness_by_name(name: &str) -> Option<Endianness>
-    ensures { result ≡ endianness_named name.now }
+    ensures value { result ≡ endianness_named name.now }
 {
     match name {
         "little" => Some(Endianness::Little),
@@ -36,7 +36,7 @@ fn endianness_by_name(name: &str) -> Option<Endianness>
 }
 
 fn endianness_of(value: Option<&Value>) -> Result<Option<Endianness>, PluginCreateError>
-    ensures { result ≡ optional_key endianness_in (lent_tree value.entry) }
+    ensures answer { result ≡ optional_key endianness_in (lent_tree value.entry) }
 {
     match value {
         None => Ok(None),
@@ -50,7 +50,7 @@ fn endianness_of(value: Option<&Value>) -> Result<Option<Endianness>, PluginCrea
 }
 
 fn name_of(endian: Endianness) -> &'static str
-    ensures { result.now ≡ endianness_name endian }
+    ensures value { result.now ≡ endianness_name endian }
 {
     match endian {
         Endianness::Little => "little",

@@ -12,7 +12,7 @@ use serde_json::Value;
 use std::alloc::Global;
 
 fn among(alloc: Global, items: &Vec<Value>) -> Result<Vec<MetadataV3>, PluginCreateError>
-    ensures { Makes metadatas_in result (metadata_among (items_view items.now.items)) }
+    ensures answer { Makes metadatas_in result (metadata_among (items_view items.now.items)) }
 {
     let mut list = Vec::with_capacity(alloc, items.len())?;
     for item in items {

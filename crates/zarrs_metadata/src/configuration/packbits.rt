@@ -31,7 +31,7 @@ pub struct PackBitsCodecConfigurationV1 {
 }
 
 fn padding_by_name(name: &str) -> Option<PackBitsPaddingEncoding>
-    ensures { result ≡ padding_named name.now }
+    ensures value { result ≡ padding_named name.now }
 {
     match name {
         "none" => Some(PackBitsPaddingEncoding::None),
@@ -42,7 +42,7 @@ fn padding_by_name(name: &str) -> Option<PackBitsPaddingEncoding>
 }
 
 fn padding_of(value: Option<&Value>) -> Result<Option<PackBitsPaddingEncoding>, PluginCreateError>
-    ensures { result ≡ optional_key padding_in (lent_tree value.entry) }
+    ensures answer { result ≡ optional_key padding_in (lent_tree value.entry) }
 {
     match value {
         None => Ok(None),
@@ -56,7 +56,7 @@ fn padding_of(value: Option<&Value>) -> Result<Option<PackBitsPaddingEncoding>, 
 }
 
 fn bit_of(value: Option<&Value>) -> Result<Option<u64>, PluginCreateError>
-    ensures { result ≡ optional_key whole_number (lent_tree value.entry) }
+    ensures answer { result ≡ optional_key whole_number (lent_tree value.entry) }
 {
     match value {
         None => Ok(None),
@@ -70,7 +70,7 @@ fn bit_of(value: Option<&Value>) -> Result<Option<u64>, PluginCreateError>
 }
 
 fn bits_are_in_order(first: Option<u64>, last: Option<u64>) -> bool
-    ensures { result ≡ are_bits_in_order first last }
+    ensures value { result ≡ are_bits_in_order first last }
 {
     match (first, last) {
         (Some(first), Some(last)) => first <= last,
@@ -79,7 +79,7 @@ fn bits_are_in_order(first: Option<u64>, last: Option<u64>) -> bool
 }
 
 fn name_of(padding: PackBitsPaddingEncoding) -> &'static str
-    ensures { result.now ≡ padding_name padding }
+    ensures value { result.now ≡ padding_name padding }
 {
     match padding {
         PackBitsPaddingEncoding::None => "none",
@@ -89,7 +89,7 @@ fn name_of(padding: PackBitsPaddingEncoding) -> &'static str
 }
 
 fn said(padding: Option<PackBitsPaddingEncoding>) -> PackBitsPaddingEncoding
-    ensures { result ≡ padding_or_none padding }
+    ensures value { result ≡ padding_or_none padding }
 {
     match padding {
         None => PackBitsPaddingEncoding::None,
@@ -98,7 +98,7 @@ fn said(padding: Option<PackBitsPaddingEncoding>) -> PackBitsPaddingEncoding
 }
 
 fn tree_of_bit(bit: Option<u64>) -> Value
-    ensures { view result ≡ bit_tree bit }
+    ensures value { view result ≡ bit_tree bit }
 {
     match bit {
         None => Value::Null,

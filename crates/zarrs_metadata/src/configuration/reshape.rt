@@ -29,7 +29,7 @@ pub struct ReshapeCodecConfigurationV1 {
 }
 
 fn dim_by_number(number: &Number) -> Result<ReshapeDim, PluginCreateError>
-    ensures { seen dim_of result ≡ needed (dim_of_number (number_view number.now)) }
+    ensures answer { seen dim_of result ≡ needed (dim_of_number (number_view number.now)) }
 {
     if let Some(size) = number.as_u64() {
         return Ok(ReshapeDim::Size(size));
@@ -42,7 +42,7 @@ fn dim_by_number(number: &Number) -> Result<ReshapeDim, PluginCreateError>
 }
 
 fn dim(alloc: Global, tree: &Value) -> Result<ReshapeDim, PluginCreateError>
-    ensures { Makes dim_of result (dim_in (view tree.now)) }
+    ensures answer { Makes dim_of result (dim_in (view tree.now)) }
 {
     match tree {
         Value::Number(number) => dim_by_number(number),
@@ -52,7 +52,7 @@ fn dim(alloc: Global, tree: &Value) -> Result<ReshapeDim, PluginCreateError>
 }
 
 fn dims(alloc: Global, items: &Vec<Value>) -> Result<Vec<ReshapeDim>, PluginCreateError>
-    ensures { Makes (λ v. map dim_of v.items) result (dims_in (items_view items.now.items)) }
+    ensures answer { Makes (λ v. map dim_of v.items) result (dims_in (items_view items.now.items)) }
 {
     let mut dims = Vec::new(alloc);
     for item in items {
@@ -63,7 +63,7 @@ fn dims(alloc: Global, items: &Vec<Value>) -> Result<Vec<ReshapeDim>, PluginCrea
 }
 
 fn tree_of_dim(alloc: Global, dim: &ReshapeDim) -> Result<Value, AllocError>
-    ensures { IfOk result (λ tree. view tree ≡ dim_tree (dim_of dim.now)) }
+    ensures value { IfOk result (λ tree. view tree ≡ dim_tree (dim_of dim.now)) }
 {
     match dim {
         ReshapeDim::Size(size) => Ok(Value::from(*size)),
@@ -73,7 +73,7 @@ fn tree_of_dim(alloc: Global, dim: &ReshapeDim) -> Result<Value, AllocError>
 }
 
 fn tree_of_dims(alloc: Global, dims: &[ReshapeDim]) -> Result<Value, AllocError>
-    ensures { IfOk result (λ tree. view tree ≡ dims_tree (map dim_of dims.now)) }
+    ensures value { IfOk result (λ tree. view tree ≡ dims_tree (map dim_of dims.now)) }
 {
     let mut items = Vec::with_capacity(alloc, dims.len())?;
     for dim in dims {

@@ -28,7 +28,7 @@ pub struct TransposeCodecConfigurationV1 {
 
 /// The same numbers, as axes.
 fn as_axes(alloc: Global, numbers: &[u64]) -> Result<Vec<usize>, AllocError>
-    ensures { IfOk result (λ axes. axes.items ≡ numbers.now) }
+    ensures value { IfOk result (λ axes. axes.items ≡ numbers.now) }
 {
     let mut axes = Vec::with_capacity(alloc, numbers.len())?;
     for number in numbers {
@@ -38,14 +38,14 @@ fn as_axes(alloc: Global, numbers: &[u64]) -> Result<Vec<usize>, AllocError>
 }
 
 fn axes(alloc: Global, tree: &Value) -> Result<Vec<usize>, PluginCreateError>
-    ensures { Makes (λ v. v.items) result (number_list (view tree.now)) }
+    ensures answer { Makes (λ v. v.items) result (number_list (view tree.now)) }
 {
     let numbers = numbers(alloc, tree)?;
     Ok(as_axes(alloc, numbers.as_slice())?)
 }
 
 fn axes_tree(alloc: Global, axes: &[usize]) -> Result<Value, AllocError>
-    ensures { IfOk result (λ tree. view tree ≡ numbers_tree axes.now) }
+    ensures value { IfOk result (λ tree. view tree ≡ numbers_tree axes.now) }
 {
     let mut items = Vec::with_capacity(alloc, axes.len())?;
     for axis in axes {

@@ -46,7 +46,7 @@ pub struct VlenCodecConfigurationV0_1 {
 }
 
 fn index_data_type_by_name(name: &str) -> Option<VlenIndexDataType>
-    ensures { result ≡ index_data_type_named name.now }
+    ensures value { result ≡ index_data_type_named name.now }
 {
     match name {
         "uint32" => Some(VlenIndexDataType::UInt32),
@@ -56,7 +56,7 @@ fn index_data_type_by_name(name: &str) -> Option<VlenIndexDataType>
 }
 
 fn index_data_type_of(value: Option<&Value>) -> Result<VlenIndexDataType, PluginCreateError>
-    ensures { result ≡ index_data_type_in (lent_tree value.entry) }
+    ensures answer { result ≡ index_data_type_in (lent_tree value.entry) }
 {
     match value {
         Some(Value::String(name)) => {
@@ -67,7 +67,7 @@ fn index_data_type_of(value: Option<&Value>) -> Result<VlenIndexDataType, Plugin
 }
 
 fn index_location_by_name(name: &str) -> Option<VlenIndexLocation>
-    ensures { result ≡ index_location_named name.now }
+    ensures value { result ≡ index_location_named name.now }
 {
     match name {
         "start" => Some(VlenIndexLocation::Start),
@@ -77,7 +77,7 @@ fn index_location_by_name(name: &str) -> Option<VlenIndexLocation>
 }
 
 fn index_location_of(value: Option<&Value>) -> Result<Option<VlenIndexLocation>, PluginCreateError>
-    ensures { result ≡ index_location_in (lent_tree value.entry) }
+    ensures answer { result ≡ index_location_in (lent_tree value.entry) }
 {
     match value {
         None => Ok(None),
@@ -90,7 +90,7 @@ fn index_location_of(value: Option<&Value>) -> Result<Option<VlenIndexLocation>,
 }
 
 fn name_of_data_type(index_data_type: VlenIndexDataType) -> &'static str
-    ensures { result.now ≡ index_data_type_name index_data_type }
+    ensures value { result.now ≡ index_data_type_name index_data_type }
 {
     match index_data_type {
         VlenIndexDataType::UInt32 => "uint32",
@@ -99,7 +99,7 @@ fn name_of_data_type(index_data_type: VlenIndexDataType) -> &'static str
 }
 
 fn name_of_location(index_location: VlenIndexLocation) -> &'static str
-    ensures { result.now ≡ index_location_name index_location }
+    ensures value { result.now ≡ index_location_name index_location }
 {
     match index_location {
         VlenIndexLocation::Start => "start",
@@ -114,7 +114,7 @@ fn of_parts(
     index_data_type: VlenIndexDataType,
     index_location: Option<VlenIndexLocation>,
 ) -> VlenCodecConfiguration
-    ensures { vlen_seen result
+    ensures made { vlen_seen result
         ≡ vlen_parts index_codecs.items data_codecs.items index_data_type index_location }
 {
     match index_location {
@@ -139,7 +139,7 @@ fn members_of(
     index_data_type: VlenIndexDataType,
     index_location: Option<VlenIndexLocation>,
 ) -> Result<Configuration, PluginCreateError>
-    ensures { Writes result
+    ensures answer { Writes result
         (write_vlen (vlen_parts index_codecs.now data_codecs.now index_data_type index_location)) }
 {
     let index = tree_of_codecs(alloc, index_codecs)?;

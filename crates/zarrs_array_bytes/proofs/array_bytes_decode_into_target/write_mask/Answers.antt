@@ -1,4 +1,4 @@
-use Rattle.std.proofs.Common.{◌≡◌, ◌∙◌, ap, sym, drop, map, ◌+◌, ◌++◌, take, set, get_or, length}
+use Rattle.std.proofs.Common.{◌∙◌, ap, drop, map, ◌+◌, ◌++◌, take, set, get_or, length}
 use Rattle.std.proofs.Math.Seq.{map-set_same}
 use Rattle.zarrs_array_bytes.specs.ArrayBytesDecodeIntoTarget.{view_name}
 use Rattle.zarrs_array_bytes.specs.ArrayBytesFixedView.{view_of}

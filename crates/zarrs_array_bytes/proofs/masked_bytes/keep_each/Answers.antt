@@ -39,13 +39,13 @@ loop-place-preserved c =
             len = omega (arith, c.loop-place.invariant.len);
             within = omega (arith, c.loop-place.invariant.within);
             left = omega (arith, left-present mask place inside (omega arith), c.loop-place.invariant.left);
-            told = ap (λ xs. take ((kept + 1) * size) xs ++ rest) c.copy_to.ensures.written ∙ kept_more size kept place out mask bytes inside (omega arith) room whole ∙ c.loop-place.invariant.told;
+            told = ap (λ xs. take ((kept + 1) * size) xs ++ rest) c.put_element.ensures.written ∙ kept_more size kept place out mask bytes inside (omega arith) room whole ∙ c.loop-place.invariant.told;
           })
       | else-mask-place-ne0 w ↦
           rw w.kept-is (record {
             len = omega (arith, c.loop-place.invariant.len);
             within = omega (arith, c.loop-place.invariant.within);
             left = omega (arith, left-absent mask place inside (omega arith), c.loop-place.invariant.left);
-            told = ap (λ xs. take (kept * size) xs ++ rest) c.copy_to.ensures.written ∙ kept_same size kept place out mask bytes (piece size bytes place) inside (omega arith) room ∙ c.loop-place.invariant.told;
+            told = ap (λ xs. take (kept * size) xs ++ rest) c.put_element.ensures.written ∙ kept_same size kept place out mask bytes (piece size bytes place) inside (omega arith) room ∙ c.loop-place.invariant.told;
           })
     ]

@@ -30,8 +30,8 @@ element_or_blank-requires-clause-inside c = λ some.
     let below : done < count = omega (arith, left-present mask c.loop-place.place c.loop-place-test.true some, c.loop-place.invariant.left) in
     omega (arith, row_fits done size count size below (omega arith), c.requires.enough)
 
-pub copy_to-requires : goal.copy_to-requires
-copy_to-requires c =
+pub put_element-requires : goal.put_element-requires
+put_element-requires c =
     let size = c.args.size in
     let n = length c.args.mask.now in
     record {
@@ -61,7 +61,7 @@ loop-place-preserved c =
             within = omega (arith, c.loop-place.invariant.within);
             left = omega (arith, left, c.loop-place.invariant.left);
             told = ap (λ xs. take ((place + 1) * size) xs ++ spread size (drop (place + 1) mask) (drop ((place + 1) * size) old) (drop ((done + 1) * size) bytes))
-                (c.copy_to.ensures.written ∙ ap (with_items_at out (place * size)) (c.element_or_blank.ensures.present (omega arith)))
+                (c.put_element.ensures.written ∙ ap (with_items_at out (place * size)) (c.element_or_blank.ensures.present (omega arith)))
                 ∙ put_more size done place out mask old bytes inside (omega arith) room whole ∙ c.loop-place.invariant.told;
           })
       | else-mask-place-ne0 w ↦
@@ -71,7 +71,7 @@ loop-place-preserved c =
             len = omega (arith, c.loop-place.invariant.len);
             within = omega (arith, c.loop-place.invariant.within);
             left = omega (arith, left-absent mask place inside (omega arith), c.loop-place.invariant.left);
-            told = ap (λ xs. take ((place + 1) * size) xs ++ spread size (drop (place + 1) mask) (drop ((place + 1) * size) old) (drop (done * size) bytes)) c.copy_to.ensures.written
+            told = ap (λ xs. take ((place + 1) * size) xs ++ spread size (drop (place + 1) mask) (drop ((place + 1) * size) old) (drop (done * size) bytes)) c.put_element.ensures.written
                 ∙ put_old size done place out mask old bytes part inside (omega arith) room c.element_or_blank.ensures.len same ∙ c.loop-place.invariant.told;
           })
     ]

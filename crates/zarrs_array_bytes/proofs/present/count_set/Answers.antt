@@ -1,25 +1,37 @@
-use Rattle.std.proofs.Common.{ℕ, List, [], ◌∷◌, length, nat_lt, slice_index, ap, arith, length-append}
-use Rattle.std.specs.List.{filter, range_with_len}
-use Rattle.zarrs_array_bytes.proofs.PresentLemmas.{marked_more, unmarked_more}
-use Rattle.zarrs_array_bytes.proofs.present.count_set.Goals.{then-mask-place-ne0, else-mask-place-ne0}
+use Rattle.std.proofs.Common.{◌≡◌, ◌+◌, ◌*◌, ◌/◌, length, take, ap, ◌∙◌, arith}
+use Rattle.std.proofs.lemmas.List.{take_rest}
+use Rattle.zarrs_array_bytes.specs.Present.{present_places}
+use Rattle.zarrs_array_bytes.proofs.PresentLemmas.{marked, count_is, length_marked, block_counted, front_counted, rest_counted}
 use Rattle.zarrs_array_bytes.proofs.present.count_set.Goals as goal
 
-pub loop-place-preserved : goal.loop-place-preserved
-loop-place-preserved c =
+pub overflow_add-count : goal.overflow_add-count
+overflow_add-count c =
     let mask = c.args.mask.now in
-    let i = c.loop-place.place in
-    let before : List ℕ = filter (λ place. nat_lt 0 (slice_index mask place)) (range_with_len 0 i) in
-    elim c.if-mask-place-ne0.branch [
-      | then-mask-place-ne0 w ↦
-          let more = ap (λ (ps : List ℕ). length ps) (marked_more mask i (omega arith)) in
-          record {
-            within = omega (arith, c.loop-place.invariant.within, w.count-is);
-            are = omega (arith, more, length-append before (i ∷ []), c.loop-place.invariant.are, w.count-is);
-          }
-      | else-mask-place-ne0 w ↦
-          let more = ap (λ (ps : List ℕ). length ps) (unmarked_more mask i (omega arith)) in
-          record {
-            within = omega (arith, c.loop-place.invariant.within, w.count-is);
-            are = omega (arith, more, c.loop-place.invariant.are, w.count-is);
-          }
-    ]
+    let at = c.loop-block.block * 128 in
+    omega (arith, block_counted at 128 c.loop-block.count c.count_few-few.result mask c.loop-block.invariant c.count_few-few.ensures, front_counted (at + 128) mask)
+
+pub loop-block-preserved : goal.loop-block-preserved
+loop-block-preserved c =
+    let mask = c.args.mask.now in
+    let at = c.loop-block.block * 128 in
+    let next : at + 128 ≡ (c.loop-block.block + 1) * 128 = omega arith in
+    block_counted at 128 c.loop-block.count c.count_few-few.result mask c.loop-block.invariant c.count_few-few.ensures
+    ∙ ap (λ n. length (marked (take n mask))) next
+
+pub overflow_add-result : goal.overflow_add-result
+overflow_add-result c =
+    let mask = c.args.mask.now in
+    let at = length mask / 128 * 128 in
+    let end : c.loop-block.block ≡ length mask / 128 = omega arith in
+    let before = c.loop-block.invariant ∙ ap (λ n. length (marked (take (n * 128) mask))) end in
+    let behind = c.count_few-rest.ensures ∙ ap (λ bytes. length (present_places bytes)) (take_rest mask at) in
+    omega (arith, rest_counted at c.loop-block.count c.count_few-rest.result mask before behind, count_is mask, length_marked mask)
+
+pub returns : goal.returns
+returns c =
+    let mask = c.args.mask.now in
+    let at = length mask / 128 * 128 in
+    let end : c.loop-block.block ≡ length mask / 128 = omega arith in
+    let before = c.loop-block.invariant ∙ ap (λ n. length (marked (take (n * 128) mask))) end in
+    let behind = c.count_few-rest.ensures ∙ ap (λ bytes. length (present_places bytes)) (take_rest mask at) in
+    record { count = rest_counted at c.loop-block.count c.count_few-rest.result mask before behind }

@@ -1,9 +1,6 @@
-use Rattle.std.proofs.Common.{◌≡◌, ◌≤◌, length, nat_lt, slice_index}
-use Rattle.std.specs.List.{filter, range_with_len}
+use Rattle.std.proofs.Common.{◌≡◌, ◌*◌, length, take}
+use Rattle.zarrs_array_bytes.proofs.PresentLemmas.{marked}
 use Rattle.zarrs_array_bytes.proofs.present.count_set.Given as goal
 
-abbrev pub invariant-loop-place : goal.invariant-loop-place
-invariant-loop-place l = record {
-  within : l.count ≤ l.place;
-  are : l.count ≡ length (filter (λ place. nat_lt 0 (slice_index l.mask place)) (range_with_len 0 l.place));
-}
+abbrev pub invariant-loop-block : goal.invariant-loop-block
+invariant-loop-block l = l.count ≡ length (marked (take (l.block * 128) l.mask))

@@ -11,4 +11,4 @@ of_masked-requires c =
     let flags : List ℕ = (raw_of c.args.mask).items in
     let places = joined_runs c.args.runs.now in
     let mask : update flags places c.args.new_mask.now ≡ c.in_ok-mask.mask.items = cc (c.in_ok-mask.ensures.exact.is) in
-    subst (λ xs. list_all (λ b. nat_lt b 2) xs ≡ true) mask (list_all-update (λ b. nat_lt b 2) flags places c.args.new_mask.now c.requires.old_flags c.requires.new_flags)
+    record { flags = subst (λ xs. list_all (λ b. nat_lt b 2) xs ≡ true) mask (list_all-update (λ b. nat_lt b 2) flags places c.args.new_mask.now c.requires.old_flags c.requires.new_flags) }

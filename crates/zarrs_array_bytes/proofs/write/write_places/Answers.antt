@@ -1,4 +1,4 @@
-use Rattle.std.proofs.Common.{◌≡◌, ◌*◌, ◌≤◌, length, ◌∙◌, arith}
+use Rattle.std.proofs.Common.{◌∙◌, arith}
 use Rattle.std.proofs.Math.Nat.{mul-le-mul_right}
 use Rattle.zarrs_array_bytes.proofs.WriteLemmas.{with_runs-update}
 use Rattle.zarrs_array_bytes.proofs.write.write_places.Goals as goal

@@ -2,7 +2,8 @@ use Rattle.std.proofs.Common.{◌≡◌, sym, map, Ok, arith, rules, subst}
 use Rattle.zarrs_array_bytes.specs.Validity.{validity}
 use Rattle.zarrs_array_to_array.specs.Mapping.{mapping_of}
 use Rattle.zarrs_array_regions.proofs.DecodedWindows.{below_valid, decoded_here, decoded_last, decoded_stay}
-use Rattle.zarrs_array_regions.proofs.WindowCalls.{rest_of, one_mapping, few_places, none_stay, codec_fits, codec_takes, codecs_take, codec_step, codec_stays}
+use Rattle.zarrs_array_to_array.proofs.CodecLists.{rest_of}
+use Rattle.zarrs_array_regions.proofs.WindowCalls.{one_mapping, few_places, none_stay, codec_fits, codec_takes, codecs_take, codec_step, codec_stays}
 use Rattle.zarrs_array_regions.proofs.decoded.+decoded_window.Goals as goal
 
 pub decoded_part-requires-clause-axes : goal.decoded_part-requires-clause-axes

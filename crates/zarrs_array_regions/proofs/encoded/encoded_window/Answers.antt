@@ -2,7 +2,8 @@ use Rattle.std.proofs.Common.{map, arith, rules}
 use Rattle.zarrs_chunk.specs.ChunkShape.{product}
 use Rattle.zarrs_array_to_array.specs.Mapping.{mapping_of}
 use Rattle.zarrs_array_regions.proofs.EncodedWindows.{encoded_stay, window_is, above_valid, encoded_here, inside_here}
-use Rattle.zarrs_array_regions.proofs.WindowCalls.{rest_of, few_places, none_stay, codec_fits, codec_takes, codecs_take, codec_step, codec_stays}
+use Rattle.zarrs_array_to_array.proofs.CodecLists.{rest_of}
+use Rattle.zarrs_array_regions.proofs.WindowCalls.{few_places, none_stay, codec_fits, codec_takes, codecs_take, codec_step, codec_stays}
 use Rattle.zarrs_array_regions.proofs.encoded.encoded_window.Goals as goal
 
 pub returns-in_ok-new-in-empty-clause-encoded : goal.returns-in_ok-new-in-empty-clause-encoded

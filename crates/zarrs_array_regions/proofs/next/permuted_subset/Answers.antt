@@ -7,5 +7,5 @@ pub returns : goal.returns
 returns c =
     let order = c.args.order.now in
     let made = permuted_made order c.args.subset.now c.in_ok-starts.starts.items c.in_ok-lengths.lengths.items c.new_with_start_shape.result c.requires.order c.requires.axes c.shape-lengths.ensures.ends
-    (c.in_ok-starts.ensures {u = tt} ∙ ap (permuted order) c.start.ensures.value) (c.in_ok-lengths.ensures {u = tt} ∙ ap (permuted order) c.shape-lengths.ensures.value) c.new_with_start_shape.ensures.answer in
+    ((c.in_ok-starts.ensures {u = tt}).value ∙ ap (permuted order) c.start.ensures.value) ((c.in_ok-lengths.ensures {u = tt}).value ∙ ap (permuted order) c.shape-lengths.ensures.value) c.new_with_start_shape.ensures.answer in
     rw made (search rules)

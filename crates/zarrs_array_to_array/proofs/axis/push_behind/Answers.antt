@@ -21,7 +21,7 @@ returns-in-Some-clause-places c =
     ∙ sym (joined_rows second.step second.size first.size places)
     ∙ ap (λ (step : ℕ). next_rows second.step second.size (next_rows step first.size places)) (sym c.in-Some.ensures.adjoining)
     ∙ ap (next_rows second.step second.size) (sym (behind-more axes first (0 ∷ []))))
-    c.push_one.ensures
+    c.push_one.ensures.appended
 
 pub returns-in-Some-clause-reach : goal.returns-in-Some-clause-reach
 returns-in-Some-clause-reach c =
@@ -31,7 +31,7 @@ returns-in-Some-clause-reach c =
     let both = c.in-Some.both in
     let near : (both.size - 1) * both.step ≤ (first.size - 1) * first.step + (second.size - 1) * second.step =
     rw (c.in-Some.ensures.size, c.in-Some.ensures.step, c.in-Some.ensures.adjoining) (joined_reach second.step second.size first.size) in
-    on_ok_weaker c.push_one.result (λ e. rw e (omega (arith, near, reach-more axes both, reach-more axes first))) c.push_one.ensures
+    on_ok_weaker c.push_one.result (λ e. rw e (omega (arith, near, reach-more axes both, reach-more axes first))) c.push_one.ensures.appended
 
 pub returns-in-None-clause-places : goal.returns-in-None-clause-places
 returns-in-None-clause-places c =
@@ -40,7 +40,7 @@ returns-in-None-clause-places c =
     let second = c.args.second in
     on_ok_weaker c.push_both.result
     (λ e. ap (λ (xs : List Axis). behind xs (0 ∷ [])) (e ∙ sym (append_assoc axes (first ∷ []) (second ∷ []))) ∙ behind-more (axes ++ first ∷ []) second (0 ∷ []))
-    c.push_both.ensures
+    c.push_both.ensures.appended
 
 pub returns-in-None-clause-reach : goal.returns-in-None-clause-reach
 returns-in-None-clause-reach c =
@@ -51,4 +51,4 @@ returns-in-None-clause-reach c =
     (λ e.
     let is = ap reach (e ∙ sym (append_assoc axes (first ∷ []) (second ∷ []))) ∙ reach-more (axes ++ first ∷ []) second in
     omega (arith, is))
-    c.push_both.ensures
+    c.push_both.ensures.appended

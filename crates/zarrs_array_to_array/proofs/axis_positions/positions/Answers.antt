@@ -6,7 +6,7 @@ use Rattle.zarrs_array_to_array.proofs.axis_positions.positions.Goals as goal
 
 pub loop-place-preserved : goal.loop-place-preserved
 loop-place-preserved c =
-    let o = order_parts c.args.axes.now c.requires in
+    let o = order_parts c.args.axes.now c.requires.order in
     record {
       len = length-set c.loop-place.positions.items (get_or c.args.axes.now c.loop-place.place 0) c.loop-place.place ∙ c.loop-place.invariant.len;
       at = λ k l. positions_more c.args.axes.now c.loop-place.positions.items c.loop-place.place o c.loop-place.invariant.len c.loop-place-test.true c.loop-place.invariant.at k l;
@@ -14,4 +14,4 @@ loop-place-preserved c =
 
 pub returns : goal.returns
 returns c =
-    is_inverse c.args.axes.now c.loop-place.positions.items (order_parts c.args.axes.now c.requires) c.loop-place.invariant.len (λ k l. c.loop-place.invariant.at k (omega arith))
+    record { value = is_inverse c.args.axes.now c.loop-place.positions.items (order_parts c.args.axes.now c.requires.order) c.loop-place.invariant.len (λ k l. c.loop-place.invariant.at k (omega arith)) }

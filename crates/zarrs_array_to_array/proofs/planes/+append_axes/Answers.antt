@@ -19,7 +19,7 @@ loop-index-preserved t c =
     let rest : List Axis = drop 1 c.args.axes.now in
     let first : Axis = get_or c.args.axes.now 0 (record { size = 0; step = 0 }) in
     let here : List ℕ = (c.args.front + c.loop-index.index * first.step) ∷ [] in
-    c.in_ok-append_axes.ensures
+    c.in_ok-append_axes.ensures.appended
     ∙ ap (λ (axes : List Axis). c.loop-index.out.items ++ flat_map f (behind axes here)) (take_rest c.args.axes.now 1)
     ∙ ap (λ (xs : List ℕ). xs ++ flat_map f (behind rest here)) c.loop-index.invariant
     ∙ more_behind c.args.out.now.items f rest c.args.front first.step c.loop-index.index

@@ -6,7 +6,8 @@ use Rattle.zarrs_array_to_array.specs.Strides.{row}
 use Rattle.zarrs_array_to_array.specs.Axes.{behind, reach}
 use Rattle.zarrs_array_to_array.proofs.AxisRows.{behind-nil}
 use Rattle.zarrs_array_to_array.proofs.BlockRows.{more_columns}
-use Rattle.zarrs_array_to_array.proofs.PlaneRows.{bytes_below, spread}
+use Rattle.std.proofs.Math.Nat.{add-mul}
+use Rattle.zarrs_array_to_array.proofs.PlaneRows.{bytes_below}
 use Rattle.zarrs_array_to_array.proofs.planes.append_blocks.Goals as goal
 
 pub append_turned-requires-clause-inside : goal.append_turned-requires-clause-inside
@@ -14,7 +15,7 @@ append_turned-requires-clause-inside c =
     let at : ℕ = c.args.front + c.loop-done.done + reach c.args.axes.now in
     let width = c.min-width.result in
     let below : at + width ≤ c.args.front + reach c.args.axes.now + c.args.count = omega (arith, c.min-width.ensures) in
-    omega (arith, bytes_below (at + width) _ c.args.size _ below c.requires.inside, spread at width c.args.size)
+    omega (arith, bytes_below (at + width) _ c.args.size _ below c.requires.inside, add-mul at width c.args.size)
 
 pub loop-done-preserved : goal.loop-done-preserved
 loop-done-preserved c =
@@ -24,7 +25,7 @@ loop-done-preserved c =
     let width = c.min-width.result in
     record {
       appended =
-          c.in_ok-append_turned.ensures
+          c.in_ok-append_turned.ensures.appended
           ∙ ap (λ (xs : List ℕ). xs ++ flat_map f (behind axes (row (c.args.front + done) 1 width))) c.loop-done.invariant.appended
           ∙ more_columns c.args.out.now.items f axes c.args.front done width;
       within = omega (arith, c.min-width.ensures);

@@ -11,7 +11,7 @@ loop-column-preserved c =
     let column = c.loop-column.column in
     let out = c.args.out.now.items in
     let e : column ≡ 0 + column * 1 = omega arith in
-    c.in_ok-append_row.ensures
+    c.in_ok-append_row.ensures.appended
     ∙ ap (λ (xs : List ℕ). xs ++ flat_map f (row column c.args.width c.args.count)) c.loop-column.invariant
     ∙ ap (λ (front : ℕ). (out ++ flat_map f (next_rows c.args.width c.args.count (row 0 1 column))) ++ flat_map f (row front c.args.width c.args.count)) e
     ∙ more_of_plane out f c.args.width c.args.count 0 1 column

@@ -16,9 +16,12 @@ returns g c =
     let f : ℕ → List ℕ = stretch c.args.len c.args.size c.args.bytes.now in
     let done = c.args.axis.size / 16 * 16 in
     let rest = c.args.axis.size - done in
-    on_ok_weaker c.append_row_of.result
-    (λ e.
-    e
-    ∙ ap (λ (xs : List ℕ). xs ++ flat_map f (row (c.args.front + done * c.args.axis.step) c.args.axis.step rest)) (c.in_ok-append_groups.ensures {u = tt})
-    ∙ group_more c.args.out.now.items f c.args.front c.args.axis.step done rest c.args.axis.size (omega arith))
-    c.append_row_of.ensures
+    record {
+      appended =
+          on_ok_weaker c.append_row_of.result
+          (λ e.
+          e
+          ∙ ap (λ (xs : List ℕ). xs ++ flat_map f (row (c.args.front + done * c.args.axis.step) c.args.axis.step rest)) (c.in_ok-append_groups.ensures {u = tt}).appended
+          ∙ group_more c.args.out.now.items f c.args.front c.args.axis.step done rest c.args.axis.size (omega arith))
+          c.append_row_of.ensures.appended;
+    }

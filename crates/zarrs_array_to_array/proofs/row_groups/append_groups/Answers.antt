@@ -13,6 +13,6 @@ pub loop-index-preserved : goal.loop-index-preserved
 loop-index-preserved g c =
     let f : ℕ → List ℕ = stretch c.args.len c.args.size c.args.bytes.now in
     let i = c.loop-index.index in
-    c.in_ok-append_group.ensures {u = tt}
+    (c.in_ok-append_group.ensures {u = tt}).appended
     ∙ ap (λ (xs : List ℕ). xs ++ flat_map f (row (c.args.front + i * 16 * c.args.step) c.args.step 16)) c.loop-index.invariant
     ∙ group_more c.args.out.now.items f c.args.front c.args.step (i * 16) 16 ((i + 1) * 16) (omega arith)

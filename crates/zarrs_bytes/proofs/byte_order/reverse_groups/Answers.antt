@@ -8,7 +8,7 @@ pub loop-index-preserved : goal.loop-index-preserved
 loop-index-preserved c =
     let size = c.args.size in
     let index = c.loop-index.index in
-    turned_more size (index * (16 / size)) (index * 16) (index * 16 + 16 - index * 16) ((index + 1) * 16) c.args.bytes.now c.loop-index.bytes c.reverse_group.new.group c.requires.sized (groups_whole size 16 index c.requires.divides) (omega (arith, div-mul-le_self (length c.args.bytes.now) 16)) (omega arith) c.loop-index.invariant c.reverse_group.ensures
+    turned_more size (index * (16 / size)) (index * 16) (index * 16 + 16 - index * 16) ((index + 1) * 16) c.args.bytes.now c.loop-index.bytes c.reverse_group.new.group c.requires.sized (groups_whole size 16 index c.requires.divides) (omega (arith, div-mul-le_self (length c.args.bytes.now) 16)) (omega arith) c.loop-index.invariant c.reverse_group.ensures.written
 
 pub returns : goal.returns
 returns c =
@@ -20,5 +20,8 @@ returns c =
     let is : c.loop-index.bytes ≡ turned_bytes (Some size) (take a bytes) ++ drop a bytes = c.loop-index.invariant ∙ ap (λ n. turned_bytes (Some size) (take (n * 16) bytes) ++ drop (n * 16) bytes) e in
     let below = div-mul-le_self (length bytes) 16 in
     let q : a + (length c.loop-index.bytes - a) ≡ length bytes = omega (arith, below, c.loop-index.auto.bytes) in
-    turned_more size (groups * (16 / size)) a (length c.loop-index.bytes - a) (length bytes) bytes c.loop-index.bytes c.reverse_pieces.new.bytes c.requires.sized (groups_whole size 16 groups c.requires.divides) (omega (arith, below)) q is c.reverse_pieces.ensures
-    ∙ turned_bytes-all size (length bytes) bytes (omega arith)
+    record {
+      written =
+          turned_more size (groups * (16 / size)) a (length c.loop-index.bytes - a) (length bytes) bytes c.loop-index.bytes c.reverse_pieces.new.bytes c.requires.sized (groups_whole size 16 groups c.requires.divides) (omega (arith, below)) q is c.reverse_pieces.ensures.written
+          ∙ turned_bytes-all size (length bytes) bytes (omega arith);
+    }

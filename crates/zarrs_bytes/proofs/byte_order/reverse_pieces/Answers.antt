@@ -9,4 +9,4 @@ loop-index-preserved c =
     let index = c.loop-index.index in
     let more : index + 1 ≤ length c.args.bytes.now / size = omega arith in
     let fits : (index + 1) * size ≤ length c.args.bytes.now = omega (arith, mul-le-mul_right size more, div-mul-le_self (length c.args.bytes.now) size) in
-    turned_step size index (index * size + size - index * size) c.args.bytes.now c.loop-index.bytes c.reverse_piece.new.piece fits (omega arith) c.loop-index.invariant c.reverse_piece.ensures
+    turned_step size index (index * size + size - index * size) c.args.bytes.now c.loop-index.bytes c.reverse_piece.new.piece fits (omega arith) c.loop-index.invariant c.reverse_piece.ensures.written

@@ -16,4 +16,4 @@ returns c =
     let one : 1 ≤ length fill = omega arith in
     let more : count * 1 ≤ count * length fill = mul-le-mul_left count one in
     let exact : count ≡ length places = omega (arith, more, ap length is, length-copies fill count, bytes.ok, bytes.small, c.count_of-count.ensures.count) in
-    is ∙ ap (copies fill) exact ∙ copies_of_places fill places
+    record { value = is ∙ ap (copies fill) exact ∙ copies_of_places fill places }

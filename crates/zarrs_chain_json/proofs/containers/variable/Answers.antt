@@ -8,10 +8,12 @@ use Rattle.zarrs_chain_json.proofs.containers.variable.Goals as goal
 
 pub returns-in-Ok : goal.returns-in-Ok
 returns-in-Ok c =
-    let made : variable_of (bytes_with_offsets (bytes_or_zeros 0) (slots_seen c.args.slots.now)) ≡ c.in-Ok.elements = cc (variable_made (slots_seen c.args.slots.now) c.in_ok-bytes.bytes.items c.in_ok-bytes.offsets.items c.in_ok-bytes.ensures, c.in-Ok.ensures) in
-    ap Ok made
+    let made : variable_of (bytes_with_offsets (bytes_or_zeros 0) (slots_seen c.args.slots.now)) ≡ c.in-Ok.elements = cc (variable_made (slots_seen c.args.slots.now) c.in_ok-bytes.bytes.items c.in_ok-bytes.offsets.items c.in_ok-bytes.ensures.value, c.in-Ok.ensures.answer) in
+    record { answer = ap Ok made }
 
 pub returns-in-Err : goal.returns-in-Err
-returns-in-Err c = λ _.
-    never_refused (variable_answer c.in_ok-bytes.bytes.items c.in_ok-bytes.offsets.items) (variable_of (bytes_with_offsets (bytes_or_zeros 0) (slots_seen c.args.slots.now))) c.in-Err.error _ c.in-Err.ensures
-    (variable_made (slots_seen c.args.slots.now) c.in_ok-bytes.bytes.items c.in_ok-bytes.offsets.items c.in_ok-bytes.ensures)
+returns-in-Err c = record {
+  answer = λ _.
+      never_refused (variable_answer c.in_ok-bytes.bytes.items c.in_ok-bytes.offsets.items) (variable_of (bytes_with_offsets (bytes_or_zeros 0) (slots_seen c.args.slots.now))) c.in-Err.error _ c.in-Err.ensures.answer
+      (variable_made (slots_seen c.args.slots.now) c.in_ok-bytes.bytes.items c.in_ok-bytes.offsets.items c.in_ok-bytes.ensures.value);
+}

@@ -25,7 +25,7 @@ returns-in-Some t c =
     record {
       answer = subst (λ (y : Result ElementType Refusal). Answers {V = ElementType} wants_memory (λ type. type) c.optional.result y)
           (sym (ap type_in whole ∙ type_in-optional members (view c.in-Some.inner.now) (sym c.in-Some.ensures.value)))
-          (c.optional.ensures (type_in (view c.in-Some.inner.now)) c.data_type.ensures.answer);
+          (c.optional.ensures.answer (type_in (view c.in-Some.inner.now)) c.data_type.ensures.answer);
     }
 
 pub returns-in-None : goal.returns-in-None
@@ -35,5 +35,5 @@ returns-in-None t c =
     record {
       answer = subst (λ (y : Result ElementType Refusal). Answers {V = ElementType} wants_memory (λ type. type) c.several.result y)
           (sym (ap type_in whole ∙ type_in-components members (sym c.in-None.ensures.value)))
-          c.several.ensures;
+          c.several.ensures.answer;
     }

@@ -7,9 +7,9 @@ use Rattle.zarrs_chain_json.proofs.shown.values.Goals as goal
 
 pub value_at-requires : goal.value_at-requires
 value_at-requires c =
-    has_element c.args.data_type.now c.args.elements.now c.args.count c.loop-place.place c.requires c.loop-place-test.true
+    record { known = has_element c.args.data_type.now c.args.elements.now c.args.count c.loop-place.place c.requires.known c.loop-place-test.true }
 
 pub loop-place-preserved : goal.loop-place-preserved
 loop-place-preserved c =
-    let shows : view c.in_ok-value.value ≡ element_tree (element_at c.args.data_type.now c.args.elements.now c.loop-place.place) = cc (c.in_ok-value.ensures) in
+    let shows : view c.in_ok-value.value ≡ element_tree (element_at c.args.data_type.now c.args.elements.now c.loop-place.place) = cc (c.in_ok-value.ensures.answer) in
     shown_more c.loop-place.values.items c.push.new.self.items c.in_ok-value.value (λ (place : ℕ). element_tree (element_at c.args.data_type.now c.args.elements.now place)) c.loop-place.place c.loop-place.invariant c.in_ok-push.ensures.items shows

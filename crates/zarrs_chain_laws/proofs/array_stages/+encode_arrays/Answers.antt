@@ -1,7 +1,8 @@
 use Rattle.std.proofs.Common.{arith, map}
 use Rattle.std.proofs.lemmas.Result.{err_from_is_err_and}
 use Rattle.zarrs_array_to_array.specs.Mapping.{mapping_of}
-use Rattle.zarrs_chain_laws.proofs.ArraySteps.{behind, mappings_are, no_mappings, map_if_ok, encode_none_at, encode_refused_at, encode_at}
+use Rattle.zarrs_array_to_array.proofs.CodecLists.{rest_of, mappings_are, no_mappings}
+use Rattle.zarrs_chain_laws.proofs.ArraySteps.{map_if_ok, encode_none_at, encode_refused_at, encode_at}
 use Rattle.zarrs_chain_laws.proofs.array_stages.+encode_arrays.Goals as goal
 
 pub returns-in_err-chunk-in-len1-up-clause-moved : goal.returns-in_err-chunk-in-len1-up-clause-moved
@@ -9,7 +10,7 @@ returns-in_err-chunk-in-len1-up-clause-moved t c =
     let first = c.first-item.result in
     let codecs = c.args.codecs.now in
     let is = mappings_are codecs first (omega arith) c.first-item.is in
-    let rest = map mapping_of (behind codecs) in
+    let rest = map mapping_of (rest_of codecs) in
     let type = c.args.data_type.now in
     let sizes = c.args.shape.now in
     let p = err_from_is_err_and c.from_residual-in_err-chunk-in-len1-up.result c.from_residual-in_err-chunk-in-len1-up.ensures.1 in
@@ -24,7 +25,7 @@ returns-in_ok-chunk-in-len1-up-clause-moved t c =
     let first = c.first-item.result in
     let codecs = c.args.codecs.now in
     let is = mappings_are codecs first (omega arith) c.first-item.is in
-    let rest = map mapping_of (behind codecs) in
+    let rest = map mapping_of (rest_of codecs) in
     let type = c.args.data_type.now in
     let sizes = c.args.shape.now in
     encode_at type (map mapping_of codecs) (mapping_of first) rest sizes c.in_ok-next-in-len1-up.next c.args.chunk c.in_ok-chunk-in-len1-up.chunk c.encode_arrays.result is c.in_ok-next-in-len1-up.ensures.map c.in_ok-chunk-in-len1-up.ensures.moved c.encode_arrays.ensures.map c.encode_arrays.ensures.moved
@@ -34,7 +35,7 @@ returns-in_ok-chunk-in-len1-up-clause-map t c =
     let first = c.first-item.result in
     let codecs = c.args.codecs.now in
     let is = mappings_are codecs first (omega arith) c.first-item.is in
-    let rest = map mapping_of (behind codecs) in
+    let rest = map mapping_of (rest_of codecs) in
     let type = c.args.data_type.now in
     let sizes = c.args.shape.now in
     map_if_ok type (map mapping_of codecs) (mapping_of first) rest sizes c.in_ok-next-in-len1-up.next c.encode_arrays.result is c.in_ok-next-in-len1-up.ensures.map c.encode_arrays.ensures.map

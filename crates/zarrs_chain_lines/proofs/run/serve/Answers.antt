@@ -6,7 +6,7 @@ use Rattle.zarrs_chain_lines.proofs.run.serve.Goals.{in-Ok+in_ok-write_line-in-O
 
 pub returns-then-not-branch : goal.returns-then-not-branch
 returns-then-not-branch g c =
-    so_far-end _ _ _ _ _ _ _ c.commands.invariant (ends _ _ c.next_filled_line.new.line.items _ c.if-not-branch.true c.in_ok-next_filled_line.ensures.next)
+    record { done = so_far-end _ _ _ _ _ _ _ c.commands.invariant (ends _ _ c.next_filled_line.new.line.items _ c.if-not-branch.true c.in_ok-next_filled_line.ensures.next) }
 
 pub commands-init : goal.commands-init
 commands-init g c = so_far-start _ _ _

@@ -26,13 +26,13 @@ step_more size start xs ys i l m done left =
 pub overflow_mul-fronts : goal.overflow_mul-fronts
 overflow_mul-fronts c =
     let same = at c.loop-index.fronts c.args.fronts.now c.loop-index.index c.loop-index.invariant.left in
-    let room = c.requires c.loop-index.index (omega arith) in
+    let room = c.requires.fits c.loop-index.index (omega arith) in
     rw same (omega (arith, room))
 
 pub overflow_add-fronts : goal.overflow_add-fronts
 overflow_add-fronts c =
     let same = at c.loop-index.fronts c.args.fronts.now c.loop-index.index c.loop-index.invariant.left in
-    let room = c.requires c.loop-index.index (omega arith) in
+    let room = c.requires.fits c.loop-index.index (omega arith) in
     rw same (omega (arith, room))
 
 pub loop-index-preserved : goal.loop-index-preserved

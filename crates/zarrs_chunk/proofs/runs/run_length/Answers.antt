@@ -5,5 +5,5 @@ use Rattle.zarrs_chunk.proofs.runs.run_length.Goals as goal
 pub loop-index-preserved : goal.loop-index-preserved
 loop-index-preserved c =
     let places = c.args.places.now in
-    let next : get_or places c.loop-index.index 0 ≡ get_or places (c.loop-index.index - 1) 0 + 1 = c.follows.ensures.0 c.if-not-follows.false in
+    let next : get_or places c.loop-index.index 0 ≡ get_or places (c.loop-index.index - 1) 0 + 1 = c.follows.ensures.value.0 c.if-not-follows.false in
     run_more places c.loop-index.index (omega arith) (omega arith) c.loop-index.invariant next

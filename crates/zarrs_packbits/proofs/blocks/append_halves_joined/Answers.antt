@@ -1,4 +1,4 @@
-use Rattle.std.proofs.Common.{◌≡◌, ℕ, List, get_or, sym, subst, ◌+◌, ◌-◌, ◌*◌, ◌/◌, ◌<◌, ◌^◌, take, drop, map, length, arith, ap, ◌∙◌}
+use Rattle.std.proofs.Common.{◌≡◌, ℕ, List, get_or, sym, subst, ◌+◌, ◌-◌, ◌*◌, ◌/◌, ◌<◌, ◌^◌, take, drop, arith, ap, ◌∙◌}
 use Rattle.std.specs.List.{flat_map, All}
 use Rattle.std.proofs.lemmas.Nat.{pow_pos, mod_below}
 use Rattle.std.proofs.lemmas.List.Elements.{All-map}
@@ -10,8 +10,11 @@ use Rattle.zarrs_packbits.proofs.BlockLemmas.{joined_step}
 pub join_halves-requires : goal.join_halves-requires
 join_halves-requires c =
     let from = c.copy_from_slice.new.self in
-    subst (λ (xs : List ℕ). All (λ (number : ℕ). number < 2 ^ 4) xs) (sym c.cut_halves.ensures)
-    (All-map (λ (number : ℕ). number < 2 ^ 4) (cut_byte c.args.first 4) from (λ k d lt. mod_below (get_or from k d / 2 ^ c.args.first) (2 ^ 4) (pow_pos 4)))
+    record {
+      bits_fit =
+          subst (λ (xs : List ℕ). All (λ (number : ℕ). number < 2 ^ 4) xs) (sym c.cut_halves.ensures.value)
+          (All-map (λ (number : ℕ). number < 2 ^ 4) (cut_byte c.args.first 4) from (λ k d lt. mod_below (get_or from k d / 2 ^ c.args.first) (2 ^ 4) (pow_pos 4)));
+    }
 
 pub loop-block-preserved : goal.loop-block-preserved
 loop-block-preserved c =
@@ -19,5 +22,5 @@ loop-block-preserved c =
     let bytes = c.args.bytes.now in
     let first = c.args.first in
     let size : 64 * b + 64 - 64 * b ≡ 64 = omega arith in
-    joined_step 4 first b c.args.out.now.items c.loop-block.out.items c.extend_from_slice.new.self.items c.join_halves.result c.copy_from_slice.new.self bytes c.requires (omega arith) (c.copy_from_slice.ensures.after ∙ ap (λ n. take n (drop (64 * b) bytes)) size)
-    (c.join_halves.ensures ∙ ap (flat_map (low_bits 4)) c.cut_halves.ensures) c.loop-block.invariant c.in_ok-extend_from_slice.ensures.items
+    joined_step 4 first b c.args.out.now.items c.loop-block.out.items c.extend_from_slice.new.self.items c.join_halves.result c.copy_from_slice.new.self bytes c.requires.within (omega arith) (c.copy_from_slice.ensures.after ∙ ap (λ n. take n (drop (64 * b) bytes)) size)
+    (c.join_halves.ensures.bits ∙ ap (flat_map (low_bits 4)) c.cut_halves.ensures.value) c.loop-block.invariant c.in_ok-extend_from_slice.ensures.items

@@ -12,7 +12,7 @@ loop-block-preserved c =
     let l = c.args.layout.now in
     let size : 16 * b + 16 - 16 * b ≡ 16 = omega arith in
     let place : 8 * (16 * b) ≡ 0 + 64 * b * l.count = rw c.requires.count (omega arith) in
-    let made = c.quarter_block.ensures ∙ ap (λ w. map (lifted_byte l.first w) (flat_map (fields_of 2 4) c.copy_from_slice.new.self)) c.weight_of_sign-weight.ensures in
+    let made = c.quarter_block.ensures.value ∙ ap (λ w. map (lifted_byte l.first w) (flat_map (fields_of 2 4) c.copy_from_slice.new.self)) c.weight_of_sign-weight.ensures.value in
     let inside : c.args.parts * 2 ≤ 8 * length bytes = rw c.requires.count at c.requires.inside in
     whole_step l 2 4 16 (16 * b) 64 (64 * b) (64 * (b + 1)) c.args.out.now.items c.loop-block.out.items c.extend_from_slice.new.self.items c.quarter_block.result c.copy_from_slice.new.self bytes c.requires.count (omega arith) (omega arith) c.requires.size made (c.copy_from_slice.ensures.after ∙ ap (λ n. take n (drop (16 * b) bytes)) size) (omega (arith, inside)) (omega arith) (omega arith) place (omega arith) c.loop-block.invariant c.in_ok-extend_from_slice.ensures.items
 
@@ -23,11 +23,11 @@ returns c =
     let w = parts / 64 in
     let end : c.loop-block.block ≡ w = omega arith in
     let place : 8 * (16 * w) ≡ 0 + 64 * w * l.count = rw c.requires.count (omega arith) in
-    final_step l 0 (64 * w) (parts % 64) (16 * w) parts (bits_of c.args.out.now.items) (bits_of c.loop-block.out.items) (bits_of c.append_last_quarters.new.out.items) c.args.bytes.now (omega arith) place (rw end at c.loop-block.invariant) c.in_ok-append_last_quarters.ensures
+    record { appended = final_step l 0 (64 * w) (parts % 64) (16 * w) parts (bits_of c.args.out.now.items) (bits_of c.loop-block.out.items) (bits_of c.append_last_quarters.new.out.items) c.args.bytes.now (omega arith) place (rw end at c.loop-block.invariant) c.in_ok-append_last_quarters.ensures.appended }
 
 pub returns-then-parts-eq0 : goal.returns-then-parts-eq0
 returns-then-parts-eq0 c =
     let parts = c.args.parts in
     let end : c.loop-block.block ≡ parts / 64 = omega arith in
     let all : 64 * (parts / 64) ≡ parts = omega arith in
-    (rw (end, all) at c.loop-block.invariant)
+    record { appended = (rw (end, all) at c.loop-block.invariant) }

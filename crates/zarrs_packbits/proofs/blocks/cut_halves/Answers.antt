@@ -1,4 +1,4 @@
-use Rattle.std.proofs.Common.{◌+◌, ◌/◌, ◌^◌, get_or, set, take, arith, rules, ap, sym, ◌∙◌, length, ◌≡◌, map, subst}
+use Rattle.std.proofs.Common.{◌+◌, ◌/◌, ◌^◌, get_or, set, take, arith, rules, ap, sym, ◌∙◌, length, ◌≡◌, map}
 use Rattle.std.specs.Prelude.{bit_and}
 use Rattle.std.proofs.lemmas.Nat.{and_mask}
 use Rattle.std.proofs.lemmas.List.{length-set, take_all}
@@ -27,6 +27,9 @@ returns c =
     let to = c.loop-place.to in
     let long : length from ≡ 64 = search rules in
     let end : c.loop-place.place ≡ 64 = omega arith in
-    sym (take_all 64 to (omega (arith, c.loop-place.invariant.long)))
-    ∙ (rw end at c.loop-place.invariant.made)
-    ∙ ap (map (cut_byte c.args.first 4)) (take_all 64 from (omega arith))
+    record {
+      value =
+          sym (take_all 64 to (omega (arith, c.loop-place.invariant.long)))
+          ∙ (rw end at c.loop-place.invariant.made)
+          ∙ ap (map (cut_byte c.args.first 4)) (take_all 64 from (omega arith));
+    }

@@ -7,4 +7,4 @@ use Rattle.zarrs_packbits.proofs.PlainBlocks.{plain_halves}
 pub returns-then-weight-eq0 : goal.returns-then-weight-eq0
 returns-then-weight-eq0 c =
     let from = c.args.from.now in
-    c.spread_halves-kept.ensures ∙ plain_halves from ∙ ap₂ (λ first weight. map (lifted_byte first weight) (flat_map (fields_of 4 2) from)) (sym c.if-first-eq0.true) (sym c.if-weight-eq0.true)
+    record { value = c.spread_halves-kept.ensures.value ∙ plain_halves from ∙ ap₂ (λ first weight. map (lifted_byte first weight) (flat_map (fields_of 4 2) from)) (sym c.if-first-eq0.true) (sym c.if-weight-eq0.true) }

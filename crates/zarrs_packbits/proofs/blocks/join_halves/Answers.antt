@@ -14,7 +14,7 @@ loop-place-preserved c =
     let byte = bit_or (get_or from (2 * p) 0) (get_or from (2 * p + 1) 0 * 2 ^ 4 % 2 ^ 8) in
     let long : length from ≡ 64 = search rules in
     record {
-      made = halves_joined to from p byte c.loop-place.invariant.long long (omega arith) c.loop-place.invariant.made (c.requires (2 * p) 0 (omega arith)) (c.requires (2 * p + 1) 0 (omega arith)) refl;
+      made = halves_joined to from p byte c.loop-place.invariant.long long (omega arith) c.loop-place.invariant.made (c.requires.bits_fit (2 * p) 0 (omega arith)) (c.requires.bits_fit (2 * p + 1) 0 (omega arith)) refl;
       long = length-set to p byte ∙ c.loop-place.invariant.long;
     }
 
@@ -24,6 +24,9 @@ returns c =
     let to = c.loop-place.to in
     let long : length from ≡ 64 = search rules in
     let end : c.loop-place.place ≡ 32 = omega arith in
-    ap bits_of (sym (take_all 32 to (omega (arith, c.loop-place.invariant.long))))
-    ∙ (rw end at c.loop-place.invariant.made)
-    ∙ ap (flat_map (low_bits 4)) (take_all 64 from (omega arith))
+    record {
+      bits =
+          ap bits_of (sym (take_all 32 to (omega (arith, c.loop-place.invariant.long))))
+          ∙ (rw end at c.loop-place.invariant.made)
+          ∙ ap (flat_map (low_bits 4)) (take_all 64 from (omega arith));
+    }

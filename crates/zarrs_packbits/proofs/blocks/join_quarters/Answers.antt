@@ -18,7 +18,7 @@ loop-place-preserved c =
     let byte = bit_or (bit_or (bit_or a (b * 2 ^ 2 % 2 ^ 8)) (d * 2 ^ 4 % 2 ^ 8)) (e * 2 ^ 6 % 2 ^ 8) in
     let long : length from ≡ 64 = search rules in
     record {
-      made = quarters_joined to from p byte c.loop-place.invariant.long long (omega arith) c.loop-place.invariant.made (c.requires (4 * p) 0 (omega arith)) (c.requires (4 * p + 1) 0 (omega arith)) (c.requires (4 * p + 2) 0 (omega arith)) (c.requires (4 * p + 3) 0 (omega arith)) refl;
+      made = quarters_joined to from p byte c.loop-place.invariant.long long (omega arith) c.loop-place.invariant.made (c.requires.bits_fit (4 * p) 0 (omega arith)) (c.requires.bits_fit (4 * p + 1) 0 (omega arith)) (c.requires.bits_fit (4 * p + 2) 0 (omega arith)) (c.requires.bits_fit (4 * p + 3) 0 (omega arith)) refl;
       long = length-set to p byte ∙ c.loop-place.invariant.long;
     }
 
@@ -28,6 +28,9 @@ returns c =
     let to = c.loop-place.to in
     let long : length from ≡ 64 = search rules in
     let end : c.loop-place.place ≡ 16 = omega arith in
-    ap bits_of (sym (take_all 16 to (omega (arith, c.loop-place.invariant.long))))
-    ∙ (rw end at c.loop-place.invariant.made)
-    ∙ ap (flat_map (low_bits 2)) (take_all 64 from (omega arith))
+    record {
+      bits =
+          ap bits_of (sym (take_all 16 to (omega (arith, c.loop-place.invariant.long))))
+          ∙ (rw end at c.loop-place.invariant.made)
+          ∙ ap (flat_map (low_bits 2)) (take_all 64 from (omega arith));
+    }

@@ -1,4 +1,4 @@
-use Rattle.std.proofs.Common.{◌+◌, get_or, arith, rules, ap, sym, ◌∙◌, length, ◌≡◌, map}
+use Rattle.std.proofs.Common.{get_or, arith, rules, ap, sym, ◌∙◌, length, ◌≡◌, map}
 use Rattle.std.proofs.lemmas.List.{length-set, take_all}
 use Rattle.zarrs_packbits.specs.BlockBits.{lifted_byte}
 use Rattle.zarrs_packbits.proofs.blocks.lifted.Goals as goal
@@ -22,6 +22,9 @@ returns c =
     let to = c.loop-place.to in
     let long : length kept ≡ 64 = search rules in
     let end : c.loop-place.place ≡ 64 = omega arith in
-    sym (take_all 64 to (omega (arith, c.loop-place.invariant.long)))
-    ∙ (rw end at c.loop-place.invariant.made)
-    ∙ ap (map (lifted_byte c.args.first c.args.weight)) (take_all 64 kept (omega arith))
+    record {
+      value =
+          sym (take_all 64 to (omega (arith, c.loop-place.invariant.long)))
+          ∙ (rw end at c.loop-place.invariant.made)
+          ∙ ap (map (lifted_byte c.args.first c.args.weight)) (take_all 64 kept (omega arith));
+    }

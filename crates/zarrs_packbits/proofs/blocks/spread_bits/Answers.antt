@@ -1,4 +1,4 @@
-use Rattle.std.proofs.Common.{◌+◌, ◌*◌, ◌/◌, ◌%◌, ◌^◌, get_or, arith, rules, ap, ◌∙◌, length, ◌≡◌}
+use Rattle.std.proofs.Common.{◌/◌, ◌%◌, ◌^◌, get_or, arith, rules, ◌∙◌, length, ◌≡◌}
 use Rattle.std.specs.Prelude.{bit_and}
 use Rattle.std.proofs.lemmas.Nat.Bits.{shr_and_one}
 use Rattle.std.proofs.lemmas.List.{length-set}
@@ -21,4 +21,4 @@ pub returns : goal.returns
 returns c =
     let long : length c.args.from.now ≡ 8 = search rules in
     let end : c.loop-place.place ≡ 64 = omega arith in
-    spread_done c.loop-place.to c.args.from.now c.loop-place.invariant.long long (rw end at c.loop-place.invariant.made)
+    record { value = spread_done c.loop-place.to c.args.from.now c.loop-place.invariant.long long (rw end at c.loop-place.invariant.made) }

@@ -1,4 +1,4 @@
-use Rattle.std.proofs.Common.{◌+◌, ◌*◌, ◌/◌, ◌%◌, ◌^◌, ◌<◌, get_or, arith, rules, ap, sym, ◌∙◌, length, ◌≡◌, set, take}
+use Rattle.std.proofs.Common.{◌+◌, ◌*◌, ◌/◌, ◌^◌, ◌<◌, get_or, arith, rules, ap, sym, ◌∙◌, length, ◌≡◌, set}
 use Rattle.std.specs.List.{flat_map}
 use Rattle.std.specs.Prelude.{bit_and}
 use Rattle.std.proofs.lemmas.Nat.{and_mask}
@@ -33,6 +33,9 @@ returns c =
     let to = c.loop-place.to in
     let long : length from ≡ 16 = search rules in
     let end : c.loop-place.place ≡ 16 = omega arith in
-    sym (take_all 64 to (omega (arith, c.loop-place.invariant.long)))
-    ∙ (rw end at c.loop-place.invariant.made)
-    ∙ ap (flat_map (fields_of 2 4)) (take_all 16 from (omega arith))
+    record {
+      value =
+          sym (take_all 64 to (omega (arith, c.loop-place.invariant.long)))
+          ∙ (rw end at c.loop-place.invariant.made)
+          ∙ ap (flat_map (fields_of 2 4)) (take_all 16 from (omega arith));
+    }

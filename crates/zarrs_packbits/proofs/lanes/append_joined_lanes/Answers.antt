@@ -1,9 +1,9 @@
 use Rattle.std.proofs.Common.{◌*◌, ◌≤◌, length, arith}
-use Rattle.std.proofs.Math.Nat.{mul-le-mul_left}
+use Rattle.std.proofs.Math.Nat.{mul-le-mul_left, div-mul-le_self}
 use Rattle.zarrs_packbits.proofs.lanes.append_joined_lanes.Goals as goal
 use Rattle.zarrs_packbits.specs.PackedLayout.{parts_of}
 use Rattle.zarrs_packbits.specs.WrittenBits.{written_bits}
-use Rattle.zarrs_packbits.proofs.LaneLemmas.{div_below, joined_step, word_inside}
+use Rattle.zarrs_packbits.proofs.LaneLemmas.{joined_step, word_inside}
 
 pub overflow_mul-group : goal.overflow_mul-group
 overflow_mul-group c =
@@ -21,7 +21,7 @@ overflow_mul-result c =
     let l = c.args.layout.now in
     let some : 1 ≤ l.size = omega (arith, c.requires.layout.size, c.requires.layout.some) in
     let row : parts_of l * 1 ≤ parts_of l * l.size = mul-le-mul_left (parts_of l) some in
-    omega (arith, div_below (parts_of l) c.args.lanes, c.requires.layout.bytes_fit)
+    omega (arith, div-mul-le_self (parts_of l) c.args.lanes, c.requires.layout.bytes_fit)
 
 pub loop-group-preserved : goal.loop-group-preserved
 loop-group-preserved c =

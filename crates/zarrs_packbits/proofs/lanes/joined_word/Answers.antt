@@ -20,7 +20,7 @@ loop-lane-preserved c =
     let narrow : lane * count ≤ lane * width = mul-le-mul_left lane (omega (arith, c.requires.within)) in
     let moved : word / 2 ^ c.args.first / 2 ^ (lane * width) ≡ word / 2 ^ at
     = div-div-eq-div-mul word (2 ^ c.args.first) (2 ^ (lane * width)) ∙ ap (λ n. word / n) (let e : 2 ^ c.args.first * 2 ^ (lane * width) ≡ 2 ^ (lane * width) * 2 ^ c.args.first = omega arith in e ∙ sym (pow-add 2 (lane * width) c.args.first)) in
-    let is : part ≡ word / 2 ^ at % 2 ^ count = c.lowest-kept.ensures ∙ ap (λ n. n % 2 ^ count) moved in
+    let is : part ≡ word / 2 ^ at % 2 ^ count = c.lowest-kept.ensures.value ∙ ap (λ n. n % 2 ^ count) moved in
     let small : part < 2 ^ count = rw is (mod_below (word / 2 ^ at) (2 ^ count) (pow_pos count)) in
     let here : low_bits count part ≡ f lane = ap (low_bits count) is ∙ field_of_low 64 word at count (omega (arith, c.requires.within)) in
     subst (LaneIs f (lane + 1) count) (sym (lane_value (lane * count) count joined part (omega (arith, c.requires.within)) c.loop-lane.invariant.below small)) (lane_more f lane count joined part small here c.loop-lane.invariant)

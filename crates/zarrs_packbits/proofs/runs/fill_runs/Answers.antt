@@ -15,5 +15,5 @@ returns c =
     let is : bytes.items ≡ copies fill count = c.in_ok-append_copies.ensures.appended ∙ ap (λ xs. xs ++ copies fill count) c.in_ok-bytes.ensures.items in
     let one : 1 ≤ length fill = omega arith in
     let more : count * 1 ≤ count * length fill = mul-le-mul_left count one in
-    let exact : count ≡ length places = omega (arith, more, ap length is, length-copies fill count, bytes.ok, bytes.small, c.count_of-count.ensures) in
-    is ∙ ap (copies fill) exact ∙ copies_of_places fill places
+    let exact : count ≡ length places = omega (arith, more, ap length is, length-copies fill count, bytes.ok, bytes.small, c.count_of-count.ensures.count) in
+    record { value = is ∙ ap (copies fill) exact ∙ copies_of_places fill places }

@@ -45,4 +45,4 @@ returns-in-Some-clause-answer g c =
     let through = runs_read l (g.H.BytesPartialDecoderTraits.state c.args.handle.now).value c.args.fill.now runs rs c.as_slice.result.now c.requires.layout are (sym c.in_ok-ranges.ensures.spans) c.as_slice.ensures.value in
     let read = rw c.in-Some.is at c.in_ok-bytes.ensures.answer in
     through ∙ ap (finished_runs l c.args.fill.now runs) read ∙ ap (λ b. Ok (packing (run_bits l b runs))) (sym c.as_slice-in-Some.ensures.value)
-    ∙ ap Ok (sym c.in_ok-unpack_runs-in-Some.ensures)
+    ∙ ap Ok (sym c.in_ok-unpack_runs-in-Some.ensures.value)

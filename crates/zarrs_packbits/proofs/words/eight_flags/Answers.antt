@@ -11,7 +11,7 @@ returns-clause-bits c =
     let long : length c.args.bytes.now ≡ 8 = search rules in
     ap (λ n. low_bits 8 (n % 2 ^ 64 / 2 ^ 56)) (product_moved w b c.requires.bit)
     ∙ ap (low_bits 8) (product_is x) ∙ low_bits-joined 8 x
-    ∙ flags_are c.args.bytes.now w b long c.requires.bit c.read_word.ensures
+    ∙ flags_are c.args.bytes.now w b long c.requires.bit c.read_word.ensures.bits
 
 pub returns-clause-below : goal.returns-clause-below
 returns-clause-below c =

@@ -1,11 +1,10 @@
-use Rattle.std.proofs.Common.{◌≡◌, ◌+◌, ◌*◌, ◌/◌, ◌%◌, ◌^◌, ◌<◌, ◌≤◌, get_or, length, arith, ap, sym, subst, ◌∙◌}
+use Rattle.std.proofs.Common.{◌≡◌, ◌+◌, ◌*◌, ◌/◌, ◌%◌, ◌^◌, ◌<◌, ◌≤◌, get_or, arith, ap, sym, subst, ◌∙◌}
 use Rattle.std.specs.Prelude.{bit_or, bit_and}
 use Rattle.std.proofs.lemmas.Nat.{shl_whole, or_comm, or_shifted, pow-add}
 use Rattle.std.proofs.lemmas.Nat.Bits.{shr_and_one, bit_at-lt}
 use Rattle.std.proofs.Math.Nat.{mul-le-mul_right}
 use Rattle.zarrs_packbits.proofs.FlagLemmas.{flags_more}
 use Rattle.zarrs_packbits.specs.Bits.{low_bits}
-use Rattle.zarrs_packbits.specs.WrittenBits.{flags_of}
 use Rattle.zarrs_packbits.proofs.words.gather_flags.Goals as goal
 
 pub loop-index-preserved : goal.loop-index-preserved
@@ -26,7 +25,7 @@ loop-index-preserved c =
     })
 
 pub returns-then-bytes-eq64-clause-bits : goal.returns-then-bytes-eq64-clause-bits
-returns-then-bytes-eq64-clause-bits c = ap (λ n. low_bits n c.gather_word.result) c.if-bytes-eq64.true ∙ c.gather_word.ensures
+returns-then-bytes-eq64-clause-bits c = ap (λ n. low_bits n c.gather_word.result) c.if-bytes-eq64.true ∙ c.gather_word.ensures.bits
 
 pub returns-then-bytes-eq64-clause-below : goal.returns-then-bytes-eq64-clause-below
 returns-then-bytes-eq64-clause-below c = subst (λ n. c.gather_word.result < 2 ^ n) (sym c.if-bytes-eq64.true) c.gather_word.type_inv

@@ -1,5 +1,4 @@
-use Rattle.std.proofs.Common.{◌≡◌, ◌+◌, ◌-◌, ◌*◌, ◌^◌, take, drop, arith, ap, sym, ◌∙◌}
-use Rattle.zarrs_packbits.specs.Bits.{low_bits}
+use Rattle.std.proofs.Common.{◌≡◌, ◌+◌, ◌-◌, ◌*◌, take, drop, arith, ap, sym, ◌∙◌}
 use Rattle.zarrs_packbits.proofs.FlagLemmas.{flags_before}
 use Rattle.zarrs_packbits.proofs.ProductLemmas.{flags_step, flags_joined, flags_below}
 use Rattle.zarrs_packbits.proofs.words.gather_word.Goals as goal
@@ -19,4 +18,4 @@ loop-index-preserved c =
 pub returns : goal.returns
 returns c =
     let end : c.loop-index.index ≡ 8 = omega arith in
-    (rw end at c.loop-index.invariant.bits) ∙ ap (flags_before c.args.bit c.args.bytes.now) (sym c.requires.count)
+    record { bits = (rw end at c.loop-index.invariant.bits) ∙ ap (flags_before c.args.bit c.args.bytes.now) (sym c.requires.count) }

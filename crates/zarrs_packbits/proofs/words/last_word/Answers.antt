@@ -1,4 +1,4 @@
-use Rattle.std.proofs.Common.{ℕ, ◌∷◌, [], ◌++◌, length, drop, ap, ◌∙◌, arith}
+use Rattle.std.proofs.Common.{◌∷◌, [], ◌++◌, length, drop, ap, ◌∙◌, arith}
 use Rattle.zarrs_packbits.specs.Bits.{bits_of}
 use Rattle.zarrs_packbits.proofs.words.last_word.Goals as goal
 use Rattle.zarrs_packbits.proofs.WordLemmas.{last_bits}
@@ -7,4 +7,4 @@ pub returns : goal.returns
 returns c =
     let bytes = c.args.bytes.now in
     let zeros = drop (length bytes) (0 ∷ 0 ∷ 0 ∷ 0 ∷ 0 ∷ 0 ∷ 0 ∷ 0 ∷ []) in
-    last_bits bytes zeros c.read_word.result (omega (arith, c.requires)) (c.read_word.ensures ∙ ap (λ bs. bits_of (bs ++ zeros)) c.copy_from_slice.ensures.after)
+    record { bits = last_bits bytes zeros c.read_word.result (omega (arith, c.requires.len)) (c.read_word.ensures.bits ∙ ap (λ bs. bits_of (bs ++ zeros)) c.copy_from_slice.ensures.after) }

@@ -10,6 +10,6 @@ returns-clause-bits c =
     let shift = c.args.shift in
     let count = c.args.count in
     let size : start + 8 - start ≡ 8 = omega arith in
-    let held = c.read_word.ensures ∙ ap bits_of (c.copy_from_slice.ensures.after ∙ ap (λ n. take n (drop start bytes)) size) in
-    ap (low_bits count) c.lowest.ensures
+    let held = c.read_word.ensures.bits ∙ ap bits_of (c.copy_from_slice.ensures.after ∙ ap (λ n. take n (drop start bytes)) size) in
+    ap (low_bits count) c.lowest.ensures.value
     ∙ field_within (bits_of bytes) (8 * start) shift count c.read_word.result (word_field bytes start (shift + count) c.read_word.result c.requires.within c.requires.inside held)

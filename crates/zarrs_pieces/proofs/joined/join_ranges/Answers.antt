@@ -8,5 +8,5 @@ use Rattle.zarrs_pieces.proofs.joined.join_ranges.Goals as goal
 pub returns-clause-joins : goal.returns-clause-joins
 returns-clause-joins c =
     let sorted = c.sort_by_key.new.self.items in
-    subst (λ (v : List ByteSpan). Joins c.args.ranges.items v) (sym (c.in_ok-join_rising.ensures ∙ ap (joined_from 0 0) c.as_slice.ensures.value))
+    subst (λ (v : List ByteSpan). Joins c.args.ranges.items v) (sym (c.in_ok-join_rising.ensures.value ∙ ap (joined_from 0 0) c.as_slice.ensures.value))
     (joins c.args.ranges.items sorted c.in_ok-sort_by_key.ensures.permutation (IsNonDecreasingBy-from_sort_by_key start_of sorted c.in_ok-sort_by_key.ensures.sorted (λ a r q k. search rules)))

@@ -1,8 +1,7 @@
-use Rattle.std.proofs.Common.{◌≡◌, ℕ, ◌+◌, ◌-◌, ◌<◌, ◌≤◌, true, false, nat_le, Some, None, is_some, length, ap, sym, ◌∙◌, arith}
-use Rattle.std.specs.List.{between, list_all, range_with_len}
+use Rattle.std.proofs.Common.{◌≡◌, ℕ, ◌+◌, ◌-◌, true, Some, None, is_some, length, ap, sym, ◌∙◌, arith}
 use Rattle.std.specs.Option.{option_map}
 use Rattle.std.proofs.lemmas.Bool.Decides.{nat_tests}
-use Rattle.zarrs_pieces.specs.Pieces.{piece_seen, pieces_seen, piece_with, is_at_hand, value_with}
+use Rattle.zarrs_pieces.specs.Pieces.{piece_seen, pieces_seen, piece_with, is_at_hand}
 use Rattle.zarrs_pieces.proofs.PieceLemmas.{has_it, part_is, ended, passes, value_length}
 use Rattle.zarrs_pieces.proofs.piece.part_of.Goals as goal
 

@@ -1,4 +1,4 @@
-use Rattle.std.proofs.Common.{◌≡◌, ℕ, ◌-◌, ◌<◌, ◌≤◌, length, ap, subst, sym, ◌∙◌, arith}
+use Rattle.std.proofs.Common.{ℕ, ◌-◌, ◌≤◌, ap, subst, sym, ◌∙◌, arith}
 use Rattle.std.proofs.lemmas.List.{take_rest}
 use Rattle.zarrs_pieces.specs.Pieces.{PlainPiece, piece_with, pieces_seen}
 use Rattle.zarrs_pieces.proofs.PieceLemmas.{skipped, seen_at, seen_from, seen_length}

@@ -28,8 +28,10 @@ of_masked-requires t c =
     let flags : List ℕ = (raw_of c.in-Optional.mask).items in
     let are : map (slice_index flags) (joined_runs c.args.runs.now) ≡ c.in_ok-mask-in-Optional.mask.items = rw items at picked in
     let inside : All (λ place. place < length flags) (joined_runs c.args.runs.now) = subst (λ n. All (λ place. place < n) (joined_runs c.args.runs.now)) (sym count) (places_below c.args.count c.args.runs.now c.requires.inside) in
-    subst (λ xs. list_all (λ b. nat_lt b 2) xs ≡ true) are
-    (list_all-picked (λ b. nat_lt b 2) flags (joined_runs c.args.runs.now) (rw c.in-Optional.is at c.self.invariant) inside)
+    record {
+      flags = subst (λ xs. list_all (λ b. nat_lt b 2) xs ≡ true) are
+          (list_all-picked (λ b. nat_lt b 2) flags (joined_runs c.args.runs.now) (rw c.in-Optional.is at c.self.invariant) inside);
+    }
 
 pub returns-in_ok-bytes-in-Variable-clause-exact : goal.returns-in_ok-bytes-in-Variable-clause-exact
 returns-in_ok-bytes-in-Variable-clause-exact t c =
@@ -42,6 +44,6 @@ returns-in_ok-bytes-in-Variable-clause-exact t c =
       is = ap Ok (ap (λ h. container_selection c.args.data_type.now h places) seen ∙ is ∙ ap (λ bs. variable_of (bytes_with_offsets (cut c.in-Variable.offsets bs) places)) (sym items)
           ∙ ap (λ os. variable_of (bytes_with_offsets (cut os c.as_slice-in-Variable.result.now) places)) (sym c.as_slice-in-Variable-2.ensures.value)
           ∙ ap variable_of both
-          ∙ sym c.of_variable.ensures);
+          ∙ sym c.of_variable.ensures.made);
       no_fault = search rules;
     }

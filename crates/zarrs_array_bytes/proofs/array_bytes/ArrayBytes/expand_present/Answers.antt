@@ -2,9 +2,19 @@ use Rattle.std.proofs.Common.{rules, ◌≡◌, List, ℕ, Ok, subst, ◌∙◌}
 use Rattle.zarrs_array_bytes.specs.Held.{raw_of}
 use Rattle.zarrs_array_bytes.specs.Present.{expansion_of}
 use Rattle.zarrs_array_bytes.proofs.ValidLemmas.{raw_items}
-use Rattle.zarrs_array_bytes.proofs.PresentAnswers.{expanded_answers}
+use Rattle.zarrs_array_bytes.proofs.PresentAnswers.{expanded_answers, expanded_flags}
 use Rattle.zarrs_array_bytes.proofs.BlankLemmas.{expanded_over, expanded_blank}
 use Rattle.zarrs_array_bytes.proofs.array_bytes.ArrayBytes.expand_present.Goals as goal
+
+pub under_mask-requires : goal.under_mask-requires
+under_mask-requires c =
+    let type = c.args.data_type.now in
+    let bytes : c.as_slice.result.now ≡ (raw_of c.args.mask).items = c.as_slice.ensures.value ∙ raw_items c.args.mask in
+    let is : expansion_of type c.args.self c.as_slice.result.now ≡ Ok c.in_ok-inner.inner = cc (c.in_ok-inner.ensures.exact.is) in
+    record {
+      flags = expanded_flags type c.args.self c.in_ok-inner.inner (raw_of c.args.mask)
+          (subst (λ (xs : List ℕ). expansion_of type c.args.self xs ≡ Ok c.in_ok-inner.inner) bytes is);
+    }
 
 pub returns-clause-answer : goal.returns-clause-answer
 returns-clause-answer c =
@@ -12,8 +22,8 @@ returns-clause-answer c =
     let bytes : c.as_slice.result.now ≡ (raw_of c.args.mask).items = c.as_slice.ensures.value ∙ raw_items c.args.mask in
     let is : expansion_of type c.args.self c.as_slice.result.now ≡ Ok c.in_ok-inner.inner = cc (c.in_ok-inner.ensures.exact.is) in
     record {
-      is = expanded_answers type c.args.self c.in_ok-inner.inner (raw_of c.args.mask) c.with_optional_mask.result
-          (subst (λ (xs : List ℕ). expansion_of type c.args.self xs ≡ Ok c.in_ok-inner.inner) bytes is) c.with_optional_mask.ensures.answer;
+      is = expanded_answers type c.args.self c.in_ok-inner.inner (raw_of c.args.mask) c.under_mask.result
+          (subst (λ (xs : List ℕ). expansion_of type c.args.self xs ≡ Ok c.in_ok-inner.inner) bytes is) c.under_mask.ensures.answer;
       no_fault = search rules;
     }
 
@@ -22,13 +32,13 @@ returns-clause-absent c =
     let type = c.args.data_type.now in
     let bytes : c.as_slice.result.now ≡ (raw_of c.args.mask).items = c.as_slice.ensures.value ∙ raw_items c.args.mask in
     let is : expansion_of type c.args.self c.as_slice.result.now ≡ Ok c.in_ok-inner.inner = cc (c.in_ok-inner.ensures.exact.is) in
-    expanded_over type c.args.self c.in_ok-inner.inner (raw_of c.args.mask) c.with_optional_mask.result
-    (subst (λ (xs : List ℕ). expansion_of type c.args.self xs ≡ Ok c.in_ok-inner.inner) bytes is) c.with_optional_mask.ensures.answer
+    expanded_over type c.args.self c.in_ok-inner.inner (raw_of c.args.mask) c.under_mask.result
+    (subst (λ (xs : List ℕ). expansion_of type c.args.self xs ≡ Ok c.in_ok-inner.inner) bytes is) c.under_mask.ensures.answer
 
 pub returns-clause-blank : goal.returns-clause-blank
 returns-clause-blank c =
     let type = c.args.data_type.now in
     let bytes : c.as_slice.result.now ≡ (raw_of c.args.mask).items = c.as_slice.ensures.value ∙ raw_items c.args.mask in
     let is : expansion_of type c.args.self c.as_slice.result.now ≡ Ok c.in_ok-inner.inner = cc (c.in_ok-inner.ensures.exact.is) in
-    expanded_blank type c.args.self c.in_ok-inner.inner (raw_of c.args.mask) c.with_optional_mask.result
-    (subst (λ (xs : List ℕ). expansion_of type c.args.self xs ≡ Ok c.in_ok-inner.inner) bytes is) c.with_optional_mask.ensures.answer
+    expanded_blank type c.args.self c.in_ok-inner.inner (raw_of c.args.mask) c.under_mask.result
+    (subst (λ (xs : List ℕ). expansion_of type c.args.self xs ≡ Ok c.in_ok-inner.inner) bytes is) c.under_mask.ensures.answer

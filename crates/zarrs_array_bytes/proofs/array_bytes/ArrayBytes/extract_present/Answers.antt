@@ -11,7 +11,7 @@ pub returns-then-count-mask-clause-answer : goal.returns-then-count-mask-clause-
 returns-then-count-mask-clause-answer c =
     let mask = c.args.mask.now in
     let valid : validity c.args.data_type.now (length mask) c.args.self ≡ Ok tt = sym (c.in_ok-validate.ensures {u = tt}).exact in
-    let all : length (present_places mask) ≡ length mask = sym c.count_set-count.ensures ∙ c.if-count-mask.true in
+    let all : length (present_places mask) ≡ length mask = sym c.count_set-count.ensures.count ∙ c.if-count-mask.true in
     record { is = whole_answers c.args.data_type.now c.args.self mask valid all; no_fault = search rules }
 
 pub returns-clause-blank : goal.returns-clause-blank

@@ -1,4 +1,4 @@
-use Rattle.std.proofs.Common.{ap, Err}
+use Rattle.std.proofs.Common.{ap, Err, rules}
 use Rattle.zarrs_chunk.specs.Indexer.{selection_of}
 use Rattle.zarrs_array_bytes.specs.Held.{Held}
 use Rattle.zarrs_array_bytes.specs.Validity.{Holds}
@@ -46,14 +46,23 @@ returns-in-Err-clause-indexer_first g c =
     refused_first coordinates asked stage.shape selection (Holds reader.type) c.in-Err.error c.in-Err.ensures.answer.is
 
 pub returns-in-Err-clause-left : goal.returns-in-Err-clause-left
-returns-in-Err-clause-left g c = left_alone Held c.in-Err.error (g.I.ArrayPartialDecoderTraits.state c.args.self.now.input) c.in-Err.ensures.answer.no_fault
+returns-in-Err-clause-left g c =
+    record {
+      left = left_alone Held c.in-Err.error (g.I.ArrayPartialDecoderTraits.state c.args.self.now.input) c.in-Err.ensures.answer.no_fault;
+      same_reference = search rules;
+      form_kept = search rules;
+    }
 
-pub returns-in-Ok-clause-reader_kept : goal.returns-in-Ok-clause-reader_kept
-returns-in-Ok-clause-reader_kept g c =
+pub returns-in-Ok-clause-left : goal.returns-in-Ok-clause-left
+returns-in-Ok-clause-left g c =
     let stage = c.args.self.now in
     let coordinates = g.C.ArrayToArrayCodecTraits.coordinates stage.codec stage.shape in
     let asked = g.C.ArrayToArrayCodecTraits.asked stage.codec stage.shape in
-    ap (mapped_reader coordinates asked (g.C.CodecTraits.reads_in_part stage.codec).partial_decode stage.shape) c.partial_decode.ensures.reader_kept
+    record {
+      left = c.partial_decode.ensures.left.left;
+      same_reference = c.partial_decode.ensures.left.same_reference;
+      form_kept = ap (mapped_reader coordinates asked (g.C.CodecTraits.reads_in_part stage.codec).partial_decode stage.shape) c.partial_decode.ensures.left.form_kept;
+    }
 
 pub returns-in-Ok-clause-writer_kept : goal.returns-in-Ok-clause-writer_kept
 returns-in-Ok-clause-writer_kept g c =

@@ -1,4 +1,4 @@
-use Rattle.std.proofs.Common.{ap, Err}
+use Rattle.std.proofs.Common.{ap, Err, rules}
 use Rattle.zarrs_chunk.specs.Answer.{Answers, memory}
 use Rattle.zarrs_chunk.specs.Indexer.{selection_of}
 use Rattle.zarrs_codec.specs.ArrayWriter.{mapped_writer}
@@ -91,8 +91,8 @@ returns-in-Ok-clause-untouched g c =
     let image = image_of coordinates asked stage.shape selection in
     passed_check image (selection_of c.in-Ok.encoded) (λ encoded. writer.checks encoded new) _ c.in-Ok.ensures.answer.is c.partial_encode.ensures.untouched
 
-pub returns-in-Err-clause-refused : goal.returns-in-Err-clause-refused
-returns-in-Err-clause-refused g c =
+pub returns-in-Err-clause-left : goal.returns-in-Err-clause-left
+returns-in-Err-clause-left g c =
     let stage = c.args.self.now in
     let coordinates = g.C.ArrayToArrayCodecTraits.coordinates stage.codec stage.shape in
     let asked = g.C.ArrayToArrayCodecTraits.asked stage.codec stage.shape in
@@ -101,10 +101,16 @@ returns-in-Err-clause-refused g c =
     let selection = selection_of c.args.indexer.now in
     let new = c.args.elements.now in
     let image = image_of coordinates asked stage.shape selection in
-    alone c.in-Err.refusal state c.in-Err.ensures.answer.no_fault
+    record {
+      one_write = search rules;
+      refused = alone c.in-Err.refusal state c.in-Err.ensures.answer.no_fault;
+      kept_if_atomic = search rules;
+      same_reference = search rules;
+      form_kept = search rules;
+    }
 
-pub returns-in-Ok-clause-writer_kept : goal.returns-in-Ok-clause-writer_kept
-returns-in-Ok-clause-writer_kept g c =
+pub returns-in-Ok-clause-left : goal.returns-in-Ok-clause-left
+returns-in-Ok-clause-left g c =
     let stage = c.args.self.now in
     let coordinates = g.C.ArrayToArrayCodecTraits.coordinates stage.codec stage.shape in
     let asked = g.C.ArrayToArrayCodecTraits.asked stage.codec stage.shape in
@@ -113,4 +119,10 @@ returns-in-Ok-clause-writer_kept g c =
     let selection = selection_of c.args.indexer.now in
     let new = c.args.elements.now in
     let image = image_of coordinates asked stage.shape selection in
-    ap (mapped_writer coordinates asked (g.C.CodecTraits.reads_in_part stage.codec).partial_decode stage.shape) c.partial_encode.ensures.writer_kept
+    record {
+      one_write = c.partial_encode.ensures.left.one_write;
+      refused = c.partial_encode.ensures.left.refused;
+      kept_if_atomic = c.partial_encode.ensures.left.kept_if_atomic;
+      same_reference = c.partial_encode.ensures.left.same_reference;
+      form_kept = ap (mapped_writer coordinates asked (g.C.CodecTraits.reads_in_part stage.codec).partial_decode stage.shape) c.partial_encode.ensures.left.form_kept;
+    }

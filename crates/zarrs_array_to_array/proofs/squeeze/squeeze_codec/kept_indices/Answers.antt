@@ -10,7 +10,7 @@ loop-axis-preserved c =
     let xs = c.args.indices.now in
     let axis = c.loop-axis.axis in
     let p : axis < length sizes = omega arith in
-    let q : axis < length xs = omega (arith, c.requires) in
+    let q : axis < length xs = omega (arith, c.requires.axes) in
     let all = kept_indices sizes xs in
     elim c.if-sizes-axis-ne1.branch [
       | then-sizes-axis-ne1+in_ok-push w ↦

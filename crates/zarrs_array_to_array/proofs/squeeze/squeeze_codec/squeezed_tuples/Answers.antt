@@ -6,5 +6,5 @@ use Rattle.zarrs_array_to_array.proofs.squeeze.squeeze_codec.squeezed_tuples.Goa
 pub squeezed_tuple-requires : goal.squeezed_tuple-requires
 squeezed_tuple-requires c =
     let sizes = c.args.sizes.now in
-    let inside = tuple_inside-at sizes c.args.tuples.now c.loop-tuple.tuple-index c.tuple-item.result c.requires (omega arith) in
-    ap length c.as_slice.ensures.value ∙ ap (λ v. length v.items) c.tuple-item.is ∙ is_tuple_inside-length sizes _ inside
+    let inside = tuple_inside-at sizes c.args.tuples.now c.loop-tuple.tuple-index c.tuple-item.result c.requires.inside (omega arith) in
+    record { axes = ap length c.as_slice.ensures.value ∙ ap (λ v. length v.items) c.tuple-item.is ∙ is_tuple_inside-length sizes _ inside }

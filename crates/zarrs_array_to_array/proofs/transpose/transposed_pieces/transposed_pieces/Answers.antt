@@ -29,5 +29,8 @@ returns c =
     let f : ℕ → List ℕ = piece c.args.size c.args.bytes.now in
     let places : behind c.as_slice.result.now (0 ∷ []) ≡ origins (transposition order sizes) =
     ap (λ (axes : List Axis). behind axes (0 ∷ [])) c.as_slice.ensures.value ∙ (c.in_ok-axes.ensures {u = tt}).places ∙ sym (origins-stepped order sizes (order_parts order c.requires.order) c.requires.axes) in
-    IfOk-weaker c.gather_axes.result (λ (v : Vec ℕ Global). v.items ≡ flat_map f (behind c.as_slice.result.now (0 ∷ []))) (λ (v : Vec ℕ Global). v.items ≡ flat_map f (origins (transposition order sizes)))
-    (λ v h. h ∙ ap (flat_map f) places) c.gather_axes.ensures
+    record {
+      value =
+          IfOk-weaker c.gather_axes.result (λ (v : Vec ℕ Global). v.items ≡ flat_map f (behind c.as_slice.result.now (0 ∷ []))) (λ (v : Vec ℕ Global). v.items ≡ flat_map f (origins (transposition order sizes)))
+          (λ v h. h ∙ ap (flat_map f) places) c.gather_axes.ensures.value;
+    }

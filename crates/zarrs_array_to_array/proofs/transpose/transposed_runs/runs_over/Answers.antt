@@ -11,16 +11,16 @@ use Rattle.zarrs_array_to_array.proofs.transpose.transposed_runs.runs_over.Goals
 pub returns-then-last-ne1-clause-places : goal.returns-then-last-ne1-clause-places
 returns-then-last-ne1-clause-places c =
     let axes : List Axis = c.args.axes.now in
-    let places : c.as_slice.result.now ≡ behind axes (0 ∷ []) = c.as_slice.ensures.value ∙ c.in_ok-places.ensures {u = tt} in
+    let places : c.as_slice.result.now ≡ behind axes (0 ∷ []) = c.as_slice.ensures.value ∙ (c.in_ok-places.ensures {u = tt}).places in
     IfOk-weaker c.runs_from.result (λ (v : Vec (ℕ × ℕ) Global). v.items ≡ wide_runs 1 c.as_slice.result.now) (λ (v : Vec (ℕ × ℕ) Global). joined_runs v.items ≡ behind axes (0 ∷ []))
-    (λ v h. ap joined_runs (h ∙ ap (wide_runs 1) places) ∙ one_each (behind axes (0 ∷ []))) c.runs_from.ensures
+    (λ v h. ap joined_runs (h ∙ ap (wide_runs 1) places) ∙ one_each (behind axes (0 ∷ []))) c.runs_from.ensures.value
 
 pub returns-then-last-ne1-clause-below : goal.returns-then-last-ne1-clause-below
 returns-then-last-ne1-clause-below c =
     let axes : List Axis = c.args.axes.now in
-    let places : c.as_slice.result.now ≡ behind axes (0 ∷ []) = c.as_slice.ensures.value ∙ c.in_ok-places.ensures {u = tt} in
+    let places : c.as_slice.result.now ≡ behind axes (0 ∷ []) = c.as_slice.ensures.value ∙ (c.in_ok-places.ensures {u = tt}).places in
     IfOk-weaker c.runs_from.result (λ (v : Vec (ℕ × ℕ) Global). v.items ≡ wide_runs 1 c.as_slice.result.now) (λ (v : Vec (ℕ × ℕ) Global). All (λ (run : ℕ × ℕ). run.0 + run.1 ≤ reach axes + 1) v.items)
-    (λ v h. rw (h ∙ ap (wide_runs 1) places) (wide_below axes 1 (reach axes + 1) (omega arith))) c.runs_from.ensures
+    (λ v h. rw (h ∙ ap (wide_runs 1) places) (wide_below axes 1 (reach axes + 1) (omega arith))) c.runs_from.ensures.value
 
 pub places_over-requires-2 : goal.places_over-requires-2
 places_over-requires-2 c =
@@ -34,9 +34,9 @@ returns-clause-places c =
     let lead = length axes - 1 in
     let none : Axis = record { size = 0; step = 0 } in
     let last : Axis = get_or axes lead none in
-    let fronts : c.as_slice-2.result.now ≡ behind (take lead axes) (0 ∷ []) = c.as_slice-2.ensures.value ∙ c.in_ok-fronts.ensures {u = tt} in
+    let fronts : c.as_slice-2.result.now ≡ behind (take lead axes) (0 ∷ []) = c.as_slice-2.ensures.value ∙ (c.in_ok-fronts.ensures {u = tt}).places in
     IfOk-weaker c.runs_from-2.result (λ (v : Vec (ℕ × ℕ) Global). v.items ≡ wide_runs last.size c.as_slice-2.result.now) (λ (v : Vec (ℕ × ℕ) Global). joined_runs v.items ≡ behind axes (0 ∷ []))
-    (λ v h. ap joined_runs (h ∙ ap (wide_runs last.size) fronts) ∙ runs_of_last axes lead none (omega (arith, c.requires.axes)) (omega (arith, c.if-last-ne1.false))) c.runs_from-2.ensures
+    (λ v h. ap joined_runs (h ∙ ap (wide_runs last.size) fronts) ∙ runs_of_last axes lead none (omega (arith, c.requires.axes)) (omega (arith, c.if-last-ne1.false))) c.runs_from-2.ensures.value
 
 pub returns-clause-below : goal.returns-clause-below
 returns-clause-below c =
@@ -44,6 +44,6 @@ returns-clause-below c =
     let lead = length axes - 1 in
     let none : Axis = record { size = 0; step = 0 } in
     let last : Axis = get_or axes lead none in
-    let fronts : c.as_slice-2.result.now ≡ behind (take lead axes) (0 ∷ []) = c.as_slice-2.ensures.value ∙ c.in_ok-fronts.ensures {u = tt} in
+    let fronts : c.as_slice-2.result.now ≡ behind (take lead axes) (0 ∷ []) = c.as_slice-2.ensures.value ∙ (c.in_ok-fronts.ensures {u = tt}).places in
     IfOk-weaker c.runs_from-2.result (λ (v : Vec (ℕ × ℕ) Global). v.items ≡ wide_runs last.size c.as_slice-2.result.now) (λ (v : Vec (ℕ × ℕ) Global). All (λ (run : ℕ × ℕ). run.0 + run.1 ≤ reach axes + 1) v.items)
-    (λ v h. rw (h ∙ ap (wide_runs last.size) fronts) (wide_below (take lead axes) last.size (reach axes + 1) (last_below axes lead none (omega (arith, c.requires.axes)) (omega (arith, c.if-last-ne1.false))))) c.runs_from-2.ensures
+    (λ v h. rw (h ∙ ap (wide_runs last.size) fronts) (wide_below (take lead axes) last.size (reach axes + 1) (last_below axes lead none (omega (arith, c.requires.axes)) (omega (arith, c.if-last-ne1.false))))) c.runs_from-2.ensures.value

@@ -7,12 +7,9 @@ use Rattle.zarrs_array_bytes.specs.Held.{raw_of, owned_bytes}
 use Rattle.zarrs_bytes.specs.ByteOrder.{turned_bytes}
 use Rattle.zarrs_bytes.specs.BytesCodec.{turn_size}
 use Rattle.zarrs_bytes.specs.PartialRead.{bytes_at}
-use Rattle.zarrs_bytes.proofs.Coding.{ok}
 use Rattle.zarrs_bytes.proofs.Reading.{at_some, at_err, at_none, Excused-weaker}
 use Rattle.zarrs_bytes.proofs.bytes_codec.BytesCodec.read_runs.Goals as goal
-
-items_are : (xs ys : List ℕ) → ok xs ≡ ok ys → ys ≡ xs
-items_are xs ys e = cc
+use Rattle.zarrs_bytes.proofs.Exact.{bytes_are}
 
 pub returns-in_err-read_bytes-clause-answer : goal.returns-in_err-read_bytes-clause-answer
 returns-in_err-read_bytes-clause-answer g c =
@@ -31,7 +28,7 @@ returns-in_ok-bytes-in-None-clause-answer g c =
     let read = rw c.in-None.is at c.in_ok-read_bytes.ensures.answer in
     let bytes = c.in_ok-bytes-in-None.bytes in
     let small : length bytes.items < 2 ^ 64 = omega (arith, bytes.ok, bytes.small) in
-    let fills = c.in_ok-bytes-in-None.ensures ∙ ap (λ (fill : List ℕ). flat_map (λ _. fill) places) c.as_ne_bytes.ensures.value in
+    let fills = c.in_ok-bytes-in-None.ensures.value ∙ ap (λ (fill : List ℕ). flat_map (λ _. fill) places) c.as_ne_bytes.ensures.value in
     rw c.new_flen.ensures.made (at_none c.args.self.now c.args.data_type.now c.args.fill_value.now places stored (owned_bytes bytes.items) c.element_size-size.ensures.fill_is_element (ap (λ n. bytes_at n stored places) (sym c.element_size-size.ensures.size) ∙ read) fills small)
 
 pub returns-in_ok-elements-in-Some-clause-answer : goal.returns-in_ok-elements-in-Some-clause-answer
@@ -41,6 +38,6 @@ returns-in_ok-elements-in-Some-clause-answer g c =
     let read = rw c.in-Some.is at c.in_ok-read_bytes.ensures.answer in
     let raw = raw_of c.in_ok-elements-in-Some.elements in
     let is : raw.items ≡ turned_bytes (turn_size c.args.self.now c.args.data_type.now) c.in-Some.bytes.items
-    = items_are _ _ c.in_ok-elements-in-Some.ensures.exact.is ∙ ap (λ s. turned_bytes s c.in-Some.bytes.items) c.turn_size-turn_size.ensures.size in
+    = bytes_are _ _ c.in_ok-elements-in-Some.ensures.exact.is ∙ ap (λ s. turned_bytes s c.in-Some.bytes.items) c.turn_size-turn_size.ensures.size in
     let small : length c.in-Some.bytes.items < 2 ^ 64 = omega (arith, c.in-Some.bytes.ok, c.in-Some.bytes.small) in
     rw c.new_flen-in-Some.ensures.made (at_some c.args.self.now c.args.data_type.now c.args.fill_value.now places c.in-Some.bytes.items stored raw c.element_size-size.ensures.fill_is_element (ap (λ n. bytes_at n stored places) (sym c.element_size-size.ensures.size) ∙ read) is small)

@@ -1,10 +1,25 @@
-use Rattle.std.proofs.Common.{ap}
+use Rattle.std.proofs.Common.{subst, Some, Ok, List, ℕ, Result, Option, length}
+use Rattle.zarrs_chunk.specs.Answer.{Answers, memory_or_fault}
 use Rattle.zarrs_chunk.specs.Runs.{joined_runs}
-use Rattle.zarrs_codec.specs.StorageState.{StorageState}
-use Rattle.zarrs_bytes.proofs.PartWrites.{there_is, stored_left}
+use Rattle.zarrs_chunk.specs.declared.codec_error.CodecError.{CodecError}
+use Rattle.zarrs_bytes.proofs.LentElements.{items_of_ok, lent_fits, lent_left, never_refused}
+use Rattle.zarrs_bytes.proofs.PartWrites.{fits_kind}
 use Rattle.zarrs_bytes.proofs.bytes_codec.BytesCodec.write_runs.Goals as goal
 
-pub returns-then-branch-clause-answer : goal.returns-then-branch-clause-answer
-returns-then-branch-clause-answer g c =
+pub lent-requires : goal.lent-requires
+lent-requires g c = record { kind = fits_kind c.args.self.now c.args.shape.now c.args.data_type.now c.args.fill_value.now (length (joined_runs c.args.runs.items)) c.args.elements.now c.requires.taken c.requires.fit }
+
+pub returns-in_err-elements : goal.returns-in_err-elements
+returns-in_err-elements g c = never_refused c.args.elements.now c.in_err-elements.field-0.0 _ c.in_err-elements.ensures.items
+
+pub write_given_runs-requires-clause-fit : goal.write_given_runs-requires-clause-fit
+write_given_runs-requires-clause-fit g c =
+    let items = items_of_ok c.in_ok-elements.elements c.args.elements.now (c.in_ok-elements.ensures {u = tt}).items in
+    lent_fits c.args.self.now c.args.shape.now c.args.data_type.now c.args.fill_value.now (length (joined_runs c.args.runs.items)) c.args.elements.now c.in_ok-elements.elements c.requires.taken c.requires.fit items
+
+pub returns-clause-answer : goal.returns-clause-answer
+returns-clause-answer g c =
+    let items = items_of_ok c.in_ok-elements.elements c.args.elements.now (c.in_ok-elements.ensures {u = tt}).items in
     let stored = (g.H.BytesPartialDecoderTraits.state c.args.handle.now).value in
-    stored_left c.args.self.now c.args.shape.now c.args.data_type.now c.args.fill_value.now stored _ _ c.element_size-size.result (joined_runs c.args.runs.items) c.args.elements.now c.write_over.result c.requires.taken c.requires.fit (there_is stored c.in_ok-exists.field-0 c.in_ok-exists.ensures.answer c.if-branch.true) (ap (λ (s : StorageState). s.value) c.in_ok-exists.ensures.left) c.element_size-size.ensures.size c.write_over.ensures.answer c.write_over.ensures.written
+    let left = lent_left c.args.self.now c.args.shape.now c.args.data_type.now c.args.fill_value.now stored (joined_runs c.args.runs.items) c.args.elements.now c.in_ok-elements.elements c.requires.taken c.requires.fit items in
+    subst (λ (value : List ℕ). Answers memory_or_fault (λ _. (g.H.BytesPartialDecoderTraits.state c.write_given_runs.new.handle).value) c.write_given_runs.result (let r : Result (Option (List ℕ)) CodecError = Ok (Some value) in r)) left c.write_given_runs.ensures.answer

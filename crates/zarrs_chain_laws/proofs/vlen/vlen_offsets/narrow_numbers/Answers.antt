@@ -5,4 +5,4 @@ use Rattle.zarrs_chain_laws.proofs.vlen.vlen_offsets.narrow_numbers.Goals as goa
 
 pub returns : goal.returns
 returns c =
-    numbers_are (offset_of false) 4 (length c.args.items.now / 4) c.args.items.now c.loop-index.numbers.items c.loop-index.invariant.long (λ k l. c.loop-index.invariant.read k (omega arith))
+    record { value = numbers_are (offset_of false) 4 (length c.args.items.now / 4) c.args.items.now c.loop-index.numbers.items c.loop-index.invariant.long (λ k l. c.loop-index.invariant.read k (omega arith)) }

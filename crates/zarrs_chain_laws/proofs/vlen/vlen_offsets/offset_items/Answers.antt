@@ -4,7 +4,7 @@ use Rattle.zarrs_array_bytes.proofs.OffsetLemmas.{rising_last}
 use Rattle.zarrs_chain_laws.proofs.vlen.vlen_offsets.offset_items.Goals as goal
 
 pub wide_items-requires : goal.wide_items-requires
-wide_items-requires c = first_below c.args.offsets.now c.requires.rising
+wide_items-requires c = record { above = first_below c.args.offsets.now c.requires.rising }
 
 pub overflow_sub-offsets-in-UInt32 : goal.overflow_sub-offsets-in-UInt32
 overflow_sub-offsets-in-UInt32 c = rising_last c.args.offsets.now c.requires.rising 0 (some_offset c.args.offsets.now c.requires.rising)

@@ -9,4 +9,4 @@ loop-part-preserved c =
     let l = c.args.layout.now in
     let part = c.loop-part.part in
     let f : ℕ → List ℕ = λ part. full_component l.first l.above l.sign (field (c.args.at + part * l.count) l.count (bits_of c.args.bytes.now)) in
-    more_behind c.args.self.now c.loop-part.self c.put_component.new.self (f part) f part c.in_ok-put_component.ensures c.loop-part.invariant refl
+    more_behind c.args.self.now c.loop-part.self c.put_component.new.self (f part) f part c.in_ok-put_component.ensures.appended c.loop-part.invariant refl

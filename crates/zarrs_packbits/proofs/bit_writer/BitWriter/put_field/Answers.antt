@@ -13,7 +13,7 @@ loop-done-preserved c =
     let before = c.args.self.now in
     let word = low_bits more c.read_bits-bits.result in
     record {
-      bits = c.in_ok-put.ensures
+      bits = c.in_ok-put.ensures.appended
           ∙ ap (λ xs. xs ++ word) c.loop-done.invariant.bits
           ∙ ap (λ xs. (before ++ field at done bits) ++ xs) c.read_bits-bits.ensures.bits
           ∙ append_assoc before (field at done bits) (field (at + done) more bits)

@@ -17,7 +17,7 @@ loop-done-preserved c =
     let is : slice ≡ take more (drop done bytes) = ap (λ n. take n (drop done bytes)) count in
     let long : length slice ≡ more = ap length is ∙ length-take-le more (drop done bytes) (omega (arith, length-drop done bytes)) in
     record {
-      bits = c.in_ok-put.ensures
+      bits = c.in_ok-put.ensures.appended
           ∙ ap (λ (xs : List ℕ). xs ++ low_bits more c.gather_flags-flags.result) c.loop-done.invariant.bits
           ∙ ap (λ (xs : List ℕ). (before ++ flags_before bit bytes done) ++ xs) (ap (λ n. low_bits n c.gather_flags-flags.result) (sym long) ∙ c.gather_flags-flags.ensures.bits)
           ∙ append_assoc before (flags_before bit bytes done) (flags_of bit slice)

@@ -11,7 +11,7 @@ loop-done-preserved c =
     let before = c.args.self.now in
     let word = low_bits more c.repeated.result in
     record {
-      bits = c.in_ok-put.ensures
+      bits = c.in_ok-put.ensures.appended
           ∙ ap (λ xs. xs ++ word) c.loop-done.invariant.bits
           ∙ ap (λ xs. (before ++ replicate done bit) ++ xs) c.repeated.ensures.bits
           ∙ append_assoc before (replicate done bit) (replicate more bit)

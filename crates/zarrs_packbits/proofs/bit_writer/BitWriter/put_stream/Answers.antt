@@ -23,4 +23,4 @@ loop-part-preserved c =
     let start = part * l.size in
     let f : ℕ → List ℕ = λ part. field l.first l.count (component_bits l.size bytes part) in
     let cut = ap (λ b. field l.first l.count (bits_of b)) (take_rest bytes start) ∙ field_from l.size part (parts_of l) l.first l.count bytes c.requires.len (omega arith) (omega (arith, c.requires.layout.size)) in
-    more_behind c.args.self.now c.loop-part.self c.put_field.new.self (field l.first l.count (bits_of (take (length bytes - start) (drop start bytes)))) f part c.in_ok-put_field.ensures c.loop-part.invariant cut
+    more_behind c.args.self.now c.loop-part.self c.put_field.new.self (field l.first l.count (bits_of (take (length bytes - start) (drop start bytes)))) f part c.in_ok-put_field.ensures.appended c.loop-part.invariant cut

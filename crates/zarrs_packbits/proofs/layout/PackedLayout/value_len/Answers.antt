@@ -3,4 +3,4 @@ use Rattle.zarrs_packbits.proofs.layout.PackedLayout.value_len.Goals as goal
 use Rattle.zarrs_packbits.proofs.LayoutLemmas.{whole_len}
 
 pub returns-then-is_whole : goal.returns-then-is_whole
-returns-then-is_whole c = sym (whole_len c.args.self.now c.requires (sym c.if-is_whole.ensures))
+returns-then-is_whole c = record { value = sym (whole_len c.args.self.now c.requires.layout (sym c.if-is_whole.ensures.value)) }

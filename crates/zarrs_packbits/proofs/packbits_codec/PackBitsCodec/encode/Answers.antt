@@ -25,13 +25,13 @@ pub returns-clause-encodes : goal.returns-clause-encodes
 returns-clause-encodes c = packbits_encodes c.args.self.now (form_of c.args.shape.now c.args.data_type.now c.args.fill_value.now) c.args.elements c.packed_raw.result (exactly c) c.packed_raw.ensures.exact.no_fault
 
 pub returns-clause-in_place : goal.returns-clause-in_place
-returns-clause-in_place c = λ h. absurd (false≢true (c.if-is_whole.ensures ∙ ap keeps_all_bytes c.in_ok-layout.ensures.answer ∙ h))
+returns-clause-in_place c = λ h. absurd (false≢true (c.if-is_whole.ensures.value ∙ ap keeps_all_bytes c.in_ok-layout.ensures.answer ∙ h))
 
 pub returns-clause-kept : goal.returns-clause-kept
-returns-clause-kept c = λ h. absurd (false≢true (c.if-is_whole.ensures ∙ ap keeps_all_bytes c.in_ok-layout.ensures.answer ∙ h))
+returns-clause-kept c = λ h. absurd (false≢true (c.if-is_whole.ensures.value ∙ ap keeps_all_bytes c.in_ok-layout.ensures.answer ∙ h))
 
 pub encode_whole-requires : goal.encode_whole-requires
-encode_whole-requires c = record { whole = sym (ap keeps_all_bytes c.in_ok-layout.ensures.answer) ∙ sym c.if-is_whole.ensures }
+encode_whole-requires c = record { whole = sym (ap keeps_all_bytes c.in_ok-layout.ensures.answer) ∙ sym c.if-is_whole.ensures.value }
 
 pub returns-then-is_whole-clause-encodes : goal.returns-then-is_whole-clause-encodes
 returns-then-is_whole-clause-encodes c =

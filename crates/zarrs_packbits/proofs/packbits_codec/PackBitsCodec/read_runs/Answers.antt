@@ -50,4 +50,4 @@ returns-clause-answer g c =
     rw c.new_flen.ensures.made (rw (read_at (packed_layout c.args.self.now (form_of c.args.shape.now c.args.data_type.now c.args.fill_value.now)) l (λ k. read_packed_places k type fill stored places) c.taken_layout-layout.ensures.is) found)
 
 pub read_whole_runs-requires-clause-whole : goal.read_whole_runs-requires-clause-whole
-read_whole_runs-requires-clause-whole g c = ap keeps_all_bytes c.taken_layout-layout.ensures.is ∙ sym c.if-is_whole.ensures
+read_whole_runs-requires-clause-whole g c = ap keeps_all_bytes c.taken_layout-layout.ensures.is ∙ sym c.if-is_whole.ensures.value

@@ -6,4 +6,4 @@ pub returns-clause-moved : goal.returns-clause-moved
 returns-clause-moved c =
     let dims = c.args.self.now in
     let sizes = c.args._decoded_shape.now in
-    kept_decoded (coordinates (reshape dims) sizes) c.args._decoded_data_type.now sizes c.args.bytes (λ m e. reshape_keeps dims sizes m c.is_sound.ensures e)
+    kept_decoded (coordinates (reshape dims) sizes) c.args._decoded_data_type.now sizes c.args.bytes (λ m e. reshape_keeps dims sizes m c.is_sound.ensures.sound e)

@@ -10,7 +10,7 @@ use Rattle.zarrs_array_to_array.proofs.reshape.reshape_codec.ReshapeCodecArrayTo
 pub tuples_at-requires : goal.tuples_at-requires
 tuples_at-requires c =
     let same : product c.in_ok-encoded.encoded ≡ product c.args.decoded_shape.now = map_count (coordinates (reshape c.args.self.now) c.args.decoded_shape.now) c.args.decoded_shape.now c.in_ok-encoded.encoded (c.in_ok-encoded.ensures {u = tt}).map in
-    rw (c.as_slice.ensures.value, same) (c.in_ok-places.ensures {u = tt}).below
+    record { known = rw (c.as_slice.ensures.value, same) (c.in_ok-places.ensures {u = tt}).below }
 
 pub returns-clause-answer : goal.returns-clause-answer
 returns-clause-answer c =

@@ -7,5 +7,5 @@ pub returns-clause-answer : goal.returns-clause-answer
 returns-clause-answer g c =
     record {
       is = search rules;
-      no_fault = making_no_fault (λ parts. parts) (squeeze) c.args.shape.now c.args.data_type.now c.args.fill_value.now (λ _. (c.args.self.now, c.args.shape.now)) c.parts_of_decoder.result _ c.parts_of_decoder.ensures c.partial_decoder_of.ensures.answer;
+      no_fault = making_no_fault (λ parts. parts) (squeeze) c.args.shape.now c.args.data_type.now c.args.fill_value.now (λ _. (c.args.self.now, c.args.shape.now)) c.parts_of_decoder.result _ c.parts_of_decoder.ensures.answer c.partial_decoder_of.ensures.answer;
     }

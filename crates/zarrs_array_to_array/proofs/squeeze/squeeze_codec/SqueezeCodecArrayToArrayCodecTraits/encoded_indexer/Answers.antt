@@ -15,6 +15,6 @@ returns-clause-places c =
     let sizes = c.args.decoded_shape.now in
     let selection = selection_of c.args.indexer.now in
     let inside : bounds_of selection sizes ≡ Ok tt = sym ((c.in_ok-check.ensures {u = tt}).answer) in
-    let asked = rw c.as_slice.ensures.value at c.squeezed_indexer.ensures in
+    let asked = rw c.as_slice.ensures.value at c.squeezed_indexer.ensures.answer in
     found_from memory selection_of c.squeezed_indexer.result (Ok (selection_in squeeze sizes (squeezed sizes) selection)) (λ image. IsImageBy (coordinates squeeze sizes) sizes selection image) asked
     (λ image e. let same : selection_in squeeze sizes (squeezed sizes) selection ≡ image = cc in rw same at (squeezed_image sizes selection inside))

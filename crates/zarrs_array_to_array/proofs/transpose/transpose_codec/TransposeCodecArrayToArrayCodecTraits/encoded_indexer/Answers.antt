@@ -19,7 +19,7 @@ returns-clause-places c =
     let inside : bounds_of selection sizes ≡ Ok tt = sym ((c.in_ok-check.ensures {u = tt}).answer) in
     let seen_order : c.as_slice-order.result.now ≡ order = c.as_slice-order.ensures.value ∙ c.self.view_is in
     let is : is_order order ≡ true = rw (← seen_order) c.as_slice-order.ensures.sound in
-    let axes : length order ≡ length sizes = axes_of order sizes (rw (seen_order, c.as_slice-sizes.ensures.value) at (sym (c.in_ok-check_axes.ensures {u = tt}))) in
+    let axes : length order ≡ length sizes = axes_of order sizes (rw (seen_order, c.as_slice-sizes.ensures.value) at (sym (c.in_ok-check_axes.ensures {u = tt}).answer)) in
     let asked = rw seen_order at c.ordered_indexer.ensures.answer.is in
     found_from memory selection_of c.ordered_indexer.result (Ok (indices (map (permuted order) (tuples_of selection)))) (λ image. IsImageBy (coordinates (transpose order) sizes) sizes selection image) asked
     (λ image e. let same : indices (map (permuted order) (tuples_of selection)) ≡ image = cc in rw same at (transposed_image_by order sizes selection is axes inside))

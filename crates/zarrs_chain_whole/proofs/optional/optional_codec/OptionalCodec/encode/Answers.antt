@@ -8,4 +8,4 @@ use Rattle.zarrs_chain_whole.proofs.optional.optional_codec.OptionalCodec.encode
 pub returns : goal.returns
 returns g c =
     let form = form_of c.args.shape.now c.args.data_type.now c.args.fill_value.now in
-    record { encodes = codec_encodes g.B.BytesToBytesCodecTraits.functions (plain_optional c.args.self.now) form c.args.elements c.optional_encode.result (optional_has_chains c.args.self.now) c.optional_is_sound.ensures.mappings (subst (All (λ size. 0 < size)) c.as_slice.ensures.value c.as_slice.ensures.positive) c.optional_encode.ensures.answer }
+    record { encodes = codec_encodes g.B.BytesToBytesCodecTraits.functions (plain_optional c.args.self.now) form c.args.elements c.optional_taken_encode.result (optional_has_chains c.args.self.now) c.optional_is_sound.ensures.mappings (subst (All (λ size. 0 < size)) c.as_slice.ensures.value c.as_slice.ensures.positive) c.optional_taken_encode.ensures.answer }

@@ -1,4 +1,4 @@
-use Rattle.std.proofs.Common.{◌≡◌, ◌∙◌, ◌+◌, ◌≤◌, ap, sym, subst, map}
+use Rattle.std.proofs.Common.{◌∙◌, ◌+◌, ◌≤◌, sym, subst, map}
 use Rattle.std.specs.List.{All}
 use Rattle.std.proofs.lemmas.Result.{err_from_is_err_and}
 use Rattle.zarrs_chunk.specs.Answer.{AnswersBy, memory}

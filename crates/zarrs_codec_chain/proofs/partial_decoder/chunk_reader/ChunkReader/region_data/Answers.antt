@@ -2,10 +2,11 @@ use Rattle.std.proofs.Common.{◌≡◌, ◌∙◌, ◌<◌, ◌^◌, Ok, ap, sy
 use Rattle.std.proofs.lemmas.Result.{err_from_is_err_and}
 use Rattle.zarrs_chunk.specs.ChunkShape.{product}
 use Rattle.zarrs_array_bytes.specs.Validity.{data_fit}
+use Rattle.zarrs_array_regions.proofs.HeldElements.{no_count, count_is}
 use Rattle.zarrs_codec_chain.specs.ChunkReader.{reader_form}
 use Rattle.zarrs_codec_chain.specs.ChunkWrite.{LendsData}
 use Rattle.zarrs_codec_chain.proofs.PartialReads.{is_readable}
-use Rattle.zarrs_codec_chain.proofs.RegionWrites.{few, region_checked, region_lends, no_count, count_is, fixed_of, no_fixed}
+use Rattle.zarrs_codec_chain.proofs.RegionWrites.{few, region_checked, region_lends, fixed_of, no_fixed}
 use Rattle.zarrs_codec_chain.proofs.partial_decoder.chunk_reader.ChunkReader.region_data.Goals as goal
 
 pub returns-in_err-count-clause-checked : goal.returns-in_err-count-clause-checked

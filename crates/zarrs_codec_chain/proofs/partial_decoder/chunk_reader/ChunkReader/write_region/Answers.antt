@@ -14,14 +14,14 @@ returns-in_err-runs-clause-writes g c =
     let e = c.in_err-runs.field-0.0 in
     let p = err_from_is_err_and c.from_residual.result c.from_residual.ensures.1 in
     record {
-      answer = rw (p.1, p.2) (λ m. left_unchecked g.B.BytesToBytesCodecTraits.functions (reader_form k) (Some c.args.codec.now) (g.H.BytesPartialDecoderTraits.state c.args.handle.now).value (subset_of c.args.region.now) c.args.elements.now e (c.in_err-runs.ensures.checked (memory_too e m)));
+      answer = rw (p.1, p.2) (λ m. left_unchecked g.B.BytesToBytesCodecTraits.functions (reader_form k) (Some c.args.codec.now) (g.H.BytesPartialDecoderTraits.state c.args.handle.now).value (subset_of c.args.region.now) c.args.elements.now e (c.in_err-runs.ensures.checked.is (memory_too e m)));
       indexer_first = inside_bounds k.shape c.args.region.now c.requires.inside _;
       checked_first = search rules;
       untouched = search rules;
     }
 
-pub write_runs-requires-clause-taken : goal.write_runs-requires-clause-taken
-write_runs-requires-clause-taken g c =
+pub write_given_runs-requires-clause-taken : goal.write_given_runs-requires-clause-taken
+write_given_runs-requires-clause-taken g c =
     let k = c.args.self.now in
     let form = reader_form k in
     in_place_taken g.B.BytesToBytesCodecTraits.functions form.chain.outer form.chain.codec c.args.codec.now k.encoded k.data_type k.fill_value c.requires.writes_in_place k.measured
@@ -30,7 +30,7 @@ pub returns-clause-writes : goal.returns-clause-writes
 returns-clause-writes g c =
     let stored = (g.H.BytesPartialDecoderTraits.state c.args.handle.now).value in
     record {
-      answer = answer_by _ _ c.write_runs.result _ _ (ap (seen (λ value. Some value)) ((c.in_ok-runs.ensures {u = tt}).same_edit stored)) c.write_runs.ensures.answer;
+      answer = answer_by _ _ c.write_given_runs.result _ _ (ap (seen (λ value. Some value)) ((c.in_ok-runs.ensures {u = tt}).same_edit stored)) c.write_given_runs.ensures.answer;
       indexer_first = inside_bounds c.args.self.now.shape c.args.region.now c.requires.inside _;
       checked_first = search rules;
       untouched = search rules;

@@ -1,0 +1,18 @@
+use Rattle.std.proofs.Common.{◌≡◌, ◌<◌, ◌+◌, ◌*◌, ◌^◌, true, length}
+use Rattle.std.specs.List.{All}
+use Rattle.zarrs_codec.specs.StorageState.{are_sure}
+use Rattle.zarrs_bytes.specs.PartialRead.{place_bytes}
+use Rattle.zarrs_bytes.proofs.PlaceBatches.{left}
+use Rattle.zarrs_bytes.proofs.place_batches.append_places.Given as goal
+
+abbrev pub invariant-loop-rest : goal.invariant-loop-rest
+invariant-loop-rest g l = record {
+  ends : All (λ place. (place + 1) * l.size < 2 ^ 64) l.rest;
+  read : left l.size (g.H.BytesPartialDecoderTraits.state l.fn.handle).value l.fn.elements.items l.places l.elements.items l.rest;
+  sure : are_sure (g.H.BytesPartialDecoderTraits.state l.fn.handle).sure (place_bytes l.size l.places) ≡ true → are_sure (g.H.BytesPartialDecoderTraits.state l.fn.handle).sure (place_bytes l.size l.rest) ≡ true;
+  state : g.H.BytesPartialDecoderTraits.state l.handle ≡ g.H.BytesPartialDecoderTraits.state l.fn.handle;
+  lent : g.H.BytesPartialDecoderTraits.lent l.handle ≡ g.H.BytesPartialDecoderTraits.lent l.fn.handle;
+}
+
+abbrev pub decreases-loop-rest : goal.decreases-loop-rest
+decreases-loop-rest g l = length l.rest

@@ -1,0 +1,179 @@
+//! The elements at places that are given one by one, read over a handle.
+//!
+//! A run takes 16 bytes of memory, more than most elements have. So where many places follow no other
+//! one, their runs are made and read a batch at a time.
+ghost use Rattle.std.specs.Prelude.{◌≡◌, ◌<◌, ◌+◌, ◌*◌, ◌^◌, ℕ, true, Ok, Some, IfOk, All, is_some};
+ghost use Rattle.std.specs.List.{flat_map};
+ghost use Rattle.zarrs_chunk.specs.Answer.{Answers, memory_or_fault, Gives};
+ghost use Rattle.zarrs_chunk.specs.Runs.{places_in, AreFilled, EndWithin};
+ghost use Rattle.zarrs_data_type.specs.ElementType.{fixed_size_of};
+ghost use Rattle.zarrs_data_type.specs.FillValue.{fill_fits};
+ghost use Rattle.zarrs_array_bytes.specs.Blank.{AbsentAreBlank};
+ghost use Rattle.zarrs_codec.specs.StorageState.{after_reading};
+ghost use Rattle.zarrs_codec.specs.HandleCalls.{NeverFailsIf, ReadsBytes};
+ghost use Rattle.zarrs_bytes.specs.PartialRead.{bytes_at_places, place_size, places_are_sure, with_read, ReadsPlaces, ReadsPlacesSurely};
+
+use crate::batches::{BATCH, append_batch, read_bytes};
+use crate::byte_order::turn;
+use crate::bytes_codec::BytesCodec;
+use crate::bytes_codec_partial::element_size;
+use std::alloc::{AllocError, Global};
+use std::borrow::CowSlice;
+use zarrs_array_bytes::{ArrayBytes, append_copies};
+use zarrs_chunk::{CodecError, runs_of_places};
+use zarrs_codec::BytesPartialDecoderTraits;
+use zarrs_data_type::{DataType, FillValue};
+
+/// Whether the places are more than a batch, and fewer than half of them follow the one before: their
+/// runs would take more memory than the places.
+fn are_scattered(places: &[u64]) -> bool {
+    let mut joined: usize = 0;
+    for index in 1..places.len() {
+        let before = places[index - 1];
+        let place = places[index];
+        if place > before && place - before == 1 {
+            joined = joined.saturating_add(1);
+        }
+    }
+    places.len() > BATCH && joined < places.len() / 2
+}
+
+/// Appends the bytes of elements of `size` bytes at these places, a batch at a time.
+fn append_places<H: BytesPartialDecoderTraits>(
+    elements: &mut Vec<u8>,
+    alloc: Global,
+    handle: &mut H,
+    size: u64,
+    places: &[u64],
+) -> Result<(), CodecError>
+    requires ends { All (λ place. (place + 1) * size < 2 ^ 64) places.now }
+    requires sized { 0 < size }
+    requires stored { is_some (H.state handle.old).value ≡ true }
+    ensures answer { Answers memory_or_fault (λ _. Some elements.new.items) result
+        (with_read elements.old.items (bytes_at_places size (H.state handle.old) places.now)) }
+    ensures sure { NeverFailsIf (places_are_sure size (H.state handle.old) places.now) result }
+    ensures left { H.state handle.new ≡ after_reading result (H.state handle.old) }
+    ensures same_reference { H.lent handle.new ≡ H.lent handle.old }
+{
+    let mut rest = places;
+    while !rest.is_empty() {
+        let (batch, more) = rest.split_at(BATCH.min(rest.len()));
+        let runs = runs_of_places(alloc, batch)?;
+        append_batch(elements, alloc, handle, size, runs.as_slice())?;
+        rest = more;
+    }
+    Ok(())
+}
+
+/// The bytes of elements of `size` bytes at these places, as they stand in the value, or `None` where
+/// nothing is stored. What the first batch gave is the answer's beginning.
+fn read_place_bytes<H: BytesPartialDecoderTraits>(
+    alloc: Global,
+    handle: &mut H,
+    size: u64,
+    places: &[u64],
+) -> Result<Option<Vec<u8>>, CodecError>
+    requires ends { All (λ place. (place + 1) * size < 2 ^ 64) places.now }
+    requires sized { 0 < size }
+    ensures answer { ReadsBytes result (bytes_at_places size (H.state handle.old) places.now) }
+    ensures sure { NeverFailsIf (places_are_sure size (H.state handle.old) places.now) result }
+    ensures left { H.state handle.new ≡ after_reading result (H.state handle.old) }
+    ensures same_reference { H.lent handle.new ≡ H.lent handle.old }
+{
+    let (first, rest) = places.split_at(BATCH.min(places.len()));
+    let runs = runs_of_places(alloc, first)?;
+    match read_bytes(alloc, handle, size, runs.as_slice())? {
+        None => Ok(None),
+        Some(mut bytes) => {
+            bytes.reserve_exact((rest.len() as u64).saturating_mul(size) as usize)?;
+            append_places(&mut bytes, alloc, handle, size, rest)?;
+            Ok(Some(bytes))
+        }
+    }
+}
+
+/// The runs of these places, which are let go.
+fn into_runs(alloc: Global, places: Vec<u64>) -> Result<Vec<(u64, u64)>, CodecError>
+    ensures places { Gives places_in result (Ok places.items) }
+    ensures filled { IfOk result (λ runs. AreFilled runs.items) }
+    ensures below { (limit : ℕ) → All (λ place. place < limit) places.items
+        → IfOk result (λ runs. EndWithin limit runs.items) }
+{
+    runs_of_places(alloc, places.as_slice())
+}
+
+/// The fill element for each of these places.
+fn fill_places(alloc: Global, fill: &[u8], places: &[u64]) -> Result<Vec<u8>, AllocError>
+    ensures value { IfOk result (λ bytes. bytes.items ≡ flat_map (λ _. fill.now) places.now) }
+{
+    let mut bytes = Vec::new(alloc);
+    append_copies(&mut bytes, fill, places.len() as u64)?;
+    Ok(bytes)
+}
+
+impl BytesCodec {
+    /// The elements at many places.
+    #[tactic(auto, using(zarrs_array_bytes::proofs::BlankLemmas::sized_blank))]
+    fn read_scattered<H: BytesPartialDecoderTraits>(
+        &self,
+        alloc: Global,
+        handle: &mut H,
+        data_type: &DataType,
+        fill_value: &FillValue,
+        places: &[u64],
+    ) -> Result<ArrayBytes<'static>, CodecError>
+        requires fixed { is_some (fixed_size_of data_type.now) ≡ true }
+        requires filling { fill_fits data_type.now fill_value.now ≡ true }
+        requires ends { All (λ place. (place + 1) * place_size data_type.now < 2 ^ 64) places.now }
+        ensures answer { ReadsPlaces self.now data_type.now fill_value.now
+            (H.state handle.old) places.now result }
+        ensures sure { ReadsPlacesSurely data_type.now (H.state handle.old) places.now result }
+        ensures blank { IfOk result (AbsentAreBlank data_type.now) }
+        ensures left { H.state handle.new ≡ after_reading result (H.state handle.old) }
+        ensures same_reference { H.lent handle.new ≡ H.lent handle.old }
+    {
+        let size = element_size(data_type, fill_value);
+        match read_place_bytes(alloc, handle, size as u64, places)? {
+            None => {
+                let bytes = fill_places(alloc, fill_value.as_ne_bytes(), places)?;
+                Ok(ArrayBytes::new_flen(CowSlice::Owned(bytes)))
+            }
+            Some(bytes) => {
+                let turn_size = self.turn_size(data_type);
+                let elements = turn(alloc, CowSlice::Owned(bytes), turn_size)?;
+                Ok(ArrayBytes::new_flen(elements))
+            }
+        }
+    }
+
+    /// The elements at these places, in order, over a handle that keeps a chunk's value, as `read_runs`
+    /// gives them of the places' runs: where many places follow no other one, no list of their runs is
+    /// made, and else the places are let go before they are read. The type is fixed and the fill value
+    /// one of its elements, and 64 bits count the bytes up to the end of each place. Refusals: those of
+    /// `read_runs`. Many places are asked for in more than one call of the handle.
+    pub fn read_places<H: BytesPartialDecoderTraits>(
+        &self,
+        alloc: Global,
+        handle: &mut H,
+        data_type: &DataType,
+        fill_value: &FillValue,
+        places: Vec<u64>,
+    ) -> Result<ArrayBytes<'static>, CodecError>
+        requires fixed { is_some (fixed_size_of data_type.now) ≡ true }
+        requires filling { fill_fits data_type.now fill_value.now ≡ true }
+        requires ends { All
+            (λ place. (place + 1) * place_size data_type.now < 2 ^ 64) places.items }
+        ensures answer { ReadsPlaces self.now data_type.now fill_value.now
+            (H.state handle.old) places.items result }
+        ensures sure { ReadsPlacesSurely data_type.now (H.state handle.old) places.items result }
+        ensures blank { IfOk result (AbsentAreBlank data_type.now) }
+        ensures left { H.state handle.new ≡ after_reading result (H.state handle.old) }
+        ensures same_reference { H.lent handle.new ≡ H.lent handle.old }
+    {
+        if are_scattered(&places) {
+            return self.read_scattered(alloc, handle, data_type, fill_value, &places);
+        }
+        let runs = into_runs(alloc, places)?;
+        self.read_runs(alloc, handle, data_type, fill_value, runs.as_slice())
+    }
+}

@@ -1,0 +1,108 @@
+//! The ranges of bytes that a read asks for, where it asks for the bytes of its places alone.
+ghost use Rattle.std.specs.Prelude.{◌≡◌, ◌<◌, ◌≤◌, ◌+◌, All, IfOk, IfSome, option_map, true};
+ghost use Rattle.zarrs_chunk.specs.Answer.{Gives};
+ghost use Rattle.zarrs_chunk.specs.ChunkShape.{product};
+ghost use Rattle.zarrs_chunk.specs.Indexer.{selection_of};
+ghost use Rattle.zarrs_chunk.specs.Runs.{joined_runs};
+ghost use Rattle.zarrs_chunk.specs.Tuples.{is_box_inside};
+ghost use Rattle.zarrs_array_regions.specs.KeptRegions.{keeps_regions};
+ghost use Rattle.zarrs_chain_whole.specs.ChainView.{plain_chain};
+ghost use Rattle.zarrs_codec_chain.specs.ChunkRead.{reads_places, PlansRead, ordered_places, planned_region as planned_region_of};
+
+use crate::partial_decoder::chunk_reader::ChunkReader;
+use crate::partial_decoder::codec_read::{codec_in_place, planned_runs, plans_reads};
+use std::alloc::Global;
+use zarrs_array_regions::last_window;
+use zarrs_chain_whole::CodecChain;
+use zarrs_chunk::{ArraySubset, CodecError, Indexer};
+use zarrs_codec::{ByteRange, BytesToBytesCodecTraits};
+
+impl<'a, B: BytesToBytesCodecTraits> ChunkReader<'a, B> {
+    ghost use Rattle.zarrs_codec_chain.specs.ChunkReader.{reader_form, IsKeptRegion, GivesStanding};
+
+    /// The places where a region stands in the encoded chunk, in their order, as runs: those of its
+    /// window. Refusals: `OutOfMemory`.
+    fn standing_runs(
+        &self,
+        alloc: Global,
+        region: &ArraySubset,
+    ) -> Result<Vec<(u64, u64)>, CodecError>
+        requires inside { is_box_inside self.now.shape region.now.starts region.now.lengths ≡ true }
+        requires region_kept { keeps_regions (plain_chain self.now.chain.now).arrays ≡ true }
+        ensures places { GivesStanding self.now region.now result }
+        ensures filled { IfOk result (λ runs. All (λ run. 0 < run.1) runs.items) }
+        ensures inside { IfOk result
+            (λ runs. All (λ run. run.0 + run.1 ≤ product self.now.encoded) runs.items) }
+    {
+        self.is_sound();
+        let codecs = self.chain.array_to_array_codecs();
+        let window = last_window(alloc, codecs, &self.shape, region)?;
+        window.into_runs(alloc)
+    }
+
+    /// The box that the indexer means, where its bytes are planned in the order in which they stand.
+    fn planned_region<'i>(&self, indexer: &'i Indexer) -> Option<&'i ArraySubset>
+        ensures region { option_map (λ region. region.now) result
+            ≡ planned_region_of (reader_form self.now) (selection_of indexer.now) }
+        ensures region_kept { IfSome result
+            (λ region. IsKeptRegion self.now (selection_of indexer.now) region.now) }
+    {
+        match codec_in_place(self.chain) {
+            Some(_) => self.kept_region(indexer),
+            None => None,
+        }
+    }
+
+    /// Where the places that an indexer means go in the chunk that the codec to bytes gets, in the
+    /// order in which their bytes are planned, as runs. Refusals: those of `Indexer::check`;
+    /// `OutOfMemory`.
+    fn ordered_runs(&self, alloc: Global, indexer: &Indexer) -> Result<Vec<(u64, u64)>, CodecError>
+        ensures answer { Gives (λ runs. joined_runs runs.items) result
+            (ordered_places (reader_form self.now) (selection_of indexer.now)) }
+        ensures filled { IfOk result (λ runs. All (λ run. 0 < run.1) runs.items) }
+        ensures inside { IfOk result
+            (λ runs. All (λ run. run.0 + run.1 ≤ product self.now.encoded) runs.items) }
+    {
+        self.is_sound();
+        match self.planned_region(indexer) {
+            Some(region) => self.standing_runs(alloc, region),
+            None => self.runs(alloc, indexer),
+        }
+    }
+
+    /// The ranges of bytes that a read asks for, where it asks for the bytes of its places alone.
+    /// Refusals: those of `Indexer::check`; `OutOfMemory`.
+    pub(crate) fn planned_ranges(
+        &self,
+        alloc: Global,
+        indexer: &Indexer,
+    ) -> Result<Option<Vec<ByteRange>>, CodecError>
+        ensures plan { PlansRead B.functions (reader_form self.now)
+            (selection_of indexer.now) result }
+    {
+        let runs = self.ordered_runs(alloc, indexer)?;
+        if !asks_for_places(self.chain) {
+            return Ok(None);
+        }
+        let ranges = planned_runs::<B>(
+            alloc,
+            self.chain.array_to_bytes_codec(),
+            &self.encoded,
+            &self.data_type,
+            &self.fill_value,
+            &runs,
+        )?;
+        Ok(Some(ranges))
+    }
+}
+
+/// Whether a read asks for the bytes of its places alone.
+fn asks_for_places<B: BytesToBytesCodecTraits>(chain: &CodecChain<B>) -> bool
+    ensures value { result ≡
+        reads_places (plain_chain chain.now).outer (plain_chain chain.now).codec }
+{
+    match chain.bytes_to_bytes_codecs() {
+        [] => plans_reads(chain.array_to_bytes_codec()),
+        _ => false,
+    }
+}
