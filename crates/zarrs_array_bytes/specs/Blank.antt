@@ -32,6 +32,10 @@ AbsentAreBlank _ held = Unit {0}
 abbrev pub KeepsBlanks : {E : Type 0} → ElementType → Held → Result Held E → Type 0
 KeepsBlanks type held result = AbsentAreBlank type held → IfOk result (AbsentAreBlank type)
 
+-- where they do in a container, they do in what is made of it by putting it under a mask
+abbrev pub ExpandsBlanks : {E : Type 0} → ElementType → Held → Result Held E → Type 0
+ExpandsBlanks type held result = AbsentAreBlank type held → IfOk result (AbsentAreBlank (optional type))
+
 -- where they do in the old elements and in the new ones, they do in what is made of both
 abbrev pub UpdatesBlanks : {E : Type 0} → ElementType → Held → Held → Result Held E → Type 0
 UpdatesBlanks type old new result = AbsentAreBlank type old → AbsentAreBlank type new → IfOk result (AbsentAreBlank type)

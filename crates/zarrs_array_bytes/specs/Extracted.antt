@@ -1,5 +1,7 @@
 -- The container that is taken out of another at places.
-use Rattle.std.specs.Prelude.{ℕ, ◌<◌, ◌^◌, List, length, map, slice_index}
+use Rattle.std.specs.Prelude.{ℕ, ◌<◌, ◌^◌, List, length, map, slice_index, Result, Ok}
+use Rattle.zarrs_chunk.specs.Answer.{GivesValue}
+use Rattle.zarrs_chunk.specs.declared.codec_error.CodecError.{CodecError}
 use Rattle.zarrs_data_type.specs.ElementType.{ElementType, fixed, text, bytes, optional, element_size}
 use Rattle.zarrs_array_bytes.specs.Held.{Held, flen, vlen, masked, owned_bytes}
 use Rattle.zarrs_array_bytes.specs.Pieces.{pieces_at, cuts_at, fixed_of, variable_of}
@@ -13,6 +15,10 @@ container_selection bytes (vlen raw offsets) places = variable_of (cuts_at offse
 container_selection (optional type) (masked inner mask) places =
     masked (container_selection type inner places) (owned_bytes (map (slice_index mask.items) places))
 container_selection _ held places = held
+
+-- that container of the elements at the places is given
+abbrev pub GivesHeldAt : ElementType → Held → List ℕ → Result Held CodecError → Type 0
+GivesHeldAt type held places result = GivesValue result (Ok (container_selection type held places))
 
 -- what is kept in memory has fewer than 2 ^ 64 bytes, and fewer than 2 ^ 64 offsets
 abbrev pub IsSmall : Held → Type 0

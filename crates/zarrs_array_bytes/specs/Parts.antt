@@ -1,11 +1,13 @@
 -- Containers made of parts, and the parts of containers.
 use Rattle.std.specs.Prelude.{ℕ, ◌==◌, nat_lt, List, [], length, Result, Ok, Err}
 use Rattle.std.specs.List.{list_all}
-use Rattle.std.proofs.Common.{Bor}
+use Rattle.std.proofs.Common.{Bor, Global}
+use Rattle.std.specs.declared.borrow.CowSlice.{CowSlice}
+use Rattle.std.specs.declared.boxed.Box.{Box}
 use Rattle.zarrs_chunk.specs.Answer.{◌>>=◌, demand, seen}
 use Rattle.zarrs_chunk.specs.declared.codec_error.CodecError.{CodecError}
 use Rattle.zarrs_chunk.specs.declared.codec_error.CodecError.TheVariants.{ArrayBytesKind, InvalidOffsets, MaskValue}
-use Rattle.zarrs_array_bytes.specs.Held.{Raw, Held, flen, vlen, masked}
+use Rattle.zarrs_array_bytes.specs.Held.{Raw, raw_of, Held, flen, vlen, masked}
 use Rattle.zarrs_array_bytes.specs.Offsets.{last_of}
 
 -- elements of any length: the last one ends where the bytes end
@@ -37,6 +39,14 @@ abbrev pub optional_part : Held → Result (Held × Raw) CodecError
 optional_part (flen raw) = Err ArrayBytesKind
 optional_part (vlen raw offsets) = Err ArrayBytesKind
 optional_part (masked inner mask) = Ok (inner, mask)
+
+-- given bytes and offsets, as parts of a container
+abbrev pub raw_and_offsets : CowSlice ℕ Global × List ℕ → Raw × List ℕ
+raw_and_offsets parts = (raw_of parts.0, parts.1)
+
+-- a given container and its mask, as parts of a container
+abbrev pub inner_and_mask : Box Held Global × CowSlice ℕ Global → Held × Raw
+inner_and_mask parts = (parts.0.value, raw_of parts.1)
 
 -- the same parts, of whose bytes it doesn't matter who owns them
 abbrev pub fixed_items : Held → Result (List ℕ) CodecError

@@ -1,16 +1,15 @@
 ghost use Rattle.std.specs.Prelude.{◌≡◌, ◌<◌, ◌^◌, Ok, IfOk, true, false, min, length};
 ghost use Rattle.std.specs.Cmp.{partial_equiv_from_equiv};
-ghost use Rattle.zarrs_chunk.specs.Answer.{Answers, memory, seen, is_fault};
+ghost use Rattle.zarrs_chunk.specs.Answer.{AnswersValue, GivesValue, memory, seen, is_fault};
 ghost use Rattle.zarrs_array_bytes.specs.Held.{flen, vlen, owned_bytes, raw_of, byte_count, mask_levels};
 ghost use Rattle.zarrs_array_bytes.specs.Offsets.{is_offsets, last_of};
 ghost use Rattle.zarrs_array_bytes.specs.Extracted.{IsSmall};
 ghost use Rattle.zarrs_array_bytes.specs.SameBytes.{is_same_held};
 ghost use Rattle.zarrs_array_bytes.specs.SameBytesLaws.{is_same_held-equivalence};
-ghost use Rattle.zarrs_array_bytes.specs.Given.{GivesHeld};
-ghost use Rattle.zarrs_array_bytes.specs.Parts.{with_offsets, with_mask, variable_part, optional_part, fixed_part, fixed_items, variable_items, optional_items, lent_both};
+ghost use Rattle.zarrs_array_bytes.specs.Parts.{with_offsets, with_mask, variable_part, optional_part, fixed_part, fixed_items, variable_items, optional_items, lent_both, raw_and_offsets, inner_and_mask};
 ghost use Rattle.zarrs_array_bytes.specs.Pieces.{masked_by};
-ghost use Rattle.zarrs_array_bytes.specs.Validity.{sizes_fit, levels_fit, validity, data_fit};
-ghost use Rattle.zarrs_array_bytes.specs.WrongLength.{refusal_of};
+ghost use Rattle.zarrs_array_bytes.specs.Validity.{levels_fit, validity, data_fit};
+ghost use Rattle.zarrs_array_bytes.specs.WrongLength.{refusal_of, LengthsFit};
 ghost use Rattle.std.specs.List.{list_all};
 ghost use Rattle.std.specs.Prelude.{nat_lt};
 
@@ -98,8 +97,7 @@ impl<'a> ArrayBytes<'a> {
         alloc: Global,
         mask: ArrayBytesRaw<'a>,
     ) -> Result<ArrayBytes<'a>, CodecError>
-        ensures answer { Answers memory (λ array. array) result
-            (with_mask self.entry (raw_of mask.entry)) }
+        ensures answer { AnswersValue memory result (with_mask self.entry (raw_of mask.entry)) }
     {
         if !is_mask(mask.as_slice()) {
             return Err(CodecError::MaskValue);
@@ -114,8 +112,7 @@ impl<'a> ArrayBytes<'a> {
         mask: ArrayBytesRaw<'a>,
     ) -> Result<ArrayBytes<'a>, CodecError>
         requires flags { list_all (λ byte. nat_lt byte 2) (raw_of mask).items ≡ true }
-        ensures answer { Answers memory (λ array. array) result
-            (with_mask self.entry (raw_of mask.entry)) }
+        ensures answer { AnswersValue memory result (with_mask self.entry (raw_of mask.entry)) }
     {
         Ok(ArrayBytes {
             parts: Parts::Optional(Box::new(alloc, self)?, mask),
@@ -142,7 +139,7 @@ impl<'a> ArrayBytes<'a> {
     ) -> Result<ArrayBytes<'a>, CodecError>
         requires flags { list_all (λ byte. nat_lt byte 2) mask.items ≡ true }
         ensures small { IfOk result (λ array. IsSmall inner.entry → IsSmall array) }
-        ensures exact { GivesHeld result (Ok (masked_by inner.entry mask.items)) }
+        ensures exact { GivesValue result (Ok (masked_by inner.entry mask.items)) }
     {
         Ok(ArrayBytes {
             parts: Parts::Optional(Box::new(alloc, inner)?, CowSlice::Owned(mask)),
@@ -162,8 +159,7 @@ impl<'a> ArrayBytes<'a> {
     /// The bytes and offsets of elements of any length. Refusals: `ArrayBytesKind` for any other
     /// elements.
     pub fn into_variable(self) -> Result<(ArrayBytesRaw<'a>, ArrayBytesOffsets), CodecError>
-        ensures answer { seen (λ parts. (raw_of parts.0, parts.1)) result
-            ≡ variable_part self.entry }
+        ensures answer { seen raw_and_offsets result ≡ variable_part self.entry }
     {
         match self.parts {
             Parts::Variable(bytes, offsets) => Ok((bytes, offsets)),
@@ -174,8 +170,7 @@ impl<'a> ArrayBytes<'a> {
     /// What stands under the outermost mask, and that mask. Refusals: `ArrayBytesKind` for elements
     /// without a mask.
     pub fn into_optional(self) -> Result<(Box<ArrayBytes<'a>>, ArrayBytesRaw<'a>), CodecError>
-        ensures answer { seen (λ parts. (parts.0.value, raw_of parts.1)) result
-            ≡ optional_part self.entry }
+        ensures answer { seen inner_and_mask result ≡ optional_part self.entry }
     {
         match self.parts {
             Parts::Optional(inner, mask) => Ok((inner, mask)),
@@ -263,8 +258,7 @@ impl<'a> ArrayBytes<'a> {
         wrong: WrongLength,
     ) -> Result<(), CodecError>
         requires counted { wrong ≡ WrongLength.InvalidBytesLength → count < 2 ^ 64 }
-        requires sizes { wrong ≡ WrongLength.InvalidBytesLength
-            → sizes_fit data_type.now count ≡ Ok tt }
+        requires sizes { LengthsFit wrong data_type.now count }
         ensures exact { result ≡ levels_fit (refusal_of wrong) data_type.now count self.now }
         ensures no_fault { is_fault result ≡ false }
     {
@@ -292,7 +286,7 @@ impl<'a> ArrayBytes<'a> {
 
     /// An equal container, in which borrowed bytes stay borrowed. Refusals: `OutOfMemory`.
     pub fn clone(&self) -> Result<ArrayBytes<'a>, CodecError>
-        ensures copy { Answers memory (λ copy. copy) result (Ok self.now) }
+        ensures copy { AnswersValue memory result (Ok self.now) }
     {
         let parts = match &self.parts {
             Parts::Fixed(bytes) => Parts::Fixed(clone_raw(bytes)?),

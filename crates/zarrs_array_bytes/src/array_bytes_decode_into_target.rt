@@ -1,12 +1,10 @@
-ghost use Rattle.std.specs.Prelude.{◌≡◌, ◌+◌, ◌<◌, ◌≤◌, ◌==◌, ◌++◌, map, take, drop, length, true};
+ghost use Rattle.std.specs.Prelude.{◌≡◌, ◌+◌, ◌<◌, ◌≤◌, ◌==◌, map, length, true};
 ghost use Rattle.zarrs_chunk.specs.ChunkShape.{product};
 ghost use Rattle.zarrs_array_bytes.specs.ArrayBytesDecodeIntoTarget.{view_name};
 ghost use Rattle.zarrs_array_bytes.specs.ArrayBytesFixedView.{view_of};
 ghost use Rattle.zarrs_array_bytes.specs.Blank.{has_flags};
-ghost use Rattle.zarrs_array_bytes.specs.DecodeTarget.{has_one_size as has_one_size_of, levels_taken as levels_taken_of, written_masks, under_views, has_masks, has_values};
-ghost use Rattle.zarrs_array_bytes.specs.FixedView.{written_view};
-ghost use Rattle.zarrs_array_bytes.specs.Parts.{bytes_in};
-ghost use Rattle.zarrs_array_bytes.specs.ArrayBytesDecodeIntoTarget.{views_from, under_from, has_values_from, written_from};
+ghost use Rattle.zarrs_array_bytes.specs.DecodeTarget.{has_one_size as has_one_size_of, has_masks};
+ghost use Rattle.zarrs_array_bytes.specs.ArrayBytesDecodeIntoTarget.{takes_levels, views_from, has_values_from, written_from, written_under, StaysUnder, StaysWritten};
 
 use crate::array_bytes::ArrayBytes;
 use crate::array_bytes_fixed_view::ArrayBytesFixedView;
@@ -25,7 +23,7 @@ pub struct ArrayBytesDecodeIntoTarget<'a> {
 
 impl<'a> ArrayBytesDecodeIntoTarget<'a> {
     ghost use Rattle.zarrs_array_bytes.specs.ArrayBytesDecodeIntoTarget.{target_of, target_names};
-    ghost use Rattle.zarrs_array_bytes.specs.DecodeTarget.{target_fit, written_target, fills};
+    ghost use Rattle.zarrs_array_bytes.specs.DecodeTarget.{shape_fit, written_target, fills};
 
     /// Whether a chunk of this shape and type can be decoded into the target. Refusals, the first that
     /// holds: `UnsupportedTarget` for a type with a variable part; `TargetMismatch` where there is not
@@ -33,8 +31,7 @@ impl<'a> ArrayBytesDecodeIntoTarget<'a> {
     /// a mask of one byte for each, that of the elements of their size.
     #[tactic(auto, using(crate::proofs::TargetLemmas::miscounted))]
     pub fn check(&self, shape: &ChunkShape, data_type: &DataType) -> Result<(), CodecError>
-        ensures answer { result
-            ≡ target_fit data_type.now (product shape.now) (target_of self.now) }
+        ensures answer { result ≡ shape_fit data_type.now shape.now (target_of self.now) }
     {
         if !has_one_size(data_type) {
             return Err(CodecError::UnsupportedTarget);
@@ -90,8 +87,7 @@ fn levels_taken(
     count: u64,
     data_type: &DataType,
 ) -> bool
-    ensures value { result
-        ≡ levels_taken_of data_type.now count (map view_of masks.now) (view_of values.now) }
+    ensures value { result ≡ takes_levels data_type.now count masks.now values.now }
 {
     match (masks, data_type.as_optional()) {
         ([], None) => match data_type.fixed_size() {
@@ -119,8 +115,7 @@ fn write_levels(
     ensures masks { map view_of masks.new ≡ written_from level masks.old elements.now }
     ensures mask_names { map view_name masks.new ≡ map view_name masks.old }
     ensures name { view_name values.new ≡ view_name values.old }
-    ensures values { view_of values.new
-        ≡ written_view (view_of values.old) (bytes_in (under_from level masks.old elements.now)) }
+    ensures values { view_of values.new ≡ written_under level masks.old values.old elements.now }
     ensures flags { has_flags elements.now ≡ true }
 {
     if level == masks.len() {
@@ -143,10 +138,8 @@ fn write_mask<'b, 'c>(
     ensures len { length masks.new ≡ length masks.old }
     ensures mask_names { map view_name masks.new ≡ map view_name masks.old }
     ensures masks { has_masks (views_from (level + 1) masks.new) result.now ≡ true }
-    ensures under { under_from (level + 1) masks.new result.now
-        ≡ under_from level masks.old elements.now }
-    ensures written { written_from (level + 1) masks.new result.now
-        ≡ written_from level masks.old elements.now }
+    ensures under { StaysUnder level masks.old masks.new elements.now result.now }
+    ensures written { StaysWritten level masks.old masks.new elements.now result.now }
     ensures flags { has_flags result.now ≡ true → has_flags elements.now ≡ true }
 {
     let (inner, flags) = elements.optional_parts();

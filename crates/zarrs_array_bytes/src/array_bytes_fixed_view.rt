@@ -21,10 +21,9 @@ pub struct ArrayBytesFixedView<'a> {
 
 impl<'a> ArrayBytesFixedView<'a> {
     ghost use Rattle.std.specs.Prelude.{◌≡◌, OnOk, OnErr, IfOk};
-    ghost use Rattle.zarrs_chunk.specs.Answer.{Answers, memory};
-    ghost use Rattle.zarrs_array_bytes.specs.ArrayBytesFixedView.{view_of};
+    ghost use Rattle.zarrs_array_bytes.specs.ArrayBytesFixedView.{view_of, AnswersView, IsWritten};
     ghost use Rattle.zarrs_array_bytes.specs.DecodeTarget.{takes_elements};
-    ghost use Rattle.zarrs_array_bytes.specs.FixedView.{fixed_view, written_view, view_length, elements_fit};
+    ghost use Rattle.zarrs_array_bytes.specs.FixedView.{fixed_view, view_length, elements_fit};
 
     /// The elements of the subset of an array of this shape, whose elements have `element_size` bytes
     /// each and stand in `bytes`. Refusals, the first that holds, `OutOfMemory` aside:
@@ -38,8 +37,7 @@ impl<'a> ArrayBytesFixedView<'a> {
         shape: &ChunkShape,
         subset: ArraySubset,
     ) -> Result<ArrayBytesFixedView<'a>, CodecError>
-        ensures answer { Answers memory view_of result
-            (fixed_view bytes.old element_size shape.now subset) }
+        ensures answer { AnswersView result (fixed_view bytes.old element_size shape.now subset) }
         ensures same_reference { IfOk result (λ v. v.bytes.ghost_name ≡ bytes.entry.ghost_name) }
     {
         if element_size == 0 {
@@ -75,8 +73,7 @@ impl<'a> ArrayBytesFixedView<'a> {
     /// bytes as the subset's elements have; then nothing is written.
     pub fn copy_from_slice(&mut self, elements: &[u8]) -> Result<(), CodecError>
         ensures answer { result ≡ elements_fit (view_of self.old) elements.now }
-        ensures written { OnOk result
-            (view_of self.new ≡ written_view (view_of self.old) elements.now) }
+        ensures written { OnOk result (IsWritten self.old self.new elements.now) }
         ensures kept { OnErr result (view_of self.new ≡ view_of self.old) }
         ensures same_reference { self.new.bytes.ghost_name ≡ self.old.bytes.ghost_name }
     {
@@ -91,7 +88,7 @@ impl<'a> ArrayBytesFixedView<'a> {
     /// Writes the subset's elements, as many bytes as they have.
     pub(crate) fn write(&mut self, elements: &[u8])
         requires enough { length elements.now ≡ view_length (view_of self.old) }
-        ensures written { view_of self.new ≡ written_view (view_of self.old) elements.now }
+        ensures written { IsWritten self.old self.new elements.now }
         ensures same_reference { self.new.bytes.ghost_name ≡ self.old.bytes.ghost_name }
     {
         write_places(

@@ -1,6 +1,6 @@
 ghost use Rattle.std.specs.Prelude.{Ok};
 ghost use Rattle.zarrs_chunk.specs.Answer.{Answers, memory};
-ghost use Rattle.zarrs_array_bytes.specs.Given.{GivesItems};
+ghost use Rattle.zarrs_array_bytes.specs.Given.{MakesItems};
 ghost use Rattle.zarrs_array_bytes.specs.Held.{raw_of, items_of};
 
 use std::alloc::Global;
@@ -22,7 +22,7 @@ pub(crate) fn clone_raw<'a>(raw: &ArrayBytesRaw<'a>) -> Result<ArrayBytesRaw<'a>
 
 /// The bytes as owned ones. Owned bytes are taken as they are.
 pub(crate) fn owned_bytes(alloc: Global, raw: ArrayBytesRaw<'_>) -> Result<Vec<u8>, CodecError>
-    ensures exact { GivesItems result (items_of raw.entry) }
+    ensures exact { MakesItems result (items_of raw.entry) }
 {
     match raw {
         CowSlice::Borrowed(bytes) => Ok(bytes.to_vec(alloc)?),

@@ -1,13 +1,8 @@
-ghost use Rattle.std.specs.Prelude.{◌≡◌, ◌+◌, ◌≤◌, Ok, IfOk, All, false};
-ghost use Rattle.zarrs_chunk.specs.declared.codec_error.CodecError.TheVariants.{InvalidBytesLength};
-ghost use Rattle.zarrs_chunk.specs.Answer.{Answers, AnswersBy, memory, is_fault, Gives, GivesBy};
-ghost use Rattle.zarrs_chunk.specs.Indexer.{selection_of};
+ghost use Rattle.std.specs.Prelude.{◌+◌, ◌≤◌, IfOk, All};
 ghost use Rattle.zarrs_chunk.specs.Runs.{joined_runs};
-ghost use Rattle.zarrs_array_bytes.specs.Validity.{Holds, levels_fit};
 ghost use Rattle.zarrs_array_bytes.specs.Blank.{KeepsBlanks};
-ghost use Rattle.zarrs_array_bytes.specs.Extracted.{container_selection, IsSmall};
-ghost use Rattle.zarrs_array_bytes.specs.Chunks.{chunk_at, selected_chunk};
-ghost use Rattle.zarrs_array_bytes.specs.Given.{GivesHeld};
+ghost use Rattle.zarrs_array_bytes.specs.Extracted.{IsSmall, GivesHeldAt};
+ghost use Rattle.zarrs_array_bytes.specs.Chunks.{ExtractsRuns, ExtractsSelected};
 ghost use Rattle.zarrs_array_bytes.specs.Validity.{HasElements};
 
 use crate::array_bytes::{ArrayBytes, Parts};
@@ -29,8 +24,7 @@ impl<'a> ArrayBytes<'a> {
         shape: &ChunkShape,
         data_type: &DataType,
     ) -> Result<ArrayBytes<'static>, CodecError>
-        ensures exact { GivesBy (Holds data_type.now) result
-            (selected_chunk data_type.now shape.now (selection_of indexer.now) self.now) }
+        ensures exact { ExtractsSelected data_type.now shape.now indexer.now self.now result }
         ensures blank { KeepsBlanks data_type.now self.now result }
     {
         let runs = indexer.runs(alloc, shape)?;
@@ -49,8 +43,7 @@ impl<'a> ArrayBytes<'a> {
         data_type: &DataType,
     ) -> Result<ArrayBytes<'b>, CodecError>
         requires inside { All (λ run. run.0 + run.1 ≤ count) runs.now }
-        ensures answer { GivesBy (Holds data_type.now) result
-            (chunk_at data_type.now count (joined_runs runs.now) self.now) }
+        ensures answer { ExtractsRuns data_type.now count runs.now self.now result }
         ensures blank { KeepsBlanks data_type.now self.now result }
     {
         self.validate(count, data_type)?;
@@ -68,8 +61,7 @@ impl<'a> ArrayBytes<'a> {
         requires valid { HasElements data_type.now count self.now }
         requires inside { All (λ run. run.0 + run.1 ≤ count) runs.now }
         ensures small { IfOk result IsSmall }
-        ensures exact { GivesHeld result
-            (Ok (container_selection data_type.now self.now (joined_runs runs.now))) }
+        ensures exact { GivesHeldAt data_type.now self.now (joined_runs runs.now) result }
     {
         match &self.parts {
             Parts::Fixed(bytes) => {

@@ -1,11 +1,10 @@
-ghost use Rattle.std.specs.Prelude.{◌≡◌, Ok, IfOk, false};
-ghost use Rattle.zarrs_chunk.specs.Answer.{Answers, AnswersBy, memory, is_fault, Gives, GivesBy};
-ghost use Rattle.zarrs_array_bytes.specs.Validity.{Holds, sizes_fit};
+ghost use Rattle.std.specs.Prelude.{◌≡◌, Ok, IfOk};
+ghost use Rattle.zarrs_chunk.specs.Answer.{GivesValue};
+ghost use Rattle.zarrs_array_bytes.specs.Validity.{sizes_fit};
 ghost use Rattle.zarrs_array_bytes.specs.Blank.{AbsentAreBlank};
 ghost use Rattle.zarrs_array_bytes.specs.Extracted.{IsSmall};
-ghost use Rattle.zarrs_array_bytes.specs.Filled.{blank_elements as blank_of, container_fill};
-ghost use Rattle.zarrs_array_bytes.specs.Chunks.{fill_chunk};
-ghost use Rattle.zarrs_array_bytes.specs.Given.{GivesHeld};
+ghost use Rattle.zarrs_array_bytes.specs.Filled.{blank_elements as blank_of, container_fill, IsFill};
+ghost use Rattle.zarrs_array_bytes.specs.Chunks.{GivesFill};
 
 use crate::array_bytes::ArrayBytes;
 use crate::repeat::{repeat_bytes, repeat_cuts, same_bytes, zero_offsets};
@@ -25,10 +24,8 @@ impl<'a> ArrayBytes<'a> {
         count: u64,
         fill_value: &FillValue,
     ) -> Result<ArrayBytes<'a>, CodecError>
-        ensures exact { GivesBy (Holds data_type.now) result
-            (fill_chunk data_type.now count fill_value.now) }
-        ensures held { IfOk result
-            (λ array. array ≡ container_fill data_type.now count fill_value.now) }
+        ensures exact { GivesFill data_type.now count fill_value.now result }
+        ensures held { IfOk result (IsFill data_type.now count fill_value.now) }
         ensures blank { IfOk result (AbsentAreBlank data_type.now) }
     {
         if !fill_value.fits(data_type) {
@@ -48,7 +45,7 @@ pub(crate) fn blank_elements<'a>(
 ) -> Result<ArrayBytes<'a>, CodecError>
     requires sizes { sizes_fit data_type.now count ≡ Ok tt }
     ensures small { IfOk result IsSmall }
-    ensures exact { GivesHeld result (Ok (blank_of data_type.now count)) }
+    ensures exact { GivesValue result (Ok (blank_of data_type.now count)) }
 {
     if let Some(inner) = data_type.as_optional() {
         let inner = blank_elements(alloc, inner, count)?;
@@ -73,7 +70,7 @@ fn fill_elements<'a>(
 ) -> Result<ArrayBytes<'a>, CodecError>
     requires sizes { sizes_fit data_type.now count ≡ Ok tt }
     ensures small { IfOk result IsSmall }
-    ensures exact { GivesHeld result (Ok (container_fill data_type.now count fill.now)) }
+    ensures exact { GivesValue result (Ok (container_fill data_type.now count fill.now)) }
 {
     if let Some(inner) = data_type.as_optional() {
         if let [0] = fill {

@@ -1,8 +1,9 @@
-ghost use Rattle.std.specs.Prelude.{◌≡◌, ◌+◌, ◌-◌, ◌*◌, ◌<◌, ◌^◌, ◌≤◌, ◌++◌, All, IfOk, OnOk, length, map, slice_index, true};
+ghost use Rattle.std.specs.Prelude.{◌≡◌, ◌+◌, ◌-◌, ◌*◌, ◌<◌, ◌^◌, ◌≤◌, All, IfOk, OnOk, length, map, slice_index, true};
+ghost use Rattle.zarrs_chunk.specs.Answer.{Appends};
 ghost use Rattle.zarrs_chunk.specs.Runs.{joined_runs};
 ghost use Rattle.zarrs_array_bytes.specs.Cuts.{run_cuts, run_bytes, run_size, EndsFollow, moved_offsets};
 ghost use Rattle.zarrs_array_bytes.specs.Elements.{cut};
-ghost use Rattle.zarrs_array_bytes.specs.Given.{GivesItems, GivesCuts};
+ghost use Rattle.zarrs_array_bytes.specs.Given.{MakesItems, GivesCuts};
 ghost use Rattle.zarrs_array_bytes.specs.Offsets.{is_offsets, last_of};
 ghost use Rattle.zarrs_array_bytes.specs.Pieces.{pieces_at, cuts_at};
 
@@ -19,7 +20,7 @@ pub(crate) fn gather_pieces(
 ) -> Result<Vec<u8>, CodecError>
     requires inside { All (λ run. (run.0 + run.1) * size ≤ length bytes.now) runs.now }
     ensures small { IfOk result (λ v. length v.items < 2 ^ 64) }
-    ensures exact { GivesItems result (pieces_at size bytes.now (joined_runs runs.now)) }
+    ensures exact { MakesItems result (pieces_at size bytes.now (joined_runs runs.now)) }
 {
     let mut out = Vec::with_capacity(alloc, bytes_of_runs(runs, size))?;
     for run in runs {
@@ -37,7 +38,7 @@ pub(crate) fn gather_flags(
     runs: &[(u64, u64)],
 ) -> Result<Vec<u8>, CodecError>
     requires inside { All (λ run. run.0 + run.1 ≤ length flags.now) runs.now }
-    ensures exact { GivesItems result (map (slice_index flags.now) (joined_runs runs.now)) }
+    ensures exact { MakesItems result (map (slice_index flags.now) (joined_runs runs.now)) }
 {
     gather_pieces(alloc, flags, 1, runs)
 }
@@ -85,8 +86,8 @@ pub(crate) fn append_cuts(
     requires rising { is_offsets offsets.now ≡ true }
     requires ending { last_of offsets.now ≡ length bytes.now }
     requires inside { first + count < length offsets.now }
-    ensures bytes { OnOk result
-        (out.new.items ≡ out.old.items ++ run_bytes offsets.now bytes.now first count) }
+    ensures bytes { Appends out.old out.new result (run_bytes offsets.now bytes.now first count) }
+    // Wide: the old bytes, the ends before and after, and the run that is put behind them.
     ensures ends { OnOk result
         (EndsFollow out.old ends.old ends.new (run_cuts offsets.now bytes.now first count)) }
 {
@@ -117,8 +118,7 @@ fn append_moved(
 ) -> Result<(), AllocError>
     requires above { All (λ offset. from ≤ offset) offsets.now }
     requires fits { All (λ offset. offset - from + start < 2 ^ 64) offsets.now }
-    ensures appended { OnOk result
-        (out.new.items ≡ out.old.items ++ moved_offsets from start offsets.now) }
+    ensures appended { Appends out.old out.new result (moved_offsets from start offsets.now) }
 {
     out.extend(offsets.iter().map(|offset| *offset - from + start))
 }

@@ -4,10 +4,10 @@
 //! only the count tells whether it stays. Where it doesn't, the next one is written over it.
 ghost use Rattle.std.specs.Prelude.{◌≡◌, ◌+◌, ◌*◌, ◌<◌, ◌≤◌, ◌^◌, IfOk, length, replicate, take, true};
 ghost use Rattle.std.specs.List.{between};
-ghost use Rattle.zarrs_array_bytes.specs.Given.{GivesItems};
+ghost use Rattle.zarrs_array_bytes.specs.Given.{MakesItems};
 ghost use Rattle.zarrs_array_bytes.specs.Pieces.{pieces_at};
-ghost use Rattle.zarrs_array_bytes.specs.Present.{present_places};
-ghost use Rattle.zarrs_array_bytes.specs.Update.{pieces_update, with_items_at};
+ghost use Rattle.zarrs_array_bytes.specs.Present.{present_places, present_update, spread_pieces, BeginsWithPresent};
+ghost use Rattle.zarrs_array_bytes.specs.Update.{with_items_at};
 
 use crate::write::copy_to;
 use std::alloc::Global;
@@ -39,7 +39,7 @@ pub(crate) fn kept_elements(
     requires counted { count ≡ length (present_places mask.now) }
     requires some { count < length mask.now }
     ensures small { IfOk result (λ v. length v.items < 2 ^ 64) }
-    ensures exact { GivesItems result (pieces_at size bytes.now (present_places mask.now)) }
+    ensures exact { MakesItems result (pieces_at size bytes.now (present_places mask.now)) }
 {
     let mut out = vec![in alloc; 0u8; (count + 1) * size]?;
     keep_elements(&mut out, bytes, size, mask);
@@ -51,8 +51,7 @@ pub(crate) fn kept_elements(
 fn keep_elements(out: &mut [u8], bytes: &[u8], size: usize, mask: &[u8])
     requires whole { length bytes.now ≡ length mask.now * size }
     requires room { length out.old ≡ (length (present_places mask.now) + 1) * size }
-    ensures kept { take (length (present_places mask.now) * size) out.new
-        ≡ pieces_at size bytes.now (present_places mask.now) }
+    ensures kept { BeginsWithPresent size mask.now bytes.now out.new }
 {
     match size {
         1 => keep_each(out, bytes, 1, mask),
@@ -68,8 +67,7 @@ fn keep_elements(out: &mut [u8], bytes: &[u8], size: usize, mask: &[u8])
 fn keep_each(out: &mut [u8], bytes: &[u8], size: usize, mask: &[u8])
     requires whole { length bytes.now ≡ length mask.now * size }
     requires room { length out.old ≡ (length (present_places mask.now) + 1) * size }
-    ensures kept { take (length (present_places mask.now) * size) out.new
-        ≡ pieces_at size bytes.now (present_places mask.now) }
+    ensures kept { BeginsWithPresent size mask.now bytes.now out.new }
 {
     let mut kept = 0;
     for place in 0..mask.len() {
@@ -92,9 +90,7 @@ pub(crate) fn spread_elements(
     requires short { size ≤ 16 }
     requires fits { length mask.now * size < 2 ^ 64 }
     requires enough { length bytes.now ≡ length (present_places mask.now) * size }
-    ensures exact { GivesItems result
-        (pieces_update size (length mask.now) (replicate (length mask.now * size) 0)
-        (present_places mask.now) bytes.now) }
+    ensures exact { MakesItems result (spread_pieces size mask.now bytes.now) }
 {
     let mut out = vec![in alloc; 0u8; mask.len() * size]?;
     put_elements(&mut out, bytes, size, mask);
@@ -106,8 +102,7 @@ fn put_elements(out: &mut [u8], bytes: &[u8], size: usize, mask: &[u8])
     requires short { size ≤ 16 }
     requires blank { out.old ≡ replicate (length mask.now * size) 0 }
     requires enough { length bytes.now ≡ length (present_places mask.now) * size }
-    ensures written { out.new
-        ≡ pieces_update size (length mask.now) out.old (present_places mask.now) bytes.now }
+    ensures written { out.new ≡ present_update size mask.now out.old bytes.now }
 {
     match size {
         1 => put_each(out, bytes, 1, mask),
@@ -124,8 +119,7 @@ fn put_each(out: &mut [u8], bytes: &[u8], size: usize, mask: &[u8])
     requires short { size ≤ 16 }
     requires blank { out.old ≡ replicate (length mask.now * size) 0 }
     requires enough { length bytes.now ≡ length (present_places mask.now) * size }
-    ensures written { out.new
-        ≡ pieces_update size (length mask.now) out.old (present_places mask.now) bytes.now }
+    ensures written { out.new ≡ present_update size mask.now out.old bytes.now }
 {
     let mut done = 0;
     for place in 0..mask.len() {

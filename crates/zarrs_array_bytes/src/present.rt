@@ -1,19 +1,13 @@
-ghost use Rattle.std.specs.Prelude.{◌≡◌, ◌<◌, ◌+◌, ◌-◌, ◌≤◌, ◌++◌, Bool, true, false, All, Ok, IfOk, OnOk, length};
+ghost use Rattle.std.specs.Prelude.{◌≡◌, ◌<◌, ◌-◌, ◌≤◌, false, Ok, IfOk, OnOk, length};
 ghost use Rattle.std.specs.List.{range_with_len};
-ghost use Rattle.zarrs_chunk.specs.Answer.{Answers, AnswersBy, memory, seen, is_fault, Gives, GivesBy};
-ghost use Rattle.zarrs_chunk.specs.Runs.{joined_runs};
+ghost use Rattle.zarrs_chunk.specs.Answer.{Gives, GivesValue, is_fault};
+ghost use Rattle.zarrs_chunk.specs.Runs.{places_in, AddsPlaces, EndWithin, StayWithin};
 ghost use Rattle.zarrs_data_type.specs.ElementType.{optional};
-ghost use Rattle.zarrs_array_bytes.specs.Held.{masked, raw_of};
-ghost use Rattle.zarrs_chunk.specs.declared.codec_error.CodecError.TheVariants.{InvalidBytesLength};
-ghost use Rattle.zarrs_array_bytes.specs.Validity.{sizes_fit, levels_fit, validity, Holds};
-ghost use Rattle.zarrs_array_bytes.specs.Blank.{OuterAreBlank, AbsentAreBlank, KeepsBlanks};
-ghost use Rattle.zarrs_array_bytes.specs.Present.{present_places, present_count, are_all_present, present_chunk, container_spread, container_expansion, expansion_of, expanded_chunk};
-ghost use Rattle.zarrs_chunk.specs.Runs.{places_in, EndWithin, StayWithin};
-ghost use Rattle.zarrs_array_bytes.specs.Extracted.{container_selection, IsSmall};
-ghost use Rattle.zarrs_array_bytes.specs.Given.{GivesHeld};
-ghost use Rattle.zarrs_array_bytes.specs.Held.{items_of};
-ghost use Rattle.zarrs_array_bytes.specs.Present.{IsExpansion};
-ghost use Rattle.zarrs_array_bytes.specs.Validity.{HasElements, validated};
+ghost use Rattle.zarrs_array_bytes.specs.Held.{items_of, raw_of};
+ghost use Rattle.zarrs_array_bytes.specs.Validity.{HasElements, sizes_fit};
+ghost use Rattle.zarrs_array_bytes.specs.Blank.{OuterAreBlank, KeepsBlanks, ExpandsBlanks};
+ghost use Rattle.zarrs_array_bytes.specs.Extracted.{IsSmall, GivesHeldAt};
+ghost use Rattle.zarrs_array_bytes.specs.Present.{present_places, present_count, container_spread, expansion_of, IsExpansion, ExtractsPresent, KeptIfAllPresent, ExpandsPresent};
 
 use crate::array_bytes::{ArrayBytes, Parts, is_mask};
 use crate::array_bytes_raw::ArrayBytesRaw;
@@ -61,7 +55,7 @@ fn count_set(mask: &[u8]) -> usize
 #[inline(always)]
 fn count_few(mask: &[u8]) -> u8
     requires few { length mask.now ≤ 128 }
-    ensures { result ≡ length (present_places mask.now) }
+    ensures count { result ≡ length (present_places mask.now) }
 {
     let mut count = 0;
     for place in 0..mask.len() {
@@ -89,8 +83,7 @@ fn count_runs(mask: &[u8]) -> usize {
 /// place.
 fn push_run(runs: &mut Vec<(u64, u64)>, start: usize, end: usize) -> Result<(), AllocError>
     requires ordered { start ≤ end }
-    ensures places { OnOk result
-        (places_in runs.new ≡ places_in runs.old ++ range_with_len start (end - start)) }
+    ensures places { AddsPlaces runs.old runs.new result (range_with_len start (end - start)) }
     ensures inside { OnOk result (StayWithin end runs.old.items runs.new.items) }
 {
     if start < end {
@@ -128,10 +121,8 @@ impl<'a> ArrayBytes<'a> {
         mask: &[u8],
         data_type: &DataType,
     ) -> Result<ArrayBytes<'a>, CodecError>
-        ensures answer { GivesBy (Holds data_type.now) result
-            (present_chunk data_type.now self.entry mask.now) }
-        ensures kept { are_all_present mask.now ≡ true
-            → result ≡ validated data_type.now (length mask.now) self.entry }
+        ensures answer { ExtractsPresent data_type.now self.entry mask.now result }
+        ensures kept { KeptIfAllPresent data_type.now self.entry mask.now result }
         ensures blank { KeepsBlanks data_type.now self.entry result }
     {
         self.validate(mask.len() as u64, data_type)?;
@@ -156,8 +147,7 @@ impl<'a> ArrayBytes<'a> {
         requires counted { count ≡ length (present_places mask.now) }
         requires some { count < length mask.now }
         ensures small { IfOk result IsSmall }
-        ensures exact { GivesHeld result
-            (Ok (container_selection data_type.now self.now (present_places mask.now))) }
+        ensures exact { GivesHeldAt data_type.now self.now (present_places mask.now) result }
     {
         if let Parts::Fixed(bytes) = &self.parts {
             let size = data_type.fixed_size().unwrap();
@@ -182,12 +172,10 @@ impl<'a> ArrayBytes<'a> {
         mask: ArrayBytesRaw<'a>,
         data_type: &DataType,
     ) -> Result<ArrayBytes<'a>, CodecError>
-        ensures answer { GivesBy (Holds (optional data_type.now)) result
-            (expanded_chunk data_type.now self.entry (items_of mask.entry)) }
+        ensures answer { ExpandsPresent data_type.now self.entry (items_of mask.entry) result }
         ensures held { IfOk result (IsExpansion data_type.now self.entry (raw_of mask.entry)) }
         ensures absent { IfOk result (OuterAreBlank (optional data_type.now)) }
-        ensures blank { AbsentAreBlank data_type.now self.entry
-            → IfOk result (AbsentAreBlank (optional data_type.now)) }
+        ensures blank { ExpandsBlanks data_type.now self.entry result }
     {
         let inner = self.expanded(alloc, mask.as_slice(), data_type)?;
         inner.under_mask(alloc, mask)
@@ -200,7 +188,7 @@ impl<'a> ArrayBytes<'a> {
         mask: &[u8],
         data_type: &DataType,
     ) -> Result<ArrayBytes<'a>, CodecError>
-        ensures exact { GivesHeld result (expansion_of data_type.now self.entry mask.now) }
+        ensures exact { GivesValue result (expansion_of data_type.now self.entry mask.now) }
     {
         let count = count_present(mask)?;
         self.validate(count, data_type)?;
@@ -222,7 +210,7 @@ fn spread<'a>(
 ) -> Result<ArrayBytes<'a>, CodecError>
     requires valid { HasElements data_type.now (length (present_places mask.now)) array.now }
     requires sizes { sizes_fit data_type.now (length mask.now) ≡ Ok tt }
-    ensures exact { GivesHeld result (Ok (container_spread data_type.now array.now mask.now)) }
+    ensures exact { GivesValue result (Ok (container_spread data_type.now array.now mask.now)) }
 {
     if let Parts::Fixed(bytes) = &array.parts {
         let size = data_type.fixed_size().unwrap();
@@ -243,7 +231,7 @@ fn spread_runs<'a>(
 ) -> Result<ArrayBytes<'a>, CodecError>
     requires valid { HasElements data_type.now (length (present_places mask.now)) array.now }
     requires sizes { sizes_fit data_type.now (length mask.now) ≡ Ok tt }
-    ensures exact { GivesHeld result (Ok (container_spread data_type.now array.now mask.now)) }
+    ensures exact { GivesValue result (Ok (container_spread data_type.now array.now mask.now)) }
 {
     let count = mask.len() as u64;
     let runs = runs_of_mask(alloc, mask)?;

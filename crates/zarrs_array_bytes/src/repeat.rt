@@ -1,7 +1,7 @@
 ghost use Rattle.std.specs.Prelude.{◌≡◌, ◌*◌, ◌^◌, ◌<◌, ◌++◌, IfOk, OnOk, OnErr, length, replicate};
 ghost use Rattle.zarrs_array_bytes.specs.Cuts.{even_ends};
 ghost use Rattle.zarrs_array_bytes.specs.Filled.{copies, copies_with_offsets};
-ghost use Rattle.zarrs_array_bytes.specs.Given.{GivesItems, GivesCuts};
+ghost use Rattle.zarrs_array_bytes.specs.Given.{MakesItems, GivesCuts};
 ghost use Rattle.zarrs_array_bytes.specs.Pieces.{IsLonger};
 
 use std::alloc::{AllocError, Global};
@@ -66,7 +66,7 @@ fn append_each(out: &mut Vec<u8>, bytes: &[u8], count: u64) -> Result<(), AllocE
 /// The bytes, `count` times.
 pub(crate) fn repeat_bytes(alloc: Global, bytes: &[u8], count: u64) -> Result<Vec<u8>, CodecError>
     ensures small { IfOk result (λ v. length v.items < 2 ^ 64) }
-    ensures exact { GivesItems result (copies bytes.now count) }
+    ensures exact { MakesItems result (copies bytes.now count) }
 {
     let mut out = Vec::with_capacity(alloc, bytes.len().saturating_mul(count as usize))?;
     append_copies(&mut out, bytes, count)?;
@@ -100,7 +100,7 @@ fn append_ends(ends: &mut Vec<usize>, size: usize, count: usize) -> Result<(), A
 /// `count` such bytes.
 pub(crate) fn same_bytes(alloc: Global, byte: u8, count: u64) -> Result<Vec<u8>, CodecError>
     ensures small { IfOk result (λ v. length v.items < 2 ^ 64) }
-    ensures exact { GivesItems result (replicate count byte) }
+    ensures exact { MakesItems result (replicate count byte) }
 {
     Ok(vec![in alloc; byte; count as usize]?)
 }
@@ -108,7 +108,7 @@ pub(crate) fn same_bytes(alloc: Global, byte: u8, count: u64) -> Result<Vec<u8>,
 /// `count` zeros.
 pub(crate) fn zero_offsets(alloc: Global, count: u64) -> Result<Vec<usize>, CodecError>
     ensures small { IfOk result (λ v. length v.items < 2 ^ 64) }
-    ensures exact { GivesItems result (replicate count 0) }
+    ensures exact { MakesItems result (replicate count 0) }
 {
     Ok(vec![in alloc; 0usize; count as usize]?)
 }

@@ -1,6 +1,6 @@
 ghost use Rattle.std.specs.Prelude.{◌≡◌, ◌<◌, ◌+◌, ◌^◌, All, length};
 ghost use Rattle.zarrs_chunk.specs.Runs.{joined_runs};
-ghost use Rattle.zarrs_array_bytes.specs.Given.{GivesItems};
+ghost use Rattle.zarrs_array_bytes.specs.Given.{MakesItems};
 
 use std::alloc::Global;
 use zarrs_chunk::CodecError;
@@ -41,7 +41,7 @@ pub(crate) fn bytes_of_cuts(runs: &[(u64, u64)], offsets: &[usize]) -> usize
 /// The places of the runs, in order.
 pub(crate) fn places_of_runs(alloc: Global, runs: &[(u64, u64)]) -> Result<Vec<u64>, CodecError>
     requires ends { All (λ run. run.0 + run.1 < 2 ^ 64) runs.now }
-    ensures exact { GivesItems result (joined_runs runs.now) }
+    ensures exact { MakesItems result (joined_runs runs.now) }
 {
     let mut places = Vec::with_capacity(alloc, bytes_of_runs(runs, 1))?;
     for run in runs {

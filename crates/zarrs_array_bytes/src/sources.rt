@@ -1,9 +1,8 @@
 ghost use Rattle.std.specs.Prelude.{◌≡◌, ◌+◌, ◌≤◌, ◌-◌, ◌<◌, ◌^◌, All, IfOk, length, true};
 ghost use Rattle.zarrs_chunk.specs.Runs.{joined_runs};
-ghost use Rattle.zarrs_array_bytes.specs.Given.{GivesItems, GivesCuts};
+ghost use Rattle.zarrs_array_bytes.specs.Given.{MakesItems, UpdatesCuts, GathersCuts};
 ghost use Rattle.zarrs_array_bytes.specs.Offsets.{is_offsets, last_of};
-ghost use Rattle.zarrs_array_bytes.specs.Sources.{sources, IsSourceOf, AreSources, cut_from, cuts_from};
-ghost use Rattle.zarrs_array_bytes.specs.Update.{cuts_update};
+ghost use Rattle.zarrs_array_bytes.specs.Sources.{sources, IsSourceOf, AreSources, cut_from};
 
 use crate::gather::cut_of;
 use crate::runs::places_of_runs;
@@ -35,8 +34,7 @@ pub(crate) fn written_cuts(
     requires new_ending { last_of new_offsets.now ≡ length new.now }
     requires inside { All (λ run. run.0 + run.1 ≤ length old_offsets.now - 1) runs.now }
     requires enough { length new_offsets.now ≡ length (joined_runs runs.now) + 1 }
-    ensures exact { GivesCuts result
-        (cuts_update old_offsets.now old.now new_offsets.now new.now (joined_runs runs.now)) }
+    ensures exact { UpdatesCuts old_offsets.now old.now new_offsets.now new.now runs.now result }
 {
     if are_rising(runs) {
         return splice_cuts(alloc, old, old_offsets, new, new_offsets, runs);
@@ -49,7 +47,7 @@ pub(crate) fn written_cuts(
 /// For each of `count` places, where its element comes from after writes at these places.
 fn sources_of(alloc: Global, count: usize, places: &[u64]) -> Result<Vec<Source>, CodecError>
     requires inside { All (λ place. place < count) places.now }
-    ensures exact { GivesItems result (sources count places.now) }
+    ensures exact { MakesItems result (sources count places.now) }
 {
     let mut from = Vec::with_capacity(alloc, count)?;
     for place in 0..count {
@@ -77,8 +75,7 @@ fn gather_sources(
     requires new_rising { is_offsets new_offsets.now ≡ true }
     requires new_ending { last_of new_offsets.now ≡ length new.now }
     requires known { AreSources old_offsets.now new_offsets.now from.now }
-    ensures exact { GivesCuts result
-        (cuts_from old_offsets.now old.now new_offsets.now new.now from.now) }
+    ensures exact { GathersCuts old_offsets.now old.now new_offsets.now new.now from.now result }
 {
     let room = bytes_of_sources(old, old_offsets, new, new_offsets, from);
     let mut out = Vec::with_capacity(alloc, room)?;

@@ -1,8 +1,8 @@
 ghost use Rattle.std.specs.Prelude.{◌≡◌, ◌+◌, ◌≤◌, ◌-◌, ◌<◌, ◌^◌, All, length, true};
 ghost use Rattle.zarrs_chunk.specs.Runs.{joined_runs};
-ghost use Rattle.zarrs_array_bytes.specs.Given.{GivesCuts};
+ghost use Rattle.zarrs_array_bytes.specs.Given.{UpdatesCuts};
 ghost use Rattle.zarrs_array_bytes.specs.Offsets.{is_offsets, last_of};
-ghost use Rattle.zarrs_array_bytes.specs.Update.{is_rising, cuts_update};
+ghost use Rattle.zarrs_array_bytes.specs.Update.{is_rising};
 
 use crate::gather::append_cuts;
 use std::alloc::Global;
@@ -40,8 +40,7 @@ pub(crate) fn splice_cuts(
     requires inside { All (λ run. run.0 + run.1 ≤ length old_offsets.now - 1) runs.now }
     requires enough { length new_offsets.now ≡ length (joined_runs runs.now) + 1 }
     requires rising { is_rising 0 runs.now ≡ true }
-    ensures exact { GivesCuts result
-        (cuts_update old_offsets.now old.now new_offsets.now new.now (joined_runs runs.now)) }
+    ensures exact { UpdatesCuts old_offsets.now old.now new_offsets.now new.now runs.now result }
 {
     let mut bytes = Vec::with_capacity(alloc, spliced_len(old, old_offsets, new, runs))?;
     let mut ends = Vec::with_capacity(alloc, old_offsets.len())?;

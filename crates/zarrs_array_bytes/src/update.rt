@@ -1,21 +1,14 @@
 ghost use Rattle.std.specs.Prelude.{◌≡◌, ◌+◌, ◌*◌, ◌-◌, ◌≤◌, ◌<◌, Ok, IsOk, All, length, nat_lt, true, false};
 ghost use Rattle.std.specs.List.{list_all};
-ghost use Rattle.zarrs_chunk.specs.declared.codec_error.CodecError.TheVariants.{InvalidBytesLength};
-ghost use Rattle.zarrs_chunk.specs.Answer.{Answers, AnswersBy, memory, is_fault, Gives, GivesBy};
-ghost use Rattle.zarrs_chunk.specs.Indexer.{selection_of};
+ghost use Rattle.zarrs_chunk.specs.Answer.{is_fault};
 ghost use Rattle.zarrs_chunk.specs.Runs.{joined_runs};
-ghost use Rattle.zarrs_array_bytes.specs.Held.{items_of, flen, masked, owned_bytes, mask_levels, raw_of};
+ghost use Rattle.zarrs_array_bytes.specs.Held.{items_of, mask_levels};
 ghost use Rattle.zarrs_array_bytes.specs.Offsets.{is_offsets, last_of};
 ghost use Rattle.zarrs_array_bytes.specs.Parts.{fixed_part, variable_part, optional_part, bytes_in, offsets_in, inner_in};
-ghost use Rattle.zarrs_array_bytes.specs.Pieces.{variable_of};
-ghost use Rattle.zarrs_array_bytes.specs.Validity.{Holds, levels_fit, data_fit};
+ghost use Rattle.zarrs_array_bytes.specs.Validity.{HasElements, data_fit};
 ghost use Rattle.zarrs_array_bytes.specs.Blank.{UpdatesBlanks};
-ghost use Rattle.zarrs_array_bytes.specs.Update.{update, with_runs, cuts_update, container_update};
-ghost use Rattle.zarrs_array_bytes.specs.Chunks.{update_fit, update_at_places, chunk_update};
-ghost use Rattle.zarrs_array_bytes.specs.Given.{GivesHeld};
-ghost use Rattle.zarrs_array_bytes.specs.Pieces.{fixed_of};
-ghost use Rattle.zarrs_array_bytes.specs.Update.{variable_update, mask_update, container_written};
-ghost use Rattle.zarrs_array_bytes.specs.Validity.{HasElements};
+ghost use Rattle.zarrs_array_bytes.specs.Chunks.{update_fit, UpdatesRuns, UpdatesSelected};
+ghost use Rattle.zarrs_array_bytes.specs.Given.{WritesAtRuns, WritesFixed, WritesVariable, WritesMask};
 
 use crate::array_bytes::{ArrayBytes, Parts};
 use crate::array_bytes_offsets::ArrayBytesOffsets;
@@ -44,8 +37,7 @@ pub fn update_array_bytes(
     new: &ArrayBytes<'_>,
     data_type: &DataType,
 ) -> Result<ArrayBytes<'static>, CodecError>
-    ensures exact { GivesBy (Holds data_type.now) result
-        (chunk_update data_type.now shape.now (selection_of indexer.now) array.entry new.now) }
+    ensures exact { UpdatesSelected data_type.now shape.now indexer.now array.entry new.now result }
     ensures blank { UpdatesBlanks data_type.now array.entry new.now result }
 {
     let runs = indexer.runs(alloc, shape)?;
@@ -67,8 +59,7 @@ pub fn update_runs(
     data_type: &DataType,
 ) -> Result<ArrayBytes<'static>, CodecError>
     requires inside { All (λ run. run.0 + run.1 ≤ count) runs.now }
-    ensures answer { GivesBy (Holds data_type.now) result
-        (update_at_places data_type.now count (joined_runs runs.now) array.entry new.now) }
+    ensures answer { UpdatesRuns data_type.now count runs.now array.entry new.now result }
     ensures blank { UpdatesBlanks data_type.now array.entry new.now result }
 {
     check_update(&array, count, runs, new, data_type)?;
@@ -78,17 +69,16 @@ pub fn update_runs(
 /// Whether the old elements are `count` of the type, and the new ones have one for each place of the
 /// runs.
 fn check_update(
-    array: &ArrayBytes<'_>,
+    old: &ArrayBytes<'_>,
     count: u64,
     runs: &[(u64, u64)],
     new: &ArrayBytes<'_>,
     data_type: &DataType,
 ) -> Result<(), CodecError>
-    ensures exact { result
-        ≡ update_fit data_type.now count (joined_runs runs.now) array.now new.now }
+    ensures exact { result ≡ update_fit data_type.now count (joined_runs runs.now) old.now new.now }
     ensures no_fault { is_fault result ≡ false }
 {
-    array.validate(count, data_type)?;
+    old.validate(count, data_type)?;
     check_data(new, runs, data_type)
 }
 
@@ -117,8 +107,7 @@ pub(crate) fn write_elements<'b>(
     requires valid { HasElements data_type.now count array }
     requires data_valid { data_fit data_type.now (length (joined_runs runs.now)) new.now ≡ Ok tt }
     requires inside { All (λ run. run.0 + run.1 ≤ count) runs.now }
-    ensures exact { GivesHeld result
-        (Ok (container_written data_type.now count array.entry (joined_runs runs.now) new.now)) }
+    ensures exact { WritesAtRuns data_type.now count runs.now array.entry new.now result }
 {
     match array.parts {
         Parts::Fixed(old) => {
@@ -146,8 +135,7 @@ fn write_fixed<'b>(
     requires kind { IsOk (fixed_part new.now) }
     requires inside { All (λ run. (run.0 + run.1) * size ≤ length (items_of old)) runs.now }
     requires enough { length (joined_runs runs.now) * size ≤ length (bytes_in new.now) }
-    ensures exact { GivesHeld result
-        (Ok (fixed_of (with_runs size (items_of old.entry) runs.now (bytes_in new.now)))) }
+    ensures exact { WritesFixed size (items_of old.entry) runs.now new.now result }
 {
     let bytes = written_elements(alloc, old, new.fixed_bytes(), size, runs)?;
     Ok(ArrayBytes::new_flen(CowSlice::Owned(bytes)))
@@ -166,8 +154,7 @@ fn write_variable<'b>(
     requires ending { last_of offsets ≡ length (items_of old) }
     requires inside { All (λ run. run.0 + run.1 ≤ length offsets - 1) runs.now }
     requires enough { length (offsets_in new.now) ≡ length (joined_runs runs.now) + 1 }
-    ensures exact { GivesHeld result
-        (Ok (variable_update offsets (items_of old.entry) (joined_runs runs.now) new.now)) }
+    ensures exact { WritesVariable offsets (items_of old.entry) runs.now new.now result }
 {
     let (new, new_offsets) = new.variable_parts();
     let (bytes, offsets) = written_cuts(
@@ -194,8 +181,7 @@ fn write_mask<'b>(
     requires new_flags { list_all (λ byte. nat_lt byte 2) new_mask.now ≡ true }
     requires inside { All (λ run. run.0 + run.1 ≤ length (items_of mask)) runs.now }
     requires enough { length new_mask.now ≡ length (joined_runs runs.now) }
-    ensures exact { GivesHeld result
-        (Ok (mask_update inner.entry (items_of mask.entry) (joined_runs runs.now) new_mask.now)) }
+    ensures exact { WritesMask inner.entry (items_of mask.entry) runs.now new_mask.now result }
 {
     let mask = written_flags(alloc, mask, new_mask, runs)?;
     ArrayBytes::of_masked(alloc, inner, mask)

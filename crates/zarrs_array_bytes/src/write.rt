@@ -1,6 +1,6 @@
 ghost use Rattle.std.specs.Prelude.{◌≡◌, ◌+◌, ◌*◌, ◌≤◌, All, length};
 ghost use Rattle.zarrs_chunk.specs.Runs.{joined_runs};
-ghost use Rattle.zarrs_array_bytes.specs.Given.{GivesItems};
+ghost use Rattle.zarrs_array_bytes.specs.Given.{MakesItems};
 ghost use Rattle.zarrs_array_bytes.specs.Held.{items_of};
 ghost use Rattle.zarrs_array_bytes.specs.Update.{with_items_at, with_runs, update, pieces_update};
 
@@ -19,7 +19,7 @@ pub(crate) fn written_elements(
 ) -> Result<Vec<u8>, CodecError>
     requires inside { All (λ run. (run.0 + run.1) * size ≤ length (items_of raw)) runs.now }
     requires enough { length (joined_runs runs.now) * size ≤ length new.now }
-    ensures exact { GivesItems result (with_runs size (items_of raw.entry) runs.now new.now) }
+    ensures exact { MakesItems result (with_runs size (items_of raw.entry) runs.now new.now) }
 {
     let mut bytes = owned_bytes(alloc, raw)?;
     write_runs(&mut bytes, new, size, runs);
@@ -35,27 +35,20 @@ pub(crate) fn written_flags(
 ) -> Result<Vec<u8>, CodecError>
     requires inside { All (λ run. run.0 + run.1 ≤ length (items_of raw)) runs.now }
     requires enough { length new.now ≡ length (joined_runs runs.now) }
-    ensures exact { GivesItems result (update (items_of raw.entry) (joined_runs runs.now) new.now) }
+    ensures exact { MakesItems result (update (items_of raw.entry) (joined_runs runs.now) new.now) }
 {
     written_elements(alloc, raw, new, 1, runs)
 }
 
 /// Writes elements of `size` into the bytes of `count` of them, at the places of the runs, in order.
-pub(crate) fn write_places(
-    bytes: &mut [u8],
-    new: &[u8],
-    size: usize,
-    count: u64,
-    runs: &[(u64, u64)],
-)
-    requires whole { length bytes.old ≡ count * size }
+pub(crate) fn write_places(out: &mut [u8], new: &[u8], size: usize, count: u64, runs: &[(u64, u64)])
+    requires whole { length out.old ≡ count * size }
     requires inside { All (λ run. run.0 + run.1 ≤ count) runs.now }
     requires enough { length new.now ≡ length (joined_runs runs.now) * size }
-    ensures written { bytes.new
-        ≡ pieces_update size count bytes.old (joined_runs runs.now) new.now }
-    ensures len { length bytes.new ≡ length bytes.old }
+    ensures written { out.new ≡ pieces_update size count out.old (joined_runs runs.now) new.now }
+    ensures len { length out.new ≡ length out.old }
 {
-    write_runs(bytes, new, size, runs);
+    write_runs(out, new, size, runs);
 }
 
 fn write_runs(bytes: &mut [u8], new: &[u8], size: usize, runs: &[(u64, u64)])

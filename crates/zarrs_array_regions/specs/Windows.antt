@@ -15,8 +15,10 @@ use Rattle.zarrs_array_to_array.specs.ArrayToArrayCodec.{ArrayMapping, transpose
 use Rattle.zarrs_array_to_array.specs.CodecAnswers.{type_taken}
 use Rattle.zarrs_array_to_array.specs.EncodedSelection.{squeezed_lengths, squeezed_region}
 use Rattle.zarrs_array_to_array.specs.Orders.{permuted}
+use Rattle.zarrs_array_to_array.specs.Mapping.{mapping_of}
 use Rattle.zarrs_array_to_array.specs.Squeeze.{squeezed}
 use Rattle.zarrs_array_to_array.specs.Transpose.{transposition}
+use Rattle.zarrs_array_to_array.specs.declared.array_to_array_codec.ArrayToArrayCodec.{ArrayToArrayCodec}
 use Rattle.zarrs_array_regions.specs.declared.window.Window.{Window}
 
 -- ---- windows
@@ -142,3 +144,22 @@ IsEncodedWindow type answer expected = (answer.0 ≡ expected.0) × Holds type a
 -- what is given is the last window and a container of its elements
 abbrev pub EncodesWindow : List ArrayMapping → ElementType → Window → Held → Result (Window × Held) CodecError → Type 0
 EncodesWindow codecs type window held result = GivesBy (IsEncodedWindow type) result (Ok (encoded_of codecs type window held))
+
+-- ---- the same of codecs and of a region of a chunk of these sizes
+
+-- what is given is the window that the codecs take the region to
+abbrev pub GivesRegionWindow : List ArrayToArrayCodec → List ℕ → Region → Result Window CodecError → Type 0
+GivesRegionWindow codecs sizes region result = GivesLastWindow (map mapping_of codecs) (window_of sizes region) result
+
+-- what is given is a container of the region's elements, from those that a container has for its last window
+abbrev pub GivesDecoded : List ArrayToArrayCodec → ElementType → List ℕ → Region → Held → Result Held CodecError → Type 0
+GivesDecoded codecs type sizes region held result =
+    DecodesWindow (map mapping_of codecs) type (window_of sizes region) held result
+
+-- what is given is the last window of a window and a container of its elements
+abbrev pub EncodesThrough : List ArrayToArrayCodec → ElementType → Window → Held → Result (Window × Held) CodecError → Type 0
+EncodesThrough codecs type window held result = EncodesWindow (map mapping_of codecs) type window held result
+
+-- what is given is the region's last window and a container of its elements
+abbrev pub GivesEncoded : List ArrayToArrayCodec → ElementType → List ℕ → Region → Held → Result (Window × Held) CodecError → Type 0
+GivesEncoded codecs type sizes region held result = EncodesThrough codecs type (window_of sizes region) held result

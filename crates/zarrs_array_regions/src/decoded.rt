@@ -1,12 +1,12 @@
 //! The elements of a region from those of its last window.
 ghost use Rattle.std.specs.Prelude.{◌≡◌, ◌<◌, ◌^◌, Ok, true, map};
-ghost use Rattle.zarrs_chunk.specs.Answer.{Gives};
+ghost use Rattle.zarrs_chunk.specs.Answer.{GivesValue};
 ghost use Rattle.zarrs_chunk.specs.ChunkShape.{product};
 ghost use Rattle.zarrs_array_bytes.specs.Blank.{KeepsBlanks};
 ghost use Rattle.zarrs_array_bytes.specs.Validity.{validity};
 ghost use Rattle.zarrs_array_to_array.specs.CodecAnswers.{type_taken};
 ghost use Rattle.zarrs_array_to_array.specs.Mapping.{mapping_of};
-ghost use Rattle.zarrs_array_regions.specs.Windows.{TakesRegion, TakeType, window_of, DecodesWindow};
+ghost use Rattle.zarrs_array_regions.specs.Windows.{TakesRegion, TakeType, GivesDecoded};
 ghost use Rattle.zarrs_array_regions.specs.Parts.{FitsRegion, DecodesPart};
 
 use crate::next::next_window;
@@ -20,33 +20,32 @@ use zarrs_data_type::{DataType, FillValue};
 /// The shape that a region with elements has as a chunk. Refusals: `OutOfMemory`.
 fn region_shape(alloc: Global, region: &ArraySubset) -> Result<ChunkShape, CodecError>
     requires filled { 0 < product region.now.lengths }
-    ensures answer { Gives (λ shape. shape) result (Ok region.now.lengths) }
+    ensures answer { GivesValue result (Ok region.now.lengths) }
 {
     let lengths = Vec::from_slice(alloc, region.shape())?;
     Ok(ChunkShape::new(lengths).unwrap())
 }
 
-/// The elements of a region, decoded at its own lengths from those of the window behind one codec.
+/// The elements of a part, decoded at its own lengths from those of the window behind one codec.
 fn decoded_part<'a>(
     alloc: Global,
     codec: &ArrayToArrayCodec,
-    region: &ArraySubset,
+    part: &ArraySubset,
     held: ArrayBytes<'a>,
     data_type: &DataType,
     fill_value: &FillValue,
 ) -> Result<ArrayBytes<'a>, CodecError>
-    requires axes { FitsRegion (mapping_of codec.now) region.now }
-    requires filled { 0 < product region.now.lengths }
-    requires counted { product region.now.lengths < 2 ^ 64 }
+    requires axes { FitsRegion (mapping_of codec.now) part.now }
+    requires filled { 0 < product part.now.lengths }
+    requires counted { product part.now.lengths < 2 ^ 64 }
     requires takes { type_taken (mapping_of codec.now) data_type.now ≡ Ok tt }
-    requires valid { validity data_type.now (product region.now.lengths) held ≡ Ok tt }
-    ensures decoded { DecodesPart (mapping_of codec.now) data_type.now region.now
-        held.entry result }
+    requires valid { validity data_type.now (product part.now.lengths) held ≡ Ok tt }
+    ensures decoded { DecodesPart (mapping_of codec.now) data_type.now part.now held.entry result }
     ensures blank { KeepsBlanks data_type.now held.entry result }
 {
     match codec {
         ArrayToArrayCodec::Transpose(codec) => {
-            let shape = region_shape(alloc, region)?;
+            let shape = region_shape(alloc, part)?;
             codec.decode(alloc, held, &shape, data_type, fill_value)
         }
         ArrayToArrayCodec::Reshape(_) => Ok(held),
@@ -72,8 +71,7 @@ pub fn decoded_window<'a>(
     requires takes { TakeType (map mapping_of codecs.now) data_type.now }
     requires filled { 0 < product region.now.lengths }
     requires valid { validity data_type.now (product region.now.lengths) held ≡ Ok tt }
-    ensures decoded { DecodesWindow (map mapping_of codecs.now) data_type.now
-        (window_of shape.now region.now) held.entry result }
+    ensures decoded { GivesDecoded codecs.now data_type.now shape.now region.now held.entry result }
     ensures blank { KeepsBlanks data_type.now held.entry result }
 {
     match codecs {

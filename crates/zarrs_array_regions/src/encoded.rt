@@ -4,7 +4,7 @@ ghost use Rattle.zarrs_chunk.specs.ChunkShape.{product};
 ghost use Rattle.zarrs_array_bytes.specs.Validity.{validity};
 ghost use Rattle.zarrs_array_to_array.specs.CodecAnswers.{type_taken};
 ghost use Rattle.zarrs_array_to_array.specs.Mapping.{mapping_of};
-ghost use Rattle.zarrs_array_regions.specs.Windows.{IsWindow, TakesRegion, TakeType, window_of, IsRegionMap, EncodesWindow};
+ghost use Rattle.zarrs_array_regions.specs.Windows.{IsWindow, TakesRegion, TakeType, IsRegionMap, EncodesThrough, GivesEncoded};
 ghost use Rattle.zarrs_array_regions.specs.Parts.{FitsRegion, EncodesPart};
 
 use crate::next::next_window;
@@ -15,34 +15,26 @@ use zarrs_array_to_array::{ArrayToArrayCodec, transposed};
 use zarrs_chunk::{ArraySubset, ChunkShape, CodecError};
 use zarrs_data_type::DataType;
 
-/// The elements of the window behind one codec, encoded at the region's own lengths from those of the
-/// region.
+/// The elements of the window behind one codec, encoded at a part's own lengths from those of the
+/// part.
 fn encoded_part<'a>(
     alloc: Global,
     codec: &ArrayToArrayCodec,
-    region: &ArraySubset,
+    part: &ArraySubset,
     held: ArrayBytes<'a>,
     data_type: &DataType,
 ) -> Result<ArrayBytes<'a>, CodecError>
-    requires axes { FitsRegion (mapping_of codec.now) region.now }
-    requires filled { 0 < product region.now.lengths }
-    requires counted { product region.now.lengths < 2 ^ 64 }
+    requires axes { FitsRegion (mapping_of codec.now) part.now }
+    requires filled { 0 < product part.now.lengths }
+    requires counted { product part.now.lengths < 2 ^ 64 }
     requires takes { type_taken (mapping_of codec.now) data_type.now ≡ Ok tt }
-    requires valid { validity data_type.now (product region.now.lengths) held ≡ Ok tt }
-    ensures encoded { EncodesPart (mapping_of codec.now) data_type.now region.now
-        held.entry result }
+    requires valid { validity data_type.now (product part.now.lengths) held ≡ Ok tt }
+    ensures encoded { EncodesPart (mapping_of codec.now) data_type.now part.now held.entry result }
 {
     match codec {
         ArrayToArrayCodec::Transpose(codec) => {
-            let count = region.num_elements()?;
-            transposed(
-                alloc,
-                &held,
-                codec.order(),
-                region.shape(),
-                count,
-                data_type,
-            )
+            let count = part.num_elements()?;
+            transposed(alloc, &held, codec.order(), part.shape(), count, data_type)
         }
         ArrayToArrayCodec::Reshape(_) => Ok(held),
         ArrayToArrayCodec::Squeeze(_) => Ok(held),
@@ -61,8 +53,7 @@ fn encoded_through<'a>(
     requires takes { TakeType (map mapping_of codecs.now) data_type.now }
     requires filled { 0 < product window.region.lengths }
     requires valid { validity data_type.now (product window.region.lengths) held ≡ Ok tt }
-    ensures encoded { EncodesWindow (map mapping_of codecs.now) data_type.now
-        window held.entry result }
+    ensures encoded { EncodesThrough codecs.now data_type.now window held.entry result }
     ensures inside { IfOk result (λ answer. IsWindow (product window.sizes) answer.0) }
     ensures map { IfOk result (λ _. IsRegionMap (map mapping_of codecs.now) window) }
 {
@@ -99,8 +90,7 @@ pub fn encoded_window<'a>(
     requires takes { TakeType (map mapping_of codecs.now) data_type.now }
     requires filled { 0 < product region.now.lengths }
     requires valid { validity data_type.now (product region.now.lengths) held ≡ Ok tt }
-    ensures encoded { EncodesWindow (map mapping_of codecs.now) data_type.now
-        (window_of shape.now region.now) held.entry result }
+    ensures encoded { GivesEncoded codecs.now data_type.now shape.now region.now held.entry result }
     ensures inside { IfOk result (λ answer. IsWindow (product shape.now) answer.0) }
 {
     match codecs {

@@ -2,7 +2,7 @@
 ghost use Rattle.std.specs.Prelude.{◌≡◌, Ok, map, IfOk};
 ghost use Rattle.zarrs_chunk.specs.ChunkShape.{product};
 ghost use Rattle.zarrs_array_to_array.specs.Mapping.{mapping_of};
-ghost use Rattle.zarrs_array_regions.specs.Windows.{IsWindow, TakesRegion, window_of, GivesLastWindow};
+ghost use Rattle.zarrs_array_regions.specs.Windows.{IsWindow, TakesRegion, GivesLastWindow, GivesRegionWindow};
 
 use crate::next::next_window;
 use crate::window::Window;
@@ -44,8 +44,7 @@ pub fn last_window(
     region: &ArraySubset,
 ) -> Result<Window, CodecError>
     requires region { TakesRegion (map mapping_of codecs.now) shape.now region.now }
-    ensures last { GivesLastWindow (map mapping_of codecs.now)
-        (window_of shape.now region.now) result }
+    ensures last { GivesRegionWindow codecs.now shape.now region.now result }
     ensures inside { IfOk result (IsWindow (product shape.now)) }
 {
     match codecs {

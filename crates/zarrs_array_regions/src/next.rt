@@ -1,6 +1,6 @@
 //! The window that one codec makes of another.
 ghost use Rattle.std.specs.Prelude.{◌≡◌, Ok, Some, true, length, is_ok};
-ghost use Rattle.zarrs_chunk.specs.Answer.{Gives};
+ghost use Rattle.zarrs_chunk.specs.Answer.{GivesValue};
 ghost use Rattle.zarrs_chunk.specs.Tuples.{is_box_inside};
 ghost use Rattle.zarrs_metadata.specs.Orders.{is_order};
 ghost use Rattle.zarrs_array_to_array.specs.ArrayToArrayCodec.{coordinates, transpose, squeeze};
@@ -23,7 +23,7 @@ fn permuted_subset(
 ) -> Result<ArraySubset, CodecError>
     requires order { is_order order.now ≡ true }
     requires axes { length order.now ≡ length subset.now.starts }
-    ensures answer { Gives (λ subset. subset) result (Ok (permuted_region order.now subset.now)) }
+    ensures answer { GivesValue result (Ok (permuted_region order.now subset.now)) }
 {
     let lengths = subset.shape();
     let starts = permuted(alloc, order, subset.start())?;
@@ -62,26 +62,25 @@ fn squeezed_window(
     Ok(Window { sizes, region })
 }
 
-/// Where the codec takes a region of a chunk of this shape, which it takes: a window of the encoded
-/// shape, or `None` where the region stays. Refusals: `OutOfMemory`.
+/// Where the codec takes a part of a chunk of this shape, which it takes: a window of the encoded
+/// shape, or `None` where the part stays. Refusals: `OutOfMemory`.
 pub(crate) fn next_window(
     alloc: Global,
     codec: &ArrayToArrayCodec,
     shape: &ChunkShape,
-    region: &ArraySubset,
+    part: &ArraySubset,
 ) -> Result<Option<Window>, CodecError>
     requires taken { is_ok (coordinates (mapping_of codec.now) shape.now) ≡ true }
-    requires inside { is_box_inside shape.now region.now.starts region.now.lengths ≡ true }
-    ensures answer { GivesNextWindow (mapping_of codec.now)
-        (window_of shape.now region.now) result }
+    requires inside { is_box_inside shape.now part.now.starts part.now.lengths ≡ true }
+    ensures answer { GivesNextWindow (mapping_of codec.now) (window_of shape.now part.now) result }
 {
     match codec {
         ArrayToArrayCodec::Transpose(codec) => {
-            Ok(Some(transposed_window(alloc, codec, shape, region)?))
+            Ok(Some(transposed_window(alloc, codec, shape, part)?))
         }
         ArrayToArrayCodec::Reshape(_) => Ok(None),
         ArrayToArrayCodec::Squeeze(codec) => {
-            Ok(Some(squeezed_window(alloc, codec, shape, region)?))
+            Ok(Some(squeezed_window(alloc, codec, shape, part)?))
         }
     }
 }

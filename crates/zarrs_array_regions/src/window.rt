@@ -1,8 +1,8 @@
 //! Windows.
-ghost use Rattle.std.specs.Prelude.{◌≡◌, ◌<◌, ◌≤◌, ◌+◌, ◌^◌, Ok, length, All, IfOk};
-ghost use Rattle.zarrs_chunk.specs.Answer.{Gives};
+ghost use Rattle.std.specs.Prelude.{◌<◌, ◌^◌, Ok, length, IfOk};
+ghost use Rattle.zarrs_chunk.specs.Answer.{Gives, GivesValue};
 ghost use Rattle.zarrs_chunk.specs.ChunkShape.{product};
-ghost use Rattle.zarrs_chunk.specs.Runs.{joined_runs, AreApart};
+ghost use Rattle.zarrs_chunk.specs.Runs.{places_in, AreFilled, EndWithin, AreApart};
 
 use std::alloc::Global;
 use zarrs_chunk::{ArraySubset, ChunkShape, CodecError, Indexer};
@@ -22,7 +22,7 @@ impl Window {
 
     /// The window of a region of a chunk of this shape. Refusals: `OutOfMemory`.
     pub(crate) fn new(shape: &ChunkShape, region: &ArraySubset) -> Result<Window, CodecError>
-        ensures made { Gives (λ window. window) result (Ok (window_of shape.now region.now)) }
+        ensures made { GivesValue result (Ok (window_of shape.now region.now)) }
     {
         let sizes = shape.clone()?;
         let region = region.clone()?;
@@ -35,11 +35,10 @@ impl Window {
     pub fn into_runs(self, alloc: Global) -> Result<Vec<(u64, u64)>, CodecError>
         requires inside { IsWindow (product self.sizes) self }
         requires counted { product self.sizes < 2 ^ 64 }
-        ensures places { Gives (λ runs. joined_runs runs.items) result (Ok (window_places self)) }
-        ensures filled { IfOk result (λ runs. All (λ run. 0 < run.1) runs.items) }
-        ensures below { IfOk result (λ runs.
-            All (λ run. run.0 + run.1 ≤ product self.sizes) runs.items) }
-        ensures count { IfOk result (λ runs. length (joined_runs runs.items) < 2 ^ 64) }
+        ensures places { Gives places_in result (Ok (window_places self)) }
+        ensures filled { IfOk result (λ runs. AreFilled runs.items) }
+        ensures below { IfOk result (λ runs. EndWithin (product self.sizes) runs.items) }
+        ensures count { IfOk result (λ runs. length (places_in runs) < 2 ^ 64) }
         ensures apart { IfOk result (λ runs. AreApart runs.items) }
     {
         let sizes = self.sizes;

@@ -1,7 +1,9 @@
 -- The places of a chunk's elements, axis by axis.
-use Rattle.std.specs.Prelude.{◌≡◌, ℕ, ◌+◌, ◌*◌, ◌-◌, ◌<◌, ◌≤◌, List, Vec, [], ◌∷◌, ◌++◌, length, map, slice_index, Result, OnOk}
+use Rattle.std.specs.Prelude.{◌≡◌, ℕ, ◌+◌, ◌*◌, ◌-◌, ◌<◌, ◌≤◌, List, Vec, [], ◌∷◌, length, map, slice_index, Result, IfOk}
 use Rattle.std.specs.List.{between, flat_map}
-use Rattle.std.proofs.Common.{Global}
+use Rattle.std.specs.declared.alloc.Global.{Global}
+use Rattle.zarrs_chunk.specs.Answer.{Appends}
+use Rattle.zarrs_array_bytes.specs.Pieces.{pieces_at}
 use Rattle.zarrs_array_to_array.specs.declared.axis.Axis.{Axis}
 use Rattle.zarrs_array_to_array.specs.Orders.{permuted}
 use Rattle.zarrs_array_to_array.specs.Strides.{row, next_rows, strides, stepped, last_tuple, all_stepped}
@@ -31,6 +33,14 @@ HaveBehind axis old new = axes_places new ≡ next_rows axis.step axis.size (axe
 -- the new axes reach no further than the old ones with this one behind them
 abbrev pub ReachBehind : Axis → List Axis → List Axis → Type 0
 ReachBehind axis old new = reach new ≤ reach old + (axis.size - 1) * axis.step
+
+-- the answered axes have the places of these
+abbrev pub HavePlacesOf : {E : Type 0} → List Axis → Result (Vec Axis Global) E → Type 0
+HavePlacesOf axes result = IfOk result (λ v. axes_places v.items ≡ axes_places axes)
+
+-- the answered axes reach no further than these
+abbrev pub ReachWithin : {E : Type 0} → List Axis → Result (Vec Axis Global) E → Type 0
+ReachWithin axes result = IfOk result (λ v. reach v.items ≤ reach axes)
 
 -- the places of a chunk's elements with its axes in this order, the last of them fastest
 abbrev pub ordered_places : List ℕ → List ℕ → List ℕ
@@ -63,6 +73,44 @@ abbrev pub RowInside : ℕ → ℕ → ℕ → ℕ → ℕ → List ℕ → Type
 RowInside len size front step count items =
     (k : ℕ) → k < count → (front + k * step) * size + len ≤ length items
 
--- these bytes stand behind the ones before, unless a growth was refused
-abbrev pub Appends : {E : Type 0} → Vec ℕ Global → Vec ℕ Global → Result (Unit {0}) E → List ℕ → Type 0
-Appends old new result bytes = OnOk result (new.items ≡ old.items ++ bytes)
+-- ---- what a call that answers Ok has put at the end of bytes, where each element has `size` of them
+
+-- so many bytes from each element of a row on: it has `count` elements, a step apart
+abbrev pub AppendsRow : {E : Type 0} → ℕ → ℕ → ℕ → ℕ → ℕ → List ℕ → Vec ℕ Global → Vec ℕ Global → Result (Unit {0}) E → Type 0
+AppendsRow len size front step count bytes old new result =
+    Appends old new result (stretches_at len size bytes (row front step count))
+
+-- the same of a row of whole groups, of 16 elements each
+abbrev pub AppendsGroups : {E : Type 0} → ℕ → ℕ → ℕ → ℕ → ℕ → List ℕ → Vec ℕ Global → Vec ℕ Global → Result (Unit {0}) E → Type 0
+AppendsGroups len size front step groups bytes old new result =
+    AppendsRow len size front step (groups * 16) bytes old new result
+
+-- the same of the row along an axis
+abbrev pub AppendsAlong : {E : Type 0} → ℕ → ℕ → ℕ → Axis → List ℕ → Vec ℕ Global → Vec ℕ Global → Result (Unit {0}) E → Type 0
+AppendsAlong len size front axis bytes old new result =
+    AppendsRow len size front axis.step axis.size bytes old new result
+
+-- so many bytes from the element of each tuple over the axes on, the last axis fastest
+abbrev pub AppendsStretches : {E : Type 0} → ℕ → ℕ → ℕ → List Axis → List ℕ → Vec ℕ Global → Vec ℕ Global → Result (Unit {0}) E → Type 0
+AppendsStretches len size front axes bytes old new result =
+    Appends old new result (stretches_at len size bytes (behind axes (front ∷ [])))
+
+-- the elements of all tuples over the axes, the last axis fastest
+abbrev pub AppendsElements : {E : Type 0} → ℕ → ℕ → List Axis → List ℕ → Vec ℕ Global → Vec ℕ Global → Result (Unit {0}) E → Type 0
+AppendsElements size front axes bytes old new result =
+    Appends old new result (pieces_at size bytes (behind axes (front ∷ [])))
+
+-- so many neighbouring columns, one after another: a column has the elements of all tuples over the axes
+abbrev pub AppendsColumns : {E : Type 0} → ℕ → ℕ → ℕ → List Axis → List ℕ → Vec ℕ Global → Vec ℕ Global → Result (Unit {0}) E → Type 0
+AppendsColumns size front width axes bytes old new result =
+    Appends old new result (pieces_at size bytes (behind axes (row front 1 width)))
+
+-- the columns of a block, one after another: it has `count` rows of `width` elements
+abbrev pub AppendsBlock : {E : Type 0} → ℕ → ℕ → ℕ → List ℕ → Vec ℕ Global → Vec ℕ Global → Result (Unit {0}) E → Type 0
+AppendsBlock size count width block old new result =
+    Appends old new result (pieces_at size block (next_rows width count (row 0 1 width)))
+
+-- the elements of a plane, its rows one after another
+abbrev pub AppendsPlane : {E : Type 0} → ℕ → ℕ → Axis → Axis → List ℕ → Vec ℕ Global → Vec ℕ Global → Result (Unit {0}) E → Type 0
+AppendsPlane size front rows columns bytes old new result =
+    Appends old new result (pieces_at size bytes (plane_places front rows columns))

@@ -1,6 +1,6 @@
 -- What codecs answer of types, of encoded shapes and of containers.
-use Rattle.std.specs.Prelude.{◌≡◌, ℕ, not, is_some, List, Result, Ok, Option, Some, None}
-use Rattle.zarrs_chunk.specs.Answer.{demand, seen, GivesBy}
+use Rattle.std.specs.Prelude.{◌≡◌, ℕ, not, is_some, List, Result, Ok, IfOk, Option, Some, None}
+use Rattle.zarrs_chunk.specs.Answer.{demand, seen, AnswersValue, GivesBy, memory}
 use Rattle.zarrs_chunk.specs.declared.codec_error.CodecError.{CodecError}
 use Rattle.zarrs_chunk.specs.declared.codec_error.CodecError.TheVariants.{UnsupportedDataType}
 use Rattle.zarrs_chunk.specs.declared.codec_error.CodecName.TheVariants.{Transpose}
@@ -8,7 +8,7 @@ use Rattle.zarrs_data_type.specs.ElementType.{ElementType, inner_of}
 use Rattle.zarrs_data_type.specs.Form.{Form}
 use Rattle.zarrs_array_bytes.specs.Held.{Held}
 use Rattle.zarrs_array_bytes.specs.Validity.{Holds}
-use Rattle.zarrs_codec.specs.MappedChunk.{encoded_form, EncodesMoved, DecodesMoved}
+use Rattle.zarrs_codec.specs.MappedChunk.{encoded_form, IsSource, EncodesMoved, DecodesMoved}
 use Rattle.zarrs_array_to_array.specs.ArrayToArrayCodec.{ArrayMapping, transpose, reshape, squeeze, coordinates}
 use Rattle.zarrs_array_to_array.specs.TransposeCodec.{transposed_back_sizes, transpose_encoded, transpose_decoded}
 
@@ -24,19 +24,27 @@ sizes_before (transpose order) sizes = seen (λ decoded. Some decoded) (transpos
 sizes_before (reshape dims) sizes = Ok None
 sizes_before squeeze sizes = Ok None
 
+-- the answer is these sizes, where they are told, or the first cause of a refusal
+abbrev pub AnswersSizesBefore : ArrayMapping → List ℕ → Result (Option (List ℕ)) CodecError → Type 0
+AnswersSizesBefore codec sizes result = AnswersValue memory result (sizes_before codec sizes)
+
+-- the sizes that are answered, where some are told, are the only ones of which the codec makes the encoded ones
+abbrev pub AnswersSource : ArrayMapping → List ℕ → Result (Option (List ℕ)) CodecError → Type 0
+AnswersSource codec encoded result = IfOk result (IsSource (coordinates codec) encoded)
+
 -- what `encode` gives of a container: transposition its encoded chunk or its first refusal, the others the container as it is
-abbrev pub EncodesHeld : ArrayMapping → ElementType → List ℕ → Held → Result Held CodecError → Type 0
-EncodesHeld (transpose order) type sizes held result =
+abbrev pub HeldMoved : ArrayMapping → ElementType → List ℕ → Held → Result Held CodecError → Type 0
+HeldMoved (transpose order) type sizes held result =
     GivesBy (Holds type) result (transpose_encoded order type sizes held)
-EncodesHeld (reshape dims) type sizes held result = result ≡ Ok held
-EncodesHeld squeeze type sizes held result = result ≡ Ok held
+HeldMoved (reshape dims) type sizes held result = result ≡ Ok held
+HeldMoved squeeze type sizes held result = result ≡ Ok held
 
 -- what `decode` gives of a container, in the same way
-abbrev pub DecodesHeld : ArrayMapping → ElementType → List ℕ → Held → Result Held CodecError → Type 0
-DecodesHeld (transpose order) type sizes held result =
+abbrev pub HeldBack : ArrayMapping → ElementType → List ℕ → Held → Result Held CodecError → Type 0
+HeldBack (transpose order) type sizes held result =
     GivesBy (Holds type) result (transpose_decoded order type sizes held)
-DecodesHeld (reshape dims) type sizes held result = result ≡ Ok held
-DecodesHeld squeeze type sizes held result = result ≡ Ok held
+HeldBack (reshape dims) type sizes held result = result ≡ Ok held
+HeldBack squeeze type sizes held result = result ≡ Ok held
 
 -- the sizes, the type and the fill value of the encoded chunk of such a one, or the first cause why the codec doesn't take it
 abbrev pub moved_form : ArrayMapping → Form → Result (List ℕ × ElementType × List ℕ) CodecError
@@ -44,11 +52,19 @@ moved_form codec form =
     encoded_form (type_taken codec form.type) (coordinates codec form.sizes) form.type form.fill
 
 -- where the codec takes such chunks and the container holds one, the answer is a container of the chunk moved, or a want of memory
-abbrev pub MovesChunk : ArrayMapping → ElementType → List ℕ → Held → Result Held CodecError → Type 0
-MovesChunk codec type sizes held result =
+abbrev pub Moves : ArrayMapping → ElementType → List ℕ → Held → Result Held CodecError → Type 0
+Moves codec type sizes held result =
     EncodesMoved (type_taken codec) (coordinates codec) type sizes held result
 
 -- the same of the chunk moved back
 abbrev pub MovesBack : ArrayMapping → ElementType → List ℕ → Held → Result Held CodecError → Type 0
 MovesBack codec type sizes held result =
     DecodesMoved (type_taken codec) (coordinates codec) type sizes held result
+
+-- what `Moves` says, of squeezing
+abbrev pub SqueezesChunk : ElementType → List ℕ → Held → Result Held CodecError → Type 0
+SqueezesChunk type sizes held result = Moves squeeze type sizes held result
+
+-- what `MovesBack` says, of squeezing
+abbrev pub SqueezesBack : ElementType → List ℕ → Held → Result Held CodecError → Type 0
+SqueezesBack type sizes held result = MovesBack squeeze type sizes held result

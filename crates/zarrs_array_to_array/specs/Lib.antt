@@ -27,3 +27,4 @@ pub use Rattle.zarrs_codec.specs.ArrayWriter
 pub use Rattle.zarrs_codec.specs.ChunkEdits
 pub mod Axes
 pub mod Stages
+pub mod Vectors

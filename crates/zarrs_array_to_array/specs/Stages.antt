@@ -2,10 +2,12 @@
 use Rattle.std.specs.Prelude.{◌≡◌, ℕ, List, Result}
 use Rattle.zarrs_chunk.specs.Answer.{Answers, Gives, memory, seen}
 use Rattle.zarrs_chunk.specs.declared.codec_error.CodecError.{CodecError}
-use Rattle.zarrs_data_type.specs.Form.{Form}
+use Rattle.zarrs_data_type.specs.ElementType.{ElementType}
+use Rattle.zarrs_data_type.specs.Form.{Form, form_of}
+use Rattle.zarrs_metadata.specs.Dims.{Dim}
 use Rattle.zarrs_codec.specs.Refused.{outcome}
 use Rattle.zarrs_codec.specs.declared.refused.Refused.{Refused}
-use Rattle.zarrs_array_to_array.specs.ArrayToArrayCodec.{ArrayMapping}
+use Rattle.zarrs_array_to_array.specs.ArrayToArrayCodec.{ArrayMapping, transpose, reshape, squeeze}
 use Rattle.zarrs_array_to_array.specs.ArrayToArrayCodecPartial.{codec_of, sizes_of}
 use Rattle.zarrs_array_to_array.specs.CodecAnswers.{moved_form}
 use Rattle.zarrs_array_to_array.specs.Mapping.{mapping_of}
@@ -28,3 +30,37 @@ IsStageOf codec sizes stage = (codec_of stage ≡ codec) × (sizes_of stage ≡ 
 -- the same of a codec that is one of several
 abbrev pub IsStageOfMapping : {I : Type 0} → ArrayMapping → List ℕ → ArrayToArrayCodecPartial ArrayToArrayCodec I → Type 0
 IsStageOfMapping mapping sizes stage = (mapping_of (codec_of stage) ≡ mapping) × (sizes_of stage ≡ sizes)
+
+-- ---- what is made of a stage for chunks of these sizes, this type and this fill value, by the codec
+
+-- the parts of a stage that transposes, and the stage
+abbrev pub MakesTransposerParts : List ℕ → List ℕ → ElementType → List ℕ → Result (List ℕ × List ℕ) CodecError → Type 0
+MakesTransposerParts order sizes type fill result =
+    MakesParts (λ codec. codec) order (transpose order) (form_of sizes type fill) result
+
+abbrev pub MakesTransposer : {T I : Type 0} → List ℕ → List ℕ → ElementType → List ℕ → Result T (Refused I) → Type 0
+MakesTransposer order sizes type fill result = MakesStage (transpose order) (form_of sizes type fill) result
+
+-- those of a stage that reshapes
+abbrev pub MakesReshaperParts : List Dim → List ℕ → ElementType → List ℕ → Result (List Dim × List ℕ) CodecError → Type 0
+MakesReshaperParts dims sizes type fill result =
+    MakesParts (λ codec. codec) dims (reshape dims) (form_of sizes type fill) result
+
+abbrev pub MakesReshaper : {T I : Type 0} → List Dim → List ℕ → ElementType → List ℕ → Result T (Refused I) → Type 0
+MakesReshaper dims sizes type fill result = MakesStage (reshape dims) (form_of sizes type fill) result
+
+-- those of a stage that squeezes
+abbrev pub MakesSqueezerParts : {C : Type 0} → C → List ℕ → ElementType → List ℕ → Result (C × List ℕ) CodecError → Type 0
+MakesSqueezerParts codec sizes type fill result =
+    MakesParts (λ codec. codec) codec squeeze (form_of sizes type fill) result
+
+abbrev pub MakesSqueezer : {T I : Type 0} → List ℕ → ElementType → List ℕ → Result T (Refused I) → Type 0
+MakesSqueezer sizes type fill result = MakesStage squeeze (form_of sizes type fill) result
+
+-- those of a stage that moves elements as a codec does which is one of several
+abbrev pub MakesMoverParts : ArrayToArrayCodec → List ℕ → ElementType → List ℕ → Result (ArrayToArrayCodec × List ℕ) CodecError → Type 0
+MakesMoverParts codec sizes type fill result =
+    MakesParts mapping_of codec (mapping_of codec) (form_of sizes type fill) result
+
+abbrev pub MakesMover : {T I : Type 0} → ArrayToArrayCodec → List ℕ → ElementType → List ℕ → Result T (Refused I) → Type 0
+MakesMover codec sizes type fill result = MakesStage (mapping_of codec) (form_of sizes type fill) result

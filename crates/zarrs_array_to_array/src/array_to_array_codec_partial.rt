@@ -5,8 +5,7 @@ ghost use Rattle.zarrs_codec.specs.ArrayWriter.{mapped_writer};
 ghost use Rattle.zarrs_array_to_array.specs.ArrayToArrayCodecPartial.{codec_of, input_of, sizes_of};
 ghost use Rattle.zarrs_codec.specs.Refused.{outcome};
 ghost use Rattle.zarrs_array_to_array.specs.Mapping.{mapping_of};
-ghost use Rattle.zarrs_array_to_array.specs.Stages.{MakesParts, MakesStage, IsStageOfMapping};
-ghost use Rattle.zarrs_data_type.specs.Form.{form_of};
+ghost use Rattle.zarrs_array_to_array.specs.Stages.{MakesMoverParts, MakesMover, IsStageOfMapping};
 
 use crate::array_to_array_codec::ArrayToArrayCodec;
 use std::alloc::Global;
@@ -154,8 +153,7 @@ impl ArrayToArrayCodec {
         data_type: &DataType,
         fill_value: &FillValue,
     ) -> Result<(ArrayToArrayCodec, ChunkShape), CodecError>
-        ensures answer { MakesParts mapping_of self.now (mapping_of self.now)
-            (form_of shape.now data_type.now fill_value.now) result }
+        ensures answer { MakesMoverParts self.now shape.now data_type.now fill_value.now result }
     {
         self.encoded_representation(alloc, shape, data_type, fill_value)?;
         let codec = self.clone()?;
@@ -173,8 +171,7 @@ impl ArrayToArrayCodec {
         data_type: &DataType,
         fill_value: &FillValue,
     ) -> Result<ArrayToArrayCodecPartial<ArrayToArrayCodec, I>, Refused<I>>
-        ensures answer { MakesStage (mapping_of self.now)
-            (form_of shape.now data_type.now fill_value.now) result }
+        ensures answer { MakesMover self.now shape.now data_type.now fill_value.now result }
         ensures form { IfOk result (IsStageOfMapping (mapping_of self.now) shape.now) }
         ensures over { IfOk result (λ stage. input_of stage ≡ input) }
         ensures handed_back { IfErr result (λ refused. refused.handle ≡ input) }
@@ -194,8 +191,7 @@ impl ArrayToArrayCodec {
         data_type: &DataType,
         fill_value: &FillValue,
     ) -> Result<ArrayToArrayCodecPartial<ArrayToArrayCodec, I>, Refused<I>>
-        ensures answer { MakesStage (mapping_of self.now)
-            (form_of shape.now data_type.now fill_value.now) result }
+        ensures answer { MakesMover self.now shape.now data_type.now fill_value.now result }
         ensures form { IfOk result (IsStageOfMapping (mapping_of self.now) shape.now) }
         ensures over { IfOk result (λ stage. input_of stage ≡ input) }
         ensures handed_back { IfErr result (λ refused. refused.handle ≡ input) }

@@ -1,6 +1,6 @@
 ghost use Rattle.std.specs.Prelude.{◌≡◌, ◌<◌, ◌≤◌, ◌^◌, ◌+◌, ◌*◌, ◌++◌, ◌∷◌, [], length, All, IfOk, IfSome, OnOk};
 ghost use Rattle.zarrs_chunk.specs.ChunkShape.{product};
-ghost use Rattle.zarrs_array_to_array.specs.Axes.{behind, reach, axes_of, axes_places, HaveBehind, ReachBehind, ordered_places, last_ordered_place};
+ghost use Rattle.zarrs_array_to_array.specs.Axes.{behind, reach, axes_of, axes_places, HaveBehind, ReachBehind, HavePlacesOf, ReachWithin, ordered_places, last_ordered_place};
 
 use crate::strides::{strides, write_rows};
 use std::alloc::{AllocError, Global};
@@ -84,10 +84,8 @@ fn axes_in_order(
 ) -> Result<Vec<Axis>, AllocError>
     requires sizes { All (λ axis. axis < length sizes.now) order.now }
     requires steps { All (λ axis. axis < length steps.now) order.now }
-    ensures places { IfOk result
-        (λ v. axes_places v.items ≡ axes_places (axes_of sizes.now steps.now order.now)) }
-    ensures reach { IfOk result
-        (λ v. reach v.items ≤ reach (axes_of sizes.now steps.now order.now)) }
+    ensures places { HavePlacesOf (axes_of sizes.now steps.now order.now) result }
+    ensures reach { ReachWithin (axes_of sizes.now steps.now order.now) result }
     ensures plane { IfOk result (λ v. 2 ≤ length v.items) }
 {
     let mut axes = Vec::with_capacity(alloc, order.len() + 2)?;

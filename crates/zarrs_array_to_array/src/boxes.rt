@@ -1,10 +1,9 @@
-ghost use Rattle.std.specs.Prelude.{◌≡◌, ◌<◌, Ok, length, map, All, IfOk};
-ghost use Rattle.zarrs_chunk.specs.Answer.{Gives};
+ghost use Rattle.std.specs.Prelude.{◌≡◌, ◌<◌, Ok, length, map, All};
+ghost use Rattle.zarrs_chunk.specs.Answer.{Gives, GivesItems};
 ghost use Rattle.zarrs_chunk.specs.ChunkShape.{product};
-ghost use Rattle.zarrs_chunk.specs.Tuples.{box_tuples};
-ghost use Rattle.zarrs_chunk.specs.Indices.{indices_behind as indices_behind_of, box_tuple as box_tuple_of, tuple_of_number};
-ghost use Rattle.zarrs_array_to_array.specs.Boxes.{EndsFit, tuples_in};
-ghost use Rattle.zarrs_array_to_array.specs.Orders.{permuted as permuted_of};
+ghost use Rattle.zarrs_chunk.specs.Indices.{tuple_of_number};
+ghost use Rattle.zarrs_array_to_array.specs.Boxes.{EndsFit, tuples_in, ordered_indices, GivesBoxTuple, GivesBox};
+ghost use Rattle.zarrs_array_to_array.specs.Vectors.{ItemsAre};
 
 use std::alloc::{AllocError, Global};
 use zarrs_chunk::{ArrayIndices, ArraySubset, ChunkShape, CodecError, unravel_index};
@@ -12,7 +11,7 @@ use zarrs_chunk::{ArrayIndices, ArraySubset, ChunkShape, CodecError, unravel_ind
 /// The tuple that has this row-major number in a chunk.
 fn tuple_at(alloc: Global, number: u64, shape: &ChunkShape) -> Result<ArrayIndices, CodecError>
     requires known { number < product shape.now }
-    ensures answer { Gives (λ tuple. tuple.items) result (Ok (tuple_of_number shape.now number)) }
+    ensures answer { GivesItems result (Ok (tuple_of_number shape.now number)) }
 {
     match unravel_index(alloc, number, shape)? {
         None => unreachable!(),
@@ -46,8 +45,7 @@ fn indices_behind(
     requires order { All (λ axis. axis < length starts.now) order.now }
     requires axes { length tuple.now ≡ length starts.now }
     requires fits { EndsFit starts.now tuple.now }
-    ensures value { IfOk result
-        (λ v. v.items ≡ permuted_of order.now (indices_behind_of starts.now tuple.now)) }
+    ensures value { ItemsAre (ordered_indices order.now starts.now tuple.now) result }
 {
     let mut indices = Vec::with_capacity(alloc, order.len())?;
     for axis in order {
@@ -68,8 +66,7 @@ fn box_tuple(
     requires axes { length lengths.now ≡ length starts.now }
     requires fits { EndsFit starts.now lengths.now }
     requires known { number < product lengths.now }
-    ensures answer { Gives (λ tuple. tuple.items) result
-        (Ok (permuted_of order.now (box_tuple_of starts.now lengths.now number))) }
+    ensures answer { GivesBoxTuple order.now starts.now lengths.now number result }
 {
     let tuple = tuple_at(alloc, number, lengths)?;
     let indices = indices_behind(alloc, order, starts, tuple.as_slice())?;
@@ -88,8 +85,7 @@ fn first_tuples(
     requires axes { length lengths.now ≡ length starts.now }
     requires fits { EndsFit starts.now lengths.now }
     requires count { product lengths.now ≡ count }
-    ensures answer { Gives tuples_in result
-        (Ok (map (permuted_of order.now) (box_tuples starts.now lengths.now))) }
+    ensures answer { GivesBox order.now starts.now lengths.now result }
 {
     let mut tuples = Vec::with_capacity(alloc, count as usize)?;
     for number in 0..count {
@@ -108,8 +104,7 @@ pub(crate) fn ordered_box(
     requires order { All (λ axis. axis < length subset.now.starts) order.now }
     requires fits { EndsFit subset.now.starts subset.now.lengths }
     requires count { product subset.now.lengths ≡ count }
-    ensures answer { Gives tuples_in result
-        (Ok (map (permuted_of order.now) (box_tuples subset.now.starts subset.now.lengths))) }
+    ensures answer { GivesBox order.now subset.now.starts subset.now.lengths result }
 {
     let lengths = subset.shape();
     if count == 0 {

@@ -7,7 +7,7 @@ ghost use Rattle.zarrs_metadata.specs.PluginCreateError.{Makes};
 ghost use Rattle.zarrs_metadata.specs.ReshapeConfiguration.{reshape_seen};
 ghost use Rattle.zarrs_metadata.specs.TransposeConfiguration.{transpose_seen};
 ghost use Rattle.zarrs_array_to_array.specs.Mapping.{mapping_of};
-ghost use Rattle.zarrs_array_to_array.specs.MappingMetadata.{mapping_made};
+ghost use Rattle.zarrs_array_to_array.specs.MappingMetadata.{mapping_made, MakesCodec};
 
 use crate::array_to_array_codec::ArrayToArrayCodec;
 use crate::reshape::reshape_codec::ReshapeCodec;
@@ -25,7 +25,7 @@ impl TransposeCodec {
         _alloc: Global,
         configuration: &TransposeCodecConfiguration,
     ) -> Result<TransposeCodec, PluginCreateError>
-        ensures made { Makes (λ codec. codec) result (Ok (transpose_seen configuration.now)) }
+        ensures made { MakesCodec result (Ok (transpose_seen configuration.now)) }
     {
         let TransposeCodecConfiguration::V1(configuration) = configuration;
         Ok(TransposeCodec::new(configuration.order.clone()?))
@@ -36,8 +36,7 @@ impl TransposeCodec {
     /// aside: `UnknownName` for another name; those of
     /// `TransposeCodecConfiguration::from_configuration`.
     pub fn create(alloc: Global, metadata: &MetadataV3) -> Result<TransposeCodec, PluginCreateError>
-        ensures answer { Makes (λ codec. codec) result
-            (transpose_made (metadata_seen metadata.now)) }
+        ensures answer { MakesCodec result (transpose_made (metadata_seen metadata.now)) }
     {
         if metadata.name() != "transpose" {
             return Err(PluginCreateError::UnknownName);
@@ -57,7 +56,7 @@ impl ReshapeCodec {
         _alloc: Global,
         configuration: &ReshapeCodecConfiguration,
     ) -> Result<ReshapeCodec, PluginCreateError>
-        ensures made { Makes (λ codec. codec) result (Ok (reshape_seen configuration.now)) }
+        ensures made { MakesCodec result (Ok (reshape_seen configuration.now)) }
     {
         let ReshapeCodecConfiguration::V1(configuration) = configuration;
         Ok(ReshapeCodec::new(configuration.shape.clone()?))
@@ -68,8 +67,7 @@ impl ReshapeCodec {
     /// aside: `UnknownName` for another name; those of
     /// `ReshapeCodecConfiguration::from_configuration`.
     pub fn create(alloc: Global, metadata: &MetadataV3) -> Result<ReshapeCodec, PluginCreateError>
-        ensures answer { Makes (λ codec. codec) result
-            (reshape_made (metadata_seen metadata.now)) }
+        ensures answer { MakesCodec result (reshape_made (metadata_seen metadata.now)) }
     {
         if metadata.name() != "reshape" {
             return Err(PluginCreateError::UnknownName);

@@ -1,8 +1,7 @@
 //! The elements of a chunk, appended row by row and plane by plane.
-ghost use Rattle.std.specs.Prelude.{◌≡◌, ◌<◌, ◌≤◌, ◌+◌, ◌*◌, ◌∷◌, [], length, IfOk};
-ghost use Rattle.zarrs_array_to_array.specs.Strides.{row, next_rows};
+ghost use Rattle.std.specs.Prelude.{◌≡◌, ◌<◌, ◌≤◌, ◌+◌, ◌*◌, length, IfOk};
 ghost use Rattle.zarrs_array_bytes.specs.Pieces.{pieces_at};
-ghost use Rattle.zarrs_array_to_array.specs.Axes.{behind, reach, axes_places, plane_places, plane_end, stretches_at, Appends};
+ghost use Rattle.zarrs_array_to_array.specs.Axes.{reach, axes_places, plane_end, AppendsStretches, AppendsElements, AppendsColumns, AppendsBlock, AppendsPlane};
 
 use crate::axis::Axis;
 use crate::row_groups::append_row;
@@ -24,8 +23,7 @@ fn append_columns(
 ) -> Result<(), AllocError>
     requires sized { 0 < size }
     requires whole { length block.now ≡ count * (width * size) }
-    ensures appended { Appends out.old out.new result
-        (pieces_at size block.now (next_rows width count (row 0 1 width))) }
+    ensures appended { AppendsBlock size count width block.now out.old out.new result }
 {
     for column in 0..width {
         let axis = Axis {
@@ -49,8 +47,7 @@ fn append_stretches(
     requires sized { 0 < size }
     requires axes { 1 ≤ length axes.now }
     requires inside { (front + reach axes.now) * size + len ≤ length bytes.now }
-    ensures appended { Appends out.old out.new result
-        (stretches_at len size bytes.now (behind axes.now (front ∷ []))) }
+    ensures appended { AppendsStretches len size front axes.now bytes.now out.old out.new result }
 {
     let first = axes[0];
     if axes.len() == 1 {
@@ -85,8 +82,7 @@ fn append_turned(
     requires axes { 1 ≤ length axes.now }
     requires wide { 0 < width }
     requires inside { (front + reach axes.now) * size + width * size ≤ length bytes.now }
-    ensures appended { Appends out.old out.new result
-        (pieces_at size bytes.now (behind axes.now (row front 1 width))) }
+    ensures appended { AppendsColumns size front width axes.now bytes.now out.old out.new result }
 {
     let len = width * size;
     block.clear();
@@ -120,8 +116,7 @@ fn append_blocks(
     requires axes { 1 ≤ length axes.now }
     requires wide { 0 < wide }
     requires inside { (front + reach axes.now + count) * size ≤ length bytes.now }
-    ensures appended { Appends out.old out.new result
-        (pieces_at size bytes.now (behind axes.now (row front 1 count))) }
+    ensures appended { AppendsColumns size front count axes.now bytes.now out.old out.new result }
 {
     block.clear();
     block.reserve_exact(block_room(axes, wide.saturating_mul(size)))?;
@@ -145,8 +140,7 @@ fn append_rows(
 ) -> Result<(), AllocError>
     requires sized { 0 < size }
     requires inside { plane_end front rows columns * size ≤ length bytes.now }
-    ensures appended { Appends out.old out.new result
-        (pieces_at size bytes.now (plane_places front rows columns)) }
+    ensures appended { AppendsPlane size front rows columns bytes.now out.old out.new result }
 {
     for index in 0..rows.size {
         append_row(out, bytes, size, front + index * rows.step, columns, size)?;
@@ -166,8 +160,7 @@ fn append_plane(
 ) -> Result<(), AllocError>
     requires sized { 0 < size }
     requires inside { plane_end front rows columns * size ≤ length bytes.now }
-    ensures appended { Appends out.old out.new result
-        (pieces_at size bytes.now (plane_places front rows columns)) }
+    ensures appended { AppendsPlane size front rows columns bytes.now out.old out.new result }
 {
     if columns.step == 1 {
         return append_row(out, bytes, size, front, rows, columns.size * size);
@@ -189,8 +182,7 @@ fn append_axes(
     requires sized { 0 < size }
     requires plane { 2 ≤ length axes.now }
     requires inside { (front + reach axes.now + 1) * size ≤ length bytes.now }
-    ensures appended { Appends out.old out.new result
-        (pieces_at size bytes.now (behind axes.now (front ∷ []))) }
+    ensures appended { AppendsElements size front axes.now bytes.now out.old out.new result }
 {
     let first = axes[0];
     let wide = (BLOCK / size).min(first.size / 2);

@@ -1,6 +1,6 @@
 //! The elements of a row, appended in groups: many small moves into an array, and one append a group.
 ghost use Rattle.std.specs.Prelude.{◌≡◌, ◌<◌, ◌≤◌, ◌*◌, ◌^◌, length};
-ghost use Rattle.zarrs_array_to_array.specs.Axes.{stretches_at, RowInside, Appends};
+ghost use Rattle.zarrs_array_to_array.specs.Axes.{stretches_at, RowInside, AppendsRow, AppendsGroups, AppendsAlong};
 ghost use Rattle.zarrs_array_to_array.specs.Strides.{row};
 
 use crate::axis::Axis;
@@ -38,8 +38,7 @@ fn append_group<const BYTES: usize>(
     requires short { len ≤ 16 }
     requires sized { 0 < size }
     requires inside { RowInside len size front step 16 bytes.now }
-    ensures appended { Appends out.old out.new result
-        (stretches_at len size bytes.now (row front step 16)) }
+    ensures appended { AppendsRow len size front step 16 bytes.now out.old out.new result }
 {
     let mut group = [0u8; BYTES];
     let axis = Axis { size: GROUP, step };
@@ -63,8 +62,7 @@ fn append_groups<const BYTES: usize>(
     requires fits { groups * 16 < 2 ^ 64 }
     requires sized { 0 < size }
     requires inside { RowInside len size front step (groups * 16) bytes.now }
-    ensures appended { Appends out.old out.new result
-        (stretches_at len size bytes.now (row front step (groups * 16))) }
+    ensures appended { AppendsGroups len size front step groups bytes.now out.old out.new result }
 {
     for index in 0..groups {
         append_group::<BYTES>(out, bytes, size, front + index * GROUP * step, step, len)?;
@@ -84,8 +82,7 @@ fn append_row_of(
 ) -> Result<(), AllocError>
     requires sized { 0 < size }
     requires inside { RowInside len size front axis.step axis.size bytes.now }
-    ensures appended { Appends out.old out.new result
-        (stretches_at len size bytes.now (row front axis.step axis.size)) }
+    ensures appended { AppendsAlong len size front axis bytes.now out.old out.new result }
 {
     for index in 0..axis.size {
         let from = (front + index * axis.step) * size;
@@ -109,8 +106,7 @@ fn append_grouped_row<const BYTES: usize>(
     requires short { len ≤ 16 }
     requires sized { 0 < size }
     requires inside { RowInside len size front axis.step axis.size bytes.now }
-    ensures appended { Appends out.old out.new result
-        (stretches_at len size bytes.now (row front axis.step axis.size)) }
+    ensures appended { AppendsAlong len size front axis bytes.now out.old out.new result }
 {
     let groups = axis.size / GROUP;
     append_groups::<BYTES>(out, bytes, size, front, axis.step, groups, len)?;
@@ -137,8 +133,7 @@ pub(crate) fn append_row(
 ) -> Result<(), AllocError>
     requires sized { 0 < size }
     requires inside { RowInside len size front axis.step axis.size bytes.now }
-    ensures appended { Appends out.old out.new result
-        (stretches_at len size bytes.now (row front axis.step axis.size)) }
+    ensures appended { AppendsAlong len size front axis bytes.now out.old out.new result }
 {
     match len {
         1 => append_grouped_row::<16>(out, bytes, size, front, axis, 1),

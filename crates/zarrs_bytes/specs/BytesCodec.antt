@@ -16,7 +16,9 @@ use Rattle.zarrs_data_type.specs.declared.endianness.Endianness.TheVariants.{Big
 use Rattle.zarrs_array_bytes.specs.Elements.{piece, elements}
 use Rattle.zarrs_array_bytes.specs.Held.{Held, flen, items_of, raw_of}
 use Rattle.zarrs_array_bytes.specs.Validity.{validity}
-use Rattle.zarrs_data_type.specs.Form.{Form}
+use Rattle.zarrs_data_type.specs.Form.{Form, form_of}
+use Rattle.zarrs_codec.specs.ChunkCodec.{RepresentsBy, EncodesBy, DecodesBy}
+use Rattle.zarrs_codec.specs.CodecMembers.{DecodesAgain}
 use Rattle.zarrs_codec.specs.declared.bytes_representation.BytesRepresentation.{BytesRepresentation}
 use Rattle.zarrs_codec.specs.declared.bytes_representation.BytesRepresentation.TheVariants.{FixedSize}
 use Rattle.zarrs_bytes.specs.ByteOrder.{bytes_in_order, has_order, spelled_chunk}
@@ -43,6 +45,14 @@ bytes_length order form = length_by order form.sizes form.type form.fill
 -- the representation of the value of such a chunk, or the first cause why the codec doesn't take such chunks
 abbrev pub bytes_represented : Option Endianness → Form → Result BytesRepresentation CodecError
 bytes_represented order form = seen FixedSize (bytes_length order form)
+
+-- the answer is that representation, or the first cause why the codec doesn't take such chunks; no want of memory comes in its place
+abbrev pub RepresentsNow : Option Endianness → List ℕ → ElementType → List ℕ → Result BytesRepresentation CodecError → Type 0
+RepresentsNow order sizes type fill result = result ≡ bytes_represented order (form_of sizes type fill)
+
+-- the same of a call that takes memory
+abbrev pub RepresentsBytes : Option Endianness → List ℕ → ElementType → List ℕ → Result BytesRepresentation CodecError → Type 0
+RepresentsBytes order sizes type fill result = RepresentsBy (bytes_represented order) (form_of sizes type fill) result
 
 -- the codec takes such chunks
 abbrev pub BytesTakes : Option Endianness → Form → Type 0
@@ -102,6 +112,10 @@ bytes_chunk order form value = do
   _ ← demand (length value == len) (InvalidBytesLength (length value) len)
   Ok (map (bytes_element order form.type value) (range_with_len 0 (product form.sizes)))
 
+-- a value that is answered stands for such a chunk: it is decoded again
+abbrev pub DecodesBack : Option Endianness → List ℕ → ElementType → List ℕ → Result (CowSlice ℕ Global) CodecError → Type 0
+DecodesBack order sizes type fill result = DecodesAgain (bytes_chunk order) (form_of sizes type fill) result
+
 -- how many bytes the components have that the order turns round; none, where it leaves all bytes in their places
 abbrev pub turn_size : Option Endianness → ElementType → Option ℕ
 turn_size (Some Big) (fixed width components sign) =
@@ -122,3 +136,22 @@ EncodesInPlace order form held result =
 abbrev pub DecodesInPlace : Option Endianness → Form → CowSlice ℕ Global → Result Held CodecError → Type 0
 DecodesInPlace order form given result =
     needs_memory order form.type (flen (raw_of given)) ≡ false → DecodesNow (bytes_chunk order) form (items_of given) result
+
+-- ---- the same of chunks of these sizes, this type and this fill value
+
+-- the value of the chunk that a container holds is answered, or the first refusal
+abbrev pub Encoded : Option Endianness → List ℕ → ElementType → List ℕ → Held → Result (CowSlice ℕ Global) CodecError → Type 0
+Encoded order sizes type fill held result = EncodesBy (bytes_value order) (form_of sizes type fill) held result
+
+-- the same where no memory is taken for the container's bytes, and no want of memory comes in its place
+abbrev pub EncodedNow : Option Endianness → List ℕ → ElementType → List ℕ → Held → Result (CowSlice ℕ Global) CodecError → Type 0
+EncodedNow order sizes type fill held result = EncodesInPlace order (form_of sizes type fill) held result
+
+-- a container of the chunk that a value stands for is answered, or the first refusal
+abbrev pub Decoded : Option Endianness → List ℕ → ElementType → List ℕ → CowSlice ℕ Global → Result Held CodecError → Type 0
+Decoded order sizes type fill given result =
+    DecodesBy (bytes_chunk order) (form_of sizes type fill) (items_of given) result
+
+-- the same where no memory is taken for the value's bytes, and no want of memory comes in its place
+abbrev pub DecodedNow : Option Endianness → List ℕ → ElementType → List ℕ → CowSlice ℕ Global → Result Held CodecError → Type 0
+DecodedNow order sizes type fill given result = DecodesInPlace order (form_of sizes type fill) given result

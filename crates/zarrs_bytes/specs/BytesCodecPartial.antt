@@ -14,7 +14,7 @@ use Rattle.zarrs_codec.specs.ArrayWriter.{ArrayWriter}
 use Rattle.zarrs_codec.specs.ByteRanges.{range_indices}
 use Rattle.zarrs_codec.specs.ByteSpan.{ByteSpan}
 use Rattle.zarrs_codec.specs.ChunkEdits.{data_checked}
-use Rattle.zarrs_codec.specs.StorageState.{StorageState}
+use Rattle.zarrs_codec.specs.StorageState.{StorageState, KeptIfAtomic}
 use Rattle.zarrs_codec.specs.declared.refused.Refused.{Refused}
 use Rattle.zarrs_bytes.specs.BytesGrammar.{bytes_grammar, bytes_reads_part}
 use Rattle.zarrs_data_type.specs.Form.{Form, form_of}
@@ -108,3 +108,7 @@ Edits state before after indexer new result =
 abbrev pub WritesAtMostOnce : {H T L : Type 0} → (H → StorageState) → (H → L) → Bool → BytesCodecPartial H → BytesCodecPartial H → Result T CodecError → Type 0
 WritesAtMostOnce state lent atomic before after result =
     OnlyWrites (coder_state state) (coder_lent lent) bytes_form_of atomic before after result
+
+-- a refused call of a coder leaves the value as it was, where its handle is atomic
+abbrev pub CoderKeptIfAtomic : {H T : Type 0} → Bool → (H → StorageState) → BytesCodecPartial H → BytesCodecPartial H → Result T CodecError → Type 0
+CoderKeptIfAtomic atomic state before after result = KeptIfAtomic atomic (coder_state state) before after result

@@ -2,6 +2,7 @@ pub mod ByteOrder
 pub mod BytesCodec
 pub mod BytesCodecPartial
 pub mod BytesGrammar
+pub mod ChunkLengths
 pub mod GivenBytes
 pub mod Laws
 pub mod MemberLaws

@@ -1,7 +1,8 @@
 -- What a read in part answers, by the bytes of the places that are asked for alone.
-use Rattle.std.specs.Prelude.{◌≡◌, ℕ, ◌+◌, ◌*◌, ◌<◌, ◌++◌, Bool, nat_le, Option, Some, None, option_map, List, length, map, Result, Ok}
+use Rattle.std.specs.Prelude.{◌≡◌, ℕ, ◌+◌, ◌*◌, ◌^◌, ◌<◌, ◌++◌, Bool, nat_le, Option, Some, None, option_map, All, List, Vec, length, map, Result, Ok, IfOk}
+use Rattle.std.proofs.Common.{Global}
 use Rattle.std.specs.List.{concat, flat_map, list_all, range_with_len}
-use Rattle.zarrs_chunk.specs.Answer.{◌>>=◌, AnswersBy, demand, memory_or_fault, seen}
+use Rattle.zarrs_chunk.specs.Answer.{◌>>=◌, Answers, AnswersBy, Gives, demand, memory_or_fault, seen}
 use Rattle.zarrs_chunk.specs.Runs.{joined_runs}
 use Rattle.zarrs_chunk.specs.Selection.{Selection, places_of}
 use Rattle.zarrs_chunk.specs.declared.codec_error.CodecError.{CodecError}
@@ -12,6 +13,8 @@ use Rattle.zarrs_data_type.specs.declared.endianness.Endianness.{Endianness}
 use Rattle.zarrs_array_bytes.specs.Elements.{piece}
 use Rattle.zarrs_array_bytes.specs.Held.{Held}
 use Rattle.zarrs_array_bytes.specs.Validity.{Holds}
+use Rattle.zarrs_codec.specs.ByteRanges.{range_indices}
+use Rattle.zarrs_codec.specs.ByteSpan.{ByteSpan}
 use Rattle.zarrs_codec.specs.StorageState.{StorageState, are_sure}
 use Rattle.zarrs_data_type.specs.Form.{Form}
 use Rattle.zarrs_bytes.specs.BytesCodec.{bytes_element}
@@ -51,6 +54,24 @@ places_are_sure size before places = are_sure before.sure (place_bytes size plac
 -- these bytes, and behind them those that are read, where there are any
 abbrev pub with_read : List ℕ → Result (Option (List ℕ)) CodecError → Result (Option (List ℕ)) CodecError
 with_read before read = seen (option_map (λ more. before ++ more)) read
+
+-- Behind the old bytes stand those of elements of one size at the places of these runs, of what the handle keeps, or the first refusal is answered. Only a want of memory or a failure of the handle may come in its place.
+abbrev pub AddsRuns : Vec ℕ Global → Vec ℕ Global → ℕ → StorageState → List (ℕ × ℕ) → Result (Unit {0}) CodecError → Type 0
+AddsRuns old new size before runs result =
+    Answers memory_or_fault (λ _. Some new.items) result (with_read old.items (bytes_at_runs size before runs))
+
+-- the same at places that are given one by one
+abbrev pub AddsAt : Vec ℕ Global → Vec ℕ Global → ℕ → StorageState → List ℕ → Result (Unit {0}) CodecError → Type 0
+AddsAt old new size before places result =
+    Answers memory_or_fault (λ _. Some new.items) result (with_read old.items (bytes_at_places size before places))
+
+-- 64 bits count the bytes of elements of one size up to the end of each of these places
+abbrev pub AreCounted : ℕ → List ℕ → Type 0
+AreCounted size places = All (λ place. (place + 1) * size < 2 ^ 64) places
+
+-- the answered bytes are the fill value for each of these places
+abbrev pub RepeatsFill : {E : Type 0} → List ℕ → List ℕ → Result (Vec ℕ Global) E → Type 0
+RepeatsFill fill places result = IfOk result (λ bytes. bytes.items ≡ flat_map (λ _. fill) places)
 
 -- how many bytes an element of a fixed type has; none of any other type
 abbrev pub place_size : ElementType → ℕ
@@ -108,3 +129,7 @@ byte_count_of type runs = length (joined_runs runs) * place_size type
 -- the numbers of the bytes that such a read asks for, or the first refusal
 abbrev pub bytes_plan : List ℕ → ElementType → Selection → Result (List ℕ) CodecError
 bytes_plan sizes type selection = seen (place_bytes (place_size type)) (places_of selection sizes)
+
+-- the ranges that are given are the bytes of the places of these runs, in order; only a want of memory may come in their place
+abbrev pub PlansRuns : ElementType → List (ℕ × ℕ) → Result (Vec ByteSpan Global) CodecError → Type 0
+PlansRuns type runs result = Gives (λ ranges. range_indices ranges.items) result (Ok (run_bytes (place_size type) runs))

@@ -1,10 +1,12 @@
 -- What a write in part leaves: of a stored value all but the bytes of the places that are written.
-use Rattle.std.specs.Prelude.{◌≡◌, ℕ, ◌+◌, ◌*◌, max, Option, Some, None, List, [], ◌∷◌, length, map, replicate, Result, Ok, OnOk}
+use Rattle.std.specs.Prelude.{◌≡◌, ℕ, ◌+◌, ◌*◌, max, Option, Some, None, List, [], ◌∷◌, length, map, replicate, Vec, Result, Ok, OnOk}
 use Rattle.std.proofs.Common.{Global}
 use Rattle.std.specs.declared.borrow.CowSlice.{CowSlice}
 use Rattle.zarrs_chunk.specs.Answer.{◌>>=◌, Answers, Gives, memory_or_fault}
 use Rattle.zarrs_chunk.specs.ChunkShape.{product}
-use Rattle.zarrs_chunk.specs.Runs.{joined_runs}
+use Rattle.zarrs_chunk.specs.Runs.{joined_runs, places_in}
+use Rattle.zarrs_chunk.specs.Indexer.{selection_of}
+use Rattle.zarrs_chunk.specs.declared.indexer.Indexer.{Indexer}
 use Rattle.zarrs_chunk.specs.Selection.{Selection}
 use Rattle.zarrs_chunk.specs.declared.codec_error.CodecError.{CodecError}
 use Rattle.zarrs_data_type.specs.Element.{Chunk, fill_element}
@@ -20,7 +22,7 @@ use Rattle.zarrs_codec.specs.ChunkEdits.{data_places, with_elements}
 use Rattle.zarrs_codec.specs.StorageState.{StorageState, value_or_empty}
 use Rattle.zarrs_bytes.specs.BytesGrammar.{bytes_grammar}
 use Rattle.zarrs_codec.specs.CodersOverHandles.{EditsFrom, Stores}
-use Rattle.zarrs_data_type.specs.Form.{Form}
+use Rattle.zarrs_data_type.specs.Form.{Form, form_of}
 use Rattle.zarrs_bytes.specs.ByteOrder.{turned_bytes}
 use Rattle.zarrs_bytes.specs.BytesCodec.{spelling, turn_size}
 use Rattle.zarrs_bytes.specs.PartialRead.{place_bytes, place_size}
@@ -78,9 +80,19 @@ abbrev pub WritesRuns : {H : Type 0} → Option Endianness → Form → List (�
 WritesRuns order form runs new state before after result =
     Answers memory_or_fault (λ _. (state after).value) result (Ok (Some (bytes_left order form (state before).value (joined_runs runs) new)))
 
--- The answer is the value of a chunk of fill elements with new ones at the places of these runs. Only a want of memory may come in its place.
-abbrev pub WritesOverFill : Option Endianness → Form → List (ℕ × ℕ) → Held → Result (CowSlice ℕ Global) CodecError → Type 0
-WritesOverFill order form runs new result = Gives items_of result (Ok (bytes_left order form None (joined_runs runs) new))
+-- these bytes are given; only a want of memory may come in their place
+abbrev pub GivesBytes : Result (CowSlice ℕ Global) CodecError → List ℕ → Type 0
+GivesBytes result bytes = Gives items_of result (Ok bytes)
+
+-- The answer is the value of a chunk with new elements at the places of these runs, filled up with fill elements. Only a want of memory may come in its place.
+abbrev pub FillsUp : Option Endianness → List ℕ → ElementType → List ℕ → List (ℕ × ℕ) → Held → Result (CowSlice ℕ Global) CodecError → Type 0
+FillsUp order sizes type fill runs new result =
+    GivesBytes result (bytes_left order (form_of sizes type fill) None (joined_runs runs) new)
+
+-- runs of the places that an indexer means, where there is one new element for each, or the first refusal
+abbrev pub GivesDataPlaces : List ℕ → ElementType → Indexer → Held → Result (Vec (ℕ × ℕ) Global) CodecError → Type 0
+GivesDataPlaces sizes type indexer new result =
+    Gives places_in result (data_places sizes type (selection_of indexer) new)
 
 -- ---- edits of a chunk
 

@@ -9,12 +9,9 @@ use zarrs_data_type::{DataType, FillValue};
 impl ArrayToBytesCodecTraits for BytesCodec {
     ghost use Rattle.std.specs.Prelude.{◌≡◌, None, IfOk};
     ghost use Rattle.zarrs_chunk.specs.Answer.{seen};
-    ghost use Rattle.zarrs_data_type.specs.Form.{form_of};
     ghost use Rattle.zarrs_array_bytes.specs.Blank.{AbsentAreBlank};
-    ghost use Rattle.zarrs_array_bytes.specs.Held.{items_of};
-    ghost use Rattle.zarrs_bytes.specs.BytesCodec.{bytes_represented, bytes_length, bytes_value, bytes_chunk, turn_size, EncodesInPlace, DecodesInPlace};
-    ghost use Rattle.zarrs_codec.specs.ChunkCodec.{RepresentsBy, EncodesBy, DecodesBy, GivesValid};
-    ghost use Rattle.zarrs_codec.specs.CodecMembers.{DecodesAgain};
+    ghost use Rattle.zarrs_bytes.specs.BytesCodec.{bytes_represented, bytes_length, bytes_value, bytes_chunk, turn_size, RepresentsBytes, RepresentsNow, DecodesBack, Encoded, EncodedNow, Decoded, DecodedNow};
+    ghost use Rattle.zarrs_codec.specs.ChunkCodec.{GivesValid};
     ghost use Rattle.zarrs_bytes.specs.GivenBytes.{IsGiven, HoldsGiven};
 
     ghost represented = { λ order form. bytes_represented order form };
@@ -36,10 +33,8 @@ impl ArrayToBytesCodecTraits for BytesCodec {
         data_type: &DataType,
         fill_value: &FillValue,
     ) -> Result<BytesRepresentation, CodecError>
-        ensures answer { RepresentsBy (bytes_represented self.now)
-            (form_of shape.now data_type.now fill_value.now) result }
-        ensures in_place { result
-            ≡ bytes_represented self.now (form_of shape.now data_type.now fill_value.now) }
+        ensures answer { RepresentsBytes self.now shape.now data_type.now fill_value.now result }
+        ensures in_place { RepresentsNow self.now shape.now data_type.now fill_value.now result }
     {
         let lengths = self.lengths(shape, data_type, fill_value)?;
         Ok(BytesRepresentation::FixedSize(lengths.bytes))
@@ -48,20 +43,17 @@ impl ArrayToBytesCodecTraits for BytesCodec {
     fn encode<'a>(
         &self,
         alloc: Global,
-        elements: ArrayBytes<'a>,
+        given: ArrayBytes<'a>,
         shape: &ChunkShape,
         data_type: &DataType,
-        fill_value: &FillValue,
+        fill: &FillValue,
     ) -> Result<ArrayBytesRaw<'a>, CodecError>
-        ensures answer { EncodesBy (bytes_value self.now)
-            (form_of shape.now data_type.now fill_value.now) elements.entry result }
-        ensures in_place { EncodesInPlace self.now
-            (form_of shape.now data_type.now fill_value.now) elements.entry result }
-        ensures kept { turn_size self.now data_type.now ≡ None → IsGiven elements.entry result }
-        ensures decoded_again { DecodesAgain (bytes_chunk self.now)
-            (form_of shape.now data_type.now fill_value.now) result }
+        ensures answer { Encoded self.now shape.now data_type.now fill.now given.entry result }
+        ensures in_place { EncodedNow self.now shape.now data_type.now fill.now given.entry result }
+        ensures kept { turn_size self.now data_type.now ≡ None → IsGiven given.entry result }
+        ensures decoded_again { DecodesBack self.now shape.now data_type.now fill.now result }
     {
-        BytesCodec::encode(self, alloc, elements, shape, data_type, fill_value)
+        BytesCodec::encode(self, alloc, given, shape, data_type, fill)
     }
 
     #[tactic(auto, using(crate::proofs::Counted::found_valid, crate::proofs::Counted::found_blank))]
@@ -71,17 +63,15 @@ impl ArrayToBytesCodecTraits for BytesCodec {
         value: ArrayBytesRaw<'a>,
         shape: &ChunkShape,
         data_type: &DataType,
-        fill_value: &FillValue,
+        fill: &FillValue,
     ) -> Result<ArrayBytes<'a>, CodecError>
-        ensures answer { DecodesBy (bytes_chunk self.now)
-            (form_of shape.now data_type.now fill_value.now) (items_of value.entry) result }
+        ensures answer { Decoded self.now shape.now data_type.now fill.now value.entry result }
         ensures valid { GivesValid data_type.now shape.now result }
-        ensures in_place { DecodesInPlace self.now
-            (form_of shape.now data_type.now fill_value.now) value.entry result }
+        ensures in_place { DecodedNow self.now shape.now data_type.now fill.now value.entry result }
         ensures kept { turn_size self.now data_type.now ≡ None → HoldsGiven value.entry result }
         ensures blank { IfOk result (AbsentAreBlank data_type.now) }
     {
-        BytesCodec::decode(self, alloc, value, shape, data_type, fill_value)
+        BytesCodec::decode(self, alloc, value, shape, data_type, fill)
     }
 
     fn compact<'a>(

@@ -2,13 +2,12 @@
 //!
 //! A range takes 16 bytes of memory, more than most elements have. So where a read asks for many
 //! short ranges, they are made and asked for a batch at a time.
-ghost use Rattle.std.specs.Prelude.{◌≡◌, ◌<◌, ◌≤◌, ◌+◌, ◌*◌, ◌-◌, ◌^◌, true, Some, IfOk, All, is_some, min, length};
-ghost use Rattle.zarrs_chunk.specs.Answer.{Answers, memory_or_fault};
+ghost use Rattle.std.specs.Prelude.{◌≡◌, ◌<◌, ◌≤◌, ◌+◌, ◌*◌, ◌-◌, ◌^◌, true, IfOk, All, is_some, min, length};
 ghost use Rattle.zarrs_chunk.specs.Runs.{joined_runs};
 ghost use Rattle.zarrs_codec.specs.ByteRanges.{range_indices};
 ghost use Rattle.zarrs_codec.specs.StorageState.{after_reading};
 ghost use Rattle.zarrs_codec.specs.HandleCalls.{NeverFailsIf, ReadsBytes};
-ghost use Rattle.zarrs_bytes.specs.PartialRead.{bytes_at_runs, run_bytes, runs_are_sure, with_read};
+ghost use Rattle.zarrs_bytes.specs.PartialRead.{bytes_at_runs, run_bytes, runs_are_sure, AddsRuns};
 ghost use Rattle.zarrs_bytes.specs.PlannedRanges.{NoneIsEmpty};
 
 use std::alloc::{AllocError, Global};
@@ -81,8 +80,7 @@ pub(crate) fn append_batch<H: BytesPartialDecoderTraits>(
     requires ends { All (λ run. (run.0 + run.1) * size < 2 ^ 64) runs.now }
     requires sized { 0 < size }
     requires stored { is_some (H.state handle.old).value ≡ true }
-    ensures answer { Answers memory_or_fault (λ _. Some elements.new.items) result
-        (with_read elements.old.items (bytes_at_runs size (H.state handle.old) runs.now)) }
+    ensures answer { AddsRuns elements.old elements.new size (H.state handle.old) runs.now result }
     ensures sure { NeverFailsIf (runs_are_sure size (H.state handle.old) runs.now) result }
     ensures left { H.state handle.new ≡ after_reading result (H.state handle.old) }
     ensures same_reference { H.lent handle.new ≡ H.lent handle.old }
@@ -107,8 +105,7 @@ fn append_batches<H: BytesPartialDecoderTraits>(
     requires ends { All (λ run. (run.0 + run.1) * size < 2 ^ 64) runs.now }
     requires sized { 0 < size }
     requires stored { is_some (H.state handle.old).value ≡ true }
-    ensures answer { Answers memory_or_fault (λ _. Some elements.new.items) result
-        (with_read elements.old.items (bytes_at_runs size (H.state handle.old) runs.now)) }
+    ensures answer { AddsRuns elements.old elements.new size (H.state handle.old) runs.now result }
     ensures sure { NeverFailsIf (runs_are_sure size (H.state handle.old) runs.now) result }
     ensures left { H.state handle.new ≡ after_reading result (H.state handle.old) }
     ensures same_reference { H.lent handle.new ≡ H.lent handle.old }

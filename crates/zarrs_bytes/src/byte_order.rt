@@ -2,8 +2,8 @@
 //!
 //! A loop of single swaps would be built byte by byte, so the bytes are turned in groups whose
 //! swaps are all constants, which compile to one shuffle of a register.
-ghost use Rattle.std.specs.Prelude.{◌≡◌, ◌<◌, ◌*◌, ◌/◌, ◌++◌, length, IfOk, OnOk, Ok, Some, None, IsOk, reverse, true};
-ghost use Rattle.zarrs_chunk.specs.Answer.{Gives, memory, seen};
+ghost use Rattle.std.specs.Prelude.{◌≡◌, ◌<◌, ◌*◌, ◌/◌, length, IfOk, Ok, Some, None, IsOk, reverse, true};
+ghost use Rattle.zarrs_chunk.specs.Answer.{Appends, Gives, seen};
 ghost use Rattle.zarrs_array_bytes.specs.Held.{items_of, raw_of};
 ghost use Rattle.zarrs_bytes.specs.ByteOrder.{turned_bytes};
 
@@ -130,8 +130,7 @@ fn reverse_each(bytes: &mut [u8], size: usize)
 /// Appends the bytes with each piece of `size` bytes turned round.
 fn append_turned(copy: &mut Vec<u8>, part: &[u8], size: usize) -> Result<(), AllocError>
     requires sized { 0 < size }
-    ensures appended { OnOk result
-        (copy.new.items ≡ copy.old.items ++ turned_bytes (Some size) part.now) }
+    ensures appended { Appends copy.old copy.new result (turned_bytes (Some size) part.now) }
 {
     let start = copy.len();
     copy.extend_from_slice(part)?;

@@ -1,20 +1,17 @@
 ghost use Rattle.zarrs_data_type.specs.Form.{form_of};
 ghost use Rattle.std.specs.Prelude.{◌≡◌, ◌<◌, ◌+◌, ◌*◌, ◌^◌, true, None, Ok, IfOk, IfErr, All, is_some, length};
-ghost use Rattle.std.specs.List.{flat_map};
-ghost use Rattle.zarrs_chunk.specs.Answer.{Answers, fault, Gives};
-ghost use Rattle.zarrs_chunk.specs.Indexer.{selection_of};
+ghost use Rattle.zarrs_chunk.specs.Answer.{Answers, fault};
 ghost use Rattle.zarrs_chunk.specs.Runs.{joined_runs, EndWithin};
 ghost use Rattle.zarrs_data_type.specs.ElementType.{fixed_size_of};
 ghost use Rattle.zarrs_data_type.specs.FillValue.{fill_fits};
 ghost use Rattle.zarrs_array_bytes.specs.Blank.{AbsentAreBlank};
 ghost use Rattle.zarrs_chunk.specs.ChunkShape.{product};
-ghost use Rattle.zarrs_codec.specs.ChunkEdits.{data_places};
-ghost use Rattle.zarrs_codec.specs.StorageState.{after_reading, KeptIfAtomic, LeftByWriting};
-ghost use Rattle.zarrs_bytes.specs.BytesCodec.{bytes_length, BytesTakes, Copies};
+ghost use Rattle.zarrs_codec.specs.StorageState.{after_reading, LeftByWriting};
+ghost use Rattle.zarrs_bytes.specs.BytesCodec.{BytesTakes, Copies};
 ghost use Rattle.zarrs_codec.specs.HandleCalls.{NeverFailsIf, Tells};
-ghost use Rattle.zarrs_bytes.specs.MadeCoders.{GivesCoder};
-ghost use Rattle.zarrs_bytes.specs.PartialRead.{place_size, IsFilledType, ReadsRuns, ReadsRunsSurely};
-ghost use Rattle.zarrs_bytes.specs.PartialWrite.{FitRuns};
+ghost use Rattle.zarrs_bytes.specs.MadeCoders.{GivesBytesCoder};
+ghost use Rattle.zarrs_bytes.specs.PartialRead.{place_size, IsFilledType, ReadsRuns, ReadsRunsSurely, RepeatsFill};
+ghost use Rattle.zarrs_bytes.specs.PartialWrite.{FitRuns, GivesDataPlaces};
 ghost use Rattle.zarrs_bytes.specs.PlannedRanges.{NoneIsEmpty};
 
 use crate::batches::{count_of, read_bytes, run_ranges};
@@ -58,8 +55,7 @@ pub(crate) fn element_size(data_type: &DataType, fill_value: &FillValue) -> usiz
 /// and nothing is made run by run. No memory has room for `u64::MAX` of them.
 fn fill_runs(alloc: Global, fill: &[u8], runs: &[(u64, u64)]) -> Result<Vec<u8>, AllocError>
     requires fill_some { 0 < length fill.now }
-    ensures value { IfOk result
-        (λ bytes. bytes.items ≡ flat_map (λ _. fill.now) (joined_runs runs.now)) }
+    ensures value { RepeatsFill fill.now (joined_runs runs.now) result }
 {
     let count = count_of(runs);
     let room = fill.len().saturating_mul(count as usize);
@@ -91,6 +87,7 @@ impl BytesCodec {
         requires filling { fill_fits data_type.now fill_value.now ≡ true }
         requires filled { All (λ run. 0 < run.1) runs.now }
         requires ends { All (λ run. (run.0 + run.1) * place_size data_type.now < 2 ^ 64) runs.now }
+        // Wide: the names of its parameters fill the row.
         ensures answer { ReadsRuns self.now data_type.now fill_value.now
             (H.state handle.old) runs.now result }
         ensures sure { ReadsRunsSurely data_type.now (H.state handle.old) runs.now result }
@@ -139,8 +136,7 @@ impl BytesCodec {
         data_type: &DataType,
         fill_value: &FillValue,
     ) -> Result<BytesCodecPartial<H>, Refused<H>>
-        ensures answer { GivesCoder result
-            (bytes_length self.now (form_of shape.now data_type.now fill_value.now)) }
+        ensures answer { GivesBytesCoder self.now shape.now data_type.now fill_value.now result }
         ensures form { HasForm self.now (form_of shape.now data_type.now fill_value.now) result }
         ensures over { IfOk result (λ decoder. bytes_handle_of decoder ≡ handle) }
         ensures handed_back { IfErr result (λ refused. refused.handle ≡ handle) }
@@ -167,8 +163,7 @@ impl BytesCodec {
         data_type: &DataType,
         fill_value: &FillValue,
     ) -> Result<BytesCodecPartial<H>, Refused<H>>
-        ensures answer { GivesCoder result
-            (bytes_length self.now (form_of shape.now data_type.now fill_value.now)) }
+        ensures answer { GivesBytesCoder self.now shape.now data_type.now fill_value.now result }
         ensures form { HasForm self.now (form_of shape.now data_type.now fill_value.now) result }
         ensures over { IfOk result (λ encoder. bytes_handle_of encoder ≡ handle) }
         ensures handed_back { IfErr result (λ refused. refused.handle ≡ handle) }
@@ -187,8 +182,7 @@ fn runs_for(
     data_type: &DataType,
     elements: &ArrayBytes<'_>,
 ) -> Result<Vec<(u64, u64)>, CodecError>
-    ensures answer { Gives (λ runs. joined_runs runs.items) result
-        (data_places shape.now data_type.now (selection_of indexer.now) elements.now) }
+    ensures answer { GivesDataPlaces shape.now data_type.now indexer.now elements.now result }
     ensures filled { IfOk result (λ runs. All (λ run. 0 < run.1) runs.items) }
     ensures below { IfOk result (λ runs. EndWithin (product shape.now) runs.items) }
     ensures fit { IfOk result (λ runs. FitRuns data_type.now runs.items elements.now) }
@@ -275,7 +269,7 @@ impl<H: BytesPartialDecoderTraits> BytesCodecPartial<H> {
 }
 
 impl<H: BytesPartialEncoderTraits> BytesCodecPartial<H> {
-    ghost use Rattle.zarrs_bytes.specs.BytesCodecPartial.{bytes_form_of, coder_lent, coder_state, stored_in, Edits, WritesAtMostOnce};
+    ghost use Rattle.zarrs_bytes.specs.BytesCodecPartial.{bytes_form_of, coder_lent, coder_state, stored_in, CoderKeptIfAtomic, Edits, WritesAtMostOnce};
 
     /// Writes these elements at the places that the indexer means, in its order: where a place comes
     /// twice, the last one stands. Of a stored value the places' bytes alone are replaced, and it
@@ -312,8 +306,7 @@ impl<H: BytesPartialEncoderTraits> BytesCodecPartial<H> {
     pub fn erase(&mut self) -> Result<(), CodecError>
         ensures answer { Answers fault (λ _. stored_in H.state self.new) result (Ok None) }
         ensures left { LeftByWriting (coder_state H.state) self.old self.new result }
-        ensures kept_if_atomic { KeptIfAtomic H.atomic (coder_state H.state)
-            self.old self.new result }
+        ensures kept_if_atomic { CoderKeptIfAtomic H.atomic H.state self.old self.new result }
         ensures same_reference { coder_lent H.lent self.new ≡ coder_lent H.lent self.old }
         ensures form_kept { bytes_form_of self.new ≡ bytes_form_of self.old }
     {

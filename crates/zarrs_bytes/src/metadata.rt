@@ -1,10 +1,8 @@
 //! The codec `bytes` made from its metadata, and what it says of itself, as every codec does.
-ghost use Rattle.std.specs.Prelude.{◌≡◌, Ok, Some, option_map, true};
-ghost use Rattle.zarrs_chunk.specs.Answer.{Answers};
+ghost use Rattle.std.specs.Prelude.{◌≡◌, Ok, Some, true};
 ghost use Rattle.zarrs_metadata.specs.BytesConfiguration.{bytes_seen, write_bytes};
 ghost use Rattle.zarrs_metadata.specs.CodecMetadata.{bytes_made, bytes_name, is_bytes_name};
-ghost use Rattle.zarrs_metadata.specs.MetadataV3.{configuration_seen, metadata_seen};
-ghost use Rattle.zarrs_metadata.specs.PluginCreateError.{plugin_memory};
+ghost use Rattle.zarrs_metadata.specs.MetadataV3.{configuration_seen, metadata_seen, MakesConfiguration};
 ghost use Rattle.zarrs_codec.specs.MadeAgain.{MadeAgain};
 
 use crate::bytes_codec::BytesCodec;
@@ -71,8 +69,7 @@ impl CodecTraits for BytesCodec {
     /// The codec's configuration: `endian`, where it has a byte order. With its name it makes an
     /// equal codec. Refusals: `OutOfMemory`.
     fn configuration(&self, alloc: Global) -> Result<Option<Configuration>, PluginCreateError>
-        ensures answer { Answers plugin_memory (option_map configuration_seen) result
-            (Ok (Some (write_bytes self.now))) }
+        ensures answer { MakesConfiguration result (Ok (Some (write_bytes self.now))) }
         ensures made_again { MadeAgain configuration_seen result bytes_made bytes_name self.now }
     {
         let configuration = BytesCodecConfiguration::V1(BytesCodecConfigurationV1 {

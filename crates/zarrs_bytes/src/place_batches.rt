@@ -2,16 +2,15 @@
 //!
 //! A run takes 16 bytes of memory, more than most elements have. So where many places follow no other
 //! one, their runs are made and read a batch at a time.
-ghost use Rattle.std.specs.Prelude.{◌≡◌, ◌<◌, ◌+◌, ◌*◌, ◌^◌, ℕ, true, Ok, Some, IfOk, All, is_some};
-ghost use Rattle.std.specs.List.{flat_map};
-ghost use Rattle.zarrs_chunk.specs.Answer.{Answers, memory_or_fault, Gives};
-ghost use Rattle.zarrs_chunk.specs.Runs.{places_in, AreFilled, EndWithin};
+ghost use Rattle.std.specs.Prelude.{◌≡◌, ◌<◌, true, Ok, IfOk, is_some};
+ghost use Rattle.zarrs_chunk.specs.Answer.{Gives};
+ghost use Rattle.zarrs_chunk.specs.Runs.{places_in, AreFilled, EndsBelow};
 ghost use Rattle.zarrs_data_type.specs.ElementType.{fixed_size_of};
 ghost use Rattle.zarrs_data_type.specs.FillValue.{fill_fits};
 ghost use Rattle.zarrs_array_bytes.specs.Blank.{AbsentAreBlank};
 ghost use Rattle.zarrs_codec.specs.StorageState.{after_reading};
 ghost use Rattle.zarrs_codec.specs.HandleCalls.{NeverFailsIf, ReadsBytes};
-ghost use Rattle.zarrs_bytes.specs.PartialRead.{bytes_at_places, place_size, places_are_sure, with_read, ReadsPlaces, ReadsPlacesSurely};
+ghost use Rattle.zarrs_bytes.specs.PartialRead.{bytes_at_places, place_size, places_are_sure, AddsAt, AreCounted, ReadsPlaces, ReadsPlacesSurely, RepeatsFill};
 
 use crate::batches::{BATCH, append_batch, read_bytes};
 use crate::byte_order::turn;
@@ -46,11 +45,10 @@ fn append_places<H: BytesPartialDecoderTraits>(
     size: u64,
     places: &[u64],
 ) -> Result<(), CodecError>
-    requires ends { All (λ place. (place + 1) * size < 2 ^ 64) places.now }
+    requires ends { AreCounted size places.now }
     requires sized { 0 < size }
     requires stored { is_some (H.state handle.old).value ≡ true }
-    ensures answer { Answers memory_or_fault (λ _. Some elements.new.items) result
-        (with_read elements.old.items (bytes_at_places size (H.state handle.old) places.now)) }
+    ensures answer { AddsAt elements.old elements.new size (H.state handle.old) places.now result }
     ensures sure { NeverFailsIf (places_are_sure size (H.state handle.old) places.now) result }
     ensures left { H.state handle.new ≡ after_reading result (H.state handle.old) }
     ensures same_reference { H.lent handle.new ≡ H.lent handle.old }
@@ -73,7 +71,7 @@ fn read_place_bytes<H: BytesPartialDecoderTraits>(
     size: u64,
     places: &[u64],
 ) -> Result<Option<Vec<u8>>, CodecError>
-    requires ends { All (λ place. (place + 1) * size < 2 ^ 64) places.now }
+    requires ends { AreCounted size places.now }
     requires sized { 0 < size }
     ensures answer { ReadsBytes result (bytes_at_places size (H.state handle.old) places.now) }
     ensures sure { NeverFailsIf (places_are_sure size (H.state handle.old) places.now) result }
@@ -96,15 +94,14 @@ fn read_place_bytes<H: BytesPartialDecoderTraits>(
 fn into_runs(alloc: Global, places: Vec<u64>) -> Result<Vec<(u64, u64)>, CodecError>
     ensures places { Gives places_in result (Ok places.items) }
     ensures filled { IfOk result (λ runs. AreFilled runs.items) }
-    ensures below { (limit : ℕ) → All (λ place. place < limit) places.items
-        → IfOk result (λ runs. EndWithin limit runs.items) }
+    ensures below { EndsBelow places.items result }
 {
     runs_of_places(alloc, places.as_slice())
 }
 
 /// The fill element for each of these places.
 fn fill_places(alloc: Global, fill: &[u8], places: &[u64]) -> Result<Vec<u8>, AllocError>
-    ensures value { IfOk result (λ bytes. bytes.items ≡ flat_map (λ _. fill.now) places.now) }
+    ensures value { RepeatsFill fill.now places.now result }
 {
     let mut bytes = Vec::new(alloc);
     append_copies(&mut bytes, fill, places.len() as u64)?;
@@ -124,7 +121,8 @@ impl BytesCodec {
     ) -> Result<ArrayBytes<'static>, CodecError>
         requires fixed { is_some (fixed_size_of data_type.now) ≡ true }
         requires filling { fill_fits data_type.now fill_value.now ≡ true }
-        requires ends { All (λ place. (place + 1) * place_size data_type.now < 2 ^ 64) places.now }
+        requires ends { AreCounted (place_size data_type.now) places.now }
+        // Wide: as that of `read_places`.
         ensures answer { ReadsPlaces self.now data_type.now fill_value.now
             (H.state handle.old) places.now result }
         ensures sure { ReadsPlacesSurely data_type.now (H.state handle.old) places.now result }
@@ -161,8 +159,8 @@ impl BytesCodec {
     ) -> Result<ArrayBytes<'static>, CodecError>
         requires fixed { is_some (fixed_size_of data_type.now) ≡ true }
         requires filling { fill_fits data_type.now fill_value.now ≡ true }
-        requires ends { All
-            (λ place. (place + 1) * place_size data_type.now < 2 ^ 64) places.items }
+        requires ends { AreCounted (place_size data_type.now) places.items }
+        // Wide: the names of its parameters fill the row.
         ensures answer { ReadsPlaces self.now data_type.now fill_value.now
             (H.state handle.old) places.items result }
         ensures sure { ReadsPlacesSurely data_type.now (H.state handle.old) places.items result }

@@ -1,10 +1,8 @@
-ghost use Rattle.std.specs.Prelude.{◌≡◌, ◌<◌, ◌+◌, ◌*◌, ◌^◌, true, Ok, IfOk, All, is_some};
-ghost use Rattle.zarrs_chunk.specs.Answer.{Gives};
+ghost use Rattle.std.specs.Prelude.{◌≡◌, ◌<◌, ◌+◌, ◌*◌, ◌^◌, true, IfOk, All, is_some};
 ghost use Rattle.zarrs_data_type.specs.ElementType.{fixed_size_of};
 ghost use Rattle.zarrs_data_type.specs.FillValue.{fill_fits};
-ghost use Rattle.zarrs_codec.specs.ByteRanges.{range_indices};
-ghost use Rattle.zarrs_bytes.specs.PartialRead.{byte_count_of, place_size, run_bytes};
-ghost use Rattle.zarrs_bytes.specs.PlannedRanges.{NoneIsEmpty, ranges_len};
+ghost use Rattle.zarrs_bytes.specs.PartialRead.{byte_count_of, place_size, PlansRuns};
+ghost use Rattle.zarrs_bytes.specs.PlannedRanges.{NoneIsEmpty, SumTo};
 
 use crate::batches::run_ranges;
 use crate::bytes_codec::BytesCodec;
@@ -30,11 +28,9 @@ impl BytesCodec {
         requires filling { fill_fits data_type.now fill_value.now ≡ true }
         requires filled { All (λ run. 0 < run.1) runs.now }
         requires ends { All (λ run. (run.0 + run.1) * place_size data_type.now < 2 ^ 64) runs.now }
-        ensures bytes { Gives (λ ranges. range_indices ranges.items) result
-            (Ok (run_bytes (place_size data_type.now) runs.now)) }
+        ensures bytes { PlansRuns data_type.now runs.now result }
         ensures filled { IfOk result (λ ranges. NoneIsEmpty ranges.items) }
-        ensures sum { IfOk result (λ ranges. ranges_len ranges.items
-            ≡ byte_count_of data_type.now runs.now) }
+        ensures sum { SumTo result (byte_count_of data_type.now runs.now) }
     {
         let size = element_size(data_type, fill_value);
         let ranges = run_ranges(alloc, size as u64, runs)?;

@@ -1,15 +1,14 @@
 //! New elements written at runs of places, over a handle that keeps a chunk's value.
 ghost use Rattle.zarrs_data_type.specs.Form.{form_of};
 ghost use Rattle.std.specs.Prelude.{◌≡◌, ◌<◌, ◌+◌, ◌*◌, ◌^◌, Ok, All, IsOk, OnOk, OnErr, length};
-ghost use Rattle.zarrs_chunk.specs.Answer.{Gives, Answers, memory_or_fault, seen};
-ghost use Rattle.zarrs_array_bytes.specs.Held.{items_of};
+ghost use Rattle.zarrs_chunk.specs.Answer.{Answers, memory_or_fault, seen};
 ghost use Rattle.zarrs_chunk.specs.ChunkShape.{product};
 ghost use Rattle.zarrs_chunk.specs.Runs.{joined_runs, EndWithin};
 ghost use Rattle.zarrs_array_bytes.specs.Parts.{fixed_part, fixed_items, bytes_in};
 ghost use Rattle.zarrs_bytes.specs.BytesCodec.{BytesTakes};
 ghost use Rattle.zarrs_codec.specs.StorageState.{KeptIfAtomic, LeftByWriting};
 ghost use Rattle.zarrs_codec.specs.ArrayWriter.{LeftByRefusal};
-ghost use Rattle.zarrs_bytes.specs.PartialWrite.{byte_runs, value_bytes, FitRuns, PutsBytes, WritesOverFill, WritesRuns};
+ghost use Rattle.zarrs_bytes.specs.PartialWrite.{byte_runs, value_bytes, FillsUp, FitRuns, GivesBytes, PutsBytes, WritesRuns};
 
 use crate::byte_order::turn;
 use crate::bytes_codec::BytesCodec;
@@ -74,8 +73,7 @@ impl BytesCodec {
         data_type: &DataType,
     ) -> Result<ArrayBytesRaw<'b>, CodecError>
         requires kind { IsOk (fixed_part elements) }
-        ensures answer { Gives items_of result
-            (Ok (value_bytes self.now data_type.now elements.entry)) }
+        ensures answer { GivesBytes result (value_bytes self.now data_type.now elements.entry) }
     {
         let bytes = elements.into_fixed()?;
         turn(alloc, bytes, self.turn_size(data_type))
@@ -97,6 +95,7 @@ impl BytesCodec {
         requires kind { IsOk (fixed_part elements) }
         requires enough { length (bytes_in elements) ≡ length (joined_runs runs.items) * size }
         ensures answer { Answers memory_or_fault (λ done. done) result (Ok tt) }
+        // Wide: it names the handle's state before and after, and what each byte comes from.
         ensures written { PutsBytes size runs.items
             (value_bytes self.now data_type.now elements.entry)
             H.state handle.old handle.new result }
@@ -115,20 +114,19 @@ impl BytesCodec {
         alloc: Global,
         shape: &ChunkShape,
         data_type: &DataType,
-        fill_value: &FillValue,
+        fill: &FillValue,
         runs: &[(u64, u64)],
-        elements: &ArrayBytes<'_>,
+        new: &ArrayBytes<'_>,
     ) -> Result<ArrayBytesRaw<'static>, CodecError>
-        requires taken { BytesTakes self.now (form_of shape.now data_type.now fill_value.now) }
+        requires taken { BytesTakes self.now (form_of shape.now data_type.now fill.now) }
         requires below { EndWithin (product shape.now) runs.now }
-        requires fit { FitRuns data_type.now runs.now elements.now }
-        ensures answer { WritesOverFill self.now (form_of shape.now data_type.now fill_value.now)
-            runs.now elements.now result }
+        requires fit { FitRuns data_type.now runs.now new.now }
+        ensures answer { FillsUp self.now shape.now data_type.now fill.now runs.now new.now result }
     {
         let count = shape.num_elements()?;
-        let filled = ArrayBytes::new_fill_value(alloc, data_type, count, fill_value)?;
-        let edited = update_runs(alloc, filled, count, runs, elements, data_type)?;
-        self.encode(alloc, edited, shape, data_type, fill_value)
+        let filled = ArrayBytes::new_fill_value(alloc, data_type, count, fill)?;
+        let edited = update_runs(alloc, filled, count, runs, new, data_type)?;
+        self.encode(alloc, edited, shape, data_type, fill)
     }
 
     /// Writes new elements at the places of these runs, each a start and a length, in order, over a
@@ -155,6 +153,7 @@ impl BytesCodec {
         requires filled { All (λ run. 0 < run.1) runs.items }
         requires below { EndWithin (product shape.now) runs.items }
         requires fit { FitRuns data_type.now runs.items elements }
+        // Wide: the names of its parameters fill the row.
         ensures answer { WritesRuns self.now (form_of shape.now data_type.now fill_value.now)
             runs.items elements.entry H.state handle.old handle.new result }
         ensures one_write { OnOk result (LeftByWriting H.state handle.old handle.new result) }
@@ -193,6 +192,7 @@ impl BytesCodec {
         requires filled { All (λ run. 0 < run.1) runs.items }
         requires below { EndWithin (product shape.now) runs.items }
         requires fit { FitRuns data_type.now runs.items elements.now }
+        // Wide: the names of its parameters fill the row.
         ensures answer { WritesRuns self.now (form_of shape.now data_type.now fill_value.now)
             runs.items elements.now H.state handle.old handle.new result }
         ensures one_write { OnOk result (LeftByWriting H.state handle.old handle.new result) }

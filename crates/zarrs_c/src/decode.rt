@@ -1,5 +1,5 @@
 //! The call `zarrs_decode`.
-ghost use Rattle.zarrs_calls.specs.Buffers.{buffers};
+ghost use Rattle.zarrs_calls.specs.Buffers.{room};
 ghost use Rattle.zarrs_calls.specs.Calls.{decoded};
 ghost use Rattle.zarrs_calls.specs.Told.{TellsElements};
 
@@ -21,9 +21,10 @@ pub extern "C" fn zarrs_decode(
     bytes: &mut [u8],
     needed: &mut Sizes,
 ) -> u32
+    // Wide: a caller's three buffers and their counts, before and after.
     ensures told { TellsElements (decoded text.now value.now) result
-        (buffers masks.old offsets.old bytes.old) (buffers masks.new offsets.new bytes.new)
-        needed.old needed.new }
+        (room masks.old offsets.old bytes.old needed.old)
+        (room masks.new offsets.new bytes.new needed.new) }
 {
     zarrs_calls::zarrs_decode(alloc, text, value, masks, offsets, bytes, needed)
 }

@@ -21,6 +21,7 @@ pub extern "C" fn zarrs_planned_ranges(
     is_planned: &mut bool,
     needed: &mut usize,
 ) -> u32
+    // Wide: what is told has three parts, before and after.
     ensures told { TellsPlan (planned text.now tuples numbers.now) result
         (plan_buffers ranges.old is_planned.old needed.old)
         (plan_buffers ranges.new is_planned.new needed.new) }

@@ -1,5 +1,5 @@
 //! The call `zarrs_read`.
-ghost use Rattle.zarrs_calls.specs.Buffers.{buffers};
+ghost use Rattle.zarrs_calls.specs.Buffers.{room};
 ghost use Rattle.zarrs_calls.specs.Reads.{part_read, stored_value};
 ghost use Rattle.zarrs_calls.specs.Told.{TellsElements};
 
@@ -26,10 +26,11 @@ pub extern "C" fn zarrs_read(
     bytes: &mut [u8],
     needed: &mut Sizes,
 ) -> u32
+    // Wide: a caller's three buffers and their counts, before and after.
     ensures told { TellsElements
         (part_read text.now (stored_value is_stored value.now) tuples numbers.now) result
-        (buffers masks.old offsets.old bytes.old) (buffers masks.new offsets.new bytes.new)
-        needed.old needed.new }
+        (room masks.old offsets.old bytes.old needed.old)
+        (room masks.new offsets.new bytes.new needed.new) }
 {
     zarrs_calls::zarrs_read(
         alloc, text, is_stored, value, tuples, numbers, masks, offsets, bytes, needed,

@@ -1,6 +1,5 @@
 //! The call `zarrs_reencode`.
-ghost use Rattle.zarrs_calls.specs.Calls.{reencoded};
-ghost use Rattle.zarrs_calls.specs.Told.{TellsBytes};
+ghost use Rattle.zarrs_c.specs.Told.{Rewrites};
 
 use std::alloc::Global;
 
@@ -19,8 +18,7 @@ pub extern "C" fn zarrs_reencode(
     out: &mut [u8],
     needed: &mut usize,
 ) -> u32
-    ensures told { TellsBytes (reencoded text.now value.now codecs.now) result
-        out.old out.new needed.old needed.new }
+    ensures told { Rewrites text.now value.now codecs.now result out.old out.new needed.old needed.new }
 {
     zarrs_calls::zarrs_reencode(alloc, text, value, codecs, out, needed)
 }

@@ -1,6 +1,5 @@
 //! The call `zarrs_representation`.
-ghost use Rattle.zarrs_calls.specs.Calls.{represented};
-ghost use Rattle.zarrs_calls.specs.Told.{TellsRepresentation};
+ghost use Rattle.zarrs_calls.specs.Calls.{TellsRepresented};
 
 use std::alloc::Global;
 
@@ -13,8 +12,7 @@ pub extern "C" fn zarrs_representation(
     kind: &mut u32,
     size: &mut u64,
 ) -> u32
-    ensures told { TellsRepresentation (represented text.now) result
-        kind.old kind.new size.old size.new }
+    ensures told { TellsRepresented text.now result kind.old kind.new size.old size.new }
 {
     zarrs_calls::zarrs_representation(alloc, text, kind, size)
 }

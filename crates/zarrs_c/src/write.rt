@@ -27,6 +27,7 @@ pub extern "C" fn zarrs_write(
     out: &mut [u8],
     needed: &mut usize,
 ) -> u32
+    // Wide: a caller's three buffers, and the one that is told with its count, before and after.
     ensures told { TellsBytes (part_written text.now (stored_value is_stored value.now)
         tuples numbers.now (buffers masks.now offsets.now bytes.now)) result
         out.old out.new needed.old needed.new }

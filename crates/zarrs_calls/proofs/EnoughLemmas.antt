@@ -140,16 +140,16 @@ module _ (made : List ByteSpan) (test : ℕ → Bool) (all : (n : ℕ) → have_
         found_numbers.2,
       )
 
-  module _ (form : ChunkForm SampleBytesCodec) (selection : Selection) (are : All IsMapping form.chain.arrays) (positive : All (λ size. 0 < size) form.sizes) where
+  module _ (form : ChunkForm SampleBytesCodec) (selection : Selection) (are : All IsMapping form.chain.array_to_array) (positive : All (λ size. 0 < size) form.sizes) where
     -- the places that are meant, where these are planned in their order
-    ordered_passes : (planned : Option Region) → planned_region form selection ≡ planned → (sizes meant : List ℕ) → encoded_places form.type form.chain.arrays form.sizes selection ≡ Ok meant
-        → IsCodecPlan form.chain.codec sizes form.type form.fill (places_in_order form.chain.arrays form.sizes planned meant) made → Passing (codec_rests_on form.chain.codec sizes form.type form.fill None meant)
-    ordered_passes None p sizes meant e plan = codec_passes form.chain.codec sizes form.type form.fill meant plan
+    ordered_passes : (planned : Option Region) → planned_region form selection ≡ planned → (sizes meant : List ℕ) → encoded_places form.type form.chain.array_to_array form.sizes selection ≡ Ok meant
+        → IsCodecPlan form.chain.array_to_bytes sizes form.type form.fill (places_in_order form.chain.array_to_array form.sizes planned meant) made → Passing (codec_rests_on form.chain.array_to_bytes sizes form.type form.fill None meant)
+    ordered_passes None p sizes meant e plan = codec_passes form.chain.array_to_bytes sizes form.type form.fill meant plan
     ordered_passes (Some region) p sizes meant e plan =
         let own = in_place (form_in_place form) _ region p in
-        let codec_is : form.chain.codec ≡ bytes_codec own.0 = (bytes_alone form.chain.outer form.chain.codec own.0 own.1).1 in
+        let codec_is : form.chain.array_to_bytes ≡ bytes_codec own.0 = (bytes_alone form.chain.bytes_to_bytes form.chain.array_to_bytes own.0 own.1).1 in
         let chain_is : IsChainOfMappings form.chain = record { mappings = are; inner_mappings = subst (λ (c : PlainCodec SampleBytesCodec). HasMappings c) (sym codec_is) tt } in
-        let standing : List ℕ = standing_places form.chain.arrays form.sizes region in
+        let standing : List ℕ = standing_places form.chain.array_to_array form.sizes region in
         let order = planned_are_meant SampleBytesCodec form selection meant standing chain_is positive e (standing_is form selection region meant p e) in
         subst (λ (c : PlainCodec SampleBytesCodec). Passing (codec_rests_on c sizes form.type form.fill None meant)) (sym codec_is)
         (moved_passes own.0 sizes form.type form.fill meant standing order.same (subst (λ (c : PlainCodec SampleBytesCodec). IsCodecPlan c sizes form.type form.fill standing made) codec_is plan))
@@ -157,7 +157,7 @@ module _ (made : List ByteSpan) (test : ℕ → Bool) (all : (n : ℕ) → have_
     form_passes : (places : List ℕ) → planned_places form selection ≡ Ok (Some places) → IsReadPlan sample_codecs form (Some made) (Some places)
         → (numbers : List ℕ) × ArePlanned sample_codecs form selection numbers × (list_all test numbers ≡ true)
     form_passes places is plan =
-        chain_passes (reads_places form.chain.outer form.chain.codec) (places_in_order form.chain.arrays form.sizes (planned_region form selection)) form.chain.codec form.type form.fill (encoded_places form.type form.chain.arrays form.sizes selection) (taken_form sample_codecs form.chain form.sizes form.type form.fill) places
+        chain_passes (reads_places form.chain.bytes_to_bytes form.chain.array_to_bytes) (places_in_order form.chain.array_to_array form.sizes (planned_region form selection)) form.chain.array_to_bytes form.type form.fill (encoded_places form.type form.chain.array_to_array form.sizes selection) (taken_form sample_codecs form.chain form.sizes form.type form.fill) places
         (ordered_passes (planned_region form selection) refl) is plan
 
 -- ---- of a header

@@ -146,9 +146,9 @@ refused_or_lacks cause expected gives = by (cause_lacks cause) refl
     by false e = inl (refused cause expected (λ m. gives (rw (m, e) refl)))
 
 pub pieces_told : (held : Held) (expected : Result Elements Cause) (code : ℕ) (old new : Buffers) (needed_old needed_new : Sizes) → IsOkAnd expected (HoldsThese held) → ToldParts (crossed held) code old new needed_new
-    → TellsOrLacks expected code old new needed_old needed_new
+    → TellsOrLacks expected code (record { parts = old; needed = needed_old }) (record { parts = new; needed = needed_new })
 pieces_told held (Ok elements) code old new needed_old needed_new holds told = inl (elements, held, refl, holds, told)
 pieces_told held (Err cause) code old new needed_old needed_new holds told = absurd holds
 
-pub pieces_refused : (cause : Cause) (expected : Result Elements Cause) (code : ℕ) (old : Buffers) (needed : Sizes) → Excused (memory_or_lack cause) (expected ≡ Err cause) → code ≡ cause_code cause → TellsOrLacks expected code old old needed needed
+pub pieces_refused : (cause : Cause) (expected : Result Elements Cause) (code : ℕ) (old : Buffers) (needed : Sizes) → Excused (memory_or_lack cause) (expected ≡ Err cause) → code ≡ cause_code cause → TellsOrLacks expected code (record { parts = old; needed = needed }) (record { parts = old; needed = needed })
 pieces_refused cause expected code old needed gives is = inr (rw is (refused_or_lacks cause expected gives), refl, refl)

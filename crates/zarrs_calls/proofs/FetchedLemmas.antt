@@ -51,12 +51,12 @@ agree len ps value planned has hand = λ k d l. same_at len (get_or planned k d)
 -- ---- reads by a decoder that is made for them
 
 by_taken : (f : Form) (stored : Option (List ℕ)) (x : Result Chunk CodecError) (t : Result (List ℕ × BytesRepresentation) CodecError)
-    → ((t >>= λ _. ok (bytes_above (length f.chain.outer) stored)) >>= λ _. x) ≡ (t >>= λ _. x)
+    → ((t >>= λ _. ok (bytes_above (length f.chain.bytes_to_bytes) stored)) >>= λ _. x) ≡ (t >>= λ _. x)
 by_taken f stored x (Ok taken) = refl
 by_taken f stored x (Err e) = refl
 
 -- without a cache the making refuses only what the chain doesn't take
-uncached : (f : Form) (stored : Option (List ℕ)) (x : Result Chunk CodecError) → asks_in_part f.chain.outer f.chain.codec ≡ true
+uncached : (f : Form) (stored : Option (List ℕ)) (x : Result Chunk CodecError) → asks_in_part f.chain.bytes_to_bytes f.chain.array_to_bytes ≡ true
     → (source_made sample_codecs sample_reads f stored >>= λ _. x) ≡ (taken_form sample_codecs f.chain f.sizes f.type f.fill >>= λ _. x)
 uncached f stored x asks =
     ap (λ s. source_made_at sample_codecs f s stored >>= λ _. x) (no_stage sample_reads f.chain (no_place sample_reads f.chain asks))
@@ -91,7 +91,7 @@ pub part_stopped : (chunk : Form) (stored : Option (List ℕ)) (selection : Sele
     → Excused (memory_or_fault e) (form_read chunk stored selection ≡ Err e)
 part_stopped chunk stored selection e h = λ wants. stops (source_made sample_codecs sample_reads chunk stored) (stored_read sample_codecs chunk stored selection) e (h wants)
 
-pub planned_quietly_made : (chunk : Form) (selection : Selection) (planned : List ℕ) → ArePlanned sample_codecs chunk selection planned → asks_in_part chunk.chain.outer chunk.chain.codec ≡ true
+pub planned_quietly_made : (chunk : Form) (selection : Selection) (planned : List ℕ) → ArePlanned sample_codecs chunk selection planned → asks_in_part chunk.chain.bytes_to_bytes chunk.chain.array_to_bytes ≡ true
 planned_quietly_made chunk selection planned are = (planned_is_asked sample_codecs chunk None selection planned are).in_part
 
 -- it never lacks a byte where the planned ones are at hand

@@ -20,12 +20,12 @@ bytes_refused cause expected code old needed gives is = inr (rw is (refused caus
 
 -- elements that are due are told
 pub elements_told : (held : Held) (expected : Result Elements Cause) (code : ℕ) (old new : Buffers) (needed_old needed_new : Sizes) → IsOkAnd expected (HoldsThese held) → ToldParts (crossed held) code old new needed_new
-    → TellsElements expected code old new needed_old needed_new
+    → TellsElements expected code (record { parts = old; needed = needed_old }) (record { parts = new; needed = needed_new })
 elements_told held (Ok elements) code old new needed_old needed_new holds told = inl (elements, held, refl, holds, told)
 elements_told held (Err cause) code old new needed_old needed_new holds told = absurd holds
 
 -- a refusal is told in place of them
-pub elements_refused : (cause : Cause) (expected : Result Elements Cause) (code : ℕ) (old : Buffers) (needed : Sizes) → Excused (cause_memory cause) (expected ≡ Err cause) → code ≡ cause_code cause → TellsElements expected code old old needed needed
+pub elements_refused : (cause : Cause) (expected : Result Elements Cause) (code : ℕ) (old : Buffers) (needed : Sizes) → Excused (cause_memory cause) (expected ≡ Err cause) → code ≡ cause_code cause → TellsElements expected code (record { parts = old; needed = needed }) (record { parts = old; needed = needed })
 elements_refused cause expected code old needed gives is = inr (rw is (refused cause expected gives), refl, refl)
 
 -- a representation that is due is told

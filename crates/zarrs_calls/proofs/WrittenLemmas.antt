@@ -32,9 +32,9 @@ of_stored form [] (vlen_codec ia ix ib da dx db wide at_end) value places new = 
 of_stored form [] (optional_codec ma mx mb da dx db) value places new = refl
 of_stored form (first ∷ rest) codec value places new = refl
 
-at_places : (form : Form) (stored : Option (List ℕ)) (places : List ℕ) (new : Held) → places_written form stored places new ≡ value_left sample_codecs form (order_in_place form.chain.outer form.chain.codec) stored places new
+at_places : (form : Form) (stored : Option (List ℕ)) (places : List ℕ) (new : Held) → places_written form stored places new ≡ value_left sample_codecs form (order_in_place form.chain.bytes_to_bytes form.chain.array_to_bytes) stored places new
 at_places form None places new = refl
-at_places form (Some value) places new = of_stored form form.chain.outer form.chain.codec value places new
+at_places form (Some value) places new = of_stored form form.chain.bytes_to_bytes form.chain.array_to_bytes value places new
 
 at_each : (r : Result (List ℕ) CodecError) (g h : List ℕ → Result (List ℕ) CodecError) → ((places : List ℕ) → g places ≡ h places) → (r >>= g) ≡ (r >>= h)
 at_each (Ok places) g h e = e places
@@ -45,7 +45,7 @@ pub written_is : (form : Form) (stored : Option (List ℕ)) (selection : Selecti
     → form_written form stored selection new ≡ (chain_representation sample_codecs form.chain form.sizes form.type form.fill >>= λ _. stored_written sample_codecs form stored selection new)
 written_is form stored selection new =
     ap (λ (x : Result (List ℕ) CodecError). chain_representation sample_codecs form.chain form.sizes form.type form.fill >>= λ _. x)
-    (at_each (data_places form.sizes form.type selection new) (λ places. places_written form stored places new) (λ places. value_left sample_codecs form (order_in_place form.chain.outer form.chain.codec) stored places new) (λ places. at_places form stored places new))
+    (at_each (data_places form.sizes form.type selection new) (λ places. places_written form stored places new) (λ places. value_left sample_codecs form (order_in_place form.chain.bytes_to_bytes form.chain.array_to_bytes) stored places new) (λ places. at_places form stored places new))
 
 -- so what such an encoder leaves is due
 pub by_encoder : {T : Type 0} (form : Form) (before after : Option (List ℕ)) (selection : Selection) (new : Held) (r : Result T CodecError)

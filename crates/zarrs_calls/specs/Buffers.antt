@@ -13,6 +13,14 @@ pub record Buffers : Type 0 where
 abbrev pub buffers : List ℕ → List ℕ → List ℕ → Buffers
 buffers masks offsets bytes = record { masks = masks; offsets = offsets; bytes = bytes }
 
+-- what a caller has for elements: its three buffers, and how many items of each part it was told
+pub record Room : Type 0 where
+  pub parts : Buffers
+  pub needed : Sizes
+
+abbrev pub room : List ℕ → List ℕ → List ℕ → Sizes → Room
+room masks offsets bytes needed = record { parts = buffers masks offsets bytes; needed = needed }
+
 -- with one mask more round them
 abbrev pub under_mask : List ℕ → Buffers → Buffers
 under_mask mask inside = buffers (mask ++ inside.masks) inside.offsets inside.bytes

@@ -1,6 +1,9 @@
 -- What is due to a call: its value, or the first cause of a refusal.
 use Rattle.std.specs.Prelude.{ℕ, List, Result, Ok}
-use Rattle.zarrs_chunk.specs.Answer.{◌>>=◌}
+use Rattle.std.specs.declared.alloc.Global.{Global}
+use Rattle.std.specs.declared.borrow.CowSlice.{CowSlice}
+use Rattle.zarrs_chunk.specs.Answer.{◌>>=◌, Answers}
+use Rattle.zarrs_array_bytes.specs.Held.{items_of}
 use Rattle.zarrs_codec.specs.SampleBytesCodec.{sample_codecs}
 use Rattle.zarrs_codec.specs.declared.bytes_representation.BytesRepresentation.{BytesRepresentation}
 use Rattle.zarrs_chain_laws.specs.Chain.{held_value}
@@ -9,9 +12,9 @@ use Rattle.zarrs_chain_laws.specs.Representation.{chain_representation}
 use Rattle.zarrs_chain_whole.specs.Reencode.{reencoded_value}
 use Rattle.zarrs_chain_header.specs.Header.{Header, line_header, line_codecs}
 use Rattle.zarrs_calls.specs.Buffers.{Buffers}
-use Rattle.zarrs_calls.specs.Codes.{refusal_answer, codec_answer}
+use Rattle.zarrs_calls.specs.Codes.{cause_memory, refusal_answer, codec_answer}
 use Rattle.zarrs_calls.specs.Given.{elements_given}
-use Rattle.zarrs_calls.specs.Told.{Elements}
+use Rattle.zarrs_calls.specs.Told.{Elements, TellsRepresentation}
 use Rattle.zarrs_calls.specs.declared.cause.Cause.{Cause}
 
 -- the header that a text is
@@ -24,12 +27,21 @@ represented text = do
   header ← header_given text
   codec_answer (chain_representation sample_codecs header.chain header.sizes header.data_type header.fill)
 
+-- The caller is told how many; or the call is refused, and leaves both numbers as they were.
+abbrev pub TellsRepresented : List ℕ → ℕ → ℕ → ℕ → ℕ → ℕ → Type 0
+TellsRepresented text code kind_old kind_new size_old size_new =
+    TellsRepresentation (represented text) code kind_old kind_new size_old size_new
+
 -- the value that is written for the chunk of these elements
 abbrev pub encoded : List ℕ → Buffers → Result (List ℕ) Cause
 encoded text elements = do
   header ← header_given text
   held ← elements_given header.data_type elements
   codec_answer (held_value sample_codecs header.chain header.sizes header.data_type header.fill held)
+
+-- this value is answered, or the first cause
+abbrev pub GivesEncoded : List ℕ → Buffers → Result (CowSlice ℕ Global) Cause → Type 0
+GivesEncoded text elements result = Answers cause_memory items_of result (encoded text elements)
 
 -- the chunk that a value stands for
 abbrev pub decoded : List ℕ → List ℕ → Result Elements Cause

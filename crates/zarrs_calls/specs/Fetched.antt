@@ -1,24 +1,36 @@
 -- Pieces of a value as they cross: ranges, each a start and an end, and the bytes of all of them, joined.
-use Rattle.std.specs.Prelude.{◌≡◌, ◌⊎◌, ℕ, ◌-◌, ◌&&◌, ◌||◌, nat_le, Bool, true, false, List, [], ◌∷◌, length, take, drop, Some, Result, Ok, Err}
-use Rattle.zarrs_chunk.specs.Answer.{◌>>=◌, demand, fault}
+use Rattle.std.specs.Prelude.{◌≡◌, ◌⊎◌, ℕ, ◌-◌, ◌&&◌, ◌||◌, nat_le, Bool, true, false, List, [], ◌∷◌, length, take, drop, Some, Vec, Result, Ok, Err}
+use Rattle.std.specs.declared.alloc.Global.{Global}
+use Rattle.zarrs_chunk.specs.Answer.{◌>>=◌, demand, fault, AnswersBy, memory_or_fault}
+use Rattle.zarrs_chunk.specs.Indexer.{selection_of}
 use Rattle.zarrs_chunk.specs.Selection.{Selection}
+use Rattle.zarrs_chunk.specs.declared.codec_error.CodecError.{CodecError}
 use Rattle.zarrs_chunk.specs.declared.codec_error.CodecError.TheVariants.{InvalidByteRange}
+use Rattle.zarrs_chunk.specs.declared.indexer.Indexer.{Indexer}
 use Rattle.zarrs_array_bytes.specs.Held.{Held}
+use Rattle.zarrs_array_bytes.specs.Validity.{Holds}
+use Rattle.zarrs_codec.specs.HandleCalls.{NeverFailsIf}
 use Rattle.zarrs_codec.specs.SampleBytesCodec.{sample_codecs}
+use Rattle.zarrs_codec.specs.StorageState.{are_sure}
 use Rattle.zarrs_chain_json.specs.declared.refusal.Refusal.TheVariants.{Syntax, Making, Codec}
 use Rattle.zarrs_chain_header.specs.Header.{Header}
-use Rattle.zarrs_pieces.specs.Pieces.{PlainPiece, HasPieces, are_apart, are_at_hand, value_with}
+use Rattle.zarrs_chain_header.specs.HeaderRead.{header_seen}
+use Rattle.zarrs_chain_header.specs.declared.header.ChunkHeader.{ChunkHeader}
+use Rattle.zarrs_pieces.specs.Pieces.{PlainPiece, HasPieces, are_apart, are_at_hand, pieces_seen, value_with}
+use Rattle.zarrs_pieces.specs.PiecesHandle.{pieces_state}
+use Rattle.zarrs_pieces.specs.declared.piece.Piece.{Piece}
+use Rattle.zarrs_pieces.specs.declared.pieces_handle.PiecesHandle.{PiecesHandle}
 use Rattle.zarrs_planned_reads.specs.PlannedReads.{ArePlanned}
-use Rattle.zarrs_calls.specs.Buffers.{Buffers, crossed}
+use Rattle.zarrs_calls.specs.Buffers.{Room, crossed}
 use Rattle.zarrs_calls.specs.Calls.{header_given}
 use Rattle.zarrs_calls.specs.Codes.{IsRefusal, cause_memory, codec_answer}
 use Rattle.zarrs_chain_lines.specs.Commands.{form_of}
-use Rattle.zarrs_calls.specs.Reads.{form_read}
+use Rattle.zarrs_calls.specs.Reads.{form_read, form_seen, part_read}
 use Rattle.zarrs_calls.specs.Selections.{selection_given}
-use Rattle.zarrs_calls.specs.Told.{Elements, HoldsThese, ToldParts}
+use Rattle.zarrs_calls.specs.Told.{Elements, HoldsThese, ToldParts, TellsElements}
 use Rattle.zarrs_calls.specs.declared.cause.Cause.{Cause}
 use Rattle.zarrs_calls.specs.declared.cause.Cause.TheVariants.{Argument, Refused}
-use Rattle.zarrs_calls.specs.declared.sizes.Sizes.{Sizes}
+use Rattle.zarrs_calls.specs.declared.fetched.Fetched.{Fetched}
 
 -- the bytes of a range, at the front of those that are left
 abbrev pub front_bytes : ℕ → ℕ → List ℕ → Result (List ℕ) Cause
@@ -72,7 +84,43 @@ abbrev pub memory_or_lack : Cause → Bool
 memory_or_lack cause = cause_memory cause || cause_lacks cause
 
 -- The caller is told a container of the elements that are due; or the call is refused, or a byte isn't at hand, which is the code 11, and it leaves the buffers and the counts as they were.
-abbrev pub TellsOrLacks : Result Elements Cause → ℕ → Buffers → Buffers → Sizes → Sizes → Type 0
-TellsOrLacks expected code old new needed_old needed_new =
-    ((elements : Elements) × (held : Held) × (expected ≡ Ok elements) × HoldsThese held elements × ToldParts (crossed held) code old new needed_new)
-    ⊎ ((IsRefusal expected code ⊎ (code ≡ 11)) × (new ≡ old) × (needed_new ≡ needed_old))
+abbrev pub TellsOrLacks : Result Elements Cause → ℕ → Room → Room → Type 0
+TellsOrLacks expected code old new =
+    ((elements : Elements) × (held : Held) × (expected ≡ Ok elements) × HoldsThese held elements × ToldParts (crossed held) code old.parts new.parts new.needed)
+    ⊎ ((IsRefusal expected code ⊎ (code ≡ 11)) × (new.parts ≡ old.parts) × (new.needed ≡ old.needed))
+
+-- Of each value that has these pieces, where all bytes that are planned are among them, the caller is told what it is told of the value itself.
+abbrev pub TellsAlike : List ℕ → ℕ → List ℕ → List ℕ → ℕ → List ℕ → ℕ → Room → Room → Type 0
+TellsAlike text len ranges fetched tuples numbers code old new =
+    (value : List ℕ) → HasPlannedPieces text len ranges fetched tuples numbers value → TellsElements (part_read text (Some value) tuples numbers) code old new
+
+-- what a caller is told of a read of pieces: what is due of the value with zeros elsewhere, or a byte is lacking; and of each value that has these pieces, where they are enough, what it is told of that
+pub record TellsPieces (text : List ℕ) (len : ℕ) (ranges fetched : List ℕ) (tuples : ℕ) (numbers : List ℕ) (code : ℕ) (old new : Room) : Type 0 where
+  pub told : TellsOrLacks (pieces_read text len ranges fetched tuples numbers) code old new
+  pub alike : TellsAlike text len ranges fetched tuples numbers code old new
+
+-- ---- before it is told
+
+-- the pieces of a vector
+abbrev pub pieces_in : Vec Piece Global → List PlainPiece
+pieces_in pieces = pieces_seen pieces.items
+
+-- a read over pieces answers the elements that are due of the value with zeros elsewhere; memory may be wanting, and a byte not at hand
+abbrev pub GivesPiecesRead : ChunkHeader → PiecesHandle → Indexer → Result Held CodecError → Type 0
+GivesPiecesRead form handle indexer result =
+    AnswersBy memory_or_fault (Holds (header_seen form).data_type) result (form_read (form_seen form) (pieces_state handle).value (selection_of indexer))
+
+-- where all bytes that such a read plans to ask for are at hand, none is lacking
+abbrev pub NoFaultIfPlanned : ChunkHeader → PiecesHandle → Indexer → Result Held CodecError → Type 0
+NoFaultIfPlanned form handle indexer result =
+    (planned : List ℕ) → ArePlanned sample_codecs (form_seen form) (selection_of indexer) planned → NeverFailsIf (are_sure (pieces_state handle).sure planned) result
+
+-- the elements that are due to a read of what was fetched are answered
+abbrev pub GivesFetchedRead : List ℕ → Fetched → ℕ → List ℕ → Result Held Cause → Type 0
+GivesFetchedRead text fetched tuples numbers result =
+    AnswersBy memory_or_lack HoldsThese result (pieces_read text fetched.len fetched.ranges.now fetched.bytes.now tuples numbers)
+
+-- of each value that has the fetched pieces, where all bytes that are planned are among them, the answer is that of a read of the value
+abbrev pub ReadsAlike : List ℕ → Fetched → ℕ → List ℕ → Result Held Cause → Type 0
+ReadsAlike text fetched tuples numbers result =
+    (value : List ℕ) → HasPlannedPieces text fetched.len fetched.ranges.now fetched.bytes.now tuples numbers value → AnswersBy cause_memory HoldsThese result (part_read text (Some value) tuples numbers)

@@ -10,7 +10,9 @@ use Rattle.zarrs_codec.specs.SampleBytesCodec.{sample_codecs}
 use Rattle.zarrs_codec.specs.declared.sample_bytes_codec.SampleBytesCodec.{SampleBytesCodec}
 use Rattle.zarrs_codec_chain.specs.ChunkRead.{ChunkForm, IsReadPlan}
 use Rattle.zarrs_pieces.specs.Joined.{Joins}
+use Rattle.zarrs_calls.specs.Codes.{cause_memory}
 use Rattle.zarrs_calls.specs.Plans.{Planned, AreForPlan, places_planned, range_numbers}
+use Rattle.zarrs_calls.specs.declared.cause.Cause.{Cause}
 
 -- these ranges are a plan of these places
 abbrev pub IsPlanOf : ChunkForm SampleBytesCodec → Option (Vec ByteSpan Global) → Option (List ℕ) → Type 0
@@ -28,3 +30,7 @@ AreNumbersOf ranges numbers = (joined : List ByteSpan) × (numbers.items ≡ ran
 abbrev pub IsPlanAsNumbers : Option (Vec ℕ Global) → Planned → Type 0
 IsPlanAsNumbers None plan = AreForPlan None plan
 IsPlanAsNumbers (Some numbers) plan = (ranges : List ByteSpan) × (numbers.items ≡ range_numbers ranges) × AreForPlan (Some ranges) plan
+
+-- the numbers of ranges for the plan that is due are answered, or that there are none
+abbrev pub GivesPlan : Result (Option (Vec ℕ Global)) Cause → Result Planned Cause → Type 0
+GivesPlan result expected = AnswersBy cause_memory IsPlanAsNumbers result expected

@@ -1,9 +1,13 @@
 -- Selections as they cross: a box, by its starts and then its lengths, or tuples one after another.
 use Rattle.std.specs.Prelude.{ℕ, zero, suc, ◌==◌, ◌*◌, ◌/◌, ◌%◌, ◌^◌, ◌-◌, if◌then◌else◌, List, [], ◌∷◌, length, take, drop, Result, Ok}
-use Rattle.zarrs_chunk.specs.Answer.{◌>>=◌, demand}
+use Rattle.zarrs_chunk.specs.Answer.{◌>>=◌, demand, Answers}
 use Rattle.zarrs_chunk.specs.ArraySubset.{subset_of_start_shape}
+use Rattle.zarrs_chunk.specs.Indexer.{selection_of}
 use Rattle.zarrs_chunk.specs.Selection.{Selection, subset, indices}
-use Rattle.zarrs_calls.specs.Codes.{codec_answer}
+use Rattle.zarrs_chunk.specs.declared.indexer.Indexer.{Indexer}
+use Rattle.zarrs_chain_header.specs.HeaderRead.{header_seen}
+use Rattle.zarrs_chain_header.specs.declared.header.ChunkHeader.{ChunkHeader}
+use Rattle.zarrs_calls.specs.Codes.{cause_memory, codec_answer}
 use Rattle.zarrs_calls.specs.declared.cause.Cause.{Cause}
 use Rattle.zarrs_calls.specs.declared.cause.Cause.TheVariants.{Argument}
 
@@ -28,3 +32,8 @@ tuples_given axes count numbers = do
 -- the selection of these numbers in a chunk of so many axes: a box where `tuples` is 2^64 - 1, and else so many tuples
 abbrev pub selection_given : ℕ → ℕ → List ℕ → Result Selection Cause
 selection_given axes tuples numbers = if tuples == 2 ^ 64 - 1 then box_given numbers else tuples_given axes tuples numbers
+
+-- the indexer of these numbers in a header's chunk is answered, or the first refusal
+abbrev pub GivesSelection : ChunkHeader → ℕ → List ℕ → Result Indexer Cause → Type 0
+GivesSelection form tuples numbers result =
+    Answers cause_memory selection_of result (selection_given (length (header_seen form).sizes) tuples numbers)

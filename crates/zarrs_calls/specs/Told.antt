@@ -7,7 +7,7 @@ use Rattle.zarrs_array_bytes.specs.Update.{with_items_at}
 use Rattle.zarrs_array_bytes.specs.Validity.{Holds}
 use Rattle.zarrs_codec.specs.declared.bytes_representation.BytesRepresentation.{BytesRepresentation}
 use Rattle.zarrs_codec.specs.declared.bytes_representation.BytesRepresentation.TheVariants.{FixedSize, BoundedSize, UnboundedSize}
-use Rattle.zarrs_calls.specs.Buffers.{Buffers, crossed, sizes_of, have_room, with_fronts}
+use Rattle.zarrs_calls.specs.Buffers.{Buffers, Room, crossed, sizes_of, have_room, with_fronts}
 use Rattle.zarrs_calls.specs.Codes.{IsRefusal}
 use Rattle.zarrs_calls.specs.declared.cause.Cause.{Cause}
 use Rattle.zarrs_calls.specs.declared.sizes.Sizes.{Sizes}
@@ -43,10 +43,10 @@ pub record ToldParts (parts : Buffers) (code : ℕ) (old new : Buffers) (needed 
   pub needed_is : needed ≡ sizes_of parts
 
 -- The caller is told a container of the elements that are due; or the call is refused, and leaves the buffers and the counts as they were.
-abbrev pub TellsElements : Result Elements Cause → ℕ → Buffers → Buffers → Sizes → Sizes → Type 0
-TellsElements expected code old new needed_old needed_new =
-    ((elements : Elements) × (held : Held) × (expected ≡ Ok elements) × HoldsThese held elements × ToldParts (crossed held) code old new needed_new)
-    ⊎ (IsRefusal expected code × (new ≡ old) × (needed_new ≡ needed_old))
+abbrev pub TellsElements : Result Elements Cause → ℕ → Room → Room → Type 0
+TellsElements expected code old new =
+    ((elements : Elements) × (held : Held) × (expected ≡ Ok elements) × HoldsThese held elements × ToldParts (crossed held) code old.parts new.parts new.needed)
+    ⊎ (IsRefusal expected code × (new.parts ≡ old.parts) × (new.needed ≡ old.needed))
 
 -- ---- representations
 

@@ -1,9 +1,8 @@
 //! What the calls answer, before it is told to C.
-ghost use Rattle.zarrs_chunk.specs.Answer.{Answers, AnswersBy};
-ghost use Rattle.zarrs_array_bytes.specs.Held.{items_of};
+ghost use Rattle.zarrs_chunk.specs.Answer.{Answers, AnswersBy, AnswersItems, AnswersValue};
 ghost use Rattle.zarrs_chain_header.specs.HeaderRead.{header_seen};
 ghost use Rattle.zarrs_calls.specs.Buffers.{buffers};
-ghost use Rattle.zarrs_calls.specs.Calls.{header_given, represented, encoded, decoded, reencoded};
+ghost use Rattle.zarrs_calls.specs.Calls.{header_given, represented, GivesEncoded, decoded, reencoded};
 ghost use Rattle.zarrs_calls.specs.Codes.{cause_memory};
 ghost use Rattle.zarrs_calls.specs.Told.{HoldsThese};
 
@@ -25,7 +24,7 @@ pub(crate) fn form_given(alloc: Global, text: &[u8]) -> Result<ChunkHeader, Caus
 
 /// How many bytes the value of a header's chunk has.
 pub(crate) fn representation(alloc: Global, text: &[u8]) -> Result<BytesRepresentation, Cause>
-    ensures answer { Answers cause_memory (λ r. r) result (represented text.now) }
+    ensures answer { AnswersValue cause_memory result (represented text.now) }
 {
     let form = form_given(alloc, text)?;
     let representation = form
@@ -42,8 +41,7 @@ pub(crate) fn encode<'a>(
     offsets: &[u64],
     bytes: &'a [u8],
 ) -> Result<ArrayBytesRaw<'a>, Cause>
-    ensures answer { Answers cause_memory items_of result
-        (encoded text.now (buffers masks.now offsets.now bytes.now)) }
+    ensures answer { GivesEncoded text.now (buffers masks.now offsets.now bytes.now) result }
 {
     let form = form_given(alloc, text)?;
     let elements = elements_given(alloc, &form.data_type, masks, offsets, bytes)?;
@@ -83,8 +81,7 @@ pub(crate) fn reencode_value(
     value: &[u8],
     codecs: &[u8],
 ) -> Result<Vec<u8>, Cause>
-    ensures answer { Answers cause_memory (λ other. other.items) result
-        (reencoded text.now value.now codecs.now) }
+    ensures answer { AnswersItems cause_memory result (reencoded text.now value.now codecs.now) }
 {
     let form = form_given(alloc, text)?;
     let to = read_codecs(alloc, codecs)?;

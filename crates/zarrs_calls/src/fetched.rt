@@ -1,19 +1,8 @@
 //! Reading a chunk of which pieces are at hand, before it is told to C.
-ghost use Rattle.std.specs.Prelude.{◌≡◌, ◌-◌, ℕ, IfOk, List, Some, length, true, false};
-ghost use Rattle.zarrs_chunk.specs.Answer.{Answers, AnswersBy, is_fault, memory_or_fault, seen};
-ghost use Rattle.zarrs_chunk.specs.Indexer.{selection_of};
-ghost use Rattle.zarrs_array_bytes.specs.Validity.{Holds};
-ghost use Rattle.zarrs_codec.specs.SampleBytesCodec.{sample_codecs};
-ghost use Rattle.zarrs_codec.specs.StorageState.{are_sure};
-ghost use Rattle.zarrs_pieces.specs.Pieces.{pieces_seen};
-ghost use Rattle.zarrs_pieces.specs.PiecesHandle.{pieces_state};
-ghost use Rattle.zarrs_planned_reads.specs.PlannedReads.{ArePlanned};
-ghost use Rattle.zarrs_chain_header.specs.HeaderRead.{header_seen};
+ghost use Rattle.std.specs.Prelude.{◌≡◌, ◌-◌, IfOk, length};
+ghost use Rattle.zarrs_chunk.specs.Answer.{Answers, seen};
 ghost use Rattle.zarrs_calls.specs.Codes.{cause_memory};
-ghost use Rattle.zarrs_calls.specs.Fetched.{front_bytes, pieces_given as pieces_of, pieces_read, HasPlannedPieces, memory_or_lack};
-ghost use Rattle.zarrs_chain_lines.specs.Commands.{form_of as header_form};
-ghost use Rattle.zarrs_calls.specs.Reads.{form_read, part_read};
-ghost use Rattle.zarrs_calls.specs.Told.{HoldsThese};
+ghost use Rattle.zarrs_calls.specs.Fetched.{front_bytes, pieces_in, pieces_given as pieces_of, GivesPiecesRead, NoFaultIfPlanned, GivesFetchedRead, ReadsAlike};
 
 use crate::calls::form_given;
 use crate::cause::Cause;
@@ -42,8 +31,7 @@ fn pieces_given<'a>(
     ranges: &[u64],
     fetched: &'a [u8],
 ) -> Result<Vec<Piece<'a>>, Cause>
-    ensures answer { Answers cause_memory (λ v. pieces_seen v.items) result
-        (pieces_of ranges.now fetched.now) }
+    ensures answer { Answers cause_memory pieces_in result (pieces_of ranges.now fetched.now) }
 {
     let count = ranges.len() / 2;
     let mut pieces = Vec::with_capacity(alloc, count)?;
@@ -70,12 +58,8 @@ fn read_pieces_part(
     handle: PiecesHandle<'_>,
     indexer: &Indexer,
 ) -> Result<ArrayBytes<'static>, CodecError>
-    ensures answer { AnswersBy memory_or_fault (Holds (header_seen form.now).data_type) result
-        (form_read (header_form (header_seen form.now)) (pieces_state handle.entry).value
-        (selection_of indexer.now)) }
-    ensures sure { (planned : List ℕ) → ArePlanned sample_codecs
-        (header_form (header_seen form.now)) (selection_of indexer.now) planned →
-        are_sure (pieces_state handle.entry).sure planned ≡ true → is_fault result ≡ false }
+    ensures answer { GivesPiecesRead form.now handle.entry indexer.now result }
+    ensures sure { NoFaultIfPlanned form.now handle.entry indexer.now result }
 {
     let chain = &form.chain;
     match chain.partial_decoder(
@@ -106,13 +90,8 @@ pub(crate) fn read_fetched(
     tuples: u64,
     numbers: &[u64],
 ) -> Result<ArrayBytes<'static>, Cause>
-    ensures answer { AnswersBy memory_or_lack HoldsThese result
-        (pieces_read text.now fetched.now.len fetched.now.ranges.now fetched.now.bytes.now
-        tuples numbers.now) }
-    ensures alike { (value : List ℕ) → HasPlannedPieces text.now fetched.now.len
-        fetched.now.ranges.now fetched.now.bytes.now tuples numbers.now value →
-        AnswersBy cause_memory HoldsThese result
-        (part_read text.now (Some value) tuples numbers.now) }
+    ensures answer { GivesFetchedRead text.now fetched.now tuples numbers.now result }
+    ensures alike { ReadsAlike text.now fetched.now tuples numbers.now result }
 {
     let form = form_given(alloc, text)?;
     let indexer = selection_given(alloc, &form, tuples, numbers)?;

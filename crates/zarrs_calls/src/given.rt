@@ -1,11 +1,11 @@
 //! The container of elements that a caller gives.
 ghost use Rattle.std.specs.Prelude.{◌≡◌, min};
-ghost use Rattle.zarrs_chunk.specs.Answer.{Answers};
+ghost use Rattle.zarrs_chunk.specs.Answer.{AnswersValue};
 ghost use Rattle.zarrs_data_type.specs.ElementType.{optional_levels};
 ghost use Rattle.zarrs_array_bytes.specs.Offsets.{offsets_of};
 ghost use Rattle.zarrs_calls.specs.Buffers.{buffers};
 ghost use Rattle.zarrs_calls.specs.Codes.{cause_memory, codec_answer};
-ghost use Rattle.zarrs_calls.specs.Given.{mask_length as mask_length_of, variable_given as variable_of, given_under as held_under, elements_given as held_given};
+ghost use Rattle.zarrs_calls.specs.Given.{mask_length as mask_length_of, variable_given as variable_of, GivesHeldUnder, GivesHeld};
 
 use crate::cause::Cause;
 use std::alloc::Global;
@@ -37,8 +37,7 @@ fn mask_length(levels: usize, count: usize) -> Option<usize>
 }
 
 fn rising(alloc: Global, offsets: &[u64]) -> Result<ArrayBytesOffsets, Cause>
-    ensures answer { Answers cause_memory (λ starts. starts) result
-        (codec_answer (offsets_of offsets.now)) }
+    ensures answer { AnswersValue cause_memory result (codec_answer (offsets_of offsets.now)) }
 {
     let mut starts = Vec::with_capacity(alloc, offsets.len())?;
     for offset in offsets {
@@ -52,8 +51,7 @@ fn variable_given<'a>(
     offsets: &[u64],
     bytes: &'a [u8],
 ) -> Result<ArrayBytes<'a>, Cause>
-    ensures answer { Answers cause_memory (λ held. held) result
-        (variable_of offsets.now bytes.now) }
+    ensures answer { AnswersValue cause_memory result (variable_of offsets.now bytes.now) }
 {
     let starts = rising(alloc, offsets)?;
     Ok(ArrayBytes::new_vlen(CowSlice::Borrowed(bytes), starts)?)
@@ -68,8 +66,7 @@ fn given_under<'a>(
     offsets: &[u64],
     bytes: &'a [u8],
 ) -> Result<ArrayBytes<'a>, Cause>
-    ensures answer { Answers cause_memory (λ held. held) result
-        (held_under data_type.now each masks.now offsets.now bytes.now) }
+    ensures answer { GivesHeldUnder data_type.now each masks.now offsets.now bytes.now result }
 {
     if let Some(inner_type) = data_type.as_optional() {
         if masks.len() < each {
@@ -95,8 +92,7 @@ pub(crate) fn elements_given<'a>(
     offsets: &[u64],
     bytes: &'a [u8],
 ) -> Result<ArrayBytes<'a>, Cause>
-    ensures answer { Answers cause_memory (λ held. held) result
-        (held_given data_type.now (buffers masks.now offsets.now bytes.now)) }
+    ensures answer { GivesHeld data_type.now (buffers masks.now offsets.now bytes.now) result }
 {
     let Some(each) = mask_length(level_count(data_type), masks.len()) else {
         return Err(Cause::Argument);

@@ -1,15 +1,6 @@
 //! Reading a chunk in part, before it is told to C.
 ghost use Rattle.std.specs.Prelude.{◌≡◌};
-ghost use Rattle.std.specs.Option.{option_map};
-ghost use Rattle.zarrs_chunk.specs.Answer.{AnswersBy, memory};
-ghost use Rattle.zarrs_chunk.specs.Indexer.{selection_of};
-ghost use Rattle.zarrs_array_bytes.specs.Validity.{Holds};
-ghost use Rattle.zarrs_pieces.specs.LentHandle.{lent_value};
-ghost use Rattle.zarrs_chain_header.specs.HeaderRead.{header_seen};
-ghost use Rattle.zarrs_calls.specs.Codes.{cause_memory};
-ghost use Rattle.zarrs_chain_lines.specs.Commands.{form_of as header_form};
-ghost use Rattle.zarrs_calls.specs.Reads.{form_read, part_read, stored_value};
-ghost use Rattle.zarrs_calls.specs.Told.{HoldsThese};
+ghost use Rattle.zarrs_calls.specs.Reads.{stored_value, stored_bytes, GivesFormRead, GivesPartRead};
 
 use crate::calls::form_given;
 use crate::cause::Cause;
@@ -23,7 +14,7 @@ use zarrs_pieces::LentHandle;
 
 /// A value, where it is stored.
 pub(crate) fn stored_given(is_stored: bool, value: &[u8]) -> Option<&[u8]>
-    ensures value { option_map (λ stored. stored.now) result ≡ stored_value is_stored value.now }
+    ensures value { stored_bytes result ≡ stored_value is_stored value.now }
 {
     if is_stored { Some(value) } else { None }
 }
@@ -35,9 +26,7 @@ fn read_part(
     handle: LentHandle<'_>,
     indexer: &Indexer,
 ) -> Result<ArrayBytes<'static>, CodecError>
-    ensures answer { AnswersBy memory (Holds (header_seen form.now).data_type) result
-        (form_read (header_form (header_seen form.now)) (lent_value handle.entry)
-        (selection_of indexer.now)) }
+    ensures answer { GivesFormRead form.now handle.entry indexer.now result }
 {
     let chain = &form.chain;
     match chain.partial_decoder(
@@ -60,8 +49,7 @@ pub(crate) fn read(
     tuples: u64,
     numbers: &[u64],
 ) -> Result<ArrayBytes<'static>, Cause>
-    ensures answer { AnswersBy cause_memory HoldsThese result
-        (part_read text.now (option_map (λ value. value.now) stored.entry) tuples numbers.now) }
+    ensures answer { GivesPartRead text.now (stored_bytes stored.entry) tuples numbers.now result }
 {
     let form = form_given(alloc, text)?;
     let indexer = selection_given(alloc, &form, tuples, numbers)?;

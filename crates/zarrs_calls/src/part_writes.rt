@@ -1,14 +1,10 @@
 //! Writing a chunk in part, before it is told to C.
-ghost use Rattle.std.specs.Prelude.{◌≡◌, ℕ, List, Ok, Some};
-ghost use Rattle.std.specs.Option.{option_map};
+ghost use Rattle.std.specs.Prelude.{Ok};
 ghost use Rattle.zarrs_chunk.specs.Answer.{Answers};
-ghost use Rattle.zarrs_chunk.specs.Indexer.{selection_of};
 ghost use Rattle.zarrs_codec.specs.MemoryHandle.{handle_value};
-ghost use Rattle.zarrs_chain_header.specs.HeaderRead.{header_seen};
-ghost use Rattle.zarrs_calls.specs.Buffers.{buffers};
 ghost use Rattle.zarrs_calls.specs.Codes.{cause_memory};
-ghost use Rattle.zarrs_chain_lines.specs.Commands.{form_of as header_form};
-ghost use Rattle.zarrs_calls.specs.Writes.{part_written, StoresPart};
+ghost use Rattle.zarrs_calls.specs.Reads.{stored_bytes};
+ghost use Rattle.zarrs_calls.specs.Writes.{StoresNew, GivesStored, GivesPartWritten};
 
 use crate::calls::form_given;
 use crate::cause::Cause;
@@ -29,9 +25,7 @@ fn write_part(
     indexer: &Indexer,
     new: &ArrayBytes<'_>,
 ) -> Result<(), CodecError>
-    ensures answer { StoresPart (header_form (header_seen form.now))
-        (handle_value handle.old) (handle_value handle.new)
-        (selection_of indexer.now) new.now result }
+    ensures answer { StoresNew form.now handle.old handle.new indexer.now new.now result }
 {
     let chain = &form.chain;
     match chain.partial_encoder(
@@ -52,8 +46,7 @@ fn write_part(
 
 /// A handle on a copy of a value, or on none.
 fn handle_with(alloc: Global, stored: Option<&[u8]>) -> Result<MemoryHandle, Cause>
-    ensures answer { Answers cause_memory handle_value result
-        (Ok (option_map (λ value. value.now) stored.entry)) }
+    ensures answer { Answers cause_memory handle_value result (Ok (stored_bytes stored.entry)) }
 {
     match stored {
         Some(value) => Ok(MemoryHandle::with_value(Vec::from_slice(alloc, value)?)),
@@ -63,8 +56,7 @@ fn handle_with(alloc: Global, stored: Option<&[u8]>) -> Result<MemoryHandle, Cau
 
 /// What is stored after a write, which stores something.
 fn stored_after(handle: MemoryHandle) -> Result<Vec<u8>, Cause>
-    ensures answer { (value : List ℕ) → handle_value handle ≡ Some value →
-        Answers cause_memory (λ v. v.items) result (Ok value) }
+    ensures answer { GivesStored handle result }
 {
     match handle.into_value() {
         Some(value) => Ok(value),
@@ -89,10 +81,7 @@ pub(crate) fn write(
     stored: Option<&[u8]>,
     edit: &Edit<'_>,
 ) -> Result<Vec<u8>, Cause>
-    ensures answer { Answers cause_memory (λ v. v.items) result
-        (part_written text.now (option_map (λ value. value.now) stored.entry)
-        edit.now.tuples edit.now.numbers.now
-        (buffers edit.now.masks.now edit.now.offsets.now edit.now.bytes.now)) }
+    ensures answer { GivesPartWritten text.now (stored_bytes stored.entry) edit.now result }
 {
     let form = form_given(alloc, text)?;
     let indexer = selection_given(alloc, &form, edit.tuples, edit.numbers)?;

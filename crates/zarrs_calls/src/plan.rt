@@ -1,13 +1,10 @@
 //! Which bytes a read plans to ask for, before it is told to C.
 ghost use Rattle.std.specs.Prelude.{IfOk, IfErr, ◌≡◌};
 ghost use Rattle.zarrs_chunk.specs.declared.codec_error.CodecError.TheVariants.{OutOfMemory};
-ghost use Rattle.zarrs_chunk.specs.Answer.{AnswersBy};
 ghost use Rattle.zarrs_chunk.specs.Indexer.{selection_of};
-ghost use Rattle.zarrs_chain_header.specs.HeaderRead.{header_seen};
-ghost use Rattle.zarrs_calls.specs.Codes.{cause_memory};
-ghost use Rattle.zarrs_calls.specs.PlanSeen.{AreNumbersOf, IsPlanAsNumbers, PlansPart};
+ghost use Rattle.zarrs_calls.specs.PlanSeen.{AreNumbersOf, GivesPlan, PlansPart};
 ghost use Rattle.zarrs_calls.specs.Plans.{planned, range_numbers};
-ghost use Rattle.zarrs_chain_lines.specs.Commands.{form_of as header_form};
+ghost use Rattle.zarrs_calls.specs.Reads.{form_seen};
 
 use crate::calls::form_given;
 use crate::cause::Cause;
@@ -25,8 +22,7 @@ fn ranges_of(
     form: &ChunkHeader,
     indexer: &Indexer,
 ) -> Result<Option<Vec<ByteRange>>, CodecError>
-    ensures plan { PlansPart (header_form (header_seen form.now))
-        (selection_of indexer.now) result }
+    ensures plan { PlansPart (form_seen form.now) (selection_of indexer.now) result }
 {
     let chain = &form.chain;
     let handle = MemoryHandle::new();
@@ -70,8 +66,7 @@ pub(crate) fn plan(
     tuples: u64,
     numbers: &[u64],
 ) -> Result<Option<Vec<u64>>, Cause>
-    ensures answer { AnswersBy cause_memory IsPlanAsNumbers result
-        (planned text.now tuples numbers.now) }
+    ensures answer { GivesPlan result (planned text.now tuples numbers.now) }
 {
     let form = form_given(alloc, text)?;
     let indexer = selection_given(alloc, &form, tuples, numbers)?;

@@ -1,5 +1,5 @@
 //! The call `zarrs_read`.
-ghost use Rattle.zarrs_calls.specs.Buffers.{buffers};
+ghost use Rattle.zarrs_calls.specs.Buffers.{room};
 ghost use Rattle.zarrs_calls.specs.Reads.{part_read, stored_value};
 ghost use Rattle.zarrs_calls.specs.Told.{TellsElements};
 
@@ -28,10 +28,11 @@ pub fn zarrs_read(
     bytes: &mut [u8],
     needed: &mut Sizes,
 ) -> u32
+    // Wide: a caller's three buffers and their counts, before and after.
     ensures told { TellsElements
         (part_read text.now (stored_value is_stored value.now) tuples numbers.now) result
-        (buffers masks.old offsets.old bytes.old) (buffers masks.new offsets.new bytes.new)
-        needed.old needed.new }
+        (room masks.old offsets.old bytes.old needed.old)
+        (room masks.new offsets.new bytes.new needed.new) }
 {
     let stored = stored_given(is_stored, value);
     match read(alloc, text, stored, tuples, numbers) {

@@ -1,9 +1,6 @@
 //! The call `zarrs_read_pieces`.
-ghost use Rattle.std.specs.Prelude.{ℕ, List, Some};
-ghost use Rattle.zarrs_calls.specs.Buffers.{buffers};
-ghost use Rattle.zarrs_calls.specs.Fetched.{pieces_read, HasPlannedPieces, TellsOrLacks};
-ghost use Rattle.zarrs_calls.specs.Reads.{part_read};
-ghost use Rattle.zarrs_calls.specs.Told.{TellsElements};
+ghost use Rattle.zarrs_calls.specs.Buffers.{room};
+ghost use Rattle.zarrs_calls.specs.Fetched.{TellsPieces};
 
 use crate::cause::cause_code;
 use crate::fetched::{Fetched, read_fetched};
@@ -34,15 +31,10 @@ pub fn zarrs_read_pieces(
     bytes: &mut [u8],
     needed: &mut Sizes,
 ) -> u32
-    ensures told { TellsOrLacks
-        (pieces_read text.now len ranges.now fetched.now tuples numbers.now) result
-        (buffers masks.old offsets.old bytes.old) (buffers masks.new offsets.new bytes.new)
-        needed.old needed.new }
-    ensures alike { (value : List ℕ) →
-        HasPlannedPieces text.now len ranges.now fetched.now tuples numbers.now value →
-        TellsElements (part_read text.now (Some value) tuples numbers.now) result
-        (buffers masks.old offsets.old bytes.old) (buffers masks.new offsets.new bytes.new)
-        needed.old needed.new }
+    // Wide: a caller's three buffers and their counts, before and after.
+    ensures told { TellsPieces text.now len ranges.now fetched.now tuples numbers.now result
+        (room masks.old offsets.old bytes.old needed.old)
+        (room masks.new offsets.new bytes.new needed.new) }
 {
     let fetched = Fetched {
         len,

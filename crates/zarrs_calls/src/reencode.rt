@@ -21,6 +21,7 @@ pub fn zarrs_reencode(
     out: &mut [u8],
     needed: &mut usize,
 ) -> u32
+    // Wide: three texts, and the buffer that is told with its count, before and after.
     ensures told { TellsBytes (reencoded text.now value.now codecs.now) result
         out.old out.new needed.old needed.new }
 {

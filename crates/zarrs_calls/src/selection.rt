@@ -2,10 +2,9 @@
 ghost use Rattle.std.specs.Prelude.{◌≡◌, ◌*◌, Ok, length};
 ghost use Rattle.zarrs_chunk.specs.Answer.{Answers};
 ghost use Rattle.zarrs_chunk.specs.Indexer.{selection_of};
-ghost use Rattle.zarrs_chunk.specs.Selection.{tuples_seen};
-ghost use Rattle.zarrs_chain_header.specs.HeaderRead.{header_seen};
+ghost use Rattle.zarrs_array_to_array.specs.Boxes.{tuples_in};
 ghost use Rattle.zarrs_calls.specs.Codes.{cause_memory};
-ghost use Rattle.zarrs_calls.specs.Selections.{rows as rows_of, box_given as box_of, tuples_given as tuples_of, selection_given as selection_with};
+ghost use Rattle.zarrs_calls.specs.Selections.{rows as rows_of, box_given as box_of, tuples_given as tuples_of, GivesSelection};
 
 use crate::cause::Cause;
 use std::alloc::Global;
@@ -34,8 +33,7 @@ fn rows(
     numbers: &[u64],
 ) -> Result<Vec<ArrayIndices>, Cause>
     requires count { axes * count ≡ length numbers.now }
-    ensures answer { Answers cause_memory (λ v. tuples_seen v.items) result
-        (Ok (rows_of axes count numbers.now)) }
+    ensures answer { Answers cause_memory tuples_in result (Ok (rows_of axes count numbers.now)) }
 {
     let mut tuples = Vec::with_capacity(alloc, count)?;
     let mut rest = numbers;
@@ -66,8 +64,7 @@ pub(crate) fn selection_given(
     tuples: u64,
     numbers: &[u64],
 ) -> Result<Indexer, Cause>
-    ensures answer { Answers cause_memory selection_of result
-        (selection_with (length (header_seen form.now).sizes) tuples numbers.now) }
+    ensures answer { GivesSelection form.now tuples numbers.now result }
 {
     if tuples == u64::MAX {
         return box_given(alloc, numbers);

@@ -159,6 +159,7 @@ pub(crate) fn tell(
     bytes: &mut [u8],
     needed: &mut Sizes,
 ) -> u32
+    // Wide: a caller's three buffers, before and after.
     ensures told { ToldParts (crossed elements.now) result
         (buffers masks.old offsets.old bytes.old)
         (buffers masks.new offsets.new bytes.new) needed.new }

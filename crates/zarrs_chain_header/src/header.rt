@@ -1,9 +1,8 @@
 //! What a header says: a chunk's shape, type and fill value, and the codecs that it goes through.
-ghost use Rattle.std.specs.Prelude.{◌≡◌, option_map};
-ghost use Rattle.serde_json.specs.View.{view, members_view};
-ghost use Rattle.zarrs_chunk.specs.Answer.{Answers};
+ghost use Rattle.serde_json.specs.View.{members_view};
+ghost use Rattle.zarrs_metadata.specs.Trees.{lent_tree};
 ghost use Rattle.zarrs_chain_whole.specs.ChainView.{plain_chain};
-ghost use Rattle.zarrs_chain_json.specs.Refusal.{wants_memory};
+ghost use Rattle.zarrs_chain_json.specs.Refusal.{Reads, ReadsAs};
 ghost use Rattle.zarrs_chain_header.specs.Header.{shape_at, data_type_at, fill_value_at, codecs_at, header_in, line_header, line_codecs};
 ghost use Rattle.zarrs_chain_header.specs.HeaderRead.{header_seen};
 
@@ -27,8 +26,7 @@ pub struct ChunkHeader {
 }
 
 fn shape(alloc: Global, tree: Option<&Value>) -> Result<ChunkShape, Refusal>
-    ensures answer { Answers wants_memory (λ shape. shape) result
-        (shape_at (option_map (λ v. view v.now) tree.entry)) }
+    ensures answer { Reads result (shape_at (lent_tree tree.entry)) }
 {
     let Some(tree) = tree else {
         return Err(Refusal::Syntax);
@@ -38,8 +36,7 @@ fn shape(alloc: Global, tree: Option<&Value>) -> Result<ChunkShape, Refusal>
 }
 
 fn named_type(alloc: Global, tree: Option<&Value>) -> Result<DataType, Refusal>
-    ensures answer { Answers wants_memory (λ data_type. data_type) result
-        (data_type_at (option_map (λ v. view v.now) tree.entry)) }
+    ensures answer { Reads result (data_type_at (lent_tree tree.entry)) }
 {
     match tree {
         Some(tree) => data_type(alloc, tree),
@@ -48,8 +45,7 @@ fn named_type(alloc: Global, tree: Option<&Value>) -> Result<DataType, Refusal>
 }
 
 fn fill_value(alloc: Global, tree: Option<&Value>) -> Result<FillValue, Refusal>
-    ensures answer { Answers wants_memory (λ fill. fill) result
-        (fill_value_at (option_map (λ v. view v.now) tree.entry)) }
+    ensures answer { Reads result (fill_value_at (lent_tree tree.entry)) }
 {
     let Some(tree) = tree else {
         return Err(Refusal::Syntax);
@@ -59,8 +55,7 @@ fn fill_value(alloc: Global, tree: Option<&Value>) -> Result<FillValue, Refusal>
 }
 
 fn codecs(alloc: Global, tree: Option<&Value>) -> Result<CodecChain<SampleBytesCodec>, Refusal>
-    ensures answer { Answers wants_memory plain_chain result
-        (codecs_at (option_map (λ v. view v.now) tree.entry)) }
+    ensures answer { ReadsAs plain_chain result (codecs_at (lent_tree tree.entry)) }
 {
     match tree {
         Some(Value::Array(items)) => Ok(chain(alloc, items)?),
@@ -69,8 +64,7 @@ fn codecs(alloc: Global, tree: Option<&Value>) -> Result<CodecChain<SampleBytesC
 }
 
 fn header_among(alloc: Global, members: &Members) -> Result<ChunkHeader, Refusal>
-    ensures answer { Answers wants_memory header_seen result
-        (header_in (members_view members.now.entries)) }
+    ensures answer { ReadsAs header_seen result (header_in (members_view members.now.entries)) }
 {
     let shape = shape(alloc, member(members, "shape"))?;
     let data_type = named_type(alloc, member(members, "data_type"))?;
@@ -93,7 +87,7 @@ fn header_among(alloc: Global, members: &Members) -> Result<ChunkHeader, Refusal
 /// `data_type`, `fill_value` or `codecs` don't read, in this order and each with its own refusals; then
 /// those of the chain's representation; `OutOfMemory`.
 pub fn read_header(alloc: Global, text: &[u8]) -> Result<ChunkHeader, Refusal>
-    ensures answer { Answers wants_memory header_seen result (line_header text.now) }
+    ensures answer { ReadsAs header_seen result (line_header text.now) }
 {
     let tree = tree(alloc, text)?;
     let members = object(&tree)?;
@@ -103,7 +97,7 @@ pub fn read_header(alloc: Global, text: &[u8]) -> Result<ChunkHeader, Refusal>
 /// The chain that a text lists: a JSON list of metadata, as the `codecs` of a header. Refusals: `Syntax`
 /// where the text is no JSON list; those of the chain's making; `OutOfMemory`.
 pub fn read_codecs(alloc: Global, text: &[u8]) -> Result<CodecChain<SampleBytesCodec>, Refusal>
-    ensures answer { Answers wants_memory plain_chain result (line_codecs text.now) }
+    ensures answer { ReadsAs plain_chain result (line_codecs text.now) }
 {
     let tree = tree(alloc, text)?;
     codecs(alloc, Some(&tree))

@@ -4,10 +4,10 @@ use Rattle.std.specs.Str.{bytes_eq}
 use Rattle.serde_json.specs.Data.{Data, null, boolean, number, string, array, object, Members, no_members, member}
 use Rattle.serde_json.specs.Find.{as_bool, as_number, as_object, as_u64, get_member}
 use Rattle.zarrs_chunk.specs.Answer.{◌>>=◌, demand, seen}
-use Rattle.zarrs_data_type.specs.ElementType.{ElementType, fixed, text, bytes, optional, type_of_components}
+use Rattle.zarrs_data_type.specs.ElementType.{ElementType, fixed, text, bytes, optional, components_type}
 use Rattle.zarrs_chain_json.specs.declared.refusal.Refusal.{Refusal}
 use Rattle.zarrs_chain_json.specs.declared.refusal.Refusal.TheVariants.{Syntax}
-use Rattle.zarrs_chain_json.specs.Refusal.{codec_answer}
+use Rattle.zarrs_chain_json.specs.Refusal.{codec_answer, Reads}
 use Rattle.zarrs_chain_json.specs.Json.{only_member, member_count}
 
 -- a type by its name: of one component, or of any length
@@ -45,7 +45,7 @@ components_in members = do
   bits ← ok_or (number_at (codes "bits") members) Syntax
   count ← ok_or (number_at (codes "count") members) Syntax
   signed ← ok_or (truth_at (codes "signed") members) Syntax
-  codec_answer (type_of_components bits count signed)
+  codec_answer (components_type bits count signed)
 
 -- a type of several components, by the object that says them
 abbrev pub components_at : Data → Result ElementType Refusal
@@ -76,3 +76,8 @@ type_in (object (member key tree no_members)) =
     else if bytes_eq (codes "components") key then components_at tree
     else Err Syntax
 type_in (object (member key tree (member other more rest))) = Err Syntax
+
+-- of what was read of the type inside, the type of elements that may be absent is read
+abbrev pub ReadsOptional : Result ElementType Refusal → Result ElementType Refusal → Type 0
+ReadsOptional inner result =
+    (expected : Result ElementType Refusal) → Reads inner expected → Reads result (seen optional expected)

@@ -10,6 +10,7 @@ use Rattle.zarrs_array_bytes.specs.Held.{Held}
 use Rattle.zarrs_chain_json.specs.declared.edits.Edit.{Edit}
 use Rattle.zarrs_chain_json.specs.declared.refusal.Refusal.{Refusal}
 use Rattle.zarrs_chain_json.specs.declared.refusal.Refusal.TheVariants.{Syntax}
+use Rattle.zarrs_chain_json.specs.Refusal.{ReadsAs}
 use Rattle.zarrs_chain_json.specs.Json.{needed_member, member_count}
 use Rattle.zarrs_chain_json.specs.Elements.{elements_of}
 use Rattle.zarrs_chain_json.specs.Containers.{container_of}
@@ -23,6 +24,10 @@ pub record PlainEdit : Type 0 where
 -- what an edit that was read is seen as
 abbrev pub edit_seen : Edit → PlainEdit
 edit_seen edit = record { selection = selection_of edit.indexer; new = edit.elements }
+
+-- the edit that is read is the expected one, or the first refusal is answered; only a want of memory may come in its place
+abbrev pub ReadsEdit : Result Edit Refusal → Result PlainEdit Refusal → Type 0
+ReadsEdit result expected = ReadsAs edit_seen result expected
 
 -- the container of the elements that a list shows
 abbrev pub container_in : ElementType → Data → Result Held Refusal

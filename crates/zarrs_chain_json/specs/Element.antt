@@ -1,8 +1,10 @@
 -- What an element that was read is seen as.
-use Rattle.std.specs.Prelude.{Option, Some, None, List, Vec, map}
+use Rattle.std.specs.Prelude.{Option, Some, None, List, Vec, Result, map}
 use Rattle.std.proofs.Common.{Bor}
 use Rattle.std.specs.declared.alloc.Global.{Global}
 use Rattle.zarrs_data_type.specs.Element.{Element, plain, absent, present, Chunk}
+use Rattle.zarrs_chain_json.specs.Refusal.{ReadsAs}
+use Rattle.zarrs_chain_json.specs.declared.refusal.Refusal.{Refusal}
 use Rattle.zarrs_chain_json.specs.declared.element.Element.{Element as Read, Plain, Absent, Present'}
 
 -- the element
@@ -14,6 +16,10 @@ element_seen (Present' p element) = present (element_seen element)
 -- the elements
 abbrev pub chunk_seen : Vec Read Global → Chunk
 chunk_seen elements = map element_seen elements.items
+
+-- the elements that are read are the expected ones, or the first refusal is answered; only a want of memory may come in their place
+abbrev pub ReadsElements : Result (Vec Read Global) Refusal → Result Chunk Refusal → Type 0
+ReadsElements result expected = ReadsAs chunk_seen result expected
 
 -- what stands at a place: an element, or none where the one above it is absent
 abbrev pub slot_seen : Option (Bor Read) → Element

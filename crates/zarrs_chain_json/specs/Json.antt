@@ -20,6 +20,10 @@ use Rattle.zarrs_chain_json.specs.declared.refusal.Refusal.TheVariants.{Syntax}
 abbrev pub members_seen : BTreeMap (String Global) Value Global → Members
 members_seen members = members_view members.entries
 
+-- the tree of a lent value
+abbrev pub lent_value : Bor Value → Data
+lent_value value = view value.now
+
 -- the members of a lent object
 abbrev pub lent_object : Bor (BTreeMap (String Global) Value Global) → Members
 lent_object members = members_seen members.now

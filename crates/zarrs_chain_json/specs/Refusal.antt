@@ -1,5 +1,6 @@
 -- Why a line is refused, and how an answer says so.
-use Rattle.std.specs.Prelude.{ℕ, ◌++◌, Bool, false, List, Result, Ok, Err, codes}
+use Rattle.std.specs.Prelude.{ℕ, ◌++◌, Bool, false, List, Vec, Result, Ok, Err, codes}
+use Rattle.std.specs.declared.alloc.Global.{Global}
 use Rattle.zarrs_chunk.specs.Answer.{memory, Answers}
 use Rattle.zarrs_chunk.specs.CodecError.{name_of}
 use Rattle.zarrs_chunk.specs.declared.codec_error.CodecError.{CodecError}
@@ -21,6 +22,10 @@ Reads result expected = Answers wants_memory (λ value. value) result expected
 -- the same, of a value that is seen by `view`
 abbrev pub ReadsAs : {T V : Type 0} → (T → V) → Result T Refusal → Result V Refusal → Type 0
 ReadsAs view result expected = Answers wants_memory view result expected
+
+-- the same of a vector, which is read by its items
+abbrev pub ReadsItems : {A : Type 0} → Result (Vec A Global) Refusal → Result (List A) Refusal → Type 0
+ReadsItems result expected = ReadsAs (λ v. v.items) result expected
 
 -- the answer of what is made of metadata as a part of a line's answer
 abbrev pub making_answer : {A : Type 0} → Result A PluginCreateError → Result A Refusal

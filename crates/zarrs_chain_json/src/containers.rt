@@ -1,10 +1,11 @@
 //! Containers of elements that were read.
-ghost use Rattle.std.specs.Prelude.{◌≡◌, ◌++◌, Ok, IfOk, OnOk, map, option_map, replicate};
+ghost use Rattle.std.specs.Prelude.{◌≡◌, Ok, IfOk, map, option_map, replicate};
+ghost use Rattle.zarrs_chunk.specs.Answer.{Appends};
 ghost use Rattle.zarrs_data_type.specs.ElementType.{text};
 ghost use Rattle.zarrs_array_bytes.specs.Held.{owned_bytes};
 ghost use Rattle.zarrs_array_bytes.specs.Parts.{with_mask};
 ghost use Rattle.zarrs_array_bytes.specs.Present.{mask_of, presence};
-ghost use Rattle.zarrs_chain_json.specs.Containers.{plain_bytes as plain_bytes_of, bytes_or_zeros, chunk_bytes, chunk_cuts, under_mask, container_of, variable_answer};
+ghost use Rattle.zarrs_chain_json.specs.Containers.{plain_bytes as plain_bytes_of, bytes_or_zeros, chunk_bytes, chunk_cuts, cuts_seen, under_mask, container_of, variable_answer};
 ghost use Rattle.zarrs_chain_json.specs.Element.{slot_seen, slots_seen};
 ghost use Rattle.zarrs_chain_json.specs.Refusal.{codec_answer, Reads};
 
@@ -29,15 +30,14 @@ fn plain_bytes(slot: Slot<'_>) -> Option<&[u8]>
 }
 
 fn append_zeros(out: &mut Vec<u8>, size: usize) -> Result<(), AllocError>
-    ensures appended { OnOk result (out.new.items ≡ out.old.items ++ replicate size 0) }
+    ensures appended { Appends out.old out.new result (replicate size 0) }
 {
     append_copies(out, &[0], size as u64)
 }
 
 /// Appends the bytes of an element, or zeros where there is none.
 fn append_element(out: &mut Vec<u8>, size: usize, slot: Slot<'_>) -> Result<(), AllocError>
-    ensures appended { OnOk result
-        (out.new.items ≡ out.old.items ++ bytes_or_zeros size (slot_seen slot.entry)) }
+    ensures appended { Appends out.old out.new result (bytes_or_zeros size (slot_seen slot.entry)) }
 {
     match plain_bytes(slot) {
         Some(bytes) => out.extend_from_slice(bytes),
@@ -58,8 +58,7 @@ fn fixed_bytes(alloc: Global, size: usize, slots: &[Slot<'_>]) -> Result<Vec<u8>
 
 /// The bytes of elements of any length, one after another, and their offsets.
 fn variable_parts(alloc: Global, slots: &[Slot<'_>]) -> Result<(Vec<u8>, Vec<usize>), AllocError>
-    ensures value { IfOk result
-        (λ parts. (parts.0.items, parts.1.items) ≡ chunk_cuts (slots_seen slots.now)) }
+    ensures value { IfOk result (λ parts. cuts_seen parts ≡ chunk_cuts (slots_seen slots.now)) }
 {
     let mut bytes = Vec::new(alloc);
     let mut offsets = Vec::new(alloc);

@@ -1,11 +1,10 @@
 //! Data types read from JSON.
-ghost use Rattle.std.specs.Prelude.{◌≡◌, Result, ok_or};
+ghost use Rattle.std.specs.Prelude.{◌≡◌, ok_or};
 ghost use Rattle.serde_json.specs.View.{view};
 ghost use Rattle.zarrs_chunk.specs.Answer.{seen};
-ghost use Rattle.zarrs_data_type.specs.ElementType.{ElementType, optional as optional_of};
 ghost use Rattle.zarrs_chain_json.specs.Json.{members_seen, lent_object};
 ghost use Rattle.zarrs_chain_json.specs.Refusal.{Reads};
-ghost use Rattle.zarrs_chain_json.specs.DataType.{type_named, number_at, truth_at, components_in, components_alone, components_among, type_in};
+ghost use Rattle.zarrs_chain_json.specs.DataType.{type_named, number_at, truth_at, components_in, components_alone, components_among, type_in, ReadsOptional};
 
 use crate::json::{Members, member, only_member};
 use crate::refusal::Refusal;
@@ -85,8 +84,7 @@ fn several(members: &Members) -> Result<DataType, Refusal>
 
 /// The type of elements that may be absent, by what was read of the type inside.
 fn optional(alloc: Global, inner: Result<DataType, Refusal>) -> Result<DataType, Refusal>
-    ensures answer { (expected : Result ElementType Refusal) → Reads inner expected
-        → Reads result (seen optional_of expected) }
+    ensures answer { ReadsOptional inner result }
 {
     match inner {
         Ok(inner) => Ok(DataType::optional(alloc, inner)?),

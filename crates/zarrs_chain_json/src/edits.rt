@@ -2,9 +2,8 @@
 ghost use Rattle.std.specs.Prelude.{◌≡◌};
 ghost use Rattle.serde_json.specs.View.{view};
 ghost use Rattle.zarrs_chunk.specs.Answer.{seen};
-ghost use Rattle.zarrs_chain_json.specs.Edit.{edit_at, edit_among as edit_among_members, edit_in, edit_seen};
-ghost use Rattle.zarrs_chain_json.specs.Json.{members_seen, needed_member};
-ghost use Rattle.zarrs_chain_json.specs.Refusal.{ReadsAs};
+ghost use Rattle.zarrs_chain_json.specs.Edit.{edit_at, edit_among as edit_of_members, edit_in, ReadsEdit};
+ghost use Rattle.zarrs_chain_json.specs.Json.{lent_value, members_seen, needed_member};
 
 use crate::element_lists::elements;
 use crate::indexers::indexer;
@@ -26,16 +25,14 @@ pub struct Edit {
 }
 
 fn value_at<'v>(members: &'v Members, key: &str) -> Result<&'v Value, Refusal>
-    ensures answer { seen (λ value. view value.now) result
-        ≡ needed_member key.now (members_seen members.now) }
+    ensures answer { seen lent_value result ≡ needed_member key.now (members_seen members.now) }
 {
     member(members, key).ok_or(Refusal::Syntax)
 }
 
 /// The indexer is read before the elements.
 fn edit_of(alloc: Global, data_type: &DataType, at: &Value, items: &Value) -> Result<Edit, Refusal>
-    ensures answer { ReadsAs edit_seen result
-        (edit_at data_type.now (view at.now) (view items.now)) }
+    ensures answer { ReadsEdit result (edit_at data_type.now (view at.now) (view items.now)) }
 {
     let indexer = indexer(alloc, at)?;
     let elements = elements(alloc, data_type, items)?;
@@ -44,8 +41,7 @@ fn edit_of(alloc: Global, data_type: &DataType, at: &Value, items: &Value) -> Re
 
 #[tactic(auto, using(crate::proofs::JsonLemmas::member_count_of_view))]
 fn edit_among(alloc: Global, data_type: &DataType, members: &Members) -> Result<Edit, Refusal>
-    ensures answer { ReadsAs edit_seen result
-        (edit_among_members data_type.now (members_seen members.now)) }
+    ensures answer { ReadsEdit result (edit_of_members data_type.now (members_seen members.now)) }
 {
     if members.len() != 2 {
         return Err(Refusal::Syntax);
@@ -58,7 +54,7 @@ fn edit_among(alloc: Global, data_type: &DataType, members: &Members) -> Result<
 /// The edit of `{"at":INDEXER,"data":ELEMENTS}`. Refusals: `Syntax` where the tree is no object with
 /// these two keys alone; then those of the indexer, and then those of the elements; `OutOfMemory`.
 pub fn read_edit(alloc: Global, data_type: &DataType, tree: &Value) -> Result<Edit, Refusal>
-    ensures answer { ReadsAs edit_seen result (edit_in data_type.now (view tree.now)) }
+    ensures answer { ReadsEdit result (edit_in data_type.now (view tree.now)) }
 {
     let members = object(tree)?;
     edit_among(alloc, data_type, members)

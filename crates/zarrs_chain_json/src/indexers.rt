@@ -2,9 +2,8 @@
 ghost use Rattle.std.specs.Prelude.{◌≡◌};
 ghost use Rattle.serde_json.specs.View.{view, items_view};
 ghost use Rattle.zarrs_chunk.specs.Indexer.{selection_of};
-ghost use Rattle.zarrs_chunk.specs.Selection.{tuples_seen};
-ghost use Rattle.zarrs_chain_json.specs.Refusal.{Reads, ReadsAs};
-ghost use Rattle.zarrs_chain_json.specs.Indexer.{range_between, range_in, ranges_in, tuples_in, ranges_selection, indices_selection, selection_in};
+ghost use Rattle.zarrs_chain_json.specs.Refusal.{Reads, ReadsAs, ReadsItems};
+ghost use Rattle.zarrs_chain_json.specs.Indexer.{range_between, range_in, ranges_in, tuples_in, ranges_selection, indices_selection, selection_in, ReadsTuples};
 
 use crate::json::{numbers, object, only_member};
 use crate::refusal::Refusal;
@@ -30,7 +29,7 @@ fn range(alloc: Global, tree: &Value) -> Result<Range<u64>, Refusal>
 }
 
 fn ranges_among(alloc: Global, items: &Vec<Value>) -> Result<Vec<Range<u64>>, Refusal>
-    ensures answer { ReadsAs (λ v. v.items) result (ranges_in (items_view items.now.items)) }
+    ensures answer { ReadsItems result (ranges_in (items_view items.now.items)) }
 {
     let mut ranges = Vec::new(alloc);
     for item in items {
@@ -41,8 +40,7 @@ fn ranges_among(alloc: Global, items: &Vec<Value>) -> Result<Vec<Range<u64>>, Re
 }
 
 fn tuples_among(alloc: Global, items: &Vec<Value>) -> Result<Vec<ArrayIndices>, Refusal>
-    ensures answer { ReadsAs (λ v. tuples_seen v.items) result
-        (tuples_in (items_view items.now.items)) }
+    ensures answer { ReadsTuples result (tuples_in (items_view items.now.items)) }
 {
     let mut tuples = Vec::new(alloc);
     for item in items {

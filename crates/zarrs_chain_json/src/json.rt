@@ -1,11 +1,11 @@
 //! JSON texts read and shown.
-ghost use Rattle.std.specs.Prelude.{◌≡◌, option_and_then, ok_or, IfOk, false};
+ghost use Rattle.std.specs.Prelude.{◌≡◌, ok_or, IfOk, false};
 ghost use Rattle.serde_json.specs.Written.{has_float, items_have_float, members_have_float};
 ghost use Rattle.serde_json.specs.View.{view, items_view};
-ghost use Rattle.serde_json.specs.Find.{as_number, as_object, as_u64, get_member};
+ghost use Rattle.serde_json.specs.Find.{as_object, get_member};
 ghost use Rattle.zarrs_chunk.specs.Answer.{seen};
-ghost use Rattle.zarrs_metadata.specs.Trees.{lent_tree};
-ghost use Rattle.zarrs_chain_json.specs.Refusal.{ReadsAs};
+ghost use Rattle.zarrs_metadata.specs.Trees.{lent_tree, whole_number};
+ghost use Rattle.zarrs_chain_json.specs.Refusal.{ReadsAs, ReadsItems};
 ghost use Rattle.zarrs_chain_json.specs.Json.{members_seen, lent_object, tree_of, number_list, numbers_in, hex_of, only_member as only_member_of, ok_line as line_of, hex_tree as hex_tree_of, lone_item};
 
 use crate::refusal::Refusal;
@@ -118,14 +118,13 @@ pub fn lone(items: &Vec<Value>) -> Option<&Value>
 }
 
 fn number(tree: &Value) -> Result<u64, Refusal>
-    ensures answer { result
-        ≡ ok_or (option_and_then as_u64 (as_number (view tree.now))) Refusal.Syntax }
+    ensures answer { result ≡ ok_or (whole_number (view tree.now)) Refusal.Syntax }
 {
     tree.as_u64().ok_or(Refusal::Syntax)
 }
 
 fn numbers_among(alloc: Global, items: &Vec<Value>) -> Result<Vec<u64>, Refusal>
-    ensures answer { ReadsAs (λ v. v.items) result (numbers_in (items_view items.now.items)) }
+    ensures answer { ReadsItems result (numbers_in (items_view items.now.items)) }
 {
     let mut numbers = Vec::new(alloc);
     for item in items {
@@ -137,7 +136,7 @@ fn numbers_among(alloc: Global, items: &Vec<Value>) -> Result<Vec<u64>, Refusal>
 
 /// The whole numbers of a list. Refusals: `Syntax` where the tree is anything else; `OutOfMemory`.
 pub fn numbers(alloc: Global, tree: &Value) -> Result<Vec<u64>, Refusal>
-    ensures answer { ReadsAs (λ v. v.items) result (number_list (view tree.now)) }
+    ensures answer { ReadsItems result (number_list (view tree.now)) }
 {
     match tree {
         Value::Array(items) => numbers_among(alloc, items),
@@ -147,7 +146,7 @@ pub fn numbers(alloc: Global, tree: &Value) -> Result<Vec<u64>, Refusal>
 
 /// The bytes of a hex text. Refusals: `Syntax` where the tree is anything else; `OutOfMemory`.
 pub fn hex_bytes(alloc: Global, tree: &Value) -> Result<Vec<u8>, Refusal>
-    ensures answer { ReadsAs (λ v. v.items) result (ok_or (hex_of (view tree.now)) Refusal.Syntax) }
+    ensures answer { ReadsItems result (ok_or (hex_of (view tree.now)) Refusal.Syntax) }
 {
     match tree {
         Value::String(text) => match hex::decode(alloc, text.as_str()) {

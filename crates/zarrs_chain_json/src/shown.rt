@@ -2,14 +2,13 @@
 ghost use Rattle.std.specs.Prelude.{◌≡◌, ◌<◌, ◌+◌, ◌*◌, ◌≤◌, ℕ, Ok, length, true};
 ghost use Rattle.serde_json.specs.Data.{array, item, no_items};
 ghost use Rattle.serde_json.specs.View.{view};
-ghost use Rattle.zarrs_data_type.specs.Element.{Chunk};
 ghost use Rattle.zarrs_array_bytes.specs.Elements.{piece, cut};
 ghost use Rattle.zarrs_array_bytes.specs.Offsets.{is_offsets, last_of};
-ghost use Rattle.zarrs_array_bytes.specs.Validity.{Holds, HasElements};
+ghost use Rattle.zarrs_array_bytes.specs.Validity.{HasElements};
 ghost use Rattle.zarrs_chain_json.specs.Refusal.{ReadsAs};
-ghost use Rattle.zarrs_chain_json.specs.Json.{trees_in, hex_tree, ok_line as line_of};
-ghost use Rattle.zarrs_chain_json.specs.Elements.{tree_at, trees_of, chunk_tree};
-ghost use Rattle.zarrs_chain_json.specs.Shown.{HasElement, HoldsSome};
+ghost use Rattle.zarrs_chain_json.specs.Json.{trees_in, hex_tree};
+ghost use Rattle.zarrs_chain_json.specs.Elements.{tree_at, trees_of};
+ghost use Rattle.zarrs_chain_json.specs.Shown.{HasElement, HoldsSome, ShowsElements};
 
 use crate::json::ok_line;
 use crate::refusal::Refusal;
@@ -129,8 +128,7 @@ pub fn ok_elements(
     elements: &ArrayBytes<'_>,
 ) -> Result<Vec<u8>, Refusal>
     requires held { HoldsSome data_type.now elements.now }
-    ensures answer { (chunk : Chunk) → Holds data_type.now elements.now chunk
-        → ReadsAs (λ v. v.items) result (Ok (line_of (chunk_tree chunk))) }
+    ensures answer { ShowsElements data_type.now elements.now result }
 {
     let count = count(data_type, elements)?;
     let values = values(alloc, data_type, elements, count)?;

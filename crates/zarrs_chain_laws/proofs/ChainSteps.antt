@@ -43,9 +43,9 @@ use Rattle.zarrs_chain_laws.proofs.ArraySteps.{err, at_ok, ok_is, counted_so, ne
 -- a chain that takes a chunk: what its array codecs do, and what its codec to bytes makes of it
 pub record IsTaken {B : Type 0} (f : BytesCodecs B) (chain : PlainChain B) (sizes : List ℕ) (type : ElementType) (fill encoded : List ℕ) (r : BytesRepresentation) : Type 0 where
   pub map_is : CoordinateMap
-  pub mapped : arrays_map type chain.arrays sizes ≡ Ok map_is
+  pub mapped : arrays_map type chain.array_to_array sizes ≡ Ok map_is
   pub encoded_is : map_is.encoded ≡ encoded
-  pub measured : codec_representation f chain.codec map_is.encoded type fill ≡ Ok r
+  pub measured : codec_representation f chain.array_to_bytes map_is.encoded type fill ≡ Ok r
 
 pub seen_ok : {X Y : Type 0} (view : X → Y) (r : Result X CodecError) (y : Y) → seen view r ≡ Ok y → (x : X) × (r ≡ Ok x) × (view x ≡ y)
 seen_ok view (Ok x) y e = (x, refl, ok_is (view x) y e)
@@ -53,15 +53,15 @@ seen_ok view (Err error) y e = absurd cc
 
 pub is_taken : {B : Type 0} (f : BytesCodecs B) (chain : PlainChain B) (sizes : List ℕ) (type : ElementType) (fill : List ℕ) (form : List ℕ × BytesRepresentation) → taken_form f chain sizes type fill ≡ Ok form → IsTaken f chain sizes type fill form.0 form.1
 is_taken f chain sizes type fill form e =
-    let a = bind_ok (seen (λ (m : CoordinateMap). m.encoded) (arrays_map type chain.arrays sizes)) _ form e in
-    let m = seen_ok (λ (m : CoordinateMap). m.encoded) (arrays_map type chain.arrays sizes) a.0 a.1 in
-    let c = bind_ok (codec_representation f chain.codec a.0 type fill) _ form a.2 in
+    let a = bind_ok (seen (λ (m : CoordinateMap). m.encoded) (arrays_map type chain.array_to_array sizes)) _ form e in
+    let m = seen_ok (λ (m : CoordinateMap). m.encoded) (arrays_map type chain.array_to_array sizes) a.0 a.1 in
+    let c = bind_ok (codec_representation f chain.array_to_bytes a.0 type fill) _ form a.2 in
     let is : (a.0, c.0) ≡ form = ok_is (a.0, c.0) form c.2 in
     record {
       map_is = m.0;
       mapped = m.1;
       encoded_is = m.2 ∙ ap (λ (p : List ℕ × BytesRepresentation). p.0) is;
-      measured = ap (λ s. codec_representation f chain.codec s type fill) m.2 ∙ c.1 ∙ ap (λ (p : List ℕ × BytesRepresentation). ok p.1) is;
+      measured = ap (λ s. codec_representation f chain.array_to_bytes s type fill) m.2 ∙ c.1 ∙ ap (λ (p : List ℕ × BytesRepresentation). ok p.1) is;
     }
 
 -- ---- refusals of the form
@@ -85,9 +85,9 @@ form_refused (Ok m) measure error e X g = measured_so m.encoded (measure m.encod
 
 pub refused_representation : {B : Type 0} (f : BytesCodecs B) (chain : PlainChain B) (sizes : List ℕ) (type : ElementType) (fill : List ℕ) (error : CodecError) → taken_form f chain sizes type fill ≡ Err error → chain_representation f chain sizes type fill ≡ Err error
 refused_representation f chain sizes type fill error e =
-    form_refused (arrays_map type chain.arrays sizes) (λ s. codec_representation f chain.codec s type fill) error e BytesRepresentation (λ m r. Ok (outer_representation f chain.outer r))
+    form_refused (arrays_map type chain.array_to_array sizes) (λ s. codec_representation f chain.array_to_bytes s type fill) error e BytesRepresentation (λ m r. Ok (outer_representation f chain.bytes_to_bytes r))
 
-pub form_representation : {B : Type 0} (f : BytesCodecs B) (chain : PlainChain B) (sizes : List ℕ) (type : ElementType) (fill : List ℕ) (form : List ℕ × BytesRepresentation) → taken_form f chain sizes type fill ≡ Ok form → chain_representation f chain sizes type fill ≡ Ok (outer_representation f chain.outer form.1)
+pub form_representation : {B : Type 0} (f : BytesCodecs B) (chain : PlainChain B) (sizes : List ℕ) (type : ElementType) (fill : List ℕ) (form : List ℕ × BytesRepresentation) → taken_form f chain sizes type fill ≡ Ok form → chain_representation f chain sizes type fill ≡ Ok (outer_representation f chain.bytes_to_bytes form.1)
 form_representation f chain sizes type fill form e =
     let t = is_taken f chain sizes type fill form e in
     rw (t.mapped, t.measured) refl
@@ -137,9 +137,9 @@ codec_counted f (optional_codec ma mx mb da dx db) sizes bytes fill r e = absurd
 
 -- and of one that a chain takes
 pub chain_counted : {B : Type 0} (f : BytesCodecs B) (arrays : List ArrayMapping) (codec : PlainCodec B) (outer : List B) (sizes : List ℕ) (type : ElementType) (fill : List ℕ) (form : List ℕ × BytesRepresentation)
-    → IsMapWhere type arrays sizes → taken_form f (record { arrays = arrays; codec = codec; outer = outer }) sizes type fill ≡ Ok form → checked_u64 (product sizes) ≡ Ok (product sizes)
+    → IsMapWhere type arrays sizes → taken_form f (record { array_to_array = arrays; array_to_bytes = codec; bytes_to_bytes = outer }) sizes type fill ≡ Ok form → checked_u64 (product sizes) ≡ Ok (product sizes)
 chain_counted f arrays codec outer sizes type fill form maps e =
-    let t = is_taken f (record { arrays = arrays; codec = codec; outer = outer }) sizes type fill form e in
+    let t = is_taken f (record { array_to_array = arrays; array_to_bytes = codec; bytes_to_bytes = outer }) sizes type fill form e in
     let m = at_ok (arrays_map type arrays sizes) (λ (m : CoordinateMap). IsCoordinateMap sizes m) t.map_is t.mapped maps in
     subst (λ (k : ℕ). checked_u64 k ≡ Ok k) m.count (codec_counted f codec t.map_is.encoded type fill form.1 t.measured)
 
@@ -161,7 +161,7 @@ pub validity_fits : (type : ElementType) (count : ℕ) (held : Held) → validit
 validity_fits type count held e = both_ok (sizes_fit type count) _ e
 
 pub encoded_so : {B : Type 0} (f : BytesCodecs B) (chain : PlainChain B) (sizes : List ℕ) (type : ElementType) (fill : List ℕ) (held : Held) (encoded : List ℕ) (r : BytesRepresentation) (t : IsTaken f chain sizes type fill encoded r) → validity type (product sizes) held ≡ Ok tt
-    → held_value f chain sizes type fill held ≡ codec_value f chain.codec t.map_is.encoded type fill (moved_chunk t.map_is (elements type (product sizes) held)) >>= (λ below. outer_value f chain.outer below)
+    → held_value f chain sizes type fill held ≡ codec_value f chain.array_to_bytes t.map_is.encoded type fill (moved_chunk t.map_is (elements type (product sizes) held)) >>= (λ below. outer_value f chain.bytes_to_bytes below)
 encoded_so f chain sizes type fill held encoded r t valid =
     let fits = validity_fits type (product sizes) held valid in
     rw (t.mapped, t.measured, valid, fits) refl
@@ -169,25 +169,25 @@ encoded_so f chain sizes type fill held encoded r t valid =
 -- the container that the array codecs make holds the moved chunk
 moved_held : {B : Type 0} (f : BytesCodecs B) (chain : PlainChain B) (sizes : List ℕ) (type : ElementType) (fill : List ℕ) (held : Held) (encoded : List ℕ) (r : BytesRepresentation) (t : IsTaken f chain sizes type fill encoded r)
     → checked_u64 (product sizes) ≡ Ok (product sizes) → validity type (product sizes) held ≡ Ok tt
-    → encoded_chunk (Ok tt) (arrays_map type chain.arrays sizes) type sizes held ≡ Ok (moved_chunk t.map_is (elements type (product sizes) held))
+    → encoded_chunk (Ok tt) (arrays_map type chain.array_to_array sizes) type sizes held ≡ Ok (moved_chunk t.map_is (elements type (product sizes) held))
 moved_held f chain sizes type fill held encoded r t counted valid = rw (t.mapped, counted, valid) refl
 
 -- the value is what the codec to bytes answers of that container, through the bytes codecs
 pub value_through : {B : Type 0} (f : BytesCodecs B) (chain : PlainChain B) (sizes : List ℕ) (type : ElementType) (fill : List ℕ) (form : List ℕ × BytesRepresentation) (held made : Held)
-    → IsMapWhere type chain.arrays sizes → taken_form f chain sizes type fill ≡ Ok form → checked_u64 (product sizes) ≡ Ok (product sizes) → validity type (product sizes) held ≡ Ok tt
-    → IfOk (encoded_chunk (Ok tt) (arrays_map type chain.arrays sizes) type sizes held) (λ chunk. Holds type made chunk)
-    → held_value f chain sizes type fill held ≡ codec_held_value f chain.codec form.0 type fill made >>= (λ below. outer_value f chain.outer below)
+    → IsMapWhere type chain.array_to_array sizes → taken_form f chain sizes type fill ≡ Ok form → checked_u64 (product sizes) ≡ Ok (product sizes) → validity type (product sizes) held ≡ Ok tt
+    → IfOk (encoded_chunk (Ok tt) (arrays_map type chain.array_to_array sizes) type sizes held) (λ chunk. Holds type made chunk)
+    → held_value f chain sizes type fill held ≡ codec_held_value f chain.array_to_bytes form.0 type fill made >>= (λ below. outer_value f chain.bytes_to_bytes below)
 value_through f chain sizes type fill form held made maps e counted valid found =
     let t = is_taken f chain sizes type fill form e in
     let chunk = moved_chunk t.map_is (elements type (product sizes) held) in
-    let holds : Holds type made chunk = at_ok (encoded_chunk (Ok tt) (arrays_map type chain.arrays sizes) type sizes held) (λ (c : Chunk). Holds type made c) chunk (moved_held f chain sizes type fill held form.0 form.1 t counted valid) found in
+    let holds : Holds type made chunk = at_ok (encoded_chunk (Ok tt) (arrays_map type chain.array_to_array sizes) type sizes held) (λ (c : Chunk). Holds type made c) chunk (moved_held f chain sizes type fill held form.0 form.1 t counted valid) found in
     let long : length chunk ≡ product t.map_is.encoded = length-moved t.map_is (elements type (product sizes) held) in
     let made_valid : validity type (product t.map_is.encoded) made ≡ Ok tt = subst (λ (k : ℕ). validity type k made ≡ Ok tt) long holds.valid in
     let made_is : elements type (product t.map_is.encoded) made ≡ chunk = subst (λ (k : ℕ). elements type k made ≡ chunk) long holds.elements_are in
-    let inner : codec_held_value f chain.codec t.map_is.encoded type fill made ≡ codec_value f chain.codec t.map_is.encoded type fill chunk = rw (t.measured, made_valid) (ap (codec_value f chain.codec t.map_is.encoded type fill) made_is) in
+    let inner : codec_held_value f chain.array_to_bytes t.map_is.encoded type fill made ≡ codec_value f chain.array_to_bytes t.map_is.encoded type fill chunk = rw (t.measured, made_valid) (ap (codec_value f chain.array_to_bytes t.map_is.encoded type fill) made_is) in
     encoded_so f chain sizes type fill held form.0 form.1 t valid
-    ∙ ap (λ (r : Result (List ℕ) CodecError). r >>= (λ below. outer_value f chain.outer below)) (sym inner)
-    ∙ ap (λ s. codec_held_value f chain.codec s type fill made >>= (λ below. outer_value f chain.outer below)) t.encoded_is
+    ∙ ap (λ (r : Result (List ℕ) CodecError). r >>= (λ below. outer_value f chain.bytes_to_bytes below)) (sym inner)
+    ∙ ap (λ s. codec_held_value f chain.array_to_bytes s type fill made >>= (λ below. outer_value f chain.bytes_to_bytes below)) t.encoded_is
 
 pub next_err : {A C : Type 0} (r : Result A CodecError) (error : CodecError) (g : A → Result C CodecError) → r ≡ Err error → r >>= g ≡ Err error
 next_err r error g a = rw a refl
@@ -196,32 +196,32 @@ two_ok : {A D C : Type 0} (r : Result A CodecError) (x : A) (s : A → Result D 
 two_ok r x s y g a b = next_answer r x (λ z. s z >>= g) a ∙ next_answer (s x) y g b
 
 pub value_last : {B X : Type 0} (view : X → List ℕ) (result : Result X CodecError) (f : BytesCodecs B) (chain : PlainChain B) (sizes : List ℕ) (type : ElementType) (fill : List ℕ) (form : List ℕ × BytesRepresentation) (held made : Held) (below : List ℕ)
-    → IsMapWhere type chain.arrays sizes → taken_form f chain sizes type fill ≡ Ok form → checked_u64 (product sizes) ≡ Ok (product sizes) → validity type (product sizes) held ≡ Ok tt
-    → IfOk (encoded_chunk (Ok tt) (arrays_map type chain.arrays sizes) type sizes held) (λ chunk. Holds type made chunk)
-    → codec_held_value f chain.codec form.0 type fill made ≡ Ok below
-    → Answers memory view result (outer_value f chain.outer below) → Answers memory view result (held_value f chain sizes type fill held)
+    → IsMapWhere type chain.array_to_array sizes → taken_form f chain sizes type fill ≡ Ok form → checked_u64 (product sizes) ≡ Ok (product sizes) → validity type (product sizes) held ≡ Ok tt
+    → IfOk (encoded_chunk (Ok tt) (arrays_map type chain.array_to_array sizes) type sizes held) (λ chunk. Holds type made chunk)
+    → codec_held_value f chain.array_to_bytes form.0 type fill made ≡ Ok below
+    → Answers memory view result (outer_value f chain.bytes_to_bytes below) → Answers memory view result (held_value f chain sizes type fill held)
 value_last view result f chain sizes type fill form held made below maps e counted valid found inner h =
-    let is : held_value f chain sizes type fill held ≡ outer_value f chain.outer below = value_through f chain sizes type fill form held made maps e counted valid found ∙ next_answer (codec_held_value f chain.codec form.0 type fill made) below (λ b. outer_value f chain.outer b) inner in
+    let is : held_value f chain sizes type fill held ≡ outer_value f chain.bytes_to_bytes below = value_through f chain sizes type fill form held made maps e counted valid found ∙ next_answer (codec_held_value f chain.array_to_bytes form.0 type fill made) below (λ b. outer_value f chain.bytes_to_bytes b) inner in
     subst (λ (x : Result (List ℕ) CodecError). Answers memory view result x) (sym is) h
 
 pub value_refused : {B : Type 0} (f : BytesCodecs B) (chain : PlainChain B) (sizes : List ℕ) (type : ElementType) (fill : List ℕ) (form : List ℕ × BytesRepresentation) (held made : Held) (error : CodecError)
-    → IsMapWhere type chain.arrays sizes → taken_form f chain sizes type fill ≡ Ok form → checked_u64 (product sizes) ≡ Ok (product sizes) → validity type (product sizes) held ≡ Ok tt
-    → IfOk (encoded_chunk (Ok tt) (arrays_map type chain.arrays sizes) type sizes held) (λ chunk. Holds type made chunk)
-    → (memory error ≡ false → codec_held_value f chain.codec form.0 type fill made ≡ Err error)
+    → IsMapWhere type chain.array_to_array sizes → taken_form f chain sizes type fill ≡ Ok form → checked_u64 (product sizes) ≡ Ok (product sizes) → validity type (product sizes) held ≡ Ok tt
+    → IfOk (encoded_chunk (Ok tt) (arrays_map type chain.array_to_array sizes) type sizes held) (λ chunk. Holds type made chunk)
+    → (memory error ≡ false → codec_held_value f chain.array_to_bytes form.0 type fill made ≡ Err error)
     → memory error ≡ false → held_value f chain sizes type fill held ≡ Err error
 value_refused f chain sizes type fill form held made error maps e counted valid found inner ne =
-    value_through f chain sizes type fill form held made maps e counted valid found ∙ next_err (codec_held_value f chain.codec form.0 type fill made) error (λ b. outer_value f chain.outer b) (inner ne)
+    value_through f chain sizes type fill form held made maps e counted valid found ∙ next_err (codec_held_value f chain.array_to_bytes form.0 type fill made) error (λ b. outer_value f chain.bytes_to_bytes b) (inner ne)
 
 -- ---- decoding
 
 -- the chunk is what the array codecs make of what the codec to bytes reads
 pub chunk_through : {B : Type 0} (f : BytesCodecs B) (chain : PlainChain B) (sizes : List ℕ) (type : ElementType) (fill : List ℕ) (form : List ℕ × BytesRepresentation) (value : List ℕ)
     → (e : taken_form f chain sizes type fill ≡ Ok form)
-    → chain_chunk f chain sizes type fill value ≡ outer_bytes f chain.outer form.1 value >>= (λ below. codec_chunk f chain.codec form.0 type fill below >>= (λ chunk. Ok (moved_chunk (inverse_map sizes (is_taken f chain sizes type fill form e).map_is) chunk)))
+    → chain_chunk f chain sizes type fill value ≡ outer_bytes f chain.bytes_to_bytes form.1 value >>= (λ below. codec_chunk f chain.array_to_bytes form.0 type fill below >>= (λ chunk. Ok (moved_chunk (inverse_map sizes (is_taken f chain sizes type fill form e).map_is) chunk)))
 chunk_through f chain sizes type fill form value e =
     let t = is_taken f chain sizes type fill form e in
-    let whole : chain_chunk f chain sizes type fill value ≡ outer_bytes f chain.outer form.1 value >>= (λ below. codec_chunk f chain.codec t.map_is.encoded type fill below >>= (λ chunk. Ok (moved_chunk (inverse_map sizes t.map_is) chunk))) = rw (t.mapped, t.measured) refl in
-    whole ∙ ap (λ s. outer_bytes f chain.outer form.1 value >>= (λ below. codec_chunk f chain.codec s type fill below >>= (λ chunk. Ok (moved_chunk (inverse_map sizes t.map_is) chunk)))) t.encoded_is
+    let whole : chain_chunk f chain sizes type fill value ≡ outer_bytes f chain.bytes_to_bytes form.1 value >>= (λ below. codec_chunk f chain.array_to_bytes t.map_is.encoded type fill below >>= (λ chunk. Ok (moved_chunk (inverse_map sizes t.map_is) chunk))) = rw (t.mapped, t.measured) refl in
+    whole ∙ ap (λ s. outer_bytes f chain.bytes_to_bytes form.1 value >>= (λ below. codec_chunk f chain.array_to_bytes s type fill below >>= (λ chunk. Ok (moved_chunk (inverse_map sizes t.map_is) chunk)))) t.encoded_is
 
 flags_long : (chunk : Chunk) (flags : List Bool) → flags_in chunk ≡ ok flags → length flags ≡ length chunk
 flags_long [] flags e = ap length (sym (ok_is [] flags e))
@@ -273,7 +273,7 @@ chunk_count f (optional_codec ma mx mb da dx db) sizes bytes fill value chunk e 
 -- the container of the chunk that the codec to bytes reads is one that the array codecs move back
 moved_back_held : {B : Type 0} (f : BytesCodecs B) (chain : PlainChain B) (sizes : List ℕ) (type : ElementType) (fill : List ℕ) (held : Held) (chunk : Chunk) (encoded : List ℕ) (r : BytesRepresentation) (t : IsTaken f chain sizes type fill encoded r)
     → checked_u64 (product sizes) ≡ Ok (product sizes) → length chunk ≡ product sizes → Holds type held chunk
-    → decoded_chunk (Ok tt) (arrays_map type chain.arrays sizes) type sizes held ≡ Ok (moved_chunk (inverse_map sizes t.map_is) chunk)
+    → decoded_chunk (Ok tt) (arrays_map type chain.array_to_array sizes) type sizes held ≡ Ok (moved_chunk (inverse_map sizes t.map_is) chunk)
 moved_back_held f chain sizes type fill held chunk encoded r t counted long holds =
     let valid : validity type (product sizes) held ≡ Ok tt = subst (λ (k : ℕ). validity type k held ≡ Ok tt) long holds.valid in
     let is : elements type (product sizes) held ≡ chunk = subst (λ (k : ℕ). elements type k held ≡ chunk) long holds.elements_are in
@@ -284,13 +284,13 @@ held_chunk type held (Ok chunk) h = (chunk, refl, h)
 held_chunk type held (Err error) h = absurd h
 
 pub chunk_back : {B : Type 0} (f : BytesCodecs B) (arrays : List ArrayMapping) (codec : PlainCodec B) (outer : List B) (sizes : List ℕ) (type : ElementType) (fill : List ℕ) (form : List ℕ × BytesRepresentation) (value below : List ℕ) (held : Held) (r : Result Held CodecError)
-    → IsMapWhere type arrays sizes → taken_form f (record { arrays = arrays; codec = codec; outer = outer }) sizes type fill ≡ Ok form
+    → IsMapWhere type arrays sizes → taken_form f (record { array_to_array = arrays; array_to_bytes = codec; bytes_to_bytes = outer }) sizes type fill ≡ Ok form
     → outer_bytes f outer form.1 value ≡ Ok below
     → AnswersBy memory (Holds type) (Ok held) (codec_chunk f codec form.0 type fill below)
     → IfOk (decoded_chunk (Ok tt) (arrays_map type arrays sizes) type sizes held) (λ chunk. AnswersBy memory (Holds type) r (Ok chunk))
-    → AnswersBy memory (Holds type) r (chain_chunk f (record { arrays = arrays; codec = codec; outer = outer }) sizes type fill value)
+    → AnswersBy memory (Holds type) r (chain_chunk f (record { array_to_array = arrays; array_to_bytes = codec; bytes_to_bytes = outer }) sizes type fill value)
 chunk_back {B} f arrays codec outer sizes type fill form value below held r maps e opened answers found =
-    let chain : PlainChain B = record { arrays = arrays; codec = codec; outer = outer } in
+    let chain : PlainChain B = record { array_to_array = arrays; array_to_bytes = codec; bytes_to_bytes = outer } in
     let t = is_taken f chain sizes type fill form e in
     let m = at_ok (arrays_map type arrays sizes) (λ (m : CoordinateMap). IsCoordinateMap sizes m) t.map_is t.mapped maps in
     let c = held_chunk type held (codec_chunk f codec form.0 type fill below) answers in

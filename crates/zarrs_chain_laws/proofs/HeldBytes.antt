@@ -66,4 +66,4 @@ pub chain_again : {B : Type 0} (f : BytesCodecs B) (chain : PlainChain B) (sizes
     → ChainWritten f chain sizes type fill value chunk → IsOk (chain_chunk f chain sizes type fill value)
 chain_again f chain sizes type fill value held chunk lawful is positive small holds written =
     let stands = chain_stands f chain lawful is sizes type fill value chunk positive (chunk_bytes type held chunk small holds) written in
-    subst IsOk (sym (chain_chunk_only f chain is sizes type fill value (normal_form chain.codec type chunk) positive stands)) refl
+    subst IsOk (sym (chain_chunk_only f chain is sizes type fill value (normal_form chain.array_to_bytes type chunk) positive stands)) refl

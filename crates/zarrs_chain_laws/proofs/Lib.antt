@@ -25,5 +25,6 @@ pub mod ChainRelations
 pub mod OptionalSteps
 pub mod MetadataDepth
 pub mod MadeAlike
+pub mod MadeMappings
 pub mod MadeAgain
 pub mod PlainForms

@@ -107,28 +107,28 @@ outer-again inside described makes codec h =
 -- ---- a list
 
 arrays-gathered : {B : Type 0} (inside : List Metadata → Result (PlainChain B) PluginCreateError) (makes : Metadata → Result (Option B) PluginCreateError) (arrays : List ArrayMapping) (rest : List Metadata) (done : List ArrayMapping) → All IsMapping arrays
-    → gathered inside makes (map mapping_metadata arrays ++ rest) (record { arrays = done; codec = None; outer = [] }) ≡ gathered inside makes rest (record { arrays = done ++ arrays; codec = None; outer = [] })
-arrays-gathered inside makes [] rest done h = ap (λ xs. gathered inside makes rest (record { arrays = xs; codec = None; outer = [] })) (sym (append-nil done))
+    → gathered inside makes (map mapping_metadata arrays ++ rest) (record { array_to_array = done; array_to_bytes = None; bytes_to_bytes = [] }) ≡ gathered inside makes rest (record { array_to_array = done ++ arrays; array_to_bytes = None; bytes_to_bytes = [] })
+arrays-gathered inside makes [] rest done h = ap (λ xs. gathered inside makes rest (record { array_to_array = xs; array_to_bytes = None; bytes_to_bytes = [] })) (sym (append-nil done))
 arrays-gathered inside makes (a ∷ others) rest done h =
-    ap (λ r. joined r true (record { arrays = done; codec = None; outer = [] }) >>= gathered inside makes (map mapping_metadata others ++ rest)) (array-again inside makes a (All-head IsMapping a others h))
+    ap (λ r. joined r true (record { array_to_array = done; array_to_bytes = None; bytes_to_bytes = [] }) >>= gathered inside makes (map mapping_metadata others ++ rest)) (array-again inside makes a (All-head IsMapping a others h))
     ∙ arrays-gathered inside makes others rest (done ++ a ∷ []) (All-tail IsMapping a others h)
-    ∙ ap (λ xs. gathered inside makes rest (record { arrays = xs; codec = None; outer = [] })) (append_assoc done (a ∷ []) others)
+    ∙ ap (λ xs. gathered inside makes rest (record { array_to_array = xs; array_to_bytes = None; bytes_to_bytes = [] })) (append_assoc done (a ∷ []) others)
 
 outer-gathered : {B : Type 0} (inside : List Metadata → Result (PlainChain B) PluginCreateError) (described : B → Metadata) (makes : Metadata → Result (Option B) PluginCreateError) (outer : List B) (arrays : List ArrayMapping) (codec : PlainCodec B) (done : List B) → All (IsMadeAgain described makes) outer
-    → gathered inside makes (map described outer) (record { arrays = arrays; codec = Some codec; outer = done }) ≡ Ok (record { arrays = arrays; codec = Some codec; outer = done ++ outer })
-outer-gathered inside described makes [] arrays codec done h = ap (λ (xs : List _). Ok (record { arrays = arrays; codec = Some codec; outer = xs })) (sym (append-nil done))
+    → gathered inside makes (map described outer) (record { array_to_array = arrays; array_to_bytes = Some codec; bytes_to_bytes = done }) ≡ Ok (record { array_to_array = arrays; array_to_bytes = Some codec; bytes_to_bytes = done ++ outer })
+outer-gathered inside described makes [] arrays codec done h = ap (λ (xs : List _). Ok (record { array_to_array = arrays; array_to_bytes = Some codec; bytes_to_bytes = xs })) (sym (append-nil done))
 outer-gathered inside described makes (b ∷ bs) arrays codec done h =
-    ap (λ r. joined r (described b).must_understand (record { arrays = arrays; codec = Some codec; outer = done }) >>= gathered inside makes (map described bs)) (outer-again inside described makes b (All-head (IsMadeAgain described makes) b bs h))
+    ap (λ r. joined r (described b).must_understand (record { array_to_array = arrays; array_to_bytes = Some codec; bytes_to_bytes = done }) >>= gathered inside makes (map described bs)) (outer-again inside described makes b (All-head (IsMadeAgain described makes) b bs h))
     ∙ outer-gathered inside described makes bs arrays codec (done ++ b ∷ []) (All-tail (IsMadeAgain described makes) b bs h)
-    ∙ ap (λ xs. Ok (record { arrays = arrays; codec = Some codec; outer = xs })) (append_assoc done (b ∷ []) bs)
+    ∙ ap (λ xs. Ok (record { array_to_array = arrays; array_to_bytes = Some codec; bytes_to_bytes = xs })) (append_assoc done (b ∷ []) bs)
 
 list-again : {B : Type 0} (described : B → Metadata) (makes : Metadata → Result (Option B) PluginCreateError) (arrays : List ArrayMapping) (codec : PlainCodec B) (outer : List B) → All IsMapping arrays
     → codec_made (chain_made makes) makes (to_bytes_metadata described codec) ≡ Ok (to_bytes_made codec) → All (IsMadeAgain described makes) outer
-    → chain_made makes (listed described arrays (to_bytes_metadata described codec) outer) ≡ Ok (record { arrays = arrays; codec = codec; outer = outer })
+    → chain_made makes (listed described arrays (to_bytes_metadata described codec) outer) ≡ Ok (record { array_to_array = arrays; array_to_bytes = codec; bytes_to_bytes = outer })
 list-again described makes arrays codec outer h made l =
     chain_made_at makes (listed described arrays (to_bytes_metadata described codec) outer)
     ∙ ap (λ r. r >>= finished) (arrays-gathered (chain_made makes) makes arrays (to_bytes_metadata described codec ∷ map described outer) [] h
-    ∙ ap (λ r. joined r true (record { arrays = arrays; codec = None; outer = [] }) >>= gathered (chain_made makes) makes (map described outer)) made
+    ∙ ap (λ r. joined r true (record { array_to_array = arrays; array_to_bytes = None; bytes_to_bytes = [] }) >>= gathered (chain_made makes) makes (map described outer)) made
     ∙ outer-gathered (chain_made makes) described makes outer arrays codec [] l)
 
 -- ---- codecs with chains inside
@@ -153,7 +153,7 @@ codec-again described makes (vlen_codec ia ix ib da dx db wide at_end) h =
     (clean-list described makes ia (to_bytes_metadata described ix) ib h.0.0 (clean-codec described makes ix h.0.1) h.0.2)
     (clean-list described makes da (to_bytes_metadata described dx) db h.1.0 (clean-codec described makes dx h.1.1) h.1.2))
     ∙ ap (λ r. seen to_bytes_made (r >>= (λ i. chain_made makes parts.data_codecs >>= (λ c. Ok (vlen_codec_of i c (is_wide (offset_type_of wide)) (is_at_end (index_place at_end))))))) index
-    ∙ ap (λ r. seen to_bytes_made (r >>= (λ c. Ok (vlen_codec_of (record { arrays = ia; codec = ix; outer = ib }) c (is_wide (offset_type_of wide)) (is_at_end (index_place at_end)))))) content
+    ∙ ap (λ r. seen to_bytes_made (r >>= (λ c. Ok (vlen_codec_of (record { array_to_array = ia; array_to_bytes = ix; bytes_to_bytes = ib }) c (is_wide (offset_type_of wide)) (is_at_end (index_place at_end)))))) content
     ∙ ap (λ w. Ok (to_bytes_made (vlen_codec ia ix ib da dx db w (is_at_end (index_place at_end))))) (wide-again wide)
     ∙ ap (λ e. Ok (to_bytes_made (vlen_codec ia ix ib da dx db wide e))) (at_end-again at_end)
 codec-again described makes (optional_codec ma mx mb da dx db) h =
@@ -164,11 +164,11 @@ codec-again described makes (optional_codec ma mx mb da dx db) h =
     (clean-list described makes ma (to_bytes_metadata described mx) mb h.0.0 (clean-codec described makes mx h.0.1) h.0.2)
     (clean-list described makes da (to_bytes_metadata described dx) db h.1.0 (clean-codec described makes dx h.1.1) h.1.2))
     ∙ ap (λ r. seen to_bytes_made (r >>= (λ m. chain_made makes chains.data_codecs >>= (λ c. Ok (optional_codec_of m c))))) mask
-    ∙ ap (λ r. seen to_bytes_made (r >>= (λ c. Ok (optional_codec_of (record { arrays = ma; codec = mx; outer = mb }) c)))) content
+    ∙ ap (λ r. seen to_bytes_made (r >>= (λ c. Ok (optional_codec_of (record { array_to_array = ma; array_to_bytes = mx; bytes_to_bytes = mb }) c)))) content
 
 pub chains_made_again : {B : Type 0} → ChainsAreMadeAgain B
 chains_made_again described makes chain h =
-    list-again described makes chain.arrays chain.codec chain.outer h.arrays (codec-again described makes chain.codec h.codec) h.outer
+    list-again described makes chain.array_to_array chain.array_to_bytes chain.bytes_to_bytes h.array_to_array (codec-again described makes chain.array_to_bytes h.array_to_bytes) h.bytes_to_bytes
 
 -- ---- the list that is written of a chain
 
@@ -187,10 +187,10 @@ metadatas_in view (Err e) = []
 
 -- the list that a call answers as what is written of a chain makes the chain again
 pub list_makes_again : {A B : Type 0} (excuse : PluginCreateError → Bool) (view : A → List Metadata) (result : Result A PluginCreateError) (described : B → Metadata) (chain : PlainChain B)
-    → Answers excuse view result (Ok (chain_metadatas described chain)) → IsChainOfMappings chain → HasRanges chain.codec
+    → Answers excuse view result (Ok (chain_metadatas described chain)) → IsChainOfMappings chain → HasRanges chain.array_to_bytes
     → IfOk result (λ list. (makes : Metadata → Result (Option B) PluginCreateError) → HasBytesCodecs (IsMadeAgain described makes) chain → chain_made makes (view list) ≡ Ok chain)
 unfolding metadatas_in
 list_makes_again excuse view (Ok list) described chain answer m r = λ makes o.
     ap (λ x. chain_made makes (metadatas_in (λ l. l) x)) (sym answer)
-    ∙ chains_made_again described makes chain (record { arrays = m.mappings; codec = codecs-held (IsMadeAgain described makes) chain.codec m.inner_mappings r o.inside; outer = o.outer })
+    ∙ chains_made_again described makes chain (record { array_to_array = m.mappings; array_to_bytes = codecs-held (IsMadeAgain described makes) chain.array_to_bytes m.inner_mappings r o.inside; bytes_to_bytes = o.bytes_to_bytes })
 list_makes_again excuse view (Err e) described chain answer m r = tt

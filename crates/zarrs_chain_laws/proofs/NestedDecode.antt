@@ -165,4 +165,4 @@ chunk_only f (optional_codec ma mx mb da dx db) has sizes type fill value chunk 
 
 -- and what the chain answers
 pub chain_chunk_only : {B : Type 0} (f : BytesCodecs B) (chain : PlainChain B) → IsChainOfMappings chain → Decodes (ChainStands f chain) (chain_chunk f chain)
-chain_chunk_only f chain is = through_only f chain.arrays (codec_representation f chain.codec) (CodecStands f chain.codec) (codec_chunk f chain.codec) chain.outer is.mappings (chunk_only f chain.codec is.inner_mappings)
+chain_chunk_only f chain is = through_only f chain.array_to_array (codec_representation f chain.array_to_bytes) (CodecStands f chain.array_to_bytes) (codec_chunk f chain.array_to_bytes) chain.bytes_to_bytes is.mappings (chunk_only f chain.array_to_bytes is.inner_mappings)

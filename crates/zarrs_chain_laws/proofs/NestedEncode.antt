@@ -96,4 +96,4 @@ value_only f (optional_codec ma mx mb da dx db) sizes type fill value chunk w =
 
 -- and what the chain answers
 pub chain_value_only : {B : Type 0} (f : BytesCodecs B) (chain : PlainChain B) → Encodes (ChainWritten f chain) (chain_value f chain)
-chain_value_only f chain = through_only f chain.arrays (codec_representation f chain.codec) (CodecWritten f chain.codec) (codec_value f chain.codec) chain.outer (value_only f chain.codec)
+chain_value_only f chain = through_only f chain.array_to_array (codec_representation f chain.array_to_bytes) (CodecWritten f chain.array_to_bytes) (codec_value f chain.array_to_bytes) chain.bytes_to_bytes (value_only f chain.array_to_bytes)

@@ -275,13 +275,13 @@ kept_codec f (vlen_codec ia ix ib da dx db wide at_end) sizes type fill value ch
 kept_codec f (optional_codec ma mx mb da dx db) sizes type fill value chunk places each w =
     kept_optional _ _ (normal_element dx) (kept_through f da (codec_representation f dx) (CodecWritten f dx) db dx (kept_codec f dx)) sizes type value chunk places each w
 
-pub normal_as_written : {B : Type 0} (f : BytesCodecs B) (chain : PlainChain B) → WrittenKept (ChainWritten f chain) (normal_element chain.codec)
-normal_as_written f chain = through_kept f chain.arrays (codec_representation f chain.codec) (CodecWritten f chain.codec) chain.outer chain.codec (codec_kept f chain.codec)
+pub normal_as_written : {B : Type 0} (f : BytesCodecs B) (chain : PlainChain B) → WrittenKept (ChainWritten f chain) (normal_element chain.array_to_bytes)
+normal_as_written f chain = through_kept f chain.array_to_array (codec_representation f chain.array_to_bytes) (CodecWritten f chain.array_to_bytes) chain.bytes_to_bytes chain.array_to_bytes (codec_kept f chain.array_to_bytes)
 
 -- what is written for a chunk of the sizes and the type is what is written for its normal form
 pub written_for_normal : {B : Type 0} (f : BytesCodecs B) (chain : PlainChain B) (sizes : List ℕ) (type : ElementType) (fill value : List ℕ) (chunk : Chunk) → IsChunk type (product sizes) chunk
-    → ChainWritten f chain sizes type fill value chunk ↔ ChainWritten f chain sizes type fill value (normal_form chain.codec type chunk)
+    → ChainWritten f chain sizes type fill value chunk ↔ ChainWritten f chain sizes type fill value (normal_form chain.array_to_bytes type chunk)
 written_for_normal f chain sizes type fill value chunk is = (
   λ w. normal_as_written f chain sizes type fill value chunk w,
-  λ w. kept_through f chain.arrays (codec_representation f chain.codec) (CodecWritten f chain.codec) chain.outer chain.codec (kept_codec f chain.codec) sizes type fill value chunk is w,
+  λ w. kept_through f chain.array_to_array (codec_representation f chain.array_to_bytes) (CodecWritten f chain.array_to_bytes) chain.bytes_to_bytes chain.array_to_bytes (kept_codec f chain.array_to_bytes) sizes type fill value chunk is w,
 )

@@ -229,4 +229,4 @@ value_found f (optional_codec ma mx mb da dx db) has sizes bytes fill value chun
 
 -- and so is what a chain answers
 pub chain_value_found : {B : Type 0} (f : BytesCodecs B) (chain : PlainChain B) → IsChainOfMappings chain → Founds (ChainWritten f chain) (chain_value f chain)
-chain_value_found f chain is = through_found f chain.arrays (codec_representation f chain.codec) (CodecWritten f chain.codec) (codec_value f chain.codec) chain.outer is.mappings (value_found f chain.codec is.inner_mappings)
+chain_value_found f chain is = through_found f chain.array_to_array (codec_representation f chain.array_to_bytes) (CodecWritten f chain.array_to_bytes) (codec_value f chain.array_to_bytes) chain.bytes_to_bytes is.mappings (value_found f chain.array_to_bytes is.inner_mappings)

@@ -263,5 +263,5 @@ codec_keeps f lawful (optional_codec ma mx mb da dx db) has sizes type fill valu
 pub chain_keeps : {B : Type 0} (f : BytesCodecs B) (chain : PlainChain B) (sizes : List ℕ) (type : ElementType) (fill value : List ℕ) (chunk : Chunk) (r : BytesRepresentation) → IsLawful f → IsChainOfMappings chain → All HasBytes chunk → All (λ size. 0 < size) sizes
     → ChainWritten f chain sizes type fill value chunk → chain_representation f chain sizes type fill ≡ Ok r → KeepsTo r value
 chain_keeps f chain sizes type fill value chunk r lawful is each positive w e =
-    let measured = through_measured f lawful chain.arrays (codec_representation f chain.codec) (CodecWritten f chain.codec) chain.outer is.mappings (codec_keeps f lawful chain.codec is.inner_mappings) sizes type fill value chunk positive each w in
+    let measured = through_measured f lawful chain.array_to_array (codec_representation f chain.array_to_bytes) (CodecWritten f chain.array_to_bytes) chain.bytes_to_bytes is.mappings (codec_keeps f lawful chain.array_to_bytes is.inner_mappings) sizes type fill value chunk positive each w in
     subst (λ (s : BytesRepresentation). KeepsTo s value) (ok_is measured.size r (sym measured.measured ∙ e)) measured.kept.keeps

@@ -200,4 +200,4 @@ chunk_read f (optional_codec ma mx mb da dx db) has sizes bytes fill value chunk
 pub chain_read_found : {B : Type 0} (f : BytesCodecs B) (chain : PlainChain B) → IsChainOfMappings chain → (sizes : List ℕ) (type : ElementType) (fill value : List ℕ) (chunk : Chunk)
     → All (λ size. 0 < size) sizes → chain_chunk f chain sizes type fill value ≡ Ok chunk → ChainStands f chain sizes type fill value chunk
 chain_read_found f chain is sizes type fill value chunk positive e =
-    (through_read f chain.arrays (codec_representation f chain.codec) (CodecStands f chain.codec) (codec_chunk f chain.codec) chain.outer is.mappings (chunk_read f chain.codec is.inner_mappings) sizes type fill value chunk positive e).0
+    (through_read f chain.array_to_array (codec_representation f chain.array_to_bytes) (CodecStands f chain.array_to_bytes) (codec_chunk f chain.array_to_bytes) chain.bytes_to_bytes is.mappings (chunk_read f chain.array_to_bytes is.inner_mappings) sizes type fill value chunk positive e).0

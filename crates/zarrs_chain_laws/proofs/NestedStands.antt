@@ -154,4 +154,4 @@ codec_one f (optional_codec ma mx mb da dx db) has sizes type fill value chunk o
 
 -- a value stands for at most one chunk
 pub chain_one : {B : Type 0} (f : BytesCodecs B) (chain : PlainChain B) → IsChainOfMappings chain → StandsOnce (ChainStands f chain)
-chain_one f chain is = through_once f chain.arrays (codec_representation f chain.codec) (CodecStands f chain.codec) chain.outer is.mappings (codec_one f chain.codec is.inner_mappings)
+chain_one f chain is = through_once f chain.array_to_array (codec_representation f chain.array_to_bytes) (CodecStands f chain.array_to_bytes) chain.bytes_to_bytes is.mappings (codec_one f chain.array_to_bytes is.inner_mappings)

@@ -79,4 +79,4 @@ codec_once f (optional_codec ma mx mb da dx db) sizes type fill value other chun
 
 -- for a chunk at most one value is written
 pub chain_once : {B : Type 0} (f : BytesCodecs B) (chain : PlainChain B) → WritesOnce (ChainWritten f chain)
-chain_once f chain = through_once f chain.arrays (codec_representation f chain.codec) (CodecWritten f chain.codec) chain.outer (codec_once f chain.codec)
+chain_once f chain = through_once f chain.array_to_array (codec_representation f chain.array_to_bytes) (CodecWritten f chain.array_to_bytes) chain.bytes_to_bytes (codec_once f chain.array_to_bytes)

@@ -202,15 +202,15 @@ codec_stands f lawful (optional_codec ma mx mb da dx db) has sizes type fill val
     sizes type value chunk positive each h w
 
 -- what is written for a chunk stands for its normal form
-pub chain_stands : {B : Type 0} (f : BytesCodecs B) (chain : PlainChain B) → IsLawful f → IsChainOfMappings chain → StandsKept (ChainWritten f chain) (ChainStands f chain) (normal_element chain.codec)
-chain_stands f chain lawful is = inner_stands f lawful chain.arrays chain.codec chain.outer is.mappings is.inner_mappings (codec_stands f lawful chain.codec is.inner_mappings)
+pub chain_stands : {B : Type 0} (f : BytesCodecs B) (chain : PlainChain B) → IsLawful f → IsChainOfMappings chain → StandsKept (ChainWritten f chain) (ChainStands f chain) (normal_element chain.array_to_bytes)
+chain_stands f chain lawful is = inner_stands f lawful chain.array_to_array chain.array_to_bytes chain.bytes_to_bytes is.mappings is.inner_mappings (codec_stands f lawful chain.array_to_bytes is.inner_mappings)
 
 -- two chunks are written alike exactly if their normal forms are equal
 pub chain_alike : {B : Type 0} (f : BytesCodecs B) (chain : PlainChain B) (sizes : List ℕ) (type : ElementType) (fill value other_value : List ℕ) (chunk other : Chunk) → IsLawful f → IsChainOfMappings chain → All HasBytes chunk → All HasBytes other → All (λ size. 0 < size) sizes
-    → ChainWritten f chain sizes type fill value chunk → ChainWritten f chain sizes type fill other_value other → (value ≡ other_value) ↔ (normal_form chain.codec type chunk ≡ normal_form chain.codec type other)
+    → ChainWritten f chain sizes type fill value chunk → ChainWritten f chain sizes type fill other_value other → (value ≡ other_value) ↔ (normal_form chain.array_to_bytes type chunk ≡ normal_form chain.array_to_bytes type other)
 chain_alike f chain sizes type fill value other_value chunk other lawful is each also positive a b =
-    let first = normal_form chain.codec type chunk in
-    let second = normal_form chain.codec type other in (
+    let first = normal_form chain.array_to_bytes type chunk in
+    let second = normal_form chain.array_to_bytes type other in (
       λ e. chain_one f chain is sizes type fill value first second positive (chain_stands f chain lawful is sizes type fill value chunk positive each a) (subst (λ v. ChainStands f chain sizes type fill v second) (sym e) (chain_stands f chain lawful is sizes type fill other_value other positive also b)),
       λ e. chain_once f chain sizes type fill value other_value first (normal_as_written f chain sizes type fill value chunk a) (subst (ChainWritten f chain sizes type fill other_value) (sym e) (normal_as_written f chain sizes type fill other_value other b)),
     )

@@ -236,10 +236,10 @@ chunk_answers result f mask content sizes type inner fill value mask_part data_p
 -- as many elements as the sizes say
 pub chunk_long : {B : Type 0} (f : BytesCodecs B) (chain : PlainChain B) (sizes : List ℕ) (type : ElementType) (fill value : List ℕ) (chunk : Chunk) → chain_chunk f chain sizes type fill value ≡ Ok chunk → length chunk ≡ product sizes
 chunk_long f chain sizes type fill value chunk e =
-    let m = bind_ok (arrays_map type chain.arrays sizes) _ chunk e in
-    let r = bind_ok (codec_representation f chain.codec m.0.encoded type fill) _ chunk m.2 in
-    let below = bind_ok (outer_bytes f chain.outer r.0 value) _ chunk r.2 in
-    let c = bind_ok (codec_chunk f chain.codec m.0.encoded type fill below.0) _ chunk below.2 in
+    let m = bind_ok (arrays_map type chain.array_to_array sizes) _ chunk e in
+    let r = bind_ok (codec_representation f chain.array_to_bytes m.0.encoded type fill) _ chunk m.2 in
+    let below = bind_ok (outer_bytes f chain.bytes_to_bytes r.0 value) _ chunk r.2 in
+    let c = bind_ok (codec_chunk f chain.array_to_bytes m.0.encoded type fill below.0) _ chunk below.2 in
     ap (λ (x : Chunk). length x) (sym (ok_is (moved_chunk (inverse_map sizes m.0) c.0) chunk c.2)) ∙ length-moved (inverse_map sizes m.0) c.0
 
 pub part_long : {B : Type 0} (f : BytesCodecs B) (chain : PlainChain B) (type : ElementType) (fill : List ℕ) (count : ℕ) (part : List ℕ) (chunk : Chunk) → part_chunk (chain_chunk f chain) type fill count part ≡ Ok chunk → length chunk ≡ count

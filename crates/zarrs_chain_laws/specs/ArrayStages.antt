@@ -30,12 +30,20 @@ arrays_map type (codec ∷ codecs) sizes = do
 abbrev pub IsMapWhere : ElementType → List ArrayMapping → List ℕ → Type 0
 IsMapWhere type codecs sizes = IfOk (arrays_map type codecs sizes) (λ m. IsCoordinateMap sizes m)
 
+-- what the given codecs do to chunks of this type and these sizes, or the first cause of a refusal
+abbrev pub map_through : ElementType → List ArrayToArrayCodec → List ℕ → Result CoordinateMap CodecError
+map_through type codecs sizes = arrays_map type (map mapping_of codecs) sizes
+
+-- what the given codecs do is a coordinate map, where they take such chunks
+abbrev pub IsMapThrough : ElementType → List ArrayToArrayCodec → List ℕ → Type 0
+IsMapThrough type codecs sizes = IsMapWhere type (map mapping_of codecs) sizes
+
 -- the container of the chunk that the codecs make of the held one, where they take it
 abbrev pub EncodesThrough : ElementType → List ArrayToArrayCodec → List ℕ → Held → Result Held CodecError → Type 0
 EncodesThrough type codecs sizes held result =
-    IfOk (encoded_chunk (Ok tt) (arrays_map type (map mapping_of codecs) sizes) type sizes held) (λ moved. AnswersBy memory (Holds type) result (Ok moved))
+    IfOk (encoded_chunk (Ok tt) (map_through type codecs sizes) type sizes held) (λ moved. AnswersBy memory (Holds type) result (Ok moved))
 
 -- and of the chunk that they make the held one of
 abbrev pub DecodesThrough : ElementType → List ArrayToArrayCodec → List ℕ → Held → Result Held CodecError → Type 0
 DecodesThrough type codecs sizes held result =
-    IfOk (decoded_chunk (Ok tt) (arrays_map type (map mapping_of codecs) sizes) type sizes held) (λ moved. AnswersBy memory (Holds type) result (Ok moved))
+    IfOk (decoded_chunk (Ok tt) (map_through type codecs sizes) type sizes held) (λ moved. AnswersBy memory (Holds type) result (Ok moved))

@@ -2,7 +2,7 @@
 use Rattle.std.specs.Prelude.{ℕ, List, Result, IsOk}
 use Rattle.std.proofs.Common.{Global}
 use Rattle.std.specs.declared.borrow.CowSlice.{CowSlice}
-use Rattle.zarrs_chunk.specs.Answer.{Gives, GivesBy}
+use Rattle.zarrs_chunk.specs.Answer.{Gives, GivesBy, GivesValue}
 use Rattle.zarrs_chunk.specs.declared.codec_error.CodecError.{CodecError}
 use Rattle.zarrs_data_type.specs.Form.{Form}
 use Rattle.zarrs_array_bytes.specs.Held.{Held, items_of}
@@ -25,12 +25,12 @@ codec_represented f codec form = codec_representation f codec form.sizes form.ty
 
 -- this is given
 abbrev pub GivesRepresentation : {B : Type 0} → BytesCodecs B → PlainCodec B → Form → Result BytesRepresentation CodecError → Type 0
-GivesRepresentation f codec form result = Gives (λ representation. representation) result (codec_represented f codec form)
+GivesRepresentation f codec form result = GivesValue result (codec_represented f codec form)
 
 -- and of a chain
 abbrev pub GivesChainRepresentation : {B : Type 0} → BytesCodecs B → PlainChain B → Form → Result BytesRepresentation CodecError → Type 0
 GivesChainRepresentation f chain form result =
-    Gives (λ representation. representation) result (chain_representation f chain form.sizes form.type form.fill)
+    GivesValue result (chain_representation f chain form.sizes form.type form.fill)
 
 -- the value that the codec writes of the chunk that a container holds, or the first refusal
 abbrev pub GivesCodecValue : {B : Type 0} → BytesCodecs B → PlainCodec B → Form → Held → Result (CowSlice ℕ Global) CodecError → Type 0

@@ -22,8 +22,8 @@ use Rattle.zarrs_chain_laws.specs.Representation.{codec_representation, chain_re
 -- the sizes of the chunk that a chain's codec to bytes gets, and how many bytes it makes of it; or the first cause why the chain doesn't take such chunks
 abbrev pub taken_form : {B : Type 0} → BytesCodecs B → PlainChain B → List ℕ → ElementType → List ℕ → Result (List ℕ × BytesRepresentation) CodecError
 taken_form f chain sizes type fill = do
-  encoded ← seen (λ m. m.encoded) (arrays_map type chain.arrays sizes)
-  r ← codec_representation f chain.codec encoded type fill
+  encoded ← seen (λ m. m.encoded) (arrays_map type chain.array_to_array sizes)
+  r ← codec_representation f chain.array_to_bytes encoded type fill
   Ok (encoded, r)
 
 -- the value that a codec to bytes writes of the chunk that a container holds, or the first refusal: its representation, the container, the content
@@ -85,12 +85,12 @@ outer_reads reads codecs = record {
 -- what a chain reads in part: what all of its codecs do; array codecs do all
 abbrev pub chain_reads : {B : Type 0} → (B → PartialDecoderCapability) → PlainChain B → PartialDecoderCapability
 chain_reads reads chain = record {
-  partial_read = (outer_reads reads chain.outer).partial_read && (codec_reads chain.codec).partial_read;
-  partial_decode = (outer_reads reads chain.outer).partial_decode && (codec_reads chain.codec).partial_decode;
+  partial_read = (outer_reads reads chain.bytes_to_bytes).partial_read && (codec_reads chain.array_to_bytes).partial_read;
+  partial_decode = (outer_reads reads chain.bytes_to_bytes).partial_decode && (codec_reads chain.array_to_bytes).partial_decode;
 }
 
 -- what it writes in part: likewise
 abbrev pub chain_writes : {B : Type 0} → (B → PartialEncoderCapability) → PlainChain B → PartialEncoderCapability
 chain_writes {B} writes chain = record {
-  partial_encode = list_all (λ (codec : B). (writes codec).partial_encode) chain.outer && (codec_writes chain.codec).partial_encode;
+  partial_encode = list_all (λ (codec : B). (writes codec).partial_encode) chain.bytes_to_bytes && (codec_writes chain.array_to_bytes).partial_encode;
 }

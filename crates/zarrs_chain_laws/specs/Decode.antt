@@ -144,4 +144,4 @@ codec_chunk f (optional_codec ma mx mb da dx db) sizes type fill value =
 
 -- the chunk that a value stands for through a chain, or the first refusal
 abbrev pub chain_chunk : {B : Type 0} → BytesCodecs B → PlainChain B → Decoder
-chain_chunk f chain = around_chunk f chain.arrays (codec_representation f chain.codec) (codec_chunk f chain.codec) chain.outer
+chain_chunk f chain = around_chunk f chain.array_to_array (codec_representation f chain.array_to_bytes) (codec_chunk f chain.array_to_bytes) chain.bytes_to_bytes

@@ -79,6 +79,10 @@ abbrev pub vlen_layout : Bool → List ℕ → List ℕ → List ℕ
 vlen_layout false index data' = length_bytes index ++ (index ++ data')
 vlen_layout true index data' = data' ++ (index ++ length_bytes index)
 
+-- the value of these parts, where memory has room for it
+abbrev pub joined_vlen : Bool → List ℕ → List ℕ → Result (List ℕ) CodecError
+joined_vlen at_end index data' = in_memory (vlen_layout at_end index data')
+
 -- the elements have the same bytes
 abbrev pub is_same_bytes : Chunk → Chunk → Bool
 is_same_bytes [] [] = true
@@ -93,7 +97,7 @@ vlen_value wide at_end keep index data' chunk = do
   index_part ← index (length offsets ∷ []) (offset_type wide) (offset_bytes wide 0) offsets
   _ ← demand (is_same_bytes (map (keep (offset_type wide)) offsets) offsets) OffsetNotKept
   data_part ← part_value data' byte_type (0 ∷ []) (byte_elements items)
-  in_memory (vlen_layout at_end index_part data_part)
+  joined_vlen at_end index_part data_part
 
 -- ---- optional
 
@@ -143,4 +147,4 @@ codec_value f (optional_codec ma mx mb da dx db) sizes type fill chunk =
 
 -- the value that a chain writes of a chunk, or the first refusal
 abbrev pub chain_value : {B : Type 0} → BytesCodecs B → PlainChain B → Encoder
-chain_value f chain = around_value f chain.arrays (codec_representation f chain.codec) (codec_value f chain.codec) chain.outer
+chain_value f chain = around_value f chain.array_to_array (codec_representation f chain.array_to_bytes) (codec_value f chain.array_to_bytes) chain.bytes_to_bytes

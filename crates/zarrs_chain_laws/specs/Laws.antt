@@ -27,15 +27,15 @@ HasMappings (optional_codec ma mx mb da dx db) = All IsMapping ma × HasMappings
 
 -- a chain whose array codecs, and those of all chains inside, are what their types hold to
 pub record IsChainOfMappings {B : Type 0} (chain : PlainChain B) : Type 0 where
-  pub mappings : All IsMapping chain.arrays
-  pub inner_mappings : HasMappings chain.codec
+  pub mappings : All IsMapping chain.array_to_array
+  pub inner_mappings : HasMappings chain.array_to_bytes
 
 -- What is written for a chunk stands for its normal form.
 abbrev pub WrittenStands : {B : Type 0} → BytesCodecs B → Type 0
 WrittenStands {B} f =
     (chain : PlainChain B) (sizes : List ℕ) (type : ElementType) (fill value : List ℕ) (chunk : Chunk)
     → IsLawful f → IsChainOfMappings chain → All HasBytes chunk → All (λ size. 0 < size) sizes
-    → ChainWritten f chain sizes type fill value chunk → ChainStands f chain sizes type fill value (normal_form chain.codec type chunk)
+    → ChainWritten f chain sizes type fill value chunk → ChainStands f chain sizes type fill value (normal_form chain.array_to_bytes type chunk)
 
 -- A value stands for at most one chunk.
 abbrev pub StandsForOne : {B : Type 0} → BytesCodecs B → Type 0
@@ -93,7 +93,7 @@ NormalUpdated B =
 abbrev pub WrittenForNormal : {B : Type 0} → BytesCodecs B → Type 0
 WrittenForNormal {B} f =
     (chain : PlainChain B) (sizes : List ℕ) (type : ElementType) (fill value : List ℕ) (chunk : Chunk)
-    → IsChunk type (product sizes) chunk → ChainWritten f chain sizes type fill value chunk ↔ ChainWritten f chain sizes type fill value (normal_form chain.codec type chunk)
+    → IsChunk type (product sizes) chunk → ChainWritten f chain sizes type fill value chunk ↔ ChainWritten f chain sizes type fill value (normal_form chain.array_to_bytes type chunk)
 
 -- Two chunks are written alike exactly if their normal forms are equal.
 abbrev pub WrittenAlike : {B : Type 0} → BytesCodecs B → Type 0
@@ -101,7 +101,7 @@ WrittenAlike {B} f =
     (chain : PlainChain B) (sizes : List ℕ) (type : ElementType) (fill value other_value : List ℕ) (chunk other : Chunk)
     → IsLawful f → IsChainOfMappings chain → All HasBytes chunk → All HasBytes other → All (λ size. 0 < size) sizes
     → ChainWritten f chain sizes type fill value chunk → ChainWritten f chain sizes type fill other_value other
-    → (value ≡ other_value) ↔ (normal_form chain.codec type chunk ≡ normal_form chain.codec type other)
+    → (value ≡ other_value) ↔ (normal_form chain.array_to_bytes type chunk ≡ normal_form chain.array_to_bytes type other)
 
 -- A written value is as many bytes as the representation says.
 abbrev pub WrittenKeeps : {B : Type 0} → BytesCodecs B → Type 0

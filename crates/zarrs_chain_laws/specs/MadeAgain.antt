@@ -24,9 +24,9 @@ HasCodecs P (optional_codec ma mx mb da dx db) = (All IsMapping ma × HasCodecs 
 
 -- a chain whose codecs, and those of all chains inside, are what their types hold to, and P holds of each bytes codec
 pub record IsChainOf {B : Type 0} (P : B → Type 0) (chain : PlainChain B) : Type 0 where
-  pub arrays : All IsMapping chain.arrays
-  pub codec : HasCodecs P chain.codec
-  pub outer : All P chain.outer
+  pub array_to_array : All IsMapping chain.array_to_array
+  pub array_to_bytes : HasCodecs P chain.array_to_bytes
+  pub bytes_to_bytes : All P chain.bytes_to_bytes
 
 -- the bits that the codec keeps, and those of all chains inside, are ranges
 abbrev pub HasRanges : {B : Type 0} → PlainCodec B → Type 0
@@ -44,8 +44,8 @@ HasOuter P (optional_codec ma mx mb da dx db) = (HasOuter P mx × All P mb) × (
 
 -- P holds of each bytes codec of the chain, and of those of all chains inside
 pub record HasBytesCodecs {B : Type 0} (P : B → Type 0) (chain : PlainChain B) : Type 0 where
-  pub inside : HasOuter P chain.codec
-  pub outer : All P chain.outer
+  pub inside : HasOuter P chain.array_to_bytes
+  pub bytes_to_bytes : All P chain.bytes_to_bytes
 
 -- what is written of a chain makes that chain, where the maker makes its bytes codecs again
 abbrev pub ChainsAreMadeAgain : Type 0 → Type 0

@@ -1,15 +1,17 @@
 -- What is made of metadata: codecs, and chains of them.
-use Rattle.std.specs.Prelude.{◌≡◌, ℕ, zero, suc, max, Bool, true, false, not, List, [], ◌∷◌, ◌++◌, Option, Some, None, is_some, ok_or, Result, Ok, Err}
+use Rattle.std.specs.Prelude.{◌≡◌, ℕ, ◌<◌, zero, suc, max, Bool, true, false, not, List, [], ◌∷◌, ◌++◌, Option, Some, None, is_some, ok_or, Result, Ok, Err}
 use Rattle.zarrs_chunk.specs.Answer.{◌>>=◌, demand, seen}
 use Rattle.zarrs_chunk.specs.declared.codec_error.CodecName.{CodecName}
 use Rattle.zarrs_chunk.specs.declared.codec_error.CodecName.TheVariants.{Transpose, Reshape, Squeeze, Bytes, PackBits, Vlen, Optional}
 use Rattle.zarrs_metadata.specs.CodecMetadata.{made_of, members_of, bytes_made}
 use Rattle.zarrs_metadata.specs.Data.{members_depth}
 use Rattle.zarrs_metadata.specs.Metadata.{Metadata}
+use Rattle.zarrs_metadata.specs.MetadataV3.{metadata_seen}
 use Rattle.zarrs_metadata.specs.OptionalConfiguration.{OptionalChains, read_optional}
 use Rattle.zarrs_metadata.specs.VlenConfiguration.{VlenParts, read_vlen}
 use Rattle.zarrs_metadata.specs.declared.codec.vlen.VlenIndexLocation.{VlenIndexLocation}
 use Rattle.zarrs_metadata.specs.declared.codec.vlen.VlenIndexLocation.TheVariants.{Start}
+use Rattle.zarrs_metadata.specs.declared.metadata_v3.MetadataV3.{MetadataV3}
 use Rattle.zarrs_metadata.specs.declared.plugin_create_error.PluginCreateError.{PluginCreateError}
 use Rattle.zarrs_metadata.specs.declared.plugin_create_error.PluginCreateError.TheVariants.{UnknownName, InvalidConfiguration, MissingArrayToBytes, MultipleArrayToBytes}
 use Rattle.zarrs_array_to_array.specs.ArrayToArrayCodec.{ArrayMapping}
@@ -27,9 +29,9 @@ pub data CodecMade (B : Type 0) : Type 0 where
 
 -- What the metadata of a list make so far: codecs by their kind, of those to bytes at most one.
 pub record Gathered (B : Type 0) : Type 0 where
-  pub arrays : List ArrayMapping
-  pub codec : Option (PlainCodec B)
-  pub outer : List B
+  pub array_to_array : List ArrayMapping
+  pub array_to_bytes : Option (PlainCodec B)
+  pub bytes_to_bytes : List B
 
 -- ---- codecs with chains inside, which `inside` makes of their lists
 
@@ -52,16 +54,24 @@ optional_of_chains inside chains = do
   content ← inside chains.data_codecs
   Ok (optional_codec_of mask content)
 
+-- the configuration of a metadata of `vlen`: another name is refused before it is looked at
+abbrev pub read_as_vlen : Metadata → Result VlenParts PluginCreateError
+read_as_vlen metadata = made_of is_vlen_name read_vlen metadata
+
+-- and of one of `optional`
+abbrev pub read_as_optional : Metadata → Result OptionalChains PluginCreateError
+read_as_optional metadata = made_of is_optional_name read_optional metadata
+
 -- the codec `vlen` of a metadata: its name, its configuration, its chains
 abbrev pub vlen_made_by : {B : Type 0} → (List Metadata → Result (PlainChain B) PluginCreateError) → Metadata → Result (PlainCodec B) PluginCreateError
 vlen_made_by inside metadata = do
-  parts ← made_of is_vlen_name read_vlen metadata
+  parts ← read_as_vlen metadata
   vlen_of_parts inside parts
 
 -- the codec `optional` of a metadata, likewise
 abbrev pub optional_made_by : {B : Type 0} → (List Metadata → Result (PlainChain B) PluginCreateError) → Metadata → Result (PlainCodec B) PluginCreateError
 optional_made_by inside metadata = do
-  chains ← made_of is_optional_name read_optional metadata
+  chains ← read_as_optional metadata
   optional_of_chains inside chains
 
 -- ---- one codec
@@ -91,11 +101,11 @@ codec_made inside makes metadata = made_by_name (codec_named metadata.name) insi
 
 -- a codec behind those gathered so far: each kind keeps its order, and a second one to bytes is refused
 abbrev pub with_codec : {B : Type 0} → CodecMade B → Gathered B → Result (Gathered B) PluginCreateError
-with_codec (array_made codec) so_far = Ok (record { arrays = so_far.arrays ++ codec ∷ []; codec = so_far.codec; outer = so_far.outer })
+with_codec (array_made codec) so_far = Ok (record { array_to_array = so_far.array_to_array ++ codec ∷ []; array_to_bytes = so_far.array_to_bytes; bytes_to_bytes = so_far.bytes_to_bytes })
 with_codec (to_bytes_made codec) so_far = do
-  _ ← demand (not (is_some so_far.codec)) MultipleArrayToBytes
-  Ok (record { arrays = so_far.arrays; codec = Some codec; outer = so_far.outer })
-with_codec (outer_made codec) so_far = Ok (record { arrays = so_far.arrays; codec = so_far.codec; outer = so_far.outer ++ codec ∷ [] })
+  _ ← demand (not (is_some so_far.array_to_bytes)) MultipleArrayToBytes
+  Ok (record { array_to_array = so_far.array_to_array; array_to_bytes = Some codec; bytes_to_bytes = so_far.bytes_to_bytes })
+with_codec (outer_made codec) so_far = Ok (record { array_to_array = so_far.array_to_array; array_to_bytes = so_far.array_to_bytes; bytes_to_bytes = so_far.bytes_to_bytes ++ codec ∷ [] })
 
 -- what a metadata makes, behind those gathered so far; where it makes nothing it is passed over, unless it has to be understood
 abbrev pub joined : {B : Type 0} → Result (CodecMade B) PluginCreateError → Bool → Gathered B → Result (Gathered B) PluginCreateError
@@ -113,11 +123,11 @@ gathered inside makes (metadata ∷ metadatas) so_far = do
 -- the chain of the gathered codecs, among which one to bytes has to be
 abbrev pub finished : {B : Type 0} → Gathered B → Result (PlainChain B) PluginCreateError
 finished so_far = do
-  codec ← ok_or so_far.codec MissingArrayToBytes
-  Ok (record { arrays = so_far.arrays; codec = codec; outer = so_far.outer })
+  codec ← ok_or so_far.array_to_bytes MissingArrayToBytes
+  Ok (record { array_to_array = so_far.array_to_array; array_to_bytes = codec; bytes_to_bytes = so_far.bytes_to_bytes })
 
 abbrev pub nothing_gathered : {B : Type 0} → Gathered B
-nothing_gathered = record { arrays = []; codec = None; outer = [] }
+nothing_gathered = record { array_to_array = []; array_to_bytes = None; bytes_to_bytes = [] }
 
 -- the chain of a list, the chains inside made by `inside`
 abbrev pub chain_made_by : {B : Type 0} → (List Metadata → Result (PlainChain B) PluginCreateError) → (Metadata → Result (Option B) PluginCreateError) → List Metadata → Result (PlainChain B) PluginCreateError
@@ -134,6 +144,10 @@ depth_of metadata = members_depth (members_of metadata.configuration)
 abbrev pub depth_all : List Metadata → ℕ
 depth_all [] = 0
 depth_all (metadata ∷ metadatas) = max (depth_of metadata) (depth_all metadatas)
+
+-- the configurations of a list are less deep than that of this metadata
+abbrev pub LessDeep : List Metadata → MetadataV3 → Type 0
+LessDeep metadatas metadata = depth_all metadatas < depth_of (metadata_seen metadata)
 
 -- the chain of a list whose configurations are less deep than a number
 abbrev pub chain_in : {B : Type 0} → (Metadata → Result (Option B) PluginCreateError) → ℕ → List Metadata → Result (PlainChain B) PluginCreateError

@@ -17,14 +17,14 @@ pub data PlainCodec (B : Type 0) : Type 0 where
 
 -- codecs of chunks to chunks, one of chunks to bytes, and codecs of bytes to bytes
 pub record PlainChain (B : Type 0) : Type 0 where
-  pub arrays : List ArrayMapping
-  pub codec : PlainCodec B
-  pub outer : List B
+  pub array_to_array : List ArrayMapping
+  pub array_to_bytes : PlainCodec B
+  pub bytes_to_bytes : List B
 
 -- `vlen` with these chains inside
 abbrev pub vlen_codec_of : {B : Type 0} → PlainChain B → PlainChain B → Bool → Bool → PlainCodec B
 vlen_codec_of index content wide at_end =
-    vlen_codec index.arrays index.codec index.outer content.arrays content.codec content.outer wide at_end
+    vlen_codec index.array_to_array index.array_to_bytes index.bytes_to_bytes content.array_to_array content.array_to_bytes content.bytes_to_bytes wide at_end
 
 -- `vlen` with the index at the end or at the start; any other codec as it is
 abbrev pub with_location : {B : Type 0} → Bool → PlainCodec B → PlainCodec B
@@ -36,4 +36,4 @@ with_location at_end (optional_codec ma mx mb da dx db) = optional_codec ma mx m
 -- `optional` with these chains inside
 abbrev pub optional_codec_of : {B : Type 0} → PlainChain B → PlainChain B → PlainCodec B
 optional_codec_of mask content =
-    optional_codec mask.arrays mask.codec mask.outer content.arrays content.codec content.outer
+    optional_codec mask.array_to_array mask.array_to_bytes mask.bytes_to_bytes content.array_to_array content.array_to_bytes content.bytes_to_bytes

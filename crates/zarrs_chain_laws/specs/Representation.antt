@@ -92,4 +92,4 @@ codec_representation f (optional_codec ma mx mb da dx db) sizes type fill =
 
 -- how many bytes the value of such a chunk has, or the first cause why the chain doesn't take such chunks
 abbrev pub chain_representation : {B : Type 0} → BytesCodecs B → PlainChain B → Measure
-chain_representation f chain = around_representation f chain.arrays (codec_representation f chain.codec) chain.outer
+chain_representation f chain = around_representation f chain.array_to_array (codec_representation f chain.array_to_bytes) chain.bytes_to_bytes

@@ -90,4 +90,4 @@ CodecStands f (optional_codec ma mx mb da dx db) sizes type fill value chunk =
 
 -- The value stands for the chunk, of these sizes, this type and this fill value, through the chain.
 abbrev pub ChainStands : {B : Type 0} → BytesCodecs B → PlainChain B → Standing
-ChainStands f chain = StandsThrough f chain.arrays (codec_representation f chain.codec) (CodecStands f chain.codec) chain.outer
+ChainStands f chain = StandsThrough f chain.array_to_array (codec_representation f chain.array_to_bytes) (CodecStands f chain.array_to_bytes) chain.bytes_to_bytes

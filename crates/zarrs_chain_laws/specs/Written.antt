@@ -71,4 +71,4 @@ CodecWritten f (optional_codec ma mx mb da dx db) sizes type fill value chunk =
 
 -- The value is written for the chunk, of these sizes, this type and this fill value, by the chain.
 abbrev pub ChainWritten : {B : Type 0} → BytesCodecs B → PlainChain B → Standing
-ChainWritten f chain = WrittenThrough f chain.arrays (codec_representation f chain.codec) (CodecWritten f chain.codec) chain.outer
+ChainWritten f chain = WrittenThrough f chain.array_to_array (codec_representation f chain.array_to_bytes) (CodecWritten f chain.array_to_bytes) chain.bytes_to_bytes

@@ -1,5 +1,8 @@
 -- The metadata that is written of codecs and of chains.
-use Rattle.std.specs.Prelude.{ℕ, Bool, true, false, List, ◌∷◌, ◌++◌, map, Some}
+use Rattle.std.specs.Prelude.{ℕ, Bool, true, false, List, ◌∷◌, ◌++◌, map, Some, Vec, String, Result}
+use Rattle.std.specs.declared.alloc.Global.{Global}
+use Rattle.std.specs.declared.collections.BTreeMap.{BTreeMap}
+use Rattle.serde_json.specs.declared.value.Value.{Value}
 use Rattle.zarrs_metadata.specs.BytesConfiguration.{write_bytes}
 use Rattle.zarrs_metadata.specs.CodecMetadata.{codec_metadata, bytes_name, packbits_name}
 use Rattle.zarrs_metadata.specs.Data.{Members}
@@ -15,7 +18,8 @@ use Rattle.zarrs_array_to_array.specs.MappingMetadata.{mapping_name, mapping_con
 use Rattle.zarrs_packbits.specs.SettingsMetadata.{write_settings}
 use Rattle.zarrs_chain_laws.specs.CodecNames.{vlen_name, optional_name}
 use Rattle.zarrs_chain_laws.specs.PlainChain.{PlainCodec, bytes_codec, packbits_codec, vlen_codec, optional_codec, PlainChain}
-use Rattle.zarrs_metadata.specs.MetadataV3.{metadata_seen}
+use Rattle.zarrs_metadata.specs.MetadataV3.{metadata_seen, Writes}
+use Rattle.zarrs_metadata.specs.declared.plugin_create_error.PluginCreateError.{PluginCreateError}
 use Rattle.zarrs_metadata.specs.declared.metadata_v3.MetadataV3.{MetadataV3}
 
 -- the type of offsets that have 64 bits, or 32
@@ -64,7 +68,7 @@ to_bytes_metadata described codec = codec_metadata (codec_name codec) (codec_con
 
 -- the metadata of a chain: one for each codec
 abbrev pub chain_metadatas : {B : Type 0} → (B → Metadata) → PlainChain B → List Metadata
-chain_metadatas described chain = listed described chain.arrays (to_bytes_metadata described chain.codec) chain.outer
+chain_metadatas described chain = listed described chain.array_to_array (to_bytes_metadata described chain.array_to_bytes) chain.bytes_to_bytes
 
 -- the configuration of `vlen` by its four keys
 abbrev pub vlen_members_of : List MetadataV3 → List MetadataV3 → VlenIndexDataType → VlenIndexLocation → Members
@@ -75,7 +79,11 @@ vlen_members_of index content data_type location = write_vlen (record {
   index_location = Some location;
 })
 
--- and of `optional` by its two
+-- the configuration that is written is that of `vlen` by its four keys
+abbrev pub WritesVlen : Vec MetadataV3 Global → Vec MetadataV3 Global → VlenIndexDataType → VlenIndexLocation → Result (BTreeMap (String Global) Value Global) PluginCreateError → Type 0
+WritesVlen index content data_type location result = Writes result (vlen_members_of index.items content.items data_type location)
+
+-- the configuration of `optional` by its two keys
 abbrev pub optional_members_of : List MetadataV3 → List MetadataV3 → Members
 optional_members_of mask content = write_optional (record {
   mask_codecs = map metadata_seen mask;

@@ -1,13 +1,12 @@
 //! The array codecs of a chain, one after another.
-ghost use Rattle.std.specs.Prelude.{◌≡◌, Ok, IfOk, map, false};
-ghost use Rattle.zarrs_chunk.specs.Answer.{AnswersBy, memory, is_fault, seen, Gives};
+ghost use Rattle.std.specs.Prelude.{◌≡◌, IfOk, false};
+ghost use Rattle.zarrs_chunk.specs.Answer.{is_fault};
 ghost use Rattle.zarrs_array_bytes.specs.Blank.{KeepsBlanks};
-ghost use Rattle.zarrs_array_bytes.specs.Validity.{Holds};
-ghost use Rattle.zarrs_codec.specs.CoordinateMap.{IsMapTo};
-ghost use Rattle.zarrs_codec.specs.MappedChunk.{encoded_chunk, decoded_chunk};
+ghost use Rattle.zarrs_codec.specs.CoordinateMap.{MapsSizes};
+ghost use Rattle.zarrs_codec.specs.MappedChunk.{GivesSizes};
 ghost use Rattle.zarrs_array_to_array.specs.ArrayToArrayCodec.{coordinates};
 ghost use Rattle.zarrs_array_to_array.specs.Mapping.{mapping_of};
-ghost use Rattle.zarrs_chain_laws.specs.ArrayStages.{codec_map, arrays_map, IsMapWhere, EncodesThrough, DecodesThrough};
+ghost use Rattle.zarrs_chain_laws.specs.ArrayStages.{codec_map, map_through, IsMapThrough, EncodesThrough, DecodesThrough};
 
 use std::alloc::Global;
 use zarrs_array_bytes::ArrayBytes;
@@ -25,10 +24,8 @@ fn next_shape(
     shape: &ChunkShape,
     data_type: &DataType,
 ) -> Result<ChunkShape, CodecError>
-    ensures answer { Gives (λ shape. shape) result
-        (seen (λ m. m.encoded) (codec_map data_type.now (mapping_of codec.now) shape.now)) }
-    ensures map { IfOk result
-        (λ next. IsMapTo (coordinates (mapping_of codec.now) shape.now) shape.now next) }
+    ensures answer { GivesSizes result (codec_map data_type.now (mapping_of codec.now) shape.now) }
+    ensures map { MapsSizes (coordinates (mapping_of codec.now)) shape.now result }
 {
     codec.encoded_data_type(alloc, data_type)?;
     codec.encoded_shape(alloc, shape)
@@ -42,10 +39,8 @@ pub fn shape_through(
     shape: &ChunkShape,
     data_type: &DataType,
 ) -> Result<ChunkShape, CodecError>
-    ensures answer { Gives (λ shape. shape) result
-        (seen (λ m. m.encoded) (arrays_map data_type.now (map mapping_of codecs.now) shape.now)) }
-    ensures map { IfOk result
-        (λ _. IsMapWhere data_type.now (map mapping_of codecs.now) shape.now) }
+    ensures answer { GivesSizes result (map_through data_type.now codecs.now shape.now) }
+    ensures map { IfOk result (λ _. IsMapThrough data_type.now codecs.now shape.now) }
 {
     match codecs {
         [] => shape.clone(),
@@ -67,8 +62,7 @@ pub fn encode_arrays<'a>(
     fill_value: &FillValue,
 ) -> Result<ArrayBytes<'a>, CodecError>
     ensures moved { EncodesThrough data_type.now codecs.now shape.now chunk.entry result }
-    ensures map { IfOk result
-        (λ _. IsMapWhere data_type.now (map mapping_of codecs.now) shape.now) }
+    ensures map { IfOk result (λ _. IsMapThrough data_type.now codecs.now shape.now) }
     ensures no_fault { is_fault result ≡ false }
 {
     match codecs {
@@ -94,8 +88,7 @@ pub fn decode_arrays<'a>(
 ) -> Result<ArrayBytes<'a>, CodecError>
     ensures moved { DecodesThrough data_type.now codecs.now shape.now chunk.entry result }
     ensures blank { KeepsBlanks data_type.now chunk.entry result }
-    ensures map { IfOk result
-        (λ _. IsMapWhere data_type.now (map mapping_of codecs.now) shape.now) }
+    ensures map { IfOk result (λ _. IsMapThrough data_type.now codecs.now shape.now) }
     ensures no_fault { is_fault result ≡ false }
 {
     match codecs {

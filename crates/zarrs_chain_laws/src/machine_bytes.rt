@@ -1,8 +1,7 @@
 //! What holds of all bytes of a machine, and the laws of chains ask for: they are below 256.
-ghost use Rattle.std.specs.Prelude.{◌≡◌, ◌<◌, ℕ, List, slice_index};
-ghost use Rattle.zarrs_array_bytes.specs.Held.{Raw, flen, vlen};
+ghost use Rattle.std.specs.Prelude.{◌<◌, ℕ, slice_index};
 ghost use Rattle.zarrs_codec.specs.BytesToBytesCodec.{AreBytes};
-ghost use Rattle.zarrs_chain_laws.specs.MachineBytes.{HeldHasBytes};
+ghost use Rattle.zarrs_chain_laws.specs.MachineBytes.{HeldHasBytes, FixedHasBytes, VariableHasBytes};
 
 use zarrs_array_bytes::ArrayBytes;
 
@@ -20,7 +19,7 @@ pub fn bytes_are(bytes: &[u8])
 
 /// Those of elements of one size.
 fn fixed_are_bytes(elements: &ArrayBytes<'_>)
-    ensures fixed { (raw : Raw) → elements.now ≡ flen raw → AreBytes raw.items }
+    ensures fixed { FixedHasBytes elements.now }
 {
     if let Ok(bytes) = elements.as_fixed() {
         bytes_are(bytes);
@@ -29,8 +28,7 @@ fn fixed_are_bytes(elements: &ArrayBytes<'_>)
 
 /// Those of elements of any length.
 fn variable_are_bytes(elements: &ArrayBytes<'_>)
-    ensures variable { (raw : Raw) (offsets : List ℕ) → elements.now ≡ vlen raw offsets
-        → AreBytes raw.items }
+    ensures variable { VariableHasBytes elements.now }
 {
     if let Ok((bytes, _)) = elements.as_variable() {
         bytes_are(bytes);

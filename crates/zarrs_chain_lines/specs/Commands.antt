@@ -11,7 +11,7 @@ use Rattle.zarrs_codec.specs.declared.sample_bytes_codec.SampleBytesCodec.{Sampl
 use Rattle.zarrs_chain_laws.specs.Chain.{held_value}
 use Rattle.zarrs_chain_laws.specs.PlainChain.{PlainChain}
 use Rattle.zarrs_chain_whole.specs.Reencode.{reencoded_value}
-use Rattle.zarrs_codec_chain.specs.ChunkRead.{ChunkForm, stored_read, chunk_form}
+use Rattle.zarrs_codec_chain.specs.ChunkRead.{ChunkForm, stored_read}
 use Rattle.zarrs_codec_chain.specs.ChunkSource.{source_made}
 use Rattle.zarrs_codec_chain.specs.ChunkWrite.{stored_written}
 use Rattle.zarrs_chain_laws.specs.Decode.{chain_chunk}
@@ -27,7 +27,6 @@ use Rattle.zarrs_chain_json.specs.Edit.{PlainEdit, edit_in}
 use Rattle.zarrs_chain_header.specs.Header.{Header, line_codecs}
 use Rattle.zarrs_array_bytes.specs.Held.{Held}
 use Rattle.zarrs_array_bytes.specs.Validity.{Holds}
-use Rattle.zarrs_data_type.specs.Form.{Form}
 
 -- what a session keeps: the header that opened it, and the stored value
 pub record State : Type 0 where
@@ -212,13 +211,3 @@ GivesPart state selection result =
 abbrev pub StoresEdit : State → State → PlainEdit → Result (Unit {0}) CodecError → Type 0
 StoresEdit before after edit result =
     Answers memory (λ _. after) result (seen (λ value. record { header = before.header; value = Some value }) (value_left before.header before.value edit))
-
--- the same of a chunk of this form through a chain
-abbrev pub GivesChunkPart : PlainChain SampleBytesCodec → Form → Option (List ℕ) → Selection → Result Held CodecError → Type 0
-GivesChunkPart chain form stored selection result =
-    AnswersBy memory (Holds form.type) result (chunk_part (chunk_form chain form) stored selection)
-
--- and of new elements in it
-abbrev pub StoresChunkEdit : PlainChain SampleBytesCodec → Form → Option (List ℕ) → Option (List ℕ) → PlainEdit → Result (Unit {0}) CodecError → Type 0
-StoresChunkEdit chain form before after edit result =
-    Answers memory (λ _. after) result (seen (λ value. Some value) (chunk_left (chunk_form chain form) before edit))

@@ -1,5 +1,6 @@
 -- The lines of an input.
-use Rattle.std.specs.Prelude.{ℕ, Bool, true, false, List, [], ◌∷◌, ◌==◌, if◌then◌else◌, filter, ◌≡◌, Option, Some, IfSome, MatchBool}
+use Rattle.std.specs.Prelude.{ℕ, Bool, true, false, List, [], ◌∷◌, ◌==◌, if◌then◌else◌, filter, ◌≡◌, Option, Some, IfSome, MatchBool, Vec, Result, IfOk}
+use Rattle.std.specs.declared.alloc.Global.{Global}
 
 -- a byte at the front of the first line
 abbrev pub onto_first : ℕ → List (List ℕ) → List (List ℕ)
@@ -31,3 +32,12 @@ ReadsLine unread left line is_read =
 abbrev pub ReadsFilledLine : Option (List ℕ) → Option (List ℕ) → List ℕ → Bool → Type 0
 ReadsFilledLine unread left line is_read =
     IfSome unread (λ input. (rest : List ℕ) × (left ≡ Some rest) × MatchBool is_read (filled_lines input ≡ line ∷ filled_lines rest) ((filled_lines input ≡ []) × (rest ≡ [])))
+
+-- a call that answers Ok took the next line of a reader, or found none
+abbrev pub TakesLine : {R E : Type 0} → (R → Option (List ℕ)) → R → R → Vec ℕ Global → Result Bool E → Type 0
+TakesLine remaining before after line result = IfOk result (ReadsLine (remaining before) (remaining after) line.items)
+
+-- the same of the next line that isn't empty
+abbrev pub TakesFilledLine : {R E : Type 0} → (R → Option (List ℕ)) → R → R → Vec ℕ Global → Result Bool E → Type 0
+TakesFilledLine remaining before after line result =
+    IfOk result (ReadsFilledLine (remaining before) (remaining after) line.items)

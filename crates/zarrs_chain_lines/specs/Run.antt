@@ -1,5 +1,5 @@
 -- The answers to a header and to all lines after it.
-use Rattle.std.specs.Prelude.{◌≡◌, ℕ, List, [], ◌∷◌, ◌++◌, ◌⊎◌, Option, Some, IfSome, Result, Ok, Err, codes}
+use Rattle.std.specs.Prelude.{◌≡◌, ℕ, List, [], ◌∷◌, ◌++◌, ◌⊎◌, Option, Some, IfSome, Result, Ok, Err, OnOk, codes}
 use Rattle.std.specs.Io.KnownBytes.{Appends}
 use Rattle.zarrs_chain_json.specs.declared.refusal.Refusal.{Refusal}
 use Rattle.zarrs_chain_json.specs.Refusal.{error_line}
@@ -66,3 +66,7 @@ refusal_line refusal = output_line (error_line refusal)
 abbrev pub EndsReplied : State → Option (List ℕ) → Option (List ℕ) → Option (List ℕ) → Option (List ℕ) → Type 0
 EndsReplied state unread left held holds =
     IfSome unread (λ input. (left ≡ Some []) × ((output : List ℕ) × Appends held holds output × AreReplies state (filled_lines input) output))
+
+-- a call that answers Ok wrote this behind what the writer held, where that is known
+abbrev pub Outputs : {W E : Type 0} → (W → Option (List ℕ)) → W → W → List ℕ → Result (Unit {0}) E → Type 0
+Outputs contents before after output result = OnOk result (Appends (contents before) (contents after) output)

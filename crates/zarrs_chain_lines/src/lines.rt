@@ -1,10 +1,9 @@
 //! Lines read and written.
-ghost use Rattle.std.specs.Prelude.{◌≡◌, ℕ, List, [], ◌∷◌, Some, IfOk, OnOk, IfSome, MatchBool};
+ghost use Rattle.std.specs.Prelude.{◌≡◌};
 ghost use Rattle.std.specs.Io.BufRead.{strip_last};
-ghost use Rattle.std.specs.Io.KnownBytes.{Appends, Keeps};
-ghost use Rattle.zarrs_chain_lines.specs.Lines.{lines_of, filled_lines, ReadsLine, ReadsFilledLine};
-ghost use Rattle.zarrs_chain_json.specs.Refusal.{error_line};
-ghost use Rattle.zarrs_chain_lines.specs.Run.{output_line, refusal_line};
+ghost use Rattle.std.specs.Io.KnownBytes.{Keeps};
+ghost use Rattle.zarrs_chain_lines.specs.Lines.{TakesLine, TakesFilledLine};
+ghost use Rattle.zarrs_chain_lines.specs.Run.{output_line, refusal_line, Outputs};
 
 use crate::run::StreamFault;
 use std::io;
@@ -22,8 +21,7 @@ fn drop_line_end(line: &mut Vec<u8>)
 
 /// Reads the next line, without its end, or answers `false` where there is none.
 fn next_line<R: BufRead>(reader: &mut R, line: &mut Vec<u8>) -> io::Result<bool>
-    ensures next { IfOk result
-        (ReadsLine (R.remaining reader.old) (R.remaining reader.new) line.new.items) }
+    ensures next { TakesLine R.remaining reader.old reader.new line.new result }
 {
     line.clear();
     if reader.read_until(b'\n', line)? == 0 {
@@ -35,8 +33,7 @@ fn next_line<R: BufRead>(reader: &mut R, line: &mut Vec<u8>) -> io::Result<bool>
 
 /// Reads lines until one isn't empty, or answers `false` where none is left.
 fn read_filled_line<R: BufRead>(reader: &mut R, line: &mut Vec<u8>) -> io::Result<bool>
-    ensures next { IfOk result
-        (ReadsFilledLine (R.remaining reader.old) (R.remaining reader.new) line.new.items) }
+    ensures next { TakesFilledLine R.remaining reader.old reader.new line.new result }
 {
     'lines: for _ in 0..u64::MAX {
         if !next_line(reader, line)? {
@@ -51,8 +48,7 @@ fn read_filled_line<R: BufRead>(reader: &mut R, line: &mut Vec<u8>) -> io::Resul
 
 /// As `read_filled_line`; where that fails, the reader is at fault.
 pub fn next_filled_line<R: BufRead>(reader: &mut R, line: &mut Vec<u8>) -> Result<bool, StreamFault>
-    ensures next { IfOk result
-        (ReadsFilledLine (R.remaining reader.old) (R.remaining reader.new) line.new.items) }
+    ensures next { TakesFilledLine R.remaining reader.old reader.new line.new result }
 {
     match read_filled_line(reader, line) {
         Ok(is_read) => Ok(is_read),
@@ -61,16 +57,14 @@ pub fn next_filled_line<R: BufRead>(reader: &mut R, line: &mut Vec<u8>) -> Resul
 }
 
 fn append_line<W: Write>(writer: &mut W, answer: &[u8]) -> io::Result<()>
-    ensures written { OnOk result
-        (Appends (W.contents writer.old) (W.contents writer.new) (output_line answer.now)) }
+    ensures written { Outputs W.contents writer.old writer.new (output_line answer.now) result }
 {
     writer.write_all(answer)?;
     writer.write_all(b"\n")
 }
 
 fn append_refusal<W: Write>(writer: &mut W, refusal: Refusal) -> io::Result<()>
-    ensures written { OnOk result
-        (Appends (W.contents writer.old) (W.contents writer.new) (refusal_line refusal)) }
+    ensures written { Outputs W.contents writer.old writer.new (refusal_line refusal) result }
 {
     writer.write_all(b"error ")?;
     writer.write_all(refusal.name().as_bytes())?;
@@ -79,8 +73,7 @@ fn append_refusal<W: Write>(writer: &mut W, refusal: Refusal) -> io::Result<()>
 
 /// Writes an answer, and the line's end.
 pub fn write_line<W: Write>(writer: &mut W, answer: &[u8]) -> Result<(), StreamFault>
-    ensures written { OnOk result
-        (Appends (W.contents writer.old) (W.contents writer.new) (output_line answer.now)) }
+    ensures written { Outputs W.contents writer.old writer.new (output_line answer.now) result }
 {
     match append_line(writer, answer) {
         Ok(()) => Ok(()),
@@ -90,8 +83,7 @@ pub fn write_line<W: Write>(writer: &mut W, answer: &[u8]) -> Result<(), StreamF
 
 /// Writes the answer to a line that is refused.
 pub fn write_refusal<W: Write>(writer: &mut W, refusal: Refusal) -> Result<(), StreamFault>
-    ensures written { OnOk result
-        (Appends (W.contents writer.old) (W.contents writer.new) (refusal_line refusal)) }
+    ensures written { Outputs W.contents writer.old writer.new (refusal_line refusal) result }
 {
     match append_refusal(writer, refusal) {
         Ok(()) => Ok(()),

@@ -1,9 +1,7 @@
 //! Answers the lines of a reader.
-ghost use Rattle.std.specs.Prelude.{◌≡◌, ℕ, List, [], Some, Ok, OnOk, IfSome, true, false};
-ghost use Rattle.std.specs.Io.KnownBytes.{Appends};
-ghost use Rattle.zarrs_chain_lines.specs.Lines.{filled_lines};
-ghost use Rattle.zarrs_chain_lines.specs.Run.{AreReplies, EndsDone, EndsBad, EndsReplied};
-ghost use Rattle.zarrs_chain_lines.specs.RunStatus.{status_of};
+ghost use Rattle.std.specs.Prelude.{◌≡◌, OnOk};
+ghost use Rattle.zarrs_chain_lines.specs.Run.{EndsReplied};
+ghost use Rattle.zarrs_chain_lines.specs.RunStatus.{status_of, IfGood, IfBad, IfRan, IfBadHeader};
 ghost use Rattle.zarrs_chain_lines.specs.Session.{state_of};
 
 use crate::lines::{flush, next_filled_line, write_line, write_refusal};
@@ -66,6 +64,7 @@ fn serve<R: BufRead, W: Write>(
     writer: &mut W,
     line: &mut Vec<u8>,
 ) -> Result<(), StreamFault>
+    // Wide: it names the session, and both streams before and after.
     ensures done { OnOk result
         (EndsReplied (state_of session.old) (R.remaining reader.old) (R.remaining reader.new)
         (W.contents writer.old) (W.contents writer.new)) }
@@ -85,26 +84,23 @@ fn serve<R: BufRead, W: Write>(
 /// Answers the header and the lines after it: whether the header was good, or there was none.
 fn try_run<R: BufRead, W: Write>(
     alloc: Global,
-    reader: &mut R,
-    writer: &mut W,
+    input: &mut R,
+    output: &mut W,
 ) -> Result<bool, StreamFault>
-    ensures done { result ≡ Ok true →
-        EndsDone (R.remaining reader.old) (R.remaining reader.new)
-        (W.contents writer.old) (W.contents writer.new) }
-    ensures bad { result ≡ Ok false →
-        EndsBad (R.remaining reader.old) (W.contents writer.old) (W.contents writer.new) }
+    ensures done { IfGood R.remaining input.old input.new W.contents output.old output.new result }
+    ensures bad { IfBad R.remaining input.old W.contents output.old output.new result }
 {
     let mut line = Vec::new(alloc);
-    if !next_filled_line(reader, &mut line)? {
+    if !next_filled_line(input, &mut line)? {
         return Ok(true);
     }
     match Session::open(alloc, &line) {
         Ok(mut session) => {
-            serve(alloc, &mut session, reader, writer, &mut line)?;
+            serve(alloc, &mut session, input, output, &mut line)?;
             Ok(true)
         }
         Err(refusal) => {
-            write_refusal(writer, refusal)?;
+            write_refusal(output, refusal)?;
             Ok(false)
         }
     }
@@ -113,17 +109,14 @@ fn try_run<R: BufRead, W: Write>(
 /// As `try_run`; whatever came of it, what was written is flushed. The first fault is answered.
 fn run_and_flush<R: BufRead, W: Write>(
     alloc: Global,
-    reader: &mut R,
-    writer: &mut W,
+    input: &mut R,
+    output: &mut W,
 ) -> Result<bool, StreamFault>
-    ensures done { result ≡ Ok true →
-        EndsDone (R.remaining reader.old) (R.remaining reader.new)
-        (W.contents writer.old) (W.contents writer.new) }
-    ensures bad { result ≡ Ok false →
-        EndsBad (R.remaining reader.old) (W.contents writer.old) (W.contents writer.new) }
+    ensures done { IfGood R.remaining input.old input.new W.contents output.old output.new result }
+    ensures bad { IfBad R.remaining input.old W.contents output.old output.new result }
 {
-    let ended = try_run(alloc, reader, writer);
-    let flushed = flush(writer);
+    let ended = try_run(alloc, input, output);
+    let flushed = flush(output);
     let is_header_good = ended?;
     flushed?;
     Ok(is_header_good)
@@ -136,11 +129,8 @@ fn run_and_flush<R: BufRead, W: Write>(
 ///
 /// A line may be answered `error OutOfMemory` where memory is wanting; what is stored stays.
 pub fn run<R: BufRead, W: Write>(alloc: Global, reader: &mut R, writer: &mut W) -> RunEnd
-    ensures done { result ≡ RunEnd.Done →
-        EndsDone (R.remaining reader.old) (R.remaining reader.new)
-        (W.contents writer.old) (W.contents writer.new) }
-    ensures bad { result ≡ RunEnd.BadHeader →
-        EndsBad (R.remaining reader.old) (W.contents writer.old) (W.contents writer.new) }
+    ensures done { IfRan R.remaining reader.old reader.new W.contents writer.old writer.new result }
+    ensures bad { IfBadHeader R.remaining reader.old W.contents writer.old writer.new result }
 {
     match run_and_flush(alloc, reader, writer) {
         Ok(true) => RunEnd::Done,

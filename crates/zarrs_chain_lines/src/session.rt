@@ -1,15 +1,12 @@
 //! A session: what a header opened, and the stored value.
-ghost use Rattle.zarrs_data_type.specs.Form.{form_of};
 ghost use Rattle.std.specs.Prelude.{◌≡◌, OnErr};
-ghost use Rattle.zarrs_chunk.specs.Answer.{Answers, AnswersBy, memory, seen};
+ghost use Rattle.zarrs_chunk.specs.Answer.{seen};
 ghost use Rattle.zarrs_chunk.specs.Indexer.{selection_of};
-ghost use Rattle.zarrs_array_bytes.specs.Validity.{Holds};
 ghost use Rattle.zarrs_codec.specs.MemoryHandle.{handle_value};
-ghost use Rattle.zarrs_chain_whole.specs.ChainView.{plain_chain};
-ghost use Rattle.zarrs_chain_lines.specs.Commands.{first_state, chunk_part, part_of, chunk_left, value_left, encode_answer, load_answer, chunk_answer, decode_answer, read_answer, write_answer, erase_answer, value_answer, reencoded_answer, reencode_answer, answer_to, GivesPart, StoresEdit, GivesChunkPart, StoresChunkEdit};
-ghost use Rattle.zarrs_chain_json.specs.Edit.{edit_seen};
+ghost use Rattle.zarrs_chain_json.specs.Refusal.{ReadsAs};
 ghost use Rattle.zarrs_chain_header.specs.Header.{line_header};
-ghost use Rattle.zarrs_chain_json.specs.Refusal.{wants_memory};
+ghost use Rattle.zarrs_chain_lines.specs.Commands.{first_state, encode_answer, load_answer, chunk_answer, decode_answer, read_answer, write_answer, erase_answer, value_answer, reencode_answer, answer_to, GivesPart};
+ghost use Rattle.zarrs_chain_lines.specs.Session.{state_of, EditsSession, GivesChunkPart, Replies, RepliesReencoded, StoresChunkEdit};
 
 use crate::command::{Command, command_of};
 use std::alloc::Global;
@@ -21,18 +18,14 @@ use zarrs_chain_json::{
 };
 use zarrs_chain_whole::CodecChain;
 use zarrs_chain_whole::reencode::reencode;
-use zarrs_chunk::{ChunkShape, CodecError, Indexer};
+use zarrs_chunk::{CodecError, Indexer};
 use zarrs_codec::{MemoryHandle, SampleBytesCodec};
 use zarrs_codec_chain::CodecChainPartialTraits;
-use zarrs_data_type::{DataType, FillValue};
 
 /// What a header opened, and what is stored since.
 #[derive(Drop)]
 pub struct Session {
-    chain: CodecChain<SampleBytesCodec>,
-    shape: ChunkShape,
-    data_type: DataType,
-    fill_value: FillValue,
+    header: ChunkHeader,
     handle: MemoryHandle,
 }
 
@@ -40,18 +33,19 @@ pub struct Session {
 fn read_part(
     handle: &mut MemoryHandle,
     alloc: Global,
-    chain: &CodecChain<SampleBytesCodec>,
-    shape: &ChunkShape,
-    data_type: &DataType,
-    fill_value: &FillValue,
+    header: &ChunkHeader,
     indexer: &Indexer,
 ) -> Result<ArrayBytes<'static>, CodecError>
-    ensures answer { GivesChunkPart (plain_chain chain.now)
-        (form_of shape.now data_type.now fill_value.now)
-        (handle_value handle.old) (selection_of indexer.now) result }
+    ensures answer { GivesChunkPart header.now handle.old indexer.now result }
     ensures kept { handle_value handle.new ≡ handle_value handle.old }
 {
-    match chain.partial_decoder(alloc, handle, shape, data_type, fill_value) {
+    match header.chain.partial_decoder(
+        alloc,
+        handle,
+        &header.shape,
+        &header.data_type,
+        &header.fill_value,
+    ) {
         Err(refused) => Err(refused.error),
         Ok(mut decoder) => {
             let elements = decoder.partial_decode(alloc, indexer);
@@ -65,18 +59,19 @@ fn read_part(
 fn write_part(
     handle: &mut MemoryHandle,
     alloc: Global,
-    chain: &CodecChain<SampleBytesCodec>,
-    shape: &ChunkShape,
-    data_type: &DataType,
-    fill_value: &FillValue,
+    header: &ChunkHeader,
     edit: &Edit,
 ) -> Result<(), CodecError>
-    ensures answer { StoresChunkEdit (plain_chain chain.now)
-        (form_of shape.now data_type.now fill_value.now)
-        (handle_value handle.old) (handle_value handle.new) (edit_seen edit.now) result }
+    ensures answer { StoresChunkEdit header.now handle.old handle.new edit.now result }
     ensures kept { OnErr result (handle_value handle.new ≡ handle_value handle.old) }
 {
-    match chain.partial_encoder(alloc, handle, shape, data_type, fill_value) {
+    match header.chain.partial_encoder(
+        alloc,
+        handle,
+        &header.shape,
+        &header.data_type,
+        &header.fill_value,
+    ) {
         Err(refused) => Err(refused.error),
         Ok(mut encoder) => {
             let written = encoder.partial_encode(alloc, &edit.indexer, &edit.elements);
@@ -87,48 +82,35 @@ fn write_part(
 }
 
 impl Session {
-    ghost use Rattle.zarrs_chain_lines.specs.Session.{state_of};
-
     /// The session that a header opens, with nothing stored. Refusals: those of `read_header`.
     pub fn open(alloc: Global, header: &[u8]) -> Result<Session, Refusal>
-        ensures answer { Answers wants_memory state_of result
-            (seen first_state (line_header header.now)) }
+        ensures answer { ReadsAs state_of result (seen first_state (line_header header.now)) }
     {
-        let ChunkHeader {
-            chain,
-            shape,
-            data_type,
-            fill_value,
-        } = read_header(alloc, header)?;
+        let header = read_header(alloc, header)?;
         Ok(Session {
-            chain,
-            shape,
-            data_type,
-            fill_value,
+            header,
             handle: MemoryHandle::new(),
         })
     }
 
     fn encode(&self, alloc: Global, text: &[u8]) -> Result<Vec<u8>, Refusal>
-        ensures answer { Answers wants_memory (λ line. (line.items, state_of self.now)) result
-            (encode_answer (state_of self.now) text.now) }
+        ensures answer { Replies self.now result (encode_answer (state_of self.now) text.now) }
     {
         let tree = tree(alloc, text)?;
-        let elements = elements(alloc, &self.data_type, &tree)?;
-        let value = self.chain.encode(
+        let elements = elements(alloc, &self.header.data_type, &tree)?;
+        let value = self.header.chain.encode(
             alloc,
             elements,
-            &self.shape,
-            &self.data_type,
-            &self.fill_value,
+            &self.header.shape,
+            &self.header.data_type,
+            &self.header.fill_value,
         )?;
         let line = ok_hex(alloc, value.as_slice())?;
         Ok(line)
     }
 
     fn load(&mut self, alloc: Global, text: &[u8]) -> Result<Vec<u8>, Refusal>
-        ensures answer { Answers wants_memory (λ line. (line.items, state_of self.new)) result
-            (load_answer (state_of self.old) text.now) }
+        ensures answer { Replies self.new result (load_answer (state_of self.old) text.now) }
         ensures kept { OnErr result (state_of self.new ≡ state_of self.old) }
     {
         let tree = tree(alloc, text)?;
@@ -139,22 +121,20 @@ impl Session {
     }
 
     fn decode_value(&self, alloc: Global, value: &[u8]) -> Result<Vec<u8>, Refusal>
-        ensures answer { Answers wants_memory (λ line. (line.items, state_of self.now)) result
-            (chunk_answer (state_of self.now) value.now) }
+        ensures answer { Replies self.now result (chunk_answer (state_of self.now) value.now) }
     {
-        let elements = self.chain.decode(
+        let elements = self.header.chain.decode(
             alloc,
             CowSlice::Borrowed(value),
-            &self.shape,
-            &self.data_type,
-            &self.fill_value,
+            &self.header.shape,
+            &self.header.data_type,
+            &self.header.fill_value,
         )?;
-        ok_elements(alloc, &self.data_type, &elements)
+        ok_elements(alloc, &self.header.data_type, &elements)
     }
 
     fn decode(&self, alloc: Global) -> Result<Vec<u8>, Refusal>
-        ensures answer { Answers wants_memory (λ line. (line.items, state_of self.now)) result
-            (decode_answer (state_of self.now)) }
+        ensures answer { Replies self.now result (decode_answer (state_of self.now)) }
     {
         match self.handle.value() {
             None => Ok(Vec::from_slice(alloc, b"ok none")?),
@@ -170,60 +150,39 @@ impl Session {
         ensures answer { GivesPart (state_of self.old) (selection_of indexer.now) result }
         ensures kept { state_of self.new ≡ state_of self.old }
     {
-        read_part(
-            &mut self.handle,
-            alloc,
-            &self.chain,
-            &self.shape,
-            &self.data_type,
-            &self.fill_value,
-            indexer,
-        )
+        read_part(&mut self.handle, alloc, &self.header, indexer)
     }
 
     fn read(&mut self, alloc: Global, text: &[u8]) -> Result<Vec<u8>, Refusal>
-        ensures answer { Answers wants_memory (λ line. (line.items, state_of self.new)) result
-            (read_answer (state_of self.old) text.now) }
+        ensures answer { Replies self.new result (read_answer (state_of self.old) text.now) }
         ensures kept { state_of self.new ≡ state_of self.old }
     {
         let tree = tree(alloc, text)?;
         let indexer = indexer(alloc, &tree)?;
         let elements = self.selected(alloc, &indexer)?;
-        ok_elements(alloc, &self.data_type, &elements)
+        ok_elements(alloc, &self.header.data_type, &elements)
     }
 
     fn store(&mut self, alloc: Global, edit: &Edit) -> Result<(), CodecError>
-        ensures answer { StoresEdit (state_of self.old) (state_of self.new)
-            (edit_seen edit.now) result }
+        ensures answer { EditsSession self.old self.new edit.now result }
         ensures kept { OnErr result (state_of self.new ≡ state_of self.old) }
     {
-        let handle = &mut self.handle;
-        write_part(
-            handle,
-            alloc,
-            &self.chain,
-            &self.shape,
-            &self.data_type,
-            &self.fill_value,
-            edit,
-        )
+        write_part(&mut self.handle, alloc, &self.header, edit)
     }
 
     fn write(&mut self, alloc: Global, text: &[u8]) -> Result<Vec<u8>, Refusal>
-        ensures answer { Answers wants_memory (λ line. (line.items, state_of self.new)) result
-            (write_answer (state_of self.old) text.now) }
+        ensures answer { Replies self.new result (write_answer (state_of self.old) text.now) }
         ensures kept { OnErr result (state_of self.new ≡ state_of self.old) }
     {
         let tree = tree(alloc, text)?;
-        let edit = read_edit(alloc, &self.data_type, &tree)?;
+        let edit = read_edit(alloc, &self.header.data_type, &tree)?;
         let line = Vec::from_slice(alloc, b"ok")?;
         self.store(alloc, &edit)?;
         Ok(line)
     }
 
     fn erase(&mut self, alloc: Global) -> Result<Vec<u8>, Refusal>
-        ensures answer { Answers wants_memory (λ line. (line.items, state_of self.new)) result
-            (erase_answer (state_of self.old)) }
+        ensures answer { Replies self.new result (erase_answer (state_of self.old)) }
         ensures kept { OnErr result (state_of self.new ≡ state_of self.old) }
     {
         let line = Vec::from_slice(alloc, b"ok")?;
@@ -232,8 +191,7 @@ impl Session {
     }
 
     fn value(&self, alloc: Global) -> Result<Vec<u8>, Refusal>
-        ensures answer { Answers wants_memory (λ line. (line.items, state_of self.now)) result
-            (value_answer (state_of self.now)) }
+        ensures answer { Replies self.now result (value_answer (state_of self.now)) }
     {
         match self.handle.value() {
             None => Ok(Vec::from_slice(alloc, b"ok none")?),
@@ -247,24 +205,22 @@ impl Session {
         to: &CodecChain<SampleBytesCodec>,
         value: &[u8],
     ) -> Result<Vec<u8>, Refusal>
-        ensures answer { Answers wants_memory (λ line. (line.items, state_of self.now)) result
-            (reencoded_answer (plain_chain to.now) (state_of self.now) value.now) }
+        ensures answer { RepliesReencoded to.now self.now value.now result }
     {
         let other = reencode(
             alloc,
-            &self.chain,
+            &self.header.chain,
             to,
             value,
-            &self.shape,
-            &self.data_type,
-            &self.fill_value,
+            &self.header.shape,
+            &self.header.data_type,
+            &self.header.fill_value,
         )?;
         Ok(ok_hex(alloc, &other)?)
     }
 
     fn reencode(&self, alloc: Global, text: &[u8]) -> Result<Vec<u8>, Refusal>
-        ensures answer { Answers wants_memory (λ line. (line.items, state_of self.now)) result
-            (reencode_answer (state_of self.now) text.now) }
+        ensures answer { Replies self.now result (reencode_answer (state_of self.now) text.now) }
     {
         let to = read_codecs(alloc, text)?;
         match self.handle.value() {
@@ -277,8 +233,7 @@ impl Session {
     /// those of the command; `Syntax` where the line is no command; `OutOfMemory`.
     #[tactic(auto, unfolding(crate::specs::Commands::answer_to))]
     pub fn answer(&mut self, alloc: Global, line: &[u8]) -> Result<Vec<u8>, Refusal>
-        ensures answer { Answers wants_memory (λ answer. (answer.items, state_of self.new)) result
-            (answer_to (state_of self.old) line.now) }
+        ensures answer { Replies self.new result (answer_to (state_of self.old) line.now) }
         ensures kept { OnErr result (state_of self.new ≡ state_of self.old) }
     {
         match command_of(line) {

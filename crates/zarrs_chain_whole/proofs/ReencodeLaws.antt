@@ -29,7 +29,7 @@ reencoded_is_canonical f chain form value other chunk lawful is each positive s 
 
 pub reencoded_twice : {B : Type 0} (f : BytesCodecs B) → ReencodedTwice f
 reencoded_twice f chain form value other again chunk lawful is each positive s r =
-    let normal = normal_form chain.codec form.type chunk in
+    let normal = normal_form chain.array_to_bytes form.type chunk in
     let canonical = reencoded_is_canonical f chain form value other chunk lawful is each positive s r in (
       λ more. chain_once f chain form.sizes form.type form.fill again other normal ((reencoded_is_written f f chain chain form other again normal is positive canonical.stands).0 more) canonical.written,
       λ e. subst (λ (v : List ℕ). Reencoded (chain_grammar f chain) (chain_grammar f chain) form other v) (sym e) (record { chunk = normal; stands = canonical.stands; written = canonical.written }),

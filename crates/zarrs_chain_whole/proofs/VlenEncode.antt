@@ -135,16 +135,16 @@ parts_value f index content wide at_end offsets items =
     index_part f index wide offsets >>= λ part. content_part f content (drop (slice_index offsets 0) items) >>= λ d. in_memory (vlen_layout at_end part d)
 
 vlen_value_is : {B : Type 0} (f : BytesCodecs B) (index content : PlainChain B) (wide at_end : Bool) (offsets items : List ℕ) (count : ℕ) → IsRow offsets items count → length items < 2 ^ 64
-    → vlen_value wide at_end (normal_element index.codec) (chain_value f index) (chain_value f content) (slices count offsets items) ≡ parts_value f index content wide at_end offsets items
+    → vlen_value wide at_end (normal_element index.array_to_bytes) (chain_value f index) (chain_value f content) (slices count offsets items) ≡ parts_value f index content wide at_end offsets items
 vlen_value_is f index content wide at_end offsets items count r small =
     let first : ℕ = slice_index offsets 0 in
     let rows = offset_elements wide (from_first offsets) in
     let long : length (drop first items) ≡ last_of offsets - first = length-drop first items ∙ ap (λ n. n - first) (sym r.ending) in
     let memory_is : in_memory (drop first items) ≡ Ok (drop first items) = memory_so (drop first items) (omega (arith, length-drop first items)) in
-    (λ i. vlen_from wide at_end (normal_element index.codec) (chain_value f index) (chain_value f content) (whole_offsets offsets items count r i) (whole_bytes offsets items count r i))
-    ∙ next_answer (in_memory (drop first items)) (drop first items) (λ all. demand (offset_fits wide (length all)) OffsetTooLarge >>= λ _. chain_value f index (length rows ∷ []) (offset_type wide) (offset_bytes wide 0) rows >>= λ part. demand (is_same_bytes (map (normal_element index.codec (offset_type wide)) rows) rows) OffsetNotKept >>= λ _. part_value (chain_value f content) byte_type (0 ∷ []) (byte_elements all) >>= λ d. in_memory (vlen_layout at_end part d)) memory_is
-    ∙ ap (λ n. demand (offset_fits wide n) OffsetTooLarge >>= λ _. chain_value f index (length rows ∷ []) (offset_type wide) (offset_bytes wide 0) rows >>= λ part. demand (is_same_bytes (map (normal_element index.codec (offset_type wide)) rows) rows) OffsetNotKept >>= λ _. content_part f content (drop first items) >>= λ d. in_memory (vlen_layout at_end part d)) long
-    ∙ all_steps (offsets_fit wide offsets) rows (λ r. chain_value f index (length r ∷ []) (offset_type wide) (offset_bytes wide 0) r) (keeps_offsets index.codec wide offsets) (content_part f content (drop first items)) (λ part d. in_memory (vlen_layout at_end part d))
+    (λ i. vlen_from wide at_end (normal_element index.array_to_bytes) (chain_value f index) (chain_value f content) (whole_offsets offsets items count r i) (whole_bytes offsets items count r i))
+    ∙ next_answer (in_memory (drop first items)) (drop first items) (λ all. demand (offset_fits wide (length all)) OffsetTooLarge >>= λ _. chain_value f index (length rows ∷ []) (offset_type wide) (offset_bytes wide 0) rows >>= λ part. demand (is_same_bytes (map (normal_element index.array_to_bytes (offset_type wide)) rows) rows) OffsetNotKept >>= λ _. part_value (chain_value f content) byte_type (0 ∷ []) (byte_elements all) >>= λ d. in_memory (vlen_layout at_end part d)) memory_is
+    ∙ ap (λ n. demand (offset_fits wide n) OffsetTooLarge >>= λ _. chain_value f index (length rows ∷ []) (offset_type wide) (offset_bytes wide 0) rows >>= λ part. demand (is_same_bytes (map (normal_element index.array_to_bytes (offset_type wide)) rows) rows) OffsetNotKept >>= λ _. content_part f content (drop first items) >>= λ d. in_memory (vlen_layout at_end part d)) long
+    ∙ all_steps (offsets_fit wide offsets) rows (λ r. chain_value f index (length r ∷ []) (offset_type wide) (offset_bytes wide 0) r) (keeps_offsets index.array_to_bytes wide offsets) (content_part f content (drop first items)) (λ part d. in_memory (vlen_layout at_end part d))
 
 demand_so : (test : Bool) (cause : CodecError) (r : BytesRepresentation) (rest : Result BytesRepresentation CodecError) → demand test cause >>= (λ _. rest) ≡ Ok r → test ≡ true
 demand_so true cause r rest e = refl
@@ -167,7 +167,7 @@ held_is f codec index content wide at_end sizes type fill raw offsets e t =
     let variable : is_variable type ≡ true = demand_so (is_variable type) (UnsupportedDataType names.Vlen) t.size _ t.measured in
     let row : IsRow offsets raw.items count = record { rising = t.rising; ending = t.ending; long = variable_fits InvalidBytesLength type count raw offsets (both_ok _ _ t.valid).1 } in
     ap (λ c. codec_held_value f c sizes type fill (vlen raw offsets)) e
-    ∙ rw (t.measured, t.valid) (ap (vlen_value wide at_end (normal_element index.codec) (chain_value f index) (chain_value f content)) (elements_cut type count raw offsets variable)
+    ∙ rw (t.measured, t.valid) (ap (vlen_value wide at_end (normal_element index.array_to_bytes) (chain_value f index) (chain_value f content)) (elements_cut type count raw offsets variable)
     ∙ vlen_value_is f index content wide at_end offsets raw.items count row t.small)
 
 -- ---- the elements of a row through a chain
@@ -220,7 +220,7 @@ index_is f chain wide offsets held rising h =
 
 abbrev index_rest : {B : Type 0} → BytesCodecs B → PlainChain B → Bool → List ℕ → Chunk → Result (List ℕ) CodecError
 index_rest f chain wide offsets rows =
-    chain_value f chain (length rows ∷ []) (offset_type wide) (offset_bytes wide 0) rows >>= λ part. demand (keeps_offsets chain.codec wide offsets) OffsetNotKept >>= λ _. ok part
+    chain_value f chain (length rows ∷ []) (offset_type wide) (offset_bytes wide 0) rows >>= λ part. demand (keeps_offsets chain.array_to_bytes wide offsets) OffsetNotKept >>= λ _. ok part
 
 fits_so : {B : Type 0} (f : BytesCodecs B) (chain : PlainChain B) (wide : Bool) (offsets : List ℕ) → offsets_fit wide offsets ≡ true → index_part f chain wide offsets ≡ index_rest f chain wide offsets (offset_elements wide (from_first offsets))
 fits_so f chain wide offsets fits = rw fits refl
@@ -230,23 +230,23 @@ pub index_refused : {B : Type 0} (f : BytesCodecs B) (chain : PlainChain B) (wid
 index_refused f chain wide offsets held error rising h e =
     let so = elements_so wide offsets (Holds (offset_type wide) held) h in
     let rows = offset_elements wide (from_first offsets) in
-    fits_so f chain wide offsets so.0 ∙ next_err (chain_value f chain (length rows ∷ []) (offset_type wide) (offset_bytes wide 0) rows) error (λ part. demand (keeps_offsets chain.codec wide offsets) OffsetNotKept >>= λ _. ok part) (sym (index_is f chain wide offsets held rising so.1) ∙ e)
+    fits_so f chain wide offsets so.0 ∙ next_err (chain_value f chain (length rows ∷ []) (offset_type wide) (offset_bytes wide 0) rows) error (λ part. demand (keeps_offsets chain.array_to_bytes wide offsets) OffsetNotKept >>= λ _. ok part) (sym (index_is f chain wide offsets held rising so.1) ∙ e)
 
 kept_error : (test : Bool) (part : List ℕ) (error : CodecError) → demand test OffsetNotKept ≡ Err error → (demand test OffsetNotKept >>= λ _. ok part) ≡ Err error
 kept_error true part error h = absurd cc
 kept_error false part error h = cc
 
 index_goes : {B : Type 0} (f : BytesCodecs B) (chain : PlainChain B) (wide : Bool) (offsets : List ℕ) (held : Held) (part : List ℕ) → is_offsets offsets ≡ true → IsOkAnd (index_elements wide offsets) (Holds (offset_type wide) held)
-    → held_part f chain (length offsets) (offset_type wide) (offset_bytes wide 0) held ≡ Ok part → index_part f chain wide offsets ≡ (demand (keeps_offsets chain.codec wide offsets) OffsetNotKept >>= λ _. ok part)
+    → held_part f chain (length offsets) (offset_type wide) (offset_bytes wide 0) held ≡ Ok part → index_part f chain wide offsets ≡ (demand (keeps_offsets chain.array_to_bytes wide offsets) OffsetNotKept >>= λ _. ok part)
 index_goes f chain wide offsets held part rising h e =
     let so = elements_so wide offsets (Holds (offset_type wide) held) h in
     let rows = offset_elements wide (from_first offsets) in
-    fits_so f chain wide offsets so.0 ∙ next_answer (chain_value f chain (length rows ∷ []) (offset_type wide) (offset_bytes wide 0) rows) part (λ part. demand (keeps_offsets chain.codec wide offsets) OffsetNotKept >>= λ _. ok part) (sym (index_is f chain wide offsets held rising so.1) ∙ e)
+    fits_so f chain wide offsets so.0 ∙ next_answer (chain_value f chain (length rows ∷ []) (offset_type wide) (offset_bytes wide 0) rows) part (λ part. demand (keeps_offsets chain.array_to_bytes wide offsets) OffsetNotKept >>= λ _. ok part) (sym (index_is f chain wide offsets held rising so.1) ∙ e)
 
 pub index_not_kept : {B : Type 0} (f : BytesCodecs B) (chain : PlainChain B) (wide : Bool) (offsets : List ℕ) (held : Held) (part : List ℕ) (error : CodecError) → is_offsets offsets ≡ true → IsOkAnd (index_elements wide offsets) (Holds (offset_type wide) held)
-    → held_part f chain (length offsets) (offset_type wide) (offset_bytes wide 0) held ≡ Ok part → demand (keeps_offsets chain.codec wide offsets) OffsetNotKept ≡ Err error → index_part f chain wide offsets ≡ Err error
+    → held_part f chain (length offsets) (offset_type wide) (offset_bytes wide 0) held ≡ Ok part → demand (keeps_offsets chain.array_to_bytes wide offsets) OffsetNotKept ≡ Err error → index_part f chain wide offsets ≡ Err error
 index_not_kept f chain wide offsets held part error rising h e kept =
-    index_goes f chain wide offsets held part rising h e ∙ kept_error (keeps_offsets chain.codec wide offsets) part error kept
+    index_goes f chain wide offsets held part rising h e ∙ kept_error (keeps_offsets chain.array_to_bytes wide offsets) part error kept
 
 -- ---- the codec of a chain that took offsets takes them
 
@@ -279,14 +279,14 @@ takes_codec f arrays (optional_codec ma mx mb da dx db) outer wide count r mappi
 
 -- a chain that wrote offsets takes them
 pub takes_so : {B : Type 0} (f : BytesCodecs B) (chain : PlainChain B) (wide : Bool) (offsets : List ℕ) (held : Held) (part : List ℕ) → IsChainOfMappings chain → is_offsets offsets ≡ true → IsOkAnd (index_elements wide offsets) (Holds (offset_type wide) held)
-    → held_part f chain (length offsets) (offset_type wide) (offset_bytes wide 0) held ≡ Ok part → TakesOffsets chain.codec wide (length offsets)
+    → held_part f chain (length offsets) (offset_type wide) (offset_bytes wide 0) held ≡ Ok part → TakesOffsets chain.array_to_bytes wide (length offsets)
 takes_so f chain wide offsets held part is rising h e =
     let so = elements_so wide offsets (Holds (offset_type wide) held) h in
     let rows = offset_elements wide (from_first offsets) in
     let whole : chain_value f chain (length offsets ∷ []) (offset_type wide) (offset_bytes wide 0) rows ≡ Ok part =
     ap (λ n. chain_value f chain (n ∷ []) (offset_type wide) (offset_bytes wide 0) rows) (sym (elements_long wide offsets)) ∙ sym (index_is f chain wide offsets held rising so.1) ∙ e in
     let a = bind_ok (chain_representation f chain (length offsets ∷ []) (offset_type wide) (offset_bytes wide 0)) _ part whole in
-    takes_codec f chain.arrays chain.codec chain.outer wide (length offsets) a.0 is.mappings (some_offset offsets rising) a.1
+    takes_codec f chain.array_to_array chain.array_to_bytes chain.bytes_to_bytes wide (length offsets) a.0 is.mappings (some_offset offsets rising) a.1
 
 -- ---- the same, by the type and the fill value that the code makes
 
@@ -308,11 +308,11 @@ pub index_refused_at : {B : Type 0} (f : BytesCodecs B) (chain : PlainChain B) (
 index_refused_at f chain wide offsets held type fill error r e = index_refused f chain wide offsets held error r.rising r.rows (part_at f chain wide offsets held type fill r ∙ e)
 
 pub index_not_kept_at : {B : Type 0} (f : BytesCodecs B) (chain : PlainChain B) (wide : Bool) (offsets : List ℕ) (held : Held) (type : ElementType) (fill part : List ℕ) (error : CodecError) → IsIndexRow wide offsets held type fill
-    → held_part f chain (length offsets) type fill held ≡ Ok part → demand (keeps_offsets chain.codec wide offsets) OffsetNotKept ≡ Err error → index_part f chain wide offsets ≡ Err error
+    → held_part f chain (length offsets) type fill held ≡ Ok part → demand (keeps_offsets chain.array_to_bytes wide offsets) OffsetNotKept ≡ Err error → index_part f chain wide offsets ≡ Err error
 index_not_kept_at f chain wide offsets held type fill part error r e kept = index_not_kept f chain wide offsets held part error r.rising r.rows (part_at f chain wide offsets held type fill r ∙ e) kept
 
 pub takes_at : {B : Type 0} (f : BytesCodecs B) (chain : PlainChain B) (wide : Bool) (offsets : List ℕ) (held : Held) (type : ElementType) (fill part : List ℕ) → IsChainOfMappings chain → IsIndexRow wide offsets held type fill
-    → held_part f chain (length offsets) type fill held ≡ Ok part → TakesOffsets chain.codec wide (length offsets)
+    → held_part f chain (length offsets) type fill held ≡ Ok part → TakesOffsets chain.array_to_bytes wide (length offsets)
 takes_at f chain wide offsets held type fill part is r e = takes_so f chain wide offsets held part is r.rising r.rows (part_at f chain wide offsets held type fill r ∙ e)
 
 pub content_at : {B X : Type 0} (view : X → List ℕ) (result : Result X CodecError) (f : BytesCodecs B) (chain : PlainChain B) (raw : Raw) (held : Held) (fill : List ℕ) → length raw.items < 2 ^ 64 → held ≡ flen raw → ok (0 ∷ []) ≡ ok fill

@@ -1,5 +1,5 @@
 -- Chains of codecs as the plain chains that contracts speak of.
-use Rattle.std.specs.Prelude.{◌≡◌, map, List}
+use Rattle.std.specs.Prelude.{◌≡◌, map, Vec}
 use Rattle.std.proofs.Common.{ap}
 use Rattle.std.specs.declared.alloc.Global.{Global}
 use Rattle.std.specs.declared.boxed.Box.{Box}
@@ -7,7 +7,7 @@ use Rattle.zarrs_metadata.specs.declared.codec.vlen.VlenIndexDataType.{VlenIndex
 use Rattle.zarrs_metadata.specs.declared.codec.vlen.VlenIndexLocation.{VlenIndexLocation}
 use Rattle.zarrs_array_to_array.specs.Mapping.{mapping_of}
 use Rattle.zarrs_chain_laws.specs.vlen.VlenSettings.{is_wide, is_at_end}
-use Rattle.zarrs_chain_laws.specs.PlainChain.{PlainCodec, bytes_codec, packbits_codec, vlen_codec, optional_codec, PlainChain, vlen_codec_of, optional_codec_of}
+use Rattle.zarrs_chain_laws.specs.PlainChain.{PlainCodec, bytes_codec, packbits_codec, vlen_codec, optional_codec, PlainChain, vlen_codec_of, optional_codec_of, with_location}
 use Rattle.zarrs_chain_whole.specs.declared.array_to_bytes_codec.ArrayToBytesCodec.{ArrayToBytesCodec}
 use Rattle.zarrs_chain_whole.specs.declared.array_to_bytes_codec.ArrayToBytesCodec.TheVariants.{Bytes, PackBits, Vlen, Optional}
 use Rattle.zarrs_chain_whole.specs.declared.codec_chain.CodecChain.{CodecChain}
@@ -32,9 +32,9 @@ unfoldable mutual
 
 abbrev pub plain_chain : {B : Type 0} → CodecChain B → PlainChain B
 plain_chain chain = record {
-  arrays = map mapping_of chain.array_to_array.items;
-  codec = plain_codec chain.array_to_bytes;
-  outer = chain.bytes_to_bytes.items;
+  array_to_array = map mapping_of chain.array_to_array.items;
+  array_to_bytes = plain_codec chain.array_to_bytes;
+  bytes_to_bytes = chain.bytes_to_bytes.items;
 }
 
 -- one level of each codec with chains inside, as the code opens it
@@ -61,10 +61,28 @@ plain_optional_made mask content =
     ap (λ x. plain_optional x) (rolls-OptionalCodec' (record { mask_codecs = mask; data_codecs = content }))
 
 -- the chain of these codecs
-abbrev pub chain_of : {B : Type 0} → List ArrayToArrayCodec → ArrayToBytesCodec B → List B → PlainChain B
-chain_of arrays codec outer = record { arrays = map mapping_of arrays; codec = plain_codec codec; outer = outer }
+abbrev pub chain_of : {B : Type 0} → Vec ArrayToArrayCodec Global → ArrayToBytesCodec B → Vec B Global → PlainChain B
+chain_of arrays codec outer =
+    record { array_to_array = map mapping_of arrays.items; array_to_bytes = plain_codec codec; bytes_to_bytes = outer.items }
+
+-- the chain in a box
+abbrev pub boxed_chain : {B : Type 0} → Box (CodecChain B) Global → PlainChain B
+boxed_chain chain = plain_chain chain.value
 
 -- `vlen` with these chains inside and these settings
 abbrev pub vlen_of : {B : Type 0} → CodecChain B → CodecChain B → VlenIndexDataType → VlenIndexLocation → PlainCodec B
 vlen_of index content index_data_type index_location =
     vlen_codec_of (plain_chain index) (plain_chain content) (is_wide index_data_type) (is_at_end index_location)
+
+-- the codec is the `vlen` with the chains of these boxes inside and these settings
+abbrev pub IsVlenOf : {B : Type 0} → Box (CodecChain B) Global → Box (CodecChain B) Global → VlenIndexDataType → VlenIndexLocation → VlenCodec B → Type 0
+IsVlenOf index content index_data_type index_location codec =
+    plain_vlen codec ≡ vlen_of index.value content.value index_data_type index_location
+
+-- the codec with its index at this place
+abbrev pub with_index : {B : Type 0} → VlenIndexLocation → VlenCodec B → PlainCodec B
+with_index index_location codec = with_location (is_at_end index_location) (plain_vlen codec)
+
+-- `optional` with these chains inside
+abbrev pub optional_of : {B : Type 0} → CodecChain B → CodecChain B → PlainCodec B
+optional_of mask content = optional_codec_of (plain_chain mask) (plain_chain content)

@@ -17,5 +17,5 @@ codec_opened f codec sizes type fill = seen (λ _. tt) (codec_representation f c
 abbrev pub chain_opened : {B : Type 0} → BytesCodecs B → PlainChain B → List ℕ → ElementType → List ℕ → List ℕ → Result (Unit {0}) CodecError
 chain_opened f chain sizes type fill value = do
   taken ← taken_form f chain sizes type fill
-  _ ← outer_bytes f chain.outer taken.1 value
+  _ ← outer_bytes f chain.bytes_to_bytes taken.1 value
   Ok tt

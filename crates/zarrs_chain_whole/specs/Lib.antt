@@ -1,5 +1,9 @@
 pub mod vlen
+pub mod optional
 pub mod ChainGrammar
+pub mod CodecCalls
+pub mod ChainCalls
+pub mod Making
 pub mod Compact
 pub mod ChainView
 pub mod ChainParts

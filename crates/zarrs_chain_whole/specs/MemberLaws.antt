@@ -27,13 +27,13 @@ codec_fits f codec form value chunk e =
 pub chain_fits : {B : Type 0} (f : BytesCodecs B) (chain : PlainChain B) (form : Form) (value : List ℕ) (chunk : Chunk)
     → chain_chunk f chain form.sizes form.type form.fill value ≡ Ok chunk → FitsForm (chain_representation f chain form.sizes form.type form.fill) form chunk
 chain_fits f chain form value chunk e =
-    let m = bind_ok (arrays_map form.type chain.arrays form.sizes) _ chunk e in
-    let r = bind_ok (codec_representation f chain.codec m.0.encoded form.type form.fill) _ chunk m.2 in
-    let below = bind_ok (outer_bytes f chain.outer r.0 value) _ chunk r.2 in
-    let c = bind_ok (codec_chunk f chain.codec m.0.encoded form.type form.fill below.0) _ chunk below.2 in
-    let taken : chain_representation f chain form.sizes form.type form.fill ≡ Ok (outer_representation f chain.outer r.0) =
-    next_answer (arrays_map form.type chain.arrays form.sizes) m.0 (λ map. codec_representation f chain.codec map.encoded form.type form.fill >>= λ inner. Ok (outer_representation f chain.outer inner)) m.1
-    ∙ next_answer (codec_representation f chain.codec m.0.encoded form.type form.fill) r.0 (λ inner. Ok (outer_representation f chain.outer inner)) r.1 in
+    let m = bind_ok (arrays_map form.type chain.array_to_array form.sizes) _ chunk e in
+    let r = bind_ok (codec_representation f chain.array_to_bytes m.0.encoded form.type form.fill) _ chunk m.2 in
+    let below = bind_ok (outer_bytes f chain.bytes_to_bytes r.0 value) _ chunk r.2 in
+    let c = bind_ok (codec_chunk f chain.array_to_bytes m.0.encoded form.type form.fill below.0) _ chunk below.2 in
+    let taken : chain_representation f chain form.sizes form.type form.fill ≡ Ok (outer_representation f chain.bytes_to_bytes r.0) =
+    next_answer (arrays_map form.type chain.array_to_array form.sizes) m.0 (λ map. codec_representation f chain.array_to_bytes map.encoded form.type form.fill >>= λ inner. Ok (outer_representation f chain.bytes_to_bytes inner)) m.1
+    ∙ next_answer (codec_representation f chain.array_to_bytes m.0.encoded form.type form.fill) r.0 (λ inner. Ok (outer_representation f chain.bytes_to_bytes inner)) r.1 in
     record {
       taken = subst IsOk (sym taken) refl;
       count = ap length (sym (ok_is (moved_chunk (inverse_map form.sizes m.0) c.0) chunk c.2)) ∙ length-moved (inverse_map form.sizes m.0) c.0;

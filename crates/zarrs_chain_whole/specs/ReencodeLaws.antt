@@ -16,7 +16,7 @@ WrittenIsCanonical {B} f =
     (chain : PlainChain B) (form : Form) (value : List ℕ) (chunk : Chunk)
     → IsLawful f → IsChainOfMappings chain → All HasBytes chunk → All (λ size. 0 < size) form.sizes
     → (chain_grammar f chain).Written form value chunk
-    → IsCanonical (chain_grammar f chain) form value (normal_form chain.codec form.type chunk)
+    → IsCanonical (chain_grammar f chain) form value (normal_form chain.array_to_bytes form.type chunk)
 
 -- A value that stands for a chunk is re-encoded as exactly what is written for the chunk.
 abbrev pub ReencodedIsWritten : {B C : Type 0} → BytesCodecs B → BytesCodecs C → Type 0
@@ -33,7 +33,7 @@ ReencodedIsCanonical {B} f =
     → IsLawful f → IsChainOfMappings chain → All HasBytes chunk → All (λ size. 0 < size) form.sizes
     → (chain_grammar f chain).Stands form value chunk
     → Reencoded (chain_grammar f chain) (chain_grammar f chain) form value other
-    → IsCanonical (chain_grammar f chain) form other (normal_form chain.codec form.type chunk)
+    → IsCanonical (chain_grammar f chain) form other (normal_form chain.array_to_bytes form.type chunk)
 
 -- What is re-encoded into its own chain is re-encoded there as itself, and as nothing else.
 abbrev pub ReencodedTwice : {B : Type 0} → BytesCodecs B → Type 0
@@ -49,6 +49,6 @@ abbrev pub ReencodedBack : {B C : Type 0} → BytesCodecs B → BytesCodecs C �
 ReencodedBack {B} {C} f g =
     (from : PlainChain B) (to : PlainChain C) (form : Form) (value other back : List ℕ) (chunk : Chunk)
     → IsLawful g → IsChainOfMappings from → IsChainOfMappings to → All HasBytes chunk → All (λ size. 0 < size) form.sizes
-    → IsCanonical (chain_grammar f from) form value chunk → normal_form to.codec form.type chunk ≡ chunk
+    → IsCanonical (chain_grammar f from) form value chunk → normal_form to.array_to_bytes form.type chunk ≡ chunk
     → Reencoded (chain_grammar f from) (chain_grammar g to) form value other
     → Reencoded (chain_grammar g to) (chain_grammar f from) form other back ↔ (back ≡ value)

@@ -1,16 +1,10 @@
-ghost use Rattle.zarrs_data_type.specs.Form.{form_of};
-ghost use Rattle.zarrs_chain_laws.specs.CallAnswers.{GivesCodecChunk, GivesCodecValue, GivesRepresentation, IsTaken};
-ghost use Rattle.zarrs_chunk.specs.Answer.{Gives, GivesBy};
 ghost use Rattle.zarrs_array_bytes.specs.Blank.{AbsentAreBlank};
-ghost use Rattle.zarrs_array_bytes.specs.Held.{items_of};
-ghost use Rattle.std.specs.Prelude.{◌≡◌, IfOk, IsOk, false};
-ghost use Rattle.zarrs_array_bytes.specs.Validity.{Holds};
-ghost use Rattle.zarrs_chain_laws.specs.Chain.{codec_held_value, codec_reads as codec_reads_of, codec_writes as codec_writes_of};
+ghost use Rattle.std.specs.Prelude.{◌≡◌, IfOk};
+ghost use Rattle.zarrs_chain_laws.specs.Chain.{codec_reads as codec_reads_of, codec_writes as codec_writes_of};
 ghost use Rattle.zarrs_chain_whole.specs.ChainView.{plain_codec};
-ghost use Rattle.zarrs_chain_laws.specs.Decode.{codec_chunk};
 ghost use Rattle.zarrs_chain_laws.specs.Laws.{HasMappings};
 ghost use Rattle.zarrs_chain_laws.specs.MadeAgain.{HasRanges};
-ghost use Rattle.zarrs_chain_laws.specs.Representation.{codec_representation as codec_representation_of};
+ghost use Rattle.zarrs_chain_whole.specs.CodecCalls.{Takes, Counts, Writes, Reads};
 
 use crate::optional::optional_codec::{
     OptionalCodec, optional_decode, optional_encode, optional_has_ranges, optional_is_sound,
@@ -83,8 +77,7 @@ pub(crate) fn codec_representation<B: BytesToBytesCodecTraits>(
     data_type: &DataType,
     fill_value: &FillValue,
 ) -> Result<BytesRepresentation, CodecError>
-    ensures answer { GivesRepresentation B.functions (plain_codec codec.now)
-        (form_of shape.now data_type.now fill_value.now) result }
+    ensures answer { Counts B.functions codec.now shape.now data_type.now fill_value.now result }
 {
     match codec {
         ArrayToBytesCodec::Bytes(codec) => {
@@ -100,53 +93,44 @@ pub(crate) fn codec_representation<B: BytesToBytesCodecTraits>(
     }
 }
 
-/// The value of the chunk that `elements` hold, where the codec takes such chunks. Refusals: those of
+/// The value of the chunk that `held` holds, where the codec takes such chunks. Refusals: those of
 /// the codec's `encode` behind those of its `encoded_representation`.
 #[cycle(encode)]
 #[tactic(auto, unfolding(crate::specs::ChainView::plain_codec), using(crate::proofs::CodecSteps::bytes_held_value, crate::proofs::CodecSteps::packbits_held_value))]
 pub(crate) fn codec_encode<'a, B: BytesToBytesCodecTraits>(
     alloc: Global,
     codec: &ArrayToBytesCodec<B>,
-    elements: ArrayBytes<'a>,
+    held: ArrayBytes<'a>,
     shape: &ChunkShape,
-    data_type: &DataType,
-    fill_value: &FillValue,
+    kind: &DataType,
+    fill: &FillValue,
 ) -> Result<ArrayBytesRaw<'a>, CodecError>
-    requires taken { IsTaken B.functions (plain_codec codec.now)
-        (form_of shape.now data_type.now fill_value.now) }
-    ensures answer { GivesCodecValue B.functions (plain_codec codec.now)
-        (form_of shape.now data_type.now fill_value.now) elements.entry result }
+    requires taken { Takes B.functions codec.now shape.now kind.now fill.now }
+    ensures answer { Writes B.functions codec.now shape.now kind.now fill.now held.entry result }
 {
     match codec {
-        ArrayToBytesCodec::Bytes(codec) => {
-            codec.encode(alloc, elements, shape, data_type, fill_value)
-        }
-        ArrayToBytesCodec::PackBits(codec) => {
-            codec.encode(alloc, elements, shape, data_type, fill_value)
-        }
-        ArrayToBytesCodec::Vlen(codec) => {
-            vlen_encode(alloc, codec, elements, shape, data_type, fill_value)
-        }
+        ArrayToBytesCodec::Bytes(codec) => { codec.encode(alloc, held, shape, kind, fill) }
+        ArrayToBytesCodec::PackBits(codec) => { codec.encode(alloc, held, shape, kind, fill) }
+        ArrayToBytesCodec::Vlen(codec) => { vlen_encode(alloc, codec, held, shape, kind, fill) }
         ArrayToBytesCodec::Optional(codec) => {
-            optional_encode(alloc, codec, elements, shape, data_type, fill_value)
+            optional_encode(alloc, codec, held, shape, kind, fill)
         }
     }
 }
 
-/// The value of the chunk that `elements` hold. Refusals: the codec's own.
+/// The value of the chunk that `held` holds. Refusals: the codec's own.
 pub(crate) fn codec_taken_encode<'a, B: BytesToBytesCodecTraits>(
     alloc: Global,
     codec: &ArrayToBytesCodec<B>,
-    elements: ArrayBytes<'a>,
+    held: ArrayBytes<'a>,
     shape: &ChunkShape,
-    data_type: &DataType,
-    fill_value: &FillValue,
+    kind: &DataType,
+    fill: &FillValue,
 ) -> Result<ArrayBytesRaw<'a>, CodecError>
-    ensures answer { GivesCodecValue B.functions (plain_codec codec.now)
-        (form_of shape.now data_type.now fill_value.now) elements.entry result }
+    ensures answer { Writes B.functions codec.now shape.now kind.now fill.now held.entry result }
 {
-    codec_representation(alloc, codec, shape, data_type, fill_value)?;
-    codec_encode(alloc, codec, elements, shape, data_type, fill_value)
+    codec_representation(alloc, codec, shape, kind, fill)?;
+    codec_encode(alloc, codec, held, shape, kind, fill)
 }
 
 /// The chunk that a value stands for, with blank elements under absent ones, where the codec takes
@@ -159,25 +143,19 @@ pub fn codec_decode<'a, B: BytesToBytesCodecTraits>(
     codec: &ArrayToBytesCodec<B>,
     value: ArrayBytesRaw<'a>,
     shape: &ChunkShape,
-    data_type: &DataType,
-    fill_value: &FillValue,
+    kind: &DataType,
+    fill: &FillValue,
 ) -> Result<ArrayBytes<'a>, CodecError>
-    requires taken { IsTaken B.functions (plain_codec codec.now)
-        (form_of shape.now data_type.now fill_value.now) }
-    ensures answer { GivesCodecChunk B.functions (plain_codec codec.now)
-        (form_of shape.now data_type.now fill_value.now) (items_of value.entry) result }
-    ensures blank { IfOk result (AbsentAreBlank data_type.now) }
+    requires taken { Takes B.functions codec.now shape.now kind.now fill.now }
+    ensures answer { Reads B.functions codec.now shape.now kind.now fill.now value.entry result }
+    ensures blank { IfOk result (AbsentAreBlank kind.now) }
 {
     match codec {
-        ArrayToBytesCodec::Bytes(codec) => codec.decode(alloc, value, shape, data_type, fill_value),
-        ArrayToBytesCodec::PackBits(codec) => {
-            codec.decode(alloc, value, shape, data_type, fill_value)
-        }
-        ArrayToBytesCodec::Vlen(codec) => {
-            vlen_decode(alloc, codec, value, shape, data_type, fill_value)
-        }
+        ArrayToBytesCodec::Bytes(codec) => codec.decode(alloc, value, shape, kind, fill),
+        ArrayToBytesCodec::PackBits(codec) => { codec.decode(alloc, value, shape, kind, fill) }
+        ArrayToBytesCodec::Vlen(codec) => { vlen_decode(alloc, codec, value, shape, kind, fill) }
         ArrayToBytesCodec::Optional(codec) => {
-            optional_decode(alloc, codec, value, shape, data_type, fill_value)
+            optional_decode(alloc, codec, value, shape, kind, fill)
         }
     }
 }

@@ -1,7 +1,4 @@
-ghost use Rattle.zarrs_chain_laws.specs.CallAnswers.{GivesChainRepresentation};
 ghost use Rattle.std.specs.Prelude.{◌≡◌, Ok, IfOk, None, All, map};
-ghost use Rattle.std.specs.List.{list_all};
-ghost use Rattle.zarrs_chunk.specs.Answer.{Gives};
 ghost use Rattle.zarrs_array_bytes.specs.Blank.{AbsentAreBlank};
 ghost use Rattle.zarrs_array_bytes.specs.Held.{items_of};
 ghost use Rattle.zarrs_data_type.specs.Form.{form_of};
@@ -13,7 +10,7 @@ ghost use Rattle.zarrs_chain_laws.specs.Chain.{outer_reads as outer_reads_of};
 ghost use Rattle.zarrs_chain_whole.specs.ChainView.{plain_chain, plain_codec, chain_of};
 ghost use Rattle.zarrs_chain_laws.specs.Laws.{IsChainOfMappings};
 ghost use Rattle.zarrs_chain_laws.specs.MadeAgain.{HasRanges};
-ghost use Rattle.zarrs_chain_laws.specs.Representation.{chain_representation as chain_representation_of};
+ghost use Rattle.zarrs_chain_whole.specs.ChainCalls.{Counts, outer_writes as outer_writes_of};
 
 use crate::array_to_bytes_codec::{
     ArrayToBytesCodec, codec_has_ranges, codec_is_sound, codec_reads, codec_writes,
@@ -50,8 +47,7 @@ impl<B> CodecChain<B> {
         array_to_bytes: ArrayToBytesCodec<B>,
         bytes_to_bytes: Vec<B>,
     ) -> CodecChain<B>
-        ensures made { plain_chain result ≡
-            chain_of array_to_array.items array_to_bytes bytes_to_bytes.items }
+        ensures made { plain_chain result ≡ chain_of array_to_array array_to_bytes bytes_to_bytes }
     {
         CodecChain {
             array_to_array,
@@ -62,21 +58,21 @@ impl<B> CodecChain<B> {
 
     /// The codecs of chunks to chunks.
     pub fn array_to_array_codecs(&self) -> &[ArrayToArrayCodec]
-        ensures value { map mapping_of result.now ≡ (plain_chain self.now).arrays }
+        ensures value { map mapping_of result.now ≡ (plain_chain self.now).array_to_array }
     {
         &self.array_to_array
     }
 
     /// The codec of chunks to bytes.
     pub fn array_to_bytes_codec(&self) -> &ArrayToBytesCodec<B>
-        ensures value { plain_codec result.now ≡ (plain_chain self.now).codec }
+        ensures value { plain_codec result.now ≡ (plain_chain self.now).array_to_bytes }
     {
         &self.array_to_bytes
     }
 
     /// The codecs of bytes to bytes.
     pub fn bytes_to_bytes_codecs(&self) -> &[B]
-        ensures value { result.now ≡ (plain_chain self.now).outer }
+        ensures value { result.now ≡ (plain_chain self.now).bytes_to_bytes }
     {
         &self.bytes_to_bytes
     }
@@ -108,7 +104,7 @@ pub fn chain_is_sound<B>(chain: &CodecChain<B>)
 /// The bits that `packbits` keeps, in the chain and in those inside it, are ranges.
 #[cycle(ranges)]
 pub(crate) fn chain_has_ranges<B>(chain: &CodecChain<B>)
-    ensures ranges { HasRanges (plain_chain chain.now).codec }
+    ensures ranges { HasRanges (plain_chain chain.now).array_to_bytes }
 {
     codec_has_ranges(&chain.array_to_bytes);
 }
@@ -124,8 +120,7 @@ impl<B: BytesToBytesCodecTraits> CodecChain<B> {
         data_type: &DataType,
         fill_value: &FillValue,
     ) -> Result<BytesRepresentation, CodecError>
-        ensures answer { GivesChainRepresentation B.functions (plain_chain self.now)
-            (form_of shape.now data_type.now fill_value.now) result }
+        ensures answer { Counts B.functions self.now shape.now data_type.now fill_value.now result }
     {
         chain_representation(alloc, self, shape, data_type, fill_value)
     }
@@ -151,6 +146,7 @@ impl<B: BytesToBytesCodecTraits> CodecChain<B> {
         data_type: &DataType,
         fill_value: &FillValue,
     ) -> Result<ArrayBytesRaw<'a>, CodecError>
+        // Wide: the form of a chunk is three parameters, as in the Rust crate.
         ensures encodes { Encodes (chain_grammar B.functions (plain_chain self.now))
             (form_of shape.now data_type.now fill_value.now) elements.entry result }
     {
@@ -186,6 +182,7 @@ impl<B: BytesToBytesCodecTraits> CodecChain<B> {
         data_type: &DataType,
         fill_value: &FillValue,
     ) -> Result<ArrayBytes<'a>, CodecError>
+        // Wide: the form of a chunk is three parameters, as in the Rust crate.
         ensures decodes { Decodes (chain_grammar B.functions (plain_chain self.now))
             (form_of shape.now data_type.now fill_value.now) (items_of value.entry) result }
         ensures blank { IfOk result (AbsentAreBlank data_type.now) }
@@ -218,8 +215,7 @@ fn outer_reads<B: BytesToBytesCodecTraits>(codecs: &[B]) -> PartialDecoderCapabi
 
 /// Whether all bytes codecs write in part.
 fn outer_writes<B: BytesToBytesCodecTraits>(codecs: &[B]) -> bool
-    ensures value { result ≡
-        list_all (λ codec. (B.writes_in_part codec).partial_encode) codecs.now }
+    ensures value { result ≡ outer_writes_of B.writes_in_part codecs.now }
 {
     match codecs {
         [] => true,

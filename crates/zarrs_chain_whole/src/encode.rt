@@ -1,13 +1,10 @@
 //! The value of a chunk, through a chain.
-ghost use Rattle.zarrs_data_type.specs.Form.{form_of};
-ghost use Rattle.zarrs_chain_laws.specs.CallAnswers.{GivesChainValue, GivesPartValue};
 ghost use Rattle.zarrs_chunk.specs.Answer.{Gives, is_fault, checked_u64};
-ghost use Rattle.zarrs_array_bytes.specs.Held.{items_of};
 ghost use Rattle.std.specs.Prelude.{◌≡◌, Ok, false};
 ghost use Rattle.zarrs_chunk.specs.ChunkShape.{product};
 ghost use Rattle.zarrs_array_bytes.specs.Validity.{validity};
-ghost use Rattle.zarrs_chain_laws.specs.Chain.{held_value, held_part, row_sizes};
-ghost use Rattle.zarrs_chain_whole.specs.ChainView.{plain_chain};
+ghost use Rattle.zarrs_chain_laws.specs.Chain.{row_sizes};
+ghost use Rattle.zarrs_chain_whole.specs.ChainCalls.{Writes, WritesRow};
 
 use crate::array_to_bytes_codec::codec_encode;
 use crate::codec_chain::CodecChain;
@@ -36,37 +33,29 @@ pub(crate) fn check_elements(
     elements.validate(count, data_type)
 }
 
-/// The value that the chain writes of the chunk that `elements` hold. Refusals: those of
+/// The value that the chain writes of the chunk that `held` holds. Refusals: those of
 /// `CodecChain::encode`.
 #[cycle(encode)]
 pub(crate) fn chain_encode<'a, B: BytesToBytesCodecTraits>(
     alloc: Global,
     chain: &CodecChain<B>,
-    elements: ArrayBytes<'a>,
+    held: ArrayBytes<'a>,
     shape: &ChunkShape,
-    data_type: &DataType,
-    fill_value: &FillValue,
+    kind: &DataType,
+    fill: &FillValue,
 ) -> Result<ArrayBytesRaw<'a>, CodecError>
-    ensures exact { GivesChainValue B.functions (plain_chain chain.now)
-        (form_of shape.now data_type.now fill_value.now) elements.entry result }
+    ensures exact { Writes B.functions chain.now shape.now kind.now fill.now held.entry result }
 {
-    let taken = taken_form(alloc, chain, shape, data_type, fill_value)?;
-    check_elements(&elements, shape, data_type)?;
-    let chunk = encode_arrays(
-        alloc,
-        &chain.array_to_array,
-        elements,
-        shape,
-        data_type,
-        fill_value,
-    )?;
+    let taken = taken_form(alloc, chain, shape, kind, fill)?;
+    check_elements(&held, shape, kind)?;
+    let chunk = encode_arrays(alloc, &chain.array_to_array, held, shape, kind, fill)?;
     let below = codec_encode(
         alloc,
         &chain.array_to_bytes,
         chunk,
         &taken.shape,
-        data_type,
-        fill_value,
+        kind,
+        fill,
     )?;
     encode_bytes(alloc, &chain.bytes_to_bytes, below)
 }
@@ -77,16 +66,15 @@ pub(crate) fn chain_encode<'a, B: BytesToBytesCodecTraits>(
 pub(crate) fn part_encode<'a, B: BytesToBytesCodecTraits>(
     alloc: Global,
     chain: &CodecChain<B>,
-    elements: ArrayBytes<'a>,
+    held: ArrayBytes<'a>,
     count: u64,
-    data_type: &DataType,
-    fill_value: &FillValue,
+    kind: &DataType,
+    fill: &FillValue,
 ) -> Result<ArrayBytesRaw<'a>, CodecError>
-    ensures exact { GivesPartValue B.functions (plain_chain chain.now) count
-        data_type.now fill_value.now elements.entry result }
+    ensures exact { WritesRow B.functions chain.now count kind.now fill.now held.entry result }
 {
     match row_of(alloc, count)? {
-        Some(row) => chain_encode(alloc, chain, elements, &row, data_type, fill_value),
+        Some(row) => chain_encode(alloc, chain, held, &row, kind, fill),
         None => Ok(CowSlice::Owned(Vec::new(alloc))),
     }
 }

@@ -40,6 +40,7 @@ pub fn reencode<B: BytesToBytesCodecTraits, C: BytesToBytesCodecTraits>(
     data_type: &DataType,
     fill_value: &FillValue,
 ) -> Result<Vec<u8>, CodecError>
+    // Wide: two chains with their bytes codecs, and the form of a chunk as three parameters.
     ensures reencodes { Reencodes
         B.functions (plain_chain from.now) C.functions (plain_chain to.now)
         (form_of shape.now data_type.now fill_value.now) value.now result }

@@ -1,13 +1,8 @@
 //! How many bytes the value of a chunk has, through a chain.
-ghost use Rattle.zarrs_data_type.specs.Form.{form_of};
-ghost use Rattle.zarrs_chain_laws.specs.CallAnswers.{GivesChainRepresentation};
-ghost use Rattle.zarrs_chunk.specs.Answer.{Gives, checked_u64};
+ghost use Rattle.zarrs_chunk.specs.Answer.{checked_u64};
 ghost use Rattle.std.specs.Prelude.{◌≡◌, IfOk, Ok};
 ghost use Rattle.zarrs_chunk.specs.ChunkShape.{product};
-ghost use Rattle.zarrs_chain_laws.specs.ArrayStages.{IsMapWhere};
-ghost use Rattle.zarrs_chain_laws.specs.Chain.{taken_form as taken_form_of};
-ghost use Rattle.zarrs_chain_whole.specs.ChainView.{plain_chain};
-ghost use Rattle.zarrs_chain_laws.specs.Representation.{chain_representation as chain_representation_of};
+ghost use Rattle.zarrs_chain_whole.specs.ChainCalls.{Counts, GivesTakenForm, MapsArrays};
 
 use crate::array_to_bytes_codec::codec_representation;
 use crate::codec_chain::CodecChain;
@@ -32,23 +27,15 @@ pub(crate) fn taken_form<B: BytesToBytesCodecTraits>(
     alloc: Global,
     chain: &CodecChain<B>,
     shape: &ChunkShape,
-    data_type: &DataType,
-    fill_value: &FillValue,
+    kind: &DataType,
+    fill: &FillValue,
 ) -> Result<TakenForm, CodecError>
-    ensures answer { Gives (λ taken. (taken.shape, taken.representation)) result
-        (taken_form_of B.functions (plain_chain chain.now) shape.now data_type.now fill_value.now) }
-    ensures map { IfOk result
-        (λ _. IsMapWhere data_type.now (plain_chain chain.now).arrays shape.now) }
+    ensures answer { GivesTakenForm B.functions chain.now shape.now kind.now fill.now result }
+    ensures map { MapsArrays chain.now kind.now shape.now result }
     ensures counted { IfOk result (λ _. checked_u64 (product shape.now) ≡ Ok (product shape.now)) }
 {
-    let encoded = shape_through(alloc, &chain.array_to_array, shape, data_type)?;
-    let representation = codec_representation(
-        alloc,
-        &chain.array_to_bytes,
-        &encoded,
-        data_type,
-        fill_value,
-    )?;
+    let encoded = shape_through(alloc, &chain.array_to_array, shape, kind)?;
+    let representation = codec_representation(alloc, &chain.array_to_bytes, &encoded, kind, fill)?;
     Ok(TakenForm {
         shape: encoded,
         representation,
@@ -62,12 +49,11 @@ pub(crate) fn chain_representation<B: BytesToBytesCodecTraits>(
     alloc: Global,
     chain: &CodecChain<B>,
     shape: &ChunkShape,
-    data_type: &DataType,
-    fill_value: &FillValue,
+    kind: &DataType,
+    fill: &FillValue,
 ) -> Result<BytesRepresentation, CodecError>
-    ensures answer { GivesChainRepresentation B.functions (plain_chain chain.now)
-        (form_of shape.now data_type.now fill_value.now) result }
+    ensures answer { Counts B.functions chain.now shape.now kind.now fill.now result }
 {
-    let taken = taken_form(alloc, chain, shape, data_type, fill_value)?;
+    let taken = taken_form(alloc, chain, shape, kind, fill)?;
     Ok(outer_representation(&chain.bytes_to_bytes, taken.representation))
 }

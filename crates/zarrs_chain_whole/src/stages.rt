@@ -1,13 +1,10 @@
 //! The steps of which a chain is made: what its codec to bytes gets, what the bytes codecs and the codec
 //! to bytes make of a value, and what holds of the codecs. A reader of a part of a chunk takes some of
 //! them and leaves others.
-ghost use Rattle.zarrs_data_type.specs.Form.{form_of};
-ghost use Rattle.zarrs_chunk.specs.Answer.{Gives, checked_u64};
+ghost use Rattle.zarrs_chunk.specs.Answer.{checked_u64};
 ghost use Rattle.std.specs.Prelude.{◌≡◌, IfOk, Ok};
 ghost use Rattle.zarrs_chunk.specs.ChunkShape.{product};
-ghost use Rattle.zarrs_chain_laws.specs.ArrayStages.{IsMapWhere};
-ghost use Rattle.zarrs_chain_laws.specs.Chain.{taken_form as taken_form_of};
-ghost use Rattle.zarrs_chain_whole.specs.ChainView.{plain_chain};
+ghost use Rattle.zarrs_chain_whole.specs.ChainCalls.{GivesForm, MapsArrays};
 
 pub use crate::array_to_bytes_codec::codec_decode;
 use crate::codec_chain::CodecChain;
@@ -30,10 +27,8 @@ pub fn taken_form<B: BytesToBytesCodecTraits>(
     data_type: &DataType,
     fill_value: &FillValue,
 ) -> Result<(ChunkShape, BytesRepresentation), CodecError>
-    ensures answer { Gives (λ taken. taken) result
-        (taken_form_of B.functions (plain_chain chain.now) shape.now data_type.now fill_value.now) }
-    ensures map { IfOk result
-        (λ _. IsMapWhere data_type.now (plain_chain chain.now).arrays shape.now) }
+    ensures answer { GivesForm B.functions chain.now shape.now data_type.now fill_value.now result }
+    ensures map { MapsArrays chain.now data_type.now shape.now result }
     ensures counted { IfOk result (λ _. checked_u64 (product shape.now) ≡ Ok (product shape.now)) }
 {
     let taken = taken_by(alloc, chain, shape, data_type, fill_value)?;

@@ -1,5 +1,6 @@
 -- What a call answers: a value, or the first cause of a refusal.
-use Rattle.std.specs.Prelude.{◌≡◌, ℕ, ◌^◌, Bool, true, false, ◌||◌, nat_lt, Result, Ok, Err, IsOkAnd, if◌then◌else◌}
+use Rattle.std.specs.Prelude.{◌≡◌, ℕ, ◌^◌, Bool, true, false, ◌||◌, nat_lt, Result, Ok, Err, IsOkAnd, OnOk, if◌then◌else◌, List, Vec, ◌++◌}
+use Rattle.std.specs.declared.alloc.Global.{Global}
 use Rattle.zarrs_chunk.specs.declared.codec_error.CodecError.{CodecError}
 use Rattle.zarrs_chunk.specs.declared.codec_error.CodecError.TheVariants.{OutOfMemory, Storage, Overflow}
 
@@ -75,3 +76,23 @@ pub record Gives {T V : Type 0} (view : T → V) (result : Result T CodecError) 
 pub record GivesBy {T V : Type 0} (R : T → V → Type 0) (result : Result T CodecError) (expected : Result V CodecError) : Type 0 where
   pub is : AnswersBy memory R result expected
   pub no_fault : is_fault result ≡ false
+
+-- the same of a vector, which is read by its items
+abbrev pub GivesItems : {A : Type 0} → Result (Vec A Global) CodecError → Result (List A) CodecError → Type 0
+GivesItems result expected = Gives (λ v. v.items) result expected
+
+-- the items of the answered vector are the expected ones, or the first refusal is answered; what `excuse` names may come at any time
+abbrev pub AnswersItems : {E A : Type 0} → (E → Bool) → Result (Vec A Global) E → Result (List A) E → Type 0
+AnswersItems excuse result expected = Answers excuse (λ v. v.items) result expected
+
+-- a call that answers Ok has put these items at the vector's end
+abbrev pub Appends : {E A : Type 0} → Vec A Global → Vec A Global → Result (Unit {0}) E → List A → Type 0
+Appends old new result items = OnOk result (new.items ≡ old.items ++ items)
+
+-- the answered value itself is the expected one, or the first refusal is answered
+abbrev pub GivesValue : {T : Type 0} → Result T CodecError → Result T CodecError → Type 0
+GivesValue result expected = Gives (λ v. v) result expected
+
+-- the same of a call whose excused refusals are named
+abbrev pub AnswersValue : {E T : Type 0} → (E → Bool) → Result T E → Result T E → Type 0
+AnswersValue excuse result expected = Answers excuse (λ v. v) result expected

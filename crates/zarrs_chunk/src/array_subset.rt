@@ -3,7 +3,7 @@ ghost use Rattle.std.specs.Bool.{nat_eq};
 ghost use Rattle.std.specs.Cmp.Lexicographic.{pointwise};
 ghost use Rattle.std.specs.Cmp.Rules.{comparing};
 ghost use Rattle.std.proofs.Common.{rules};
-ghost use Rattle.zarrs_chunk.specs.Answer.{Answers, memory, checked_u64, seen};
+ghost use Rattle.zarrs_chunk.specs.Answer.{memory, checked_u64, AnswersValue};
 ghost use Rattle.zarrs_chunk.specs.ArraySubset.{ends_fit, subset_of_ranges, subset_of_shape, subset_of_start_shape};
 ghost use Rattle.zarrs_chunk.specs.ChunkShape.{product};
 ghost use Rattle.zarrs_chunk.specs.Region.{EndBelow64Bits};
@@ -46,7 +46,7 @@ impl ArraySubset {
     /// The box of these ranges, one an axis. Refusals: `OutOfMemory`; `ReversedRange` where a range
     /// ends before it starts.
     pub fn new_with_ranges(alloc: Global, ranges: &[Range<u64>]) -> Result<ArraySubset, CodecError>
-        ensures answer { Answers memory (λ subset. subset) result (subset_of_ranges ranges.now) }
+        ensures answer { AnswersValue memory result (subset_of_ranges ranges.now) }
     {
         let mut starts = Vec::with_capacity(alloc, ranges.len())?;
         let mut lengths = Vec::with_capacity(alloc, ranges.len())?;
@@ -80,7 +80,7 @@ impl ArraySubset {
 
     /// The box of all tuples of `shape`. Refusals: `OutOfMemory`.
     pub fn new_with_shape(alloc: Global, shape: Vec<u64>) -> Result<ArraySubset, CodecError>
-        ensures made { Answers memory (λ subset. subset) result (Ok (subset_of_shape shape.items)) }
+        ensures made { AnswersValue memory result (Ok (subset_of_shape shape.items)) }
     {
         let starts = vec![in alloc; 0; shape.len()]?;
         Ok(ArraySubset {
@@ -115,7 +115,7 @@ impl ArraySubset {
 
     /// An equal subset. Refusals: `OutOfMemory`.
     pub fn clone(&self) -> Result<ArraySubset, CodecError>
-        ensures copy { Answers memory (λ copy. copy) result (Ok self.now) }
+        ensures copy { AnswersValue memory result (Ok self.now) }
     {
         let starts = self.starts.clone()?;
         let lengths = self.lengths.clone()?;

@@ -1,7 +1,7 @@
 //! Products of sizes, and the places and runs of a box, over plain slices.
 ghost use Rattle.std.specs.Prelude.{◌≡◌, ◌<◌, ◌≤◌, ◌^◌, length, true, IfOk, OnOk, SomeIff, All};
 ghost use Rattle.zarrs_chunk.specs.ChunkShape.{product};
-ghost use Rattle.zarrs_chunk.specs.Levels.{box_places as places_of_box, rows_behind, RowsFit, AreFronts, FrontsFit, AreWhole, LastIsPartial};
+ghost use Rattle.zarrs_chunk.specs.Levels.{box_places as box_cells, rows_behind, RowsFit, AreFronts, FrontsFit, AreWhole, LastIsPartial};
 ghost use Rattle.zarrs_chunk.specs.Runs.{places_in, AreFilled, EndWithin, AreApart};
 ghost use Rattle.zarrs_chunk.specs.Tuples.{is_box_inside as box_inside};
 
@@ -134,7 +134,7 @@ pub fn box_places(
     requires inside { box_inside sizes.now starts.now lengths.now ≡ true }
     requires positive { All (λ size. 0 < size) sizes.now }
     requires fits { product sizes.now < 2 ^ 64 }
-    ensures places { IfOk result (λ v. v.items ≡ places_of_box sizes.now starts.now lengths.now) }
+    ensures places { IfOk result (λ v. v.items ≡ box_cells sizes.now starts.now lengths.now) }
     ensures below { IfOk result (λ v. All (λ place. place < product sizes.now) v.items) }
 {
     if lengths.contains(&0) {
@@ -186,8 +186,7 @@ pub fn box_runs(
     requires inside { box_inside sizes.now starts.now lengths.now ≡ true }
     requires positive { All (λ size. 0 < size) sizes.now }
     requires fits { product sizes.now < 2 ^ 64 }
-    ensures places { IfOk result
-        (λ v. places_in v ≡ places_of_box sizes.now starts.now lengths.now) }
+    ensures places { IfOk result (λ v. places_in v ≡ box_cells sizes.now starts.now lengths.now) }
     ensures filled { IfOk result (λ v. AreFilled v.items) }
     ensures below { IfOk result (λ v. EndWithin (product sizes.now) v.items) }
     ensures apart { IfOk result (λ v. AreApart v.items) }

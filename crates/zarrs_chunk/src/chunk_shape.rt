@@ -3,7 +3,7 @@ ghost use Rattle.std.specs.Bool.{nat_eq};
 ghost use Rattle.std.specs.Cmp.Lexicographic.{pointwise};
 ghost use Rattle.std.specs.Cmp.Rules.{comparing};
 ghost use Rattle.std.proofs.Common.{rules};
-ghost use Rattle.zarrs_chunk.specs.Answer.{Answers, memory, checked_u64};
+ghost use Rattle.zarrs_chunk.specs.Answer.{memory, checked_u64, AnswersValue};
 ghost use Rattle.zarrs_chunk.specs.ChunkShape.{product, shape_of};
 
 use crate::boxes::checked_product;
@@ -54,7 +54,7 @@ impl ChunkShape {
 
     /// An equal shape. Refusals: `OutOfMemory`.
     pub fn clone(&self) -> Result<ChunkShape, CodecError>
-        ensures copy { Answers memory (λ copy. copy) result (Ok self.now) }
+        ensures copy { AnswersValue memory result (Ok self.now) }
     {
         let sizes = self.sizes.clone()?;
         Ok(ChunkShape { sizes })

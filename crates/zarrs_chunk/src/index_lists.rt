@@ -1,9 +1,9 @@
 //! Places and runs of a list of index tuples.
 ghost use Rattle.std.specs.Prelude.{◌≡◌, ◌<◌, ◌++◌, ◌∷◌, [], ◌^◌, length, true, false, IfOk, IfErr, OnOk, All};
-ghost use Rattle.zarrs_chunk.specs.Answer.{is_fault, Gives};
+ghost use Rattle.zarrs_chunk.specs.Answer.{is_fault, Gives, Appends, GivesItems};
 ghost use Rattle.zarrs_chunk.specs.ChunkShape.{product};
 ghost use Rattle.zarrs_chunk.specs.Numbering.{are_of_axes, are_tuples_inside, numbers_of_tuples, AreCountable, IsOkInside};
-ghost use Rattle.zarrs_chunk.specs.Runs.{places_in, AreFilled, EndWithin, StayWithin, AreApart};
+ghost use Rattle.zarrs_chunk.specs.Runs.{places_in, AreFilled, EndWithin, StayWithin, AreApart, AddsPlaces};
 ghost use Rattle.zarrs_chunk.specs.Selection.{indices_of, bounds_of, places_of};
 ghost use Rattle.zarrs_chunk.specs.Tuples.{row_major as row_major_of, is_tuple_inside as tuple_inside};
 
@@ -64,8 +64,7 @@ fn push_place(places: &mut Vec<u64>, sizes: &[u64], tuple: &[u64]) -> Result<(),
     requires positive { All (λ size. 0 < size) sizes.now }
     requires fits { product sizes.now < 2 ^ 64 }
     ensures inside { IsOkInside (tuple_inside sizes.now tuple.now) result }
-    ensures pushed { OnOk result
-        (places.new.items ≡ places.old.items ++ row_major_of sizes.now tuple.now ∷ []) }
+    ensures pushed { Appends places.old places.new result (row_major_of sizes.now tuple.now ∷ []) }
     ensures no_fault { is_fault result ≡ false }
 {
     let place = place_inside(sizes, tuple).ok_or(CodecError::OutOfBounds)?;
@@ -79,8 +78,7 @@ fn push_run(runs: &mut Vec<(u64, u64)>, sizes: &[u64], tuple: &[u64]) -> Result<
     requires positive { All (λ size. 0 < size) sizes.now }
     requires fits { product sizes.now < 2 ^ 64 }
     ensures inside { IsOkInside (tuple_inside sizes.now tuple.now) result }
-    ensures pushed { OnOk result
-        (places_in runs.new ≡ places_in runs.old ++ row_major_of sizes.now tuple.now ∷ []) }
+    ensures pushed { AddsPlaces runs.old runs.new result (row_major_of sizes.now tuple.now ∷ []) }
     ensures filled { OnOk result (AreFilled runs.old.items → AreFilled runs.new.items) }
     ensures below { OnOk result (StayWithin (product sizes.now) runs.old.items runs.new.items) }
     ensures apart { OnOk result (AreApart runs.old.items → AreApart runs.new.items) }
@@ -140,7 +138,7 @@ pub fn indices_places(
     shape: &ChunkShape,
     tuples: &[ArrayIndices],
 ) -> Result<Vec<u64>, CodecError>
-    ensures places { Gives (λ v. v.items) result (places_of (indices_of tuples.now) shape.now) }
+    ensures places { GivesItems result (places_of (indices_of tuples.now) shape.now) }
     ensures below { IfOk result (λ v. All (λ place. place < product shape.now) v.items) }
     ensures count { IfOk result (λ v. length v.items < 2 ^ 64) }
 {

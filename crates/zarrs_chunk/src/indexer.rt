@@ -1,5 +1,5 @@
 ghost use Rattle.std.specs.Prelude.{◌≡◌, ◌<◌, ◌^◌, length, IfOk, Ok, All};
-ghost use Rattle.zarrs_chunk.specs.Answer.{Answers, memory, Gives};
+ghost use Rattle.zarrs_chunk.specs.Answer.{Answers, memory, Gives, GivesItems};
 ghost use Rattle.zarrs_chunk.specs.ChunkShape.{product};
 ghost use Rattle.zarrs_chunk.specs.Indexer.{selection_of};
 ghost use Rattle.zarrs_chunk.specs.Runs.{places_in, AreFilled, EndWithin, AreApart};
@@ -41,7 +41,7 @@ fn subset_places(
     shape: &ChunkShape,
     subset: &ArraySubset,
 ) -> Result<Vec<u64>, CodecError>
-    ensures places { Gives (λ v. v.items) result (places_of (subset_of subset.now) shape.now) }
+    ensures places { GivesItems result (places_of (subset_of subset.now) shape.now) }
     ensures below { IfOk result (λ v. All (λ place. place < product shape.now) v.items) }
     ensures count { IfOk result (λ v. length v.items < 2 ^ 64) }
 {
@@ -97,7 +97,7 @@ impl Indexer {
     /// aside: `IncompatibleDimensionality`, `OutOfBounds`, `Overflow` where the shape has `2^64`
     /// elements or more.
     pub fn places(&self, alloc: Global, shape: &ChunkShape) -> Result<Vec<u64>, CodecError>
-        ensures places { Gives (λ v. v.items) result (places_of (selection_of self.now) shape.now) }
+        ensures places { GivesItems result (places_of (selection_of self.now) shape.now) }
         ensures below { IfOk result (λ v. All (λ place. place < product shape.now) v.items) }
         ensures count { IfOk result (λ v. length v.items < 2 ^ 64) }
     {

@@ -2,7 +2,7 @@
 ghost use Rattle.std.specs.Prelude.{◌≡◌, ◌≢◌, ◌<◌, ◌≤◌, ◌+◌, ◌-◌, ◌^◌, ◌++◌, ◌∷◌, [], ℕ, length, take, slice_index, true, IfOk, OnOk, Ok, All, ◌↔◌};
 ghost use Rattle.std.specs.List.{range_with_len};
 ghost use Rattle.zarrs_chunk.specs.Answer.{Gives};
-ghost use Rattle.zarrs_chunk.specs.Runs.{places_in, AreFilled, EndWithin, StayWithin, AreApart};
+ghost use Rattle.zarrs_chunk.specs.Runs.{places_in, AreFilled, AreApart, EndsRun, AddsPlaces, KeepsBelow, EndsBelow};
 
 use crate::codec_error::CodecError;
 use std::alloc::{AllocError, Global};
@@ -20,8 +20,7 @@ fn run_length(places: &[u64]) -> usize
     ensures some { 0 < result }
     ensures within { result ≤ length places.now }
     ensures run { take result places.now ≡ range_with_len (slice_index places.now 0) result }
-    ensures longest { result < length places.now
-        → slice_index places.now result ≢ slice_index places.now (result - 1) + 1 }
+    ensures longest { EndsRun result places.now }
 {
     for index in 1..places.len() {
         if !follows(places[index - 1], places[index]) {
@@ -47,10 +46,9 @@ fn count_runs(places: &[u64]) -> usize
 /// One place more behind those of the runs: the last run grows where the place follows it.
 pub fn append_place(runs: &mut Vec<(u64, u64)>, place: u64) -> Result<(), AllocError>
     requires room { place + 1 < 2 ^ 64 }
-    ensures places { OnOk result (places_in runs.new ≡ places_in runs.old ++ place ∷ []) }
+    ensures places { AddsPlaces runs.old runs.new result (place ∷ []) }
     ensures filled { OnOk result (AreFilled runs.old.items → AreFilled runs.new.items) }
-    ensures below { (limit : ℕ) → place < limit
-        → OnOk result (StayWithin limit runs.old.items runs.new.items) }
+    ensures below { KeepsBelow place runs.old runs.new result }
     ensures apart { OnOk result (AreApart runs.old.items → AreApart runs.new.items) }
 {
     let count = runs.len();
@@ -71,8 +69,7 @@ pub fn append_place(runs: &mut Vec<(u64, u64)>, place: u64) -> Result<(), AllocE
 pub fn runs_of_places(alloc: Global, places: &[u64]) -> Result<Vec<(u64, u64)>, CodecError>
     ensures places { Gives places_in result (Ok places.now) }
     ensures filled { IfOk result (λ v. AreFilled v.items) }
-    ensures below { (limit : ℕ) → All (λ place. place < limit) places.now
-        → IfOk result (λ v. EndWithin limit v.items) }
+    ensures below { EndsBelow places.now result }
     ensures count { IfOk result (λ v. length v.items ≤ length places.now) }
     ensures apart { IfOk result (λ v. AreApart v.items) }
 {

@@ -6,6 +6,11 @@ use Rattle.zarrs_chunk.specs.Answer.{Gives}
 use Rattle.zarrs_chunk.specs.declared.codec_error.CodecError.{CodecError}
 use Rattle.zarrs_chunk.specs.declared.codec_error.CodecError.TheVariants.{BytesCodec}
 use Rattle.zarrs_array_bytes.specs.Held.{items_of}
+use Rattle.zarrs_metadata.specs.Metadata.{Metadata}
+use Rattle.zarrs_metadata.specs.MetadataV3.{metadata_seen}
+use Rattle.zarrs_metadata.specs.PluginCreateError.{Makes}
+use Rattle.zarrs_metadata.specs.declared.metadata_v3.MetadataV3.{MetadataV3}
+use Rattle.zarrs_metadata.specs.declared.plugin_create_error.PluginCreateError.{PluginCreateError}
 use Rattle.zarrs_codec.specs.declared.bytes_representation.BytesRepresentation.{BytesRepresentation}
 use Rattle.zarrs_codec.specs.declared.bytes_representation.BytesRepresentation.TheVariants.{FixedSize, BoundedSize, UnboundedSize}
 
@@ -23,6 +28,10 @@ EncodesBytes codecs codec bytes result = Gives items_of result (Ok (codecs.encod
 abbrev pub DecodesBytes : {B : Type 0} → BytesCodecs B → B → BytesRepresentation → CowSlice ℕ Global → Result (CowSlice ℕ Global) CodecError → Type 0
 DecodesBytes codecs codec representation encoded result =
     Gives items_of result (codecs.decoded_bytes codec representation (items_of encoded))
+
+-- the answer is what the maker says that it makes of the metadata, or why it makes none
+abbrev pub MakesBy : {M T : Type 0} → (M → Metadata → Result T PluginCreateError) → M → MetadataV3 → Result T PluginCreateError → Type 0
+MakesBy makes maker metadata result = Makes (λ made. made) result (makes maker (metadata_seen metadata))
 
 -- the bytes are as many as the representation says
 abbrev pub KeepsTo : BytesRepresentation → List ℕ → Type 0

@@ -1,6 +1,6 @@
 -- What a codec that moves elements makes of a chunk.
 use Rattle.std.specs.Prelude.{◌≡◌, ℕ, List, Result, Ok, IfOk, Option, Some, None}
-use Rattle.zarrs_chunk.specs.Answer.{◌>>=◌, Answers, AnswersBy, Gives, checked_u64, memory, seen}
+use Rattle.zarrs_chunk.specs.Answer.{◌>>=◌, AnswersBy, AnswersValue, GivesValue, checked_u64, memory, seen}
 use Rattle.zarrs_chunk.specs.ChunkShape.{product}
 use Rattle.zarrs_chunk.specs.declared.codec_error.CodecError.{CodecError}
 use Rattle.zarrs_data_type.specs.ElementType.{ElementType}
@@ -50,14 +50,18 @@ IsSource coordinates encoded (Some sizes) = (decoded : List ℕ) (m : Coordinate
 abbrev pub encoded_type : (ElementType → Result (Unit {0}) CodecError) → ElementType → Result ElementType CodecError
 encoded_type takes type = seen (λ _. type) (takes type)
 
+-- The answer is the type of the encoded elements, or why the codec doesn't take it. Only a want of memory may come in its place.
+abbrev pub EncodesType : (ElementType → Result (Unit {0}) CodecError) → ElementType → Result ElementType CodecError → Type 0
+EncodesType takes type result = AnswersValue memory result (encoded_type takes type)
+
 -- The answer is the sizes of the encoded chunk, or the first cause why there are none.
 abbrev pub GivesSizes : Result (List ℕ) CodecError → Result CoordinateMap CodecError → Type 0
-GivesSizes result coordinates = Gives (λ shape. shape) result (seen (λ m. m.encoded) coordinates)
+GivesSizes result coordinates = GivesValue result (seen (λ m. m.encoded) coordinates)
 
 -- The answer is the sizes, the type and the fill value of the encoded chunk of such a one, or the first refusal. Only a want of memory may come in its place.
 abbrev pub EncodesForm : (ElementType → Result (Unit {0}) CodecError) → (List ℕ → Result CoordinateMap CodecError) → Form → Result (List ℕ × ElementType × List ℕ) CodecError → Type 0
 EncodesForm takes coordinates form result =
-    Answers memory (λ form. form) result (encoded_form (takes form.type) (coordinates form.sizes) form.type form.fill)
+    AnswersValue memory result (encoded_form (takes form.type) (coordinates form.sizes) form.type form.fill)
 
 -- the sizes that are answered with it for these are those of a coordinate map
 abbrev pub MapsForm : (List ℕ → Result CoordinateMap CodecError) → List ℕ → Result (List ℕ × ElementType × List ℕ) CodecError → Type 0

@@ -1,6 +1,6 @@
-ghost use Rattle.std.specs.Prelude.{◌≡◌, Bool, None, Ok, OnErr};
-ghost use Rattle.zarrs_chunk.specs.Answer.{Answers, fault, memory_or_fault};
-ghost use Rattle.zarrs_codec.specs.ArrayWriter.{ChecksData, ChecksFirst, IndexerFirst, edit_check, written_value};
+ghost use Rattle.std.specs.Prelude.{◌≡◌, Bool, None, Ok};
+ghost use Rattle.zarrs_chunk.specs.Answer.{Answers, fault};
+ghost use Rattle.zarrs_codec.specs.ArrayWriter.{ChecksData, ChecksFirst, IndexerFirst, KeptIfUnfit, WritesPart};
 ghost use Rattle.zarrs_codec.specs.CodersOverHandles.{OnlyWrites};
 ghost use Rattle.zarrs_codec.specs.StorageState.{KeptIfAtomic, LeftByWriting};
 
@@ -33,14 +33,15 @@ pub trait ArrayPartialEncoderTraits: ArrayPartialDecoderTraits {
         indexer: &Indexer,
         elements: &ArrayBytes<'_>,
     ) -> Result<(), CodecError>
-        ensures answer { Answers memory_or_fault (λ _. (Self.state self.new).value) result
-            (written_value (Self.writer self.old) (Self.state self.old) indexer.now elements.now) }
-        ensures indexer_first { IndexerFirst (Self.reader self.old) indexer.now result }
+        // Wide: two members of the trait, the encoder before and after, and the edit.
+        ensures answer { WritesPart Self.state Self.writer
+            self.old self.new indexer.now elements.now result }
+        ensures left { OnlyWrites Self.state Self.lent Self.writer atomic self.old self.new result }
+        // Wide: two members of the trait, the encoder before and after, and the edit.
+        ensures untouched { KeptIfUnfit Self.state Self.writer
+            self.old self.new indexer.now elements.now }
         ensures checked_first { ChecksFirst (Self.writer self.old) indexer.now elements.now result }
-        ensures untouched { OnErr (edit_check (Self.writer self.old) indexer.now elements.now)
-            (Self.state self.new ≡ Self.state self.old) }
-        ensures left { OnlyWrites Self.state Self.lent Self.writer atomic
-            self.old self.new result };
+        ensures indexer_first { IndexerFirst (Self.reader self.old) indexer.now result };
 
     /// Leaves no value; there may have been none. Refusals: `Storage`.
     fn erase(&mut self) -> Result<(), CodecError>

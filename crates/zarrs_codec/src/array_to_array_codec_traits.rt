@@ -1,13 +1,13 @@
 ghost use Rattle.std.specs.Prelude.{◌≡◌, ℕ, List, Option, Result, Ok, false, IfOk};
-ghost use Rattle.zarrs_chunk.specs.Answer.{Answers, memory, is_fault};
+ghost use Rattle.zarrs_chunk.specs.Answer.{AnswersValue, memory, is_fault};
 ghost use Rattle.zarrs_chunk.specs.Selection.{Selection};
 ghost use Rattle.zarrs_chunk.specs.declared.codec_error.CodecError.{CodecError};
 ghost use Rattle.zarrs_data_type.specs.ElementType.{ElementType};
 ghost use Rattle.zarrs_data_type.specs.Form.{form_of};
 ghost use Rattle.zarrs_array_bytes.specs.Blank.{KeepsBlanks};
 ghost use Rattle.zarrs_codec.specs.CoordinateMap.{CoordinateMap, MapsSizes};
-ghost use Rattle.zarrs_codec.specs.MappedChunk.{encoded_type, GivesSizes, EncodesForm, MapsForm, IsSource, EncodesMoved, DecodesMoved};
-ghost use Rattle.zarrs_codec.specs.MappedSelection.{AsksImage, KeepsCount, KeepsPlaces, image_of};
+ghost use Rattle.zarrs_codec.specs.MappedChunk.{EncodesType, GivesSizes, EncodesForm, MapsForm, IsSource, EncodesMoved, DecodesMoved};
+ghost use Rattle.zarrs_codec.specs.MappedSelection.{AsksBy, KeepsCount, KeepsPlaces, image_of};
 
 use crate::codec_traits::{ArrayCodecTraits, CodecTraits};
 use std::alloc::Global;
@@ -37,8 +37,7 @@ pub trait ArrayToArrayCodecTraits: ArrayCodecTraits {
         alloc: Global,
         decoded_data_type: &DataType,
     ) -> Result<DataType, CodecError>
-        ensures answer { Answers memory (λ data_type. data_type) result
-            (encoded_type (takes self.now) decoded_data_type.now) };
+        ensures answer { EncodesType (takes self.now) decoded_data_type.now result };
 
     /// The fill value of the encoded elements: the same. Refusals: `OutOfMemory`.
     fn encoded_fill_value(
@@ -47,8 +46,7 @@ pub trait ArrayToArrayCodecTraits: ArrayCodecTraits {
         _decoded_data_type: &DataType,
         decoded_fill_value: &FillValue,
     ) -> Result<FillValue, CodecError>
-        ensures answer { Answers memory (λ fill_value. fill_value) result
-            (Ok decoded_fill_value.now) }
+        ensures answer { AnswersValue memory result (Ok decoded_fill_value.now) }
     {
         decoded_fill_value.clone()
     }
@@ -70,8 +68,7 @@ pub trait ArrayToArrayCodecTraits: ArrayCodecTraits {
         alloc: Global,
         encoded_shape: &ChunkShape,
     ) -> Result<Option<ChunkShape>, CodecError>
-        ensures answer { Answers memory (λ shape. shape) result
-            (decoded_sizes self.now encoded_shape.now) }
+        ensures answer { AnswersValue memory result (decoded_sizes self.now encoded_shape.now) }
         ensures source { IfOk result (IsSource (coordinates self.now) encoded_shape.now) };
 
     /// The shape, the type and the fill value of the encoded chunk. Refusals, the first that holds,
@@ -83,6 +80,7 @@ pub trait ArrayToArrayCodecTraits: ArrayCodecTraits {
         decoded_data_type: &DataType,
         decoded_fill_value: &FillValue,
     ) -> Result<(ChunkShape, DataType, FillValue), CodecError>
+        // Wide: the three parameters of a form, as the Rust crate has them.
         ensures answer { EncodesForm (takes self.now) (coordinates self.now)
             (form_of decoded_shape.now decoded_data_type.now decoded_fill_value.now) result }
         ensures map { MapsForm (coordinates self.now) decoded_shape.now result }
@@ -100,13 +98,14 @@ pub trait ArrayToArrayCodecTraits: ArrayCodecTraits {
         &self,
         alloc: Global,
         bytes: ArrayBytes<'a>,
-        decoded_shape: &ChunkShape,
-        decoded_data_type: &DataType,
-        decoded_fill_value: &FillValue,
+        shape: &ChunkShape,
+        data_type: &DataType,
+        fill_value: &FillValue,
     ) -> Result<ArrayBytes<'a>, CodecError>
+        // Wide: what the codec takes and does, the type and the shape under the Rust crate's names.
         ensures moved { EncodesMoved (takes self.now) (coordinates self.now)
-            decoded_data_type.now decoded_shape.now bytes.entry result }
-        ensures blank { KeepsBlanks decoded_data_type.now bytes.entry result }
+            data_type.now shape.now bytes.entry result }
+        ensures blank { KeepsBlanks data_type.now bytes.entry result }
         ensures no_fault { is_fault result ≡ false };
 
     /// The decoded chunk, of this shape, type and fill value, of an encoded one. Refusals, and
@@ -115,13 +114,14 @@ pub trait ArrayToArrayCodecTraits: ArrayCodecTraits {
         &self,
         alloc: Global,
         bytes: ArrayBytes<'a>,
-        decoded_shape: &ChunkShape,
-        decoded_data_type: &DataType,
-        decoded_fill_value: &FillValue,
+        shape: &ChunkShape,
+        data_type: &DataType,
+        fill_value: &FillValue,
     ) -> Result<ArrayBytes<'a>, CodecError>
+        // Wide: what the codec takes and does, the type and the shape under the Rust crate's names.
         ensures moved { DecodesMoved (takes self.now) (coordinates self.now)
-            decoded_data_type.now decoded_shape.now bytes.entry result }
-        ensures blank { KeepsBlanks decoded_data_type.now bytes.entry result }
+            data_type.now shape.now bytes.entry result }
+        ensures blank { KeepsBlanks data_type.now bytes.entry result }
         ensures no_fault { is_fault result ≡ false };
 
     /// The indexer of the encoded chunk: its places there are those where the indexer's elements go,
@@ -133,8 +133,7 @@ pub trait ArrayToArrayCodecTraits: ArrayCodecTraits {
         indexer: &Indexer,
         decoded_shape: &ChunkShape,
     ) -> Result<Indexer, CodecError>
-        ensures answer { AsksImage (coordinates self.now) (asked self.now)
-            decoded_shape.now indexer.now result }
+        ensures answer { AsksBy coordinates asked self.now decoded_shape.now indexer.now result }
         ensures places { KeepsPlaces (coordinates self.now) decoded_shape.now indexer.now result };
 
     // What is asked for of the encoded chunk are as many tuples as are meant.

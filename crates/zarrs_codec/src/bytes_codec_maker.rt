@@ -1,8 +1,7 @@
 ghost use Rattle.std.specs.Prelude.{Option, Result};
 ghost use Rattle.zarrs_metadata.specs.Metadata.{Metadata};
-ghost use Rattle.zarrs_metadata.specs.MetadataV3.{metadata_seen};
-ghost use Rattle.zarrs_metadata.specs.PluginCreateError.{Makes};
 ghost use Rattle.zarrs_metadata.specs.declared.plugin_create_error.PluginCreateError.{PluginCreateError};
+ghost use Rattle.zarrs_codec.specs.BytesToBytesCodec.{MakesBy};
 
 use std::alloc::Global;
 use zarrs_metadata::{MetadataV3, PluginCreateError};
@@ -17,6 +16,5 @@ pub trait BytesCodecMaker<B> {
     /// The codec of a metadata; none where the name is unknown. Refusals: the maker's own where the
     /// name is known; `OutOfMemory`.
     fn make(&self, alloc: Global, metadata: &MetadataV3) -> Result<Option<B>, PluginCreateError>
-        ensures answer { Makes (λ made. made) result
-            (makes self.now (metadata_seen metadata.now)) };
+        ensures answer { MakesBy makes self.now metadata.now result };
 }

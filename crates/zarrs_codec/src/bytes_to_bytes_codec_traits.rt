@@ -47,6 +47,7 @@ pub trait BytesToBytesCodecTraits {
         encoded: ArrayBytesRaw<'a>,
         decoded_representation: &BytesRepresentation,
     ) -> Result<ArrayBytesRaw<'a>, CodecError>
+        // Wide: what codecs compute, the codec, and the representation under the Rust crate's name.
         ensures answer { DecodesBytes functions self.now
             decoded_representation.now encoded.entry result };
 

@@ -216,17 +216,16 @@ impl BytesPartialDecoderTraits for MemoryHandle {
 }
 
 /// Writes the pieces, for which the value grows first: nothing is refused from then on.
-fn write_grown(value: &mut Vec<u8>, pieces: &[(u64, u64)], bytes: &[u8]) -> Result<(), AllocError>
+fn write_grown(out: &mut Vec<u8>, pieces: &[(u64, u64)], bytes: &[u8]) -> Result<(), AllocError>
     requires fit { pieces_fit pieces.now (length bytes.now) ≡ Ok tt }
-    ensures written { OnOk result
-        (value.new.items ≡ with_pieces value.old.items pieces.now bytes.now) }
-    ensures kept { OnErr result (value.new.items ≡ value.old.items) }
+    ensures written { OnOk result (out.new.items ≡ with_pieces out.old.items pieces.now bytes.now) }
+    ensures kept { OnErr result (out.new.items ≡ out.old.items) }
 {
     let needed = furthest_end_of(pieces, bytes.len());
-    if value.len() < needed {
-        value.resize(needed, 0)?;
+    if out.len() < needed {
+        out.resize(needed, 0)?;
     }
-    write_pieces(value, pieces, bytes);
+    write_pieces(out, pieces, bytes);
     Ok(())
 }
 

@@ -1,9 +1,9 @@
-ghost use Rattle.std.specs.Prelude.{◌≡◌, ◌++◌, ◌≤◌, Ok, Some, IfOk, false, reverse, length, drop};
-ghost use Rattle.zarrs_chunk.specs.Answer.{seen, Gives};
+ghost use Rattle.std.specs.Prelude.{◌≡◌, ◌++◌, ◌≤◌, Ok, IfOk, false, reverse, length, drop};
+ghost use Rattle.zarrs_chunk.specs.Answer.{seen, GivesItems};
 ghost use Rattle.zarrs_array_bytes.specs.Held.{items_of, raw_of};
 ghost use Rattle.zarrs_metadata.specs.MetadataV3.{metadata_seen};
 ghost use Rattle.zarrs_metadata.specs.PluginCreateError.{Makes};
-ghost use Rattle.zarrs_codec.specs.SampleMetadata.{sample_name, sample_metadata, sample_made};
+ghost use Rattle.zarrs_codec.specs.SampleMetadata.{sample_name, sample_metadata, MakesSample};
 ghost use Rattle.zarrs_codec.specs.SampleBytesCodec.{length_bytes, stored_length as stored_length_of, behind_length as behind_length_of, with_length as with_length_of};
 
 use crate::bytes_representation::BytesRepresentation;
@@ -42,8 +42,7 @@ fn name_of(codec: SampleBytesCodec) -> &'static str
 
 /// The bytes in reverse. Owned bytes are turned round in place.
 fn reversed(alloc: Global, bytes: ArrayBytesRaw<'_>) -> Result<Vec<u8>, CodecError>
-    ensures answer { Gives (λ reversed. reversed.items) result
-        (Ok (reverse (items_of bytes.entry))) }
+    ensures answer { GivesItems result (Ok (reverse (items_of bytes.entry))) }
 {
     let mut reversed = match bytes {
         CowSlice::Borrowed(bytes) => bytes.to_vec(alloc)?,
@@ -56,8 +55,7 @@ fn reversed(alloc: Global, bytes: ArrayBytesRaw<'_>) -> Result<Vec<u8>, CodecErr
 /// The bytes behind their length.
 #[tactic(auto, unfolding(crate::specs::SampleBytesCodec::length_bytes))]
 fn with_length(alloc: Global, bytes: &[u8]) -> Result<Vec<u8>, CodecError>
-    ensures answer { Gives (λ encoded. encoded.items) result
-        (Ok (length_bytes bytes.now ++ bytes.now)) }
+    ensures answer { GivesItems result (Ok (length_bytes bytes.now ++ bytes.now)) }
 {
     let mut encoded = Vec::with_capacity(alloc, bytes.len().saturating_add(LENGTH_SIZE))?;
     encoded.extend_from_slice(&(bytes.len() as u64).to_le_bytes())?;
@@ -191,8 +189,7 @@ impl BytesToBytesCodecTraits for SampleBytesCodec {
     /// `OutOfMemory`.
     fn metadata(&self, alloc: Global) -> Result<MetadataV3, PluginCreateError>
         ensures answer { Makes metadata_seen result (Ok (sample_metadata self.now)) }
-        ensures made_again { IfOk result
-            (λ metadata. sample_made (metadata_seen metadata) ≡ Ok (Some self.now)) }
+        ensures made_again { IfOk result (MakesSample self.now) }
     {
         MetadataV3::new(alloc, name_of(*self))
     }

@@ -142,13 +142,13 @@ stage_within true false n left h = omega arith
 stage_within true true n left h = stage_left n left h
 
 -- The stage that the code finds is where the cache stands.
-pub stage_is : {B : Type 0} (reads_of : B → PartialDecoderCapability) (chain : PlainChain B) → stage_by (codec_reads chain.codec) (bytes_left (map reads_of chain.outer)) ≡ cache_stage reads_of chain
+pub stage_is : {B : Type 0} (reads_of : B → PartialDecoderCapability) (chain : PlainChain B) → stage_by (codec_reads chain.array_to_bytes) (bytes_left (map reads_of chain.bytes_to_bytes)) ≡ cache_stage reads_of chain
 stage_is reads_of chain =
-    let codec = codec_reads chain.codec in
-    let codecs = map reads_of chain.outer in
-    let count : length codecs ≡ length chain.outer = length-map chain.outer reads_of in
+    let codec = codec_reads chain.array_to_bytes in
+    let codecs = map reads_of chain.bytes_to_bytes in
+    let count : length codecs ≡ length chain.bytes_to_bytes = length-map chain.bytes_to_bytes reads_of in
     sym (stage_again (length codecs) (stage_by codec (bytes_left codecs)) (stage_within codec.partial_decode codec.partial_read (length codecs) (bytes_left codecs) (left_within codecs)))
-    ∙ ap (stage_at (length codecs)) (codec_placed codec codecs ∙ sym (arrays_pass chain.arrays (codec ∷ codecs)))
+    ∙ ap (stage_at (length codecs)) (codec_placed codec codecs ∙ sym (arrays_pass chain.array_to_array (codec ∷ codecs)))
     ∙ ap (λ n. stage_at n (cache_place (codecs_read reads_of chain))) count
 
 fits_left : (codec : PartialDecoderCapability) (n : ℕ) (left : Option ℕ) → codec.partial_decode ≡ true → IsAtMost n left → stage_fits codec n (bytes_stage left) ≡ true
@@ -167,7 +167,7 @@ stage_by_fits codec codecs = fits_by codec codec.partial_decode codec.partial_re
 -- ---- whether there is a cache
 
 pub no_stage : {B : Type 0} (reads_of : B → PartialDecoderCapability) (chain : PlainChain B) → cache_place (codecs_read reads_of chain) ≡ None → cache_stage reads_of chain ≡ stage.Nowhere
-no_stage reads_of chain e = ap (stage_at (length chain.outer)) e
+no_stage reads_of chain e = ap (stage_at (length chain.bytes_to_bytes)) e
 
 no_place_if : (test : Bool) → test ≡ true → cache_place (reads_all_if test ∷ []) ≡ None
 no_place_if true e = refl
@@ -181,8 +181,8 @@ no_place_of reads_of [] (optional_codec ma mx mb da dx db) e = absurd cc
 no_place_of reads_of (first ∷ rest) codec e = absurd cc
 
 -- where a read asks for a part of the value alone, there is none
-pub no_place : {B : Type 0} (reads_of : B → PartialDecoderCapability) (chain : PlainChain B) → asks_in_part chain.outer chain.codec ≡ true → cache_place (codecs_read reads_of chain) ≡ None
-no_place reads_of chain e = arrays_pass chain.arrays (codec_reads chain.codec ∷ map reads_of chain.outer) ∙ no_place_of reads_of chain.outer chain.codec e
+pub no_place : {B : Type 0} (reads_of : B → PartialDecoderCapability) (chain : PlainChain B) → asks_in_part chain.bytes_to_bytes chain.array_to_bytes ≡ true → cache_place (codecs_read reads_of chain) ≡ None
+no_place reads_of chain e = arrays_pass chain.array_to_array (codec_reads chain.array_to_bytes ∷ map reads_of chain.bytes_to_bytes) ∙ no_place_of reads_of chain.bytes_to_bytes chain.array_to_bytes e
 
 -- ---- how much a cache keeps
 

@@ -88,12 +88,12 @@ not_refused stored e h = cc
 module _ {B : Type 0} (f : BytesCodecs B) (form : ChunkForm B) (encoded : List ℕ) (r : BytesRepresentation) (h : IsReadable f form.chain form.sizes form.type form.fill encoded r) (chain_is : IsChainOfMappings form.chain) (positive : All (λ size. 0 < size) form.sizes) (fits : fill_fits form.type form.fill ≡ true) (lawful : IsLawful f) (filling : AreBytes form.fill) where
   -- new elements put into the normal form of a chunk, or into the chunk, have one normal form
   abbrev edited_normal : Chunk → List ℕ → Held → Chunk
-  edited_normal chunk places new = with_elements form.type (normal_form form.chain.codec form.type chunk) places new
+  edited_normal chunk places new = with_elements form.type (normal_form form.chain.array_to_bytes form.type chunk) places new
 
   same_normal : (chunk : Chunk) (places : List ℕ) (new : Held) → IsChunk form.type (product form.sizes) chunk
-      → normal_form form.chain.codec form.type (edited_normal chunk places new) ≡ normal_form form.chain.codec form.type (with_elements form.type chunk places new)
+      → normal_form form.chain.array_to_bytes form.type (edited_normal chunk places new) ≡ normal_form form.chain.array_to_bytes form.type (with_elements form.type chunk places new)
   same_normal chunk places new is =
-      let codec = form.chain.codec in
+      let codec = form.chain.array_to_bytes in
       let type = form.type in
       let d = elements type (length places) new in
       let n = normal_form codec type chunk in
@@ -105,7 +105,7 @@ module _ {B : Type 0} (f : BytesCodecs B) (form : ChunkForm B) (encoded : List �
   either_written : (chunk : Chunk) (places : List ℕ) (new : Held) (value : List ℕ) → IsChunk form.type (product form.sizes) chunk → data_fit form.type (length places) new ≡ Ok tt
       → ChainWritten f form.chain form.sizes form.type form.fill value (edited_normal chunk places new) ↔ ChainWritten f form.chain form.sizes form.type form.fill value (with_elements form.type chunk places new)
   either_written chunk places new value is fit =
-      let codec = form.chain.codec in
+      let codec = form.chain.array_to_bytes in
       let type = form.type in
       let x = edited_normal chunk places new in
       let y = with_elements type chunk places new in
@@ -126,18 +126,18 @@ module _ {B : Type 0} (f : BytesCodecs B) (form : ChunkForm B) (encoded : List �
 
   -- what is written of new elements, from nothing or from a value that is written for a chunk
   encoded_step : (stored : Option (List ℕ)) (state : Option Chunk) (places : List ℕ) (new : Held) (value : List ℕ) → StateHasBytes state → HeldHasBytes new → IsStoredFor f form stored state → All (λ place. place < product form.sizes) places → data_fit form.type (length places) new ≡ Ok tt
-      → value_left f form (order_in_place form.chain.outer form.chain.codec) stored places new ≡ Ok value → IsNext (Some value) (Some (with_elements form.type (chunk_or_fill form state) places new))
+      → value_left f form (order_in_place form.chain.bytes_to_bytes form.chain.array_to_bytes) stored places new ≡ Ok value → IsNext (Some value) (Some (with_elements form.type (chunk_or_fill form state) places new))
   encoded_step None None places new value here there is inside fit e =
       let filled = filled_chunk form.sizes form.type form.fill in (
-        (left_by f form encoded r h chain_is positive fits (order_in_place form.chain.outer form.chain.codec) refl None filled places new refl inside fit).0 value e,
+        (left_by f form encoded r h chain_is positive fits (order_in_place form.chain.bytes_to_bytes form.chain.array_to_bytes) refl None filled places new refl inside fit).0 value e,
         new_bytes filled places new (All-replicate HasBytes (product form.sizes) (fill_element form.type form.fill) (fill_bytes form.type form.fill filling)) there,
       )
   encoded_step None (Some chunk) places new value here there is inside fit e = absurd is
   encoded_step (Some stored) None places new value here there is inside fit e = absurd is
   encoded_step (Some stored) (Some chunk) places new value here there is inside fit e =
-      let normal = normal_form form.chain.codec form.type chunk in
+      let normal = normal_form form.chain.array_to_bytes form.type chunk in
       let stands = chain_stands f form.chain lawful chain_is form.sizes form.type form.fill stored chunk positive here is in
-      let w = (left_by f form encoded r h chain_is positive fits (order_in_place form.chain.outer form.chain.codec) refl (Some stored) normal places new stands inside fit).0 value e in
+      let w = (left_by f form encoded r h chain_is positive fits (order_in_place form.chain.bytes_to_bytes form.chain.array_to_bytes) refl (Some stored) normal places new stands inside fit).0 value e in
       ((either_written chunk places new value is.elements fit).0 w, new_bytes chunk places new here there)
 
   edited_step : (stored after : Option (List ℕ)) (state : Option Chunk) (edit : Edit) → StateHasBytes state → EditHasBytes edit → IsStoredFor f form stored state → edited_store f form stored edit ≡ Ok after → IsOkAnd (edited_state form state edit) (IsNext after)
@@ -169,16 +169,16 @@ module _ {B : Type 0} (f : BytesCodecs B) (form : ChunkForm B) (encoded : List �
 
   -- where a value is written for the chunk with new elements, it is left of what is written for the chunk, or of nothing
   written_step : (stored : Option (List ℕ)) (state : Option Chunk) (places : List ℕ) (new : Held) (value : List ℕ) → StateHasBytes state → IsStoredFor f form stored state → All (λ place. place < product form.sizes) places → data_fit form.type (length places) new ≡ Ok tt
-      → ChainWritten f form.chain form.sizes form.type form.fill value (with_elements form.type (chunk_or_fill form state) places new) → value_left f form (order_in_place form.chain.outer form.chain.codec) stored places new ≡ Ok value
+      → ChainWritten f form.chain form.sizes form.type form.fill value (with_elements form.type (chunk_or_fill form state) places new) → value_left f form (order_in_place form.chain.bytes_to_bytes form.chain.array_to_bytes) stored places new ≡ Ok value
   written_step None None places new value here is inside fit w =
       let filled = filled_chunk form.sizes form.type form.fill in
-      (left_by f form encoded r h chain_is positive fits (order_in_place form.chain.outer form.chain.codec) refl None filled places new refl inside fit).1 value w
+      (left_by f form encoded r h chain_is positive fits (order_in_place form.chain.bytes_to_bytes form.chain.array_to_bytes) refl None filled places new refl inside fit).1 value w
   written_step None (Some chunk) places new value here is inside fit w = absurd is
   written_step (Some stored) None places new value here is inside fit w = absurd is
   written_step (Some stored) (Some chunk) places new value here is inside fit w =
-      let normal = normal_form form.chain.codec form.type chunk in
+      let normal = normal_form form.chain.array_to_bytes form.type chunk in
       let stands = chain_stands f form.chain lawful chain_is form.sizes form.type form.fill stored chunk positive here is in
-      (left_by f form encoded r h chain_is positive fits (order_in_place form.chain.outer form.chain.codec) refl (Some stored) normal places new stands inside fit).1 value
+      (left_by f form encoded r h chain_is positive fits (order_in_place form.chain.bytes_to_bytes form.chain.array_to_bytes) refl (Some stored) normal places new stands inside fit).1 value
       ((either_written chunk places new value is.elements fit).1 w)
 
   written_value : (stored : Option (List ℕ)) (chunk : Chunk) → IsStoredFor f form stored (Some chunk) → (value : List ℕ) × ChainWritten f form.chain form.sizes form.type form.fill value chunk
@@ -195,7 +195,7 @@ module _ {B : Type 0} (f : BytesCodecs B) (form : ChunkForm B) (encoded : List �
       let inside = data_inside form.sizes form.type selection new a.0 a.1 in
       let left = written_step stored state a.0 new v.0 here is inside.0 inside.1 v.1 in
       let due : edited_store f form stored (Encode indexer new) ≡ ok_stored (Some v.0)
-      = ap (λ (x : Result (List ℕ) CodecError). seen (λ value. Some value) (x >>= λ places. value_left f form (order_in_place form.chain.outer form.chain.codec) stored places new)) a.1
+      = ap (λ (x : Result (List ℕ) CodecError). seen (λ value. Some value) (x >>= λ places. value_left f form (order_in_place form.chain.bytes_to_bytes form.chain.array_to_bytes) stored places new)) a.1
       ∙ ap (λ (x : Result (List ℕ) CodecError). seen (λ value. Some value) x) left in
       not_refused (Some v.0) e (sym due ∙ refused)
 

@@ -28,15 +28,15 @@ module _ {B : Type 0} (f : BytesCodecs B) (form : ChunkForm B) (encoded : List �
   stored_alone None places = refl
   stored_alone (Some value) places = refl
 
-  source_alone : (stored : Option (List ℕ)) (places : List ℕ) → source_places f form.chain encoded form.type form.fill r (bytes_above (length form.chain.outer) stored) places ≡ read_places order form.type form.fill stored places
+  source_alone : (stored : Option (List ℕ)) (places : List ℕ) → source_places f form.chain encoded form.type form.fill r (bytes_above (length form.chain.bytes_to_bytes) stored) places ≡ read_places order form.type form.fill stored places
   source_alone stored places =
-      let are = bytes_alone form.chain.outer form.chain.codec order alone in
-      ap (λ (outer : List B). outer_stored f (take (length outer) outer) r stored >>= λ bytes. codec_read f form.chain.codec encoded form.type form.fill bytes places) are.0
+      let are = bytes_alone form.chain.bytes_to_bytes form.chain.array_to_bytes order alone in
+      ap (λ (outer : List B). outer_stored f (take (length outer) outer) r stored >>= λ bytes. codec_read f form.chain.array_to_bytes encoded form.type form.fill bytes places) are.0
       ∙ ap (λ (codec : PlainCodec B). outer_stored f [] r stored >>= λ bytes. codec_read f codec encoded form.type form.fill bytes places) are.1
       ∙ stored_alone stored places
 
   -- the elements that a selection means are those at its places
-  pub listed_is : (source : Source) (stored : Option (List ℕ)) (selection : Selection) (places : List ℕ) → source ≡ bytes_above (length form.chain.outer) stored → encoded_places form.type form.chain.arrays form.sizes selection ≡ Ok places
+  pub listed_is : (source : Source) (stored : Option (List ℕ)) (selection : Selection) (places : List ℕ) → source ≡ bytes_above (length form.chain.bytes_to_bytes) stored → encoded_places form.type form.chain.array_to_array form.sizes selection ≡ Ok places
       → source_read f form encoded r source selection ≡ read_places order form.type form.fill stored places
   listed_is source stored selection places is at =
       ap (λ (p : Result (List ℕ) CodecError). p >>= λ places. source_places f form.chain encoded form.type form.fill r source places) at
@@ -44,7 +44,7 @@ module _ {B : Type 0} (f : BytesCodecs B) (form : ChunkForm B) (encoded : List �
       ∙ source_alone stored places
 
   -- such a read rests on the places' bytes
-  pub sure_alone : (before : StorageState) (places : List ℕ) (P : Type 0) → (are_sure before.sure (place_bytes (place_size form.type) places) ≡ true → P) → IfOk (codec_rests_on form.chain.codec encoded form.type form.fill before.value places) (λ numbers. are_sure before.sure numbers ≡ true → P)
+  pub sure_alone : (before : StorageState) (places : List ℕ) (P : Type 0) → (are_sure before.sure (place_bytes (place_size form.type) places) ≡ true → P) → IfOk (codec_rests_on form.chain.array_to_bytes encoded form.type form.fill before.value places) (λ numbers. are_sure before.sure numbers ≡ true → P)
   sure_alone before places P h =
-      let are = bytes_alone form.chain.outer form.chain.codec order alone in
+      let are = bytes_alone form.chain.bytes_to_bytes form.chain.array_to_bytes order alone in
       subst (λ (codec : PlainCodec B). IfOk (codec_rests_on codec encoded form.type form.fill before.value places) (λ numbers. are_sure before.sure numbers ≡ true → P)) (sym are.1) h

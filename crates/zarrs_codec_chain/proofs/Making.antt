@@ -46,4 +46,4 @@ mapped (Err e) measure behind P h = h
 -- a chain refuses a representation where it doesn't take the chunks
 pub representation_first : {B : Type 0} (f : BytesCodecs B) (chain : PlainChain B) (sizes : List ℕ) (type : ElementType) (fill : List ℕ) (P : CodecError → Type 0) → IfErr (taken_form f chain sizes type fill) P → IfErr (chain_representation f chain sizes type fill) P
 representation_first f chain sizes type fill P h =
-    mapped (arrays_map type chain.arrays sizes) (λ encoded. codec_representation f chain.codec encoded type fill) (outer_representation f chain.outer) P h
+    mapped (arrays_map type chain.array_to_array sizes) (λ encoded. codec_representation f chain.array_to_bytes encoded type fill) (outer_representation f chain.bytes_to_bytes) P h

@@ -127,20 +127,20 @@ counted_is n m e = let t = counted_test (nat_lt n (2 ^ 64)) n m e in grind (arit
 
 -- what a reader keeps of a chunk that a chain takes
 pub record IsKept {B : Type 0} (f : BytesCodecs B) (chain : PlainChain B) (sizes : List ℕ) (type : ElementType) (fill encoded : List ℕ) : Type 0 where
-  pub measured : is_ok (codec_representation f chain.codec encoded type fill) ≡ true
+  pub measured : is_ok (codec_representation f chain.array_to_bytes encoded type fill) ≡ true
   pub filled : fill_fits type fill ≡ true
   pub counted : product encoded < 2 ^ 64
   pub counted_whole : product sizes < 2 ^ 64
 
-pub kept_of : {B : Type 0} (f : BytesCodecs B) (chain : PlainChain B) (sizes : List ℕ) (type : ElementType) (fill encoded : List ℕ) (r : BytesRepresentation) → IsMapWhere type chain.arrays sizes → checked_u64 (product sizes) ≡ Ok (product sizes)
+pub kept_of : {B : Type 0} (f : BytesCodecs B) (chain : PlainChain B) (sizes : List ℕ) (type : ElementType) (fill encoded : List ℕ) (r : BytesRepresentation) → IsMapWhere type chain.array_to_array sizes → checked_u64 (product sizes) ≡ Ok (product sizes)
     → taken_form f chain sizes type fill ≡ Ok (encoded, r) → IsKept f chain sizes type fill encoded
 kept_of f chain sizes type fill encoded r maps counted e =
     let t = is_taken f chain sizes type fill (encoded, r) e in
-    let h = at_ok (arrays_map type chain.arrays sizes) (λ (m : CoordinateMap). IsCoordinateMap sizes m) t.map_is t.mapped maps in
-    let measured : codec_representation f chain.codec encoded type fill ≡ Ok r = subst (λ s. codec_representation f chain.codec s type fill ≡ Ok r) t.encoded_is t.measured in
+    let h = at_ok (arrays_map type chain.array_to_array sizes) (λ (m : CoordinateMap). IsCoordinateMap sizes m) t.map_is t.mapped maps in
+    let measured : codec_representation f chain.array_to_bytes encoded type fill ≡ Ok r = subst (λ s. codec_representation f chain.array_to_bytes s type fill ≡ Ok r) t.encoded_is t.measured in
     record {
       measured = is_ok_of _ r measured;
-      filled = codec_fits f chain.codec encoded type fill r measured;
+      filled = codec_fits f chain.array_to_bytes encoded type fill r measured;
       counted = subst (λ n. n < 2 ^ 64) (sym h.count ∙ ap product t.encoded_is) (counted_is (product sizes) (product sizes) counted);
       counted_whole = counted_is (product sizes) (product sizes) counted;
     }

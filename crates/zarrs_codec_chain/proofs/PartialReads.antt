@@ -49,24 +49,24 @@ use Rattle.zarrs_plain_vlen.proofs.IndexOffsets.{same_answer}
 
 pub record IsReadable {B : Type 0} (f : BytesCodecs B) (chain : PlainChain B) (sizes : List ℕ) (type : ElementType) (fill encoded : List ℕ) (r : BytesRepresentation) : Type 0 where
   pub map_is : CoordinateMap
-  pub mapped : arrays_map type chain.arrays sizes ≡ Ok map_is
+  pub mapped : arrays_map type chain.array_to_array sizes ≡ Ok map_is
   pub is_map : IsCoordinateMap sizes map_is
   pub encoded_is : map_is.encoded ≡ encoded
   pub count : product encoded ≡ product sizes
-  pub measured : codec_representation f chain.codec encoded type fill ≡ Ok r
+  pub measured : codec_representation f chain.array_to_bytes encoded type fill ≡ Ok r
 
-pub is_readable : {B : Type 0} (f : BytesCodecs B) (chain : PlainChain B) (sizes : List ℕ) (type : ElementType) (fill encoded : List ℕ) (r : BytesRepresentation) → All IsMapping chain.arrays → All (λ size. 0 < size) sizes
+pub is_readable : {B : Type 0} (f : BytesCodecs B) (chain : PlainChain B) (sizes : List ℕ) (type : ElementType) (fill encoded : List ℕ) (r : BytesRepresentation) → All IsMapping chain.array_to_array → All (λ size. 0 < size) sizes
     → taken_form f chain sizes type fill ≡ Ok (encoded, r) → IsReadable f chain sizes type fill encoded r
 is_readable f chain sizes type fill encoded r mappings positive e =
     let t = is_taken f chain sizes type fill (encoded, r) e in
-    let h = arrays_are_map chain.arrays sizes type t.map_is mappings positive t.mapped in
+    let h = arrays_are_map chain.array_to_array sizes type t.map_is mappings positive t.mapped in
     record {
       map_is = t.map_is;
       mapped = t.mapped;
       is_map = h;
       encoded_is = t.encoded_is;
       count = ap product (sym t.encoded_is) ∙ h.count;
-      measured = subst (λ s. codec_representation f chain.codec s type fill ≡ Ok r) t.encoded_is t.measured;
+      measured = subst (λ s. codec_representation f chain.array_to_bytes s type fill ≡ Ok r) t.encoded_is t.measured;
     }
 
 pub is_ok_of : {A : Type 0} (r : Result A CodecError) (x : A) → r ≡ Ok x → is_ok r ≡ true
@@ -155,26 +155,26 @@ take_codecs codecs = take_all (length codecs) codecs (omega arith)
 same_source : (one other : Source) → ok one ≡ ok other → other ≡ one
 same_source one other e = cc
 
-module _ {B : Type 0} (f : BytesCodecs B) (chain : PlainChain B) (encoded : List ℕ) (type : ElementType) (fill : List ℕ) (r : BytesRepresentation) (measured : codec_representation f chain.codec encoded type fill ≡ Ok r) where
+module _ {B : Type 0} (f : BytesCodecs B) (chain : PlainChain B) (encoded : List ℕ) (type : ElementType) (fill : List ℕ) (r : BytesRepresentation) (measured : codec_representation f chain.array_to_bytes encoded type fill ≡ Ok r) where
   abbrev read_below : Result (List ℕ) CodecError → List ℕ → Result Chunk CodecError
-  read_below bytes places = seen (λ b. Some b) bytes >>= λ below. codec_read f chain.codec encoded type fill below places
+  read_below bytes places = seen (λ b. Some b) bytes >>= λ below. codec_read f chain.array_to_bytes encoded type fill below places
 
   pub unchanged : (s : CacheStage) (stored : Option (List ℕ)) (source : Source) (places : List ℕ) → source_at f chain encoded type fill r s stored ≡ Ok source → All (λ place. place < product encoded) places
-      → source_places f chain encoded type fill r source places ≡ (outer_stored f chain.outer r stored >>= λ below. codec_read f chain.codec encoded type fill below places)
+      → source_places f chain encoded type fill r source places ≡ (outer_stored f chain.bytes_to_bytes r stored >>= λ below. codec_read f chain.array_to_bytes encoded type fill below places)
   unchanged stage.Nowhere stored source places e h =
       ap (λ x. source_places f chain encoded type fill r x places) (same_source _ _ e)
-      ∙ ap (λ (bs : List B). outer_stored f bs r stored >>= λ below. codec_read f chain.codec encoded type fill below places) (take_codecs chain.outer)
+      ∙ ap (λ (bs : List B). outer_stored f bs r stored >>= λ below. codec_read f chain.array_to_bytes encoded type fill below places) (take_codecs chain.bytes_to_bytes)
   unchanged (stage.Bytes below) None source places e h = ap (λ x. source_places f chain encoded type fill r x places) (same_source _ _ e)
   unchanged (stage.Bytes below) (Some value) source places e h =
-      let a = bind_ok (outer_bytes f (drop below chain.outer) (outer_representation f (take below chain.outer) r) value) _ source e in
+      let a = bind_ok (outer_bytes f (drop below chain.bytes_to_bytes) (outer_representation f (take below chain.bytes_to_bytes) r) value) _ source e in
       ap (λ x. source_places f chain encoded type fill r x places) (same_source _ _ a.2)
-      ∙ ap (λ o. read_below o places) (sym (outer_split f chain.outer below r value a.0 a.1))
-  unchanged stage.Chunk None source places e h = ap (λ x. source_places f chain encoded type fill r x places) (same_source _ _ e) ∙ sym (codec_fills f chain.codec encoded type fill r places measured)
+      ∙ ap (λ o. read_below o places) (sym (outer_split f chain.bytes_to_bytes below r value a.0 a.1))
+  unchanged stage.Chunk None source places e h = ap (λ x. source_places f chain encoded type fill r x places) (same_source _ _ e) ∙ sym (codec_fills f chain.array_to_bytes encoded type fill r places measured)
   unchanged stage.Chunk (Some value) source places e h =
       let a = bind_ok (opened_chunk f chain encoded type fill r value) _ source e in
-      let b = bind_ok (outer_bytes f chain.outer r value) _ a.0 a.1 in
+      let b = bind_ok (outer_bytes f chain.bytes_to_bytes r value) _ a.0 a.1 in
       ap (λ x. source_places f chain encoded type fill r x places) (same_source _ _ a.2)
-      ∙ sym (codec_selects f chain.codec encoded type fill b.0 a.0 places b.2 h)
+      ∙ sym (codec_selects f chain.array_to_bytes encoded type fill b.0 a.0 places b.2 h)
       ∙ ap (λ o. read_below o places) (sym b.1)
 
 -- places that go through a chain lie inside the encoded chunk
@@ -196,7 +196,7 @@ mapped_below type arrays sizes encoded selection m e h count = rw e (go (places_
     go (Err x) inside = tt
 
 form_read : {B : Type 0} (f : BytesCodecs B) (form : ChunkForm B) (encoded : List ℕ) (r : BytesRepresentation) (stored : Option (List ℕ)) (selection : Selection) → taken_form f form.chain form.sizes form.type form.fill ≡ Ok (encoded, r)
-    → stored_read f form stored selection ≡ (encoded_places form.type form.chain.arrays form.sizes selection >>= λ places. outer_stored f form.chain.outer r stored >>= λ below. codec_read f form.chain.codec encoded form.type form.fill below places)
+    → stored_read f form stored selection ≡ (encoded_places form.type form.chain.array_to_array form.sizes selection >>= λ places. outer_stored f form.chain.bytes_to_bytes r stored >>= λ below. codec_read f form.chain.array_to_bytes encoded form.type form.fill below places)
 form_read f form encoded r stored selection e = rw e refl
 
 made_at : {B : Type 0} (f : BytesCodecs B) (s : CacheStage) (form : ChunkForm B) (stored : Option (List ℕ)) (source : Source) (encoded : List ℕ) (r : BytesRepresentation) → taken_form f form.chain form.sizes form.type form.fill ≡ Ok (encoded, r)
@@ -205,11 +205,11 @@ made_at f s form stored source encoded r e made = rw e at made
 
 -- What a decoder reads by what its answers rest on is what is read of the stored value.
 pub source_is_stored : {B : Type 0} (f : BytesCodecs B) (s : CacheStage) (form : ChunkForm B) (encoded : List ℕ) (r : BytesRepresentation) (stored : Option (List ℕ)) (source : Source) (selection : Selection)
-    → All IsMapping form.chain.arrays → All (λ size. 0 < size) form.sizes → taken_form f form.chain form.sizes form.type form.fill ≡ Ok (encoded, r) → source_made_at f form s stored ≡ Ok source
+    → All IsMapping form.chain.array_to_array → All (λ size. 0 < size) form.sizes → taken_form f form.chain form.sizes form.type form.fill ≡ Ok (encoded, r) → source_made_at f form s stored ≡ Ok source
     → source_read f form encoded r source selection ≡ stored_read f form stored selection
 source_is_stored f s form encoded r stored source selection mappings positive e made =
     let h = is_readable f form.chain form.sizes form.type form.fill encoded r mappings positive e in
-    at_both (encoded_places form.type form.chain.arrays form.sizes selection) (All (λ place. place < product encoded)) _ _ (mapped_below form.type form.chain.arrays form.sizes encoded selection h.map_is h.mapped h.is_map h.count)
+    at_both (encoded_places form.type form.chain.array_to_array form.sizes selection) (All (λ place. place < product encoded)) _ _ (mapped_below form.type form.chain.array_to_array form.sizes encoded selection h.map_is h.mapped h.is_map h.count)
     (λ places inside. unchanged f form.chain encoded form.type form.fill r h.measured s stored source places (made_at f s form stored source encoded r e made) inside)
     ∙ sym (form_read f form encoded r stored selection e)
 
@@ -217,7 +217,7 @@ there_at : {B : Type 0} (f : BytesCodecs B) (chain : PlainChain B) (encoded : Li
 there_at f chain encoded type fill r stage.Nowhere stored source e = ap is_there (same_source _ _ e)
 there_at f chain encoded type fill r (stage.Bytes below) None source e = ap is_there (same_source _ _ e)
 there_at f chain encoded type fill r (stage.Bytes below) (Some value) source e =
-    let a = bind_ok (outer_bytes f (drop below chain.outer) (outer_representation f (take below chain.outer) r) value) _ source e in
+    let a = bind_ok (outer_bytes f (drop below chain.bytes_to_bytes) (outer_representation f (take below chain.bytes_to_bytes) r) value) _ source e in
     ap is_there (same_source _ _ a.2)
 there_at f chain encoded type fill r stage.Chunk None source e = ap is_there (same_source _ _ e)
 there_at f chain encoded type fill r stage.Chunk (Some value) source e =
@@ -251,53 +251,53 @@ encoded_by type arrays sizes selection m e = rw e refl
 -- the places of a selection, read one way, are those read another way
 read_by_places : {B : Type 0} (f : BytesCodecs B) (form : ChunkForm B) (encoded : List ℕ) (r : BytesRepresentation) (stored : Option (List ℕ)) (selection : Selection) (g : List ℕ → Chunk) (h : IsReadable f form.chain form.sizes form.type form.fill encoded r)
     → taken_form f form.chain form.sizes form.type form.fill ≡ Ok (encoded, r)
-    → ((places : List ℕ) → All (λ place. place < product form.sizes) places → (outer_stored f form.chain.outer r stored >>= λ below. codec_read f form.chain.codec encoded form.type form.fill below (map h.map_is.to places)) ≡ Ok (g places))
+    → ((places : List ℕ) → All (λ place. place < product form.sizes) places → (outer_stored f form.chain.bytes_to_bytes r stored >>= λ below. codec_read f form.chain.array_to_bytes encoded form.type form.fill below (map h.map_is.to places)) ≡ Ok (g places))
     → stored_read f form stored selection ≡ seen g (places_of selection form.sizes)
 read_by_places f form encoded r stored selection g h e each =
     form_read f form encoded r stored selection e
-    ∙ ap (λ (p : Result (List ℕ) CodecError). p >>= λ places. outer_stored f form.chain.outer r stored >>= λ below. codec_read f form.chain.codec encoded form.type form.fill below places) (encoded_by form.type form.chain.arrays form.sizes selection h.map_is h.mapped)
-    ∙ at_places (places_of selection form.sizes) (All (λ place. place < product form.sizes)) (map h.map_is.to) (λ places. outer_stored f form.chain.outer r stored >>= λ below. codec_read f form.chain.codec encoded form.type form.fill below places) g (places_below selection form.sizes) each
+    ∙ ap (λ (p : Result (List ℕ) CodecError). p >>= λ places. outer_stored f form.chain.bytes_to_bytes r stored >>= λ below. codec_read f form.chain.array_to_bytes encoded form.type form.fill below places) (encoded_by form.type form.chain.array_to_array form.sizes selection h.map_is h.mapped)
+    ∙ at_places (places_of selection form.sizes) (All (λ place. place < product form.sizes)) (map h.map_is.to) (λ places. outer_stored f form.chain.bytes_to_bytes r stored >>= λ below. codec_read f form.chain.array_to_bytes encoded form.type form.fill below places) g (places_below selection form.sizes) each
 
 fills_mapped : (element : Element) (g : ℕ → ℕ) (places : List ℕ) → map (λ _. element) (map g places) ≡ map (λ _. element) places
 fills_mapped element g places = map-map (λ _. element) g places
 
 -- Where nothing is stored, the fill element is read at each place.
-pub unstored_read : {B : Type 0} (f : BytesCodecs B) (form : ChunkForm B) (encoded : List ℕ) (r : BytesRepresentation) (selection : Selection) → All IsMapping form.chain.arrays → All (λ size. 0 < size) form.sizes
+pub unstored_read : {B : Type 0} (f : BytesCodecs B) (form : ChunkForm B) (encoded : List ℕ) (r : BytesRepresentation) (selection : Selection) → All IsMapping form.chain.array_to_array → All (λ size. 0 < size) form.sizes
     → taken_form f form.chain form.sizes form.type form.fill ≡ Ok (encoded, r) → stored_read f form None selection ≡ seen (map (λ _. fill_element form.type form.fill)) (places_of selection form.sizes)
 unstored_read f form encoded r selection mappings positive e =
     let h = is_readable f form.chain form.sizes form.type form.fill encoded r mappings positive e in
     read_by_places f form encoded r None selection (map (λ _. fill_element form.type form.fill)) h e
-    (λ places inside. codec_fills f form.chain.codec encoded form.type form.fill r (map h.map_is.to places) h.measured ∙ ap ok (fills_mapped (fill_element form.type form.fill) h.map_is.to places))
+    (λ places inside. codec_fills f form.chain.array_to_bytes encoded form.type form.fill r (map h.map_is.to places) h.measured ∙ ap ok (fills_mapped (fill_element form.type form.fill) h.map_is.to places))
 
 -- what a chain reads of a value as a chunk, step by step
 record ChunkSteps {B : Type 0} (f : BytesCodecs B) (chain : PlainChain B) (sizes : List ℕ) (type : ElementType) (fill encoded : List ℕ) (r : BytesRepresentation) (m : CoordinateMap) (value : List ℕ) (chunk : Chunk) : Type 0 where
   bytes : List ℕ
   inner : Chunk
-  opened : outer_bytes f chain.outer r value ≡ Ok bytes
-  decoded : codec_chunk f chain.codec encoded type fill bytes ≡ Ok inner
+  opened : outer_bytes f chain.bytes_to_bytes r value ≡ Ok bytes
+  decoded : codec_chunk f chain.array_to_bytes encoded type fill bytes ≡ Ok inner
   is : moved_chunk (inverse_map sizes m) inner ≡ chunk
 
 chunk_steps : {B : Type 0} (f : BytesCodecs B) (chain : PlainChain B) (sizes : List ℕ) (type : ElementType) (fill encoded : List ℕ) (r : BytesRepresentation) (value : List ℕ) (chunk : Chunk) (h : IsReadable f chain sizes type fill encoded r) → chain_chunk f chain sizes type fill value ≡ Ok chunk
     → ChunkSteps f chain sizes type fill encoded r h.map_is value chunk
 chunk_steps f chain sizes type fill encoded r value chunk h e =
-    let a = bind_ok (arrays_map type chain.arrays sizes) _ chunk e in
+    let a = bind_ok (arrays_map type chain.array_to_array sizes) _ chunk e in
     let m : a.0 ≡ h.map_is = ok_is a.0 h.map_is (sym a.1 ∙ h.mapped) in
-    let later = subst (λ (x : CoordinateMap). (codec_representation f chain.codec x.encoded type fill >>= λ s. outer_bytes f chain.outer s value >>= λ bytes. codec_chunk f chain.codec x.encoded type fill bytes >>= λ c. ok (moved_chunk (inverse_map sizes x) c)) ≡ Ok chunk) m a.2 in
-    let here = subst (λ (s : List ℕ). (codec_representation f chain.codec s type fill >>= λ q. outer_bytes f chain.outer q value >>= λ bytes. codec_chunk f chain.codec s type fill bytes >>= λ c. ok (moved_chunk (inverse_map sizes h.map_is) c)) ≡ Ok chunk) h.encoded_is later in
-    let b = bind_ok (codec_representation f chain.codec encoded type fill) _ chunk here in
+    let later = subst (λ (x : CoordinateMap). (codec_representation f chain.array_to_bytes x.encoded type fill >>= λ s. outer_bytes f chain.bytes_to_bytes s value >>= λ bytes. codec_chunk f chain.array_to_bytes x.encoded type fill bytes >>= λ c. ok (moved_chunk (inverse_map sizes x) c)) ≡ Ok chunk) m a.2 in
+    let here = subst (λ (s : List ℕ). (codec_representation f chain.array_to_bytes s type fill >>= λ q. outer_bytes f chain.bytes_to_bytes q value >>= λ bytes. codec_chunk f chain.array_to_bytes s type fill bytes >>= λ c. ok (moved_chunk (inverse_map sizes h.map_is) c)) ≡ Ok chunk) h.encoded_is later in
+    let b = bind_ok (codec_representation f chain.array_to_bytes encoded type fill) _ chunk here in
     let s : b.0 ≡ r = ok_is b.0 r (sym b.1 ∙ h.measured) in
-    let c = bind_ok (outer_bytes f chain.outer b.0 value) _ chunk b.2 in
-    let d = bind_ok (codec_chunk f chain.codec encoded type fill c.0) _ chunk c.2 in
+    let c = bind_ok (outer_bytes f chain.bytes_to_bytes b.0 value) _ chunk b.2 in
+    let d = bind_ok (codec_chunk f chain.array_to_bytes encoded type fill c.0) _ chunk c.2 in
     record {
       bytes = c.0;
       inner = d.0;
-      opened = ap (λ (x : BytesRepresentation). outer_bytes f chain.outer x value) (sym s) ∙ c.1;
+      opened = ap (λ (x : BytesRepresentation). outer_bytes f chain.bytes_to_bytes x value) (sym s) ∙ c.1;
       decoded = d.1;
       is = ok_is _ _ d.2;
     }
 
 -- Of a value that a chain reads as a chunk, the chunk's elements are read.
-pub stored_selects : {B : Type 0} (f : BytesCodecs B) (form : ChunkForm B) (encoded : List ℕ) (r : BytesRepresentation) (value : List ℕ) (chunk : Chunk) (selection : Selection) → All IsMapping form.chain.arrays → All (λ size. 0 < size) form.sizes
+pub stored_selects : {B : Type 0} (f : BytesCodecs B) (form : ChunkForm B) (encoded : List ℕ) (r : BytesRepresentation) (value : List ℕ) (chunk : Chunk) (selection : Selection) → All IsMapping form.chain.array_to_array → All (λ size. 0 < size) form.sizes
     → taken_form f form.chain form.sizes form.type form.fill ≡ Ok (encoded, r) → chain_chunk f form.chain form.sizes form.type form.fill value ≡ Ok chunk
     → stored_read f form (Some value) selection ≡ seen (select chunk) (places_of selection form.sizes)
 stored_selects f form encoded r value chunk selection mappings positive e is =
@@ -305,6 +305,6 @@ stored_selects f form encoded r value chunk selection mappings positive e is =
     let s = chunk_steps f form.chain form.sizes form.type form.fill encoded r value chunk h is in
     read_by_places f form encoded r (Some value) selection (select chunk) h e
     (λ places inside.
-    ap (λ (o : Result (List ℕ) CodecError). seen (λ b. Some b) o >>= λ below. codec_read f form.chain.codec encoded form.type form.fill below (map h.map_is.to places)) s.opened
-    ∙ codec_selects f form.chain.codec encoded form.type form.fill s.bytes s.inner (map h.map_is.to places) s.decoded (moved_below places h.map_is form.sizes encoded h.is_map h.count inside)
+    ap (λ (o : Result (List ℕ) CodecError). seen (λ b. Some b) o >>= λ below. codec_read f form.chain.array_to_bytes encoded form.type form.fill below (map h.map_is.to places)) s.opened
+    ∙ codec_selects f form.chain.array_to_bytes encoded form.type form.fill s.bytes s.inner (map h.map_is.to places) s.decoded (moved_below places h.map_is form.sizes encoded h.is_map h.count inside)
     ∙ ap ok (select_back h.map_is form.sizes s.inner places inside ∙ ap (λ (c : Chunk). select c places) s.is))

@@ -182,25 +182,25 @@ memory_too e h = first_false (memory e) (fault e) h
 
 -- ---- a chain of array codecs and `bytes`
 
-module _ {B : Type 0} (f : BytesCodecs B) (form : ChunkForm B) (encoded : List ℕ) (r : BytesRepresentation) (h : IsReadable f form.chain form.sizes form.type form.fill encoded r) (order : Option Endianness) (alone : order_in_place form.chain.outer form.chain.codec ≡ Some order) where
+module _ {B : Type 0} (f : BytesCodecs B) (form : ChunkForm B) (encoded : List ℕ) (r : BytesRepresentation) (h : IsReadable f form.chain form.sizes form.type form.fill encoded r) (order : Option Endianness) (alone : order_in_place form.chain.bytes_to_bytes form.chain.array_to_bytes ≡ Some order) where
   at_bytes : is_ok (bytes_length order (form_of h.map_is.encoded form.type form.fill)) ≡ true
   at_bytes = subst (λ (s : List ℕ). is_ok (bytes_length order (form_of s form.type form.fill)) ≡ true) (sym h.encoded_is)
-      (in_place_taken f form.chain.outer form.chain.codec order encoded form.type form.fill alone (is_ok_of (codec_representation f form.chain.codec encoded form.type form.fill) r h.measured))
+      (in_place_taken f form.chain.bytes_to_bytes form.chain.array_to_bytes order encoded form.type form.fill alone (is_ok_of (codec_representation f form.chain.array_to_bytes encoded form.type form.fill) r h.measured))
 
   -- what `bytes` writes of the moved chunk the chain writes of the chunk
   written_through : (value : List ℕ) (chunk : Chunk) → IsChunk form.type (product form.sizes) chunk → BytesWritten order (form_of h.map_is.encoded form.type form.fill) value (moved_chunk h.map_is chunk) → ChainWritten f form.chain form.sizes form.type form.fill value chunk
   written_through value chunk is w =
-      let alone' = bytes_alone form.chain.outer form.chain.codec order alone in
+      let alone' = bytes_alone form.chain.bytes_to_bytes form.chain.array_to_bytes order alone in
       let around : OuterWritten f [] value value = (w.small, refl) in
       record {
         map_is = h.map_is;
         size = r;
         below = value;
         mapped = h.mapped;
-        measured = subst (λ (s : List ℕ). codec_representation f form.chain.codec s form.type form.fill ≡ Ok r) (sym h.encoded_is) h.measured;
+        measured = subst (λ (s : List ℕ). codec_representation f form.chain.array_to_bytes s form.type form.fill ≡ Ok r) (sym h.encoded_is) h.measured;
         countable = subst (λ (n : ℕ). sizes_fit form.type n ≡ Ok tt) h.is_map.count (bytes_countable order h.map_is.encoded form.type form.fill at_bytes);
         elements = is;
-        written = codec_written f form.chain.codec order h.map_is.encoded form.type form.fill value (moved_chunk h.map_is chunk) alone'.1 w;
+        written = codec_written f form.chain.array_to_bytes order h.map_is.encoded form.type form.fill value (moved_chunk h.map_is chunk) alone'.1 w;
         around = subst (λ (bs : List B). OuterWritten f bs value value) (sym alone'.0) around;
       }
 
@@ -226,11 +226,11 @@ module _ {B : Type 0} (f : BytesCodecs B) (form : ChunkForm B) (encoded : List �
       (left_through None chunk places new (filled_is form.sizes form.type form.fill fits) (moved_filled form.sizes h.map_is (fill_element form.type form.fill) h.is_map) inside fit)
 
   -- and at a selection
-  pub selection_in_place : (stored : Option (List ℕ)) (selection : Selection) (new : Held) (there : List ℕ) → fill_fits form.type form.fill ≡ true → written_places form.type form.chain.arrays form.sizes selection new ≡ Ok there
+  pub selection_in_place : (stored : Option (List ℕ)) (selection : Selection) (new : Held) (there : List ℕ) → fill_fits form.type form.fill ≡ true → written_places form.type form.chain.array_to_array form.sizes selection new ≡ Ok there
       → selection_left f form (Some order) stored selection new ≡ Ok (bytes_left order (form_of encoded form.type form.fill) stored there new)
   selection_in_place stored selection new there fits e =
       let a = bind_ok (data_places form.sizes form.type selection new) _ there e in
-      let b = bind_ok (arrays_map form.type form.chain.arrays form.sizes) _ there a.2 in
+      let b = bind_ok (arrays_map form.type form.chain.array_to_array form.sizes) _ there a.2 in
       let same : b.0 ≡ h.map_is = ok_is b.0 h.map_is (sym b.1 ∙ h.mapped) in
       let is : map h.map_is.to a.0 ≡ there = ap (λ (m : CoordinateMap). map m.to a.0) (sym same) ∙ ok_is (map b.0.to a.0) there b.2 in
       let inside = data_inside form.sizes form.type selection new a.0 a.1 in
@@ -249,18 +249,18 @@ module _ {B : Type 0} (f : BytesCodecs B) (form : ChunkForm B) (encoded : List �
   starts_is (Some value) chunk starts = starts.elements
 
   -- a write in place starts from the moved chunk
-  starts_moved : (order : Option Endianness) → order_in_place form.chain.outer form.chain.codec ≡ Some order → (value : List ℕ) (chunk : Chunk) → ChainStands f form.chain form.sizes form.type form.fill value chunk
+  starts_moved : (order : Option Endianness) → order_in_place form.chain.bytes_to_bytes form.chain.array_to_bytes ≡ Some order → (value : List ℕ) (chunk : Chunk) → ChainStands f form.chain form.sizes form.type form.fill value chunk
       → StartsFrom order (form_of h.map_is.encoded form.type form.fill) (Some value) (moved_chunk h.map_is chunk)
   starts_moved order alone value chunk s =
-      let a = bytes_alone form.chain.outer form.chain.codec order alone in
+      let a = bytes_alone form.chain.bytes_to_bytes form.chain.array_to_bytes order alone in
       let same : s.map_is ≡ h.map_is = ok_is s.map_is h.map_is (sym s.mapped ∙ h.mapped) in
-      let below : s.below ≡ value = outer_none f form.chain.outer s.size value s.below a.0 s.opened in
-      let b = codec_stands f form.chain.codec order s.map_is.encoded form.type form.fill s.below (moved_chunk s.map_is chunk) a.1 s.stands in
+      let below : s.below ≡ value = outer_none f form.chain.bytes_to_bytes s.size value s.below a.0 s.opened in
+      let b = codec_stands f form.chain.array_to_bytes order s.map_is.encoded form.type form.fill s.below (moved_chunk s.map_is chunk) a.1 s.stands in
       subst (λ (m : CoordinateMap). BytesStands order (form_of m.encoded form.type form.fill) value (moved_chunk m chunk)) same
       (subst (λ (v : List ℕ). BytesStands order (form_of s.map_is.encoded form.type form.fill) v (moved_chunk s.map_is chunk)) below b)
 
   -- what is left, if anything is, is what is written for the chunk with the new elements; and what is written for it is left
-  pub left_by : (by : Option (Option Endianness)) → order_in_place form.chain.outer form.chain.codec ≡ by → (stored : Option (List ℕ)) (chunk : Chunk) (places : List ℕ) (new : Held) → EditStarts f form stored chunk → All (λ place. place < product form.sizes) places → data_fit form.type (length places) new ≡ Ok tt
+  pub left_by : (by : Option (Option Endianness)) → order_in_place form.chain.bytes_to_bytes form.chain.array_to_bytes ≡ by → (stored : Option (List ℕ)) (chunk : Chunk) (places : List ℕ) (new : Held) → EditStarts f form stored chunk → All (λ place. place < product form.sizes) places → data_fit form.type (length places) new ≡ Ok tt
       → ((value : List ℕ) → value_left f form by stored places new ≡ Ok value → ChainWritten f form.chain form.sizes form.type form.fill value (with_elements form.type chunk places new))
       × ((value : List ℕ) → ChainWritten f form.chain form.sizes form.type form.fill value (with_elements form.type chunk places new) → value_left f form by stored places new ≡ Ok value)
   left_by by alone None chunk places new starts inside fit =
@@ -294,7 +294,7 @@ module _ {B : Type 0} (f : BytesCodecs B) (form : ChunkForm B) (encoded : List �
       let v = seen_ok (λ value. Some value) (stored_written f form stored selection new) after answer in
       let a = bind_ok (data_places form.sizes form.type selection new) _ v.0 v.1 in
       let inside = data_inside form.sizes form.type selection new a.0 a.1 in
-      let w = (left_by (order_in_place form.chain.outer form.chain.codec) refl stored chunk a.0 new starts inside.0 inside.1).0 v.0 a.2 in
+      let w = (left_by (order_in_place form.chain.bytes_to_bytes form.chain.array_to_bytes) refl stored chunk a.0 new starts inside.0 inside.1).0 v.0 a.2 in
       edited_at (data_places form.sizes form.type selection new) (λ places. with_elements form.type chunk places new) (StoresChunk f form after) a.0 a.1 (subst (λ (x : Option (List ℕ)). StoresChunk f form x (with_elements form.type chunk a.0 new)) v.2 w)
   edit_found (Err e) stored after selection new answer = tt
 
@@ -305,6 +305,6 @@ module _ {B : Type 0} (f : BytesCodecs B) (form : ChunkForm B) (encoded : List �
   edit_only result stored after selection new answer chunk value starts written =
       let a = found_places (data_places form.sizes form.type selection new) (λ places. with_elements form.type chunk places new) (ChainWritten f form.chain form.sizes form.type form.fill value) written in
       let inside = data_inside form.sizes form.type selection new a.0 a.1 in
-      let left = (left_by (order_in_place form.chain.outer form.chain.codec) refl stored chunk a.0 new starts inside.0 inside.1).1 value a.2 in
-      let is : stored_written f form stored selection new ≡ Ok value = ap (λ (x : Result (List ℕ) CodecError). x >>= λ places. value_left f form (order_in_place form.chain.outer form.chain.codec) stored places new) a.1 ∙ left in
+      let left = (left_by (order_in_place form.chain.bytes_to_bytes form.chain.array_to_bytes) refl stored chunk a.0 new starts inside.0 inside.1).1 value a.2 in
+      let is : stored_written f form stored selection new ≡ Ok value = ap (λ (x : Result (List ℕ) CodecError). x >>= λ places. value_left f form (order_in_place form.chain.bytes_to_bytes form.chain.array_to_bytes) stored places new) a.1 ∙ left in
       subst (λ (x : Result (List ℕ) CodecError). Answers memory_or_fault (λ _. after) result (seen (λ value. Some value) x)) is answer

@@ -113,29 +113,29 @@ planned_kept false found region e = absurd (cc)
 
 pub planned_are_meant : (B : Type 0) → PlannedPlacesAreMeant B
 planned_are_meant B form selection meant ordered mappings positive e is =
-    let o = in_order form.type form.chain.arrays form.sizes selection meant mappings.mappings positive e (planned_region form selection) ordered
-    (λ region p. kept_is form.chain.arrays form.sizes selection region (planned_kept (is_some (form_in_place form)) (kept_region form.chain.arrays form.sizes selection) region p))
-    (ap (seen (places_in_order form.chain.arrays form.sizes (planned_region form selection))) (sym e) ∙ is) in
+    let o = in_order form.type form.chain.array_to_array form.sizes selection meant mappings.mappings positive e (planned_region form selection) ordered
+    (λ region p. kept_is form.chain.array_to_array form.sizes selection region (planned_kept (is_some (form_in_place form)) (kept_region form.chain.array_to_array form.sizes selection) region p))
+    (ap (seen (places_in_order form.chain.array_to_array form.sizes (planned_region form selection))) (sym e) ∙ is) in
     record { same = o.0; rising = o.1 }
 
 -- ---- calls
 
 -- the places where a region that is kept stands are its places in order
-pub standing_is : {B : Type 0} (form : ChunkForm B) (selection : Selection) (region : Region) (meant : List ℕ) → planned_region form selection ≡ Some region → encoded_places form.type form.chain.arrays form.sizes selection ≡ Ok meant
-    → ordered_places form selection ≡ Ok (standing_places form.chain.arrays form.sizes region)
+pub standing_is : {B : Type 0} (form : ChunkForm B) (selection : Selection) (region : Region) (meant : List ℕ) → planned_region form selection ≡ Some region → encoded_places form.type form.chain.array_to_array form.sizes selection ≡ Ok meant
+    → ordered_places form selection ≡ Ok (standing_places form.chain.array_to_array form.sizes region)
 standing_is form selection region meant p e =
-    ap (λ (r : Option Region). seen (places_in_order form.chain.arrays form.sizes r) (encoded_places form.type form.chain.arrays form.sizes selection)) p
-    ∙ ap (seen (places_in_order form.chain.arrays form.sizes (Some region))) e
+    ap (λ (r : Option Region). seen (places_in_order form.chain.array_to_array form.sizes r) (encoded_places form.type form.chain.array_to_array form.sizes selection)) p
+    ∙ ap (seen (places_in_order form.chain.array_to_array form.sizes (Some region))) e
 
 own_order : (arrays : List ArrayMapping) (sizes : List ℕ) (r : Result (List ℕ) CodecError) → seen (places_in_order arrays sizes None) r ≡ r
 own_order arrays sizes (Ok places) = refl
 own_order arrays sizes (Err e) = refl
 
 -- and all others come in their own
-pub others_are : {B : Type 0} (form : ChunkForm B) (selection : Selection) → planned_region form selection ≡ None → ordered_places form selection ≡ encoded_places form.type form.chain.arrays form.sizes selection
+pub others_are : {B : Type 0} (form : ChunkForm B) (selection : Selection) → planned_region form selection ≡ None → ordered_places form selection ≡ encoded_places form.type form.chain.array_to_array form.sizes selection
 others_are form selection p =
-    ap (λ (r : Option Region). seen (places_in_order form.chain.arrays form.sizes r) (encoded_places form.type form.chain.arrays form.sizes selection)) p
-    ∙ own_order form.chain.arrays form.sizes (encoded_places form.type form.chain.arrays form.sizes selection)
+    ap (λ (r : Option Region). seen (places_in_order form.chain.array_to_array form.sizes r) (encoded_places form.type form.chain.array_to_array form.sizes selection)) p
+    ∙ own_order form.chain.array_to_array form.sizes (encoded_places form.type form.chain.array_to_array form.sizes selection)
 
 -- the window that codecs take a region to, where they are these
 pub last_is : (arrays given : List ArrayMapping) (window here : Window) → given ≡ arrays → ◌≡◌ {A = Result Window CodecError} (Ok (last_window given window)) (Ok here) → here ≡ last_window arrays window

@@ -33,9 +33,9 @@ taken_by a measure m r e d = rw (e, d) refl
 form_taken : {B : Type 0} (f : BytesCodecs B) (form : ChunkForm B) (value : List ℕ) (chunk : Chunk) → chain_chunk f form.chain form.sizes form.type form.fill value ≡ Ok chunk
     → (taken : List ℕ × BytesRepresentation) × (taken_form f form.chain form.sizes form.type form.fill ≡ Ok taken)
 form_taken f form value chunk e =
-    let a = bind_ok (arrays_map form.type form.chain.arrays form.sizes) _ chunk e in
-    let b = bind_ok (codec_representation f form.chain.codec a.0.encoded form.type form.fill) _ chunk a.2 in
-    ((a.0.encoded, b.0), taken_by (arrays_map form.type form.chain.arrays form.sizes) (λ encoded. codec_representation f form.chain.codec encoded form.type form.fill) a.0 b.0 a.1 b.1)
+    let a = bind_ok (arrays_map form.type form.chain.array_to_array form.sizes) _ chunk e in
+    let b = bind_ok (codec_representation f form.chain.array_to_bytes a.0.encoded form.type form.fill) _ chunk a.2 in
+    ((a.0.encoded, b.0), taken_by (arrays_map form.type form.chain.array_to_array form.sizes) (λ encoded. codec_representation f form.chain.array_to_bytes encoded form.type form.fill) a.0 b.0 a.1 b.1)
 
 pub chunks_select : {B : Type 0} (f : BytesCodecs B) → StoredSelects f
 chunks_select f form value chunk selection mappings positive stands =
@@ -45,30 +45,30 @@ chunks_select f form value chunk selection mappings positive stands =
 
 -- ---- reads that are alike
 
-module _ {B : Type 0} (f : BytesCodecs B) (form : ChunkForm B) (plain : PlainForm) (is : plain_form_of form.chain.codec ≡ Some plain) where
+module _ {B : Type 0} (f : BytesCodecs B) (form : ChunkForm B) (plain : PlainForm) (is : plain_form_of form.chain.array_to_bytes ≡ Some plain) where
   abbrev below_of : Result (List ℕ × BytesRepresentation) CodecError → List ℕ → Result (List ℕ) CodecError
-  below_of t value = t >>= λ taken. outer_bytes f form.chain.outer taken.1 value
+  below_of t value = t >>= λ taken. outer_bytes f form.chain.bytes_to_bytes taken.1 value
 
   abbrev read_of : Result (List ℕ) CodecError → Result (List ℕ × BytesRepresentation) CodecError → List ℕ → Result Chunk CodecError
-  read_of p t value = p >>= λ places. t >>= λ taken. outer_stored f form.chain.outer taken.1 (Some value) >>= λ below. codec_read f form.chain.codec taken.0 form.type form.fill below places
+  read_of p t value = p >>= λ places. t >>= λ taken. outer_stored f form.chain.bytes_to_bytes taken.1 (Some value) >>= λ below. codec_read f form.chain.array_to_bytes taken.0 form.type form.fill below places
 
   abbrev rests_of : Result (List ℕ) CodecError → Result (List ℕ × BytesRepresentation) CodecError → List ℕ → Result (List ℕ) CodecError
-  rests_of p t below = p >>= λ places. t >>= λ taken. codec_rests_on form.chain.codec taken.0 form.type form.fill (Some below) places
+  rests_of p t below = p >>= λ places. t >>= λ taken. codec_rests_on form.chain.array_to_bytes taken.0 form.type form.fill (Some below) places
 
   alike_at : (p : Result (List ℕ) CodecError) (t : Result (List ℕ × BytesRepresentation) CodecError) (value other below beside : List ℕ) → below_of t value ≡ Ok below → below_of t other ≡ Ok beside
       → length below ≡ length beside → IfOk (rests_of p t below) (All (λ number. slice_index below number ≡ slice_index beside number)) → read_of p t value ≡ read_of p t other
   alike_at (Err e) t value other below beside a b l h = refl
   alike_at (Ok places) (Err e) value other below beside a b l h = refl
   alike_at (Ok places) (Ok taken) value other below beside a b l h =
-      let read : Result (List ℕ) CodecError → Result Chunk CodecError = λ o. seen (λ b. Some b) o >>= λ below. codec_read f form.chain.codec taken.0 form.type form.fill below places in
+      let read : Result (List ℕ) CodecError → Result Chunk CodecError = λ o. seen (λ b. Some b) o >>= λ below. codec_read f form.chain.array_to_bytes taken.0 form.type form.fill below places in
       let same : All (λ number. slice_index below number ≡ slice_index beside number) (rests_on plain (product taken.0) below places)
-      = subst (λ (r : Result (List ℕ) CodecError). IfOk r (All (λ number. slice_index below number ≡ slice_index beside number))) (rests_plainly form.chain.codec plain taken.0 form.type form.fill (Some below) places is) h in
+      = subst (λ (r : Result (List ℕ) CodecError). IfOk r (All (λ number. slice_index below number ≡ slice_index beside number))) (rests_plainly form.chain.array_to_bytes plain taken.0 form.type form.fill (Some below) places is) h in
       ap read a
-      ∙ read_plainly f form.chain.codec plain taken.0 form.type form.fill (Some below) places is
+      ∙ read_plainly f form.chain.array_to_bytes plain taken.0 form.type form.fill (Some below) places is
       ∙ reads_alike plain (product taken.0) below beside places l same
-      ∙ sym (read_plainly f form.chain.codec plain taken.0 form.type form.fill (Some beside) places is)
+      ∙ sym (read_plainly f form.chain.array_to_bytes plain taken.0 form.type form.fill (Some beside) places is)
       ∙ sym (ap read b)
 
 pub chunks_alike : {B : Type 0} (f : BytesCodecs B) → StoredReadsAlike f
 chunks_alike f form plain value other below beside selection is a b l h =
-    alike_at f form plain is (encoded_places form.type form.chain.arrays form.sizes selection) (taken_form f form.chain form.sizes form.type form.fill) value other below beside a b l h
+    alike_at f form plain is (encoded_places form.type form.chain.array_to_array form.sizes selection) (taken_form f form.chain form.sizes form.type form.fill) value other below beside a b l h

@@ -79,7 +79,7 @@ codec_any f (optional_codec ma mx mb da dx db) sizes type fill stored = whole_an
 
 pub source_any : {B : Type 0} (f : BytesCodecs B) (chain : PlainChain B) (encoded : List ℕ) (type : ElementType) (fill : List ℕ) (r : BytesRepresentation) (source : Source) → ReadsInAnyOrder (source_places f chain encoded type fill r source)
 source_any f chain encoded type fill r (bytes_above below value) =
-    then_read _ (λ bytes. codec_read f chain.codec encoded type fill bytes) (λ bytes. codec_any f chain.codec encoded type fill bytes)
+    then_read _ (λ bytes. codec_read f chain.array_to_bytes encoded type fill bytes) (λ bytes. codec_any f chain.array_to_bytes encoded type fill bytes)
 source_any f chain encoded type fill r (chunk_below None) = mapped_read (λ _. fill_element type fill)
 source_any f chain encoded type fill r (chunk_below (Some chunk)) = mapped_read (λ place. get_or chunk place absent)
 
@@ -133,22 +133,22 @@ types_taken type (codec ∷ codecs) sizes m e =
     let c = bind_ok (arrays_map type codecs a.0.encoded) _ m a.2 in
     All-cons (λ codec. type_taken codec type ≡ Ok tt) codec codecs b.1 (types_taken type codecs a.0.encoded c.0 c.1)
 
-module _ {B : Type 0} (f : BytesCodecs B) (form : ChunkForm B) (encoded : List ℕ) (r : BytesRepresentation) (h : IsReadable f form.chain form.sizes form.type form.fill encoded r) (are : All IsMapping form.chain.arrays) (positive : All (λ size. 0 < size) form.sizes) (counted : product form.sizes < 2 ^ 64)
-    (region : Region) (inside : is_box_inside form.sizes region.starts region.lengths ≡ true) (kept : keeps_regions form.chain.arrays ≡ true) where
+module _ {B : Type 0} (f : BytesCodecs B) (form : ChunkForm B) (encoded : List ℕ) (r : BytesRepresentation) (h : IsReadable f form.chain form.sizes form.type form.fill encoded r) (are : All IsMapping form.chain.array_to_array) (positive : All (λ size. 0 < size) form.sizes) (counted : product form.sizes < 2 ^ 64)
+    (region : Region) (inside : is_box_inside form.sizes region.starts region.lengths ≡ true) (kept : keeps_regions form.chain.array_to_array ≡ true) where
   abbrev last : Window
-  last = last_window form.chain.arrays (window_of form.sizes region)
+  last = last_window form.chain.array_to_array (window_of form.sizes region)
 
-  chained_is : chained form.chain.arrays form.sizes ≡ Ok h.map_is
-  chained_is = chained_of form.type form.chain.arrays form.sizes h.map_is h.mapped
+  chained_is : chained form.chain.array_to_array form.sizes ≡ Ok h.map_is
+  chained_is = chained_of form.type form.chain.array_to_array form.sizes h.map_is h.mapped
 
-  pub takes_region : TakesRegion form.chain.arrays form.sizes region
+  pub takes_region : TakesRegion form.chain.array_to_array form.sizes region
   takes_region = record { taken = rw chained_is refl; counted = counted; inside = inside }
 
-  pub takes_type : TakeType form.chain.arrays form.type
-  takes_type = types_taken form.type form.chain.arrays form.sizes h.map_is h.mapped
+  pub takes_type : TakeType form.chain.array_to_array form.type
+  takes_type = types_taken form.type form.chain.array_to_array form.sizes h.map_is h.mapped
 
   -- where its places go
-  pub region_goes : encoded_places form.type form.chain.arrays form.sizes (subset region) ≡ Ok (map h.map_is.to (window_places (window_of form.sizes region)))
+  pub region_goes : encoded_places form.type form.chain.array_to_array form.sizes (subset region) ≡ Ok (map h.map_is.to (window_places (window_of form.sizes region)))
   region_goes = rw (places_are form.sizes region inside counted, h.mapped) refl
 
   module _ (source : Source) where
@@ -168,30 +168,30 @@ module _ {B : Type 0} (f : BytesCodecs B) (form : ChunkForm B) (encoded : List �
     pub region_refused : (places : List ℕ) (e : CodecError) → ok (window_places last) ≡ ok places → AnswersBy {T = Held} memory_or_fault (Holds form.type) (Err e) (read_last places) → AnswersBy {T = Held} memory_or_fault (Holds form.type) (Err e) wanted
     region_refused places e at answer = λ unexcused.
         wanted_is
-        ∙ region_read form.chain.arrays form.sizes h.map_is region are positive chained_is kept inside read_last any
-        ∙ ap (seen (decoded_elements form.chain.arrays (window_of form.sizes region))) (ap read_last (ok_is (window_places last) places at) ∙ answer unexcused)
+        ∙ region_read form.chain.array_to_array form.sizes h.map_is region are positive chained_is kept inside read_last any
+        ∙ ap (seen (decoded_elements form.chain.array_to_array (window_of form.sizes region))) (ap read_last (ok_is (window_places last) places at) ∙ answer unexcused)
 
     -- its elements are valid, and decoded they are what is read
     pub region_valid : (places : List ℕ) (held : Held) → ok (window_places last) ≡ ok places → IsOkAnd (read_last places) (Holds form.type held) → validity form.type (product region.lengths) held ≡ Ok tt
     region_valid places held at answer =
-        (region_decoded form.chain.arrays form.sizes h.map_is region are positive chained_is kept inside read_last form.type held held any
+        (region_decoded form.chain.array_to_array form.sizes h.map_is region are positive chained_is kept inside read_last form.type held held any
         (subst (λ ps. IsOkAnd (read_last ps) (Holds form.type held)) (sym (ok_is (window_places last) places at)) answer)).0
 
     pub region_answered : (places : List ℕ) (held : Held) (result : Result Held CodecError) → ok (window_places last) ≡ ok places → IsOkAnd (read_last places) (Holds form.type held)
-        → AnswersBy memory (Holds form.type) result (ok (decoded_of form.chain.arrays form.type (window_of form.sizes region) held)) → AnswersBy memory_or_fault (Holds form.type) result wanted
+        → AnswersBy memory (Holds form.type) result (ok (decoded_of form.chain.array_to_array form.type (window_of form.sizes region) held)) → AnswersBy memory_or_fault (Holds form.type) result wanted
     region_answered places held (Ok decoded) at answer d =
         subst (λ x. IsOkAnd x (Holds form.type decoded)) (sym wanted_is)
-        ((region_decoded form.chain.arrays form.sizes h.map_is region are positive chained_is kept inside read_last form.type held decoded any
+        ((region_decoded form.chain.array_to_array form.sizes h.map_is region are positive chained_is kept inside read_last form.type held decoded any
         (subst (λ ps. IsOkAnd (read_last ps) (Holds form.type held)) (sym (ok_is (window_places last) places at)) answer)).1 d)
-    region_answered places held (Err e) at answer d = λ unexcused. absurd (ok_no_err (decoded_of form.chain.arrays form.type (window_of form.sizes region) held) e (d (memory_too e unexcused)))
+    region_answered places held (Err e) at answer d = λ unexcused. absurd (ok_no_err (decoded_of form.chain.array_to_array form.type (window_of form.sizes region) held) e (d (memory_too e unexcused)))
 
   -- the bytes that a read of the last window rests on
   pub region_sure_where : (before : StorageState) (places : List ℕ) (P : Type 0) → ok (window_places last) ≡ ok places → taken_form f form.chain form.sizes form.type form.fill ≡ Ok (encoded, r)
-      → (asks_in_part form.chain.outer form.chain.codec ≡ true → IfOk (codec_rests_on form.chain.codec encoded form.type form.fill before.value places) (λ numbers. are_sure before.sure numbers ≡ true → P)) → WhereSure f form before (subset region) P
+      → (asks_in_part form.chain.bytes_to_bytes form.chain.array_to_bytes ≡ true → IfOk (codec_rests_on form.chain.array_to_bytes encoded form.type form.fill before.value places) (λ numbers. are_sure before.sure numbers ≡ true → P)) → WhereSure f form before (subset region) P
   region_sure_where before places P at taken sure =
       where_sure f form before (subset region) P encoded r (map h.map_is.to (window_places (window_of form.sizes region))) region_goes taken
-      (λ asks. codec_alike before.sure (map h.map_is.to (window_places (window_of form.sizes region))) (window_places last) (λ numbers. region_sure form.chain.arrays form.sizes h.map_is region are positive chained_is kept inside before.sure numbers) form.chain.codec encoded form.type form.fill before.value P
-      (subst (λ ps. IfOk (codec_rests_on form.chain.codec encoded form.type form.fill before.value ps) (λ numbers. are_sure before.sure numbers ≡ true → P)) (sym (ok_is (window_places last) places at)) (sure asks)))
+      (λ asks. codec_alike before.sure (map h.map_is.to (window_places (window_of form.sizes region))) (window_places last) (λ numbers. region_sure form.chain.array_to_array form.sizes h.map_is region are positive chained_is kept inside before.sure numbers) form.chain.array_to_bytes encoded form.type form.fill before.value P
+      (subst (λ ps. IfOk (codec_rests_on form.chain.array_to_bytes encoded form.type form.fill before.value ps) (λ numbers. are_sure before.sure numbers ≡ true → P)) (sym (ok_is (window_places last) places at)) (sure asks)))
 
 -- ---- calls
 

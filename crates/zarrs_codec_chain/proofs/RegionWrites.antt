@@ -85,13 +85,13 @@ fits_valid order sizes text fill n held t v = absurd cc
 fits_valid order sizes bytes fill n held t v = absurd cc
 fits_valid order sizes (optional type) fill n held t v = absurd cc
 
-module _ {B : Type 0} (f : BytesCodecs B) (form : ChunkForm B) (encoded : List ℕ) (r : BytesRepresentation) (h : IsReadable f form.chain form.sizes form.type form.fill encoded r) (are : All IsMapping form.chain.arrays) (positive : All (λ size. 0 < size) form.sizes) (counted : product form.sizes < 2 ^ 64)
-    (region : Region) (inside : is_box_inside form.sizes region.starts region.lengths ≡ true) (order : Option Endianness) (alone : order_in_place form.chain.outer form.chain.codec ≡ Some order) where
+module _ {B : Type 0} (f : BytesCodecs B) (form : ChunkForm B) (encoded : List ℕ) (r : BytesRepresentation) (h : IsReadable f form.chain form.sizes form.type form.fill encoded r) (are : All IsMapping form.chain.array_to_array) (positive : All (λ size. 0 < size) form.sizes) (counted : product form.sizes < 2 ^ 64)
+    (region : Region) (inside : is_box_inside form.sizes region.starts region.lengths ≡ true) (order : Option Endianness) (alone : order_in_place form.chain.bytes_to_bytes form.chain.array_to_bytes ≡ Some order) where
   abbrev window : Window
   window = window_of form.sizes region
 
   abbrev last : Window
-  last = last_window form.chain.arrays window
+  last = last_window form.chain.array_to_array window
 
   here_count : length (window_places window) ≡ product region.lengths
   here_count = places_count (product form.sizes) window (here_is form.sizes region inside)
@@ -100,7 +100,7 @@ module _ {B : Type 0} (f : BytesCodecs B) (form : ChunkForm B) (encoded : List �
   few = let room = Rises-room 0 (product form.sizes) (window_places window) (Rises-box form.sizes region.starts region.lengths inside) in omega (arith, room, here_count)
 
   taken : is_ok (bytes_length order (form_of encoded form.type form.fill)) ≡ true
-  taken = in_place_taken f form.chain.outer form.chain.codec order encoded form.type form.fill alone (is_ok_of (codec_representation f form.chain.codec encoded form.type form.fill) r h.measured)
+  taken = in_place_taken f form.chain.bytes_to_bytes form.chain.array_to_bytes order encoded form.type form.fill alone (is_ok_of (codec_representation f form.chain.array_to_bytes encoded form.type form.fill) r h.measured)
 
   -- whether new elements of the region are there is whether they fit
   pub region_checked : (new : Held) → form_checked form (subset region) new ≡ data_fit form.type (product region.lengths) new
@@ -112,9 +112,9 @@ module _ {B : Type 0} (f : BytesCodecs B) (form : ChunkForm B) (encoded : List �
   region_written : (new : Held) → data_fit form.type (product region.lengths) new ≡ Ok tt → form_written form (subset region) new ≡ Ok (map h.map_is.to (window_places window))
   region_written new fit = rw (places_are form.sizes region inside counted, here_count, fit, h.mapped) refl
 
-  module _ (kept : keeps_regions form.chain.arrays ≡ true) (new lent held : Held) (l : LendsData form.type region new lent) (places : List ℕ) (at : ok (window_places last) ≡ ok places) (holds : Holds form.type held (encoded_elements form.chain.arrays window (window_elements form.type window lent))) where
-    holds_new : Holds form.type held (encoded_elements form.chain.arrays window (window_elements form.type window new))
-    holds_new = subst (λ c. Holds form.type held (encoded_elements form.chain.arrays window c)) l.same holds
+  module _ (kept : keeps_regions form.chain.array_to_array ≡ true) (new lent held : Held) (l : LendsData form.type region new lent) (places : List ℕ) (at : ok (window_places last) ≡ ok places) (holds : Holds form.type held (encoded_elements form.chain.array_to_array window (window_elements form.type window lent))) where
+    holds_new : Holds form.type held (encoded_elements form.chain.array_to_array window (window_elements form.type window new))
+    holds_new = subst (λ c. Holds form.type held (encoded_elements form.chain.array_to_array window c)) l.same holds
 
     same_places : window_places last ≡ places
     same_places = go (window_places last) places at
@@ -126,14 +126,14 @@ module _ {B : Type 0} (f : BytesCodecs B) (form : ChunkForm B) (encoded : List �
     pub region_leaves : fill_fits form.type form.fill ≡ true → (stored : Option (List ℕ)) → selection_left f form (Some order) stored (subset region) new ≡ Ok (bytes_left order (form_of encoded form.type form.fill) stored places held)
     region_leaves filling stored =
         selection_in_place f form encoded r h order alone stored (subset region) new (map h.map_is.to (window_places window)) filling (region_written new l.fit)
-        ∙ ap ok (region_left form.chain.arrays form.sizes h.map_is region are positive (chained_of form.type form.chain.arrays form.sizes h.map_is h.mapped) kept inside order (form_of encoded form.type form.fill) stored new held taken l.fit holds_new
+        ∙ ap ok (region_left form.chain.array_to_array form.sizes h.map_is region are positive (chained_of form.type form.chain.array_to_array form.sizes h.map_is h.mapped) kept inside order (form_of encoded form.type form.fill) stored new held taken l.fit holds_new
         ∙ ap (λ ps. bytes_left order (form_of encoded form.type form.fill) stored ps held) same_places)
 
     -- as many elements stand there as it has places
     pub region_fits : data_fit form.type (length places) held ≡ Ok tt
     region_fits =
-        let keeps = chain_keeps form.chain.arrays form.sizes h.map_is region are positive (chained_of form.type form.chain.arrays form.sizes h.map_is h.mapped) kept inside in
-        let part = region_map form.chain.arrays window in
+        let keeps = chain_keeps form.chain.array_to_array form.sizes h.map_is region are positive (chained_of form.type form.chain.array_to_array form.sizes h.map_is h.mapped) kept inside in
+        let part = region_map form.chain.array_to_array window in
         let chunk = window_elements form.type window lent in
         let long : length (moved_chunk part chunk) ≡ product region.lengths = length-moved part chunk ∙ keeps.part_is.count in
         let there : length places ≡ product region.lengths = ap length (sym same_places) ∙ next_count (product form.sizes) h.map_is window last part keeps in
@@ -153,9 +153,9 @@ fixed_there : (r : Result Raw CodecError) (e : CodecError) → IsOk r → ◌≡
 fixed_there (Ok raw) e there h = cc
 fixed_there (Err x) e there h = absurd cc
 
-pub no_fixed : {B : Type 0} (f : BytesCodecs B) (form : ChunkForm B) (encoded : List ℕ) (r : BytesRepresentation) (h : IsReadable f form.chain form.sizes form.type form.fill encoded r) (order : Option Endianness) (new : Held) (n : ℕ) (e : CodecError) → order_in_place form.chain.outer form.chain.codec ≡ Some order → data_fit form.type n new ≡ Ok tt
+pub no_fixed : {B : Type 0} (f : BytesCodecs B) (form : ChunkForm B) (encoded : List ℕ) (r : BytesRepresentation) (h : IsReadable f form.chain form.sizes form.type form.fill encoded r) (order : Option Endianness) (new : Held) (n : ℕ) (e : CodecError) → order_in_place form.chain.bytes_to_bytes form.chain.array_to_bytes ≡ Some order → data_fit form.type n new ≡ Ok tt
     → ◌≡◌ {A = Result (List ℕ) CodecError} (Err e) (seen (λ (raw : Raw). raw.items) (fixed_part new)) → ⊥
 no_fixed f form encoded r h order new n e alone fit refused =
     fixed_there (fixed_part new) e
-    (fits_kind order encoded form.type form.fill n new (in_place_taken f form.chain.outer form.chain.codec order encoded form.type form.fill alone (is_ok_of (codec_representation f form.chain.codec encoded form.type form.fill) r h.measured)) fit)
+    (fits_kind order encoded form.type form.fill n new (in_place_taken f form.chain.bytes_to_bytes form.chain.array_to_bytes order encoded form.type form.fill alone (is_ok_of (codec_representation f form.chain.array_to_bytes encoded form.type form.fill) r h.measured)) fit)
     refused

@@ -21,9 +21,9 @@ sure_if sure P (Ok numbers) true h = h refl
 sure_if sure P (Ok numbers) false h = tt
 sure_if sure P (Err e) b h = tt
 
-pub where_sure : {B : Type 0} (f : BytesCodecs B) (form : ChunkForm B) (before : StorageState) (selection : Selection) (P : Type 0) (encoded : List ℕ) (r : BytesRepresentation) (places : List ℕ) → encoded_places form.type form.chain.arrays form.sizes selection ≡ Ok places → taken_form f form.chain form.sizes form.type form.fill ≡ Ok (encoded, r)
-    → (asks_in_part form.chain.outer form.chain.codec ≡ true → IfOk (codec_rests_on form.chain.codec encoded form.type form.fill before.value places) (λ numbers. are_sure before.sure numbers ≡ true → P)) → WhereSure f form before selection P
-where_sure f form before selection P encoded r places a b h = rw (a, b) (sure_if before.sure P (codec_rests_on form.chain.codec encoded form.type form.fill before.value places) (asks_in_part form.chain.outer form.chain.codec) h)
+pub where_sure : {B : Type 0} (f : BytesCodecs B) (form : ChunkForm B) (before : StorageState) (selection : Selection) (P : Type 0) (encoded : List ℕ) (r : BytesRepresentation) (places : List ℕ) → encoded_places form.type form.chain.array_to_array form.sizes selection ≡ Ok places → taken_form f form.chain form.sizes form.type form.fill ≡ Ok (encoded, r)
+    → (asks_in_part form.chain.bytes_to_bytes form.chain.array_to_bytes ≡ true → IfOk (codec_rests_on form.chain.array_to_bytes encoded form.type form.fill before.value places) (λ numbers. are_sure before.sure numbers ≡ true → P)) → WhereSure f form before selection P
+where_sure f form before selection P encoded r places a b h = rw (a, b) (sure_if before.sure P (codec_rests_on form.chain.array_to_bytes encoded form.type form.fill before.value places) (asks_in_part form.chain.bytes_to_bytes form.chain.array_to_bytes) h)
 
 anyway : (sure : Option (ℕ → Bool)) (P : Type 0) (r : Result (Option (List ℕ)) CodecError) → P → IfOk r (λ plan. IfSome plan (λ numbers. are_sure sure numbers ≡ true → P))
 anyway sure P (Ok (Some numbers)) h = λ s. h

@@ -42,7 +42,7 @@ filled_from f form encoded r s kept_at stored source t k e = rw (t, k) e
 
 -- without a cache there is nothing to fill
 pub uncached_filled : {B : Type 0} (f : BytesCodecs B) (form : ChunkForm B) (encoded : List ℕ) (r : BytesRepresentation) (cache : Cache) (stored : Option (List ℕ)) → taken_form f form.chain form.sizes form.type form.fill ≡ Ok (encoded, r) → is_kept cache ≡ false
-    → source_made_at f form (kept_stage cache) stored ≡ Ok (source_of form.type (product encoded) (length form.chain.outer) stored cache)
+    → source_made_at f form (kept_stage cache) stored ≡ Ok (source_of form.type (product encoded) (length form.chain.bytes_to_bytes) stored cache)
 uncached_filled f form encoded r kept.Handle stored e u = rw e refl
 uncached_filled f form encoded r (kept.Bytes below value) stored e u = absurd cc
 uncached_filled f form encoded r (kept.Chunk held) stored e u = absurd cc
@@ -72,11 +72,11 @@ read_of f (vlen_codec ia ix ib da dx db wide at_end) encoded type fill o places 
 read_of f (optional_codec ma mx mb da dx db) encoded type fill o places e = whole_of (codec_chunk f (optional_codec ma mx mb da dx db)) encoded type fill o places
 
 -- of a stored value, what a codec that reads no part reads is selected of the whole chunk
-pub whole_places : {B : Type 0} (f : BytesCodecs B) (chain : PlainChain B) (encoded : List ℕ) (type : ElementType) (fill : List ℕ) (r : BytesRepresentation) (value places : List ℕ) → (codec_reads chain.codec).partial_decode ≡ false
-    → source_places f chain encoded type fill r (bytes_above (length chain.outer) (Some value)) places ≡ seen (λ chunk. select chunk places) (opened_chunk f chain encoded type fill r value)
+pub whole_places : {B : Type 0} (f : BytesCodecs B) (chain : PlainChain B) (encoded : List ℕ) (type : ElementType) (fill : List ℕ) (r : BytesRepresentation) (value places : List ℕ) → (codec_reads chain.array_to_bytes).partial_decode ≡ false
+    → source_places f chain encoded type fill r (bytes_above (length chain.bytes_to_bytes) (Some value)) places ≡ seen (λ chunk. select chunk places) (opened_chunk f chain encoded type fill r value)
 whole_places {B} f chain encoded type fill r value places e =
-    ap (λ (bs : List B). outer_stored f bs r (Some value) >>= λ below. codec_read f chain.codec encoded type fill below places) (take_codecs chain.outer)
-    ∙ read_of f chain.codec encoded type fill (outer_bytes f chain.outer r value) places e
+    ap (λ (bs : List B). outer_stored f bs r (Some value) >>= λ below. codec_read f chain.array_to_bytes encoded type fill below places) (take_codecs chain.bytes_to_bytes)
+    ∙ read_of f chain.array_to_bytes encoded type fill (outer_bytes f chain.bytes_to_bytes r value) places e
 
 -- the elements at places of a chunk that was read
 pub chunk_at_runs : {B : Type 0} (f : BytesCodecs B) (chain : PlainChain B) (encoded : List ℕ) (type : ElementType) (fill : List ℕ) (r : BytesRepresentation) (value : List ℕ) (held : Held) (places : List ℕ) (count : ℕ) (result : Result Held CodecError)
@@ -92,10 +92,10 @@ fails_too R (Ok x) expected h = h
 fails_too R (Err e) expected h = λ m. h (first_false (memory e) (fault e) m)
 
 -- what a codec that reads no part reads of what is stored
-pub whole_answer : {B : Type 0} (f : BytesCodecs B) (chain : PlainChain B) (encoded : List ℕ) (type : ElementType) (fill : List ℕ) (r : BytesRepresentation) (stored : Option (List ℕ)) (value places : List ℕ) (result : Result Held CodecError) → (codec_reads chain.codec).partial_decode ≡ false
+pub whole_answer : {B : Type 0} (f : BytesCodecs B) (chain : PlainChain B) (encoded : List ℕ) (type : ElementType) (fill : List ℕ) (r : BytesRepresentation) (stored : Option (List ℕ)) (value places : List ℕ) (result : Result Held CodecError) → (codec_reads chain.array_to_bytes).partial_decode ≡ false
     → stored ≡ Some value → AnswersBy memory (Holds type) result (seen (λ chunk. select chunk places) (opened_chunk f chain encoded type fill r value))
-    → AnswersBy memory_or_fault (Holds type) result (source_places f chain encoded type fill r (bytes_above (length chain.outer) stored) places)
+    → AnswersBy memory_or_fault (Holds type) result (source_places f chain encoded type fill r (bytes_above (length chain.bytes_to_bytes) stored) places)
 whole_answer f chain encoded type fill r stored value places result whole is h =
-    let same : source_places f chain encoded type fill r (bytes_above (length chain.outer) stored) places ≡ seen (λ chunk. select chunk places) (opened_chunk f chain encoded type fill r value)
-    = ap (λ (s : Option (List ℕ)). source_places f chain encoded type fill r (bytes_above (length chain.outer) s) places) is ∙ whole_places f chain encoded type fill r value places whole in
+    let same : source_places f chain encoded type fill r (bytes_above (length chain.bytes_to_bytes) stored) places ≡ seen (λ chunk. select chunk places) (opened_chunk f chain encoded type fill r value)
+    = ap (λ (s : Option (List ℕ)). source_places f chain encoded type fill r (bytes_above (length chain.bytes_to_bytes) s) places) is ∙ whole_places f chain encoded type fill r value places whole in
     subst (λ (x : Result Chunk CodecError). AnswersBy memory_or_fault (Holds type) result x) (sym same) (fails_too (Holds type) result (seen (λ chunk. select chunk places) (opened_chunk f chain encoded type fill r value)) h)

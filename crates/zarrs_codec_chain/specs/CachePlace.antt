@@ -1,9 +1,13 @@
 -- Where a partial decoder of a chain keeps its cache.
-use Rattle.std.specs.Prelude.{ℕ, suc, max, Bool, true, if◌then◌else◌, Option, Some, None, option_map, List, [], ◌∷◌, ◌++◌, length, map, is_some}
+use Rattle.std.specs.Prelude.{◌≡◌, ℕ, suc, max, Bool, true, false, Result, if◌then◌else◌, Option, Some, None, option_map, List, [], ◌∷◌, ◌++◌, length, map, is_some}
+use Rattle.zarrs_chunk.specs.Answer.{is_fault}
+use Rattle.zarrs_chunk.specs.declared.codec_error.CodecError.{CodecError}
 use Rattle.zarrs_codec.specs.declared.capabilities.PartialDecoderCapability.{PartialDecoderCapability}
 use Rattle.zarrs_array_to_array.specs.ArrayToArrayCodec.{ArrayMapping}
 use Rattle.zarrs_chain_laws.specs.Chain.{codec_reads}
 use Rattle.zarrs_chain_laws.specs.PlainChain.{PlainChain}
+use Rattle.zarrs_chain_whole.specs.ChainView.{plain_chain}
+use Rattle.zarrs_chain_whole.specs.declared.codec_chain.CodecChain.{CodecChain}
 
 -- what an array codec reads in part: all
 abbrev pub array_reads : ArrayMapping → PartialDecoderCapability
@@ -11,7 +15,7 @@ array_reads codec = record { partial_read = true; partial_decode = true }
 
 -- what the codecs of a chain read in part, in the order in which they encode
 abbrev pub codecs_read : {B : Type 0} → (B → PartialDecoderCapability) → PlainChain B → List PartialDecoderCapability
-codecs_read reads chain = map array_reads chain.arrays ++ (codec_reads chain.codec ∷ map reads chain.outer)
+codecs_read reads chain = map array_reads chain.array_to_array ++ (codec_reads chain.array_to_bytes ∷ map reads chain.bytes_to_bytes)
 
 -- The greatest position of a codec that fails the test, of codecs in the order in which they encode. Positions count in decode order from 0, so a codec's is the number of codecs behind it.
 abbrev pub last_without : (PartialDecoderCapability → Bool) → List PartialDecoderCapability → Option ℕ
@@ -32,3 +36,7 @@ cache_place codecs =
 -- a partial decoder of the chain has a cache
 abbrev pub has_cache_place : {B : Type 0} → (B → PartialDecoderCapability) → PlainChain B → Bool
 has_cache_place reads chain = is_some (cache_place (codecs_read reads chain))
+
+-- no failure of the handle comes where the cache of a chain has no place
+abbrev pub SureWithoutCache : {B T : Type 0} → (B → PartialDecoderCapability) → CodecChain B → Result T CodecError → Type 0
+SureWithoutCache reads chain result = cache_place (codecs_read reads (plain_chain chain)) ≡ None → is_fault result ≡ false

@@ -5,14 +5,14 @@ use Rattle.zarrs_array_bytes.specs.Held.{Held}
 use Rattle.zarrs_data_type.specs.Form.{form_of, Form}
 use Rattle.std.specs.Prelude.{◌≡◌, ℕ, ◌-◌, ◌*◌, Bool, true, false, if◌then◌else◌, Option, Some, None, IfSome, IfOk, IsOkAnd, List, [], ◌∷◌, length, map, sum_by, Result, Ok, Err, IfErr, is_ok, is_some, option_map, Vec}
 use Rattle.zarrs_chunk.specs.ChunkShape.{product}
-use Rattle.zarrs_chunk.specs.Answer.{◌>>=◌, seen, AnswersBy, memory, memory_or_fault, is_fault, GivesBy, no_refusal, Gives}
+use Rattle.zarrs_chunk.specs.Answer.{◌>>=◌, seen, AnswersBy, memory, memory_or_fault, is_fault, GivesBy}
 use Rattle.zarrs_chunk.specs.Region.{Region}
 use Rattle.zarrs_chunk.specs.Selection.{Selection, places_of, bounds_of}
 use Rattle.zarrs_chunk.specs.declared.codec_error.CodecError.{CodecError}
 use Rattle.zarrs_data_type.specs.Element.{Chunk, fill_element}
 use Rattle.zarrs_data_type.specs.ElementType.{ElementType}
 use Rattle.zarrs_data_type.specs.declared.endianness.Endianness.{Endianness}
-use Rattle.zarrs_array_bytes.specs.Elements.{select, elements}
+use Rattle.zarrs_array_bytes.specs.Elements.{select}
 use Rattle.zarrs_codec.specs.ByteRanges.{range_indices}
 use Rattle.zarrs_codec.specs.ByteSpan.{ByteSpan}
 use Rattle.zarrs_codec.specs.BytesToBytesCodec.{BytesCodecs}
@@ -36,7 +36,9 @@ use Rattle.zarrs_plain_vlen.specs.VlenRead.{stored_rests_on}
 use Rattle.std.proofs.Common.{Global}
 use Rattle.zarrs_chunk.specs.Runs.{joined_runs}
 use Rattle.zarrs_codec.specs.declared.capabilities.PartialDecoderCapability.{PartialDecoderCapability}
-use Rattle.zarrs_chain_laws.specs.Representation.{codec_representation, chain_representation}
+use Rattle.zarrs_chain_laws.specs.Representation.{codec_representation}
+use Rattle.zarrs_chain_whole.specs.ChainView.{plain_chain}
+use Rattle.zarrs_chain_whole.specs.declared.codec_chain.CodecChain.{CodecChain}
 
 -- the chunk that is read: through which chain, its sizes, its type and its fill value
 pub record ChunkForm (B : Type 0) : Type 0 where
@@ -90,10 +92,10 @@ outer_stored f codecs r (Some value) = seen (λ bytes. Some bytes) (outer_bytes 
 -- The elements that a selection means, in its order, of what is stored, or the first refusal: the selection's; of the bytes codecs, the last of them first; of the codec to bytes. Where nothing is stored, the fill element at each place.
 abbrev pub stored_read : {B : Type 0} → BytesCodecs B → ChunkForm B → Option (List ℕ) → Selection → Result Chunk CodecError
 stored_read f form stored selection = do
-  places ← encoded_places form.type form.chain.arrays form.sizes selection
+  places ← encoded_places form.type form.chain.array_to_array form.sizes selection
   taken ← taken_form f form.chain form.sizes form.type form.fill
-  below ← outer_stored f form.chain.outer taken.1 stored
-  codec_read f form.chain.codec taken.0 form.type form.fill below places
+  below ← outer_stored f form.chain.bytes_to_bytes taken.1 stored
+  codec_read f form.chain.array_to_bytes taken.0 form.type form.fill below places
 
 -- ---- plans
 
@@ -109,6 +111,10 @@ abbrev pub reads_places : {B : Type 0} → List B → PlainCodec B → Bool
 reads_places [] codec = codec_plans codec
 reads_places (first ∷ rest) codec = false
 
+-- the same of a chain
+abbrev pub chain_reads_places : {B : Type 0} → PlainChain B → Bool
+chain_reads_places chain = reads_places chain.bytes_to_bytes chain.array_to_bytes
+
 -- the byte order of `bytes` without bytes codecs: there the bytes of places are those of their elements, and a write over a stored value replaces them alone
 abbrev pub order_in_place : {B : Type 0} → List B → PlainCodec B → Option (Option Endianness)
 order_in_place [] (bytes_codec order) = Some order
@@ -117,13 +123,18 @@ order_in_place [] (vlen_codec ia ix ib da dx db wide at_end) = None
 order_in_place [] (optional_codec ma mx mb da dx db) = None
 order_in_place (first ∷ rest) codec = None
 
+-- the same of a chain
+abbrev pub chain_in_place : {B : Type 0} → PlainChain B → Option (Option Endianness)
+chain_in_place chain = order_in_place chain.bytes_to_bytes chain.array_to_bytes
+
+-- and of the chunk that is read
 abbrev pub form_in_place : {B : Type 0} → ChunkForm B → Option (Option Endianness)
-form_in_place form = order_in_place form.chain.outer form.chain.codec
+form_in_place form = order_in_place form.chain.bytes_to_bytes form.chain.array_to_bytes
 
 -- the region that a selection means, where its bytes are planned in the order in which they stand: over `bytes` without bytes codecs, of one that goes through the array codecs as a region
 abbrev pub planned_region : {B : Type 0} → ChunkForm B → Selection → Option Region
 planned_region form selection =
-    if is_some (form_in_place form) then kept_region form.chain.arrays form.sizes selection else None
+    if is_some (form_in_place form) then kept_region form.chain.array_to_array form.sizes selection else None
 
 -- where a region stands in the encoded chunk: the places of its last window, which rise
 abbrev pub standing_places : List ArrayMapping → List ℕ → Region → List ℕ
@@ -137,12 +148,12 @@ places_in_order arrays sizes (Some region) places = standing_places arrays sizes
 -- where the places that a selection means go, in the order in which their bytes are planned, or the first refusal
 abbrev pub ordered_places : {B : Type 0} → ChunkForm B → Selection → Result (List ℕ) CodecError
 ordered_places form selection =
-    seen (places_in_order form.chain.arrays form.sizes (planned_region form selection)) (encoded_places form.type form.chain.arrays form.sizes selection)
+    seen (places_in_order form.chain.array_to_array form.sizes (planned_region form selection)) (encoded_places form.type form.chain.array_to_array form.sizes selection)
 
 -- the places whose bytes a read asks for, of the chunk that the codec to bytes gets, in the order in which they are planned, where it asks for these alone; or the first refusal
 abbrev pub planned_places : {B : Type 0} → ChunkForm B → Selection → Result (Option (List ℕ)) CodecError
 planned_places form selection =
-    seen (λ places. if reads_places form.chain.outer form.chain.codec then Some places else None) (ordered_places form selection)
+    seen (λ places. if reads_places form.chain.bytes_to_bytes form.chain.array_to_bytes then Some places else None) (ordered_places form selection)
 
 -- The ranges are the bytes of these places and no others. Of `bytes` they come in the places' order, and their lengths sum to the elements' bytes. Of `packbits` each is the bytes of one run of places.
 abbrev pub IsCodecPlan : {B : Type 0} → PlainCodec B → List ℕ → ElementType → List ℕ → List ℕ → List ByteSpan → Type 0
@@ -156,7 +167,7 @@ IsCodecPlan (optional_codec ma mx mb da dx db) sizes type fill places ranges = �
 abbrev pub IsReadPlan : {B : Type 0} → BytesCodecs B → ChunkForm B → Option (List ByteSpan) → Option (List ℕ) → Type 0
 IsReadPlan f form None None = Unit {0}
 IsReadPlan f form (Some ranges) (Some places) =
-    IsOkAnd (taken_form f form.chain form.sizes form.type form.fill) (λ taken. IsCodecPlan form.chain.codec taken.0 form.type form.fill places ranges)
+    IsOkAnd (taken_form f form.chain form.sizes form.type form.fill) (λ taken. IsCodecPlan form.chain.array_to_bytes taken.0 form.type form.fill places ranges)
 IsReadPlan f form _ _ = ⊥
 
 -- ---- what a read rests on
@@ -165,6 +176,11 @@ IsReadPlan f form _ _ = ⊥
 abbrev pub asks_in_part : {B : Type 0} → List B → PlainCodec B → Bool
 asks_in_part [] codec = (codec_reads codec).partial_decode
 asks_in_part (first ∷ rest) codec = false
+
+-- no failure of the handle comes where a read through the chain asks for a part of the value alone
+abbrev pub SureInPart : {B T : Type 0} → CodecChain B → Result T CodecError → Type 0
+SureInPart chain result =
+    asks_in_part (plain_chain chain).bytes_to_bytes (plain_chain chain).array_to_bytes ≡ true → is_fault result ≡ false
 
 -- the numbers of the bytes of what is stored that the elements at these places rest on, of a `vlen` by its plain form: the offsets' and the elements'; none where it has no such form
 abbrev pub form_rests_on : Option PlainForm → ℕ → Option (List ℕ) → List ℕ → List ℕ
@@ -182,10 +198,10 @@ codec_rests_on (optional_codec ma mx mb da dx db) sizes type fill stored places 
 -- the numbers of the bytes that a read asks for, of what is stored, where it asks for a part alone; or the first refusal
 abbrev pub read_rests_on : {B : Type 0} → BytesCodecs B → ChunkForm B → Option (List ℕ) → Selection → Result (Option (List ℕ)) CodecError
 read_rests_on f form stored selection = do
-  places ← encoded_places form.type form.chain.arrays form.sizes selection
+  places ← encoded_places form.type form.chain.array_to_array form.sizes selection
   taken ← taken_form f form.chain form.sizes form.type form.fill
-  numbers ← codec_rests_on form.chain.codec taken.0 form.type form.fill stored places
-  Ok (if asks_in_part form.chain.outer form.chain.codec then Some numbers else None)
+  numbers ← codec_rests_on form.chain.array_to_bytes taken.0 form.type form.fill stored places
+  Ok (if asks_in_part form.chain.bytes_to_bytes form.chain.array_to_bytes then Some numbers else None)
 
 -- P, where a read asks for a part of the value alone and the bytes that it rests on are sure
 abbrev pub WhereSure : {B : Type 0} → BytesCodecs B → ChunkForm B → StorageState → Selection → Type 0 → Type 0
@@ -210,9 +226,9 @@ pub record ReadsChunk {B : Type 0} (f : BytesCodecs B) (form : ChunkForm B) (bef
 abbrev pub chunk_form : {B : Type 0} → PlainChain B → Form → ChunkForm B
 chunk_form chain form = record { chain = chain; sizes = form.sizes; type = form.type; fill = form.fill }
 
--- what is made of a chunk's form, where it is made, has that form
-abbrev pub HasForm : {B C E : Type 0} → (C → ChunkForm B) → PlainChain B → Form → Result C E → Type 0
-HasForm view chain form result = IfOk result (λ made. view made ≡ chunk_form chain form)
+-- the same, through a chain as the code has it
+abbrev pub chunk_of : {B : Type 0} → CodecChain B → List ℕ → ElementType → List ℕ → ChunkForm B
+chunk_of chain sizes type fill = chunk_form (plain_chain chain) (form_of sizes type fill)
 
 -- the codec takes such chunks
 abbrev pub TakenBy : {B : Type 0} → BytesCodecs B → PlainCodec B → Form → Type 0
@@ -233,51 +249,13 @@ abbrev pub SureRuns : {B T : Type 0} → PlainCodec B → Form → StorageState 
 SureRuns codec form before runs result =
     IfOk (codec_rests_on codec form.sizes form.type form.fill before.value (joined_runs runs)) (λ numbers. are_sure before.sure numbers ≡ true → is_fault result ≡ false)
 
--- the same, where the codec reads in part
-abbrev pub SureParts : {B T : Type 0} → PlainCodec B → Form → StorageState → List (ℕ × ℕ) → Result T CodecError → Type 0
-SureParts codec form before runs result = (codec_reads codec).partial_decode ≡ true → SureRuns codec form before runs result
-
--- a making succeeds exactly where the codec takes such chunks, and else answers why it doesn't
-abbrev pub MadeWhereTaken : {B : Type 0} → BytesCodecs B → PlainCodec B → Form → Result (Unit {0}) CodecError → Type 0
-MadeWhereTaken f codec form result = Gives (λ made. made) result (seen (λ _. tt) (codec_representation f codec form.sizes form.type form.fill))
-
--- the same of a chain
-abbrev pub MadeWhereChainTaken : {B : Type 0} → BytesCodecs B → PlainChain B → Form → Result (Unit {0}) CodecError → Type 0
-MadeWhereChainTaken f chain form result = Gives (λ made. made) result (seen (λ _. tt) (chain_representation f chain form.sizes form.type form.fill))
-
--- a container of the elements at the places of these runs by the whole chunk, by the bytes that are there, or by none
-abbrev pub GivesWhole : {B : Type 0} → BytesCodecs B → PlainCodec B → Form → Option (List ℕ) → List (ℕ × ℕ) → Result Held CodecError → Type 0
-GivesWhole f codec form stored runs result =
-    GivesBy (Holds form.type) result (whole_read (codec_chunk f codec) form.sizes form.type form.fill stored (joined_runs runs))
-
--- the same of what a handle keeps, which may fail
-abbrev pub ReadsWhole : {B : Type 0} → BytesCodecs B → PlainCodec B → Form → StorageState → List (ℕ × ℕ) → Result Held CodecError → Type 0
-ReadsWhole f codec form before runs result =
-    AnswersBy memory_or_fault (Holds form.type) result (whole_read (codec_chunk f codec) form.sizes form.type form.fill before.value (joined_runs runs))
-
--- the elements of the chunk that a value stands for, or the first refusal
-abbrev pub GivesElements : {B : Type 0} → BytesCodecs B → PlainCodec B → Form → List ℕ → Result Held CodecError → Type 0
-GivesElements f codec form value result =
-    Gives (elements form.type (product form.sizes)) result (codec_chunk f codec form.sizes form.type form.fill value)
-
--- a container of the elements at the places of these runs that a plain `vlen` reads of what a handle keeps, which may fail
-abbrev pub ReadsPlain : PlainForm → ℕ → ElementType → List ℕ → StorageState → List (ℕ × ℕ) → Result Held CodecError → Type 0
-ReadsPlain form count type fill before runs result =
-    AnswersBy memory_or_fault (Holds type) result (plain_read form count type fill before.value (joined_runs runs))
-
--- no failure of the handle comes where the bytes are sure that this read rests on
-abbrev pub SurePlain : {T : Type 0} → PlainForm → ℕ → StorageState → List (ℕ × ℕ) → Result T CodecError → Type 0
-SurePlain form count before runs result =
-    are_sure before.sure (stored_rests_on form count before.value (joined_runs runs)) ≡ true → is_fault result ≡ false
+-- a container of the fill element at each place of these runs
+abbrev pub FillsRuns : ElementType → List ℕ → List (ℕ × ℕ) → Result Held CodecError → Type 0
+FillsRuns type fill runs result = GivesBy (Holds type) result (Ok (map (λ _. fill_element type fill) (joined_runs runs)))
 
 -- the bytes of a value, or none
 abbrev pub value_items : Option (Vec ℕ Global) → Option (List ℕ)
 value_items value = option_map (λ items. items.items) value
-
--- ranges that are the bytes of the places of these runs and no others
-abbrev pub PlansRuns : {B : Type 0} → PlainCodec B → Form → List (ℕ × ℕ) → Result (Vec ByteSpan Global) CodecError → Type 0
-PlansRuns codec form runs result =
-    GivesBy (λ ranges _. IsCodecPlan codec form.sizes form.type form.fill (joined_runs runs) ranges.items) result no_refusal
 
 -- the plan of a read of the selected places, or the first refusal
 abbrev pub PlansRead : {B : Type 0} → BytesCodecs B → ChunkForm B → Selection → Result (Option (Vec ByteSpan Global)) CodecError → Type 0
@@ -286,12 +264,7 @@ PlansRead f form selection result =
 
 -- the places that a selection means, as they go through the array codecs
 abbrev pub form_places : {B : Type 0} → ChunkForm B → Selection → Result (List ℕ) CodecError
-form_places form selection = encoded_places form.type form.chain.arrays form.sizes selection
-
--- where the selection is refused, this is what is answered, or a want of memory: no failure of the handle comes in its place
-abbrev pub RefusedAtSelection : List ℕ → ElementType → Selection → Result Held CodecError → Type 0
-RefusedAtSelection sizes type selection result =
-    IfErr (bounds_of selection sizes) (λ cause. AnswersBy memory (Holds type) result (Err cause))
+form_places form selection = encoded_places form.type form.chain.array_to_array form.sizes selection
 
 -- all codecs decode a part
 abbrev pub form_decodes_parts : {B : Type 0} → (B → PartialDecoderCapability) → ChunkForm B → Bool

@@ -1,6 +1,7 @@
 -- What a partial decoder's answers rest on, and what of it a cache keeps.
-use Rattle.std.specs.Prelude.{◌≡◌, ℕ, suc, ◌-◌, ◌^◌, ◌&&◌, not, nat_le, min, Bool, true, false, if◌then◌else◌, Option, Some, None, option_map, List, [], ◌∷◌, length, map, take, drop, is_ok, is_some, Result, Ok, IsOkAnd}
-use Rattle.zarrs_chunk.specs.Answer.{◌>>=◌, Answers, GivesBy, memory_or_fault}
+use Rattle.std.specs.Prelude.{◌≡◌, ℕ, suc, ◌-◌, ◌^◌, ◌&&◌, not, nat_le, min, Bool, true, false, if◌then◌else◌, Option, Some, None, option_map, List, [], ◌∷◌, length, map, take, drop, is_ok, is_some, Result, Ok, IfOk, IsOkAnd, Vec}
+use Rattle.std.proofs.Common.{Global}
+use Rattle.zarrs_chunk.specs.Answer.{◌>>=◌, Answers, GivesBy, GivesItems, is_fault, memory_or_fault}
 use Rattle.zarrs_chunk.specs.Selection.{Selection}
 use Rattle.zarrs_chunk.specs.declared.codec_error.CodecError.{CodecError}
 use Rattle.zarrs_data_type.specs.Element.{Chunk, fill_element}
@@ -23,6 +24,8 @@ use Rattle.zarrs_codec_chain.specs.declared.partial_decoder.cache.CacheStage.{Ca
 use Rattle.zarrs_codec_chain.specs.declared.partial_decoder.cache.CacheStage.TheVariants as stage
 use Rattle.zarrs_chunk.specs.ChunkShape.{product}
 use Rattle.zarrs_data_type.specs.Form.{Form}
+use Rattle.zarrs_chain_whole.specs.ChainView.{plain_chain}
+use Rattle.zarrs_chain_whole.specs.declared.codec_chain.CodecChain.{CodecChain}
 
 -- What answers rest on: the bytes above so many of the first bytes codecs, or the chunk that the codec to bytes reads; either only where something is stored.
 pub data Source : Type 0 where
@@ -32,15 +35,15 @@ pub data Source : Type 0 where
 -- the elements at these places of the chunk that the codec to bytes gets, by what answers rest on
 abbrev pub source_places : {B : Type 0} → BytesCodecs B → PlainChain B → List ℕ → ElementType → List ℕ → BytesRepresentation → Source → List ℕ → Result Chunk CodecError
 source_places f chain encoded type fill r (bytes_above below value) places = do
-  bytes ← outer_stored f (take below chain.outer) r value
-  codec_read f chain.codec encoded type fill bytes places
+  bytes ← outer_stored f (take below chain.bytes_to_bytes) r value
+  codec_read f chain.array_to_bytes encoded type fill bytes places
 source_places f chain encoded type fill r (chunk_below None) places = Ok (map (λ _. fill_element type fill) places)
 source_places f chain encoded type fill r (chunk_below (Some chunk)) places = Ok (select chunk places)
 
 -- the elements that a selection means
 abbrev pub source_read : {B : Type 0} → BytesCodecs B → ChunkForm B → List ℕ → BytesRepresentation → Source → Selection → Result Chunk CodecError
 source_read f form encoded r source selection = do
-  places ← encoded_places form.type form.chain.arrays form.sizes selection
+  places ← encoded_places form.type form.chain.array_to_array form.sizes selection
   source_places f form.chain encoded form.type form.fill r source places
 
 -- ---- the cache's place
@@ -52,7 +55,7 @@ stage_at count (Some place) = if nat_le place count then stage.Bytes (count - pl
 
 -- where the cache of a chain stands
 abbrev pub cache_stage : {B : Type 0} → (B → PartialDecoderCapability) → PlainChain B → CacheStage
-cache_stage reads chain = stage_at (length chain.outer) (cache_place (codecs_read reads chain))
+cache_stage reads chain = stage_at (length chain.bytes_to_bytes) (cache_place (codecs_read reads chain))
 
 -- of what bytes codecs read in part, in encode order: how many of the first ones a cache leaves undecoded; none where no codec wants a cache
 abbrev pub bytes_left : List PartialDecoderCapability → Option ℕ
@@ -83,14 +86,14 @@ stage_fits reads codecs stage.Chunk = true
 
 -- the chunk that the codec to bytes reads of a value, or the first refusal
 abbrev pub opened_chunk : {B : Type 0} → BytesCodecs B → PlainChain B → List ℕ → ElementType → List ℕ → BytesRepresentation → List ℕ → Result Chunk CodecError
-opened_chunk f chain encoded type fill r value = outer_bytes f chain.outer r value >>= codec_chunk f chain.codec encoded type fill
+opened_chunk f chain encoded type fill r value = outer_bytes f chain.bytes_to_bytes r value >>= codec_chunk f chain.array_to_bytes encoded type fill
 
 -- what answers rest on, of what is stored when a decoder is made, where its cache stands here; or the refusal of what decodes it: the bytes codecs, the last of them first, and then the codec to bytes
 abbrev pub source_at : {B : Type 0} → BytesCodecs B → PlainChain B → List ℕ → ElementType → List ℕ → BytesRepresentation → CacheStage → Option (List ℕ) → Result Source CodecError
-source_at f chain encoded type fill r stage.Nowhere stored = Ok (bytes_above (length chain.outer) stored)
+source_at f chain encoded type fill r stage.Nowhere stored = Ok (bytes_above (length chain.bytes_to_bytes) stored)
 source_at f chain encoded type fill r (stage.Bytes below) None = Ok (bytes_above below None)
 source_at f chain encoded type fill r (stage.Bytes below) (Some value) = do
-  bytes ← outer_bytes f (drop below chain.outer) (outer_representation f (take below chain.outer) r) value
+  bytes ← outer_bytes f (drop below chain.bytes_to_bytes) (outer_representation f (take below chain.bytes_to_bytes) r) value
   Ok (bytes_above below (Some bytes))
 source_at f chain encoded type fill r stage.Chunk None = Ok (chunk_below None)
 source_at f chain encoded type fill r stage.Chunk (Some value) = do
@@ -164,18 +167,26 @@ OpensChunk f chain form r value result = GivesBy (Holds form.type) result (opene
 abbrev pub upper_bytes : {B : Type 0} → BytesCodecs B → List B → ℕ → BytesRepresentation → List ℕ → Result (List ℕ) CodecError
 upper_bytes f codecs below r value = outer_bytes f (drop below codecs) (outer_representation f (take below codecs) r) value
 
+-- these are given, or the first refusal
+abbrev pub OpensBytes : {B : Type 0} → BytesCodecs B → List B → ℕ → BytesRepresentation → List ℕ → Result (Vec ℕ Global) CodecError → Type 0
+OpensBytes f codecs below r value result = GivesItems result (upper_bytes f codecs below r value)
+
 -- the stage is one of the chain
 abbrev pub is_stage_of : {B : Type 0} → PlainChain B → CacheStage → Bool
-is_stage_of chain stage = stage_fits (codec_reads chain.codec) (length chain.outer) stage
+is_stage_of chain stage = stage_fits (codec_reads chain.array_to_bytes) (length chain.bytes_to_bytes) stage
 
 -- the cache is one of the chunks that the chain's codec to bytes gets
 abbrev pub is_cache_of : {B : Type 0} → PlainChain B → List ℕ → ElementType → Cache → Bool
-is_cache_of chain encoded type cache = cache_fits (codec_reads chain.codec) type (product encoded) (length chain.outer) cache
+is_cache_of chain encoded type cache = cache_fits (codec_reads chain.array_to_bytes) type (product encoded) (length chain.bytes_to_bytes) cache
+
+-- a cache that is made is one of these
+abbrev pub GivesCacheOf : {B : Type 0} → CodecChain B → List ℕ → ElementType → Result Cache CodecError → Type 0
+GivesCacheOf chain encoded type result = IfOk result (λ cache. is_cache_of (plain_chain chain) encoded type cache ≡ true)
 
 -- a cache at this stage, filled from what is stored, or the refusal of what decodes it
 abbrev pub FillsCache : {B : Type 0} → BytesCodecs B → PlainChain B → BytesRepresentation → CacheStage → Form → Option (List ℕ) → Result Cache CodecError → Type 0
 FillsCache f chain r stage form stored result =
-    Answers memory_or_fault (source_of form.type (product form.sizes) (length chain.outer) stored) result (source_at f chain form.sizes form.type form.fill r stage stored)
+    Answers memory_or_fault (source_of form.type (product form.sizes) (length chain.bytes_to_bytes) stored) result (source_at f chain form.sizes form.type form.fill r stage stored)
 
 -- the cache of a decoder that was made of what was stored then has so many bytes
 abbrev pub IsCacheSize : {B : Type 0} → BytesCodecs B → (B → PartialDecoderCapability) → ChunkForm B → Option (List ℕ) → ℕ → Type 0
@@ -184,3 +195,7 @@ IsCacheSize f reads form stored size = IsOkAnd (source_made f reads form stored)
 -- the chain wants a cache
 abbrev pub wants_cache : {B : Type 0} → (B → PartialDecoderCapability) → PlainChain B → Bool
 wants_cache reads chain = has_cache (cache_stage reads chain)
+
+-- no failure of the handle comes where the chain's cache stands nowhere
+abbrev pub SureUncached : {B T : Type 0} → (B → PartialDecoderCapability) → CodecChain B → Result T CodecError → Type 0
+SureUncached reads chain result = cache_stage reads (plain_chain chain) ≡ stage.Nowhere → is_fault result ≡ false

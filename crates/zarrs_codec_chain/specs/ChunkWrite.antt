@@ -1,18 +1,20 @@
 -- What a write in part leaves through a chain.
 use Rattle.zarrs_codec.specs.StorageState.{StorageState}
-use Rattle.std.specs.Prelude.{◌≡◌, ℕ, Bool, Option, Some, None, List, length, map, Result, Ok, Err, IfErr, OnOk, IsOkAnd, ◌+◌, ◌≤◌, All}
+use Rattle.std.specs.Prelude.{◌≡◌, ℕ, Bool, Option, Some, None, List, length, map, Result, Ok, Err, IfErr, OnOk, IsOkAnd, ◌+◌, ◌≤◌, All, Vec}
 use Rattle.zarrs_chunk.specs.Answer.{◌>>=◌, Answers, memory, memory_or_fault, seen, Gives}
 use Rattle.zarrs_chunk.specs.ChunkShape.{product}
+use Rattle.zarrs_chunk.specs.Indexer.{selection_of}
 use Rattle.zarrs_chunk.specs.Region.{Region}
 use Rattle.zarrs_chunk.specs.Selection.{Selection, bounds_of}
 use Rattle.zarrs_chunk.specs.declared.codec_error.CodecError.{CodecError}
+use Rattle.zarrs_chunk.specs.declared.indexer.Indexer.{Indexer}
 use Rattle.zarrs_data_type.specs.Form.{form_of}
 use Rattle.zarrs_data_type.specs.Element.{Chunk}
 use Rattle.zarrs_data_type.specs.declared.endianness.Endianness.{Endianness}
 use Rattle.zarrs_data_type.specs.ElementType.{ElementType}
 use Rattle.zarrs_array_bytes.specs.Chunks.{fill_chunk}
 use Rattle.zarrs_array_bytes.specs.Elements.{elements}
-use Rattle.zarrs_array_bytes.specs.Held.{Held, items_of}
+use Rattle.zarrs_array_bytes.specs.Held.{Held}
 use Rattle.zarrs_codec.specs.ArrayWriter.{ArrayWriter}
 use Rattle.zarrs_codec.specs.BytesToBytesCodec.{BytesCodecs}
 use Rattle.zarrs_codec.specs.ChunkEdits.{data_checked, data_places, with_elements, edited_chunk}
@@ -28,8 +30,7 @@ use Rattle.zarrs_codec_chain.specs.PartialDecoder.{chunk_reader}
 use Rattle.zarrs_chain_laws.specs.Stands.{ChainStands}
 use Rattle.zarrs_chain_laws.specs.Written.{ChainWritten}
 use Rattle.std.proofs.Common.{Global}
-use Rattle.std.specs.declared.borrow.CowSlice.{CowSlice}
-use Rattle.zarrs_chunk.specs.Runs.{joined_runs}
+use Rattle.zarrs_chunk.specs.Runs.{joined_runs, places_in}
 use Rattle.zarrs_array_bytes.specs.Validity.{data_fit, validity}
 use Rattle.zarrs_codec.specs.declared.capabilities.PartialEncoderCapability.{PartialEncoderCapability}
 use Rattle.zarrs_chain_laws.specs.Chain.{chain_writes}
@@ -46,7 +47,7 @@ value_left f form None (Some value) places new = do
   chunk ← chain_chunk f form.chain form.sizes form.type form.fill value
   edited_value f form chunk places new
 value_left f form (Some order) (Some value) places new = do
-  m ← arrays_map form.type form.chain.arrays form.sizes
+  m ← arrays_map form.type form.chain.array_to_array form.sizes
   Ok (with_place_bytes (place_size form.type) value (map m.to places) (spelling order form.type (elements form.type (length places) new)))
 
 -- The value that new elements at a selection leave of what is stored, or the first refusal: the selection's; that of the new elements; of what decodes the stored value; of what encodes the chunk with the new elements.
@@ -57,7 +58,7 @@ selection_left f form order stored selection new = do
 
 -- the same, in place where the chain writes in place
 abbrev pub stored_written : {B : Type 0} → BytesCodecs B → ChunkForm B → Option (List ℕ) → Selection → Held → Result (List ℕ) CodecError
-stored_written f form stored selection new = selection_left f form (order_in_place form.chain.outer form.chain.codec) stored selection new
+stored_written f form stored selection new = selection_left f form (order_in_place form.chain.bytes_to_bytes form.chain.array_to_bytes) stored selection new
 
 -- the chunk that an edit starts from, or the first refusal: the one that the stored value stands for; where there is none, one of fill elements
 abbrev pub started_chunk : {B : Type 0} → BytesCodecs B → ChunkForm B → Option (List ℕ) → Result Chunk CodecError
@@ -109,7 +110,7 @@ form_checked form selection new = data_checked form.sizes form.type selection ne
 
 -- where they go through the array codecs
 abbrev pub form_written : {B : Type 0} → ChunkForm B → Selection → Held → Result (List ℕ) CodecError
-form_written form selection new = written_places form.type form.chain.arrays form.sizes selection new
+form_written form selection new = written_places form.type form.chain.array_to_array form.sizes selection new
 
 -- all codecs encode a part
 abbrev pub form_encodes_parts : {B : Type 0} → (B → PartialEncoderCapability) → ChunkForm B → Bool
@@ -123,23 +124,17 @@ RunsInside form runs = All (λ run. run.0 + run.1 ≤ product form.sizes) runs
 abbrev pub FitsRuns : {B : Type 0} → ChunkForm B → List (ℕ × ℕ) → Held → Type 0
 FitsRuns form runs new = data_fit form.type (length (joined_runs runs)) new ≡ Ok tt
 
+-- there is one new element of the type for each place of a vector of runs
+abbrev pub FitsPlacesIn : ElementType → Held → Vec (ℕ × ℕ) Global → Type 0
+FitsPlacesIn type new runs = data_fit type (length (places_in runs)) new ≡ Ok tt
+
+-- runs of the places that the indexer means, where there is one new element of the type for each; or the first refusal
+abbrev pub GivesDataPlaces : Indexer → List ℕ → ElementType → Held → Result (Vec (ℕ × ℕ) Global) CodecError → Type 0
+GivesDataPlaces indexer sizes type new result = Gives places_in result (data_places sizes type (selection_of indexer) new)
+
 -- a container of such a chunk
 abbrev pub IsWhole : {B : Type 0} → ChunkForm B → Held → Type 0
 IsWhole form held = validity form.type (product form.sizes) held ≡ Ok tt
-
--- the value of a chunk with new elements at the places of the runs, or the first refusal
-abbrev pub GivesEdited : {B : Type 0} → BytesCodecs B → ChunkForm B → Held → List (ℕ × ℕ) → Held → Result (CowSlice ℕ Global) CodecError → Type 0
-GivesEdited f form chunk runs new result =
-    Gives items_of result (edited_value f form (elements form.type (product form.sizes) chunk) (joined_runs runs) new)
-
--- the value that new elements at the places of the runs leave of what is stored, by the whole value; or the first refusal
-abbrev pub ReadsNewValue : {B : Type 0} → BytesCodecs B → ChunkForm B → Option (List ℕ) → List (ℕ × ℕ) → Held → Result (CowSlice ℕ Global) CodecError → Type 0
-ReadsNewValue f form stored runs new result = Answers memory_or_fault items_of result (value_left f form None stored (joined_runs runs) new)
-
--- this value is stored afterwards
-abbrev pub WritesRuns : {B : Type 0} → BytesCodecs B → ChunkForm B → (before after : StorageState) → List (ℕ × ℕ) → Held → Result (Unit {0}) CodecError → Type 0
-WritesRuns f form before after runs new result =
-    Answers memory_or_fault (λ _. after.value) result (seen Some (value_left f form None before.value (joined_runs runs) new))
 
 -- the value afterwards is the one that new elements at a selection leave, in place or by the whole value; or the first refusal is answered
 abbrev pub WritesSelection : {B : Type 0} → BytesCodecs B → ChunkForm B → Option (Option Endianness) → (before after : StorageState) → Selection → Held → Result (Unit {0}) CodecError → Type 0

@@ -64,16 +64,16 @@ codec_count f (optional_codec ma mx mb da dx db) sizes type fill stored places c
 
 pub chunk_counts : {B : Type 0} (f : BytesCodecs B) (form : ChunkForm B) (stored : Option (List ℕ)) (in_part : Bool) → IsCounted (chunk_reader f form stored in_part)
 chunk_counts f form stored in_part selection chunk e =
-    let encoded = passed (encoded_places form.type form.chain.arrays form.sizes selection)
-    (λ places. taken_form f form.chain form.sizes form.type form.fill >>= λ taken. outer_stored f form.chain.outer taken.1 stored >>= λ below. codec_read f form.chain.codec taken.0 form.type form.fill below places) chunk e in
-    let places = passed (places_of selection form.sizes) (λ places. arrays_map form.type form.chain.arrays form.sizes >>= λ m. Ok (map m.to places)) encoded.given encoded.first_is in
-    let moved = passed (arrays_map form.type form.chain.arrays form.sizes) (λ m. Ok (map m.to places.given)) encoded.given places.second_is in
-    let taken = passed (taken_form f form.chain form.sizes form.type form.fill) (λ taken. outer_stored f form.chain.outer taken.1 stored >>= λ below. codec_read f form.chain.codec taken.0 form.type form.fill below encoded.given) chunk encoded.second_is in
-    let below = passed (outer_stored f form.chain.outer taken.given.1 stored) (λ below. codec_read f form.chain.codec taken.given.0 form.type form.fill below encoded.given) chunk taken.second_is in
+    let encoded = passed (encoded_places form.type form.chain.array_to_array form.sizes selection)
+    (λ places. taken_form f form.chain form.sizes form.type form.fill >>= λ taken. outer_stored f form.chain.bytes_to_bytes taken.1 stored >>= λ below. codec_read f form.chain.array_to_bytes taken.0 form.type form.fill below places) chunk e in
+    let places = passed (places_of selection form.sizes) (λ places. arrays_map form.type form.chain.array_to_array form.sizes >>= λ m. Ok (map m.to places)) encoded.given encoded.first_is in
+    let moved = passed (arrays_map form.type form.chain.array_to_array form.sizes) (λ m. Ok (map m.to places.given)) encoded.given places.second_is in
+    let taken = passed (taken_form f form.chain form.sizes form.type form.fill) (λ taken. outer_stored f form.chain.bytes_to_bytes taken.1 stored >>= λ below. codec_read f form.chain.array_to_bytes taken.0 form.type form.fill below encoded.given) chunk encoded.second_is in
+    let below = passed (outer_stored f form.chain.bytes_to_bytes taken.given.1 stored) (λ below. codec_read f form.chain.array_to_bytes taken.given.0 form.type form.fill below encoded.given) chunk taken.second_is in
     let counted = places_counted selection form.sizes places.given places.first_is in
     record {
       inside = counted.inside;
-      count = codec_count f form.chain.codec taken.given.0 form.type form.fill below.given encoded.given chunk below.second_is
+      count = codec_count f form.chain.array_to_bytes taken.given.0 form.type form.fill below.given encoded.given chunk below.second_is
           ∙ ap length (sym (same_value (map moved.given.to places.given) encoded.given moved.second_is)) ∙ length-map places.given moved.given.to ∙ counted.count;
     }
 

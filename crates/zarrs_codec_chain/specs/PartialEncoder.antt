@@ -1,19 +1,24 @@
 -- What a partial encoder of a chain is made of, and what its calls leave.
-use Rattle.std.specs.Prelude.{◌≡◌, ℕ, Bool, true, Option, List, OnErr, Result}
+use Rattle.std.specs.Prelude.{◌≡◌, ℕ, Bool, true, Option, List, OnErr, Result, Vec}
+use Rattle.std.proofs.Common.{Global}
 use Rattle.zarrs_chunk.specs.Answer.{Answers}
 use Rattle.zarrs_chunk.specs.declared.codec_error.CodecError.{CodecError}
+use Rattle.zarrs_codec.specs.ByteSpan.{ByteSpan}
 use Rattle.zarrs_codec.specs.BytesToBytesCodec.{BytesCodecs}
+use Rattle.zarrs_codec.specs.declared.capabilities.PartialDecoderCapability.{PartialDecoderCapability}
+use Rattle.zarrs_codec.specs.declared.capabilities.PartialEncoderCapability.{PartialEncoderCapability}
 use Rattle.zarrs_codec.specs.CodersOverHandles.{OnlyReads, OnlyWrites}
 use Rattle.zarrs_codec.specs.StorageState.{StorageState, after_writing, apart_from_value}
-use Rattle.zarrs_codec_chain.specs.ChunkReader.{reader_form}
-use Rattle.zarrs_codec_chain.specs.ChunkRead.{ChunkForm, ReadsChunk}
+use Rattle.zarrs_codec_chain.specs.ChunkCoder.{coder_form}
+use Rattle.zarrs_codec_chain.specs.ChunkRead.{ChunkForm, PlansRead, ReadsChunk, form_decodes_parts}
 use Rattle.zarrs_codec_chain.specs.Edits.{edit_excuse, edited_store, RunsEdits}
 use Rattle.zarrs_codec_chain.specs.declared.partial_encoder.array_partial_encoder.ArrayPartialEncoder.{ArrayPartialEncoder}
 use Rattle.zarrs_codec_chain.specs.declared.partial_encoder.edits.Edit.{Edit}
 use Rattle.zarrs_codec_chain.specs.declared.partial_encoder.edits.EditOutcome.{EditOutcome}
-use Rattle.zarrs_chunk.specs.Selection.{Selection}
+use Rattle.zarrs_chunk.specs.Indexer.{selection_of}
+use Rattle.zarrs_chunk.specs.declared.indexer.Indexer.{Indexer}
 use Rattle.zarrs_array_bytes.specs.Held.{Held}
-use Rattle.zarrs_codec_chain.specs.ChunkWrite.{EditsChunk}
+use Rattle.zarrs_codec_chain.specs.ChunkWrite.{EditsChunk, form_encodes_parts}
 
 -- the handle that an encoder reads and writes
 abbrev pub encoder_handle : {H B : Type 0} {h : _} {w : _} {b : _} → ArrayPartialEncoder H B h w b → H
@@ -21,7 +26,11 @@ encoder_handle encoder = encoder.handle
 
 -- the chunk that it writes
 abbrev pub encoder_form : {H B : Type 0} {h : _} {w : _} {b : _} → ArrayPartialEncoder H B h w b → ChunkForm B
-encoder_form encoder = reader_form encoder.reader
+encoder_form encoder = coder_form encoder.coder
+
+-- what its bytes codecs compute
+abbrev pub encoder_functions : {H B : Type 0} {h : _} {w : _} {b : _} → ArrayPartialEncoder H B h w b → BytesCodecs B
+encoder_functions {b = b} encoder = b.functions
 
 -- what its handle keeps, where `state` says it of a handle
 abbrev pub encoder_state : {H B : Type 0} {h : _} {w : _} {b : _} → (H → StorageState) → ArrayPartialEncoder H B h w b → StorageState
@@ -63,20 +72,33 @@ abbrev pub EncoderKeeps : {H B L : Type 0} {h : _} {w : _} {b : _} → (H → L)
 EncoderKeeps lent before after = KeepsCoder (λ encoder. lent (encoder_handle encoder)) encoder_form before after
 
 -- that one edit through an encoder is answered as it is of what is stored
-abbrev pub EncoderEdits : {H B : Type 0} {h : _} {w : _} {b : _} → (H → StorageState) → BytesCodecs B → ArrayPartialEncoder H B h w b → ArrayPartialEncoder H B h w b → Edit → Result (Unit {0}) CodecError → Type 0
-EncoderEdits state f before after edit result =
-    Answers (edit_excuse edit) (λ _. encoder_value state after) result (edited_store f (encoder_form before) (encoder_value state before) edit)
+abbrev pub EncoderEdits : {H B : Type 0} {h : _} {w : _} {b : _} → (H → StorageState) → ArrayPartialEncoder H B h w b → ArrayPartialEncoder H B h w b → Edit → Result (Unit {0}) CodecError → Type 0
+EncoderEdits state before after edit result =
+    Answers (edit_excuse edit) (λ _. encoder_value state after) result (edited_store (encoder_functions before) (encoder_form before) (encoder_value state before) edit)
 
 -- that a list of edits through an encoder gives this outcome
-abbrev pub EncoderRuns : {H B : Type 0} {h : _} {w : _} {b : _} → (H → StorageState) → Bool → BytesCodecs B → ArrayPartialEncoder H B h w b → ArrayPartialEncoder H B h w b → List Edit → EditOutcome → Type 0
-EncoderRuns state atomic f before after edits outcome =
-    RunsEdits f (encoder_form before) atomic (encoder_state state before) (encoder_state state after) edits outcome
+abbrev pub EncoderRuns : {H B : Type 0} {h : _} {w : _} {b : _} → (H → StorageState) → Bool → ArrayPartialEncoder H B h w b → ArrayPartialEncoder H B h w b → List Edit → EditOutcome → Type 0
+EncoderRuns state atomic before after edits outcome =
+    RunsEdits (encoder_functions before) (encoder_form before) atomic (encoder_state state before) (encoder_state state after) edits outcome
 
 -- what a read of an encoder gives
-abbrev pub EncoderGives : {H B : Type 0} {h : _} {w : _} {b : _} → (H → StorageState) → BytesCodecs B → ArrayPartialEncoder H B h w b → Selection → Result Held CodecError → Type 0
-EncoderGives state f encoder selection result = ReadsChunk f (encoder_form encoder) (encoder_state state encoder) selection result
+abbrev pub EncoderGives : {H B : Type 0} {h : _} {w : _} {b : _} → (H → StorageState) → ArrayPartialEncoder H B h w b → Indexer → Result Held CodecError → Type 0
+EncoderGives state encoder indexer result =
+    ReadsChunk (encoder_functions encoder) (encoder_form encoder) (encoder_state state encoder) (selection_of indexer) result
+
+-- the plan of a read of an encoder: the ranges are the bytes of the meant places and no others, or there are none where it asks for more; or the first refusal
+abbrev pub EncoderPlans : {H B : Type 0} {h : _} {w : _} {b : _} → ArrayPartialEncoder H B h w b → Indexer → Result (Option (Vec ByteSpan Global)) CodecError → Type 0
+EncoderPlans encoder indexer result = PlansRead (encoder_functions encoder) (encoder_form encoder) (selection_of indexer) result
 
 -- what a write of an encoder leaves
-abbrev pub EncoderLeaves : {H B : Type 0} {h : _} {w : _} {b : _} → (H → StorageState) → BytesCodecs B → (before after : ArrayPartialEncoder H B h w b) → Selection → Held → Result (Unit {0}) CodecError → Type 0
-EncoderLeaves state f before after selection new result =
-    EditsChunk f (encoder_form before) (encoder_state state before) (encoder_state state after) selection new result
+abbrev pub EncoderLeaves : {H B : Type 0} {h : _} {w : _} {b : _} → (H → StorageState) → (before after : ArrayPartialEncoder H B h w b) → Indexer → Held → Result (Unit {0}) CodecError → Type 0
+EncoderLeaves state before after indexer new result =
+    EditsChunk (encoder_functions before) (encoder_form before) (encoder_state state before) (encoder_state state after) (selection_of indexer) new result
+
+-- all codecs of an encoder's chain decode a part
+abbrev pub decodes_in_part : {H B : Type 0} {h : _} {w : _} {b : _} → (B → PartialDecoderCapability) → ArrayPartialEncoder H B h w b → Bool
+decodes_in_part reads encoder = form_decodes_parts reads (encoder_form encoder)
+
+-- all of them encode a part
+abbrev pub encodes_in_part : {H B : Type 0} {h : _} {w : _} {b : _} → (B → PartialEncoderCapability) → ArrayPartialEncoder H B h w b → Bool
+encodes_in_part writes encoder = form_encodes_parts writes (encoder_form encoder)

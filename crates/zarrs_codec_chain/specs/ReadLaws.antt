@@ -26,20 +26,20 @@ StoredSelects {B} f =
 abbrev pub bytes_below : {B : Type 0} → BytesCodecs B → ChunkForm B → List ℕ → Result (List ℕ) CodecError
 bytes_below f form value = do
   taken ← taken_form f form.chain form.sizes form.type form.fill
-  outer_bytes f form.chain.outer taken.1 value
+  outer_bytes f form.chain.bytes_to_bytes taken.1 value
 
 -- the numbers of the bytes, of those below the bytes codecs, that the elements which a selection means rest on; or the first refusal
 abbrev pub selection_rests_on : {B : Type 0} → BytesCodecs B → ChunkForm B → List ℕ → Selection → Result (List ℕ) CodecError
 selection_rests_on f form below selection = do
-  places ← encoded_places form.type form.chain.arrays form.sizes selection
+  places ← encoded_places form.type form.chain.array_to_array form.sizes selection
   taken ← taken_form f form.chain form.sizes form.type form.fill
-  codec_rests_on form.chain.codec taken.0 form.type form.fill (Some below) places
+  codec_rests_on form.chain.array_to_bytes taken.0 form.type form.fill (Some below) places
 
 -- Over a plain `vlen` a read rests on these bytes alone: two values whose bytes below the bytes codecs are as many, and the same there, are read alike, or refused for the same cause.
 abbrev pub StoredReadsAlike : {B : Type 0} → BytesCodecs B → Type 0
 StoredReadsAlike {B} f =
     (form : ChunkForm B) (plain : PlainForm) (value other below beside : List ℕ) (selection : Selection)
-    → plain_form_of form.chain.codec ≡ Some plain → bytes_below f form value ≡ Ok below → bytes_below f form other ≡ Ok beside
+    → plain_form_of form.chain.array_to_bytes ≡ Some plain → bytes_below f form value ≡ Ok below → bytes_below f form other ≡ Ok beside
     → length below ≡ length beside → IfOk (selection_rests_on f form below selection) (All (λ number. slice_index below number ≡ slice_index beside number))
     → stored_read f form (Some value) selection ≡ stored_read f form (Some other) selection
 
@@ -51,5 +51,5 @@ pub record IsInOrder {B : Type 0} (form : ChunkForm B) (selection : Selection) (
 abbrev pub PlannedPlacesAreMeant : Type 0 → Type 0
 PlannedPlacesAreMeant B =
     (form : ChunkForm B) (selection : Selection) (meant ordered : List ℕ)
-    → IsChainOfMappings form.chain → All (λ size. 0 < size) form.sizes → encoded_places form.type form.chain.arrays form.sizes selection ≡ Ok meant → ordered_places form selection ≡ Ok ordered
+    → IsChainOfMappings form.chain → All (λ size. 0 < size) form.sizes → encoded_places form.type form.chain.array_to_array form.sizes selection ≡ Ok meant → ordered_places form selection ≡ Ok ordered
     → IsInOrder form selection meant ordered

@@ -1,2 +1,3 @@
 -- Reading a chunk of `vlen` in part.
+pub mod VlenRuns
 pub mod VlenPartialDecoder

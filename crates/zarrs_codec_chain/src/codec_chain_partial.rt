@@ -1,20 +1,13 @@
 //! The coders of a chunk in part that a chain makes.
-ghost use Rattle.zarrs_data_type.specs.Form.{form_of as form_with};
-ghost use Rattle.std.specs.Prelude.{◌≡◌, Ok, IfOk, IfErr, None, is_some, true, false};
-ghost use Rattle.zarrs_chunk.specs.Answer.{Answers, memory_or_fault, is_fault, seen, Gives};
-ghost use Rattle.zarrs_codec.specs.Refused.{outcome};
-ghost use Rattle.zarrs_codec.specs.StorageState.{after_reading};
-ghost use Rattle.zarrs_chain_whole.specs.ChainView.{plain_chain};
-ghost use Rattle.zarrs_chain_laws.specs.Representation.{chain_representation as chain_representation_of};
-ghost use Rattle.zarrs_codec_chain.specs.CachePlace.{cache_place, codecs_read, has_cache_place};
-ghost use Rattle.zarrs_codec_chain.specs.ChunkRead.{asks_in_part, HasForm, MadeWhereChainTaken};
-ghost use Rattle.zarrs_codec_chain.specs.ChunkSource.{source_made};
-ghost use Rattle.zarrs_codec_chain.specs.PartialDecoder.{decoder_source, form_of, handle_of, is_cached, made, MakesDecoder};
-ghost use Rattle.zarrs_codec_chain.specs.PartialEncoder.{encoder_form, encoder_handle};
-ghost use Rattle.zarrs_codec_chain.specs.RefusedFirst.{RefusedFirst};
+ghost use Rattle.std.specs.Prelude.{◌≡◌, IfOk, IfErr};
+ghost use Rattle.zarrs_codec_chain.specs.CachePlace.{SureWithoutCache};
+ghost use Rattle.zarrs_codec_chain.specs.ChunkRead.{SureInPart};
+ghost use Rattle.zarrs_codec_chain.specs.CodersMade.{CachesAsPlaced, ChainFirst, DecoderHasForm, DecoderMade, EncoderHasForm, EncoderMade, HandsBackRead, MadeOver};
+ghost use Rattle.zarrs_codec_chain.specs.PartialDecoder.{made};
+ghost use Rattle.zarrs_codec_chain.specs.PartialEncoder.{encoder_handle};
 
+use crate::chunk_coder::ChunkCoder;
 use crate::partial_decoder::array_partial_decoder::ArrayPartialDecoder;
-use crate::partial_decoder::chunk_reader::ChunkReader;
 use crate::partial_encoder::array_partial_encoder::ArrayPartialEncoder;
 use std::alloc::Global;
 use zarrs_chain_whole::CodecChain;
@@ -72,29 +65,20 @@ impl<B: BytesToBytesCodecTraits> CodecChainPartialTraits<B> for CodecChain<B> {
         data_type: &DataType,
         fill_value: &FillValue,
     ) -> Result<ArrayPartialDecoder<'a, H, B>, Refused<H>>
-        ensures answer { MakesDecoder B.functions B.reads_in_part (plain_chain self.now)
-            (form_with shape.now data_type.now fill_value.now) (H.state handle).value result }
-        ensures form { HasForm (λ decoder. form_of decoder) (plain_chain self.now)
-            (form_with shape.now data_type.now fill_value.now) result }
-        ensures cached { IfOk result
-            (λ made. is_cached made ≡ has_cache_place B.reads_in_part (plain_chain self.now)) }
-        ensures over_state { IfOk result (λ decoder. H.state (handle_of decoder) ≡ H.state handle) }
-        ensures over_reference { IfOk result
-            (λ decoder. H.lent (handle_of decoder) ≡ H.lent handle) }
-        ensures handed_left { IfErr result
-            (λ refused. H.state refused.handle ≡ after_reading (made result) (H.state handle)) }
+        ensures answer { DecoderMade self.now shape.now data_type.now fill_value.now handle result }
+        ensures form { DecoderHasForm self.now shape.now data_type.now fill_value.now result }
+        ensures cached { CachesAsPlaced B.reads_in_part self.now result }
+        ensures over_state { MadeOver H.state handle result }
+        ensures over_reference { MadeOver H.lent handle result }
+        ensures handed_left { HandsBackRead H.state handle result }
         ensures handed_reference { IfErr result (λ refused. H.lent refused.handle ≡ H.lent handle) }
-        ensures no_fault_if_uncached { cache_place
-            (codecs_read B.reads_in_part (plain_chain self.now)) ≡ None →
-            is_fault (made result) ≡ false }
-        ensures measured_first { RefusedFirst (chain_representation_of B.functions
-            (plain_chain self.now) shape.now data_type.now fill_value.now) (made result) }
-        ensures no_fault_if_in_part { asks_in_part (plain_chain self.now).outer
-            (plain_chain self.now).codec ≡ true → is_fault (made result) ≡ false }
+        ensures no_fault_if_uncached { SureWithoutCache B.reads_in_part self.now (made result) }
+        ensures measured_first { ChainFirst self.now shape.now data_type.now fill_value.now result }
+        ensures no_fault_if_in_part { SureInPart self.now (made result) }
     {
         let mut handle = handle;
-        match ChunkReader::new(alloc, self, &mut handle, shape, data_type, fill_value) {
-            Ok(reader) => Ok(ArrayPartialDecoder { handle, reader }),
+        match ChunkCoder::new(alloc, self, &mut handle, shape, data_type, fill_value) {
+            Ok(coder) => Ok(ArrayPartialDecoder { handle, coder }),
             Err(error) => Err(Refused { error, handle }),
         }
     }
@@ -109,15 +93,13 @@ impl<B: BytesToBytesCodecTraits> CodecChainPartialTraits<B> for CodecChain<B> {
         data_type: &DataType,
         fill_value: &FillValue,
     ) -> Result<ArrayPartialEncoder<'a, H, B>, Refused<H>>
-        ensures answer { MadeWhereChainTaken B.functions (plain_chain self.now)
-            (form_with shape.now data_type.now fill_value.now) (outcome result) }
-        ensures form { HasForm (λ encoder. encoder_form encoder) (plain_chain self.now)
-            (form_with shape.now data_type.now fill_value.now) result }
+        ensures answer { EncoderMade self.now shape.now data_type.now fill_value.now result }
+        ensures form { EncoderHasForm self.now shape.now data_type.now fill_value.now result }
         ensures over { IfOk result (λ encoder. encoder_handle encoder ≡ handle) }
         ensures handed_back { IfErr result (λ refused. refused.handle ≡ handle) }
     {
-        match ChunkReader::uncached(alloc, self, shape, data_type, fill_value) {
-            Ok(reader) => Ok(ArrayPartialEncoder { handle, reader }),
+        match ChunkCoder::uncached(alloc, self, shape, data_type, fill_value) {
+            Ok(coder) => Ok(ArrayPartialEncoder { handle, coder }),
             Err(error) => Err(Refused { error, handle }),
         }
     }

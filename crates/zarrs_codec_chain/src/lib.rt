@@ -7,6 +7,7 @@
 //! ([`VlenCodecPartialTraits`]).
 #![tactic(auto)]
 
+mod chunk_coder;
 mod codec_chain_partial;
 pub mod laws;
 mod partial_decoder;

@@ -58,8 +58,8 @@ pub record IsFixedType (width count : ℕ) : Type 0 where
   pub size : element_size width count < 2 ^ 64
 
 -- the type of elements of `count` components of `width` bits, or the first cause why there is none
-abbrev pub type_of_components : ℕ → ℕ → Bool → Result ElementType CodecError
-type_of_components width count sign = do
+abbrev pub components_type : ℕ → ℕ → Bool → Result ElementType CodecError
+components_type width count sign = do
   _ ← demand (nat_lt 0 width && nat_lt 0 count) BitRange
   _ ← demand (nat_lt (element_size width count) (2 ^ 64)) Overflow
   Ok (fixed width count sign)

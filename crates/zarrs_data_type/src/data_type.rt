@@ -2,7 +2,7 @@ ghost use Rattle.std.specs.Prelude.{◌≡◌, ◌<◌, false, true, IfSome, is_
 ghost use Rattle.std.specs.Option.{option_map};
 ghost use Rattle.std.specs.Cmp.{partial_equiv_from_equiv};
 ghost use Rattle.zarrs_chunk.specs.Answer.{Answers, memory};
-ghost use Rattle.zarrs_data_type.specs.ElementType.{fixed, text, bytes, optional, IsFixedType, fixed_size_of, components_of, type_of_components, inner_of, is_variable};
+ghost use Rattle.zarrs_data_type.specs.ElementType.{fixed, text, bytes, optional, IsFixedType, fixed_size_of, components_of, components_type, inner_of, is_variable};
 ghost use Rattle.zarrs_data_type.specs.SameType.{is_same_type};
 ghost use Rattle.zarrs_data_type.specs.FillValue.{fill_fits};
 ghost use Rattle.zarrs_data_type.specs.SameTypeLaws.{is_same_type-equivalence};
@@ -173,8 +173,7 @@ impl DataType {
         num_components: u64,
         sign_extension: bool,
     ) -> Result<DataType, CodecError>
-        ensures answer { result
-            ≡ type_of_components component_size_bits num_components sign_extension }
+        ensures made { result ≡ components_type component_size_bits num_components sign_extension }
     {
         if component_size_bits == 0 || num_components == 0 {
             return Err(CodecError::BitRange);

@@ -1,18 +1,24 @@
 -- The metadata of codecs: by which names they are known, what is made of a metadata, and what is written of a codec.
-use Rattle.std.specs.Prelude.{◌≡◌, ℕ, Bool, true, ◌||◌, List, Option, Some, None, Result, Ok, codes}
+use Rattle.std.specs.Prelude.{◌≡◌, ℕ, Bool, true, ◌||◌, List, Option, Some, None, Result, Ok, String, codes}
 use Rattle.std.specs.Str.{bytes_eq}
+use Rattle.std.specs.declared.alloc.Global.{Global}
+use Rattle.std.specs.declared.collections.BTreeMap.{BTreeMap}
+use Rattle.serde_json.specs.declared.value.Value.{Value}
 use Rattle.serde_json.specs.Data.{Members, no_members}
 use Rattle.zarrs_chunk.specs.Answer.{◌>>=◌, demand}
 use Rattle.zarrs_data_type.specs.declared.endianness.Endianness.{Endianness}
 use Rattle.zarrs_metadata.specs.BytesConfiguration.{read_bytes, write_bytes}
 use Rattle.zarrs_metadata.specs.Dims.{Dim, is_reshape}
 use Rattle.zarrs_metadata.specs.Metadata.{Metadata}
+use Rattle.zarrs_metadata.specs.MetadataV3.{configuration_seen, metadata_seen}
 use Rattle.zarrs_metadata.specs.Orders.{is_order}
 use Rattle.zarrs_metadata.specs.PackBitsConfiguration.{read_packbits, write_packbits, are_bits_in_order, with_padding_said}
+use Rattle.zarrs_metadata.specs.PluginCreateError.{Makes}
 use Rattle.zarrs_metadata.specs.ReshapeConfiguration.{read_reshape, write_reshape}
 use Rattle.zarrs_metadata.specs.SqueezeConfiguration.{read_squeeze, write_squeeze}
 use Rattle.zarrs_metadata.specs.TransposeConfiguration.{read_transpose, write_transpose}
 use Rattle.zarrs_metadata.specs.declared.configuration.packbits.PackBitsCodecConfigurationV1.{PackBitsCodecConfigurationV1}
+use Rattle.zarrs_metadata.specs.declared.metadata_v3.MetadataV3.{MetadataV3}
 use Rattle.zarrs_metadata.specs.declared.plugin_create_error.PluginCreateError.{PluginCreateError}
 use Rattle.zarrs_metadata.specs.declared.plugin_create_error.PluginCreateError.TheVariants.{UnknownName}
 
@@ -32,6 +38,11 @@ made_of is_name reading metadata = do
 -- what is written of a codec: its first name and its configuration; it has to be understood
 abbrev pub codec_metadata : List ℕ → Members → Metadata
 codec_metadata name configuration = record { name = name; configuration = Some configuration; must_understand = true }
+
+-- the made metadata is that of a codec of this name and configuration
+abbrev pub MakesCodecMetadata : List ℕ → BTreeMap (String Global) Value Global → Result MetadataV3 PluginCreateError → Type 0
+MakesCodecMetadata name configuration result =
+    Makes metadata_seen result (Ok (codec_metadata name (configuration_seen configuration)))
 
 -- ---- transpose
 

@@ -32,8 +32,8 @@ abbrev pub metadata_named : List ℕ → Metadata
 metadata_named name = record { name = name; configuration = None; must_understand = true }
 
 -- the same metadata, which has to be understood or need not be
-abbrev pub with_understanding : Bool → Metadata → Metadata
-with_understanding must_understand m = record { name = m.name; configuration = m.configuration; must_understand = must_understand }
+abbrev pub understood : Bool → Metadata → Metadata
+understood must_understand m = record { name = m.name; configuration = m.configuration; must_understand = must_understand }
 
 -- the metadata of a tree, which is the name alone or an object
 abbrev pub metadata_of : Data → Result Metadata PluginCreateError

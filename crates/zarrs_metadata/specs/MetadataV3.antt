@@ -27,6 +27,10 @@ read_by reading configuration = reading (configuration_seen configuration)
 abbrev pub Writes : Result (BTreeMap (String Global) Value Global) PluginCreateError → Members → Type 0
 Writes result members = Makes configuration_seen result (Ok members)
 
+-- the configuration that is made has the expected members, where one is expected
+abbrev pub MakesConfiguration : Result (Option (BTreeMap (String Global) Value Global)) PluginCreateError → Result (Option Members) PluginCreateError → Type 0
+MakesConfiguration result expected = Makes (option_map configuration_seen) result expected
+
 -- its name, its configuration's members, and whether it has to be understood
 abbrev pub metadata_seen : MetadataV3 → Metadata
 metadata_seen m = record { name = string_bytes m.name; configuration = option_map configuration_seen m.configuration; must_understand = m.must_understand }

@@ -2,9 +2,9 @@ ghost use Rattle.std.specs.Prelude.{◌≡◌, Ok, option_map};
 ghost use Rattle.serde_json.specs.Find.{as_bool, as_object};
 ghost use Rattle.serde_json.specs.View.{view};
 ghost use Rattle.zarrs_chunk.specs.Answer.{seen};
-ghost use Rattle.zarrs_metadata.specs.CodecMetadata.{codec_metadata};
-ghost use Rattle.zarrs_metadata.specs.Metadata.{metadata_in, metadata_named, metadata_of, read_metadata, with_understanding, write_metadata, metadata_members, unless_false};
-ghost use Rattle.zarrs_metadata.specs.MetadataV3.{metadata_seen, configuration_seen, lent_members, Writes};
+ghost use Rattle.zarrs_metadata.specs.CodecMetadata.{MakesCodecMetadata};
+ghost use Rattle.zarrs_metadata.specs.Metadata.{metadata_in, metadata_named, metadata_of, read_metadata, understood, write_metadata, metadata_members, unless_false};
+ghost use Rattle.zarrs_metadata.specs.MetadataV3.{metadata_seen, configuration_seen, lent_members, Writes, MakesConfiguration};
 ghost use Rattle.zarrs_metadata.specs.PluginCreateError.{Makes};
 ghost use Rattle.zarrs_metadata.specs.Trees.{lent_tree, needed_text, optional_key};
 
@@ -60,8 +60,7 @@ fn copied_where_there(
     configuration: Option<&Configuration>,
     alloc: Global,
 ) -> Result<Option<Configuration>, PluginCreateError>
-    ensures copy { Makes (option_map configuration_seen) result
-        (Ok (lent_members configuration.entry)) }
+    ensures copy { MakesConfiguration result (Ok (lent_members configuration.entry)) }
 {
     match configuration {
         None => Ok(None),
@@ -102,8 +101,7 @@ impl MetadataV3 {
         name: &str,
         configuration: Configuration,
     ) -> Result<MetadataV3, PluginCreateError>
-        ensures made { Makes metadata_seen result
-            (Ok (codec_metadata name.now (configuration_seen configuration))) }
+        ensures made { MakesCodecMetadata name.now configuration result }
     {
         Ok(MetadataV3 {
             name: String::from_str(alloc, name)?,
@@ -114,8 +112,7 @@ impl MetadataV3 {
 
     /// The same, which has to be understood or need not be.
     pub fn with_must_understand(mut self, must_understand: bool) -> MetadataV3
-        ensures made { metadata_seen result
-            ≡ with_understanding must_understand (metadata_seen self) }
+        ensures made { metadata_seen result ≡ understood must_understand (metadata_seen self) }
     {
         self.must_understand = must_understand;
         self

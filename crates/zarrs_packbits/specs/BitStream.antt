@@ -33,6 +33,10 @@ components_from l at parts bits =
 abbrev pub components_in : PackedLayout → ℕ → ℕ → List ℕ → List ℕ
 components_in l at parts bytes = components_from l at parts (bits_of bytes)
 
+-- the component that is made of the kept bits that stand in these bytes from bit `at` on
+abbrev pub component_in : PackedLayout → ℕ → List ℕ → List ℕ
+component_in l at bytes = full_component l.first l.above l.sign (field at l.count (bits_of bytes))
+
 -- the value of a chunk whose elements' bytes, joined, are these
 abbrev pub bytes_packed : PackedLayout → List ℕ → List ℕ
 bytes_packed l bytes = value_with l (stream_of_bytes l bytes)

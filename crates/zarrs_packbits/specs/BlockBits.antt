@@ -27,7 +27,15 @@ stream_before l parts bytes =
 abbrev pub blocks_len : List ℕ → ℕ
 blocks_len bytes = 64 * (length bytes / 64)
 
+-- the kept bits of the components of one byte that stand in whole blocks
+abbrev pub stream_of_blocks : PackedLayout → List ℕ → List ℕ
+stream_of_blocks l bytes = stream_before l (blocks_len bytes) bytes
+
 -- so many bits, from bit `first` on, of each of the first bytes
 abbrev pub byte_fields : ℕ → ℕ → ℕ → List ℕ → List ℕ
 byte_fields first count parts bytes =
     flat_map (λ part. field first count (component_bits 1 bytes part)) (range_with_len 0 parts)
+
+-- the same of each byte in a whole block
+abbrev pub block_fields : ℕ → ℕ → List ℕ → List ℕ
+block_fields first count bytes = byte_fields first count (blocks_len bytes) bytes

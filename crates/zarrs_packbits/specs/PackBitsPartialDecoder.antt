@@ -12,9 +12,10 @@ use Rattle.zarrs_codec.specs.ByteSpan.{ByteSpan}
 use Rattle.zarrs_codec.specs.StorageState.{StorageState}
 use Rattle.zarrs_codec.specs.declared.refused.Refused.{Refused}
 use Rattle.zarrs_data_type.specs.Form.{Form, form_of}
-use Rattle.zarrs_packbits.specs.PackBitsSettings.{PackBitsSettings}
+use Rattle.zarrs_packbits.specs.PackBitsSettings.{PackBitsSettings, packed_layout}
 use Rattle.zarrs_packbits.specs.PartialRead.{packbits_places, packbits_read}
-use Rattle.zarrs_packbits.specs.ReadPlan.{IsPlan}
+use Rattle.zarrs_packbits.specs.ReadPlan.{IsPlan, IsPlanOf}
+use Rattle.zarrs_bytes.specs.MadeCoders.{GivesCoder}
 use Rattle.zarrs_codec.specs.CodersOverHandles.{ReadsPart, OnlyReads}
 use Rattle.zarrs_packbits.specs.PackBitsGrammar.{packbits_grammar, packbits_reads_part}
 use Rattle.zarrs_packbits.specs.declared.packbits_partial_decoder.PackBitsPartialDecoder.{PackBitsPartialDecoder}
@@ -46,6 +47,15 @@ decoder_state state decoder = state (packbits_handle_of decoder)
 -- the value that a decoder's handle keeps, or none
 abbrev pub stored_in : {H : Type 0} → (H → StorageState) → PackBitsPartialDecoder H → Option (List ℕ)
 stored_in state decoder = (decoder_state state decoder).value
+
+-- a decoder is made where the codec takes chunks of these sizes, this type and this fill value, or the first cause why it doesn't is answered; only a want of memory may come in its place
+abbrev pub MakesDecoder : {T H : Type 0} → PackBitsSettings → List ℕ → ElementType → List ℕ → Result T (Refused H) → Type 0
+MakesDecoder settings sizes type fill result = GivesCoder result (packed_layout settings (form_of sizes type fill))
+
+-- the ranges that are answered are a plan of a read of the places of these runs, or the first cause why the codec doesn't take such chunks is
+abbrev pub PlansRuns : PackBitsSettings → List ℕ → ElementType → List ℕ → List (ℕ × ℕ) → Result (Vec ByteSpan Global) CodecError → Type 0
+PlansRuns settings sizes type fill runs result =
+    GivesBy (IsPlanOf runs) result (packed_layout settings (form_of sizes type fill))
 
 -- a decoder that is made has these settings, and is one of chunks of this form
 abbrev pub HasForm : {H : Type 0} → PackBitsSettings → Form → Result (PackBitsPartialDecoder H) (Refused H) → Type 0

@@ -11,7 +11,8 @@ use Rattle.zarrs_metadata.specs.declared.codec.packbits.PackBitsPaddingEncoding.
 use Rattle.zarrs_metadata.specs.declared.codec.packbits.PackBitsPaddingEncoding.TheVariants as padding
 use Rattle.zarrs_metadata.specs.declared.plugin_create_error.PluginCreateError.{PluginCreateError}
 use Rattle.zarrs_metadata.specs.declared.plugin_create_error.PluginCreateError.TheVariants.{BitOrder}
-use Rattle.zarrs_data_type.specs.Form.{Form}
+use Rattle.zarrs_data_type.specs.Form.{Form, form_of}
+use Rattle.zarrs_codec.specs.ChunkCodec.{RepresentsBy}
 use Rattle.zarrs_codec.specs.declared.bytes_representation.BytesRepresentation.{BytesRepresentation}
 use Rattle.zarrs_codec.specs.declared.bytes_representation.BytesRepresentation.TheVariants.{FixedSize}
 use Rattle.zarrs_packbits.specs.declared.layout.PackedLayout.{PackedLayout}
@@ -100,6 +101,19 @@ packbits_length settings form = seen value_len (packed_layout settings form)
 -- the representation of the value of such a chunk, or the first cause why the codec doesn't take such chunks
 abbrev pub packbits_represented : PackBitsSettings → Form → Result BytesRepresentation CodecError
 packbits_represented settings form = seen FixedSize (packbits_length settings form)
+
+-- that representation is answered of chunks of these sizes, this type and this fill value, or the first cause why not
+abbrev pub Represents : PackBitsSettings → List ℕ → ElementType → List ℕ → Result BytesRepresentation CodecError → Type 0
+Represents settings sizes type fill result =
+    RepresentsBy (packbits_represented settings) (form_of sizes type fill) result
+
+-- the same, and no want of memory comes in its place
+abbrev pub RepresentsNow : PackBitsSettings → List ℕ → ElementType → List ℕ → Result BytesRepresentation CodecError → Type 0
+RepresentsNow settings sizes type fill result = result ≡ packbits_represented settings (form_of sizes type fill)
+
+-- how chunks of these sizes, this type and this fill value are packed is answered, or the first cause why the codec doesn't take them
+abbrev pub LaysOut : PackBitsSettings → List ℕ → ElementType → List ℕ → Result PackedLayout CodecError → Type 0
+LaysOut settings sizes type fill result = result ≡ packed_layout settings (form_of sizes type fill)
 
 -- the codec takes such chunks
 abbrev pub PackBitsTakes : PackBitsSettings → Form → Type 0

@@ -1,7 +1,8 @@
 -- What a read in part answers, by the bits of the places that are asked for alone.
-use Rattle.std.specs.Prelude.{ℕ, ◌+◌, ◌-◌, ◌*◌, ◌/◌, Bool, nat_lt, Option, Some, None, List, length, map, Result, Ok, Err, IfOk, if◌then◌else◌}
+use Rattle.std.specs.Prelude.{◌≡◌, ℕ, ◌+◌, ◌-◌, ◌*◌, ◌/◌, Bool, nat_lt, Option, Some, None, List, length, map, Result, Ok, Err, IfOk, Vec, if◌then◌else◌}
+use Rattle.std.proofs.Common.{Global}
 use Rattle.std.specs.List.{flat_map, list_all, range_with_len}
-use Rattle.zarrs_chunk.specs.Answer.{◌>>=◌, AnswersBy, demand, memory_or_fault}
+use Rattle.zarrs_chunk.specs.Answer.{◌>>=◌, AnswersBy, AnswersItems, demand, memory_or_fault}
 use Rattle.zarrs_chunk.specs.Runs.{joined_runs}
 use Rattle.zarrs_chunk.specs.Selection.{Selection, places_of}
 use Rattle.zarrs_chunk.specs.declared.codec_error.CodecError.{CodecError}
@@ -49,6 +50,15 @@ abbrev pub read_packed_bytes : PackedLayout → Option (List ℕ) → List ℕ �
 read_packed_bytes l None fill places = Ok (flat_map (λ _. fill) places)
 read_packed_bytes l (Some value) fill places =
     if all_below (length value) (packed_places_bytes l places) then Ok (packing (flat_map (element_bits l value) places)) else Err InvalidByteRange
+
+-- those bytes are answered of what is seen of a handle, for the places of these runs; only a want of memory or a failure of the handle may come in their place
+abbrev pub ReadsPacked : PackedLayout → StorageState → List ℕ → List (ℕ × ℕ) → Result (Vec ℕ Global) CodecError → Type 0
+ReadsPacked l before fill runs result =
+    AnswersItems memory_or_fault result (read_packed_bytes l before.value fill (joined_runs runs))
+
+-- the fill element for each place of these runs is answered
+abbrev pub FillsRuns : {E : Type 0} → List ℕ → List (ℕ × ℕ) → Result (Vec ℕ Global) E → Type 0
+FillsRuns fill runs result = IfOk result (λ bytes. bytes.items ≡ flat_map (λ _. fill) (joined_runs runs))
 
 -- the elements at these places: those of the stored value, where it has all their bytes; the fill element at each, where nothing is stored
 abbrev pub read_packed_places : PackedLayout → ElementType → List ℕ → Option (List ℕ) → List ℕ → Result Chunk CodecError

@@ -1,12 +1,14 @@
 -- Bits that are written one after another.
-use Rattle.std.specs.Prelude.{◌≡◌, ℕ, ◌<◌, ◌≤◌, ◌+◌, ◌*◌, ◌^◌, List, ◌++◌, length, Result, IfOk, Vec}
+use Rattle.std.specs.Prelude.{◌≡◌, ℕ, ◌<◌, ◌≤◌, ◌+◌, ◌*◌, ◌^◌, Bool, List, ◌++◌, length, replicate, Result, IfOk, Vec}
 use Rattle.std.proofs.Common.{Global}
 use Rattle.std.specs.List.{flat_map, range_with_len}
 use Rattle.zarrs_packbits.specs.Bits.{low_bits, bits_of, field}
 use Rattle.zarrs_packbits.specs.BitStream.{components_in}
 use Rattle.zarrs_packbits.specs.BlockBits.{stream_before}
-use Rattle.zarrs_packbits.specs.KeptBits.{component_bits}
+use Rattle.zarrs_packbits.specs.KeptBits.{component_bits, full_component}
 use Rattle.zarrs_packbits.specs.declared.layout.PackedLayout.{PackedLayout}
+use Rattle.zarrs_packbits.specs.PackedLayout.{parts_of}
+use Rattle.zarrs_packbits.specs.Packing.{spare_bits}
 
 -- the bits of whole bytes, and then those of a word that is partly filled
 abbrev pub written_bits : List ℕ → ℕ → ℕ → List ℕ
@@ -28,35 +30,60 @@ pub record IsPartlyFilled (word filled : ℕ) : Type 0 where
 abbrev pub LeavesBits : {E : Type 0} → List ℕ → Result (ℕ × ℕ) E → List ℕ → Type 0
 LeavesBits bytes result expected = IfOk result (λ left. written_bits bytes left.0 left.1 ≡ expected)
 
--- the bits that stand then in these bytes, and in the word that is answered, are those before, and these behind them
-abbrev pub LeavesMore : {E : Type 0} → List ℕ → Result (ℕ × ℕ) E → List ℕ → List ℕ → Type 0
-LeavesMore bytes result before more = LeavesBits bytes result (before ++ more)
+-- the bits that stand then in the new bytes, and in the word that is answered, are those that stood in the old ones and in the word that was given, and these behind them
+abbrev pub LeavesMore : {E : Type 0} → Vec ℕ Global → ℕ → ℕ → Vec ℕ Global → Result (ℕ × ℕ) E → List ℕ → Type 0
+LeavesMore old word filled new result more =
+    LeavesBits new.items result (written_bits old.items word filled ++ more)
 
--- the bits that stand then in these bytes, and in the word that is answered, are those before, and behind them the kept bits of the first components of a chunk whose elements' bytes are joined, of as many as is answered
-abbrev pub LeavesFirst : {E : Type 0} → List ℕ → Result (ℕ × ℕ × ℕ) E → List ℕ → PackedLayout → List ℕ → Type 0
-LeavesFirst bytes result before l elements =
-    IfOk result (λ left. written_bits bytes left.0 left.1 ≡ before ++ stream_before l left.2 elements)
+-- the same, where so many components stand behind them, made of the kept bits that stand in other bytes from bit `at` on
+abbrev pub LeavesParts : {E : Type 0} → Vec ℕ Global → ℕ → ℕ → PackedLayout → ℕ → ℕ → List ℕ → Vec ℕ Global → Result (ℕ × ℕ) E → Type 0
+LeavesParts old word filled l at parts kept new result =
+    LeavesMore old word filled new result (components_in l at parts kept)
 
--- Where the kept bits of the first components up to one of them stood behind others, those up to another one stand there then, in these bytes and in the word that is answered.
-abbrev pub LeavesUpTo : {E : Type 0} → List ℕ → Result (ℕ × ℕ) E → List ℕ → PackedLayout → List ℕ → ℕ → ℕ → Type 0
-LeavesUpTo bytes result before l elements begin end =
-    IfOk result (λ left. (front : List ℕ) → before ≡ front ++ stream_before l begin elements → written_bits bytes left.0 left.1 ≡ front ++ stream_before l end elements)
+-- the same of so many words of components, each of so many lanes
+abbrev pub LeavesWords : {E : Type 0} → Vec ℕ Global → ℕ → ℕ → PackedLayout → ℕ → ℕ → ℕ → List ℕ → Vec ℕ Global → Result (ℕ × ℕ) E → Type 0
+LeavesWords old word filled l at words lanes kept new result =
+    LeavesParts old word filled l at (words * lanes) kept new result
+
+-- the same, where behind them stand the kept bits of the first components of a chunk whose elements' bytes are joined, of as many as is answered
+abbrev pub LeavesFirst : {E : Type 0} → Vec ℕ Global → ℕ → ℕ → PackedLayout → List ℕ → Vec ℕ Global → Result (ℕ × ℕ × ℕ) E → Type 0
+LeavesFirst old word filled l elements new result =
+    IfOk result (λ left. written_bits new.items left.0 left.1 ≡ written_bits old.items word filled ++ stream_before l left.2 elements)
+
+-- Where the kept bits of the first components up to one of them stood behind others, those up to another one stand there then, in the new bytes and in the word that is answered.
+abbrev pub LeavesUpTo : {E : Type 0} → Vec ℕ Global → ℕ → ℕ → PackedLayout → List ℕ → ℕ → ℕ → Vec ℕ Global → Result (ℕ × ℕ) E → Type 0
+LeavesUpTo old word filled l elements begin end new result =
+    IfOk result (λ left. (front : List ℕ) → written_bits old.items word filled ≡ front ++ stream_before l begin elements → written_bits new.items left.0 left.1 ≡ front ++ stream_before l end elements)
+
+-- the same up to the chunk's last component
+abbrev pub LeavesRest : {E : Type 0} → Vec ℕ Global → ℕ → ℕ → PackedLayout → List ℕ → ℕ → Vec ℕ Global → Result (ℕ × ℕ) E → Type 0
+LeavesRest old word filled l elements begin new result =
+    LeavesUpTo old word filled l elements begin (parts_of l) new result
 
 -- the bits of the bytes that are answered are the expected ones
 abbrev pub GivesBits : {E : Type 0} → Result (Vec ℕ Global) E → List ℕ → Type 0
 GivesBits result expected = IfOk result (λ bytes. bits_of bytes.items ≡ expected)
 
+-- they are those that stood in these bytes and in the word, and zeros in what is left of the last byte
+abbrev pub Flushes : {E : Type 0} → Vec ℕ Global → ℕ → ℕ → Result (Vec ℕ Global) E → Type 0
+Flushes out word filled result =
+    GivesBits result (written_bits out.items word filled ++ replicate (spare_bits filled) 0)
+
 -- what was there before has these bits behind it
 abbrev pub Puts : {T E : Type 0} → List ℕ → List ℕ → Result T E → List ℕ → Type 0
 Puts before after result more = IfOk result (λ _. after ≡ before ++ more)
 
--- the bits of the bytes are those of the bytes before, and these behind them
-abbrev pub AppendsBits : {T E : Type 0} → List ℕ → List ℕ → Result T E → List ℕ → Type 0
-AppendsBits before after result more = Puts (bits_of before) (bits_of after) result more
+-- so many components are behind it, made of the kept bits that stand in these bytes from bit `at` on
+abbrev pub PutsComponents : {T E : Type 0} → PackedLayout → ℕ → ℕ → List ℕ → List ℕ → List ℕ → Result T E → Type 0
+PutsComponents l at parts kept before after result = Puts before after result (components_in l at parts kept)
+
+-- the bits of the new bytes are those of the old ones, and these behind them
+abbrev pub AppendsBits : {T E : Type 0} → Vec ℕ Global → Vec ℕ Global → Result T E → List ℕ → Type 0
+AppendsBits old new result more = Puts (bits_of old.items) (bits_of new.items) result more
 
 -- so many components are appended to the bytes, made of the kept bits that stand in other bytes from the first one on
-abbrev pub AppendsComponents : {T E : Type 0} → PackedLayout → ℕ → List ℕ → List ℕ → List ℕ → Result T E → Type 0
-AppendsComponents l parts kept before after result = AppendsBits before after result (components_in l 0 parts kept)
+abbrev pub AppendsComponents : {T E : Type 0} → PackedLayout → ℕ → List ℕ → Vec ℕ Global → Vec ℕ Global → Result T E → Type 0
+AppendsComponents l parts kept old new result = AppendsBits old new result (components_in l 0 parts kept)
 
 -- ---- bits in words
 
@@ -64,3 +91,8 @@ AppendsComponents l parts kept before after result = AppendsBits before after re
 abbrev pub IsWordFrom : List ℕ → ℕ → ℕ → Type 0
 IsWordFrom bytes start word =
     (n : ℕ) → n ≤ 64 → 8 * start + n ≤ 8 * length bytes → low_bits n word ≡ field (8 * start) n (bits_of bytes)
+
+-- the lowest bits of a word, as many as a component has, are the component with these kept bits
+abbrev pub IsComponent : ℕ → ℕ → ℕ → Bool → ℕ → ℕ → Type 0
+IsComponent first count above sign kept word =
+    low_bits (first + count + above) word ≡ full_component first above sign (low_bits count kept)

@@ -7,16 +7,12 @@ use zarrs_codec::{ArrayToBytesCodecTraits, BytesRepresentation};
 use zarrs_data_type::{DataType, FillValue};
 
 impl ArrayToBytesCodecTraits for PackBitsCodec {
-    ghost use Rattle.std.specs.Prelude.{◌≡◌, Ok, IfOk};
+    ghost use Rattle.std.specs.Prelude.{IfOk};
     ghost use Rattle.zarrs_chunk.specs.Answer.{seen};
-    ghost use Rattle.zarrs_data_type.specs.Form.{form_of};
     ghost use Rattle.zarrs_array_bytes.specs.Blank.{AbsentAreBlank};
-    ghost use Rattle.zarrs_array_bytes.specs.Held.{items_of};
-    ghost use Rattle.zarrs_codec.specs.ChunkCodec.{RepresentsBy, EncodesBy, DecodesBy, GivesValid};
-    ghost use Rattle.zarrs_codec.specs.CodecMembers.{DecodesAgain};
-    ghost use Rattle.zarrs_bytes.specs.GivenBytes.{IsGiven, HoldsGiven};
-    ghost use Rattle.zarrs_packbits.specs.PackBitsCodec.{packbits_value, packbits_chunk, EncodesInPlace, DecodesInPlace};
-    ghost use Rattle.zarrs_packbits.specs.PackBitsSettings.{packbits_length, packbits_represented, KeepsAllBytes};
+    ghost use Rattle.zarrs_codec.specs.ChunkCodec.{GivesValid};
+    ghost use Rattle.zarrs_packbits.specs.PackBitsCodec.{packbits_value, packbits_chunk, Keeps, KeepsIn, Packs, PacksNow, Unpacks, UnpacksAgain, UnpacksNow};
+    ghost use Rattle.zarrs_packbits.specs.PackBitsSettings.{packbits_length, packbits_represented, Represents, RepresentsNow};
 
     ghost represented = { λ settings form. packbits_represented settings form };
 
@@ -37,10 +33,8 @@ impl ArrayToBytesCodecTraits for PackBitsCodec {
         data_type: &DataType,
         fill_value: &FillValue,
     ) -> Result<BytesRepresentation, CodecError>
-        ensures answer { RepresentsBy (packbits_represented self.now)
-            (form_of shape.now data_type.now fill_value.now) result }
-        ensures in_place { result
-            ≡ packbits_represented self.now (form_of shape.now data_type.now fill_value.now) }
+        ensures answer { Represents self.now shape.now data_type.now fill_value.now result }
+        ensures in_place { RepresentsNow self.now shape.now data_type.now fill_value.now result }
     {
         let layout = self.layout(shape, data_type, fill_value)?;
         Ok(BytesRepresentation::FixedSize(layout.value_len()))
@@ -49,21 +43,17 @@ impl ArrayToBytesCodecTraits for PackBitsCodec {
     fn encode<'a>(
         &self,
         alloc: Global,
-        elements: ArrayBytes<'a>,
+        given: ArrayBytes<'a>,
         shape: &ChunkShape,
         data_type: &DataType,
-        fill_value: &FillValue,
+        fill: &FillValue,
     ) -> Result<ArrayBytesRaw<'a>, CodecError>
-        ensures answer { EncodesBy (packbits_value self.now)
-            (form_of shape.now data_type.now fill_value.now) elements.entry result }
-        ensures in_place { EncodesInPlace self.now
-            (form_of shape.now data_type.now fill_value.now) elements.entry result }
-        ensures kept { KeepsAllBytes self.now (form_of shape.now data_type.now fill_value.now)
-            → IsGiven elements.entry result }
-        ensures decoded_again { DecodesAgain (packbits_chunk self.now)
-            (form_of shape.now data_type.now fill_value.now) result }
+        ensures answer { Packs self.now shape.now data_type.now fill.now given.entry result }
+        ensures in_place { PacksNow self.now shape.now data_type.now fill.now given.entry result }
+        ensures kept { Keeps self.now shape.now data_type.now fill.now given.entry result }
+        ensures decoded_again { UnpacksAgain self.now shape.now data_type.now fill.now result }
     {
-        PackBitsCodec::encode(self, alloc, elements, shape, data_type, fill_value)
+        PackBitsCodec::encode(self, alloc, given, shape, data_type, fill)
     }
 
     #[tactic(auto, using(crate::proofs::Counted::found_valid, crate::proofs::Counted::found_blank))]
@@ -73,18 +63,15 @@ impl ArrayToBytesCodecTraits for PackBitsCodec {
         value: ArrayBytesRaw<'a>,
         shape: &ChunkShape,
         data_type: &DataType,
-        fill_value: &FillValue,
+        fill: &FillValue,
     ) -> Result<ArrayBytes<'a>, CodecError>
-        ensures answer { DecodesBy (packbits_chunk self.now)
-            (form_of shape.now data_type.now fill_value.now) (items_of value.entry) result }
+        ensures answer { Unpacks self.now shape.now data_type.now fill.now value.entry result }
         ensures valid { GivesValid data_type.now shape.now result }
-        ensures in_place { DecodesInPlace self.now
-            (form_of shape.now data_type.now fill_value.now) value.entry result }
-        ensures kept { KeepsAllBytes self.now (form_of shape.now data_type.now fill_value.now)
-            → HoldsGiven value.entry result }
+        ensures in_place { UnpacksNow self.now shape.now data_type.now fill.now value.entry result }
+        ensures kept { KeepsIn self.now shape.now data_type.now fill.now value.entry result }
         ensures blank { IfOk result (AbsentAreBlank data_type.now) }
     {
-        PackBitsCodec::decode(self, alloc, value, shape, data_type, fill_value)
+        PackBitsCodec::decode(self, alloc, value, shape, data_type, fill)
     }
 
     fn compact<'a>(

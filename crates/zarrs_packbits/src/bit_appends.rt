@@ -1,11 +1,9 @@
 //! The bits of components appended to bytes and to a last word that is partly filled.
-ghost use Rattle.std.specs.Prelude.{◌≡◌, ℕ, ◌+◌, ◌*◌, ◌/◌, ◌%◌, ◌^◌, ◌<◌, ◌≤◌, ◌++◌, length, replicate, IfOk, slice_index};
+ghost use Rattle.std.specs.Prelude.{◌≡◌, ℕ, ◌+◌, ◌*◌, ◌%◌, ◌^◌, ◌<◌, ◌≤◌, length, replicate, IfOk, slice_index};
 ghost use Rattle.zarrs_packbits.specs.Bits.{low_bits, bit_of};
-ghost use Rattle.zarrs_packbits.specs.BitStream.{components_in};
-ghost use Rattle.zarrs_packbits.specs.BlockBits.{blocks_len, stream_before};
+ghost use Rattle.zarrs_packbits.specs.BlockBits.{stream_of_blocks};
 ghost use Rattle.zarrs_packbits.specs.PackedLayout.{IsOneTwoOrFour, IsPackedLayout, ReachWords, parts_of};
-ghost use Rattle.zarrs_packbits.specs.Packing.{spare_bits};
-ghost use Rattle.zarrs_packbits.specs.WrittenBits.{written_bits, AppendsBits, AppendsComponents, GivesBits, IsPartlyFilled, LeavesBits, LeavesFirst, LeavesMore, LeavesUpTo};
+ghost use Rattle.zarrs_packbits.specs.WrittenBits.{written_bits, AppendsBits, AppendsComponents, IsPartlyFilled, LeavesBits, LeavesFirst, LeavesUpTo, Flushes, LeavesParts, LeavesRest};
 
 use crate::blocks::{
     append_bits_spread, append_halves_joined, append_halves_spread, append_quarters_joined,
@@ -30,8 +28,7 @@ pub(crate) fn repeated(bit: bool, count: u64) -> u64
 pub(crate) fn flushed(mut out: Vec<u8>, word: u64, filled: u32) -> Result<Vec<u8>, AllocError>
     requires room { filled < 64 }
     requires word { word < 2 ^ filled }
-    ensures bits { GivesBits result
-        (written_bits out.items word filled ++ replicate (spare_bits filled) 0) }
+    ensures bits { Flushes out word filled result }
 {
     let used = (filled as usize + 7) / 8;
     out.extend_from_slice(&word.to_le_bytes()[..used])?;
@@ -63,8 +60,7 @@ fn append_components(
     requires fits { layout.now.first + layout.now.count + layout.now.above ≤ 64 }
     requires inside { at + parts * layout.now.count ≤ 8 * length bytes.now }
     requires at { at + parts * layout.now.count < 2 ^ 64 }
-    ensures bits { LeavesMore out.new.items result (written_bits out.old.items word filled)
-        (components_in layout.now at parts bytes.now) }
+    ensures bits { LeavesParts out.old word filled layout.now at parts bytes.now out.new result }
     ensures begun { IfOk result (λ left. IsPartlyFilled left.0 left.1) }
 {
     let PackedLayout {
@@ -106,8 +102,7 @@ fn append_by_lanes(
     requires lanes { lanes * width ≡ 64 }
     requires inside { at + parts * layout.now.count ≤ 8 * length bytes.now }
     requires at { at + parts * layout.now.count < 2 ^ 64 }
-    ensures bits { LeavesMore out.new.items result (written_bits out.old.items word filled)
-        (components_in layout.now at parts bytes.now) }
+    ensures bits { LeavesParts out.old word filled layout.now at parts bytes.now out.new result }
     ensures begun { IfOk result (λ left. IsPartlyFilled left.0 left.1) }
 {
     let groups = parts / lanes;
@@ -136,8 +131,7 @@ pub(crate) fn append_narrow(
     requires fits { layout.now.first + layout.now.count + layout.now.above ≤ 64 }
     requires inside { at + parts * layout.now.count ≤ 8 * length bytes.now }
     requires at { at + parts * layout.now.count < 2 ^ 64 }
-    ensures bits { LeavesMore out.new.items result (written_bits out.old.items word filled)
-        (components_in layout.now at parts bytes.now) }
+    ensures bits { LeavesParts out.old word filled layout.now at parts bytes.now out.new result }
     ensures begun { IfOk result (λ left. IsPartlyFilled left.0 left.1) }
 {
     match layout.first + layout.count + layout.above {
@@ -163,8 +157,7 @@ pub(crate) fn append_kept(
     requires count { layout.now.count ≤ 64 }
     requires len { length bytes.now ≡ parts_of layout.now * layout.now.size }
     requires begin { begin ≤ parts_of layout.now }
-    ensures bits { LeavesUpTo out.new.items result (written_bits out.old.items word filled)
-        layout.now bytes.now begin (parts_of layout.now) }
+    ensures bits { LeavesRest out.old word filled layout.now bytes.now begin out.new result }
     ensures begun { IfOk result (λ left. IsPartlyFilled left.0 left.1) }
 {
     let PackedLayout {
@@ -222,8 +215,7 @@ pub(crate) fn append_by_words(
     requires end { end ≤ parts_of layout.now }
     requires reach { begin < end → ReachWords layout.now end (length bytes.now) }
     requires fits { begin < end → layout.now.first % 8 + layout.now.count ≤ 64 }
-    ensures bits { LeavesUpTo out.new.items result (written_bits out.old.items word filled)
-        layout.now bytes.now begin end }
+    ensures bits { LeavesUpTo out.old word filled layout.now bytes.now begin end out.new result }
     ensures begun { IfOk result (λ left. IsPartlyFilled left.0 left.1) }
 {
     let PackedLayout {
@@ -264,8 +256,7 @@ fn append_joined(out: &mut Vec<u8>, layout: &PackedLayout, bytes: &[u8]) -> Resu
     requires size { layout.now.size ≡ 1 }
     requires within { layout.now.first + layout.now.count ≤ 8 }
     requires count { (layout.now.count ≡ 4 → ⊥) → layout.now.count ≡ 2 }
-    ensures appended { AppendsBits out.old.items out.new.items result
-        (stream_before layout.now (blocks_len bytes.now) bytes.now) }
+    ensures appended { AppendsBits out.old out.new result (stream_of_blocks layout.now bytes.now) }
 {
     if layout.count == 4 {
         append_halves_joined(out, bytes, layout.first)
@@ -286,8 +277,7 @@ fn append_words(
     requires begun { IsPartlyFilled word filled }
     requires layout { IsPackedLayout layout.now }
     requires len { length bytes.now ≡ parts_of layout.now * layout.now.size }
-    ensures bits { LeavesFirst out.new.items result (written_bits out.old.items word filled)
-        layout.now bytes.now }
+    ensures bits { LeavesFirst out.old word filled layout.now bytes.now out.new result }
     ensures begun { IfOk result (λ left. IsPartlyFilled left.0 left.1) }
     ensures within { IfOk result (λ left. left.2 ≤ parts_of layout.now) }
 {
@@ -311,8 +301,7 @@ pub(crate) fn append_first(
     requires begun { IsPartlyFilled word filled }
     requires layout { IsPackedLayout layout.now }
     requires len { length bytes.now ≡ parts_of layout.now * layout.now.size }
-    ensures bits { LeavesFirst out.new.items result (written_bits out.old.items word filled)
-        layout.now bytes.now }
+    ensures bits { LeavesFirst out.old word filled layout.now bytes.now out.new result }
     ensures begun { IfOk result (λ left. IsPartlyFilled left.0 left.1) }
     ensures within { IfOk result (λ left. left.2 ≤ parts_of layout.now) }
 {
@@ -338,8 +327,7 @@ fn append_spread(
     requires size { layout.now.first + layout.now.count + layout.now.above ≡ 8 }
     requires count { IsOneTwoOrFour layout.now.count }
     requires inside { parts * layout.now.count ≤ 8 * length bytes.now }
-    ensures appended { AppendsComponents layout.now parts bytes.now out.old.items
-        out.new.items result }
+    ensures appended { AppendsComponents layout.now parts bytes.now out.old out.new result }
 {
     if layout.count == 1 {
         append_bits_spread(out, layout, bytes, parts)
@@ -367,8 +355,7 @@ pub(crate) fn append_bytes(
     requires count { IsOneTwoOrFour layout.now.count }
     requires inside { at + parts * layout.now.count ≤ 8 * length bytes.now }
     requires at { at + parts * layout.now.count < 2 ^ 64 }
-    ensures bits { LeavesMore out.new.items result (written_bits out.old.items word filled)
-        (components_in layout.now at parts bytes.now) }
+    ensures bits { LeavesParts out.old word filled layout.now at parts bytes.now out.new result }
     ensures begun { IfOk result (λ left. IsPartlyFilled left.0 left.1) }
 {
     let head = ((8 - at % 8) % 8 / layout.count).min(parts);

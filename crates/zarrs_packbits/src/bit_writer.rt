@@ -1,11 +1,10 @@
 //! Bits that are put one behind another.
 ghost use Rattle.std.specs.Prelude.{◌≡◌, ℕ, ◌+◌, ◌*◌, ◌^◌, ◌<◌, ◌≤◌, List, [], length, replicate, IfOk};
 ghost use Rattle.zarrs_packbits.specs.Bits.{low_bits, bits_of, field, bit_of};
-ghost use Rattle.zarrs_packbits.specs.BitStream.{stream_of_bytes, components_in};
-ghost use Rattle.zarrs_packbits.specs.KeptBits.{full_component};
+ghost use Rattle.zarrs_packbits.specs.BitStream.{stream_of_bytes, component_in};
 ghost use Rattle.zarrs_packbits.specs.PackedLayout.{IsOneTwoOrFour, IsPackedLayout, parts_of};
 ghost use Rattle.zarrs_packbits.specs.Packing.{packing};
-ghost use Rattle.zarrs_packbits.specs.WrittenBits.{flags_of, written_bits, IsPartlyFilled, Puts};
+ghost use Rattle.zarrs_packbits.specs.WrittenBits.{flags_of, written_bits, IsPartlyFilled, Puts, PutsComponents};
 
 use crate::bit_appends::{
     append_by_words, append_bytes, append_first, append_kept, append_narrow, flushed, in_range,
@@ -89,27 +88,23 @@ impl BitWriter {
         Ok(())
     }
 
-    /// Puts a component whose kept bits stand in the bytes, `count` from bit `at` on: zeros below
+    /// Puts a component whose kept bits stand in the bytes from bit `at` on: zeros below
     /// them, and above them zeros, or copies of the last one where the type has a sign.
     fn put_component(
         &mut self,
+        layout: &PackedLayout,
         bytes: &[u8],
         at: u64,
-        first: u64,
-        count: u64,
-        above: u64,
-        sign: bool,
     ) -> Result<(), AllocError>
-        requires some { 0 < count }
-        requires inside { at + count ≤ 8 * length bytes.now }
-        requires at { at + count < 2 ^ 64 }
-        ensures appended { Puts self.old self.new result
-            (full_component first above sign (field at count (bits_of bytes.now))) }
+        requires some { 0 < layout.now.count }
+        requires inside { at + layout.now.count ≤ 8 * length bytes.now }
+        requires at { at + layout.now.count < 2 ^ 64 }
+        ensures appended { Puts self.old self.new result (component_in layout.now at bytes.now) }
     {
-        self.put_repeated(false, first)?;
-        self.put_field(bytes, at, count)?;
-        let top = sign && read_bits(bytes, at + (count - 1), 1) == 1;
-        self.put_repeated(top, above)
+        self.put_repeated(false, layout.first)?;
+        self.put_field(bytes, at, layout.count)?;
+        let top = layout.sign && read_bits(bytes, at + (layout.count - 1), 1) == 1;
+        self.put_repeated(top, layout.above)
     }
 
     /// Puts one bit of each of these bytes, 64 bytes at a time.
@@ -196,8 +191,7 @@ impl BitWriter {
         requires count { IsOneTwoOrFour layout.now.count }
         requires inside { at + parts * layout.now.count ≤ 8 * length bytes.now }
         requires at { at + parts * layout.now.count < 2 ^ 64 }
-        ensures appended { Puts self.old self.new result
-            (components_in layout.now at parts bytes.now) }
+        ensures appended { PutsComponents layout.now at parts bytes.now self.old self.new result }
     {
         let (word, filled) = append_bytes(
             &mut self.out,
@@ -225,8 +219,7 @@ impl BitWriter {
         requires fits { layout.now.first + layout.now.count + layout.now.above ≤ 64 }
         requires inside { at + parts * layout.now.count ≤ 8 * length bytes.now }
         requires at { at + parts * layout.now.count < 2 ^ 64 }
-        ensures appended { Puts self.old self.new result
-            (components_in layout.now at parts bytes.now) }
+        ensures appended { PutsComponents layout.now at parts bytes.now self.old self.new result }
     {
         let (word, filled) = append_narrow(
             &mut self.out,
@@ -253,8 +246,7 @@ impl BitWriter {
         requires some { 0 < layout.now.count }
         requires inside { at + parts * layout.now.count ≤ 8 * length bytes.now }
         requires at { at + parts * layout.now.count < 2 ^ 64 }
-        ensures appended { Puts self.old self.new result
-            (components_in layout.now at parts bytes.now) }
+        ensures appended { PutsComponents layout.now at parts bytes.now self.old self.new result }
     {
         if layout.is_spread() {
             return self.put_spread(layout, bytes, at, parts);
@@ -263,14 +255,7 @@ impl BitWriter {
             return self.put_narrow(layout, bytes, at, parts);
         }
         for part in 0..parts {
-            self.put_component(
-                bytes,
-                at + part * layout.count,
-                layout.first,
-                layout.count,
-                layout.above,
-                layout.sign,
-            )?;
+            self.put_component(layout, bytes, at + part * layout.count)?;
         }
         Ok(())
     }

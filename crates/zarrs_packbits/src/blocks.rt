@@ -1,8 +1,8 @@
 //! Components of one byte each, 64 of them at a time.
-ghost use Rattle.std.specs.Prelude.{◌≡◌, ◌+◌, ◌*◌, ◌/◌, ◌^◌, ◌<◌, ◌≤◌, All, length, map};
+ghost use Rattle.std.specs.Prelude.{◌≡◌, ◌+◌, ◌*◌, ◌^◌, ◌<◌, ◌≤◌, All, length, map};
 ghost use Rattle.std.specs.List.{flat_map};
 ghost use Rattle.zarrs_packbits.specs.Bits.{bits_of, low_bits};
-ghost use Rattle.zarrs_packbits.specs.BlockBits.{blocks_len, byte_fields, cut_byte, fields_of, lifted_byte};
+ghost use Rattle.zarrs_packbits.specs.BlockBits.{cut_byte, fields_of, lifted_byte, block_fields};
 ghost use Rattle.zarrs_packbits.specs.WrittenBits.{AppendsBits, AppendsComponents};
 
 use crate::layout::PackedLayout;
@@ -109,8 +109,7 @@ fn append_last_bits(
     requires size { layout.now.first + layout.now.count + layout.now.above ≡ 8 }
     requires few { parts ≤ 64 }
     requires inside { parts * layout.now.count ≤ 8 * length bytes.now }
-    ensures appended { AppendsComponents layout.now parts bytes.now out.old.items
-        out.new.items result }
+    ensures appended { AppendsComponents layout.now parts bytes.now out.old out.new result }
 {
     let left = (parts + 7) / 8;
     let mut from = [0u8; 8];
@@ -131,8 +130,7 @@ pub(crate) fn append_bits_spread(
     requires count { layout.now.count ≡ 1 }
     requires size { layout.now.first + layout.now.count + layout.now.above ≡ 8 }
     requires inside { parts * layout.now.count ≤ 8 * length bytes.now }
-    ensures appended { AppendsComponents layout.now parts bytes.now out.old.items
-        out.new.items result }
+    ensures appended { AppendsComponents layout.now parts bytes.now out.old out.new result }
 {
     let PackedLayout {
         first,
@@ -165,8 +163,7 @@ fn append_last_halves(
     requires size { layout.now.first + layout.now.count + layout.now.above ≡ 8 }
     requires few { parts ≤ 128 }
     requires inside { parts * layout.now.count ≤ 8 * length bytes.now }
-    ensures appended { AppendsComponents layout.now parts bytes.now out.old.items
-        out.new.items result }
+    ensures appended { AppendsComponents layout.now parts bytes.now out.old out.new result }
 {
     let left = (parts + 1) / 2;
     let mut from = [0u8; 64];
@@ -187,8 +184,7 @@ pub(crate) fn append_halves_spread(
     requires count { layout.now.count ≡ 4 }
     requires size { layout.now.first + layout.now.count + layout.now.above ≡ 8 }
     requires inside { parts * layout.now.count ≤ 8 * length bytes.now }
-    ensures appended { AppendsComponents layout.now parts bytes.now out.old.items
-        out.new.items result }
+    ensures appended { AppendsComponents layout.now parts bytes.now out.old out.new result }
 {
     let PackedLayout {
         first,
@@ -243,8 +239,7 @@ pub(crate) fn append_halves_joined(
     first: u64,
 ) -> Result<(), AllocError>
     requires within { first + 4 ≤ 8 }
-    ensures appended { AppendsBits out.old.items out.new.items result
-        (byte_fields first 4 (blocks_len bytes.now) bytes.now) }
+    ensures appended { AppendsBits out.old out.new result (block_fields first 4 bytes.now) }
 {
     let whole = bytes.len() / 64;
     for block in 0..whole {
@@ -275,8 +270,7 @@ fn append_last_quarters(
     requires size { layout.now.first + layout.now.count + layout.now.above ≡ 8 }
     requires few { parts ≤ 64 }
     requires inside { parts * layout.now.count ≤ 8 * length bytes.now }
-    ensures appended { AppendsComponents layout.now parts bytes.now out.old.items
-        out.new.items result }
+    ensures appended { AppendsComponents layout.now parts bytes.now out.old out.new result }
 {
     let left = (parts + 3) / 4;
     let mut from = [0u8; 16];
@@ -297,8 +291,7 @@ pub(crate) fn append_quarters_spread(
     requires count { layout.now.count ≡ 2 }
     requires size { layout.now.first + layout.now.count + layout.now.above ≡ 8 }
     requires inside { parts * layout.now.count ≤ 8 * length bytes.now }
-    ensures appended { AppendsComponents layout.now parts bytes.now out.old.items
-        out.new.items result }
+    ensures appended { AppendsComponents layout.now parts bytes.now out.old out.new result }
 {
     let PackedLayout {
         first,
@@ -356,8 +349,7 @@ pub(crate) fn append_quarters_joined(
     first: u64,
 ) -> Result<(), AllocError>
     requires within { first + 2 ≤ 8 }
-    ensures appended { AppendsBits out.old.items out.new.items result
-        (byte_fields first 2 (blocks_len bytes.now) bytes.now) }
+    ensures appended { AppendsBits out.old out.new result (block_fields first 2 bytes.now) }
 {
     let whole = bytes.len() / 64;
     for block in 0..whole {

@@ -1,10 +1,9 @@
 //! Components that stand side by side in a word of 64 bits, so many lanes of one width each.
 ghost use Rattle.std.specs.Prelude.{◌≡◌, ◌+◌, ◌*◌, ◌^◌, ◌<◌, ◌≤◌, length, IfOk};
 ghost use Rattle.zarrs_packbits.specs.Bits.{low_bits};
-ghost use Rattle.zarrs_packbits.specs.BitStream.{components_from, components_in};
-ghost use Rattle.zarrs_packbits.specs.LaneBits.{lane_fields};
+ghost use Rattle.zarrs_packbits.specs.LaneBits.{lane_fields, IsWordOf};
 ghost use Rattle.zarrs_packbits.specs.PackedLayout.{IsPackedLayout, parts_of};
-ghost use Rattle.zarrs_packbits.specs.WrittenBits.{written_bits, IsPartlyFilled, LeavesFirst, LeavesMore};
+ghost use Rattle.zarrs_packbits.specs.WrittenBits.{IsPartlyFilled, LeavesFirst, LeavesWords};
 
 use crate::layout::PackedLayout;
 use crate::words::{append_bits, component_word, lowest, read_bits, read_within};
@@ -35,8 +34,7 @@ fn spread_word(kept: u64, layout: PackedLayout, lanes: u64, width: u64) -> u64
     requires some { 0 < layout.count }
     requires size { layout.first + layout.count + layout.above ≡ width }
     requires lanes { lanes * width ≡ 64 }
-    ensures bits { low_bits 64 result
-        ≡ components_from layout 0 lanes (low_bits (lanes * layout.count) kept) }
+    ensures bits { IsWordOf layout lanes kept result }
 {
     let mut word = 0u64;
     for lane in 0..lanes {
@@ -64,8 +62,7 @@ pub(crate) fn append_joined_lanes(
     requires len { length bytes.now ≡ parts_of layout.now * layout.now.size }
     requires size { 8 * layout.now.size ≡ width }
     requires lanes { lanes * width ≡ 64 }
-    ensures bits { LeavesFirst out.new.items result (written_bits out.old.items word filled)
-        layout.now bytes.now }
+    ensures bits { LeavesFirst out.old word filled layout.now bytes.now out.new result }
     ensures begun { IfOk result (λ left. IsPartlyFilled left.0 left.1) }
     ensures within { IfOk result (λ left. left.2 ≤ parts_of layout.now) }
 {
@@ -102,8 +99,7 @@ pub(crate) fn append_spread_lanes(
     requires lanes { lanes * width ≡ 64 }
     requires inside { at + groups * (lanes * layout.count) ≤ 8 * length bytes.now }
     requires at { at + groups * (lanes * layout.count) < 2 ^ 64 }
-    ensures bits { LeavesMore out.new.items result (written_bits out.old.items word filled)
-        (components_in layout at (groups * lanes) bytes.now) }
+    ensures bits { LeavesWords out.old word filled layout at groups lanes bytes.now out.new result }
     ensures begun { IfOk result (λ left. IsPartlyFilled left.0 left.1) }
 {
     let taken = lanes * layout.count;

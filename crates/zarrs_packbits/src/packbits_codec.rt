@@ -2,20 +2,18 @@ ghost use Rattle.zarrs_data_type.specs.Form.{form_of};
 ghost use Rattle.zarrs_array_bytes.specs.Held.{items_of};
 ghost use Rattle.zarrs_codec.specs.Grammar.{Encodes, Decodes};
 ghost use Rattle.zarrs_packbits.specs.PackBitsGrammar.{packbits_grammar};
-ghost use Rattle.std.specs.Prelude.{◌≡◌, ℕ, ◌+◌, ◌^◌, ◌<◌, IfOk, Ok, Some, true, false, option_map, slice_index};
-ghost use Rattle.zarrs_chunk.specs.Answer.{Answers, is_fault};
+ghost use Rattle.std.specs.Prelude.{◌≡◌, ℕ, ◌+◌, ◌^◌, ◌<◌, IfOk, Ok, Some, true, false, slice_index};
+ghost use Rattle.zarrs_chunk.specs.Answer.{is_fault};
 ghost use Rattle.zarrs_chunk.specs.ChunkShape.{product};
 ghost use Rattle.zarrs_metadata.specs.CodecMetadata.{packbits_name};
-ghost use Rattle.zarrs_metadata.specs.MetadataV3.{configuration_seen};
-ghost use Rattle.zarrs_metadata.specs.PluginCreateError.{plugin_memory};
+ghost use Rattle.zarrs_metadata.specs.MetadataV3.{configuration_seen, MakesConfiguration};
 ghost use Rattle.zarrs_codec.specs.declared.capabilities.PartialDecoderCapability.{PartialDecoderCapability};
 ghost use Rattle.zarrs_codec.specs.declared.capabilities.PartialEncoderCapability.{PartialEncoderCapability};
-ghost use Rattle.zarrs_bytes.specs.GivenBytes.{EncodesNow, DecodesNow, IsGiven, HoldsGiven};
-ghost use Rattle.zarrs_codec.specs.MadeAgain.{MadeAgain};
-ghost use Rattle.zarrs_packbits.specs.PackBitsCodec.{packbits_value, packbits_chunk, EncodesInPlace, DecodesInPlace};
-ghost use Rattle.zarrs_packbits.specs.PackBitsSettings.{all_bits, is_reversed, packbits_settings, packbits_represented, packed_layout, first_of, last_of, padding_for, KeepsAllBytes};
+ghost use Rattle.zarrs_bytes.specs.GivenBytes.{IsGiven, HoldsGiven};
+ghost use Rattle.zarrs_packbits.specs.PackBitsCodec.{EncodesInPlace, DecodesInPlace, Keeps, KeepsIn, PacksWhole, UnpacksWhole};
+ghost use Rattle.zarrs_packbits.specs.PackBitsSettings.{all_bits, is_reversed, packbits_settings, first_of, last_of, padding_for, KeepsAllBytes, LaysOut, RepresentsNow};
 ghost use Rattle.zarrs_packbits.specs.PackedLayout.{IsPackedLayout};
-ghost use Rattle.zarrs_packbits.specs.SettingsMetadata.{settings_made, write_settings};
+ghost use Rattle.zarrs_packbits.specs.SettingsMetadata.{write_settings, MakesSettingsAgain};
 
 use crate::layout::PackedLayout;
 use crate::packed_values::{packed_raw, unpacked_raw};
@@ -131,8 +129,7 @@ impl PackBitsCodec {
         data_type: &DataType,
         fill_value: &FillValue,
     ) -> Result<PackedLayout, CodecError>
-        ensures answer { result
-            ≡ packed_layout self.now (form_of shape.now data_type.now fill_value.now) }
+        ensures answer { LaysOut self.now shape.now data_type.now fill_value.now result }
         ensures sound { IfOk result IsPackedLayout }
         ensures last_fits { IfOk result (λ layout. layout.first + layout.count < 2 ^ 64) }
         ensures elements { IfOk result (λ layout. layout.elements ≡ product shape.now) }
@@ -180,8 +177,7 @@ impl PackBitsCodec {
         data_type: &DataType,
         fill_value: &FillValue,
     ) -> Result<BytesRepresentation, CodecError>
-        ensures answer { result
-            ≡ packbits_represented self.now (form_of shape.now data_type.now fill_value.now) }
+        ensures answer { RepresentsNow self.now shape.now data_type.now fill_value.now result }
     {
         let layout = self.layout(shape, data_type, fill_value)?;
         Ok(BytesRepresentation::FixedSize(layout.value_len()))
@@ -195,15 +191,14 @@ impl PackBitsCodec {
         elements: ArrayBytes<'a>,
         shape: &ChunkShape,
         data_type: &DataType,
-        fill_value: &FillValue,
+        fill: &FillValue,
     ) -> Result<ArrayBytesRaw<'a>, CodecError>
-        requires whole { KeepsAllBytes self.now (form_of shape.now data_type.now fill_value.now) }
-        ensures exact { EncodesNow (packbits_value self.now)
-            (form_of shape.now data_type.now fill_value.now) elements.entry result }
+        requires whole { KeepsAllBytes self.now (form_of shape.now data_type.now fill.now) }
+        ensures exact { PacksWhole self.now shape.now data_type.now fill.now elements.entry result }
         ensures kept { IsGiven elements.entry result }
         ensures no_fault { is_fault result ≡ false }
     {
-        let value = BytesCodec::little().encode(alloc, elements, shape, data_type, fill_value)?;
+        let value = BytesCodec::little().encode(alloc, elements, shape, data_type, fill)?;
         bytes_are(&value);
         Ok(value)
     }
@@ -216,16 +211,15 @@ impl PackBitsCodec {
         value: ArrayBytesRaw<'a>,
         shape: &ChunkShape,
         data_type: &DataType,
-        fill_value: &FillValue,
+        fill: &FillValue,
     ) -> Result<ArrayBytes<'a>, CodecError>
-        requires whole { KeepsAllBytes self.now (form_of shape.now data_type.now fill_value.now) }
-        ensures exact { DecodesNow (packbits_chunk self.now)
-            (form_of shape.now data_type.now fill_value.now) (items_of value.entry) result }
+        requires whole { KeepsAllBytes self.now (form_of shape.now data_type.now fill.now) }
+        ensures exact { UnpacksWhole self.now shape.now data_type.now fill.now value.entry result }
         ensures kept { HoldsGiven value.entry result }
         ensures no_fault { is_fault result ≡ false }
     {
         bytes_are(&value);
-        BytesCodec::little().decode(alloc, value, shape, data_type, fill_value)
+        BytesCodec::little().decode(alloc, value, shape, data_type, fill)
     }
 
     /// The value that is written for the chunk that `elements` hold. Refusals, the first that
@@ -240,12 +234,13 @@ impl PackBitsCodec {
         data_type: &DataType,
         fill_value: &FillValue,
     ) -> Result<ArrayBytesRaw<'a>, CodecError>
+        // Wide: the three parameters of a form have the Rust crate's names.
         ensures encodes { Encodes (packbits_grammar self.now)
             (form_of shape.now data_type.now fill_value.now) elements.entry result }
+        // Wide: the three parameters of a form have the Rust crate's names.
         ensures in_place { EncodesInPlace self.now
             (form_of shape.now data_type.now fill_value.now) elements.entry result }
-        ensures kept { KeepsAllBytes self.now (form_of shape.now data_type.now fill_value.now)
-            → IsGiven elements.entry result }
+        ensures kept { Keeps self.now shape.now data_type.now fill_value.now elements.entry result }
     {
         let layout = self.layout(shape, data_type, fill_value)?;
         if layout.is_whole() {
@@ -269,12 +264,13 @@ impl PackBitsCodec {
         data_type: &DataType,
         fill_value: &FillValue,
     ) -> Result<ArrayBytes<'a>, CodecError>
+        // Wide: the three parameters of a form have the Rust crate's names.
         ensures decodes { Decodes (packbits_grammar self.now)
             (form_of shape.now data_type.now fill_value.now) (items_of value.entry) result }
+        // Wide: the three parameters of a form have the Rust crate's names.
         ensures in_place { DecodesInPlace self.now
             (form_of shape.now data_type.now fill_value.now) value.entry result }
-        ensures kept { KeepsAllBytes self.now (form_of shape.now data_type.now fill_value.now)
-            → HoldsGiven value.entry result }
+        ensures kept { KeepsIn self.now shape.now data_type.now fill_value.now value.entry result }
     {
         let layout = self.layout(shape, data_type, fill_value)?;
         if layout.is_whole() {
@@ -327,10 +323,8 @@ impl CodecTraits for PackBitsCodec {
     /// codec. Refusals: `OutOfMemory`.
     #[tactic(auto, using(crate::proofs::MadeAgain::settings_made_again))]
     fn configuration(&self, alloc: Global) -> Result<Option<Configuration>, PluginCreateError>
-        ensures answer { Answers plugin_memory (option_map configuration_seen) result
-            (Ok (Some (write_settings self.now))) }
-        ensures made_again { MadeAgain configuration_seen result
-            settings_made packbits_name self.now }
+        ensures answer { MakesConfiguration result (Ok (Some (write_settings self.now))) }
+        ensures made_again { MakesSettingsAgain configuration_seen result self.now }
     {
         let configuration = PackBitsCodecConfiguration::V1(PackBitsCodecConfigurationV1 {
             padding_encoding: Some(self.padding_encoding),

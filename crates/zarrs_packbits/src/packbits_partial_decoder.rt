@@ -1,15 +1,12 @@
 ghost use Rattle.zarrs_data_type.specs.Form.{form_of};
-ghost use Rattle.std.specs.Prelude.{◌≡◌, ◌<◌, ◌≤◌, ◌+◌, ℕ, None, Ok, IfOk, IfErr, All, is_some, slice_index};
-ghost use Rattle.zarrs_chunk.specs.Answer.{GivesBy};
+ghost use Rattle.std.specs.Prelude.{◌≡◌, ◌<◌, ◌≤◌, ◌+◌, IfOk, IfErr, All, is_some};
 ghost use Rattle.zarrs_array_bytes.specs.Blank.{AbsentAreBlank};
-ghost use Rattle.zarrs_array_bytes.specs.Held.{Raw, flen};
 ghost use Rattle.zarrs_codec.specs.StorageState.{after_reading};
 ghost use Rattle.zarrs_codec.specs.HandleCalls.{NeverFailsIf, Tells};
-ghost use Rattle.zarrs_bytes.specs.MadeCoders.{GivesCoder};
 ghost use Rattle.zarrs_bytes.specs.PlannedRanges.{NoneIsEmpty};
-ghost use Rattle.zarrs_packbits.specs.PackBitsSettings.{packed_layout, Copies, IsLayoutFor, KeepsAllBytes, PackBitsTakes};
+ghost use Rattle.zarrs_packbits.specs.PackBitsCodec.{HoldsBytes};
+ghost use Rattle.zarrs_packbits.specs.PackBitsSettings.{Copies, IsLayoutFor, KeepsAllBytes, PackBitsTakes};
 ghost use Rattle.zarrs_packbits.specs.PartialRead.{ReadsRuns, ReadsRunsSurely};
-ghost use Rattle.zarrs_packbits.specs.ReadPlan.{IsPlanOf};
 ghost use Rattle.zarrs_packbits.specs.PackedLayout.{IsPackedLayout};
 ghost use Rattle.zarrs_chunk.specs.ChunkShape.{product};
 
@@ -39,8 +36,7 @@ pub struct PackBitsPartialDecoder<H> {
 
 /// The bytes of elements of one size are below 256, as all bytes are.
 fn elements_are_bytes(elements: &ArrayBytes<'_>)
-    ensures bytes { (raw : Raw) → elements.now ≡ flen raw → (i : ℕ)
-        → slice_index raw.items i < 256 }
+    ensures bytes { HoldsBytes elements.now }
 {
     if let Ok(bytes) = elements.as_fixed() {
         bytes_are(bytes);
@@ -48,7 +44,7 @@ fn elements_are_bytes(elements: &ArrayBytes<'_>)
 }
 
 impl PackBitsCodec {
-    ghost use Rattle.zarrs_packbits.specs.PackBitsPartialDecoder.{packbits_handle_of, HasForm};
+    ghost use Rattle.zarrs_packbits.specs.PackBitsPartialDecoder.{packbits_handle_of, HasForm, MakesDecoder, PlansRuns};
 
     /// How a chunk is packed that the codec takes.
     fn taken_layout(
@@ -82,8 +78,10 @@ impl PackBitsCodec {
         requires whole { KeepsAllBytes self.now (form_of shape.now data_type.now fill_value.now) }
         requires filled { All (λ run. 0 < run.1) runs.now }
         requires below { All (λ run. run.0 + run.1 ≤ product shape.now) runs.now }
+        // Wide: the three parameters of a form have the Rust crate's names.
         ensures answer { ReadsRuns self.now (form_of shape.now data_type.now fill_value.now)
             (H.state handle.old) runs.now result }
+        // Wide: the three parameters of a form have the Rust crate's names.
         ensures sure { ReadsRunsSurely self.now (form_of shape.now data_type.now fill_value.now)
             (H.state handle.old) runs.now result }
         ensures blank { IfOk result (AbsentAreBlank data_type.now) }
@@ -114,8 +112,10 @@ impl PackBitsCodec {
         requires taken { PackBitsTakes self.now (form_of shape.now data_type.now fill_value.now) }
         requires filled { All (λ run. 0 < run.1) runs.now }
         requires below { All (λ run. run.0 + run.1 ≤ product shape.now) runs.now }
+        // Wide: the three parameters of a form have the Rust crate's names.
         ensures answer { ReadsRuns self.now (form_of shape.now data_type.now fill_value.now)
             (H.state handle.old) runs.now result }
+        // Wide: the three parameters of a form have the Rust crate's names.
         ensures sure { ReadsRunsSurely self.now (form_of shape.now data_type.now fill_value.now)
             (H.state handle.old) runs.now result }
         ensures blank { IfOk result (AbsentAreBlank data_type.now) }
@@ -146,8 +146,7 @@ impl PackBitsCodec {
         requires taken { PackBitsTakes self.now (form_of shape.now data_type.now fill_value.now) }
         requires filled { All (λ run. 0 < run.1) runs.now }
         requires below { All (λ run. run.0 + run.1 ≤ product shape.now) runs.now }
-        ensures plan { GivesBy (IsPlanOf runs.now) result
-            (packed_layout self.now (form_of shape.now data_type.now fill_value.now)) }
+        ensures plan { PlansRuns self.now shape.now data_type.now fill_value.now runs.now result }
         ensures filled { IfOk result (λ ranges. NoneIsEmpty ranges.items) }
     {
         let layout = self.taken_layout(shape, data_type, fill_value);
@@ -182,8 +181,7 @@ impl PackBitsCodec {
         data_type: &DataType,
         fill_value: &FillValue,
     ) -> Result<PackBitsPartialDecoder<H>, Refused<H>>
-        ensures answer { GivesCoder result
-            (packed_layout self.now (form_of shape.now data_type.now fill_value.now)) }
+        ensures answer { MakesDecoder self.now shape.now data_type.now fill_value.now result }
         ensures form { HasForm self.now (form_of shape.now data_type.now fill_value.now) result }
         ensures over { IfOk result (λ decoder. packbits_handle_of decoder ≡ handle) }
         ensures handed_back { IfErr result (λ refused. refused.handle ≡ handle) }

@@ -1,14 +1,12 @@
 //! Reading runs of places.
-ghost use Rattle.std.specs.Prelude.{◌≡◌, ◌+◌, ◌-◌, ◌*◌, ◌^◌, ◌<◌, ◌≤◌, false, All, IfOk, Ok, List, length, map, min};
-ghost use Rattle.std.specs.List.{flat_map};
-ghost use Rattle.zarrs_chunk.specs.Answer.{Answers, memory_or_fault};
+ghost use Rattle.std.specs.Prelude.{◌≡◌, ◌+◌, ◌-◌, ◌^◌, ◌<◌, ◌≤◌, false, All, IfOk, length, map, min};
 ghost use Rattle.zarrs_chunk.specs.Runs.{joined_runs};
 ghost use Rattle.zarrs_codec.specs.StorageState.{after_reading};
 ghost use Rattle.zarrs_codec.specs.HandleCalls.{NeverFailsIf};
 ghost use Rattle.zarrs_bytes.specs.PlannedRanges.{NoneIsEmpty};
 ghost use Rattle.zarrs_packbits.specs.PackedLayout.{IsPackedLayout, is_whole};
 ghost use Rattle.zarrs_packbits.specs.Packing.{packing};
-ghost use Rattle.zarrs_packbits.specs.PartialRead.{read_packed_bytes, runs_are_sure};
+ghost use Rattle.zarrs_packbits.specs.PartialRead.{runs_are_sure, FillsRuns, ReadsPacked};
 ghost use Rattle.zarrs_packbits.specs.ReadPlan.{run_span, run_bits, runs_len, spans};
 ghost use Rattle.zarrs_packbits.specs.WrittenBits.{Puts};
 
@@ -103,8 +101,7 @@ fn unpack_runs(
 /// and nothing is made run by run. No memory has room for `u64::MAX` of them.
 fn fill_runs(alloc: Global, fill: &[u8], runs: &[(u64, u64)]) -> Result<Vec<u8>, AllocError>
     requires fill_some { 0 < length fill.now }
-    ensures value { IfOk result
-        (λ bytes. bytes.items ≡ flat_map (λ _. fill.now) (joined_runs runs.now)) }
+    ensures value { FillsRuns fill.now runs.now result }
 {
     let count = count_of(runs);
     let room = fill.len().saturating_mul(count as usize);
@@ -127,8 +124,7 @@ pub(crate) fn read_runs<H: BytesPartialDecoderTraits>(
     requires fill_some { 0 < length fill.now }
     requires filled { All (λ run. 0 < run.1) runs.now }
     requires below { All (λ run. run.0 + run.1 ≤ layout.now.elements) runs.now }
-    ensures answer { Answers memory_or_fault (λ v. v.items) result
-        (read_packed_bytes layout.now (H.state handle.old).value fill.now (joined_runs runs.now)) }
+    ensures answer { ReadsPacked layout.now (H.state handle.old) fill.now runs.now result }
     ensures sure { NeverFailsIf (runs_are_sure layout.now (H.state handle.old) runs.now) result }
     ensures left { H.state handle.new ≡ after_reading result (H.state handle.old) }
     ensures same_reference { H.lent handle.new ≡ H.lent handle.old }

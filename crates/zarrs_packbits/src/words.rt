@@ -1,8 +1,8 @@
 //! Bits that are read and written through words of 64.
 ghost use Rattle.std.specs.Prelude.{◌≡◌, ◌+◌, ◌*◌, ◌%◌, ◌^◌, ◌<◌, ◌≤◌, length, IfOk};
 ghost use Rattle.zarrs_packbits.specs.Bits.{low_bits, bits_of, field};
-ghost use Rattle.zarrs_packbits.specs.KeptBits.{full_component, sign_weight};
-ghost use Rattle.zarrs_packbits.specs.WrittenBits.{flags_of, written_bits, IsWordFrom, LeavesMore};
+ghost use Rattle.zarrs_packbits.specs.KeptBits.{sign_weight};
+ghost use Rattle.zarrs_packbits.specs.WrittenBits.{flags_of, IsWordFrom, LeavesMore, IsComponent};
 
 use std::alloc::AllocError;
 
@@ -20,8 +20,7 @@ pub(crate) fn append_bits(
     requires word { word < 2 ^ filled }
     requires count { count ≤ 64 }
     requires bits_fit { bits < 2 ^ count }
-    ensures bits { LeavesMore out.new.items result (written_bits out.old.items word filled)
-        (low_bits count bits) }
+    ensures bits { LeavesMore out.old word filled out.new result (low_bits count bits) }
     ensures room { IfOk result (λ left. left.1 < 64) }
     ensures word { IfOk result (λ left. left.0 < 2 ^ left.1) }
 {
@@ -162,8 +161,7 @@ pub(crate) fn component_word(kept: u64, first: u64, count: u64, above: u64, sign
     requires some { 0 < count }
     requires fits { first + count + above ≤ 64 }
     requires kept_fits { kept < 2 ^ count }
-    ensures bits { low_bits (first + count + above) result
-        ≡ full_component first above sign (low_bits count kept) }
+    ensures bits { IsComponent first count above sign kept result }
     ensures below { result < 2 ^ (first + count + above) }
 {
     let weight = weight_of_sign(count, sign);

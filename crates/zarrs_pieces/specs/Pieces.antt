@@ -1,10 +1,12 @@
 -- Pieces of a value: which bytes they have, and the values that have them.
-use Rattle.std.specs.Prelude.{ℕ, ◌+◌, ◌-◌, Bool, true, ◌&&◌, ◌≡◌, nat_le, nat_lt, Option, Some, None, is_some, List, [], ◌∷◌, length, map, if◌then◌else◌, get_or}
+use Rattle.std.specs.Prelude.{ℕ, ◌+◌, ◌-◌, ◌<◌, ◌≤◌, Bool, true, ◌&&◌, ◌≡◌, nat_le, nat_lt, Option, Some, None, is_some, List, [], ◌∷◌, Vec, Result, length, map, if◌then◌else◌, get_or}
 use Rattle.std.specs.List.{list_all, range_with_len}
-use Rattle.zarrs_chunk.specs.Answer.{Excused, fault}
+use Rattle.std.proofs.Common.{Global}
+use Rattle.zarrs_chunk.specs.Answer.{AnswersItems, Excused, fault, memory_or_fault}
 use Rattle.zarrs_chunk.specs.declared.codec_error.CodecError.{CodecError}
-use Rattle.zarrs_codec.specs.ByteRanges.{EndsOutside}
+use Rattle.zarrs_codec.specs.ByteRanges.{EndsOutside, read_value}
 use Rattle.zarrs_codec.specs.ByteSpan.{ByteSpan}
+use Rattle.zarrs_codec.specs.HandleCalls.{NeverFailsIf}
 use Rattle.zarrs_pieces.specs.declared.piece.Piece.{Piece}
 
 -- a piece of a value: the number of its first byte, and its bytes
@@ -18,6 +20,10 @@ piece_seen piece = record { start = piece.start; bytes = piece.bytes.now }
 
 abbrev pub pieces_seen : List Piece → List PlainPiece
 pieces_seen pieces = map piece_seen pieces
+
+-- the byte of this number is in the piece
+abbrev pub IsInPiece : ℕ → Piece → Type 0
+IsInPiece number piece = (piece.start ≤ number) × (number - piece.start < length piece.bytes.now)
 
 -- ---- which bytes are at hand
 
@@ -44,6 +50,14 @@ is_at_hand pieces number = is_some (piece_with pieces number)
 abbrev pub are_at_hand : List PlainPiece → List ℕ → Bool
 are_at_hand pieces numbers = list_all (is_at_hand pieces) numbers
 
+-- the numbers of the bytes of a range
+abbrev pub numbers_of : ByteSpan → List ℕ
+numbers_of range = range_with_len range.start (range.end - range.start)
+
+-- where all bytes with these numbers are at hand, a read doesn't fail, but for want of memory
+abbrev pub SureIfAtHand : {T : Type 0} → List Piece → List ℕ → Result T CodecError → Type 0
+SureIfAtHand pieces numbers result = NeverFailsIf (are_at_hand (pieces_seen pieces) numbers) result
+
 -- ---- values that have the pieces
 
 -- the byte of this number in a piece
@@ -58,6 +72,14 @@ byte_at pieces number = byte_in (piece_with pieces number) number
 -- the value of so many bytes that has these pieces, and zeros elsewhere
 abbrev pub value_with : ℕ → List PlainPiece → List ℕ
 value_with len pieces = map (byte_at pieces) (range_with_len 0 len)
+
+-- the same of pieces as they are given
+abbrev pub value_of : ℕ → List Piece → List ℕ
+value_of len pieces = value_with len (pieces_seen pieces)
+
+-- the ranges' bytes of this value are answered, joined in order, or the first refusal; a want of memory or a failure may come in their place
+abbrev pub Gathers : ℕ → List Piece → List ByteSpan → Result (Vec ℕ Global) CodecError → Type 0
+Gathers len pieces ranges result = AnswersItems memory_or_fault result (read_value (value_of len pieces) ranges)
 
 -- the value has so many bytes, and each that is at hand is the piece's
 pub record HasPieces (len : ℕ) (pieces : List PlainPiece) (value : List ℕ) : Type 0 where

@@ -5,6 +5,7 @@ use Rattle.zarrs_chunk.specs.declared.codec_error.CodecError.{CodecError}
 use Rattle.zarrs_chunk.specs.declared.codec_error.CodecError.TheVariants.{InvalidByteRange}
 use Rattle.zarrs_codec.specs.StorageState.{StorageState}
 use Rattle.zarrs_pieces.specs.Pieces.{PlainPiece, pieces_seen, value_with, is_at_hand, are_apart}
+use Rattle.zarrs_pieces.specs.declared.piece.Piece.{Piece}
 use Rattle.zarrs_pieces.specs.declared.pieces_handle.PiecesHandle.{PiecesHandle}
 
 -- The state of a handle over pieces. The value has the pieces' bytes, and zeros elsewhere. The bytes of the pieces are sure, and a read of any other one fails: so no answer rests on the zeros.
@@ -31,3 +32,7 @@ made_state len pieces = do
     writes = 0;
     accepted_writes = 0;
   })
+
+-- the same over pieces as they are given
+abbrev pub made_over : ℕ → List Piece → Result StorageState CodecError
+made_over len pieces = made_state len (pieces_seen pieces)

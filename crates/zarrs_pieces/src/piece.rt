@@ -1,11 +1,10 @@
 //! Pieces of a value, and reading ranges of it from them.
-ghost use Rattle.std.specs.Prelude.{◌≡◌, IfOk, IfErr, IfSome, Ok, true, false, length, ◌-◌, ◌<◌, ◌≤◌};
-ghost use Rattle.std.specs.List.{range_with_len};
+ghost use Rattle.std.specs.Prelude.{◌≡◌, IfOk, IfErr, IfSome, Ok, Some, true};
 ghost use Rattle.std.specs.Option.{option_map};
-ghost use Rattle.zarrs_chunk.specs.Answer.{Answers, memory_or_fault};
-ghost use Rattle.zarrs_codec.specs.ByteRanges.{read_value, range_indices, IsPieceOf};
-ghost use Rattle.zarrs_codec.specs.HandleCalls.{NeverFailsIf};
-ghost use Rattle.zarrs_pieces.specs.Pieces.{has_byte as is_inside, piece_with as first_with, are_apart as stand_apart, are_at_hand, value_with, piece_seen, pieces_seen, IsOutside};
+ghost use Rattle.zarrs_chunk.specs.Answer.{AnswersItems, memory_or_fault};
+ghost use Rattle.zarrs_codec.specs.ByteRanges.{range_indices, IsPieceOf};
+ghost use Rattle.zarrs_codec.specs.StorageState.{value_indices};
+ghost use Rattle.zarrs_pieces.specs.Pieces.{has_byte as is_inside, piece_with as first_with, are_apart as stand_apart, numbers_of, piece_seen, pieces_seen, value_of, Gathers, IsInPiece, IsOutside, SureIfAtHand};
 
 use crate::lent_handle::{append_piece, room_for};
 use std::alloc::Global;
@@ -45,8 +44,7 @@ fn has_byte(piece: &Piece<'_>, number: u64) -> bool
 /// The piece that has the byte of this number.
 fn piece_with<'a>(pieces: &[Piece<'a>], number: u64) -> Option<Piece<'a>>
     ensures found { option_map piece_seen result ≡ first_with (pieces_seen pieces.now) number }
-    ensures inside { IfSome result (λ piece.
-        (piece.start ≤ number) × (number - piece.start < length piece.bytes.now)) }
+    ensures inside { IfSome result (λ piece. IsInPiece number piece) }
 {
     for piece in pieces {
         if has_byte(piece, number) {
@@ -61,8 +59,7 @@ fn piece_with<'a>(pieces: &[Piece<'a>], number: u64) -> Option<Piece<'a>>
 fn piece_near<'a>(len: u64, pieces: &[Piece<'a>], number: u64) -> Option<Piece<'a>>
     requires apart { stand_apart len 0 (pieces_seen pieces.now) ≡ true }
     ensures found { option_map piece_seen result ≡ first_with (pieces_seen pieces.now) number }
-    ensures inside { IfSome result (λ piece.
-        (piece.start ≤ number) × (number - piece.start < length piece.bytes.now)) }
+    ensures inside { IfSome result (λ piece. IsInPiece number piece) }
 {
     let behind = pieces.partition_point(|piece| piece.start <= number);
     if behind > 0 && pieces[behind - 1].start <= number {
@@ -78,11 +75,9 @@ const NOT_AT_HAND: CodecError = CodecError::Storage(StorageError { code: 0 });
 #[tactic(auto, using(crate::proofs::PieceLemmas::value_length))]
 fn part_of<'a>(len: u64, pieces: &[Piece<'a>], range: &ByteRange) -> Result<&'a [u8], CodecError>
     requires apart { stand_apart len 0 (pieces_seen pieces.now) ≡ true }
-    ensures inside { IfOk result (λ part.
-        IsPieceOf (value_with len (pieces_seen pieces.now)) range.now part.now) }
-    ensures outside { IfErr result (IsOutside (value_with len (pieces_seen pieces.now)) range.now) }
-    ensures sure { NeverFailsIf (are_at_hand (pieces_seen pieces.now)
-        (range_with_len range.now.start (range.now.end - range.now.start))) result }
+    ensures inside { IfOk result (λ part. IsPieceOf (value_of len pieces.now) range.now part.now) }
+    ensures outside { IfErr result (IsOutside (value_of len pieces.now) range.now) }
+    ensures sure { SureIfAtHand pieces.now (numbers_of range.now) result }
 {
     let start = range.start();
     let end = range.end();
@@ -111,10 +106,8 @@ pub(crate) fn gather(
     ranges: &[ByteRange],
 ) -> Result<Vec<u8>, CodecError>
     requires apart { stand_apart len 0 (pieces_seen pieces.now) ≡ true }
-    ensures answer { Answers memory_or_fault (λ bytes. bytes.items) result
-        (read_value (value_with len (pieces_seen pieces.now)) ranges.now) }
-    ensures sure { NeverFailsIf (are_at_hand (pieces_seen pieces.now) (range_indices ranges.now))
-        result }
+    ensures answer { Gathers len pieces.now ranges.now result }
+    ensures sure { SureIfAtHand pieces.now (range_indices ranges.now) result }
 {
     let mut bytes = Vec::with_capacity(alloc, room_for(len, ranges))?;
     for range in ranges {
@@ -127,10 +120,8 @@ pub(crate) fn gather(
 #[tactic(auto, using(crate::proofs::PieceLemmas::value_length, crate::proofs::PieceLemmas::whole_value))]
 pub(crate) fn whole(alloc: Global, len: u64, pieces: &[Piece<'_>]) -> Result<Vec<u8>, CodecError>
     requires apart { stand_apart len 0 (pieces_seen pieces.now) ≡ true }
-    ensures answer { Answers memory_or_fault (λ bytes. bytes.items) result
-        (Ok (value_with len (pieces_seen pieces.now))) }
-    ensures sure { NeverFailsIf (are_at_hand (pieces_seen pieces.now)
-        (range_with_len 0 (length (value_with len (pieces_seen pieces.now))))) result }
+    ensures answer { AnswersItems memory_or_fault result (Ok (value_of len pieces.now)) }
+    ensures sure { SureIfAtHand pieces.now (value_indices (Some (value_of len pieces.now))) result }
 {
     let Some(range) = ByteRange::new(0..len) else {
         return Err(CodecError::InvalidByteRange);

@@ -1,14 +1,17 @@
 -- The elements at places, step by step.
-use Rattle.std.specs.Prelude.{◌≡◌, ℕ, ◌+◌, ◌-◌, ◌<◌, ◌^◌, List, ◌∷◌, ◌++◌, Vec, length, map, replicate, slice_index, Result, Ok}
-use Rattle.std.specs.List.{flat_map, list_all, range_with_len}
+use Rattle.std.specs.Prelude.{◌≡◌, ℕ, ◌+◌, ◌-◌, ◌<◌, ◌^◌, List, ◌∷◌, ◌++◌, All, Vec, length, map, replicate, slice_index, Result, Ok, OnOk}
+use Rattle.std.specs.List.{between, flat_map, list_all, range_with_len}
 use Rattle.std.proofs.Common.{Global}
-use Rattle.zarrs_chunk.specs.Answer.{◌>>=◌, demand, Answers, memory_or_fault}
+use Rattle.zarrs_chunk.specs.Answer.{◌>>=◌, demand, Answers, AnswersBy, memory_or_fault}
 use Rattle.zarrs_chunk.specs.Runs.{joined_runs}
 use Rattle.zarrs_chunk.specs.declared.codec_error.CodecError.{CodecError}
 use Rattle.zarrs_chunk.specs.declared.codec_error.CodecError.TheVariants.{InvalidByteRange}
 use Rattle.zarrs_data_type.specs.Element.{Chunk}
+use Rattle.zarrs_data_type.specs.ElementType.{ElementType}
 use Rattle.zarrs_array_bytes.specs.Elements.{cut}
+use Rattle.zarrs_array_bytes.specs.Held.{Held}
 use Rattle.zarrs_array_bytes.specs.Pieces.{ends}
+use Rattle.zarrs_array_bytes.specs.Validity.{Holds}
 use Rattle.zarrs_codec.specs.ByteRanges.{range_indices}
 use Rattle.zarrs_codec.specs.ByteSpan.{ByteSpan}
 use Rattle.zarrs_codec.specs.StorageState.{StorageState}
@@ -33,6 +36,15 @@ joined_offsets offsets runs = 0 ∷ ends 0 (map (blank_element offsets) (joined_
 -- Offsets stand behind the old ones, counted from `start` where they were counted from `from`.
 abbrev pub AddsMoved : ℕ → ℕ → List ℕ → Vec ℕ Global → Vec ℕ Global → Type 0
 AddsMoved from start offsets old new = new.items ≡ old.items ++ map (λ offset. offset - from + start) offsets
+
+-- The moved offsets fit 64 bits.
+abbrev pub FitMoved : ℕ → ℕ → List ℕ → Type 0
+FitMoved from start offsets = All (λ offset. offset - from + start < 2 ^ 64) offsets
+
+-- A call that answers Ok has put the offsets with the numbers from `first` up to `end` behind the old ones, moved so.
+abbrev pub AppendsMoved : {E : Type 0} → List ℕ → ℕ → ℕ → ℕ → ℕ → Vec ℕ Global → Vec ℕ Global → Result (Unit {0}) E → Type 0
+AppendsMoved offsets first end from start old new result =
+    OnOk result (AddsMoved from start (between first end offsets) old new)
 
 -- Where the elements of a run, behind `start` bytes, end stands behind the old ends.
 abbrev pub AddsEnds : ℕ → List ℕ → ℕ → ℕ → Vec ℕ Global → Vec ℕ Global → Type 0
@@ -79,3 +91,8 @@ ReadsContent offsets content before runs result =
 abbrev pub stored_elements : List ℕ → ByteSpan → StorageState → List (ℕ × ℕ) → Result Chunk CodecError
 stored_elements offsets content before runs =
     elements_read offsets (span_bytes (stored_bytes before) content) (joined_runs runs)
+
+-- The answer is a container of these elements, or the first refusal. Only a want of memory or a failure of the handle may come in its place.
+abbrev pub ReadsSpan : ElementType → List ℕ → ByteSpan → StorageState → List (ℕ × ℕ) → Result Held CodecError → Type 0
+ReadsSpan type offsets content before runs result =
+    AnswersBy memory_or_fault (Holds type) result (stored_elements offsets content before runs)

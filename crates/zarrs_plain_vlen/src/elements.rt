@@ -1,16 +1,14 @@
 //! The elements at runs of places, of which the offsets are known.
 ghost use Rattle.std.specs.Prelude.{◌≡◌, ◌≤◌, ◌<◌, ◌+◌, ◌-◌, ◌^◌, true, All, Ok, IfOk, OnOk, is_some, length, min};
 ghost use Rattle.std.specs.List.{list_all, range_with_len};
-ghost use Rattle.zarrs_chunk.specs.Answer.{AnswersBy, memory_or_fault};
 ghost use Rattle.zarrs_chunk.specs.Runs.{joined_runs};
 ghost use Rattle.zarrs_data_type.specs.ElementType.{is_variable};
 ghost use Rattle.zarrs_array_bytes.specs.Blank.{AbsentAreBlank};
 ghost use Rattle.zarrs_array_bytes.specs.Held.{vlen, owned_bytes};
 ghost use Rattle.zarrs_array_bytes.specs.Offsets.{is_offsets, last_of};
-ghost use Rattle.zarrs_array_bytes.specs.Validity.{Holds};
 ghost use Rattle.zarrs_codec.specs.StorageState.{after_reading};
 ghost use Rattle.zarrs_array_bytes.specs.Cuts.{run_size};
-ghost use Rattle.zarrs_plain_vlen.specs.Elements.{AddsEnds, AddsNumbers, AddsRun, EndsBelow64Bits, PlansRuns, ReadsContent, data_numbers, joined_offsets, joined_size, stored_elements};
+ghost use Rattle.zarrs_plain_vlen.specs.Elements.{AddsEnds, AddsNumbers, AddsRun, EndsBelow64Bits, PlansRuns, ReadsContent, ReadsSpan, data_numbers, joined_offsets, joined_size};
 ghost use Rattle.zarrs_plain_vlen.specs.StoredBytes.{SureAt, stored_bytes};
 ghost use Rattle.zarrs_plain_vlen.specs.VlenLayout.{span_numbers};
 ghost use Rattle.zarrs_plain_vlen.specs.VlenRead.{is_there};
@@ -40,6 +38,7 @@ fn run_is_there(offsets: &Offsets, size: u64, first: usize, count: usize) -> boo
 fn are_there(offsets: &Offsets, size: u64, runs: &[(u64, u64)]) -> bool
     requires rising { is_offsets offsets.now ≡ true }
     requires known { All (λ run. run.0 + run.1 < length offsets.now) runs.now }
+    // Wide: the tests of all runs, and of all elements of each, stand as the proof takes them.
     ensures value { result ≡ list_all
         (λ run. list_all (is_there offsets.now size) (range_with_len run.0 run.1)) runs.now }
 {
@@ -222,23 +221,22 @@ pub(crate) fn read_elements<H: BytesPartialDecoderTraits>(
     alloc: Global,
     handle: &mut H,
     offsets: &Offsets,
-    content: ByteRange,
+    span: ByteRange,
     data_type: &DataType,
     runs: &[(u64, u64)],
 ) -> Result<ArrayBytes<'static>, CodecError>
     requires stored { is_some (H.state handle.old).value ≡ true }
-    requires inside { content.end ≤ length (stored_bytes (H.state handle.old)) }
+    requires inside { span.end ≤ length (stored_bytes (H.state handle.old)) }
     requires rising { is_offsets offsets.now ≡ true }
     requires known { All (λ run. run.0 + run.1 < length offsets.now) runs.now }
     requires variable { is_variable data_type.now ≡ true }
-    ensures answer { AnswersBy memory_or_fault (Holds data_type.now) result
-        (stored_elements offsets.now content (H.state handle.old) runs.now) }
+    ensures answer { ReadsSpan data_type.now offsets.now span (H.state handle.old) runs.now result }
     ensures blank { IfOk result (AbsentAreBlank data_type.now) }
-    ensures sure { SureAt (H.state handle.old) (data_numbers offsets.now content runs.now) result }
+    ensures sure { SureAt (H.state handle.old) (data_numbers offsets.now span runs.now) result }
     ensures left { H.state handle.new ≡ after_reading result (H.state handle.old) }
     ensures same_reference { H.lent handle.new ≡ H.lent handle.old }
 {
-    let bytes = read_bytes(alloc, handle, offsets, content, runs)?;
+    let bytes = read_bytes(alloc, handle, offsets, span, runs)?;
     let ends = ends_of_runs(alloc, offsets, runs)?;
     let _ = data_type;
     variable(bytes, ends)

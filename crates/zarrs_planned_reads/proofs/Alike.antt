@@ -126,25 +126,25 @@ module _ {B : Type 0} (f : BytesCodecs B) (value other : List ℕ) (Agreeing : L
       absurd (let e = b.2 in cc)
 
   chain_alike : (form : ChunkForm B) (p : Result (List ℕ) CodecError) (t : Result (List ℕ × BytesRepresentation) CodecError) (numbers : List ℕ)
-      → (p >>= λ places. t >>= λ taken. plan_of form.chain.outer form.chain.codec taken.0 form.type form.fill places) ≡ Ok (Some numbers) → Agreeing numbers
-      → (p >>= λ places. t >>= λ taken. read_below form.chain.outer form.chain.codec taken.0 form.type form.fill taken.1 places value)
-      ≡ (p >>= λ places. t >>= λ taken. read_below form.chain.outer form.chain.codec taken.0 form.type form.fill taken.1 places other)
+      → (p >>= λ places. t >>= λ taken. plan_of form.chain.bytes_to_bytes form.chain.array_to_bytes taken.0 form.type form.fill places) ≡ Ok (Some numbers) → Agreeing numbers
+      → (p >>= λ places. t >>= λ taken. read_below form.chain.bytes_to_bytes form.chain.array_to_bytes taken.0 form.type form.fill taken.1 places value)
+      ≡ (p >>= λ places. t >>= λ taken. read_below form.chain.bytes_to_bytes form.chain.array_to_bytes taken.0 form.type form.fill taken.1 places other)
   chain_alike form (Err e) t numbers is agree = refl
   chain_alike form (Ok places) (Err e) numbers is agree = refl
   chain_alike form (Ok places) (Ok taken) numbers is agree =
-      at_taken form.chain.outer form.chain.codec taken.0 form.type form.fill taken.1 places numbers is agree
+      at_taken form.chain.bytes_to_bytes form.chain.array_to_bytes taken.0 form.type form.fill taken.1 places numbers is agree
 
 -- ---- the laws
 
 pub planned_alike : {B : Type 0} (f : BytesCodecs B) → PlannedReadsAlike f
 planned_alike f form value other selection numbers planned same =
     chain_alike f value other (All (SameByte value other)) (λ order type fill places h. bytes.reads_alike order type fill value other places h) (λ settings sizes type fill l places is h. packed.reads_alike settings sizes type fill l value other places is h)
-    form (encoded_places form.type form.chain.arrays form.sizes selection) (taken_form f form.chain form.sizes form.type form.fill) numbers planned same
+    form (encoded_places form.type form.chain.array_to_array form.sizes selection) (taken_form f form.chain form.sizes form.type form.fill) numbers planned same
 
 pub sized_alike : {B : Type 0} (f : BytesCodecs B) → SizedReadsAlike f
 sized_alike f form value other selection numbers planned long same =
     chain_alike f value other (Agree value other) (λ order type fill places h. bytes_sized order type fill value other places long h) (λ settings sizes type fill l places is h. packed_sized settings sizes type fill l value other places long is h)
-    form (encoded_places form.type form.chain.arrays form.sizes selection) (taken_form f form.chain form.sizes form.type form.fill) numbers planned same
+    form (encoded_places form.type form.chain.array_to_array form.sizes selection) (taken_form f form.chain form.sizes form.type form.fill) numbers planned same
 
 -- ---- what is planned is asked for
 
@@ -185,14 +185,14 @@ module _ {B : Type 0} where
       )
 
   chain_asked : (form : ChunkForm B) (stored : Option (List ℕ)) (p : Result (List ℕ) CodecError) (t : Result (List ℕ × BytesRepresentation) CodecError) (numbers : List ℕ)
-      → (p >>= λ places. t >>= λ taken. plan_of form.chain.outer form.chain.codec taken.0 form.type form.fill places) ≡ Ok (Some numbers)
-      → (asks_in_part form.chain.outer form.chain.codec ≡ true) × ((p >>= λ places. t >>= λ taken. asked_of form.chain.outer form.chain.codec taken.0 form.type form.fill places stored) ≡ Ok (Some numbers))
+      → (p >>= λ places. t >>= λ taken. plan_of form.chain.bytes_to_bytes form.chain.array_to_bytes taken.0 form.type form.fill places) ≡ Ok (Some numbers)
+      → (asks_in_part form.chain.bytes_to_bytes form.chain.array_to_bytes ≡ true) × ((p >>= λ places. t >>= λ taken. asked_of form.chain.bytes_to_bytes form.chain.array_to_bytes taken.0 form.type form.fill places stored) ≡ Ok (Some numbers))
   chain_asked form stored (Err e) t numbers is = absurd (cc)
   chain_asked form stored (Ok places) (Err e) numbers is = absurd (cc)
   chain_asked form stored (Ok places) (Ok taken) numbers is =
-      at_asked form.chain.outer form.chain.codec taken.0 form.type form.fill places stored numbers is
+      at_asked form.chain.bytes_to_bytes form.chain.array_to_bytes taken.0 form.type form.fill places stored numbers is
 
 pub planned_is_asked : {B : Type 0} (f : BytesCodecs B) → PlannedIsAsked f
 planned_is_asked f form stored selection numbers planned =
-    let a = chain_asked form stored (encoded_places form.type form.chain.arrays form.sizes selection) (taken_form f form.chain form.sizes form.type form.fill) numbers planned in
+    let a = chain_asked form stored (encoded_places form.type form.chain.array_to_array form.sizes selection) (taken_form f form.chain form.sizes form.type form.fill) numbers planned in
     record { in_part = a.0; asked = a.1 }

@@ -12,10 +12,10 @@ use Rattle.zarrs_codec_chain.specs.ChunkRead.{ChunkForm, asks_in_part, codec_res
 -- The numbers of the bytes that a read of a selection asks for, whatever is stored, where it asks for the bytes of its places alone; else none. Or the first refusal.
 abbrev pub planned_bytes : {B : Type 0} → BytesCodecs B → ChunkForm B → Selection → Result (Option (List ℕ)) CodecError
 planned_bytes f form selection = do
-  places ← encoded_places form.type form.chain.arrays form.sizes selection
+  places ← encoded_places form.type form.chain.array_to_array form.sizes selection
   taken ← taken_form f form.chain form.sizes form.type form.fill
-  numbers ← codec_rests_on form.chain.codec taken.0 form.type form.fill None places
-  Ok (if reads_places form.chain.outer form.chain.codec then Some numbers else None)
+  numbers ← codec_rests_on form.chain.array_to_bytes taken.0 form.type form.fill None places
+  Ok (if reads_places form.chain.bytes_to_bytes form.chain.array_to_bytes then Some numbers else None)
 
 -- these are the planned bytes
 abbrev pub ArePlanned : {B : Type 0} → BytesCodecs B → ChunkForm B → Selection → List ℕ → Type 0
@@ -37,7 +37,7 @@ SizedReadsAlike {B} f =
 
 -- A read asks for a part of the value alone, and for the bytes with these numbers.
 pub record AsksFor {B : Type 0} (f : BytesCodecs B) (form : ChunkForm B) (stored : Option (List ℕ)) (selection : Selection) (numbers : List ℕ) : Type 0 where
-  pub in_part : asks_in_part form.chain.outer form.chain.codec ≡ true
+  pub in_part : asks_in_part form.chain.bytes_to_bytes form.chain.array_to_bytes ≡ true
   pub asked : read_rests_on f form stored selection ≡ Ok (Some numbers)
 
 -- Of whatever is stored, a read asks for the planned bytes.

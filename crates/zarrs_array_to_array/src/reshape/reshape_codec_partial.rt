@@ -1,8 +1,6 @@
 ghost use Rattle.std.specs.Prelude.{◌≡◌, IfOk, IfErr};
-ghost use Rattle.zarrs_array_to_array.specs.ArrayToArrayCodec.{reshape};
 ghost use Rattle.zarrs_array_to_array.specs.ArrayToArrayCodecPartial.{input_of};
-ghost use Rattle.zarrs_array_to_array.specs.Stages.{MakesParts, MakesStage, IsStageOf};
-ghost use Rattle.zarrs_data_type.specs.Form.{form_of};
+ghost use Rattle.zarrs_array_to_array.specs.Stages.{MakesReshaperParts, MakesReshaper, IsStageOf};
 
 use crate::array_to_array_codec_partial::{ArrayToArrayCodecPartial, partial_decoder_of};
 use crate::reshape::reshape_codec::ReshapeCodec;
@@ -26,8 +24,7 @@ impl ReshapeCodec {
         data_type: &DataType,
         fill_value: &FillValue,
     ) -> Result<(ReshapeCodec, ChunkShape), CodecError>
-        ensures answer { MakesParts (λ codec. codec) self.now (reshape self.now)
-            (form_of shape.now data_type.now fill_value.now) result }
+        ensures answer { MakesReshaperParts self.now shape.now data_type.now fill_value.now result }
     {
         self.encoded_representation(alloc, shape, data_type, fill_value)?;
         let codec = self.clone()?;
@@ -45,8 +42,7 @@ impl ReshapeCodec {
         data_type: &DataType,
         fill_value: &FillValue,
     ) -> Result<ArrayToArrayCodecPartial<ReshapeCodec, I>, Refused<I>>
-        ensures answer { MakesStage (reshape self.now)
-            (form_of shape.now data_type.now fill_value.now) result }
+        ensures answer { MakesReshaper self.now shape.now data_type.now fill_value.now result }
         ensures form { IfOk result (IsStageOf self.now shape.now) }
         ensures over { IfOk result (λ stage. input_of stage ≡ input) }
         ensures handed_back { IfErr result (λ refused. refused.handle ≡ input) }
@@ -66,8 +62,7 @@ impl ReshapeCodec {
         data_type: &DataType,
         fill_value: &FillValue,
     ) -> Result<ArrayToArrayCodecPartial<ReshapeCodec, I>, Refused<I>>
-        ensures answer { MakesStage (reshape self.now)
-            (form_of shape.now data_type.now fill_value.now) result }
+        ensures answer { MakesReshaper self.now shape.now data_type.now fill_value.now result }
         ensures form { IfOk result (IsStageOf self.now shape.now) }
         ensures over { IfOk result (λ stage. input_of stage ≡ input) }
         ensures handed_back { IfErr result (λ refused. refused.handle ≡ input) }

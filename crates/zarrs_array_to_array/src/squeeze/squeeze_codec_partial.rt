@@ -1,8 +1,6 @@
 ghost use Rattle.std.specs.Prelude.{◌≡◌, IfOk, IfErr};
-ghost use Rattle.zarrs_array_to_array.specs.ArrayToArrayCodec.{squeeze};
 ghost use Rattle.zarrs_array_to_array.specs.ArrayToArrayCodecPartial.{input_of};
-ghost use Rattle.zarrs_array_to_array.specs.Stages.{MakesParts, MakesStage, IsStageOf};
-ghost use Rattle.zarrs_data_type.specs.Form.{form_of};
+ghost use Rattle.zarrs_array_to_array.specs.Stages.{MakesSqueezerParts, MakesSqueezer, IsStageOf};
 
 use crate::array_to_array_codec_partial::{ArrayToArrayCodecPartial, partial_decoder_of};
 use crate::squeeze::squeeze_codec::SqueezeCodec;
@@ -26,8 +24,7 @@ impl SqueezeCodec {
         data_type: &DataType,
         fill_value: &FillValue,
     ) -> Result<(SqueezeCodec, ChunkShape), CodecError>
-        ensures answer { MakesParts (λ codec. codec) self.now squeeze
-            (form_of shape.now data_type.now fill_value.now) result }
+        ensures answer { MakesSqueezerParts self.now shape.now data_type.now fill_value.now result }
     {
         self.encoded_representation(alloc, shape, data_type, fill_value)?;
         let codec = *self;
@@ -45,8 +42,7 @@ impl SqueezeCodec {
         data_type: &DataType,
         fill_value: &FillValue,
     ) -> Result<ArrayToArrayCodecPartial<SqueezeCodec, I>, Refused<I>>
-        ensures answer { MakesStage squeeze
-            (form_of shape.now data_type.now fill_value.now) result }
+        ensures answer { MakesSqueezer shape.now data_type.now fill_value.now result }
         ensures form { IfOk result (IsStageOf self.now shape.now) }
         ensures over { IfOk result (λ stage. input_of stage ≡ input) }
         ensures handed_back { IfErr result (λ refused. refused.handle ≡ input) }
@@ -66,8 +62,7 @@ impl SqueezeCodec {
         data_type: &DataType,
         fill_value: &FillValue,
     ) -> Result<ArrayToArrayCodecPartial<SqueezeCodec, I>, Refused<I>>
-        ensures answer { MakesStage squeeze
-            (form_of shape.now data_type.now fill_value.now) result }
+        ensures answer { MakesSqueezer shape.now data_type.now fill_value.now result }
         ensures form { IfOk result (IsStageOf self.now shape.now) }
         ensures over { IfOk result (λ stage. input_of stage ≡ input) }
         ensures handed_back { IfErr result (λ refused. refused.handle ≡ input) }

@@ -1,12 +1,11 @@
 //! An indexer of a chunk as one of the transposed chunk.
-ghost use Rattle.std.specs.Prelude.{◌≡◌, ◌<◌, ◌==◌, Ok, true, length, map, IfOk};
+ghost use Rattle.std.specs.Prelude.{◌≡◌, ◌<◌, ◌==◌, Ok, true, length, IfOk};
 ghost use Rattle.std.specs.List.{list_all};
 ghost use Rattle.zarrs_chunk.specs.Indexer.{selection_of};
-ghost use Rattle.zarrs_chunk.specs.Selection.{indices as indices_of, tuples_of, bounds_of, len_of};
-ghost use Rattle.zarrs_chunk.specs.Answer.{Gives};
+ghost use Rattle.zarrs_chunk.specs.Selection.{bounds_of, len_of};
 ghost use Rattle.zarrs_metadata.specs.Orders.{is_order};
-ghost use Rattle.zarrs_array_to_array.specs.Orders.{permuted as permuted_of};
-ghost use Rattle.zarrs_array_to_array.specs.Boxes.{tuples_in};
+ghost use Rattle.zarrs_array_to_array.specs.Boxes.{tuples_in, ordered_tuples as ordered_tuples_of};
+ghost use Rattle.zarrs_array_to_array.specs.EncodedSelection.{GivesOrdered};
 
 use crate::boxes::ordered_box;
 use crate::strides::permuted;
@@ -21,8 +20,7 @@ fn ordered_tuples(
 ) -> Result<Vec<ArrayIndices>, AllocError>
     requires order { is_order order.now ≡ true }
     requires axes { list_all (λ tuple. length tuple.items == length order.now) tuples.now ≡ true }
-    ensures value { IfOk result
-        (λ v. tuples_in v ≡ map (λ tuple. permuted_of order.now tuple.items) tuples.now) }
+    ensures value { IfOk result (λ v. tuples_in v ≡ ordered_tuples_of order.now tuples.now) }
 {
     let mut ordered = Vec::with_capacity(alloc, tuples.len())?;
     for tuple in tuples {
@@ -43,8 +41,7 @@ pub(crate) fn ordered_indexer(
     requires axes { length order.now ≡ length sizes.now }
     requires inside { bounds_of (selection_of indexer.now) sizes.now ≡ Ok tt }
     requires count { len_of (selection_of indexer.now) ≡ Ok count }
-    ensures answer { Gives selection_of result
-        (Ok (indices_of (map (permuted_of order.now) (tuples_of (selection_of indexer.now))))) }
+    ensures answer { GivesOrdered order.now indexer.now result }
 {
     match indexer {
         Indexer::Subset(subset) => {

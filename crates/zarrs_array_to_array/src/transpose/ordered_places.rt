@@ -1,12 +1,12 @@
 //! Where the tuples of a list go when the axes of their chunk are put in another order: each is
 //! numbered in that order, with no division.
-ghost use Rattle.std.specs.Prelude.{◌≡◌, ◌<◌, ◌^◌, true, length, map, All, IfOk, IfSome};
+ghost use Rattle.std.specs.Prelude.{◌≡◌, ◌<◌, ◌^◌, true, length, All, IfSome};
 ghost use Rattle.zarrs_chunk.specs.ChunkShape.{product};
 ghost use Rattle.zarrs_chunk.specs.Numbering.{are_tuples_inside};
-ghost use Rattle.zarrs_chunk.specs.Tuples.{row_major, is_tuple_inside as tuple_inside};
+ghost use Rattle.zarrs_chunk.specs.Tuples.{is_tuple_inside as tuple_inside};
 ghost use Rattle.zarrs_metadata.specs.Orders.{is_order};
-ghost use Rattle.zarrs_array_to_array.specs.Orders.{permuted as permuted_of};
-ghost use Rattle.zarrs_array_to_array.specs.MovedLists.{MovesList, ordered_numbers};
+ghost use Rattle.zarrs_array_to_array.specs.MovedLists.{MovesList, ordered_number, ordered_numbers};
+ghost use Rattle.zarrs_array_to_array.specs.Vectors.{IfFound};
 
 use std::alloc::{AllocError, Global};
 use zarrs_chunk::{ArrayIndices, ChunkShape};
@@ -19,8 +19,7 @@ fn ordered_place(order: &[usize], sizes: &[u64], tuple: &[u64]) -> Option<u64>
     requires positive { All (λ size. 0 < size) sizes.now }
     requires fits { product sizes.now < 2 ^ 64 }
     ensures inside { IfSome result (λ _. tuple_inside sizes.now tuple.now ≡ true) }
-    ensures value { IfSome result (λ place.
-        place ≡ row_major (permuted_of order.now sizes.now) (permuted_of order.now tuple.now)) }
+    ensures value { IfSome result (λ place. place ≡ ordered_number order.now sizes.now tuple.now) }
 {
     if tuple.len() != sizes.len() {
         return None;
@@ -49,10 +48,8 @@ fn ordered_places(
     requires known { All (λ axis. axis < length sizes.now) order.now }
     requires positive { All (λ size. 0 < size) sizes.now }
     requires fits { product sizes.now < 2 ^ 64 }
-    ensures inside { IfOk result
-        (λ found. IfSome found (λ _. are_tuples_inside sizes.now tuples.now ≡ true)) }
-    ensures places { IfOk result (λ found. IfSome found
-        (λ places. places.items ≡ ordered_numbers order.now sizes.now tuples.now)) }
+    ensures inside { IfFound (λ _. are_tuples_inside sizes.now tuples.now ≡ true) result }
+    ensures places { IfFound (λ v. v ≡ ordered_numbers order.now sizes.now tuples.now) result }
 {
     let mut places = Vec::with_capacity(alloc, tuples.len())?;
     for tuple in tuples {
@@ -73,8 +70,7 @@ pub(crate) fn listed_places(
     tuples: &[ArrayIndices],
 ) -> Result<Option<Vec<u64>>, AllocError>
     requires order { is_order order.now ≡ true }
-    ensures moved { IfOk result (λ found. IfSome found
-        (λ places. MovesList order.now shape.now tuples.now places.items)) }
+    ensures moved { IfFound (MovesList order.now shape.now tuples.now) result }
 {
     let sizes = shape.as_slice();
     if order.len() != sizes.len() || shape.num_elements().is_err() {

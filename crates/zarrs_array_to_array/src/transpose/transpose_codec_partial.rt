@@ -1,8 +1,6 @@
 ghost use Rattle.std.specs.Prelude.{◌≡◌, IfOk, IfErr};
-ghost use Rattle.zarrs_array_to_array.specs.ArrayToArrayCodec.{transpose};
 ghost use Rattle.zarrs_array_to_array.specs.ArrayToArrayCodecPartial.{input_of};
-ghost use Rattle.zarrs_array_to_array.specs.Stages.{MakesParts, MakesStage, IsStageOf};
-ghost use Rattle.zarrs_data_type.specs.Form.{form_of};
+ghost use Rattle.zarrs_array_to_array.specs.Stages.{MakesTransposerParts, MakesTransposer, IsStageOf};
 
 use crate::array_to_array_codec_partial::{ArrayToArrayCodecPartial, partial_decoder_of};
 use crate::transpose::transpose_codec::TransposeCodec;
@@ -24,12 +22,11 @@ impl TransposeCodec {
         alloc: Global,
         shape: &ChunkShape,
         data_type: &DataType,
-        fill_value: &FillValue,
+        fill: &FillValue,
     ) -> Result<(TransposeCodec, ChunkShape), CodecError>
-        ensures answer { MakesParts (λ codec. codec) self.now (transpose self.now)
-            (form_of shape.now data_type.now fill_value.now) result }
+        ensures answer { MakesTransposerParts self.now shape.now data_type.now fill.now result }
     {
-        self.encoded_representation(alloc, shape, data_type, fill_value)?;
+        self.encoded_representation(alloc, shape, data_type, fill)?;
         let codec = self.clone()?;
         let shape = shape.clone()?;
         Ok((codec, shape))
@@ -45,8 +42,7 @@ impl TransposeCodec {
         data_type: &DataType,
         fill_value: &FillValue,
     ) -> Result<ArrayToArrayCodecPartial<TransposeCodec, I>, Refused<I>>
-        ensures answer { MakesStage (transpose self.now)
-            (form_of shape.now data_type.now fill_value.now) result }
+        ensures answer { MakesTransposer self.now shape.now data_type.now fill_value.now result }
         ensures form { IfOk result (IsStageOf self.now shape.now) }
         ensures over { IfOk result (λ stage. input_of stage ≡ input) }
         ensures handed_back { IfErr result (λ refused. refused.handle ≡ input) }
@@ -66,8 +62,7 @@ impl TransposeCodec {
         data_type: &DataType,
         fill_value: &FillValue,
     ) -> Result<ArrayToArrayCodecPartial<TransposeCodec, I>, Refused<I>>
-        ensures answer { MakesStage (transpose self.now)
-            (form_of shape.now data_type.now fill_value.now) result }
+        ensures answer { MakesTransposer self.now shape.now data_type.now fill_value.now result }
         ensures form { IfOk result (IsStageOf self.now shape.now) }
         ensures over { IfOk result (λ stage. input_of stage ≡ input) }
         ensures handed_back { IfErr result (λ refused. refused.handle ≡ input) }

@@ -1,9 +1,9 @@
-ghost use Rattle.std.specs.Prelude.{◌≡◌, ◌<◌, ◌*◌, ◌^◌, Ok, true, length, All, IfOk};
-ghost use Rattle.zarrs_array_bytes.specs.Held.{flen, owned_bytes};
-ghost use Rattle.zarrs_chunk.specs.Answer.{Gives};
+ghost use Rattle.std.specs.Prelude.{◌≡◌, ◌<◌, ◌*◌, ◌^◌, true, length, All};
 ghost use Rattle.zarrs_chunk.specs.ChunkShape.{product};
 ghost use Rattle.zarrs_metadata.specs.Orders.{is_order};
 ghost use Rattle.zarrs_array_to_array.specs.Transpose.{transposed_bytes};
+ghost use Rattle.zarrs_array_to_array.specs.TransposeCodec.{GivesFixed};
+ghost use Rattle.zarrs_array_to_array.specs.Vectors.{ItemsAre};
 
 use crate::axis::ordered_axes;
 use crate::planes::gather_axes;
@@ -26,8 +26,7 @@ fn transposed_pieces(
     requires fits { product sizes.now < 2 ^ 64 }
     requires sized { 0 < size }
     requires whole { length bytes.now ≡ product sizes.now * size }
-    ensures value { IfOk result
-        (λ v. v.items ≡ transposed_bytes size order.now sizes.now bytes.now) }
+    ensures value { ItemsAre (transposed_bytes size order.now sizes.now bytes.now) result }
 {
     let axes = ordered_axes(alloc, order, sizes)?;
     gather_axes(alloc, bytes, size, axes.as_slice())
@@ -47,8 +46,7 @@ pub(crate) fn transposed_fixed<'b>(
     requires fits { product sizes.now < 2 ^ 64 }
     requires sized { 0 < size }
     requires whole { length bytes.now ≡ product sizes.now * size }
-    ensures exact { Gives (λ array. array) result
-        (Ok (flen (owned_bytes (transposed_bytes size order.now sizes.now bytes.now)))) }
+    ensures exact { GivesFixed (transposed_bytes size order.now sizes.now bytes.now) result }
 {
     let bytes = transposed_pieces(alloc, bytes, size, order, sizes)?;
     Ok(ArrayBytes::new_flen(CowSlice::Owned(bytes)))

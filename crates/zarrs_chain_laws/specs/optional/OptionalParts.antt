@@ -1,5 +1,6 @@
 -- What the calls of the codec `optional` answer, one step at a time.
-use Rattle.std.specs.Prelude.{ℕ, List, length, Result, Ok, Err, ◌+◌, ◌^◌, nat_lt, if◌then◌else◌, Option, Some, None, [], ◌∷◌}
+use Rattle.std.specs.Prelude.{◌≡◌, true, ℕ, List, length, Result, Ok, Err, ◌+◌, ◌^◌, nat_lt, if◌then◌else◌, Option, Some, None, [], ◌∷◌}
+use Rattle.std.specs.List.{list_all}
 use Rattle.zarrs_chunk.specs.Answer.{◌>>=◌, GivesBy}
 use Rattle.zarrs_chunk.specs.declared.codec_error.CodecError.{CodecError}
 use Rattle.zarrs_chunk.specs.declared.codec_error.CodecError.TheVariants.{UnsupportedDataType}
@@ -11,7 +12,7 @@ use Rattle.zarrs_array_bytes.specs.Held.{Held, masked, owned_bytes, items_of}
 use Rattle.zarrs_array_bytes.specs.Present.{present_elements}
 use Rattle.zarrs_chain_laws.specs.Decode.{Decoder, part_chunk, flags_in, count_set, under_flags, chain_chunk}
 use Rattle.zarrs_chain_laws.specs.Representation.{blank_fill, flag_type}
-use Rattle.std.proofs.Common.{Global}
+use Rattle.std.proofs.Common.{Bor, Global}
 use Rattle.std.specs.declared.borrow.CowSlice.{CowSlice}
 use Rattle.zarrs_chunk.specs.ChunkShape.{product}
 use Rattle.zarrs_array_bytes.specs.Validity.{Holds}
@@ -40,6 +41,14 @@ present_part decode type mask part = do
 -- how many bytes a value has whose parts have so many, where 64 bits count them
 abbrev pub joined_size : ℕ → ℕ → Option ℕ
 joined_size mask content = if nat_lt (16 + mask + content) (2 ^ 64) then Some (16 + mask + content) else None
+
+-- the bytes of both parts, which are lent
+abbrev pub both_lent : Bor (List ℕ) × Bor (List ℕ) → List ℕ × List ℕ
+both_lent parts = (parts.0.now, parts.1.now)
+
+-- mask bytes are zeros and ones
+abbrev pub AreFlags : List ℕ → Type 0
+AreFlags mask = list_all (λ byte. nat_lt byte 2) mask ≡ true
 
 -- the bytes of both parts
 abbrev pub both_items : CowSlice ℕ Global × CowSlice ℕ Global → List ℕ × List ℕ

@@ -53,4 +53,4 @@ PlainIsPlain B =
 
 -- the byte order of a lone codec `bytes`, or that it has none; none of any other chain
 abbrev pub lone_order : {B : Type 0} → PlainChain B → Option (Option Endianness)
-lone_order chain = lone_bytes chain.arrays chain.codec chain.outer
+lone_order chain = lone_bytes chain.array_to_array chain.array_to_bytes chain.bytes_to_bytes

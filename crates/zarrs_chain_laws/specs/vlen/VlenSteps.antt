@@ -2,11 +2,11 @@
 use Rattle.zarrs_data_type.specs.Form.{form_of, Form}
 use Rattle.std.specs.Prelude.{◌≡◌, ℕ, ◌+◌, ◌-◌, ◌/◌, Bool, true, false, nat_le, if◌then◌else◌, List, [], ◌∷◌, length, map, take, drop, slice_index, Result, Ok, IsOk}
 use Rattle.std.specs.List.{flat_map}
-use Rattle.zarrs_chunk.specs.Answer.{◌>>=◌, demand, Answers, memory}
+use Rattle.zarrs_chunk.specs.Answer.{◌>>=◌, demand, Answers, memory, GivesBy}
 use Rattle.zarrs_chunk.specs.declared.codec_error.CodecError.{CodecError}
 use Rattle.zarrs_chunk.specs.declared.codec_error.CodecError.TheVariants.{IndexLength, InvalidOffsets, OffsetTooLarge, OffsetNotKept}
 use Rattle.zarrs_data_type.specs.Element.{Chunk}
-use Rattle.zarrs_array_bytes.specs.Held.{Raw, flen}
+use Rattle.zarrs_array_bytes.specs.Held.{Held, Raw, flen}
 use Rattle.zarrs_array_bytes.specs.Offsets.{rises, last_of}
 use Rattle.zarrs_array_bytes.specs.Pieces.{pieces}
 use Rattle.zarrs_codec.specs.BytesToBytesCodec.{BytesCodecs}
@@ -68,6 +68,10 @@ index_elements wide offsets = do
   _ ← demand (offsets_fit wide offsets) OffsetTooLarge
   Ok (offset_elements wide (from_first offsets))
 
+-- a container of an index's elements is given, or the refusal of offsets that are too large
+abbrev pub GivesIndex : Bool → List ℕ → Result Held CodecError → Type 0
+GivesIndex wide offsets result = GivesBy (Holds (offset_type wide)) result (index_elements wide offsets)
+
 -- the offsets that bytes spell
 abbrev pub read_offsets : Bool → List ℕ → List ℕ
 read_offsets wide items = map (offset_of wide) (pieces (offset_size wide) (length items / offset_size wide) items)
@@ -93,7 +97,7 @@ abbrev pub index_part : {B : Type 0} → BytesCodecs B → PlainChain B → Bool
 index_part f chain wide offsets = do
   rows ← index_elements wide offsets
   part ← chain_value f chain (length rows ∷ []) (offset_type wide) (offset_bytes wide 0) rows
-  _ ← demand (keeps_offsets chain.codec wide offsets) OffsetNotKept
+  _ ← demand (keeps_offsets chain.array_to_bytes wide offsets) OffsetNotKept
   Ok part
 
 -- the data part of bytes through a chain

@@ -1,13 +1,10 @@
 //! The configuration of `optional`, read from metadata and made of its keys.
 ghost use Rattle.zarrs_chain_laws.specs.WrittenMetadata.{optional_members_of};
-ghost use Rattle.std.specs.Prelude.{◌≡◌, ◌<◌, IfOk, map};
-ghost use Rattle.zarrs_chunk.specs.Answer.{Answers};
-ghost use Rattle.zarrs_metadata.specs.CodecMetadata.{made_of};
+ghost use Rattle.std.specs.Prelude.{◌≡◌, IfOk, map};
 ghost use Rattle.zarrs_metadata.specs.MetadataV3.{metadata_seen, Writes};
-ghost use Rattle.zarrs_metadata.specs.OptionalConfiguration.{optional_seen, read_optional};
-ghost use Rattle.zarrs_metadata.specs.PluginCreateError.{plugin_memory};
-ghost use Rattle.zarrs_chain_laws.specs.CodecNames.{is_optional_name};
-ghost use Rattle.zarrs_chain_laws.specs.MadeChain.{depth_of, depth_all};
+ghost use Rattle.zarrs_metadata.specs.OptionalConfiguration.{optional_seen};
+ghost use Rattle.zarrs_metadata.specs.PluginCreateError.{Makes};
+ghost use Rattle.zarrs_chain_laws.specs.MadeChain.{read_as_optional, LessDeep};
 
 use crate::codec_name::is_optional;
 use std::alloc::Global;
@@ -21,8 +18,7 @@ fn read_optional_configuration(
     alloc: Global,
     metadata: &MetadataV3,
 ) -> Result<OptionalCodecConfiguration, PluginCreateError>
-    ensures answer { Answers plugin_memory optional_seen result
-        (made_of is_optional_name read_optional (metadata_seen metadata.now)) }
+    ensures answer { Makes optional_seen result (read_as_optional (metadata_seen metadata.now)) }
 {
     if !is_optional(metadata.name()) {
         return Err(PluginCreateError::UnknownName);
@@ -40,12 +36,9 @@ pub fn optional_configuration(
     alloc: Global,
     metadata: &MetadataV3,
 ) -> Result<OptionalCodecConfiguration, PluginCreateError>
-    ensures answer { Answers plugin_memory optional_seen result
-        (made_of is_optional_name read_optional (metadata_seen metadata.now)) }
-    ensures mask_depth { IfOk result
-        (λ c. depth_all (optional_seen c).mask_codecs < depth_of (metadata_seen metadata.now)) }
-    ensures content_depth { IfOk result
-        (λ c. depth_all (optional_seen c).data_codecs < depth_of (metadata_seen metadata.now)) }
+    ensures answer { Makes optional_seen result (read_as_optional (metadata_seen metadata.now)) }
+    ensures mask_depth { IfOk result (λ c. LessDeep (optional_seen c).mask_codecs metadata.now) }
+    ensures content_depth { IfOk result (λ c. LessDeep (optional_seen c).data_codecs metadata.now) }
 {
     read_optional_configuration(alloc, metadata)
 }

@@ -1,7 +1,6 @@
 //! The parts of a value of the codec `optional`, and what its chains inside are handed.
-ghost use Rattle.std.specs.Prelude.{◌≡◌, ◌≤◌, ◌+◌, ◌^◌, ℕ, List, Ok, Err, IfOk, IfErr, Some, None, nat_lt, if◌then◌else◌, true, false, length, take, drop};
-ghost use Rattle.std.specs.List.{list_all};
-ghost use Rattle.zarrs_chunk.specs.Answer.{is_fault, seen, Gives};
+ghost use Rattle.std.specs.Prelude.{◌≡◌, ◌≤◌, ◌+◌, Ok, Err, IfOk, IfErr, Some, None, true, false, length, drop};
+ghost use Rattle.zarrs_chunk.specs.Answer.{is_fault, seen, Gives, GivesValue};
 ghost use Rattle.zarrs_data_type.specs.FillValue.{fill_fits};
 ghost use Rattle.zarrs_array_bytes.specs.Held.{items_of, masked, raw_of};
 ghost use Rattle.zarrs_array_bytes.specs.Parts.{optional_part};
@@ -9,7 +8,7 @@ ghost use Rattle.zarrs_array_bytes.specs.Present.{present_count};
 ghost use Rattle.zarrs_chain_laws.specs.BytesStages.{in_memory};
 ghost use Rattle.zarrs_chain_laws.specs.Decode.{optional_parts};
 ghost use Rattle.zarrs_chain_laws.specs.Encode.{optional_layout};
-ghost use Rattle.zarrs_chain_laws.specs.optional.OptionalParts.{optional_inner, joined_size, both_items};
+ghost use Rattle.zarrs_chain_laws.specs.optional.OptionalParts.{optional_inner, joined_size, both_lent, both_items, AreFlags};
 ghost use Rattle.zarrs_chain_laws.specs.Representation.{blank_fill as blank_fill_of, both_representations as both_representations_of};
 
 use crate::vlen::length_fields::read_length;
@@ -38,7 +37,7 @@ pub fn inner_type(data_type: &DataType) -> Result<&DataType, CodecError>
 /// Refusals: `OutOfMemory`.
 #[tactic(auto, using(crate::proofs::OptionalSteps::blank_fits))]
 pub fn blank_fill(alloc: Global, data_type: &DataType) -> Result<FillValue, CodecError>
-    ensures answer { Gives (λ fill. fill) result (Ok (blank_fill_of data_type.now)) }
+    ensures answer { GivesValue result (Ok (blank_fill_of data_type.now)) }
     ensures filling { fill_fits data_type.now (blank_fill_of data_type.now) ≡ true }
 {
     if data_type.is_optional() {
@@ -57,8 +56,7 @@ pub fn masked_parts(
     elements: ArrayBytes<'_>,
 ) -> Result<(ArrayBytes<'_>, ArrayBytesRaw<'_>, u64), CodecError>
     ensures parts { IfOk result (λ parts. elements.entry ≡ masked parts.0 (raw_of parts.1)) }
-    ensures flags { IfOk result
-        (λ parts. list_all (λ byte. nat_lt byte 2) (items_of parts.1) ≡ true) }
+    ensures flags { IfOk result (λ parts. AreFlags (items_of parts.1)) }
     ensures count { IfOk result (λ parts. present_count (items_of parts.1) ≡ Ok parts.2) }
     ensures cause { IfErr result (λ cause. optional_part elements.entry ≡ Err cause) }
     ensures no_fault { is_fault result ≡ false }
@@ -107,8 +105,7 @@ pub fn lent<'r>(raw: &'r ArrayBytesRaw<'_>) -> &'r [u8]
 /// `InvalidBytesLength` where there are fewer bytes than the lengths take; `HeaderOverflow` where 64
 /// bits don't count what the lengths say; `InvalidBytesLength` where there are more bytes, or fewer.
 fn split_bytes(value: &[u8]) -> Result<(&[u8], &[u8]), CodecError>
-    ensures answer { seen {Y = List ℕ × List ℕ} (λ parts. (parts.0.now, parts.1.now)) result ≡
-        optional_parts value.now }
+    ensures answer { seen both_lent result ≡ optional_parts value.now }
     ensures no_fault { is_fault result ≡ false }
 {
     let len = value.len() as u64;

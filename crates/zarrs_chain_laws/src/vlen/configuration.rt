@@ -1,13 +1,10 @@
 //! The configuration of `vlen`, read from metadata and made of its keys.
-ghost use Rattle.zarrs_chain_laws.specs.WrittenMetadata.{vlen_members_of};
-ghost use Rattle.std.specs.Prelude.{◌≡◌, ◌<◌, IfOk, map};
-ghost use Rattle.zarrs_chunk.specs.Answer.{Answers};
-ghost use Rattle.zarrs_metadata.specs.CodecMetadata.{made_of};
-ghost use Rattle.zarrs_metadata.specs.MetadataV3.{metadata_seen, Writes};
-ghost use Rattle.zarrs_metadata.specs.PluginCreateError.{plugin_memory};
-ghost use Rattle.zarrs_metadata.specs.VlenConfiguration.{vlen_seen, read_vlen};
-ghost use Rattle.zarrs_chain_laws.specs.CodecNames.{is_vlen_name};
-ghost use Rattle.zarrs_chain_laws.specs.MadeChain.{depth_of, depth_all, location_or_start};
+ghost use Rattle.zarrs_chain_laws.specs.WrittenMetadata.{WritesVlen};
+ghost use Rattle.std.specs.Prelude.{◌≡◌, IfOk, map};
+ghost use Rattle.zarrs_metadata.specs.MetadataV3.{metadata_seen};
+ghost use Rattle.zarrs_metadata.specs.PluginCreateError.{Makes};
+ghost use Rattle.zarrs_metadata.specs.VlenConfiguration.{vlen_seen};
+ghost use Rattle.zarrs_chain_laws.specs.MadeChain.{read_as_vlen, LessDeep, location_or_start};
 
 use crate::codec_name::is_vlen;
 use std::alloc::Global;
@@ -21,8 +18,7 @@ fn read_vlen_configuration(
     alloc: Global,
     metadata: &MetadataV3,
 ) -> Result<VlenCodecConfiguration, PluginCreateError>
-    ensures answer { Answers plugin_memory vlen_seen result
-        (made_of is_vlen_name read_vlen (metadata_seen metadata.now)) }
+    ensures answer { Makes vlen_seen result (read_as_vlen (metadata_seen metadata.now)) }
 {
     if !is_vlen(metadata.name()) {
         return Err(PluginCreateError::UnknownName);
@@ -40,12 +36,9 @@ pub fn vlen_configuration(
     alloc: Global,
     metadata: &MetadataV3,
 ) -> Result<VlenCodecConfiguration, PluginCreateError>
-    ensures answer { Answers plugin_memory vlen_seen result
-        (made_of is_vlen_name read_vlen (metadata_seen metadata.now)) }
-    ensures index_depth { IfOk result
-        (λ c. depth_all (vlen_seen c).index_codecs < depth_of (metadata_seen metadata.now)) }
-    ensures content_depth { IfOk result
-        (λ c. depth_all (vlen_seen c).data_codecs < depth_of (metadata_seen metadata.now)) }
+    ensures answer { Makes vlen_seen result (read_as_vlen (metadata_seen metadata.now)) }
+    ensures index_depth { IfOk result (λ c. LessDeep (vlen_seen c).index_codecs metadata.now) }
+    ensures content_depth { IfOk result (λ c. LessDeep (vlen_seen c).data_codecs metadata.now) }
 {
     read_vlen_configuration(alloc, metadata)
 }
@@ -98,8 +91,7 @@ pub fn vlen_members(
     index_data_type: VlenIndexDataType,
     index_location: VlenIndexLocation,
 ) -> Result<Configuration, PluginCreateError>
-    ensures answer { Writes result
-        (vlen_members_of index_codecs.items data_codecs.items index_data_type index_location) }
+    ensures answer { WritesVlen index_codecs data_codecs index_data_type index_location result }
 {
     let configuration = VlenCodecConfiguration::V0_1(VlenCodecConfigurationV0_1 {
         index_codecs,

@@ -2,16 +2,14 @@
 //!
 //! They are made in blocks, since each append to a vector costs as much as the copy of some dozen
 //! bytes.
-ghost use Rattle.std.specs.Prelude.{◌≡◌, ◌++◌, ◌*◌, ◌/◌, ◌-◌, ◌^◌, ◌<◌, ◌≤◌, All, IfOk, OnOk, Ok, false, true, length, map};
-ghost use Rattle.zarrs_chunk.specs.Answer.{Gives, GivesBy};
+ghost use Rattle.std.specs.Prelude.{◌≡◌, ◌*◌, ◌-◌, ◌^◌, ◌<◌, ◌≤◌, All, IfOk, Ok, false, true, length};
+ghost use Rattle.zarrs_chunk.specs.Answer.{GivesItems, GivesValue, Appends};
 ghost use Rattle.zarrs_array_bytes.specs.Offsets.{is_offsets};
-ghost use Rattle.zarrs_array_bytes.specs.Pieces.{pieces};
-ghost use Rattle.zarrs_array_bytes.specs.Validity.{Holds};
 ghost use Rattle.zarrs_chain_laws.specs.vlen.VlenSettings.{is_wide};
 ghost use Rattle.zarrs_chain_laws.specs.Decode.{offset_of};
 ghost use Rattle.zarrs_chain_laws.specs.Encode.{offset_bytes};
 ghost use Rattle.zarrs_chain_laws.specs.Representation.{offset_type as offset_type_of};
-ghost use Rattle.zarrs_chain_laws.specs.vlen.VlenSteps.{bytes_from, written_offsets, index_elements as index_elements_of, read_offsets};
+ghost use Rattle.zarrs_chain_laws.specs.vlen.VlenSteps.{bytes_from, written_offsets, GivesIndex, read_offsets};
 
 use std::alloc::{AllocError, Global};
 use std::borrow::CowSlice;
@@ -56,8 +54,7 @@ fn put_narrow(items: &mut [u8], offsets: &[usize], first: usize)
 fn append_wide(out: &mut Vec<u8>, offsets: &[usize], first: usize) -> Result<(), AllocError>
     requires len { length offsets.now ≤ 32 }
     requires above { All (λ offset. first ≤ offset) offsets.now }
-    ensures appended { OnOk result
-        (out.new.items ≡ out.old.items ++ bytes_from true first offsets.now) }
+    ensures appended { Appends out.old out.new result (bytes_from true first offsets.now) }
 {
     let mut block = [0u8; BLOCK * 8];
     let size = offsets.len() * 8;
@@ -70,8 +67,7 @@ fn append_narrow(out: &mut Vec<u8>, offsets: &[usize], first: usize) -> Result<(
     requires len { length offsets.now ≤ 32 }
     requires above { All (λ offset. first ≤ offset) offsets.now }
     requires fits { All (λ offset. offset - first < 2 ^ 32) offsets.now }
-    ensures appended { OnOk result
-        (out.new.items ≡ out.old.items ++ bytes_from false first offsets.now) }
+    ensures appended { Appends out.old out.new result (bytes_from false first offsets.now) }
 {
     let mut block = [0u8; BLOCK * 4];
     let size = offsets.len() * 4;
@@ -118,7 +114,7 @@ pub fn offset_items(
     data_type: VlenIndexDataType,
 ) -> Result<Vec<u8>, CodecError>
     requires rising { is_offsets offsets.now ≡ true }
-    ensures exact { Gives (λ v. v.items) result (written_offsets (is_wide data_type) offsets.now) }
+    ensures exact { GivesItems result (written_offsets (is_wide data_type) offsets.now) }
 {
     let first = offsets[0];
     match data_type {
@@ -145,7 +141,7 @@ pub fn offset_type(data_type: VlenIndexDataType) -> DataType
 /// The fill value of such elements: zero. Refusals: `OutOfMemory`.
 #[tactic(auto, unfolding(crate::specs::Encode::offset_bytes))]
 pub fn offset_fill(alloc: Global, data_type: VlenIndexDataType) -> Result<FillValue, CodecError>
-    ensures answer { Gives (λ fill. fill) result (Ok (offset_bytes (is_wide data_type) 0)) }
+    ensures answer { GivesValue result (Ok (offset_bytes (is_wide data_type) 0)) }
 {
     let zero = match data_type {
         VlenIndexDataType::UInt32 => vec![in alloc; 0u8; 4]?,
@@ -162,8 +158,7 @@ pub fn index_elements<'a>(
     data_type: VlenIndexDataType,
 ) -> Result<ArrayBytes<'a>, CodecError>
     requires rising { is_offsets offsets.now ≡ true }
-    ensures exact { GivesBy (Holds (offset_type_of (is_wide data_type))) result
-        (index_elements_of (is_wide data_type) offsets.now) }
+    ensures exact { GivesIndex (is_wide data_type) offsets.now result }
 {
     let items = offset_items(alloc, offsets, data_type)?;
     Ok(ArrayBytes::new_flen(CowSlice::Owned(items)))
@@ -176,7 +171,7 @@ pub fn offset_numbers(
     items: &[u8],
     data_type: VlenIndexDataType,
 ) -> Result<Vec<usize>, CodecError>
-    ensures exact { Gives (λ v. v.items) result (Ok (read_offsets (is_wide data_type) items.now)) }
+    ensures exact { GivesItems result (Ok (read_offsets (is_wide data_type) items.now)) }
 {
     match data_type {
         VlenIndexDataType::UInt64 => Ok(wide_numbers(alloc, items)?),
@@ -186,8 +181,7 @@ pub fn offset_numbers(
 
 /// The numbers that eight bytes each spell, the lowest first.
 fn wide_numbers(alloc: Global, items: &[u8]) -> Result<Vec<usize>, AllocError>
-    ensures value { IfOk result
-        (λ v. v.items ≡ map (offset_of true) (pieces 8 (length items.now / 8) items.now)) }
+    ensures value { IfOk result (λ v. v.items ≡ read_offsets true items.now) }
 {
     let count = items.len() / 8;
     let mut numbers = vec![in alloc; 0usize; count]?;
@@ -200,8 +194,7 @@ fn wide_numbers(alloc: Global, items: &[u8]) -> Result<Vec<usize>, AllocError>
 
 /// The numbers that four bytes each spell, the lowest first.
 fn narrow_numbers(alloc: Global, items: &[u8]) -> Result<Vec<usize>, AllocError>
-    ensures value { IfOk result
-        (λ v. v.items ≡ map (offset_of false) (pieces 4 (length items.now / 4) items.now)) }
+    ensures value { IfOk result (λ v. v.items ≡ read_offsets false items.now) }
 {
     let count = items.len() / 4;
     let mut numbers = vec![in alloc; 0usize; count]?;

@@ -1,12 +1,13 @@
 //! The parts of a value of the codec `vlen`: the length of its index, the index and the data.
-ghost use Rattle.std.specs.Prelude.{◌≡◌, ◌++◌, ◌+◌, ◌≤◌, ℕ, List, IfOk, false, true, length, take, drop};
-ghost use Rattle.zarrs_chunk.specs.Answer.{is_fault, seen, Gives};
-ghost use Rattle.zarrs_array_bytes.specs.Held.{items_of, raw_of};
+ghost use Rattle.std.specs.Prelude.{◌≡◌, ◌++◌, ◌+◌, ◌≤◌, IfOk, false, true, length, take, drop};
+ghost use Rattle.zarrs_chunk.specs.Answer.{is_fault, seen, GivesItems};
+ghost use Rattle.zarrs_array_bytes.specs.Held.{items_of};
 ghost use Rattle.zarrs_array_bytes.specs.Offsets.{last_of};
-ghost use Rattle.zarrs_array_bytes.specs.Parts.{variable_part};
+ghost use Rattle.zarrs_array_bytes.specs.Parts.{raw_and_offsets, variable_part};
 ghost use Rattle.zarrs_chain_laws.specs.BytesStages.{in_memory};
 ghost use Rattle.zarrs_chain_laws.specs.Decode.{vlen_parts};
-ghost use Rattle.zarrs_chain_laws.specs.Encode.{length_bytes, vlen_layout};
+ghost use Rattle.zarrs_chain_laws.specs.Encode.{length_bytes, joined_vlen};
+ghost use Rattle.zarrs_chain_laws.specs.optional.OptionalParts.{both_lent};
 ghost use Rattle.zarrs_chain_laws.specs.vlen.VlenSettings.{is_at_end};
 ghost use Rattle.zarrs_chain_laws.specs.vlen.VlenSteps.{index_length, data_part as data_part_of};
 
@@ -34,8 +35,7 @@ fn index_size(head: &[u8], others: usize) -> Result<usize, CodecError>
 
 /// The parts where the index stands first.
 fn split_start(value: &[u8]) -> Result<(&[u8], &[u8]), CodecError>
-    ensures answer { seen {Y = List ℕ × List ℕ} (λ parts. (parts.0.now, parts.1.now)) result ≡
-        vlen_parts false value.now }
+    ensures answer { seen both_lent result ≡ vlen_parts false value.now }
 {
     if value.len() < LENGTH_SIZE {
         return Err(CodecError::InvalidBytesLength {
@@ -50,8 +50,7 @@ fn split_start(value: &[u8]) -> Result<(&[u8], &[u8]), CodecError>
 
 /// The parts where the index stands last.
 fn split_end(value: &[u8]) -> Result<(&[u8], &[u8]), CodecError>
-    ensures answer { seen {Y = List ℕ × List ℕ} (λ parts. (parts.0.now, parts.1.now)) result ≡
-        vlen_parts true value.now }
+    ensures answer { seen both_lent result ≡ vlen_parts true value.now }
 {
     if value.len() < LENGTH_SIZE {
         return Err(CodecError::InvalidBytesLength {
@@ -68,8 +67,7 @@ fn split_end(value: &[u8]) -> Result<(&[u8], &[u8]), CodecError>
 /// The index and the data of a value. Refusals, the first that holds: `InvalidBytesLength` where it
 /// is shorter than the index's length; `IndexLength` where the index is longer than what is left.
 pub fn split(value: &[u8], location: VlenIndexLocation) -> Result<(&[u8], &[u8]), CodecError>
-    ensures answer { seen {Y = List ℕ × List ℕ} (λ parts. (parts.0.now, parts.1.now)) result ≡
-        vlen_parts (is_at_end location) value.now }
+    ensures answer { seen both_lent result ≡ vlen_parts (is_at_end location) value.now }
     ensures no_fault { is_fault result ≡ false }
 {
     match location {
@@ -82,7 +80,7 @@ pub fn split(value: &[u8], location: VlenIndexLocation) -> Result<(&[u8], &[u8])
 /// front.
 pub fn behind(bytes: ArrayBytesRaw<'_>, count: usize) -> ArrayBytesRaw<'_>
     requires inside { count ≤ length (items_of bytes) }
-    ensures rest { (items_of result) ≡ drop count (items_of bytes.entry) }
+    ensures rest { items_of result ≡ drop count (items_of bytes.entry) }
 {
     match bytes {
         CowSlice::Borrowed(bytes) => CowSlice::Borrowed(&bytes[count..]),
@@ -96,7 +94,7 @@ pub fn behind(bytes: ArrayBytesRaw<'_>, count: usize) -> ArrayBytesRaw<'_>
 /// The first `count` bytes. Borrowed bytes are lent on, owned ones stay where they are.
 fn front(bytes: ArrayBytesRaw<'_>, count: usize) -> ArrayBytesRaw<'_>
     requires inside { count ≤ length (items_of bytes) }
-    ensures front { (items_of result) ≡ take count (items_of bytes.entry) }
+    ensures front { items_of result ≡ take count (items_of bytes.entry) }
 {
     match bytes {
         CowSlice::Borrowed(bytes) => CowSlice::Borrowed(&bytes[..count]),
@@ -114,8 +112,7 @@ pub fn data_part(
     location: VlenIndexLocation,
 ) -> ArrayBytesRaw<'_>
     requires inside { 8 + size ≤ length (items_of value) }
-    ensures part { (items_of result) ≡
-        data_part_of (is_at_end location) size (items_of value.entry) }
+    ensures part { items_of result ≡ data_part_of (is_at_end location) size (items_of value.entry) }
 {
     match location {
         VlenIndexLocation::Start => behind(value, LENGTH_SIZE + size),
@@ -131,8 +128,7 @@ pub fn data_part(
 pub fn variable_parts<'a>(
     elements: ArrayBytes<'a>,
 ) -> Result<(ArrayBytesRaw<'a>, ArrayBytesOffsets), CodecError>
-    ensures answer { seen (λ parts. (raw_of parts.0, parts.1)) result ≡
-        variable_part elements.entry }
+    ensures answer { seen raw_and_offsets result ≡ variable_part elements.entry }
     ensures ending { IfOk result (λ parts. last_of parts.1 ≡ length (items_of parts.0)) }
     ensures no_fault { is_fault result ≡ false }
 {
@@ -142,8 +138,7 @@ pub fn variable_parts<'a>(
 
 /// Three parts, one behind another.
 fn joined(alloc: Global, first: &[u8], second: &[u8], third: &[u8]) -> Result<Vec<u8>, CodecError>
-    ensures answer { Gives (λ v. v.items) result
-        (in_memory (first.now ++ (second.now ++ third.now))) }
+    ensures answer { GivesItems result (in_memory (first.now ++ (second.now ++ third.now))) }
 {
     let room = first
         .len()
@@ -164,8 +159,7 @@ pub fn join(
     content: &[u8],
     location: VlenIndexLocation,
 ) -> Result<Vec<u8>, CodecError>
-    ensures answer { Gives (λ v. v.items) result
-        (in_memory (vlen_layout (is_at_end location) index.now content.now)) }
+    ensures answer { GivesItems result (joined_vlen (is_at_end location) index.now content.now) }
 {
     let head = (index.len() as u64).to_le_bytes();
     match location {

@@ -38,12 +38,12 @@ decode::chain_decode-returns g t c =
             let f = g.B.BytesToBytesCodecTraits.functions in
             let chain = plain_chain c.args.chain.now in
             let sizes = c.args.shape.now in
-            let type = c.args.data_type.now in
-            let fill = c.args.fill_value.now in
+            let type = c.args.kind.now in
+            let fill = c.args.fill.now in
             let taken = c.in_ok-taken.taken in
             let opened = subst (λ bs. outer_bytes f bs taken.representation (raw_of c.args.value).items ≡ Ok (raw_of c.in_ok-below.below).items) c.deref.ensures.value c.in_ok-below.ensures.answer.is in
             let found = subst (λ (cs : List ArrayToArrayCodec). IfOk (decoded_chunk (Ok tt) (arrays_map type (map mapping_of cs) sizes) type sizes c.in_ok-chunk.chunk) (λ chunk. AnswersBy memory (Holds type) c.decode_arrays.result (Ok chunk))) c.deref-2.ensures.value c.decode_arrays.ensures.moved in
-            chunk_back f chain.arrays chain.codec chain.outer sizes type fill (taken.shape, taken.representation) (raw_of c.args.value).items (raw_of c.in_ok-below.below).items c.in_ok-chunk.chunk c.decode_arrays.result c.in_ok-taken.ensures.map c.in_ok-taken.ensures.answer.is opened c.in_ok-chunk.ensures.answer.is found;
+            chunk_back f chain.array_to_array chain.array_to_bytes chain.bytes_to_bytes sizes type fill (taken.shape, taken.representation) (raw_of c.args.value).items (raw_of c.in_ok-below.below).items c.in_ok-chunk.chunk c.decode_arrays.result c.in_ok-taken.ensures.map c.in_ok-taken.ensures.answer.is opened c.in_ok-chunk.ensures.answer.is found;
         no_fault = search rules;
       };
       blank = c.decode_arrays.ensures.blank c.in_ok-chunk.ensures.blank;
@@ -54,7 +54,7 @@ decode::part_decode-returns g t c =
     record {
       exact = record {
         is =
-            chunk_of_none c.new_fill_value.result (chain_chunk g.B.BytesToBytesCodecTraits.functions (plain_chain c.args.chain.now)) c.args.count c.args.data_type.now c.args.fill_value.now (raw_of c.args.part).items (subst (λ row. ok (row_sizes c.args.count) ≡ ok row) c.in-None.is c.in_ok-row.ensures.answer.is) c.requires.filling c.new_fill_value.ensures.exact.is;
+            chunk_of_none c.new_fill_value.result (chain_chunk g.B.BytesToBytesCodecTraits.functions (plain_chain c.args.chain.now)) c.args.count c.args.kind.now c.args.fill.now (raw_of c.args.part).items (subst (λ row. ok (row_sizes c.args.count) ≡ ok row) c.in-None.is c.in_ok-row.ensures.answer.is) c.requires.filling c.new_fill_value.ensures.exact.is;
         no_fault = search rules;
       };
       blank = c.new_fill_value.ensures.blank;
@@ -149,8 +149,8 @@ vlen::vlen_decode::vlen_decode-returns-in_err-offsets g t c =
             let wide = is_wide o.index_data_type in
             let at_end = is_at_end o.index_location in
             let sizes = c.args.shape.now in
-            let type = c.args.data_type.now in
-            let fill = c.args.fill_value.now in
+            let type = c.args.kind.now in
+            let fill = c.args.fill.now in
             let value = (raw_of c.args.value).items in
             let i = c.in_ok-index.index.now in
             let d = c.in_ok-index.field-0-1.now in
@@ -179,8 +179,8 @@ vlen::vlen_decode::vlen_decode-returns-in_err-bytes g t c =
             let wide = is_wide o.index_data_type in
             let at_end = is_at_end o.index_location in
             let sizes = c.args.shape.now in
-            let type = c.args.data_type.now in
-            let fill = c.args.fill_value.now in
+            let type = c.args.kind.now in
+            let fill = c.args.fill.now in
             let value = (raw_of c.args.value).items in
             let i = c.in_ok-index.index.now in
             let d = c.in_ok-index.field-0-1.now in
@@ -211,8 +211,8 @@ vlen::vlen_decode::vlen_decode-returns g t c =
             let wide = is_wide o.index_data_type in
             let at_end = is_at_end o.index_location in
             let sizes = c.args.shape.now in
-            let type = c.args.data_type.now in
-            let fill = c.args.fill_value.now in
+            let type = c.args.kind.now in
+            let fill = c.args.fill.now in
             let value = (raw_of c.args.value).items in
             let i = c.in_ok-index.index.now in
             let d = c.in_ok-index.field-0-1.now in
@@ -227,7 +227,7 @@ vlen::vlen_decode::vlen_decode-returns g t c =
             vlen_answered f codec sizes type fill value c.new_vlen.result i d offsets raw count c.requires.taken parts counted first second long c.new_vlen.ensures.answer;
         no_fault = search rules;
       };
-      blank = vlen_blank g.B.BytesToBytesCodecTraits.functions c.args.codec.now c.args.shape.now c.args.data_type.now c.args.fill_value.now c.new_vlen.result c.requires.taken;
+      blank = vlen_blank g.B.BytesToBytesCodecTraits.functions c.args.codec.now c.args.shape.now c.args.kind.now c.args.fill.now c.new_vlen.result c.requires.taken;
     }
 
 pub optional::optional_codec::optional_decode-has_room-requires-clause-len : goal.optional::optional_codec::optional_decode-has_room-requires-clause-len

@@ -35,12 +35,12 @@ encode::chain_encode-returns-in_err-below g t c =
             let f = g.B.BytesToBytesCodecTraits.functions in
             let chain = plain_chain c.args.chain.now in
             let sizes = c.args.shape.now in
-            let type = c.args.data_type.now in
-            let fill = c.args.fill_value.now in
+            let type = c.args.kind.now in
+            let fill = c.args.fill.now in
             let taken = c.in_ok-taken.taken in
-            let found = subst (λ (cs : List ArrayToArrayCodec). IfOk (encoded_chunk (Ok tt) (arrays_map type (map mapping_of cs) sizes) type sizes c.args.elements) (λ chunk. Holds type c.in_ok-chunk.chunk chunk)) c.deref.ensures.value c.in_ok-chunk.ensures.moved in
+            let found = subst (λ (cs : List ArrayToArrayCodec). IfOk (encoded_chunk (Ok tt) (arrays_map type (map mapping_of cs) sizes) type sizes c.args.held) (λ chunk. Holds type c.in_ok-chunk.chunk chunk)) c.deref.ensures.value c.in_ok-chunk.ensures.moved in
             let p = err_from_is_err_and c.from_residual-in_err-below.result c.from_residual-in_err-below.ensures.1 in
-            rw (p.1, p.2) (value_refused f chain sizes type fill (taken.shape, taken.representation) c.args.elements c.in_ok-chunk.chunk c.in_err-below.field-0.0 c.in_ok-taken.ensures.map c.in_ok-taken.ensures.answer.is c.in_ok-taken.ensures.counted (sym c.in_ok-check_elements.ensures.answer) found c.in_err-below.ensures.answer.is);
+            rw (p.1, p.2) (value_refused f chain sizes type fill (taken.shape, taken.representation) c.args.held c.in_ok-chunk.chunk c.in_err-below.field-0.0 c.in_ok-taken.ensures.map c.in_ok-taken.ensures.answer.is c.in_ok-taken.ensures.counted (sym c.in_ok-check_elements.ensures.answer) found c.in_err-below.ensures.answer.is);
         no_fault = search rules;
       };
     }
@@ -53,12 +53,12 @@ encode::chain_encode-returns g t c =
             let f = g.B.BytesToBytesCodecTraits.functions in
             let chain = plain_chain c.args.chain.now in
             let sizes = c.args.shape.now in
-            let type = c.args.data_type.now in
-            let fill = c.args.fill_value.now in
+            let type = c.args.kind.now in
+            let fill = c.args.fill.now in
             let taken = c.in_ok-taken.taken in
-            let found = subst (λ (cs : List ArrayToArrayCodec). IfOk (encoded_chunk (Ok tt) (arrays_map type (map mapping_of cs) sizes) type sizes c.args.elements) (λ chunk. Holds type c.in_ok-chunk.chunk chunk)) c.deref.ensures.value c.in_ok-chunk.ensures.moved in
+            let found = subst (λ (cs : List ArrayToArrayCodec). IfOk (encoded_chunk (Ok tt) (arrays_map type (map mapping_of cs) sizes) type sizes c.args.held) (λ chunk. Holds type c.in_ok-chunk.chunk chunk)) c.deref.ensures.value c.in_ok-chunk.ensures.moved in
             let last = subst (λ bs. Answers memory (λ value. (raw_of value).items) c.encode_bytes.result (outer_value f bs (raw_of c.in_ok-below.below).items)) c.deref-2.ensures.value c.encode_bytes.ensures.answer.is in
-            value_last (λ value. (raw_of value).items) c.encode_bytes.result f chain sizes type fill (taken.shape, taken.representation) c.args.elements c.in_ok-chunk.chunk (raw_of c.in_ok-below.below).items c.in_ok-taken.ensures.map c.in_ok-taken.ensures.answer.is c.in_ok-taken.ensures.counted (sym c.in_ok-check_elements.ensures.answer) found c.in_ok-below.ensures.answer.is last;
+            value_last (λ value. (raw_of value).items) c.encode_bytes.result f chain sizes type fill (taken.shape, taken.representation) c.args.held c.in_ok-chunk.chunk (raw_of c.in_ok-below.below).items c.in_ok-taken.ensures.map c.in_ok-taken.ensures.answer.is c.in_ok-taken.ensures.counted (sym c.in_ok-check_elements.ensures.answer) found c.in_ok-below.ensures.answer.is last;
         no_fault = search rules;
       };
     }
@@ -81,7 +81,7 @@ optional::optional_codec::optional_encode-returns-in_err-inner g t c =
       answer = record {
         is =
             let p = err_from_is_err_and c.from_residual.result c.from_residual.ensures.1 in
-            rw (p.1, p.2) (λ ne. inner_refused_at g.B.BytesToBytesCodecTraits.functions c.args.codec.now c.args.shape.now c.args.data_type.now c.args.fill_value.now c.args.elements c.in_err-inner.field-0.0 (sym c.in_err-inner.ensures.answer));
+            rw (p.1, p.2) (λ ne. inner_refused_at g.B.BytesToBytesCodecTraits.functions c.args.codec.now c.args.shape.now c.args.kind.now c.args.fill.now c.args.held c.in_err-inner.field-0.0 (sym c.in_err-inner.ensures.answer));
         no_fault = search rules;
       };
     }
@@ -92,7 +92,7 @@ optional::optional_codec::optional_encode-returns-in_err-check_elements g t c =
       answer = record {
         is =
             let p = err_from_is_err_and c.from_residual-in_err-check_elements.result c.from_residual-in_err-check_elements.ensures.1 in
-            rw (p.1, p.2) (λ ne. unfit_at g.B.BytesToBytesCodecTraits.functions c.args.codec.now c.args.shape.now c.args.data_type.now c.args.fill_value.now c.args.elements c.in_err-check_elements.field-0.0 c.requires.taken (sym c.in_err-check_elements.ensures.answer));
+            rw (p.1, p.2) (λ ne. unfit_at g.B.BytesToBytesCodecTraits.functions c.args.codec.now c.args.shape.now c.args.kind.now c.args.fill.now c.args.held c.in_err-check_elements.field-0.0 c.requires.taken (sym c.in_err-check_elements.ensures.answer));
         no_fault = search rules;
       };
     }
@@ -186,21 +186,21 @@ vlen::vlen_encode::vlen_encode-returns-in_err-index g t c =
             let wide = is_wide o.index_data_type in
             let at_end = is_at_end o.index_location in
             let sizes = c.args.shape.now in
-            let type = c.args.data_type.now in
-            let fill = c.args.fill_value.now in
+            let type = c.args.kind.now in
+            let fill = c.args.fill.now in
             let raw = raw_of c.in_ok-bytes.bytes in
             let offsets = c.in_ok-bytes.offsets in
             let measured : vlen_representation sizes type [] ≡ Ok c.in_ok-vlen_representation.field-0 = search rules in
-            let valid : validity type (product sizes) c.args.elements ≡ Ok tt = search rules in
-            let parts : variable_part c.args.elements ≡ Ok (raw, offsets) = search rules in
+            let valid : validity type (product sizes) c.args.held ≡ Ok tt = search rules in
+            let parts : variable_part c.args.held ≡ Ok (raw, offsets) = search rules in
             let rising : is_offsets offsets ≡ true = search rules in
             let ending : last_of offsets ≡ length raw.items = search rules in
             let small : length raw.items < 2 ^ 64 = search rules in
-            let v : IsVariableHeld sizes type c.args.elements raw offsets = record { size = c.in_ok-vlen_representation.field-0; measured = measured; valid = valid; parts = parts; rising = rising; ending = ending; small = small } in
+            let v : IsVariableHeld sizes type c.args.held raw offsets = record { size = c.in_ok-vlen_representation.field-0; measured = measured; valid = valid; parts = parts; rising = rising; ending = ending; small = small } in
             let p = err_from_is_err_and c.from_residual-in_err-index.result c.from_residual-in_err-index.ensures.1 in
             rw (p.1, p.2) (λ ne.
             let h : index_part f index wide offsets ≡ Err c.in_err-index.field-0.0 = search rules in
-            value_index_refused f (plain_vlen codec) index content wide at_end sizes type fill c.args.elements raw offsets c.in_err-index.field-0.0 (plain_vlen_at codec) v h);
+            value_index_refused f (plain_vlen codec) index content wide at_end sizes type fill c.args.held raw offsets c.in_err-index.field-0.0 (plain_vlen_at codec) v h);
         no_fault = search rules;
       };
     }
@@ -218,22 +218,22 @@ vlen::vlen_encode::vlen_encode-returns-in_err-content g t c =
             let wide = is_wide o.index_data_type in
             let at_end = is_at_end o.index_location in
             let sizes = c.args.shape.now in
-            let type = c.args.data_type.now in
-            let fill = c.args.fill_value.now in
+            let type = c.args.kind.now in
+            let fill = c.args.fill.now in
             let raw = raw_of c.in_ok-bytes.bytes in
             let offsets = c.in_ok-bytes.offsets in
             let measured : vlen_representation sizes type [] ≡ Ok c.in_ok-vlen_representation.field-0 = search rules in
-            let valid : validity type (product sizes) c.args.elements ≡ Ok tt = search rules in
-            let parts : variable_part c.args.elements ≡ Ok (raw, offsets) = search rules in
+            let valid : validity type (product sizes) c.args.held ≡ Ok tt = search rules in
+            let parts : variable_part c.args.held ≡ Ok (raw, offsets) = search rules in
             let rising : is_offsets offsets ≡ true = search rules in
             let ending : last_of offsets ≡ length raw.items = search rules in
             let small : length raw.items < 2 ^ 64 = search rules in
-            let v : IsVariableHeld sizes type c.args.elements raw offsets = record { size = c.in_ok-vlen_representation.field-0; measured = measured; valid = valid; parts = parts; rising = rising; ending = ending; small = small } in
+            let v : IsVariableHeld sizes type c.args.held raw offsets = record { size = c.in_ok-vlen_representation.field-0; measured = measured; valid = valid; parts = parts; rising = rising; ending = ending; small = small } in
             let p = err_from_is_err_and c.from_residual-in_err-content.result c.from_residual-in_err-content.ensures.1 in
             let first : index_part f index wide offsets ≡ Ok (raw_of c.in_ok-index.index).items = search rules in
             rw (p.1, p.2) (λ ne.
             let h : content_part f content (drop (slice_index offsets 0) raw.items) ≡ Err c.in_err-content.field-0.0 = search rules in
-            value_content_refused f (plain_vlen codec) index content wide at_end sizes type fill c.args.elements raw offsets (raw_of c.in_ok-index.index).items c.in_err-content.field-0.0 (plain_vlen_at codec) v first h);
+            value_content_refused f (plain_vlen codec) index content wide at_end sizes type fill c.args.held raw offsets (raw_of c.in_ok-index.index).items c.in_err-content.field-0.0 (plain_vlen_at codec) v first h);
         no_fault = search rules;
       };
     }
@@ -251,21 +251,21 @@ vlen::vlen_encode::vlen_encode-returns g t c =
             let wide = is_wide o.index_data_type in
             let at_end = is_at_end o.index_location in
             let sizes = c.args.shape.now in
-            let type = c.args.data_type.now in
-            let fill = c.args.fill_value.now in
+            let type = c.args.kind.now in
+            let fill = c.args.fill.now in
             let raw = raw_of c.in_ok-bytes.bytes in
             let offsets = c.in_ok-bytes.offsets in
             let measured : vlen_representation sizes type [] ≡ Ok c.in_ok-vlen_representation.field-0 = search rules in
-            let valid : validity type (product sizes) c.args.elements ≡ Ok tt = search rules in
-            let parts : variable_part c.args.elements ≡ Ok (raw, offsets) = search rules in
+            let valid : validity type (product sizes) c.args.held ≡ Ok tt = search rules in
+            let parts : variable_part c.args.held ≡ Ok (raw, offsets) = search rules in
             let rising : is_offsets offsets ≡ true = search rules in
             let ending : last_of offsets ≡ length raw.items = search rules in
             let small : length raw.items < 2 ^ 64 = search rules in
-            let v : IsVariableHeld sizes type c.args.elements raw offsets = record { size = c.in_ok-vlen_representation.field-0; measured = measured; valid = valid; parts = parts; rising = rising; ending = ending; small = small } in
+            let v : IsVariableHeld sizes type c.args.held raw offsets = record { size = c.in_ok-vlen_representation.field-0; measured = measured; valid = valid; parts = parts; rising = rising; ending = ending; small = small } in
             let first : index_part f index wide offsets ≡ Ok (raw_of c.in_ok-index.index).items = search rules in
             let second : content_part f content (drop (slice_index offsets 0) raw.items) ≡ Ok (raw_of c.in_ok-content.content).items = search rules in
             let last : in_memory (vlen_layout at_end (raw_of c.in_ok-index.index).items (raw_of c.in_ok-content.content).items) ≡ Ok c.in_ok-value.value.items = search rules in
-            value_joined f (plain_vlen codec) index content wide at_end sizes type fill c.args.elements raw offsets (raw_of c.in_ok-index.index).items (raw_of c.in_ok-content.content).items (plain_vlen_at codec) v first second ∙ last;
+            value_joined f (plain_vlen codec) index content wide at_end sizes type fill c.args.held raw offsets (raw_of c.in_ok-index.index).items (raw_of c.in_ok-content.content).items (plain_vlen_at codec) v first second ∙ last;
         no_fault = search rules;
       };
     }

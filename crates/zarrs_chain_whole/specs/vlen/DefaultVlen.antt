@@ -6,7 +6,7 @@ use Rattle.zarrs_chain_laws.specs.PlainChain.{PlainCodec, bytes_codec, PlainChai
 
 -- the codec `bytes` in this byte order, alone
 abbrev pub bytes_chain : {B : Type 0} → Option Endianness → PlainChain B
-bytes_chain order = record { arrays = []; codec = bytes_codec order; outer = [] }
+bytes_chain order = record { array_to_array = []; array_to_bytes = bytes_codec order; bytes_to_bytes = [] }
 
 -- offsets of 64 bits, the lowest byte first, at the start; the elements' bytes as they are
 abbrev pub default_vlen : {B : Type 0} → PlainCodec B

@@ -1,10 +1,9 @@
 //! Codecs that were made, and what they make together.
 ghost use Rattle.std.specs.Prelude.{◌≡◌};
-ghost use Rattle.zarrs_chunk.specs.Answer.{Answers, seen};
-ghost use Rattle.zarrs_metadata.specs.PluginCreateError.{plugin_memory, Makes};
-ghost use Rattle.zarrs_chain_whole.specs.ChainParts.{made_seen, parts_seen};
+ghost use Rattle.zarrs_chunk.specs.Answer.{seen};
+ghost use Rattle.zarrs_chain_whole.specs.ChainParts.{parts_seen, AddsCodec, AddsToBytes};
 ghost use Rattle.zarrs_chain_whole.specs.ChainView.{plain_chain};
-ghost use Rattle.zarrs_chain_laws.specs.MadeChain.{nothing_gathered, with_codec, finished};
+ghost use Rattle.zarrs_chain_laws.specs.MadeChain.{nothing_gathered, finished};
 
 use crate::array_to_bytes_codec::ArrayToBytesCodec;
 use crate::codec_chain::CodecChain;
@@ -46,8 +45,7 @@ impl<B: Drop> ChainParts<B> {
     /// The codec joins those of its kind, behind them. Refusals: `MultipleArrayToBytes` for a second
     /// one of chunks to bytes; `OutOfMemory`.
     pub(crate) fn add(&mut self, codec: MadeCodec<B>) -> Result<(), PluginCreateError>
-        ensures answer { Makes (λ _. parts_seen self.new) result
-            (with_codec (made_seen codec) (parts_seen self.old)) }
+        ensures answer { AddsCodec codec self.old self.new result }
     {
         match codec {
             MadeCodec::Array(codec) => Ok(self.array_to_array.push(codec)?),
@@ -57,8 +55,7 @@ impl<B: Drop> ChainParts<B> {
     }
 
     fn add_to_bytes(&mut self, codec: ArrayToBytesCodec<B>) -> Result<(), PluginCreateError>
-        ensures answer { seen (λ _. parts_seen self.new) result ≡
-            with_codec (made_seen (MadeCodec.ToBytes codec)) (parts_seen self.old) }
+        ensures answer { AddsToBytes codec self.old self.new result }
     {
         if self.array_to_bytes.is_some() {
             return Err(PluginCreateError::MultipleArrayToBytes);

@@ -1,10 +1,8 @@
 //! What codecs to bytes say of themselves, as every codec does, and the metadata of a chain.
-ghost use Rattle.std.specs.Prelude.{Ok, IfOk, map};
-ghost use Rattle.zarrs_metadata.specs.MetadataV3.{metadata_seen};
-ghost use Rattle.zarrs_metadata.specs.PluginCreateError.{Makes};
+ghost use Rattle.std.specs.Prelude.{IfOk};
 ghost use Rattle.zarrs_chain_whole.specs.ChainView.{plain_chain};
-ghost use Rattle.zarrs_chain_laws.specs.MadeAgain.{MakesChain};
 ghost use Rattle.zarrs_chain_laws.specs.WrittenMetadata.{chain_metadatas};
+ghost use Rattle.zarrs_chain_whole.specs.Making.{WritesList, MakesAgain};
 
 use crate::array_to_bytes_codec::{ArrayToBytesCodec, codec_reads, codec_writes};
 use crate::codec_chain::{CodecChain, chain_has_ranges, chain_is_sound};
@@ -22,10 +20,8 @@ impl<B: BytesToBytesCodecTraits> CodecChain<B> {
     /// an equal chain of them, with a maker that makes the bytes codecs again. Refusals:
     /// `OutOfMemory`.
     pub fn create_metadatas(&self, alloc: Global) -> Result<Vec<MetadataV3>, PluginCreateError>
-        ensures answer { Makes (λ list. map metadata_seen list.items) result
-            (Ok (chain_metadatas B.described (plain_chain self.now))) }
-        ensures made_again { IfOk result
-            (λ list. MakesChain B.described (plain_chain self.now) (map metadata_seen list.items)) }
+        ensures answer { WritesList result (chain_metadatas B.described (plain_chain self.now)) }
+        ensures made_again { IfOk result (MakesAgain B.described self.now) }
     {
         chain_is_sound(self);
         chain_has_ranges(self);

@@ -1,9 +1,5 @@
 //! Chains, and codecs with chains inside, made from configurations and metadata.
-ghost use Rattle.std.specs.Prelude.{map};
-ghost use Rattle.zarrs_metadata.specs.MetadataV3.{metadata_seen};
-ghost use Rattle.zarrs_metadata.specs.PluginCreateError.{Makes};
-ghost use Rattle.zarrs_chain_whole.specs.ChainView.{plain_chain};
-ghost use Rattle.zarrs_chain_laws.specs.MadeChain.{chain_made};
+ghost use Rattle.zarrs_chain_whole.specs.Making.{MakesChainOf};
 
 use crate::codec_chain::CodecChain;
 use crate::metadata::make_chain::chain_from;
@@ -26,8 +22,7 @@ impl<B: Drop> CodecChain<B> {
         metadatas: &[MetadataV3],
         maker: &M,
     ) -> Result<CodecChain<B>, PluginCreateError>
-        ensures answer { Makes plain_chain result
-            (chain_made (M.makes maker.now) (map metadata_seen metadatas.now)) }
+        ensures answer { MakesChainOf (M.makes maker.now) metadatas.now result }
     {
         chain_from(alloc, metadatas, maker)
     }

@@ -1,17 +1,10 @@
 //! Chains made from lists of metadata. A chain is made codec by codec, and some codecs have chains
 //! inside, whose metadata stand in their configurations: the functions call each other, each time
 //! for metadata that are less deep.
-ghost use Rattle.std.specs.Prelude.{◌≡◌, ◌||◌, Ok, Err, if◌then◌else◌, map};
-ghost use Rattle.zarrs_chunk.specs.Answer.{Answers};
-ghost use Rattle.zarrs_metadata.specs.MetadataV3.{metadata_seen};
-ghost use Rattle.zarrs_metadata.specs.OptionalConfiguration.{optional_seen};
+ghost use Rattle.std.specs.Prelude.{◌≡◌, Ok};
 ghost use Rattle.zarrs_metadata.specs.PluginCreateError.{plugin_memory, Makes};
-ghost use Rattle.zarrs_metadata.specs.VlenConfiguration.{vlen_seen};
-ghost use Rattle.zarrs_chain_whole.specs.ChainParts.{made_seen, parts_seen};
-ghost use Rattle.zarrs_chain_whole.specs.ChainView.{plain_chain, plain_vlen, plain_optional, vlen_of};
-ghost use Rattle.zarrs_chain_laws.specs.vlen.VlenSettings.{is_wide, is_at_end};
-ghost use Rattle.zarrs_chain_laws.specs.MadeChain.{asked_maker, chain_made, codec_made, joined, vlen_of_parts, vlen_made_by, optional_of_chains, optional_made_by, optional_by, codec_by, joined_by};
-ghost use Rattle.zarrs_chain_laws.specs.PlainChain.{vlen_codec_of, optional_codec_of};
+ghost use Rattle.zarrs_chain_whole.specs.ChainView.{plain_vlen, plain_optional, vlen_of, optional_of};
+ghost use Rattle.zarrs_chain_whole.specs.Making.{MakesChainOf, MakesVlen, MakesOptional, CreatesVlen, CreatesOptional, AsksMaker, MakesCodec, JoinsCodec, passed_over};
 
 use crate::array_to_bytes_codec::ArrayToBytesCodec;
 use crate::codec_chain::CodecChain;
@@ -42,14 +35,14 @@ fn boxed_vlen<B: Drop>(
     index: CodecChain<B>,
     content: CodecChain<B>,
     index_data_type: VlenIndexDataType,
-    index_location: VlenIndexLocation,
+    location: VlenIndexLocation,
 ) -> Result<VlenCodec<B>, PluginCreateError>
     ensures made { Makes plain_vlen result
-        (Ok (vlen_of index content index_data_type index_location)) }
+        (Ok (vlen_of index content index_data_type location)) }
 {
     let index = Box::new(alloc, index)?;
     let content = Box::new(alloc, content)?;
-    Ok(VlenCodec::new(index, content, index_data_type, index_location))
+    Ok(VlenCodec::new(index, content, index_data_type, location))
 }
 
 /// The codec `optional` with these chains in boxes. Refusals: `OutOfMemory`.
@@ -58,8 +51,7 @@ fn boxed_optional<B: Drop>(
     mask: CodecChain<B>,
     content: CodecChain<B>,
 ) -> Result<OptionalCodec<B>, PluginCreateError>
-    ensures made { Makes plain_optional result
-        (Ok (optional_codec_of (plain_chain mask) (plain_chain content))) }
+    ensures made { Makes plain_optional result (Ok (optional_of mask content)) }
 {
     let mask = Box::new(alloc, mask)?;
     let content = Box::new(alloc, content)?;
@@ -74,8 +66,7 @@ pub(crate) fn vlen_from<B: Drop, M: BytesCodecMaker<B>>(
     configuration: &VlenCodecConfiguration,
     maker: &M,
 ) -> Result<VlenCodec<B>, PluginCreateError>
-    ensures answer { Makes plain_vlen result
-        (vlen_of_parts (chain_made (M.makes maker.now)) (vlen_seen configuration.now)) }
+    ensures answer { MakesVlen (M.makes maker.now) configuration.now result }
 {
     let index = chain_from(alloc, index_codecs(configuration), maker)?;
     let content = chain_from(alloc, data_codecs(configuration), maker)?;
@@ -96,8 +87,7 @@ pub(crate) fn optional_from<B: Drop, M: BytesCodecMaker<B>>(
     configuration: &OptionalCodecConfiguration,
     maker: &M,
 ) -> Result<OptionalCodec<B>, PluginCreateError>
-    ensures answer { Makes plain_optional result
-        (optional_of_chains (chain_made (M.makes maker.now)) (optional_seen configuration.now)) }
+    ensures answer { MakesOptional (M.makes maker.now) configuration.now result }
 {
     let mask = chain_from(alloc, mask_codecs(configuration), maker)?;
     let content = chain_from(alloc, present_codecs(configuration), maker)?;
@@ -111,8 +101,7 @@ pub(crate) fn vlen_create<B: Drop, M: BytesCodecMaker<B>>(
     metadata: &MetadataV3,
     maker: &M,
 ) -> Result<VlenCodec<B>, PluginCreateError>
-    ensures answer { Makes plain_vlen result
-        (vlen_made_by (chain_made (M.makes maker.now)) (metadata_seen metadata.now)) }
+    ensures answer { CreatesVlen (M.makes maker.now) metadata.now result }
 {
     let configuration = vlen_configuration(alloc, metadata)?;
     vlen_from(alloc, &configuration, maker)
@@ -125,8 +114,7 @@ pub(crate) fn optional_create<B: Drop, M: BytesCodecMaker<B>>(
     metadata: &MetadataV3,
     maker: &M,
 ) -> Result<OptionalCodec<B>, PluginCreateError>
-    ensures answer { Makes plain_optional result
-        (optional_made_by (chain_made (M.makes maker.now)) (metadata_seen metadata.now)) }
+    ensures answer { CreatesOptional (M.makes maker.now) metadata.now result }
 {
     let configuration = optional_configuration(alloc, metadata)?;
     optional_from(alloc, &configuration, maker)
@@ -138,8 +126,7 @@ fn asked<B: Drop, M: BytesCodecMaker<B>>(
     metadata: &MetadataV3,
     maker: &M,
 ) -> Result<MadeCodec<B>, PluginCreateError>
-    ensures answer { Makes made_seen result
-        (asked_maker (M.makes maker.now (metadata_seen metadata.now))) }
+    ensures answer { AsksMaker (M.makes maker.now) metadata.now result }
 {
     match maker.make(alloc, metadata) {
         Ok(Some(codec)) => Ok(MadeCodec::Outer(codec)),
@@ -157,8 +144,7 @@ fn codec_from<B: Drop, M: BytesCodecMaker<B>>(
     metadata: &MetadataV3,
     maker: &M,
 ) -> Result<MadeCodec<B>, PluginCreateError>
-    ensures answer { Makes made_seen result
-        (codec_by (M.makes maker.now) (metadata_seen metadata.now)) }
+    ensures answer { MakesCodec (M.makes maker.now) metadata.now result }
 {
     match codec_named(metadata.name()) {
         Some(CodecName::Transpose | CodecName::Reshape | CodecName::Squeeze) => {
@@ -193,8 +179,7 @@ fn is_want_of_memory(refusal: PluginCreateError) -> bool
 /// Where a codec can't be made, its metadata is passed over if it need not be understood. Want of
 /// memory says nothing of the metadata, so it is never passed over. Refusals: this one.
 fn pass_over(refusal: PluginCreateError, must_understand: bool) -> Result<(), PluginCreateError>
-    ensures value { result ≡
-        (if must_understand || plugin_memory refusal then Err refusal else Ok tt) }
+    ensures value { result ≡ passed_over refusal must_understand }
 {
     if must_understand || is_want_of_memory(refusal) {
         return Err(refusal);
@@ -212,8 +197,7 @@ fn join<B: Drop, M: BytesCodecMaker<B>>(
     maker: &M,
     parts: &mut ChainParts<B>,
 ) -> Result<(), PluginCreateError>
-    ensures answer { Makes (λ _. parts_seen parts.new) result
-        (joined_by (M.makes maker.now) (metadata_seen metadata.now) (parts_seen parts.old)) }
+    ensures answer { JoinsCodec (M.makes maker.now) metadata.now parts.old parts.new result }
 {
     match codec_from(alloc, metadata, maker) {
         Ok(codec) => parts.add(codec),
@@ -228,8 +212,7 @@ pub(crate) fn chain_from<B: Drop, M: BytesCodecMaker<B>>(
     metadatas: &[MetadataV3],
     maker: &M,
 ) -> Result<CodecChain<B>, PluginCreateError>
-    ensures answer { Makes plain_chain result
-        (chain_made (M.makes maker.now) (map metadata_seen metadatas.now)) }
+    ensures answer { MakesChainOf (M.makes maker.now) metadatas.now result }
 {
     let mut parts = ChainParts::new(alloc);
     for metadata in metadatas {

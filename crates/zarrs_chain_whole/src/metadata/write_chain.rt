@@ -1,13 +1,13 @@
 //! The metadata that is written of chains and of codecs with chains inside.
-ghost use Rattle.std.specs.Prelude.{◌≡◌, ◌++◌, Ok, map};
-ghost use Rattle.zarrs_chunk.specs.Answer.{Answers};
+ghost use Rattle.std.specs.Prelude.{◌≡◌, Ok, map};
 ghost use Rattle.zarrs_metadata.specs.BytesConfiguration.{write_bytes};
-ghost use Rattle.zarrs_metadata.specs.MetadataV3.{configuration_seen, metadata_seen};
-ghost use Rattle.zarrs_metadata.specs.PluginCreateError.{plugin_memory, Makes};
+ghost use Rattle.zarrs_metadata.specs.MetadataV3.{metadata_seen, Writes};
+ghost use Rattle.zarrs_metadata.specs.PluginCreateError.{Makes};
 ghost use Rattle.zarrs_array_to_array.specs.Mapping.{mapping_of};
 ghost use Rattle.zarrs_packbits.specs.SettingsMetadata.{write_settings};
 ghost use Rattle.zarrs_chain_whole.specs.ChainView.{plain_chain, plain_codec};
 ghost use Rattle.zarrs_chain_laws.specs.WrittenMetadata.{mapping_metadata, codec_name as codec_name_of, codec_configuration as codec_configuration_of, chain_metadatas as chain_metadatas_of};
+ghost use Rattle.zarrs_chain_whole.specs.Making.{WritesList, AppendsMetadatas};
 
 use crate::array_to_bytes_codec::ArrayToBytesCodec;
 use crate::codec_chain::CodecChain;
@@ -37,8 +37,7 @@ fn array_metadatas(
     alloc: Global,
     codecs: &[ArrayToArrayCodec],
 ) -> Result<Vec<MetadataV3>, PluginCreateError>
-    ensures answer { Makes (λ list. map metadata_seen list.items) result
-        (Ok (map mapping_metadata (map mapping_of codecs.now))) }
+    ensures answer { WritesList result (map mapping_metadata (map mapping_of codecs.now)) }
 {
     let mut list = Vec::with_capacity(alloc, codecs.len())?;
     for codec in codecs {
@@ -53,8 +52,7 @@ fn push_outer<B: BytesToBytesCodecTraits>(
     codecs: &[B],
     list: &mut Vec<MetadataV3>,
 ) -> Result<(), PluginCreateError>
-    ensures answer { Makes (λ _. map metadata_seen list.new.items) result
-        (Ok (map metadata_seen list.old.items ++ map B.described codecs.now)) }
+    ensures answer { AppendsMetadatas list.old list.new result (map B.described codecs.now) }
 {
     for codec in codecs {
         list.push(codec.metadata(alloc)?)?;
@@ -77,7 +75,7 @@ pub(crate) fn codec_name<B>(codec: &ArrayToBytesCodec<B>) -> &'static str
 
 /// The configuration of `bytes`. Refusals: `OutOfMemory`.
 fn bytes_written(alloc: Global, codec: &BytesCodec) -> Result<Configuration, PluginCreateError>
-    ensures answer { Makes configuration_seen result (Ok (write_bytes codec.now)) }
+    ensures answer { Writes result (write_bytes codec.now) }
 {
     match codec.configuration(alloc)? {
         None => Ok(Configuration::new(alloc)),
@@ -90,8 +88,7 @@ fn packbits_written(
     alloc: Global,
     codec: &PackBitsCodec,
 ) -> Result<Configuration, PluginCreateError>
-    ensures answer { Makes configuration_seen result
-        (Ok (write_settings codec.now)) }
+    ensures answer { Writes result (write_settings codec.now) }
 {
     match codec.configuration(alloc)? {
         None => Ok(Configuration::new(alloc)),
@@ -106,8 +103,7 @@ pub(crate) fn codec_written<B: BytesToBytesCodecTraits>(
     alloc: Global,
     codec: &ArrayToBytesCodec<B>,
 ) -> Result<Configuration, PluginCreateError>
-    ensures answer { Makes configuration_seen result
-        (Ok (codec_configuration_of B.described (plain_codec codec.now))) }
+    ensures answer { Writes result (codec_configuration_of B.described (plain_codec codec.now)) }
 {
     match codec {
         ArrayToBytesCodec::Bytes(codec) => bytes_written(alloc, codec),
@@ -123,8 +119,7 @@ pub(crate) fn chain_written<B: BytesToBytesCodecTraits>(
     alloc: Global,
     chain: &CodecChain<B>,
 ) -> Result<Vec<MetadataV3>, PluginCreateError>
-    ensures answer { Makes (λ list. map metadata_seen list.items) result
-        (Ok (chain_metadatas_of B.described (plain_chain chain.now))) }
+    ensures answer { WritesList result (chain_metadatas_of B.described (plain_chain chain.now)) }
 {
     let mut list = array_metadatas(alloc, &chain.array_to_array)?;
     let name = codec_name(&chain.array_to_bytes);

@@ -1,9 +1,5 @@
 //! An `optional` made from its configuration and from metadata.
-ghost use Rattle.zarrs_metadata.specs.MetadataV3.{metadata_seen};
-ghost use Rattle.zarrs_metadata.specs.OptionalConfiguration.{optional_seen};
-ghost use Rattle.zarrs_metadata.specs.PluginCreateError.{Makes};
-ghost use Rattle.zarrs_chain_whole.specs.ChainView.{plain_optional};
-ghost use Rattle.zarrs_chain_laws.specs.MadeChain.{chain_made, optional_made_by, optional_by};
+ghost use Rattle.zarrs_chain_whole.specs.Making.{MakesOptional, CreatesOptional};
 
 use crate::metadata::make_chain::{optional_create, optional_from};
 use crate::optional::optional_codec::OptionalCodec;
@@ -20,8 +16,7 @@ impl<B: Drop> OptionalCodec<B> {
         configuration: &OptionalCodecConfiguration,
         maker: &M,
     ) -> Result<OptionalCodec<B>, PluginCreateError>
-        ensures answer { Makes plain_optional result
-            (optional_by (M.makes maker.now) (optional_seen configuration.now)) }
+        ensures answer { MakesOptional (M.makes maker.now) configuration.now result }
     {
         optional_from(alloc, configuration, maker)
     }
@@ -37,8 +32,7 @@ impl<B: Drop> OptionalCodec<B> {
         metadata: &MetadataV3,
         maker: &M,
     ) -> Result<OptionalCodec<B>, PluginCreateError>
-        ensures answer { Makes plain_optional result
-            (optional_made_by (chain_made (M.makes maker.now)) (metadata_seen metadata.now)) }
+        ensures answer { CreatesOptional (M.makes maker.now) metadata.now result }
     {
         optional_create(alloc, metadata, maker)
     }

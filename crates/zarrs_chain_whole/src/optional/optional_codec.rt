@@ -1,27 +1,20 @@
-ghost use Rattle.zarrs_chain_laws.specs.CallAnswers.{GivesCodecChunk, GivesCodecValue, GivesRepresentation, GivesTakenChunk, IsTaken, GivesPartValue};
-ghost use Rattle.zarrs_chunk.specs.Answer.{Gives, GivesBy, Answers, checked_u64};
+ghost use Rattle.zarrs_chunk.specs.Answer.{checked_u64};
 ghost use Rattle.zarrs_array_bytes.specs.Blank.{AbsentAreBlank};
 ghost use Rattle.zarrs_array_bytes.specs.Held.{items_of};
-ghost use Rattle.std.specs.Prelude.{◌≡◌, ◌+◌, ◌<◌, ◌^◌, [], ◌∷◌, length, Ok, IfOk, IsOk};
+ghost use Rattle.std.specs.Prelude.{◌≡◌, length, Ok, IfOk};
 ghost use Rattle.zarrs_chunk.specs.ChunkShape.{product};
 ghost use Rattle.zarrs_data_type.specs.ElementType.{optional};
-ghost use Rattle.zarrs_array_bytes.specs.Elements.{elements as elements_of};
-ghost use Rattle.zarrs_array_bytes.specs.Validity.{Holds, sizes_fit, validity};
-ghost use Rattle.zarrs_metadata.specs.MetadataV3.{configuration_seen};
-ghost use Rattle.zarrs_metadata.specs.PluginCreateError.{plugin_memory, Makes};
-ghost use Rattle.zarrs_chain_laws.specs.Chain.{codec_held_value, held_part, taken_chunk};
+ghost use Rattle.zarrs_array_bytes.specs.Validity.{validity};
+ghost use Rattle.zarrs_metadata.specs.MetadataV3.{Writes as IsWritten};
 ghost use Rattle.zarrs_data_type.specs.Form.{form_of};
 ghost use Rattle.zarrs_codec.specs.Grammar.{Encodes, Decodes};
 ghost use Rattle.zarrs_chain_whole.specs.ChainGrammar.{codec_grammar};
-ghost use Rattle.zarrs_chain_whole.specs.ChainView.{plain_chain, plain_optional};
-ghost use Rattle.zarrs_chain_laws.specs.Decode.{codec_chunk, chain_chunk};
-ghost use Rattle.zarrs_chain_laws.specs.Encode.{byte_elements, chain_value, codec_value};
+ghost use Rattle.zarrs_chain_whole.specs.ChainView.{plain_optional, optional_of};
 ghost use Rattle.zarrs_chain_laws.specs.Laws.{HasMappings};
 ghost use Rattle.zarrs_chain_laws.specs.MadeAgain.{HasRanges};
-ghost use Rattle.zarrs_chain_laws.specs.optional.OptionalParts.{optional_inner, present_part, mask_part, mask_chunk, optional_content, GivesPresent};
-ghost use Rattle.zarrs_chain_laws.specs.PlainChain.{optional_codec_of};
-ghost use Rattle.zarrs_chain_laws.specs.Representation.{codec_representation, flag_type, blank_fill as blank_fill_of};
+ghost use Rattle.zarrs_chain_laws.specs.optional.OptionalParts.{optional_inner};
 ghost use Rattle.zarrs_chain_laws.specs.WrittenMetadata.{codec_configuration};
+ghost use Rattle.zarrs_chain_whole.specs.optional.OptionalCalls.{Takes, Counts, Writes, Reads, ReadsAny, WritesContent, WritesMask, WritesPresent, ReadsMask, ReadsPresent, HasRoom};
 
 use crate::codec_chain::{CodecChain, chain_has_ranges, chain_is_sound};
 use crate::decode::{chain_decode, part_decode};
@@ -56,8 +49,7 @@ impl<B> OptionalCodec<B> {
     /// The codec with these chains for the mask and for the present elements.
     #[tactic(auto, using(crate::specs::ChainView::plain_optional_made))]
     pub fn new(mask_codecs: Box<CodecChain<B>>, data_codecs: Box<CodecChain<B>>) -> OptionalCodec<B>
-        ensures made { plain_optional result ≡
-            optional_codec_of (plain_chain mask_codecs.value) (plain_chain data_codecs.value) }
+        ensures made { plain_optional result ≡ optional_of mask_codecs.value data_codecs.value }
     {
         OptionalCodec {
             mask_codecs,
@@ -93,8 +85,7 @@ pub(crate) fn optional_written<B: BytesToBytesCodecTraits>(
     alloc: Global,
     codec: &OptionalCodec<B>,
 ) -> Result<Configuration, PluginCreateError>
-    ensures answer { Makes configuration_seen result
-        (Ok (codec_configuration B.described (plain_optional codec.now))) }
+    ensures answer { IsWritten result (codec_configuration B.described (plain_optional codec.now)) }
 {
     let mask_codecs = chain_written(alloc, &codec.mask_codecs)?;
     let data_codecs = chain_written(alloc, &codec.data_codecs)?;
@@ -111,8 +102,7 @@ pub(crate) fn optional_representation<B: BytesToBytesCodecTraits>(
     data_type: &DataType,
     fill_value: &FillValue,
 ) -> Result<BytesRepresentation, CodecError>
-    ensures answer { GivesRepresentation B.functions (plain_optional codec.now)
-        (form_of shape.now data_type.now fill_value.now) result }
+    ensures answer { Counts B.functions codec.now shape.now data_type.now fill_value.now result }
 {
     let inner = inner_type(data_type)?;
     if !fill_value.fits(data_type) {
@@ -138,8 +128,7 @@ fn mask_encode<'a, B: BytesToBytesCodecTraits>(
 ) -> Result<ArrayBytesRaw<'a>, CodecError>
     requires len { length (items_of mask) ≡ product shape.now }
     requires counted { checked_u64 (product shape.now) ≡ Ok (product shape.now) }
-    ensures answer { Gives items_of result
-        (mask_part B.functions (plain_chain chain.now) shape.now (items_of mask.entry)) }
+    ensures answer { WritesMask B.functions chain.now shape.now mask.entry result }
 {
     let flag = DataType::bool();
     let zero = blank_fill(alloc, &flag)?;
@@ -162,8 +151,7 @@ fn present_encode<'a, B: BytesToBytesCodecTraits>(
     count: u64,
     data_type: &DataType,
 ) -> Result<ArrayBytesRaw<'a>, CodecError>
-    ensures exact { GivesPartValue B.functions (plain_chain chain.now) count
-        data_type.now (blank_fill_of data_type.now) present.entry result }
+    ensures exact { WritesPresent B.functions chain.now count data_type.now present.entry result }
 {
     let blank = blank_fill(alloc, data_type)?;
     part_encode(alloc, chain, present, count, data_type, &blank)
@@ -182,9 +170,7 @@ fn content_encode<'a, B: BytesToBytesCodecTraits>(
 ) -> Result<ArrayBytesRaw<'a>, CodecError>
     requires valid { validity (optional inner.now) (product shape.now) elements ≡ Ok tt }
     requires counted { checked_u64 (product shape.now) ≡ Ok (product shape.now) }
-    ensures answer { Gives items_of result
-        (optional_content B.functions (plain_optional codec.now)
-        shape.now inner.now elements.entry) }
+    ensures answer { WritesContent B.functions codec.now shape.now inner.now elements.entry result }
 {
     let (inside, mask, count) = masked_parts(elements)?;
     let present = inside.extract_present(alloc, lent(&mask), inner)?;
@@ -193,42 +179,39 @@ fn content_encode<'a, B: BytesToBytesCodecTraits>(
     join_parts(alloc, lent(&mask_part), lent(&data_part))
 }
 
-/// The value of the chunk that `elements` hold, where the codec takes such chunks. Refusals: those of
+/// The value of the chunk that `held` holds, where the codec takes such chunks. Refusals: those of
 /// `OptionalCodec::encode` behind those of `encoded_representation`.
 #[cycle(encode)]
 #[tactic(auto, using(crate::proofs::OptionalAt::counted_at, crate::proofs::OptionalAt::inner_refused_at, crate::proofs::OptionalAt::inner_valid, crate::proofs::OptionalAt::value_at))]
 pub(crate) fn optional_encode<'a, B: BytesToBytesCodecTraits>(
     alloc: Global,
     codec: &OptionalCodec<B>,
-    elements: ArrayBytes<'a>,
+    held: ArrayBytes<'a>,
     shape: &ChunkShape,
-    data_type: &DataType,
-    fill_value: &FillValue,
+    kind: &DataType,
+    fill: &FillValue,
 ) -> Result<ArrayBytesRaw<'a>, CodecError>
-    requires taken { IsTaken B.functions (plain_optional codec.now)
-        (form_of shape.now data_type.now fill_value.now) }
-    ensures answer { GivesCodecValue B.functions (plain_optional codec.now)
-        (form_of shape.now data_type.now fill_value.now) elements.entry result }
+    requires taken { Takes B.functions codec.now shape.now kind.now fill.now }
+    ensures answer { Writes B.functions codec.now shape.now kind.now fill.now held.entry result }
 {
-    let inner = inner_type(data_type)?;
-    check_elements(&elements, shape, data_type)?;
-    content_encode(alloc, codec, elements, shape, inner)
+    let inner = inner_type(kind)?;
+    check_elements(&held, shape, kind)?;
+    content_encode(alloc, codec, held, shape, inner)
 }
 
-/// The value of the chunk that `elements` hold. Refusals: those of `OptionalCodec::encode`.
+/// The value of the chunk that `held` holds. Refusals: those of `OptionalCodec::encode`.
 fn optional_taken_encode<'a, B: BytesToBytesCodecTraits>(
     alloc: Global,
     codec: &OptionalCodec<B>,
-    elements: ArrayBytes<'a>,
+    held: ArrayBytes<'a>,
     shape: &ChunkShape,
-    data_type: &DataType,
-    fill_value: &FillValue,
+    kind: &DataType,
+    fill: &FillValue,
 ) -> Result<ArrayBytesRaw<'a>, CodecError>
-    ensures answer { GivesCodecValue B.functions (plain_optional codec.now)
-        (form_of shape.now data_type.now fill_value.now) elements.entry result }
+    ensures answer { Writes B.functions codec.now shape.now kind.now fill.now held.entry result }
 {
-    optional_representation(alloc, codec, shape, data_type, fill_value)?;
-    optional_encode(alloc, codec, elements, shape, data_type, fill_value)
+    optional_representation(alloc, codec, shape, kind, fill)?;
+    optional_encode(alloc, codec, held, shape, kind, fill)
 }
 
 /// The mask bytes of the chunk of flags that a part stands for. Refusals: those of `chain_decode`.
@@ -240,8 +223,7 @@ fn mask_decode<'a, B: BytesToBytesCodecTraits>(
     part: ArrayBytesRaw<'a>,
     shape: &ChunkShape,
 ) -> Result<ArrayBytesRaw<'a>, CodecError>
-    ensures answer { Gives (λ mask. byte_elements (items_of mask)) result
-        (mask_chunk B.functions (plain_chain chain.now) shape.now (items_of part.entry)) }
+    ensures answer { ReadsMask B.functions chain.now shape.now part.entry result }
 {
     let flag = DataType::bool();
     let zero = blank_fill(alloc, &flag)?;
@@ -260,10 +242,8 @@ fn present_decode<'a, B: BytesToBytesCodecTraits>(
     part: ArrayBytesRaw<'a>,
     data_type: &DataType,
 ) -> Result<ArrayBytes<'a>, CodecError>
-    requires room { length (items_of mask) + 1 < 2 ^ 64 →
-        sizes_fit data_type.now (length (items_of mask)) ≡ Ok tt }
-    ensures answer { GivesPresent B.functions (plain_chain chain.now) data_type.now
-        (items_of mask.entry) (items_of part.entry) result }
+    requires room { HasRoom data_type.now mask }
+    ensures answer { ReadsPresent B.functions chain.now data_type.now mask.entry part.entry result }
     ensures blank { IfOk result (AbsentAreBlank (optional data_type.now)) }
 {
     let count = count_present(lent(&mask))?;
@@ -282,12 +262,10 @@ fn has_room<B: BytesToBytesCodecTraits>(
     inner: &DataType,
     mask: &ArrayBytesRaw<'_>,
 )
-    requires taken { IsTaken B.functions (plain_optional codec.now)
-        (form_of shape.now data_type.now fill_value.now) }
+    requires taken { Takes B.functions codec.now shape.now data_type.now fill_value.now }
     requires inner { optional_inner data_type.now ≡ Ok inner.now }
     requires len { length (items_of mask.now) ≡ product shape.now }
-    ensures room { length (items_of mask.now) + 1 < 2 ^ 64 →
-        sizes_fit inner.now (length (items_of mask.now)) ≡ Ok tt }
+    ensures room { HasRoom inner.now mask.now }
 {
     optional_is_sound(codec);
     shape.as_slice();
@@ -302,19 +280,17 @@ pub(crate) fn optional_decode<'a, B: BytesToBytesCodecTraits>(
     codec: &OptionalCodec<B>,
     value: ArrayBytesRaw<'a>,
     shape: &ChunkShape,
-    data_type: &DataType,
-    fill_value: &FillValue,
+    kind: &DataType,
+    fill: &FillValue,
 ) -> Result<ArrayBytes<'a>, CodecError>
-    requires taken { IsTaken B.functions (plain_optional codec.now)
-        (form_of shape.now data_type.now fill_value.now) }
-    ensures answer { GivesCodecChunk B.functions (plain_optional codec.now)
-        (form_of shape.now data_type.now fill_value.now) (items_of value.entry) result }
-    ensures blank { IfOk result (AbsentAreBlank data_type.now) }
+    requires taken { Takes B.functions codec.now shape.now kind.now fill.now }
+    ensures answer { Reads B.functions codec.now shape.now kind.now fill.now value.entry result }
+    ensures blank { IfOk result (AbsentAreBlank kind.now) }
 {
-    let inner = inner_type(data_type)?;
+    let inner = inner_type(kind)?;
     let (mask_part, data_part) = split_value(alloc, value)?;
     let mask = mask_decode(alloc, &codec.mask_codecs, mask_part, shape)?;
-    has_room(codec, shape, data_type, fill_value, inner, &mask);
+    has_room(codec, shape, kind, fill, inner, &mask);
     present_decode(alloc, &codec.data_codecs, mask, data_part, inner)
 }
 
@@ -325,15 +301,14 @@ fn optional_taken_decode<'a, B: BytesToBytesCodecTraits>(
     codec: &OptionalCodec<B>,
     value: ArrayBytesRaw<'a>,
     shape: &ChunkShape,
-    data_type: &DataType,
-    fill_value: &FillValue,
+    kind: &DataType,
+    fill: &FillValue,
 ) -> Result<ArrayBytes<'a>, CodecError>
-    ensures exact { GivesTakenChunk B.functions (plain_optional codec.now)
-        (form_of shape.now data_type.now fill_value.now) (items_of value.entry) result }
-    ensures blank { IfOk result (AbsentAreBlank data_type.now) }
+    ensures exact { ReadsAny B.functions codec.now shape.now kind.now fill.now value.entry result }
+    ensures blank { IfOk result (AbsentAreBlank kind.now) }
 {
-    optional_representation(alloc, codec, shape, data_type, fill_value)?;
-    optional_decode(alloc, codec, value, shape, data_type, fill_value)
+    optional_representation(alloc, codec, shape, kind, fill)?;
+    optional_decode(alloc, codec, value, shape, kind, fill)
 }
 
 impl<B: BytesToBytesCodecTraits> OptionalCodec<B> {
@@ -349,8 +324,7 @@ impl<B: BytesToBytesCodecTraits> OptionalCodec<B> {
         data_type: &DataType,
         fill_value: &FillValue,
     ) -> Result<BytesRepresentation, CodecError>
-        ensures answer { GivesRepresentation B.functions (plain_optional self.now)
-            (form_of shape.now data_type.now fill_value.now) result }
+        ensures answer { Counts B.functions self.now shape.now data_type.now fill_value.now result }
     {
         optional_representation(alloc, self, shape, data_type, fill_value)
     }
@@ -366,6 +340,7 @@ impl<B: BytesToBytesCodecTraits> OptionalCodec<B> {
         data_type: &DataType,
         fill_value: &FillValue,
     ) -> Result<ArrayBytesRaw<'a>, CodecError>
+        // Wide: the form of a chunk is three parameters, as in the Rust crate.
         ensures encodes { Encodes (codec_grammar B.functions (plain_optional self.now))
             (form_of shape.now data_type.now fill_value.now) elements.entry result }
     {
@@ -389,6 +364,7 @@ impl<B: BytesToBytesCodecTraits> OptionalCodec<B> {
         data_type: &DataType,
         fill_value: &FillValue,
     ) -> Result<ArrayBytes<'a>, CodecError>
+        // Wide: the form of a chunk is three parameters, as in the Rust crate.
         ensures decodes { Decodes (codec_grammar B.functions (plain_optional self.now))
             (form_of shape.now data_type.now fill_value.now) (items_of value.entry) result }
         ensures blank { IfOk result (AbsentAreBlank data_type.now) }

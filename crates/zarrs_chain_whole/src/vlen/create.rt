@@ -1,9 +1,5 @@
 //! A `vlen` made from its configuration and from metadata.
-ghost use Rattle.zarrs_metadata.specs.MetadataV3.{metadata_seen};
-ghost use Rattle.zarrs_metadata.specs.PluginCreateError.{Makes};
-ghost use Rattle.zarrs_metadata.specs.VlenConfiguration.{vlen_seen};
-ghost use Rattle.zarrs_chain_whole.specs.ChainView.{plain_vlen};
-ghost use Rattle.zarrs_chain_laws.specs.MadeChain.{chain_made, vlen_of_parts, vlen_made_by};
+ghost use Rattle.zarrs_chain_whole.specs.Making.{MakesVlen, CreatesVlen};
 
 use crate::metadata::make_chain::{vlen_create, vlen_from};
 use crate::vlen::vlen_codec::VlenCodec;
@@ -21,8 +17,7 @@ impl<B: Drop> VlenCodec<B> {
         configuration: &VlenCodecConfiguration,
         maker: &M,
     ) -> Result<VlenCodec<B>, PluginCreateError>
-        ensures answer { Makes plain_vlen result
-            (vlen_of_parts (chain_made (M.makes maker.now)) (vlen_seen configuration.now)) }
+        ensures answer { MakesVlen (M.makes maker.now) configuration.now result }
     {
         vlen_from(alloc, configuration, maker)
     }
@@ -38,8 +33,7 @@ impl<B: Drop> VlenCodec<B> {
         metadata: &MetadataV3,
         maker: &M,
     ) -> Result<VlenCodec<B>, PluginCreateError>
-        ensures answer { Makes plain_vlen result
-            (vlen_made_by (chain_made (M.makes maker.now)) (metadata_seen metadata.now)) }
+        ensures answer { CreatesVlen (M.makes maker.now) metadata.now result }
     {
         vlen_create(alloc, metadata, maker)
     }

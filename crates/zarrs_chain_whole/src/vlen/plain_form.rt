@@ -1,10 +1,10 @@
 //! Which codecs `vlen` are plain: their index chain is `bytes` with a byte order, and their data chain
 //! is `bytes`, both alone.
-ghost use Rattle.std.specs.Prelude.{◌≡◌, option_map};
+ghost use Rattle.std.specs.Prelude.{◌≡◌};
 ghost use Rattle.zarrs_chain_laws.specs.Chain.{codec_reads};
-ghost use Rattle.zarrs_chain_laws.specs.vlen.PlainVlen.{lone_bytes as lone_bytes_of, form_of_chains, plain_form, lone_order};
-ghost use Rattle.zarrs_chain_laws.specs.vlen.VlenSettings.{is_wide, is_at_end};
+ghost use Rattle.zarrs_chain_laws.specs.vlen.PlainVlen.{lone_order};
 ghost use Rattle.zarrs_chain_whole.specs.ChainView.{plain_chain, plain_vlen};
+ghost use Rattle.zarrs_chain_whole.specs.vlen.VlenCalls.{TellsForm};
 
 use crate::array_to_bytes_codec::ArrayToBytesCodec;
 use crate::codec_chain::CodecChain;
@@ -40,8 +40,7 @@ pub(crate) fn form_of_parts(
     index_data_type: VlenIndexDataType,
     index_location: VlenIndexLocation,
 ) -> Option<PlainVlen>
-    ensures form { option_map plain_form result ≡
-        form_of_chains index content (is_wide index_data_type) (is_at_end index_location) }
+    ensures form { TellsForm index content index_data_type index_location result }
 {
     match (index, content) {
         (Some(Some(endianness)), Some(_)) => Some(PlainVlen {

@@ -1,22 +1,19 @@
-ghost use Rattle.zarrs_chain_laws.specs.CallAnswers.{GivesRepresentation, GivesTakenChunk, codec_represented};
 ghost use Rattle.zarrs_chunk.specs.Answer.{Answers, memory, is_fault};
 ghost use Rattle.zarrs_array_bytes.specs.Blank.{AbsentAreBlank};
 ghost use Rattle.zarrs_array_bytes.specs.Held.{items_of};
-ghost use Rattle.std.specs.Prelude.{◌≡◌, ◌<◌, [], Ok, IfOk, false, option_map};
-ghost use Rattle.zarrs_metadata.specs.MetadataV3.{configuration_seen};
-ghost use Rattle.zarrs_metadata.specs.PluginCreateError.{Makes};
+ghost use Rattle.std.specs.Prelude.{◌≡◌, [], Ok, IfOk, false, option_map};
+ghost use Rattle.zarrs_metadata.specs.MetadataV3.{Writes};
 ghost use Rattle.zarrs_data_type.specs.Form.{form_of};
 ghost use Rattle.zarrs_codec.specs.Grammar.{Encodes, Decodes};
 ghost use Rattle.zarrs_chain_whole.specs.ChainGrammar.{codec_grammar};
-ghost use Rattle.zarrs_chain_whole.specs.ChainView.{plain_chain, plain_vlen, vlen_of};
-ghost use Rattle.zarrs_chain_laws.specs.vlen.VlenSettings.{is_at_end};
+ghost use Rattle.zarrs_chain_whole.specs.ChainView.{plain_vlen, IsVlenOf, with_index, boxed_chain};
 ghost use Rattle.zarrs_chain_whole.specs.vlen.DefaultVlen.{bytes_chain, default_vlen};
 ghost use Rattle.zarrs_chain_laws.specs.Laws.{HasMappings};
 ghost use Rattle.zarrs_chain_laws.specs.MadeAgain.{HasRanges};
-ghost use Rattle.zarrs_chain_laws.specs.PlainChain.{with_location};
 ghost use Rattle.zarrs_chain_laws.specs.vlen.PlainVlen.{plain_form, plain_form_of};
 ghost use Rattle.zarrs_chain_laws.specs.Representation.{vlen_representation as vlen_representation_of};
 ghost use Rattle.zarrs_chain_laws.specs.WrittenMetadata.{codec_configuration};
+ghost use Rattle.zarrs_chain_whole.specs.vlen.VlenCalls.{Counts, Says, ReadsAny};
 
 use crate::array_to_bytes_codec::ArrayToBytesCodec;
 use crate::codec_chain::{CodecChain, chain_has_ranges, chain_is_sound};
@@ -60,8 +57,7 @@ impl<B> VlenCodec<B> {
         index_data_type: VlenIndexDataType,
         index_location: VlenIndexLocation,
     ) -> VlenCodec<B>
-        ensures made { plain_vlen result ≡
-            vlen_of index_codecs.value data_codecs.value index_data_type index_location }
+        ensures made { IsVlenOf index_codecs data_codecs index_data_type index_location result }
     {
         VlenCodec {
             index_codecs,
@@ -74,8 +70,7 @@ impl<B> VlenCodec<B> {
     /// The same codec, with the index at this place.
     #[tactic(auto, using(crate::specs::ChainView::plain_vlen_at, crate::specs::ChainView::plain_vlen_made))]
     pub fn with_index_location(self, index_location: VlenIndexLocation) -> VlenCodec<B>
-        ensures made { plain_vlen result ≡
-            with_location (is_at_end index_location) (plain_vlen self) }
+        ensures made { plain_vlen result ≡ with_index index_location self }
     {
         let VlenCodec {
             index_codecs,
@@ -104,8 +99,7 @@ impl<B> VlenCodec<B> {
 /// The codec `bytes` alone, in a box. Refusals: `OutOfMemory`.
 #[tactic(auto, unfolding(crate::specs::ChainView::plain_codec))]
 fn boxed_bytes<B: Drop>(alloc: Global, codec: BytesCodec) -> Result<Box<CodecChain<B>>, CodecError>
-    ensures made { Answers memory (λ chain. plain_chain chain.value) result
-        (Ok (bytes_chain codec)) }
+    ensures made { Answers memory boxed_chain result (Ok (bytes_chain codec)) }
 {
     let codec = ArrayToBytesCodec::Bytes(codec);
     let chain = CodecChain::new(Vec::new(alloc), codec, Vec::new(alloc));
@@ -157,8 +151,7 @@ pub(crate) fn vlen_written<B: BytesToBytesCodecTraits>(
     alloc: Global,
     codec: &VlenCodec<B>,
 ) -> Result<Configuration, PluginCreateError>
-    ensures answer { Makes configuration_seen result
-        (Ok (codec_configuration B.described (plain_vlen codec.now))) }
+    ensures answer { Writes result (codec_configuration B.described (plain_vlen codec.now)) }
 {
     let index_codecs = chain_written(alloc, &codec.index_codecs)?;
     let data_codecs = chain_written(alloc, &codec.data_codecs)?;
@@ -195,10 +188,8 @@ fn vlen_measure<B: BytesToBytesCodecTraits>(
     data_type: &DataType,
     fill_value: &FillValue,
 ) -> Result<BytesRepresentation, CodecError>
-    ensures answer { GivesRepresentation B.functions (plain_vlen codec.now)
-        (form_of shape.now data_type.now fill_value.now) result }
-    ensures in_place { result ≡ codec_represented B.functions (plain_vlen codec.now)
-        (form_of shape.now data_type.now fill_value.now) }
+    ensures answer { Counts B.functions codec.now shape.now data_type.now fill_value.now result }
+    ensures in_place { Says B.functions codec.now shape.now data_type.now fill_value.now result }
 {
     vlen_representation(shape, data_type)
 }
@@ -210,15 +201,14 @@ fn vlen_taken_decode<'a, B: BytesToBytesCodecTraits>(
     codec: &VlenCodec<B>,
     value: ArrayBytesRaw<'a>,
     shape: &ChunkShape,
-    data_type: &DataType,
-    fill_value: &FillValue,
+    kind: &DataType,
+    fill: &FillValue,
 ) -> Result<ArrayBytes<'a>, CodecError>
-    ensures exact { GivesTakenChunk B.functions (plain_vlen codec.now)
-        (form_of shape.now data_type.now fill_value.now) (items_of value.entry) result }
-    ensures blank { IfOk result (AbsentAreBlank data_type.now) }
+    ensures exact { ReadsAny B.functions codec.now shape.now kind.now fill.now value.entry result }
+    ensures blank { IfOk result (AbsentAreBlank kind.now) }
 {
-    vlen_measure(codec, shape, data_type, fill_value)?;
-    vlen_decode(alloc, codec, value, shape, data_type, fill_value)
+    vlen_measure(codec, shape, kind, fill)?;
+    vlen_decode(alloc, codec, value, shape, kind, fill)
 }
 
 impl<B: BytesToBytesCodecTraits> VlenCodec<B> {
@@ -231,10 +221,8 @@ impl<B: BytesToBytesCodecTraits> VlenCodec<B> {
         data_type: &DataType,
         fill_value: &FillValue,
     ) -> Result<BytesRepresentation, CodecError>
-        ensures answer { GivesRepresentation B.functions (plain_vlen self.now)
-            (form_of shape.now data_type.now fill_value.now) result }
-        ensures in_place { result ≡ codec_represented B.functions (plain_vlen self.now)
-            (form_of shape.now data_type.now fill_value.now) }
+        ensures answer { Counts B.functions self.now shape.now data_type.now fill_value.now result }
+        ensures in_place { Says B.functions self.now shape.now data_type.now fill_value.now result }
     {
         vlen_measure(self, shape, data_type, fill_value)
     }
@@ -252,6 +240,7 @@ impl<B: BytesToBytesCodecTraits> VlenCodec<B> {
         data_type: &DataType,
         fill_value: &FillValue,
     ) -> Result<ArrayBytesRaw<'a>, CodecError>
+        // Wide: the form of a chunk is three parameters, as in the Rust crate.
         ensures encodes { Encodes (codec_grammar B.functions (plain_vlen self.now))
             (form_of shape.now data_type.now fill_value.now) elements.entry result }
     {
@@ -273,6 +262,7 @@ impl<B: BytesToBytesCodecTraits> VlenCodec<B> {
         data_type: &DataType,
         fill_value: &FillValue,
     ) -> Result<ArrayBytes<'a>, CodecError>
+        // Wide: the form of a chunk is three parameters, as in the Rust crate.
         ensures decodes { Decodes (codec_grammar B.functions (plain_vlen self.now))
             (form_of shape.now data_type.now fill_value.now) (items_of value.entry) result }
         ensures blank { IfOk result (AbsentAreBlank data_type.now) }

@@ -1,15 +1,11 @@
 //! The chunk of a value through `vlen`: its offsets, then the elements' bytes.
-ghost use Rattle.zarrs_chain_laws.specs.CallAnswers.{GivesCodecChunk, IsTaken};
-ghost use Rattle.zarrs_chunk.specs.Answer.{Gives, is_fault, checked_u64};
+ghost use Rattle.zarrs_chunk.specs.Answer.{is_fault, checked_u64};
 ghost use Rattle.zarrs_array_bytes.specs.Blank.{AbsentAreBlank};
 ghost use Rattle.zarrs_array_bytes.specs.Held.{items_of};
 ghost use Rattle.std.specs.Prelude.{◌≡◌, ◌<◌, ◌+◌, IfOk, false, length};
 ghost use Rattle.zarrs_chunk.specs.ChunkShape.{product};
 ghost use Rattle.zarrs_array_bytes.specs.Offsets.{last_of};
-ghost use Rattle.zarrs_data_type.specs.Form.{form_of};
-ghost use Rattle.zarrs_chain_whole.specs.ChainView.{plain_chain, plain_vlen};
-ghost use Rattle.zarrs_chain_laws.specs.vlen.VlenSettings.{is_wide};
-ghost use Rattle.zarrs_chain_laws.specs.vlen.VlenSteps.{index_offsets, content_bytes};
+ghost use Rattle.zarrs_chain_whole.specs.vlen.VlenCalls.{Takes, Reads, ReadsIndex, ReadsData};
 
 use crate::codec_chain::CodecChain;
 use crate::decode::part_decode;
@@ -36,8 +32,7 @@ fn index_decode<B: BytesToBytesCodecTraits>(
     data_type: VlenIndexDataType,
 ) -> Result<ArrayBytesOffsets, CodecError>
     requires some { 0 < count }
-    ensures answer { Gives (λ offsets. offsets) result
-        (index_offsets B.functions (plain_chain chain.now) (is_wide data_type) count part.now) }
+    ensures answer { ReadsIndex B.functions chain.now data_type count part.now result }
 {
     let fill_value = offset_fill(alloc, data_type)?;
     let part = CowSlice::Borrowed(part);
@@ -61,8 +56,7 @@ fn content_decode<'a, B: BytesToBytesCodecTraits>(
     part: ArrayBytesRaw<'a>,
     count: u64,
 ) -> Result<ArrayBytesRaw<'a>, CodecError>
-    ensures answer { Gives items_of result
-        (content_bytes B.functions (plain_chain chain.now) count (items_of part.entry)) }
+    ensures answer { ReadsData B.functions chain.now count part.entry result }
     ensures len { IfOk result (λ bytes. length (items_of bytes) ≡ count) }
 {
     let fill_value = FillValue::new_optional_null(alloc)?;
@@ -79,14 +73,12 @@ pub fn vlen_decode<'a, B: BytesToBytesCodecTraits>(
     codec: &VlenCodec<B>,
     value: ArrayBytesRaw<'a>,
     shape: &ChunkShape,
-    data_type: &DataType,
-    fill_value: &FillValue,
+    kind: &DataType,
+    fill: &FillValue,
 ) -> Result<ArrayBytes<'a>, CodecError>
-    requires taken { IsTaken B.functions (plain_vlen codec.now)
-        (form_of shape.now data_type.now fill_value.now) }
-    ensures answer { GivesCodecChunk B.functions (plain_vlen codec.now)
-        (form_of shape.now data_type.now fill_value.now) (items_of value.entry) result }
-    ensures blank { IfOk result (AbsentAreBlank data_type.now) }
+    requires taken { Takes B.functions codec.now shape.now kind.now fill.now }
+    ensures answer { Reads B.functions codec.now shape.now kind.now fill.now value.entry result }
+    ensures blank { IfOk result (AbsentAreBlank kind.now) }
 {
     let (index, _) = split(value.as_slice(), codec.index_location)?;
     let size = index.len();

@@ -1,13 +1,7 @@
 //! The value of a chunk through `vlen`: the index part and the data part, joined.
-ghost use Rattle.zarrs_chain_laws.specs.CallAnswers.{GivesCodecValue};
-ghost use Rattle.zarrs_chunk.specs.Answer.{Gives};
-ghost use Rattle.zarrs_array_bytes.specs.Held.{items_of};
-ghost use Rattle.std.specs.Prelude.{◌≡◌, ◌<◌, true};
+ghost use Rattle.std.specs.Prelude.{◌≡◌, true};
 ghost use Rattle.zarrs_array_bytes.specs.Offsets.{is_offsets};
-ghost use Rattle.zarrs_data_type.specs.Form.{form_of};
-ghost use Rattle.zarrs_chain_whole.specs.ChainView.{plain_chain, plain_vlen};
-ghost use Rattle.zarrs_chain_laws.specs.vlen.VlenSettings.{is_wide};
-ghost use Rattle.zarrs_chain_laws.specs.vlen.VlenSteps.{index_part, content_part};
+ghost use Rattle.zarrs_chain_whole.specs.vlen.VlenCalls.{Writes, WritesIndex, WritesData};
 
 use crate::codec_chain::{CodecChain, chain_is_sound};
 use crate::encode::{check_elements, part_encode};
@@ -33,8 +27,7 @@ fn index_encode<'a, B: BytesToBytesCodecTraits>(
     data_type: VlenIndexDataType,
 ) -> Result<ArrayBytesRaw<'a>, CodecError>
     requires rising { is_offsets offsets.now ≡ true }
-    ensures answer { Gives items_of result
-        (index_part B.functions (plain_chain chain.now) (is_wide data_type) offsets.now) }
+    ensures answer { WritesIndex B.functions chain.now data_type offsets.now result }
 {
     chain_is_sound(chain);
     let rows = index_elements(alloc, offsets, data_type)?;
@@ -59,8 +52,7 @@ fn content_encode<'a, B: BytesToBytesCodecTraits>(
     chain: &CodecChain<B>,
     bytes: ArrayBytesRaw<'a>,
 ) -> Result<ArrayBytesRaw<'a>, CodecError>
-    ensures answer { Gives items_of result
-        (content_part B.functions (plain_chain chain.now) (items_of bytes.entry)) }
+    ensures answer { WritesData B.functions chain.now bytes.entry result }
 {
     let fill_value = FillValue::new_optional_null(alloc)?;
     let count = bytes.len() as u64;
@@ -75,23 +67,22 @@ fn content_encode<'a, B: BytesToBytesCodecTraits>(
     )
 }
 
-/// The value of the chunk that `elements` hold. Refusals: those of `VlenCodec::encode`.
+/// The value of the chunk that `held` holds. Refusals: those of `VlenCodec::encode`.
 #[cycle(encode)]
 #[tactic(auto, using(crate::proofs::VlenEncode::held_checked, crate::proofs::VlenEncode::first_inside))]
 pub(crate) fn vlen_encode<'a, B: BytesToBytesCodecTraits>(
     alloc: Global,
     codec: &VlenCodec<B>,
-    elements: ArrayBytes<'a>,
+    held: ArrayBytes<'a>,
     shape: &ChunkShape,
-    data_type: &DataType,
-    fill_value: &FillValue,
+    kind: &DataType,
+    fill: &FillValue,
 ) -> Result<ArrayBytesRaw<'a>, CodecError>
-    ensures answer { GivesCodecValue B.functions (plain_vlen codec.now)
-        (form_of shape.now data_type.now fill_value.now) elements.entry result }
+    ensures answer { Writes B.functions codec.now shape.now kind.now fill.now held.entry result }
 {
-    vlen_representation(shape, data_type)?;
-    check_elements(&elements, shape, data_type)?;
-    let (bytes, offsets) = variable_parts(elements)?;
+    vlen_representation(shape, kind)?;
+    check_elements(&held, shape, kind)?;
+    let (bytes, offsets) = variable_parts(held)?;
     let offsets = offsets.as_slice();
     let index = index_encode(alloc, &codec.index_codecs, offsets, codec.index_data_type)?;
     let content = content_encode(alloc, &codec.data_codecs, behind(bytes, offsets[0]))?;

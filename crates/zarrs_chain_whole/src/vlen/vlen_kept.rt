@@ -1,24 +1,12 @@
 //! Whether the codec of an index gives its offsets back unchanged.
-ghost use Rattle.zarrs_chunk.specs.Answer.{Gives, Answers, demand, memory, is_fault, seen};
-ghost use Rattle.zarrs_array_bytes.specs.Held.{flen};
+ghost use Rattle.zarrs_chunk.specs.Answer.{is_fault};
 ghost use Rattle.zarrs_data_type.specs.Form.{form_of};
-ghost use Rattle.std.specs.Prelude.{◌≡◌, ◌∷◌, [], IsOk, Ok, ℕ, false, length, true};
-ghost use Rattle.std.specs.Bool.{nat_eq};
-ghost use Rattle.std.specs.Cmp.Lexicographic.{pointwise};
-ghost use Rattle.zarrs_chunk.specs.ChunkShape.{product};
-ghost use Rattle.zarrs_chunk.specs.declared.codec_error.CodecError.TheVariants.{OffsetNotKept};
-ghost use Rattle.zarrs_data_type.specs.Element.{Chunk};
+ghost use Rattle.std.specs.Prelude.{◌≡◌, false, length, true};
 ghost use Rattle.zarrs_array_bytes.specs.Offsets.{is_offsets};
-ghost use Rattle.zarrs_array_bytes.specs.Parts.{fixed_part};
-ghost use Rattle.zarrs_array_bytes.specs.Validity.{Holds};
 ghost use Rattle.zarrs_chain_whole.specs.ChainView.{plain_codec};
 ghost use Rattle.zarrs_chain_laws.specs.vlen.VlenSettings.{is_wide};
-ghost use Rattle.zarrs_chain_laws.specs.Encode.{is_same_bytes, offset_bytes};
-ghost use Rattle.zarrs_chain_laws.specs.PlainChain.{packbits_codec};
-ghost use Rattle.zarrs_chain_laws.specs.Representation.{offset_type as offset_type_of};
-ghost use Rattle.zarrs_chain_laws.specs.vlen.VlenSteps.{keeps_offsets, lent_bytes, offsets_fit, TakesOffsets, IsPackable, offsets_form, TellsKept, offsets_kept};
-ghost use Rattle.zarrs_packbits.specs.NormalForm.{normal_chunk};
-ghost use Rattle.zarrs_packbits.specs.PackBitsSettings.{packed_layout};
+ghost use Rattle.zarrs_chain_laws.specs.vlen.VlenSteps.{offsets_fit, TakesOffsets, IsPackable, offsets_form, TellsKept};
+ghost use Rattle.zarrs_chain_whole.specs.vlen.VlenCalls.{TellsOffsets, TellsPacked, ChecksOffsets, tells_items};
 
 use crate::array_to_bytes_codec::ArrayToBytesCodec;
 use crate::encode::row_of;
@@ -53,8 +41,7 @@ fn keeps_items(
 /// Whether the bytes of elements of one size are these. Refusals: `ArrayBytesKind` for any other
 /// elements.
 fn holds_items(elements: &ArrayBytes<'_>, items: &[u8]) -> Result<bool, CodecError>
-    ensures answer { result ≡
-        seen (λ raw. pointwise nat_eq raw.items items.now) (fixed_part elements.now) }
+    ensures answer { result ≡ tells_items elements.now items.now }
 {
     Ok(elements.as_fixed()? == items)
 }
@@ -69,8 +56,7 @@ fn packs_offsets(
     requires rising { is_offsets offsets.now ≡ true }
     requires fits { offsets_fit (is_wide data_type) offsets.now ≡ true }
     requires taken { IsPackable codec.now (offsets_form (is_wide data_type) (length offsets.now)) }
-    ensures answer { Gives (λ kept. kept) result
-        (Ok (keeps_offsets {B = ℕ} (packbits_codec codec.now) (is_wide data_type) offsets.now)) }
+    ensures answer { TellsPacked codec.now data_type offsets.now result }
 {
     let items = offset_items(alloc, offsets, data_type)?;
     let fill_value = offset_fill(alloc, data_type)?;
@@ -99,8 +85,7 @@ fn is_kept<B>(
     requires rising { is_offsets offsets.now ≡ true }
     requires fits { offsets_fit (is_wide data_type) offsets.now ≡ true }
     requires taken { TakesOffsets (plain_codec codec.now) (is_wide data_type) (length offsets.now) }
-    ensures answer { Gives (λ kept. kept) result
-        (Ok (keeps_offsets (plain_codec codec.now) (is_wide data_type) offsets.now)) }
+    ensures answer { TellsOffsets codec.now data_type offsets.now result }
 {
     match codec {
         ArrayToBytesCodec::Bytes(_) => Ok(true),
@@ -121,8 +106,7 @@ pub(crate) fn check_kept<B>(
     requires rising { is_offsets offsets.now ≡ true }
     requires fits { offsets_fit (is_wide data_type) offsets.now ≡ true }
     requires taken { TakesOffsets (plain_codec codec.now) (is_wide data_type) (length offsets.now) }
-    ensures answer { Gives (λ done. done) result
-        (offsets_kept (plain_codec codec.now) (is_wide data_type) offsets.now) }
+    ensures answer { ChecksOffsets codec.now data_type offsets.now result }
 {
     if is_kept(alloc, codec, offsets, data_type)? {
         Ok(())

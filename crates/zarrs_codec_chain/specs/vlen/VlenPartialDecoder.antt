@@ -1,6 +1,6 @@
 -- What a partial decoder of `vlen` is made of, and what it reads of a chunk.
 use Rattle.std.specs.Prelude.{◌≡◌, ℕ, Bool, true, Option, is_some, IfOk, List, Result, false, Some, None, map, Err, IfErr}
-use Rattle.zarrs_chunk.specs.Answer.{◌>>=◌, AnswersBy, is_fault, memory, memory_or_fault, seen}
+use Rattle.zarrs_chunk.specs.Answer.{◌>>=◌, AnswersBy, GivesValue, is_fault, memory, memory_or_fault, seen}
 use Rattle.zarrs_chunk.specs.Selection.{Selection, places_of, bounds_of}
 use Rattle.zarrs_chunk.specs.declared.codec_error.CodecError.{CodecError}
 use Rattle.zarrs_data_type.specs.Element.{Chunk, fill_element}
@@ -13,12 +13,15 @@ use Rattle.zarrs_chain_whole.specs.ChainView.{plain_vlen}
 use Rattle.zarrs_codec_chain.specs.ChunkRead.{codec_read, codec_rests_on}
 use Rattle.zarrs_chain_laws.specs.PlainChain.{PlainCodec}
 use Rattle.zarrs_codec_chain.specs.declared.vlen.vlen_partial_decoder.VlenPartialDecoder.{VlenPartialDecoder}
-use Rattle.zarrs_data_type.specs.Form.{Form}
 use Rattle.zarrs_array_bytes.specs.Elements.{select}
 use Rattle.zarrs_array_bytes.specs.Held.{Held}
 use Rattle.zarrs_array_bytes.specs.Validity.{Holds}
+use Rattle.zarrs_chain_laws.specs.Representation.{codec_representation}
 use Rattle.zarrs_chain_laws.specs.Stands.{CodecStands}
 use Rattle.zarrs_codec.specs.CodersOverHandles.{OnlyReads}
+use Rattle.zarrs_codec.specs.Refused.{outcome}
+use Rattle.zarrs_codec.specs.declared.refused.Refused.{Refused}
+use Rattle.zarrs_chain_whole.specs.declared.vlen.vlen_codec.VlenCodec.{VlenCodec}
 
 -- the chunk that is read: through which codec to bytes, its sizes, its type and its fill value
 pub record CodecForm (B : Type 0) : Type 0 where
@@ -65,10 +68,19 @@ codec_reader f form stored in_part = record {
 
 -- ---- what calls give
 
--- what is made of a chunk's form, where it is made, has that form
-abbrev pub HasCodecForm : {B C E : Type 0} → (C → CodecForm B) → PlainCodec B → Form → Result C E → Type 0
-HasCodecForm view codec form result =
-    IfOk result (λ made. view made ≡ record { codec = codec; sizes = form.sizes; type = form.type; fill = form.fill })
+-- A decoder of the chunk of these sizes, this type and this fill value is made where the codec takes such chunks; else the first refusal is answered.
+abbrev pub VlenDecoderMade : {H B : Type 0} {h : _} {b : _} → VlenCodec B → List ℕ → ElementType → List ℕ → Result (VlenPartialDecoder H B h b) (Refused H) → Type 0
+VlenDecoderMade {b = b} codec sizes type fill result =
+    GivesValue (outcome result) (seen (λ _. tt) (codec_representation b.functions (plain_vlen codec) sizes type fill))
+
+-- one that is made is a decoder of that chunk
+abbrev pub VlenHasForm : {H B : Type 0} {h : _} {b : _} → VlenCodec B → List ℕ → ElementType → List ℕ → Result (VlenPartialDecoder H B h b) (Refused H) → Type 0
+VlenHasForm codec sizes type fill result =
+    IfOk result (λ decoder. vlen_form_of decoder ≡ record { codec = plain_vlen codec; sizes = sizes; type = type; fill = fill })
+
+-- its codec decodes a part
+abbrev pub vlen_decodes_in_part : {H B : Type 0} {h : _} {b : _} → VlenPartialDecoder H B h b → Bool
+vlen_decodes_in_part decoder = (codec_reads (vlen_form_of decoder).codec).partial_decode
 
 -- the elements that a selection means are read of what the handle keeps, or the first refusal
 abbrev pub VlenReads : {H B : Type 0} {h : _} {b : _} → (H → StorageState) → BytesCodecs B → VlenPartialDecoder H B h b → Selection → Result Held CodecError → Type 0

@@ -1,16 +1,13 @@
-ghost use Rattle.zarrs_codec_chain.specs.ChunkReader.{IsFilledFrom, reader_form, reader_is_cached, reader_source};
-ghost use Rattle.std.specs.Prelude.{◌≡◌, ◌<◌, ◌&&◌, Ok, IfOk, IsOkAnd, None, option_map, is_some, true, false};
+ghost use Rattle.zarrs_codec_chain.specs.ChunkCoder.{IsFilledFrom, coder_form, coder_is_cached, reader_source};
+ghost use Rattle.std.specs.Prelude.{◌≡◌, ◌&&◌, Ok, IfOk, is_some, true, false};
 ghost use Rattle.std.proofs.Props.{props};
-ghost use Rattle.zarrs_chunk.specs.Answer.{Answers, fault, memory, GivesBy};
-ghost use Rattle.zarrs_chunk.specs.Indexer.{selection_of};
 ghost use Rattle.zarrs_array_bytes.specs.Blank.{AbsentAreBlank};
-ghost use Rattle.zarrs_codec.specs.HandleCalls.{NeverFailsIf};
+ghost use Rattle.zarrs_codec.specs.HandleCalls.{NeverFailsIf, Tells};
 ghost use Rattle.zarrs_chain_laws.specs.Chain.{chain_reads};
-ghost use Rattle.zarrs_codec_chain.specs.ChunkRead.{IsReadPlan, planned_places, ReadsChunk, PlansRead, form_decodes_parts};
-ghost use Rattle.zarrs_codec_chain.specs.ChunkSource.{IsSizeOf, source_made};
+ghost use Rattle.zarrs_codec_chain.specs.ChunkSource.{source_made};
 ghost use Rattle.zarrs_codec_chain.specs.ElementCode.{Chunk-set};
 
-use crate::partial_decoder::chunk_reader::ChunkReader;
+use crate::chunk_coder::ChunkCoder;
 use std::alloc::Global;
 use zarrs_array_bytes::ArrayBytes;
 use zarrs_chain_whole::CodecChain;
@@ -35,19 +32,19 @@ use zarrs_data_type::{DataType, FillValue};
 #[derive(Drop)]
 pub struct ArrayPartialDecoder<'a, H: BytesPartialDecoderTraits, B: BytesToBytesCodecTraits> {
     pub(crate) handle: H,
-    pub(crate) reader: ChunkReader<'a, B>,
-    ghost kept: { IsFilledFrom B.functions reader (H.state handle).value } by { Prim.hlevel (props, Chunk-set) },
-    ghost wanted: { reader_is_cached reader ≡ true → source_made B.functions B.reads_in_part (reader_form reader) (H.state handle).value ≡ Ok (reader_source reader (H.state handle).value) } by { Prim.hlevel (props, Chunk-set) },
+    pub(crate) coder: ChunkCoder<'a, B>,
+    ghost kept: { IsFilledFrom B.functions coder (H.state handle).value } by { Prim.hlevel (props, Chunk-set) },
+    ghost wanted: { coder_is_cached coder ≡ true → source_made B.functions B.reads_in_part (coder_form coder) (H.state handle).value ≡ Ok (reader_source coder (H.state handle).value) } by { Prim.hlevel (props, Chunk-set) },
 }
 
 impl<'a, H: BytesPartialDecoderTraits, B: BytesToBytesCodecTraits> ArrayPartialDecoder<'a, H, B> {
-    ghost use Rattle.zarrs_codec_chain.specs.PartialDecoder.{decoder_held, form_of, handle_of, is_cached, DecoderLeaves, DecoderReads, KeepsCache};
+    ghost use Rattle.zarrs_codec_chain.specs.PartialDecoder.{decoder_held, form_of, handle_of, is_cached, DecoderLeaves, DecoderPlans, DecoderReads, KeepsCache, decoder_reads_parts};
 
     /// The type of the elements.
     pub fn data_type(&self) -> &DataType
         ensures value { result.now ≡ (form_of self.now).type }
     {
-        self.reader.data_type()
+        self.coder.data_type()
     }
 
     /// The elements that the indexer means, in its order: those of the chunk that the stored value
@@ -76,26 +73,24 @@ impl<'a, H: BytesPartialDecoderTraits, B: BytesToBytesCodecTraits> ArrayPartialD
         alloc: Global,
         indexer: &Indexer,
     ) -> Result<ArrayBytes<'static>, CodecError>
-        ensures reads { DecoderReads H.state B.functions self.old
-            (selection_of indexer.now) result }
+        ensures reads { DecoderReads H.state self.old indexer.now result }
         ensures blank { IfOk result (AbsentAreBlank (form_of self.old).type) }
         ensures no_fault_if_cached { NeverFailsIf (is_cached self.old) result }
         ensures left { DecoderLeaves H.state H.lent self.old self.new result }
     {
-        self.reader.read_chunk(alloc, &mut self.handle, indexer)
+        self.coder.read_chunk(alloc, &mut self.handle, indexer)
     }
 
     /// Whether a value is stored; of a decoder that has a cache, whether one was when it was made.
     /// Refusals: `Storage`, but never of a decoder that has a cache, nor where the handle has sure
     /// bytes.
     pub fn exists(&mut self) -> Result<bool, CodecError>
-        ensures answer { Answers fault (λ there. there) result
-            (Ok (is_some (H.state (handle_of self.old)).value)) }
+        ensures answer { Tells result (is_some (H.state (handle_of self.old)).value) }
         ensures sure { NeverFailsIf (is_some (H.state (handle_of self.old)).sure) result }
         ensures no_fault_if_cached { NeverFailsIf (is_cached self.old) result }
         ensures left { DecoderLeaves H.state H.lent self.old self.new result }
     {
-        self.reader.exists(&mut self.handle)
+        self.coder.exists(&mut self.handle)
     }
 
     /// How many bytes are kept in memory: the cache's alone, or without a cache the handle's.
@@ -104,7 +99,7 @@ impl<'a, H: BytesPartialDecoderTraits, B: BytesToBytesCodecTraits> ArrayPartialD
         ensures cache { KeepsCache H.state B.functions B.reads_in_part self.now result }
         ensures value { result ≡ decoder_held self.now (H.held (handle_of self.now)) }
     {
-        self.reader.size_held(&self.handle)
+        self.coder.size_held(&self.handle)
     }
 
     /// The ranges, in bytes of the stored value, that a read asks for, where it asks for the bytes
@@ -118,25 +113,24 @@ impl<'a, H: BytesPartialDecoderTraits, B: BytesToBytesCodecTraits> ArrayPartialD
         alloc: Global,
         indexer: &Indexer,
     ) -> Result<Option<Vec<ByteRange>>, CodecError>
-        ensures plan { PlansRead B.functions (form_of self.now) (selection_of indexer.now) result }
+        ensures plan { DecoderPlans self.now indexer.now result }
     {
-        self.reader.planned_ranges(alloc, indexer)
+        self.coder.planned_ranges(alloc, indexer)
     }
 
     /// Whether a part is read without the rest: where all codecs of the chain decode a part, and the
     /// handle reads ranges by themselves.
     pub fn supports_partial_decode(&self) -> bool
-        ensures value { result ≡
-            form_decodes_parts B.reads_in_part (form_of self.now) && H.reads_ranges }
+        ensures value { result ≡ decoder_reads_parts B.reads_in_part self.now && H.reads_ranges }
     {
-        self.reader.decodes_parts() && self.handle.supports_partial_decode()
+        self.coder.decodes_parts() && self.handle.supports_partial_decode()
     }
 
     /// The handle, as it stands.
     pub fn into_handle(self) -> H
         ensures value { result ≡ handle_of self.entry }
     {
-        let ArrayPartialDecoder { handle, reader: _ } = self;
+        let ArrayPartialDecoder { handle, coder: _ } = self;
         handle
     }
 }

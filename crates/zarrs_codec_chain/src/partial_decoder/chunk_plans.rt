@@ -1,15 +1,12 @@
 //! The ranges of bytes that a read asks for, where it asks for the bytes of its places alone.
-ghost use Rattle.std.specs.Prelude.{◌≡◌, ◌<◌, ◌≤◌, ◌+◌, All, IfOk, IfSome, option_map, true};
+ghost use Rattle.std.specs.Prelude.{◌≡◌, ◌<◌, All, IfOk, IfSome, option_map, true};
 ghost use Rattle.zarrs_chunk.specs.Answer.{Gives};
-ghost use Rattle.zarrs_chunk.specs.ChunkShape.{product};
-ghost use Rattle.zarrs_chunk.specs.Indexer.{selection_of};
-ghost use Rattle.zarrs_chunk.specs.Runs.{joined_runs};
+ghost use Rattle.zarrs_chunk.specs.Runs.{places_in};
 ghost use Rattle.zarrs_chunk.specs.Tuples.{is_box_inside};
-ghost use Rattle.zarrs_array_regions.specs.KeptRegions.{keeps_regions};
 ghost use Rattle.zarrs_chain_whole.specs.ChainView.{plain_chain};
-ghost use Rattle.zarrs_codec_chain.specs.ChunkRead.{reads_places, PlansRead, ordered_places, planned_region as planned_region_of};
+ghost use Rattle.zarrs_codec_chain.specs.ChunkRead.{chain_reads_places};
 
-use crate::partial_decoder::chunk_reader::ChunkReader;
+use crate::chunk_coder::ChunkCoder;
 use crate::partial_decoder::codec_read::{codec_in_place, planned_runs, plans_reads};
 use std::alloc::Global;
 use zarrs_array_regions::last_window;
@@ -17,8 +14,8 @@ use zarrs_chain_whole::CodecChain;
 use zarrs_chunk::{ArraySubset, CodecError, Indexer};
 use zarrs_codec::{ByteRange, BytesToBytesCodecTraits};
 
-impl<'a, B: BytesToBytesCodecTraits> ChunkReader<'a, B> {
-    ghost use Rattle.zarrs_codec_chain.specs.ChunkReader.{reader_form, IsKeptRegion, GivesStanding};
+impl<'a, B: BytesToBytesCodecTraits> ChunkCoder<'a, B> {
+    ghost use Rattle.zarrs_codec_chain.specs.ChunkCoder.{ReaderPlans, IsKeptRegion, GivesStanding, AreInside, coder_keeps_regions, reader_ordered, reader_planned};
 
     /// The places where a region stands in the encoded chunk, in their order, as runs: those of its
     /// window. Refusals: `OutOfMemory`.
@@ -28,11 +25,10 @@ impl<'a, B: BytesToBytesCodecTraits> ChunkReader<'a, B> {
         region: &ArraySubset,
     ) -> Result<Vec<(u64, u64)>, CodecError>
         requires inside { is_box_inside self.now.shape region.now.starts region.now.lengths ≡ true }
-        requires region_kept { keeps_regions (plain_chain self.now.chain.now).arrays ≡ true }
+        requires region_kept { coder_keeps_regions self.now ≡ true }
         ensures places { GivesStanding self.now region.now result }
         ensures filled { IfOk result (λ runs. All (λ run. 0 < run.1) runs.items) }
-        ensures inside { IfOk result
-            (λ runs. All (λ run. run.0 + run.1 ≤ product self.now.encoded) runs.items) }
+        ensures inside { IfOk result (λ runs. AreInside self.now runs.items) }
     {
         self.is_sound();
         let codecs = self.chain.array_to_array_codecs();
@@ -42,10 +38,8 @@ impl<'a, B: BytesToBytesCodecTraits> ChunkReader<'a, B> {
 
     /// The box that the indexer means, where its bytes are planned in the order in which they stand.
     fn planned_region<'i>(&self, indexer: &'i Indexer) -> Option<&'i ArraySubset>
-        ensures region { option_map (λ region. region.now) result
-            ≡ planned_region_of (reader_form self.now) (selection_of indexer.now) }
-        ensures region_kept { IfSome result
-            (λ region. IsKeptRegion self.now (selection_of indexer.now) region.now) }
+        ensures region { option_map (λ box. box.now) result ≡ reader_planned self.now indexer.now }
+        ensures region_kept { IfSome result (λ box. IsKeptRegion self.now indexer.now box.now) }
     {
         match codec_in_place(self.chain) {
             Some(_) => self.kept_region(indexer),
@@ -57,11 +51,9 @@ impl<'a, B: BytesToBytesCodecTraits> ChunkReader<'a, B> {
     /// order in which their bytes are planned, as runs. Refusals: those of `Indexer::check`;
     /// `OutOfMemory`.
     fn ordered_runs(&self, alloc: Global, indexer: &Indexer) -> Result<Vec<(u64, u64)>, CodecError>
-        ensures answer { Gives (λ runs. joined_runs runs.items) result
-            (ordered_places (reader_form self.now) (selection_of indexer.now)) }
+        ensures answer { Gives places_in result (reader_ordered self.now indexer.now) }
         ensures filled { IfOk result (λ runs. All (λ run. 0 < run.1) runs.items) }
-        ensures inside { IfOk result
-            (λ runs. All (λ run. run.0 + run.1 ≤ product self.now.encoded) runs.items) }
+        ensures inside { IfOk result (λ runs. AreInside self.now runs.items) }
     {
         self.is_sound();
         match self.planned_region(indexer) {
@@ -77,8 +69,7 @@ impl<'a, B: BytesToBytesCodecTraits> ChunkReader<'a, B> {
         alloc: Global,
         indexer: &Indexer,
     ) -> Result<Option<Vec<ByteRange>>, CodecError>
-        ensures plan { PlansRead B.functions (reader_form self.now)
-            (selection_of indexer.now) result }
+        ensures plan { ReaderPlans self.now indexer.now result }
     {
         let runs = self.ordered_runs(alloc, indexer)?;
         if !asks_for_places(self.chain) {
@@ -98,8 +89,7 @@ impl<'a, B: BytesToBytesCodecTraits> ChunkReader<'a, B> {
 
 /// Whether a read asks for the bytes of its places alone.
 fn asks_for_places<B: BytesToBytesCodecTraits>(chain: &CodecChain<B>) -> bool
-    ensures value { result ≡
-        reads_places (plain_chain chain.now).outer (plain_chain chain.now).codec }
+    ensures value { result ≡ chain_reads_places (plain_chain chain.now) }
 {
     match chain.bytes_to_bytes_codecs() {
         [] => plans_reads(chain.array_to_bytes_codec()),

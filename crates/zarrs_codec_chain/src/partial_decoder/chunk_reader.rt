@@ -1,169 +1,35 @@
 //! Reading a chunk in part through a chain, over a handle that the caller keeps.
-ghost use Rattle.zarrs_data_type.specs.Form.{form_of};
-ghost use Rattle.std.specs.Prelude.{◌≡◌, ◌<◌, ◌≤◌, ◌+◌, ◌^◌, All, Ok, IfOk, IfSome, Some, option_map, length, is_ok, is_some, true, false};
-ghost use Rattle.zarrs_chunk.specs.Answer.{Answers, fault, is_fault, Gives};
+ghost use Rattle.std.specs.Prelude.{◌≡◌, ◌<◌, ◌^◌, All, Ok, IfOk, IfSome, option_map, length, is_some, true};
+ghost use Rattle.zarrs_chunk.specs.Answer.{Gives, GivesItems};
 ghost use Rattle.zarrs_chunk.specs.ChunkShape.{product};
-ghost use Rattle.zarrs_chunk.specs.Indexer.{selection_of};
-ghost use Rattle.zarrs_chunk.specs.Runs.{joined_runs, AreApart};
-ghost use Rattle.zarrs_chunk.specs.Selection.{subset as subset_of};
+ghost use Rattle.zarrs_chunk.specs.Runs.{joined_runs, AreApart, places_in};
 ghost use Rattle.zarrs_chunk.specs.Tuples.{is_box_inside};
-ghost use Rattle.zarrs_data_type.specs.FillValue.{fill_fits};
 ghost use Rattle.zarrs_array_bytes.specs.Blank.{AbsentAreBlank};
-ghost use Rattle.zarrs_codec.specs.HandleCalls.{NeverFailsIf};
+ghost use Rattle.zarrs_codec.specs.HandleCalls.{NeverFailsIf, Tells};
 ghost use Rattle.zarrs_codec.specs.StorageState.{after_reading};
-ghost use Rattle.zarrs_array_regions.specs.KeptRegions.{keeps_regions};
-ghost use Rattle.zarrs_chain_laws.specs.Chain.{chain_reads, codec_reads as codec_reads_of, taken_form as taken_form_of};
-ghost use Rattle.zarrs_chain_whole.specs.ChainView.{plain_chain};
-ghost use Rattle.zarrs_codec_chain.specs.ChunkRead.{WhereSure, ReadsChunk, HasForm, form_places, RefusedAtSelection, form_in_place};
-ghost use Rattle.zarrs_codec_chain.specs.ChunkSource.{cache_fits, cache_stage as cache_stage_of, held_by, is_kept, is_there, wants_cache};
-ghost use Rattle.zarrs_codec_chain.specs.CacheBlank.{CacheIsBlank, CacheIsBlank-prop};
-ghost use Rattle.zarrs_codec_chain.specs.RefusedFirst.{RefusedFirst};
-ghost use Rattle.zarrs_chain_laws.specs.Laws.{IsChainOfMappings};
-ghost use Rattle.zarrs_chain_laws.specs.Representation.{codec_representation};
+ghost use Rattle.zarrs_codec_chain.specs.ChunkRead.{form_decodes_parts};
+ghost use Rattle.zarrs_codec_chain.specs.ChunkSource.{held_by, is_kept};
 
-use crate::partial_decoder::cache::{Cache, CacheStage};
+use crate::chunk_coder::ChunkCoder;
+use crate::partial_decoder::cache::Cache;
 use crate::partial_decoder::codec_read::codec_in_place;
 use crate::partial_decoder::encoded_runs::encoded_runs;
-use crate::partial_decoder::make_cache::{cache_stage, make_cache};
 use std::alloc::Global;
 use zarrs_array_bytes::ArrayBytes;
 use zarrs_array_regions::{decoded_window, kept_region, last_window};
 use zarrs_array_to_array::encoded_places;
 use zarrs_bytes::BytesCodec;
-use zarrs_chain_whole::CodecChain;
-use zarrs_chain_whole::stages::{chain_is_sound, taken_form};
-use zarrs_chunk::{ArraySubset, ChunkShape, CodecError, Indexer};
-use zarrs_codec::{
-    BytesPartialDecoderTraits, BytesRepresentation, BytesToBytesCodecTraits, CodecTraits,
-};
-use zarrs_data_type::{DataType, FillValue};
+use zarrs_chunk::{ArraySubset, CodecError, Indexer};
+use zarrs_codec::{BytesPartialDecoderTraits, BytesToBytesCodecTraits, CodecTraits};
 
-/// What reads a chunk in part, but for the handle: the chain, the chunk's form, and what a cache keeps
-/// of the stored value.
-#[derive(Drop)]
-pub(crate) struct ChunkReader<'a, B: BytesToBytesCodecTraits> {
-    pub(crate) chain: &'a CodecChain<B>,
-    pub(crate) cache: Cache,
-    pub(crate) shape: ChunkShape,
-    pub(crate) encoded: ChunkShape,
-    pub(crate) data_type: DataType,
-    pub(crate) fill_value: FillValue,
-    pub(crate) representation: BytesRepresentation,
-    ghost taken: { taken_form_of B.functions (plain_chain chain.now) shape data_type fill_value ≡ Ok (encoded, representation) },
-    ghost measured: { is_ok (codec_representation B.functions (plain_chain chain.now).codec encoded data_type fill_value) ≡ true },
-    ghost filling: { fill_fits data_type fill_value ≡ true },
-    ghost counted: { product encoded < 2 ^ 64 },
-    ghost counted_whole: { product shape < 2 ^ 64 },
-    ghost fits: { cache_fits (codec_reads_of (plain_chain chain.now).codec) data_type (product encoded) (length (plain_chain chain.now).outer) cache ≡ true },
-    ghost blank: { CacheIsBlank data_type cache } by { CacheIsBlank-prop data_type cache },
-}
-
-impl<'a, B: BytesToBytesCodecTraits> ChunkReader<'a, B> {
-    ghost use Rattle.zarrs_codec_chain.specs.ChunkReader.{IsFilledFrom, reader_form, reader_is_cached, reader_source, MeasuresReader, MakesReader, ReadsSelection, IsKeptRegion, reader_region};
-
-    /// A reader of such a chunk without a cache. Refusals: those of the chain's representation.
-    pub(crate) fn uncached(
-        alloc: Global,
-        chain: &'a CodecChain<B>,
-        shape: &ChunkShape,
-        data_type: &DataType,
-        fill_value: &FillValue,
-    ) -> Result<ChunkReader<'a, B>, CodecError>
-        ensures answer { MeasuresReader B.functions (plain_chain chain.now)
-            (form_of shape.now data_type.now fill_value.now) result }
-        ensures form { HasForm (λ reader. reader_form reader) (plain_chain chain.now)
-            (form_of shape.now data_type.now fill_value.now) result }
-        ensures uncached { IfOk result (λ reader. reader_is_cached reader ≡ false) }
-    {
-        let shape = shape.clone()?;
-        let data_type = data_type.clone()?;
-        let fill_value = fill_value.clone()?;
-        let (encoded, representation) = taken_form(alloc, chain, &shape, &data_type, &fill_value)?;
-        Ok(ChunkReader {
-            chain,
-            cache: Cache::Handle,
-            shape,
-            encoded,
-            data_type,
-            fill_value,
-            representation,
-        })
-    }
-
-    /// A reader of such a chunk, whose cache is filled from the handle. Refusals, the first that holds,
-    /// `OutOfMemory` aside: those of the chain's representation, before the handle is asked; with a
-    /// cache, `Storage` and those of what decodes the value up to the cache.
-    pub(crate) fn new<H: BytesPartialDecoderTraits>(
-        alloc: Global,
-        chain: &'a CodecChain<B>,
-        handle: &mut H,
-        shape: &ChunkShape,
-        data_type: &DataType,
-        fill_value: &FillValue,
-    ) -> Result<ChunkReader<'a, B>, CodecError>
-        ensures answer { MakesReader B.functions B.reads_in_part (plain_chain chain.now)
-            (form_of shape.now data_type.now fill_value.now) (H.state handle.old).value result }
-        ensures form { HasForm (λ reader. reader_form reader) (plain_chain chain.now)
-            (form_of shape.now data_type.now fill_value.now) result }
-        ensures cached { IfOk result
-            (λ reader. is_kept reader.cache ≡ wants_cache B.reads_in_part (plain_chain chain.now)) }
-        ensures no_fault_if_uncached { cache_stage_of B.reads_in_part (plain_chain chain.now) ≡
-            CacheStage.Nowhere → is_fault result ≡ false }
-        ensures measured_first { RefusedFirst (taken_form_of B.functions (plain_chain chain.now)
-            shape.now data_type.now fill_value.now) result }
-        ensures cache_filled { IfOk result
-            (λ reader. IsFilledFrom B.functions reader (H.state handle.old).value) }
-        ensures left { H.state handle.new ≡ after_reading result (H.state handle.old) }
-        ensures same_reference { H.lent handle.new ≡ H.lent handle.old }
-    {
-        let stage = cache_stage(chain);
-        let shape = shape.clone()?;
-        let data_type = data_type.clone()?;
-        let fill_value = fill_value.clone()?;
-        let (encoded, representation) = taken_form(alloc, chain, &shape, &data_type, &fill_value)?;
-        let cache = make_cache(
-            alloc,
-            chain,
-            handle,
-            stage,
-            &encoded,
-            &data_type,
-            &fill_value,
-            representation,
-        )?;
-        Ok(ChunkReader {
-            chain,
-            cache,
-            shape,
-            encoded,
-            data_type,
-            fill_value,
-            representation,
-        })
-    }
-
-    /// The type of the elements.
-    pub(crate) fn data_type(&self) -> &DataType
-        ensures value { result.now ≡ (reader_form self.now).type }
-    {
-        &self.data_type
-    }
+impl<'a, B: BytesToBytesCodecTraits> ChunkCoder<'a, B> {
+    ghost use Rattle.zarrs_codec_chain.specs.ChunkCoder.{IsFilledFrom, coder_form, coder_is_cached, IsKeptRegion, reader_region, AreInside, ReaderReads, ReadsIndexer, ReadsRegion, RefusedAtIndexer, SureIndexer, SureRegion, IsInPlace, coder_keeps_regions, reader_places, reader_stores};
 
     /// Whether all codecs of the chain decode a part.
     pub(crate) fn decodes_parts(&self) -> bool
-        ensures value { result ≡
-            (chain_reads B.reads_in_part (reader_form self.now).chain).partial_decode }
+        ensures value { result ≡ form_decodes_parts B.reads_in_part (coder_form self.now) }
     {
         self.chain.partial_decoder_capability().partial_decode
-    }
-
-    /// What the chain and the shape are made of holds.
-    pub(crate) fn is_sound(&self)
-        ensures mappings { IsChainOfMappings (reader_form self.now).chain }
-        ensures positive { All (λ size. 0 < size) (reader_form self.now).sizes }
-    {
-        chain_is_sound(self.chain);
-        self.shape.as_slice();
     }
 
     /// Where the places that an indexer means go in the chunk that the codec to bytes gets, as runs,
@@ -173,11 +39,9 @@ impl<'a, B: BytesToBytesCodecTraits> ChunkReader<'a, B> {
         alloc: Global,
         indexer: &Indexer,
     ) -> Result<Vec<(u64, u64)>, CodecError>
-        ensures answer { Gives (λ runs. joined_runs runs.items) result
-            (form_places (reader_form self.now) (selection_of indexer.now)) }
+        ensures answer { Gives places_in result (reader_places self.now indexer.now) }
         ensures filled { IfOk result (λ runs. All (λ run. 0 < run.1) runs.items) }
-        ensures inside { IfOk result
-            (λ runs. All (λ run. run.0 + run.1 ≤ product self.now.encoded) runs.items) }
+        ensures inside { IfOk result (λ runs. AreInside self.now runs.items) }
         ensures count { IfOk result (λ runs. length (joined_runs runs.items) < 2 ^ 64) }
         ensures apart { IfOk result (λ runs. AreApart runs.items) }
     {
@@ -192,10 +56,8 @@ impl<'a, B: BytesToBytesCodecTraits> ChunkReader<'a, B> {
 
     /// The same places one by one.
     fn places(&self, alloc: Global, indexer: &Indexer) -> Result<Vec<u64>, CodecError>
-        ensures answer { Gives (λ places. places.items) result
-            (form_places (reader_form self.now) (selection_of indexer.now)) }
-        ensures below { IfOk result
-            (λ places. All (λ place. place < product self.now.encoded) places.items) }
+        ensures answer { GivesItems result (reader_places self.now indexer.now) }
+        ensures below { IfOk result (λ v. All (λ place. place < product self.now.encoded) v.items) }
     {
         self.is_sound();
         encoded_places(
@@ -208,10 +70,8 @@ impl<'a, B: BytesToBytesCodecTraits> ChunkReader<'a, B> {
 
     /// The box that the indexer means, where it goes through the array codecs as a box.
     pub(crate) fn kept_region<'i>(&self, indexer: &'i Indexer) -> Option<&'i ArraySubset>
-        ensures region { option_map (λ region. region.now) result
-            ≡ reader_region self.now (selection_of indexer.now) }
-        ensures region_kept { IfSome result
-            (λ region. IsKeptRegion self.now (selection_of indexer.now) region.now) }
+        ensures region { option_map (λ box. box.now) result ≡ reader_region self.now indexer.now }
+        ensures region_kept { IfSome result (λ box. IsKeptRegion self.now indexer.now box.now) }
     {
         kept_region(self.chain.array_to_array_codecs(), &self.shape, indexer)
     }
@@ -229,12 +89,10 @@ impl<'a, B: BytesToBytesCodecTraits> ChunkReader<'a, B> {
     ) -> Result<ArrayBytes<'static>, CodecError>
         requires inside { is_box_inside self.now.shape region.now.starts region.now.lengths ≡ true }
         requires filled { 0 < product region.now.lengths }
-        requires region_kept { keeps_regions (plain_chain self.now.chain.now).arrays ≡ true }
-        ensures answer { ReadsSelection B.functions self.now
-            (H.state handle.old).value (subset_of region.now) result }
+        requires region_kept { coder_keeps_regions self.now ≡ true }
+        ensures answer { ReadsRegion B.functions self.now (H.state handle.old) region.now result }
         ensures blank { IfOk result (AbsentAreBlank self.now.data_type) }
-        ensures sure { WhereSure B.functions (reader_form self.now) (H.state handle.old)
-            (subset_of region.now) (is_fault result ≡ false) }
+        ensures sure { SureRegion B.functions self.now (H.state handle.old) region.now result }
         ensures left { H.state handle.new ≡ after_reading result (H.state handle.old) }
         ensures same_reference { H.lent handle.new ≡ H.lent handle.old }
         ensures no_fault_if_cached { NeverFailsIf (is_kept self.now.cache) result }
@@ -258,8 +116,7 @@ impl<'a, B: BytesToBytesCodecTraits> ChunkReader<'a, B> {
     /// The codec `bytes`, where the indexer is a list of tuples whose bytes are asked for by
     /// themselves: there are no bytes codecs, and nothing is kept.
     fn lister(&self, indexer: &Indexer) -> Option<&BytesCodec>
-        ensures writes_in_place { IfSome result
-            (λ codec. form_in_place (reader_form self.now) ≡ Some codec.now) }
+        ensures writes_in_place { IfSome result (λ codec. IsInPlace self.now codec.now) }
         ensures uncached { IfSome result (λ _. self.now.cache ≡ Cache.Handle) }
     {
         match (&self.cache, indexer) {
@@ -278,15 +135,12 @@ impl<'a, B: BytesToBytesCodecTraits> ChunkReader<'a, B> {
         handle: &mut H,
         indexer: &Indexer,
     ) -> Result<ArrayBytes<'static>, CodecError>
-        requires writes_in_place { form_in_place (reader_form self.now) ≡ Some codec.now }
+        requires writes_in_place { IsInPlace self.now codec.now }
         requires uncached { self.now.cache ≡ Cache.Handle }
-        ensures answer { ReadsSelection B.functions self.now
-            (H.state handle.old).value (selection_of indexer.now) result }
+        ensures answer { ReadsIndexer B.functions self.now (H.state handle.old) indexer.now result }
         ensures blank { IfOk result (AbsentAreBlank self.now.data_type) }
-        ensures indexer_first { RefusedAtSelection self.now.shape self.now.data_type
-            (selection_of indexer.now) result }
-        ensures sure { WhereSure B.functions (reader_form self.now) (H.state handle.old)
-            (selection_of indexer.now) (is_fault result ≡ false) }
+        ensures indexer_first { RefusedAtIndexer self.now indexer.now result }
+        ensures sure { SureIndexer B.functions self.now (H.state handle.old) indexer.now result }
         ensures left { H.state handle.new ≡ after_reading result (H.state handle.old) }
         ensures same_reference { H.lent handle.new ≡ H.lent handle.old }
     {
@@ -304,13 +158,10 @@ impl<'a, B: BytesToBytesCodecTraits> ChunkReader<'a, B> {
         handle: &mut H,
         indexer: &Indexer,
     ) -> Result<ArrayBytes<'static>, CodecError>
-        ensures answer { ReadsSelection B.functions self.now
-            (H.state handle.old).value (selection_of indexer.now) result }
+        ensures answer { ReadsIndexer B.functions self.now (H.state handle.old) indexer.now result }
         ensures blank { IfOk result (AbsentAreBlank self.now.data_type) }
-        ensures indexer_first { RefusedAtSelection self.now.shape self.now.data_type
-            (selection_of indexer.now) result }
-        ensures sure { WhereSure B.functions (reader_form self.now) (H.state handle.old)
-            (selection_of indexer.now) (is_fault result ≡ false) }
+        ensures indexer_first { RefusedAtIndexer self.now indexer.now result }
+        ensures sure { SureIndexer B.functions self.now (H.state handle.old) indexer.now result }
         ensures left { H.state handle.new ≡ after_reading result (H.state handle.old) }
         ensures same_reference { H.lent handle.new ≡ H.lent handle.old }
         ensures no_fault_if_cached { NeverFailsIf (is_kept self.now.cache) result }
@@ -335,10 +186,9 @@ impl<'a, B: BytesToBytesCodecTraits> ChunkReader<'a, B> {
         indexer: &Indexer,
     ) -> Result<ArrayBytes<'static>, CodecError>
         requires cache_filled { IsFilledFrom B.functions self.now (H.state handle.old).value }
-        ensures reads { ReadsChunk B.functions (reader_form self.now) (H.state handle.old)
-            (selection_of indexer.now) result }
+        ensures reads { ReaderReads B.functions self.now (H.state handle.old) indexer.now result }
         ensures blank { IfOk result (AbsentAreBlank self.now.data_type) }
-        ensures no_fault_if_cached { NeverFailsIf (reader_is_cached self.now) result }
+        ensures no_fault_if_cached { NeverFailsIf (coder_is_cached self.now) result }
         ensures left { H.state handle.new ≡ after_reading result (H.state handle.old) }
         ensures same_reference { H.lent handle.new ≡ H.lent handle.old }
     {
@@ -351,8 +201,7 @@ impl<'a, B: BytesToBytesCodecTraits> ChunkReader<'a, B> {
         &self,
         handle: &mut H,
     ) -> Result<bool, CodecError>
-        ensures answer { Answers fault (λ there. there) result
-            (Ok (is_there (reader_source self.now (H.state handle.old).value))) }
+        ensures answer { Tells result (reader_stores self.now (H.state handle.old).value) }
         ensures sure { NeverFailsIf (is_some (H.state handle.old).sure) result }
         ensures left { H.state handle.new ≡ after_reading result (H.state handle.old) }
         ensures same_reference { H.lent handle.new ≡ H.lent handle.old }

@@ -1,16 +1,14 @@
 //! Reading runs of places through a codec to bytes, of a handle or of bytes in memory.
 ghost use Rattle.zarrs_data_type.specs.Form.{form_of};
-ghost use Rattle.std.specs.Prelude.{◌≡◌, ◌<◌, ◌≤◌, ◌+◌, ◌^◌, [], IfOk, All, is_ok, length, option_map, true, false};
-ghost use Rattle.zarrs_chunk.specs.Answer.{AnswersBy, memory, memory_or_fault, is_fault, no_refusal, GivesBy};
+ghost use Rattle.std.specs.Prelude.{◌≡◌, ◌<◌, ◌≤◌, ◌+◌, ◌^◌, IfOk, All, length, option_map, true};
 ghost use Rattle.zarrs_chunk.specs.ChunkShape.{product};
 ghost use Rattle.zarrs_chunk.specs.Runs.{joined_runs};
 ghost use Rattle.zarrs_array_bytes.specs.Blank.{AbsentAreBlank};
-ghost use Rattle.zarrs_array_bytes.specs.Validity.{Holds};
-ghost use Rattle.zarrs_codec.specs.StorageState.{after_reading, are_sure};
+ghost use Rattle.zarrs_codec.specs.StorageState.{after_reading};
 ghost use Rattle.zarrs_chain_laws.specs.Chain.{codec_reads as codec_reads_of};
 ghost use Rattle.zarrs_chain_whole.specs.ChainView.{plain_chain, plain_codec};
-ghost use Rattle.zarrs_codec_chain.specs.ChunkRead.{codec_plans, codec_read, codec_rests_on, order_in_place, IsCodecPlan, TakenBy, ReadsRuns, SureRuns, GivesRuns, PlansRuns};
-ghost use Rattle.zarrs_chain_laws.specs.Representation.{codec_representation};
+ghost use Rattle.zarrs_codec_chain.specs.ChunkRead.{codec_plans, ReadsRuns, GivesRuns, chain_in_place};
+ghost use Rattle.zarrs_codec_chain.specs.CodecRead.{Takes, PlansRuns, codec_order, SureRead};
 
 use crate::vlen::vlen_runs::vlen_runs;
 use std::alloc::Global;
@@ -31,33 +29,30 @@ pub(crate) fn read_runs<H: BytesPartialDecoderTraits, B: BytesToBytesCodecTraits
     codec: &ArrayToBytesCodec<B>,
     handle: &mut H,
     shape: &ChunkShape,
-    data_type: &DataType,
-    fill_value: &FillValue,
+    kind: &DataType,
+    fill: &FillValue,
     runs: &[(u64, u64)],
 ) -> Result<ArrayBytes<'static>, CodecError>
-    requires taken { TakenBy B.functions (plain_codec codec.now)
-        (form_of shape.now data_type.now fill_value.now) }
+    requires taken { Takes B.functions codec.now shape.now kind.now fill.now }
     requires in_part { (codec_reads_of (plain_codec codec.now)).partial_decode ≡ true }
     requires filled { All (λ run. 0 < run.1) runs.now }
     requires below { All (λ run. run.0 + run.1 ≤ product shape.now) runs.now }
     requires count { length (joined_runs runs.now) < 2 ^ 64 }
+    // Wide: three parameters of a form, beside the codec, the handle and the runs.
     ensures answer { ReadsRuns B.functions (plain_codec codec.now)
-        (form_of shape.now data_type.now fill_value.now) (H.state handle.old) runs.now result }
-    ensures blank { IfOk result (AbsentAreBlank data_type.now) }
-    ensures sure { SureRuns (plain_codec codec.now)
-        (form_of shape.now data_type.now fill_value.now) (H.state handle.old) runs.now result }
+        (form_of shape.now kind.now fill.now) (H.state handle.old) runs.now result }
+    ensures blank { IfOk result (AbsentAreBlank kind.now) }
+    ensures sure { SureRead codec.now shape.now kind.now fill.now (H.state handle.old) runs.now result }
     ensures left { H.state handle.new ≡ after_reading result (H.state handle.old) }
     ensures same_reference { H.lent handle.new ≡ H.lent handle.old }
 {
     match codec {
-        ArrayToBytesCodec::Bytes(codec) => {
-            codec.read_runs(alloc, handle, data_type, fill_value, runs)
-        }
+        ArrayToBytesCodec::Bytes(codec) => { codec.read_runs(alloc, handle, kind, fill, runs) }
         ArrayToBytesCodec::PackBits(codec) => {
-            codec.read_runs(alloc, handle, shape, data_type, fill_value, runs)
+            codec.read_runs(alloc, handle, shape, kind, fill, runs)
         }
         ArrayToBytesCodec::Vlen(codec) => {
-            vlen_runs(alloc, codec, handle, shape, data_type, fill_value, runs)
+            vlen_runs(alloc, codec, handle, shape, kind, fill, runs)
         }
         ArrayToBytesCodec::Optional(_) => unreachable!(),
     }
@@ -73,12 +68,12 @@ pub(crate) fn read_runs_of_bytes<B: BytesToBytesCodecTraits>(
     fill_value: &FillValue,
     runs: &[(u64, u64)],
 ) -> Result<ArrayBytes<'static>, CodecError>
-    requires taken { TakenBy B.functions (plain_codec codec.now)
-        (form_of shape.now data_type.now fill_value.now) }
+    requires taken { Takes B.functions codec.now shape.now data_type.now fill_value.now }
     requires in_part { (codec_reads_of (plain_codec codec.now)).partial_decode ≡ true }
     requires filled { All (λ run. 0 < run.1) runs.now }
     requires below { All (λ run. run.0 + run.1 ≤ product shape.now) runs.now }
     requires count { length (joined_runs runs.now) < 2 ^ 64 }
+    // Wide: three parameters of a form, beside the codec, the bytes and the runs.
     ensures answer { GivesRuns B.functions (plain_codec codec.now)
         (form_of shape.now data_type.now fill_value.now)
         (option_map (λ items. items.now) bytes.entry) runs.now result }
@@ -103,8 +98,7 @@ pub(crate) fn plans_reads<B>(codec: &ArrayToBytesCodec<B>) -> bool
 /// The codec `bytes`, where this is one.
 #[tactic(auto, unfolding(zarrs_chain_whole::specs::ChainView::plain_codec), using(zarrs_chain_whole::specs::ChainView::plain_vlen_at, zarrs_chain_whole::specs::ChainView::plain_optional_at))]
 fn as_bytes<B>(codec: &ArrayToBytesCodec<B>) -> Option<&BytesCodec>
-    ensures value { option_map (λ codec. codec.now) result ≡
-        order_in_place {B = B} [] (plain_codec codec.now) }
+    ensures value { option_map (λ v. v.now) result ≡ codec_order codec.now }
 {
     match codec {
         ArrayToBytesCodec::Bytes(codec) => Some(codec),
@@ -116,8 +110,7 @@ fn as_bytes<B>(codec: &ArrayToBytesCodec<B>) -> Option<&BytesCodec>
 
 /// The codec `bytes`, where the chain has no bytes codecs around it.
 pub(crate) fn codec_in_place<B>(chain: &CodecChain<B>) -> Option<&BytesCodec>
-    ensures value { option_map (λ codec. codec.now) result ≡
-        order_in_place (plain_chain chain.now).outer (plain_chain chain.now).codec }
+    ensures value { option_map (λ v. v.now) result ≡ chain_in_place (plain_chain chain.now) }
 {
     match chain.bytes_to_bytes_codecs() {
         [] => as_bytes(chain.array_to_bytes_codec()),
@@ -135,13 +128,11 @@ pub(crate) fn planned_runs<B: BytesToBytesCodecTraits>(
     fill_value: &FillValue,
     runs: &[(u64, u64)],
 ) -> Result<Vec<ByteRange>, CodecError>
-    requires taken { TakenBy B.functions (plain_codec codec.now)
-        (form_of shape.now data_type.now fill_value.now) }
+    requires taken { Takes B.functions codec.now shape.now data_type.now fill_value.now }
     requires plans { codec_plans (plain_codec codec.now) ≡ true }
     requires filled { All (λ run. 0 < run.1) runs.now }
     requires below { All (λ run. run.0 + run.1 ≤ product shape.now) runs.now }
-    ensures plan { PlansRuns (plain_codec codec.now)
-        (form_of shape.now data_type.now fill_value.now) runs.now result }
+    ensures plan { PlansRuns codec.now shape.now data_type.now fill_value.now runs.now result }
     ensures filled { IfOk result (λ ranges. All (λ range. range.start < range.end) ranges.items) }
 {
     match codec {

@@ -1,10 +1,9 @@
 //! Where an indexer's places go through the array codecs of a chain.
-ghost use Rattle.std.specs.Prelude.{◌≡◌, ◌<◌, ◌≤◌, ◌+◌, ◌^◌, IfOk, All, length, map};
+ghost use Rattle.std.specs.Prelude.{◌<◌, ◌^◌, IfOk, All, length};
 ghost use Rattle.zarrs_chunk.specs.Answer.{Gives};
 ghost use Rattle.zarrs_chunk.specs.ChunkShape.{product};
-ghost use Rattle.zarrs_chunk.specs.Indexer.{selection_of};
-ghost use Rattle.zarrs_chunk.specs.Runs.{joined_runs, AreApart};
-ghost use Rattle.zarrs_array_to_array.specs.Mapping.{mapping_of, chained_places};
+ghost use Rattle.zarrs_chunk.specs.Runs.{joined_runs, AreApart, EndWithin, places_in};
+ghost use Rattle.zarrs_array_to_array.specs.Mapping.{places_through};
 
 use std::alloc::Global;
 use zarrs_array_to_array::{ArrayToArrayCodec, encoded_places};
@@ -20,11 +19,9 @@ pub(crate) fn encoded_runs(
     shape: &ChunkShape,
     indexer: &Indexer,
 ) -> Result<Vec<(u64, u64)>, CodecError>
-    ensures answer { Gives (λ runs. joined_runs runs.items) result
-        (chained_places (map mapping_of codecs.now) (selection_of indexer.now) shape.now) }
+    ensures answer { Gives places_in result (places_through codecs.now indexer.now shape.now) }
     ensures filled { IfOk result (λ runs. All (λ run. 0 < run.1) runs.items) }
-    ensures below { IfOk result
-        (λ runs. All (λ run. run.0 + run.1 ≤ product shape.now) runs.items) }
+    ensures below { IfOk result (λ runs. EndWithin (product shape.now) runs.items) }
     ensures count { IfOk result (λ runs. length (joined_runs runs.items) < 2 ^ 64) }
     ensures apart { IfOk result (λ runs. AreApart runs.items) }
 {

@@ -1,19 +1,15 @@
 //! What a partial decoder keeps of the stored value when it is made.
 ghost use Rattle.zarrs_data_type.specs.Form.{form_of};
-ghost use Rattle.zarrs_codec_chain.specs.ChunkRead.{TakenBy};
-ghost use Rattle.std.specs.Prelude.{◌≡◌, ◌≤◌, ℕ, IfOk, Ok, Some, is_ok, length, map, take, drop, true, false};
-ghost use Rattle.zarrs_chunk.specs.Answer.{Answers, memory_or_fault, is_fault, Gives, GivesBy};
-ghost use Rattle.zarrs_chunk.specs.ChunkShape.{product};
+ghost use Rattle.std.specs.Prelude.{◌≡◌, ◌≤◌, ℕ, IfOk, Ok, Some, length, map, true, false};
+ghost use Rattle.zarrs_chunk.specs.Answer.{is_fault, GivesItems};
 ghost use Rattle.zarrs_array_bytes.specs.Held.{items_of};
 ghost use Rattle.zarrs_array_bytes.specs.Blank.{AbsentAreBlank};
-ghost use Rattle.zarrs_array_bytes.specs.Validity.{Holds};
 ghost use Rattle.zarrs_codec.specs.StorageState.{after_reading};
-ghost use Rattle.zarrs_chain_laws.specs.BytesStages.{outer_bytes, outer_representation as outer_representation_of};
 ghost use Rattle.zarrs_chain_laws.specs.Chain.{codec_reads as codec_reads_of};
-ghost use Rattle.zarrs_chain_laws.specs.Representation.{codec_representation};
 ghost use Rattle.zarrs_chain_whole.specs.ChainView.{plain_chain};
-ghost use Rattle.zarrs_codec_chain.specs.ChunkSource.{bytes_left, cache_fits, cache_stage as cache_stage_of, has_cache, is_kept, kept_stage, opened_chunk, source_at, source_of, stage_by, stage_fits, is_stage_of, upper_bytes, OpensChunk, FillsCache, is_cache_of};
+ghost use Rattle.zarrs_codec_chain.specs.ChunkSource.{bytes_left, cache_stage as cache_stage_of, has_cache, is_kept, kept_stage, stage_by, is_stage_of, OpensChunk, FillsCache, GivesCacheOf, OpensBytes};
 ghost use Rattle.zarrs_codec_chain.specs.CacheBlank.{CacheIsBlank};
+ghost use Rattle.zarrs_codec_chain.specs.CodecRead.{CodecTakes};
 
 use crate::partial_decoder::cache::{Cache, CacheStage};
 use std::alloc::Global;
@@ -72,7 +68,7 @@ fn stage_of(codec: PartialDecoderCapability, left: Option<usize>) -> CacheStage
 pub(crate) fn codec_reads<B: BytesToBytesCodecTraits>(
     chain: &CodecChain<B>,
 ) -> PartialDecoderCapability
-    ensures value { result ≡ codec_reads_of (plain_chain chain.now).codec }
+    ensures value { result ≡ codec_reads_of (plain_chain chain.now).array_to_bytes }
 {
     chain.array_to_bytes_codec().partial_decoder_capability()
 }
@@ -88,7 +84,7 @@ pub(crate) fn cache_stage<B: BytesToBytesCodecTraits>(chain: &CodecChain<B>) -> 
 
 /// The bytes as a vector.
 fn into_vec(alloc: Global, bytes: ArrayBytesRaw<'_>) -> Result<Vec<u8>, CodecError>
-    ensures answer { Gives (λ items. items.items) result (Ok (items_of bytes.entry)) }
+    ensures answer { GivesItems result (Ok (items_of bytes.entry)) }
 {
     match bytes {
         CowSlice::Borrowed(bytes) => Ok(Vec::from_slice(alloc, bytes)?),
@@ -106,8 +102,7 @@ fn bytes_above<B: BytesToBytesCodecTraits>(
     value: Vec<u8>,
 ) -> Result<Vec<u8>, CodecError>
     requires known { below ≤ length codecs.now }
-    ensures answer { Gives (λ items. items.items) result
-        (upper_bytes B.functions codecs.now below representation value.items) }
+    ensures answer { OpensBytes B.functions codecs.now below representation value.items result }
 {
     let above = outer_representation(&codecs[..below], representation);
     let bytes = decode_bytes(alloc, &codecs[below..], &above, CowSlice::Owned(value))?;
@@ -125,8 +120,8 @@ pub(crate) fn chunk_below<B: BytesToBytesCodecTraits>(
     representation: &BytesRepresentation,
     value: Vec<u8>,
 ) -> Result<ArrayBytes<'static>, CodecError>
-    requires taken { TakenBy B.functions (plain_chain chain.now).codec
-        (form_of encoded.now data_type.now fill_value.now) }
+    requires taken { CodecTakes B.functions chain.now encoded.now data_type.now fill_value.now }
+    // Wide: three parameters of a form, beside the chain, its representation and the value.
     ensures answer { OpensChunk B.functions (plain_chain chain.now)
         (form_of encoded.now data_type.now fill_value.now) representation.now value.items result }
     ensures blank { IfOk result (AbsentAreBlank data_type.now) }
@@ -160,13 +155,12 @@ pub(crate) fn make_cache<H: BytesPartialDecoderTraits, B: BytesToBytesCodecTrait
     fill_value: &FillValue,
     representation: BytesRepresentation,
 ) -> Result<Cache, CodecError>
-    requires taken { TakenBy B.functions (plain_chain chain.now).codec
-        (form_of encoded.now data_type.now fill_value.now) }
+    requires taken { CodecTakes B.functions chain.now encoded.now data_type.now fill_value.now }
     requires stage { is_stage_of (plain_chain chain.now) stage ≡ true }
+    // Wide: three parameters of a form, beside the chain, the cache's stage and the handle.
     ensures answer { FillsCache B.functions (plain_chain chain.now) representation stage
         (form_of encoded.now data_type.now fill_value.now) (H.state handle.old).value result }
-    ensures fits { IfOk result
-        (λ cache. is_cache_of (plain_chain chain.now) encoded.now data_type.now cache ≡ true) }
+    ensures fits { GivesCacheOf chain.now encoded.now data_type.now result }
     ensures blank { IfOk result (CacheIsBlank data_type.now) }
     ensures stage { IfOk result (λ cache. kept_stage cache ≡ stage) }
     ensures left { H.state handle.new ≡ after_reading result (H.state handle.old) }

@@ -1,18 +1,16 @@
 //! Where the answer to a read in part comes from: the handle, bytes that are kept, or a chunk that is.
-ghost use Rattle.std.specs.Prelude.{◌≡◌, ◌<◌, ◌≤◌, ◌+◌, ◌^◌, All, IfOk, length, option_map, true, false};
-ghost use Rattle.zarrs_chunk.specs.Answer.{is_fault};
-ghost use Rattle.zarrs_chunk.specs.ChunkShape.{product};
+ghost use Rattle.std.specs.Prelude.{◌≡◌, ◌<◌, ◌≤◌, ◌^◌, All, IfOk, length, option_map, true, false};
 ghost use Rattle.zarrs_chunk.specs.Runs.{joined_runs};
 ghost use Rattle.zarrs_array_bytes.specs.Blank.{AbsentAreBlank};
 ghost use Rattle.zarrs_array_bytes.specs.Held.{items_of};
 ghost use Rattle.zarrs_codec.specs.HandleCalls.{NeverFailsIf};
 ghost use Rattle.zarrs_codec.specs.StorageState.{after_reading};
 ghost use Rattle.zarrs_chain_whole.specs.ChainView.{plain_chain};
-ghost use Rattle.zarrs_codec_chain.specs.ChunkSource.{bytes_above, is_kept};
-ghost use Rattle.zarrs_codec_chain.specs.CacheBlank.{CacheIsBlank};
+ghost use Rattle.zarrs_codec_chain.specs.ChunkSource.{is_kept};
+ghost use Rattle.zarrs_codec_chain.specs.ChunkRead.{value_items};
 
+use crate::chunk_coder::ChunkCoder;
 use crate::partial_decoder::cache::Cache;
-use crate::partial_decoder::chunk_reader::ChunkReader;
 use crate::partial_decoder::codec_read::{read_runs, read_runs_of_bytes};
 use crate::partial_decoder::fill_runs::fill_runs;
 use crate::partial_decoder::make_cache::{chunk_below as chunk_of_value, codec_reads};
@@ -23,8 +21,8 @@ use zarrs_chain_whole::stages::decode_bytes;
 use zarrs_chunk::CodecError;
 use zarrs_codec::{BytesPartialDecoderTraits, BytesToBytesCodecTraits};
 
-impl<'a, B: BytesToBytesCodecTraits> ChunkReader<'a, B> {
-    ghost use Rattle.zarrs_codec_chain.specs.ChunkReader.{reader_source, reader_reads_parts, stored_source, kept_source, GivesSource, ReadsSource, GivesOpened, SureSource, is_reader_cache};
+impl<'a, B: BytesToBytesCodecTraits> ChunkCoder<'a, B> {
+    ghost use Rattle.zarrs_codec_chain.specs.ChunkCoder.{reader_reads_parts, GivesOpened, SureSource, is_coder_cache, AreInside, BlankAsKept, GivesAbove, GivesKept, ReadsCached, ReadsStored};
 
     /// The elements at the places of these runs, by the bytes above so many of the first bytes
     /// codecs, or by none. Refusals, the first that holds, `OutOfMemory` aside: `BytesCodec` of the
@@ -38,12 +36,11 @@ impl<'a, B: BytesToBytesCodecTraits> ChunkReader<'a, B> {
         runs: &[(u64, u64)],
     ) -> Result<ArrayBytes<'static>, CodecError>
         requires in_part { reader_reads_parts self.now ≡ true }
-        requires known { below ≤ length (plain_chain self.now.chain.now).outer }
+        requires known { below ≤ length (plain_chain self.now.chain.now).bytes_to_bytes }
         requires filled { All (λ run. 0 < run.1) runs.now }
-        requires inside { All (λ run. run.0 + run.1 ≤ product self.now.encoded) runs.now }
+        requires inside { AreInside self.now runs.now }
         requires count { length (joined_runs runs.now) < 2 ^ 64 }
-        ensures answer { GivesSource B.functions self.now
-            (bytes_above below (option_map (λ bytes. items_of bytes) value.entry)) runs.now result }
+        ensures answer { GivesAbove B.functions self.now below value.entry runs.now result }
         ensures blank { IfOk result (AbsentAreBlank self.now.data_type) }
     {
         match value {
@@ -82,10 +79,9 @@ impl<'a, B: BytesToBytesCodecTraits> ChunkReader<'a, B> {
     ) -> Result<ArrayBytes<'static>, CodecError>
         requires in_part { reader_reads_parts self.now ≡ true }
         requires filled { All (λ run. 0 < run.1) runs.now }
-        requires inside { All (λ run. run.0 + run.1 ≤ product self.now.encoded) runs.now }
+        requires inside { AreInside self.now runs.now }
         requires count { length (joined_runs runs.now) < 2 ^ 64 }
-        ensures answer { ReadsSource B.functions self.now
-            (stored_source self.now (H.state handle.old).value) runs.now result }
+        ensures answer { ReadsStored B.functions self.now (H.state handle.old) runs.now result }
         ensures blank { IfOk result (AbsentAreBlank self.now.data_type) }
         ensures sure { SureSource self.now (H.state handle.old) runs.now result }
         ensures left { H.state handle.new ≡ after_reading result (H.state handle.old) }
@@ -118,10 +114,9 @@ impl<'a, B: BytesToBytesCodecTraits> ChunkReader<'a, B> {
         runs: &[(u64, u64)],
     ) -> Result<ArrayBytes<'static>, CodecError>
         requires whole { reader_reads_parts self.now ≡ false }
-        requires inside { All (λ run. run.0 + run.1 ≤ product self.now.encoded) runs.now }
+        requires inside { AreInside self.now runs.now }
         requires count { length (joined_runs runs.now) < 2 ^ 64 }
-        ensures answer { ReadsSource B.functions self.now
-            (stored_source self.now (H.state handle.old).value) runs.now result }
+        ensures answer { ReadsStored B.functions self.now (H.state handle.old) runs.now result }
         ensures blank { IfOk result (AbsentAreBlank self.now.data_type) }
         ensures left { H.state handle.new ≡ after_reading result (H.state handle.old) }
         ensures same_reference { H.lent handle.new ≡ H.lent handle.old }
@@ -139,7 +134,7 @@ impl<'a, B: BytesToBytesCodecTraits> ChunkReader<'a, B> {
         value: Vec<u8>,
         runs: &[(u64, u64)],
     ) -> Result<ArrayBytes<'static>, CodecError>
-        requires inside { All (λ run. run.0 + run.1 ≤ product self.now.encoded) runs.now }
+        requires inside { AreInside self.now runs.now }
         ensures answer { GivesOpened B.functions self.now value.items runs.now result }
         ensures blank { IfOk result (AbsentAreBlank self.now.data_type) }
     {
@@ -163,13 +158,11 @@ impl<'a, B: BytesToBytesCodecTraits> ChunkReader<'a, B> {
         chunk: &Option<ArrayBytes<'static>>,
         runs: &[(u64, u64)],
     ) -> Result<ArrayBytes<'static>, CodecError>
-        requires fits { is_reader_cache self.now (Cache.Chunk chunk.now) ≡ true }
-        requires inside { All (λ run. run.0 + run.1 ≤ product self.now.encoded) runs.now }
+        requires fits { is_coder_cache self.now (Cache.Chunk chunk.now) ≡ true }
+        requires inside { AreInside self.now runs.now }
         requires count { length (joined_runs runs.now) < 2 ^ 64 }
-        ensures answer { GivesSource B.functions self.now
-            (kept_source self.now chunk.now) runs.now result }
-        ensures blank { CacheIsBlank self.now.data_type (Cache.Chunk chunk.now) →
-            IfOk result (AbsentAreBlank self.now.data_type) }
+        ensures answer { GivesKept B.functions self.now chunk.now runs.now result }
+        ensures blank { BlankAsKept self.now chunk.now result }
     {
         match chunk {
             None => fill_runs(alloc, &self.data_type, &self.fill_value, runs),
@@ -188,10 +181,9 @@ impl<'a, B: BytesToBytesCodecTraits> ChunkReader<'a, B> {
         runs: &[(u64, u64)],
     ) -> Result<ArrayBytes<'static>, CodecError>
         requires filled { All (λ run. 0 < run.1) runs.now }
-        requires inside { All (λ run. run.0 + run.1 ≤ product self.now.encoded) runs.now }
+        requires inside { AreInside self.now runs.now }
         requires count { length (joined_runs runs.now) < 2 ^ 64 }
-        ensures answer { ReadsSource B.functions self.now
-            (reader_source self.now (H.state handle.old).value) runs.now result }
+        ensures answer { ReadsCached B.functions self.now (H.state handle.old) runs.now result }
         ensures blank { IfOk result (AbsentAreBlank self.now.data_type) }
         ensures sure { SureSource self.now (H.state handle.old) runs.now result }
         ensures left { H.state handle.new ≡ after_reading result (H.state handle.old) }
@@ -214,8 +206,7 @@ impl<'a, B: BytesToBytesCodecTraits> ChunkReader<'a, B> {
 
 /// The bytes that are kept, lent.
 fn lent_bytes(value: &Option<Vec<u8>>) -> Option<ArrayBytesRaw<'_>>
-    ensures value { option_map (λ bytes. (items_of bytes)) result ≡
-        option_map (λ items. items.items) value.now }
+    ensures value { option_map (λ bytes. items_of bytes) result ≡ value_items value.now }
 {
     match value {
         None => None,

@@ -1,17 +1,14 @@
-ghost use Rattle.zarrs_codec_chain.specs.ChunkReader.{reader_is_cached};
-ghost use Rattle.std.specs.Prelude.{◌≡◌, ◌<◌, ◌&&◌, All, Ok, IfOk, None, option_map, is_some, true, false};
-ghost use Rattle.zarrs_chunk.specs.Answer.{Answers, fault, memory, GivesBy};
-ghost use Rattle.zarrs_chunk.specs.Indexer.{selection_of};
+ghost use Rattle.zarrs_codec_chain.specs.ChunkCoder.{coder_is_cached};
+ghost use Rattle.std.specs.Prelude.{◌≡◌, ◌<◌, ◌&&◌, All, Ok, IfOk, None, is_some, false};
+ghost use Rattle.zarrs_chunk.specs.Answer.{Answers, fault};
 ghost use Rattle.zarrs_array_bytes.specs.Blank.{AbsentAreBlank};
 ghost use Rattle.zarrs_codec.specs.BytesToBytesCodec.{AreBytes};
-ghost use Rattle.zarrs_codec.specs.HandleCalls.{NeverFailsIf};
+ghost use Rattle.zarrs_codec.specs.HandleCalls.{NeverFailsIf, Tells};
 ghost use Rattle.zarrs_chain_laws.specs.Chain.{chain_reads, chain_writes};
-ghost use Rattle.zarrs_codec_chain.specs.ChunkWrite.{EditsChunk, form_encodes_parts};
-ghost use Rattle.zarrs_codec_chain.specs.ChunkRead.{IsReadPlan, planned_places, ReadsChunk, PlansRead, form_decodes_parts};
 ghost use Rattle.zarrs_chain_laws.specs.Laws.{IsChainOfMappings};
 
+use crate::chunk_coder::ChunkCoder;
 use crate::partial_decoder::array_partial_decoder::ArrayPartialDecoder;
-use crate::partial_decoder::chunk_reader::ChunkReader;
 use std::alloc::Global;
 use zarrs_array_bytes::ArrayBytes;
 use zarrs_chain_laws::machine_bytes::bytes_are;
@@ -33,13 +30,13 @@ use zarrs_data_type::{DataType, FillValue};
 #[derive(Drop)]
 pub struct ArrayPartialEncoder<'a, H: BytesPartialEncoderTraits, B: BytesToBytesCodecTraits> {
     pub(crate) handle: H,
-    pub(crate) reader: ChunkReader<'a, B>,
-    ghost uncached: { reader_is_cached reader ≡ false },
+    pub(crate) coder: ChunkCoder<'a, B>,
+    ghost uncached: { coder_is_cached coder ≡ false },
 }
 
 impl<'a, H: BytesPartialEncoderTraits, B: BytesToBytesCodecTraits> ArrayPartialEncoder<'a, H, B> {
     ghost use Rattle.zarrs_codec_chain.specs.PartialDecoder.{form_of, handle_of, is_cached};
-    ghost use Rattle.zarrs_codec_chain.specs.PartialEncoder.{encoder_form, encoder_handle, encoder_value, EncoderReads, EncoderWrites, EncoderWritesOnce, EncoderGives, EncoderLeaves};
+    ghost use Rattle.zarrs_codec_chain.specs.PartialEncoder.{encoder_form, encoder_handle, encoder_value, EncoderReads, EncoderWrites, EncoderWritesOnce, EncoderGives, EncoderLeaves, EncoderPlans, decodes_in_part, encodes_in_part};
 
     /// What the chain, the shape and the fill value are made of holds.
     pub(crate) fn is_sound(&self)
@@ -47,15 +44,15 @@ impl<'a, H: BytesPartialEncoderTraits, B: BytesToBytesCodecTraits> ArrayPartialE
         ensures positive { All (λ size. 0 < size) (encoder_form self.now).sizes }
         ensures fill_bytes { AreBytes (encoder_form self.now).fill }
     {
-        self.reader.is_sound();
-        bytes_are(self.reader.fill_value.as_ne_bytes());
+        self.coder.is_sound();
+        bytes_are(self.coder.fill_value.as_ne_bytes());
     }
 
     /// The type of the elements.
     pub fn data_type(&self) -> &DataType
         ensures value { result.now ≡ (encoder_form self.now).type }
     {
-        self.reader.data_type()
+        self.coder.data_type()
     }
 
     /// The elements that the indexer means, in its order: those of the chunk that the stored value
@@ -80,18 +77,16 @@ impl<'a, H: BytesPartialEncoderTraits, B: BytesToBytesCodecTraits> ArrayPartialE
         alloc: Global,
         indexer: &Indexer,
     ) -> Result<ArrayBytes<'static>, CodecError>
-        ensures reads { EncoderGives H.state B.functions self.old
-            (selection_of indexer.now) result }
+        ensures reads { EncoderGives H.state self.old indexer.now result }
         ensures blank { IfOk result (AbsentAreBlank (encoder_form self.old).type) }
         ensures left { EncoderReads H.state H.lent self.old self.new result }
     {
-        self.reader.read_chunk(alloc, &mut self.handle, indexer)
+        self.coder.read_chunk(alloc, &mut self.handle, indexer)
     }
 
     /// Whether a value is stored. Refusals: `Storage`, but never where the handle has sure bytes.
     pub fn exists(&mut self) -> Result<bool, CodecError>
-        ensures answer { Answers fault (λ there. there) result
-            (Ok (is_some (H.state (encoder_handle self.old)).value)) }
+        ensures answer { Tells result (is_some (encoder_value H.state self.old)) }
         ensures sure { NeverFailsIf (is_some (H.state (encoder_handle self.old)).sure) result }
         ensures left { EncoderReads H.state H.lent self.old self.new result }
     {
@@ -116,19 +111,17 @@ impl<'a, H: BytesPartialEncoderTraits, B: BytesToBytesCodecTraits> ArrayPartialE
         alloc: Global,
         indexer: &Indexer,
     ) -> Result<Option<Vec<ByteRange>>, CodecError>
-        ensures plan { PlansRead B.functions (encoder_form self.now)
-            (selection_of indexer.now) result }
+        ensures plan { EncoderPlans self.now indexer.now result }
     {
-        self.reader.planned_ranges(alloc, indexer)
+        self.coder.planned_ranges(alloc, indexer)
     }
 
     /// Whether a part is read without the rest: where all codecs of the chain decode a part, and the
     /// handle reads ranges by themselves.
     pub fn supports_partial_decode(&self) -> bool
-        ensures value { result ≡
-            form_decodes_parts B.reads_in_part (encoder_form self.now) && H.reads_ranges }
+        ensures value { result ≡ decodes_in_part B.reads_in_part self.now && H.reads_ranges }
     {
-        self.reader.decodes_parts() && self.handle.supports_partial_decode()
+        self.coder.decodes_parts() && self.handle.supports_partial_decode()
     }
 
     /// Writes these elements at the places that the indexer means, in its order: where a place comes
@@ -163,13 +156,11 @@ impl<'a, H: BytesPartialEncoderTraits, B: BytesToBytesCodecTraits> ArrayPartialE
         indexer: &Indexer,
         elements: &ArrayBytes<'_>,
     ) -> Result<(), CodecError>
-        ensures edits { EncoderLeaves H.state B.functions self.old self.new
-            (selection_of indexer.now) elements.now result }
+        ensures edits { EncoderLeaves H.state self.old self.new indexer.now elements.now result }
         ensures left { EncoderWrites H.state H.lent H.atomic self.old self.new result }
     {
-        self.reader.is_sound();
-        self.reader
-            .write(alloc, &mut self.handle, indexer, elements)
+        self.coder.is_sound();
+        self.coder.write(alloc, &mut self.handle, indexer, elements)
     }
 
     /// Leaves no value; there may have been none. Refusals: `Storage`. It makes exactly one writing
@@ -184,10 +175,9 @@ impl<'a, H: BytesPartialEncoderTraits, B: BytesToBytesCodecTraits> ArrayPartialE
     /// Whether a part is written without the rest: where all codecs of the chain write a part, and the
     /// handle writes pieces by themselves.
     pub fn supports_partial_encode(&self) -> bool
-        ensures value { result ≡
-            form_encodes_parts B.writes_in_part (encoder_form self.now) && H.writes_ranges }
+        ensures value { result ≡ encodes_in_part B.writes_in_part self.now && H.writes_ranges }
     {
-        self.reader.encodes_parts() && self.handle.supports_partial_encode()
+        self.coder.encodes_parts() && self.handle.supports_partial_encode()
     }
 
     /// The decoder over the same handle. It has no cache either.
@@ -196,15 +186,15 @@ impl<'a, H: BytesPartialEncoderTraits, B: BytesToBytesCodecTraits> ArrayPartialE
         ensures form { form_of result ≡ encoder_form self.entry }
         ensures uncached { is_cached result ≡ false }
     {
-        let ArrayPartialEncoder { handle, reader } = self;
-        ArrayPartialDecoder { handle, reader }
+        let ArrayPartialEncoder { handle, coder } = self;
+        ArrayPartialDecoder { handle, coder }
     }
 
     /// The handle, as it stands.
     pub fn into_handle(self) -> H
         ensures value { result ≡ encoder_handle self.entry }
     {
-        let ArrayPartialEncoder { handle, reader: _ } = self;
+        let ArrayPartialEncoder { handle, coder: _ } = self;
         handle
     }
 }

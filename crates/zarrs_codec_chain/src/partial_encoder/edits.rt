@@ -34,7 +34,7 @@ fn apply<H: BytesPartialEncoderTraits, B: BytesToBytesCodecTraits>(
     encoder: &mut ArrayPartialEncoder<'_, H, B>,
     edit: &Edit<'_>,
 ) -> Result<(), CodecError>
-    ensures answer { EncoderEdits H.state B.functions encoder.old encoder.new edit.now result }
+    ensures answer { EncoderEdits H.state encoder.old encoder.new edit.now result }
     ensures left { EncoderWrites H.state H.lent H.atomic encoder.old encoder.new result }
     ensures edit_bytes { EditHasBytes edit.now }
 {
@@ -67,8 +67,7 @@ pub fn run_edits<H: BytesPartialEncoderTraits, B: BytesToBytesCodecTraits>(
 ) -> EditOutcome
     ensures within { result.done ≤ length edits.now }
     ensures all_done { is_none result.refusal ≡ (result.done == length edits.now) }
-    ensures edits { EncoderRuns H.state H.atomic B.functions
-        encoder.old encoder.new edits.now result }
+    ensures edits { EncoderRuns H.state H.atomic encoder.old encoder.new edits.now result }
     ensures encoder_kept { EncoderKeeps H.lent encoder.old encoder.new }
 {
     encoder.is_sound();

@@ -1,22 +1,16 @@
 //! Writing a chunk in part in place: over `bytes` without bytes codecs.
-ghost use Rattle.std.specs.Prelude.{◌≡◌, ◌<◌, ◌≤◌, ◌+◌, [], IfErr, IfOk, All, OnErr, OnOk, Ok, Err, Some, option_map, length, true, false};
-ghost use Rattle.zarrs_chunk.specs.Answer.{Answers, memory, memory_or_fault, is_fault, seen, Gives};
+ghost use Rattle.std.specs.Prelude.{◌≡◌, ◌<◌, IfOk, All, Some, true, false};
+ghost use Rattle.zarrs_chunk.specs.Answer.{is_fault, seen, Gives};
 ghost use Rattle.zarrs_chunk.specs.ChunkShape.{product};
 ghost use Rattle.zarrs_chunk.specs.Indexer.{selection_of};
-ghost use Rattle.zarrs_chunk.specs.Runs.{joined_runs};
-ghost use Rattle.zarrs_chunk.specs.Selection.{subset as subset_of, bounds_of};
+ghost use Rattle.zarrs_chunk.specs.Runs.{EndWithin};
+ghost use Rattle.zarrs_chunk.specs.Selection.{subset as subset_of};
 ghost use Rattle.zarrs_chunk.specs.Tuples.{is_box_inside};
-ghost use Rattle.zarrs_array_bytes.specs.Validity.{data_fit};
-ghost use Rattle.zarrs_codec.specs.ArrayWriter.{IsRefusedWrite};
-ghost use Rattle.zarrs_codec.specs.CodersOverHandles.{HandleWrites, OnlyWrites};
-ghost use Rattle.zarrs_codec.specs.ChunkEdits.{data_checked};
-ghost use Rattle.zarrs_codec.specs.StorageState.{after_writing, apart_from_value};
-ghost use Rattle.zarrs_chain_whole.specs.ChainView.{plain_chain};
-ghost use Rattle.zarrs_codec_chain.specs.ChunkWrite.{selection_left, written_places, WritesChunk, WritesSelection, WriteRefusedAtSelection, RefusedAtData, UntouchedAtData, form_written, form_checked, FitsRuns, LendsData, LeavesThere};
+ghost use Rattle.zarrs_codec.specs.CodersOverHandles.{HandleWrites};
+ghost use Rattle.zarrs_codec_chain.specs.ChunkWrite.{FitsPlacesIn, FitsRuns, LendsData};
 ghost use Rattle.zarrs_codec_chain.specs.ChunkRead.{form_in_place};
-ghost use Rattle.zarrs_array_regions.specs.KeptRegions.{keeps_regions};
 
-use crate::partial_decoder::chunk_reader::ChunkReader;
+use crate::chunk_coder::ChunkCoder;
 use crate::partial_encoder::whole_writer::check_data;
 use std::alloc::Global;
 use std::borrow::CowSlice;
@@ -26,8 +20,9 @@ use zarrs_bytes::BytesCodec;
 use zarrs_chunk::{ArraySubset, CodecError, Indexer};
 use zarrs_codec::{BytesPartialEncoderTraits, BytesToBytesCodecTraits};
 
-impl<'a, B: BytesToBytesCodecTraits> ChunkReader<'a, B> {
-    ghost use Rattle.zarrs_codec_chain.specs.ChunkReader.{reader_form};
+impl<'a, B: BytesToBytesCodecTraits> ChunkCoder<'a, B> {
+    ghost use Rattle.zarrs_codec_chain.specs.ChunkCoder.{coder_form, coder_keeps_regions};
+    ghost use Rattle.zarrs_codec_chain.specs.ChunkWriter.{ChecksElements, GivesWrittenPlaces, region_check, SameEdit, WritesInPlace};
 
     /// Where new elements go in the chunk that the codec to bytes gets, as runs, where there is one for
     /// each place that the indexer means. Refusals, the first that holds, `OutOfMemory` aside: those of
@@ -38,15 +33,11 @@ impl<'a, B: BytesToBytesCodecTraits> ChunkReader<'a, B> {
         indexer: &Indexer,
         elements: &ArrayBytes<'_>,
     ) -> Result<Vec<(u64, u64)>, CodecError>
-        ensures answer { Gives (λ runs. joined_runs runs.items) result
-            (form_written (reader_form self.now) (selection_of indexer.now) elements.now) }
-        ensures checked { Answers memory (λ _. tt) result
-            (form_checked (reader_form self.now) (selection_of indexer.now) elements.now) }
+        ensures answer { GivesWrittenPlaces self.now indexer.now elements.now result }
+        ensures checked { ChecksElements self.now indexer.now elements.now result }
         ensures filled { IfOk result (λ runs. All (λ run. 0 < run.1) runs.items) }
-        ensures inside { IfOk result
-            (λ runs. All (λ run. run.0 + run.1 ≤ product self.now.encoded) runs.items) }
-        ensures fit { IfOk result
-            (λ runs. FitsRuns (reader_form self.now) runs.items elements.now) }
+        ensures inside { IfOk result (λ runs. EndWithin (product self.now.encoded) runs.items) }
+        ensures fit { IfOk result (FitsPlacesIn (coder_form self.now).type elements.now) }
     {
         let runs = self.runs(alloc, indexer)?;
         check_data(elements, runs.as_slice(), &self.data_type)?;
@@ -61,12 +52,10 @@ impl<'a, B: BytesToBytesCodecTraits> ChunkReader<'a, B> {
         region: &ArraySubset,
         elements: &'e ArrayBytes<'_>,
     ) -> Result<ArrayBytes<'e>, CodecError>
-        requires writes_in_place { form_in_place (reader_form self.now) ≡ Some codec.now }
+        requires writes_in_place { form_in_place (coder_form self.now) ≡ Some codec.now }
         requires inside { is_box_inside self.now.shape region.now.starts region.now.lengths ≡ true }
-        ensures checked { seen (λ _. tt) result ≡
-            form_checked (reader_form self.now) (subset_of region.now) elements.now }
-        ensures lent { IfOk result
-            (λ lent. LendsData self.now.data_type region.now elements.now lent) }
+        ensures checked { seen (λ _. tt) result ≡ region_check self.now region.now elements.now }
+        ensures lent { IfOk result (LendsData self.now.data_type region.now elements.now) }
         ensures no_fault { is_fault result ≡ false }
     {
         self.is_sound();
@@ -86,19 +75,16 @@ impl<'a, B: BytesToBytesCodecTraits> ChunkReader<'a, B> {
         region: &ArraySubset,
         elements: &'e ArrayBytes<'_>,
     ) -> Result<(Vec<(u64, u64)>, ArrayBytes<'e>), CodecError>
-        requires writes_in_place { form_in_place (reader_form self.now) ≡ Some codec.now }
+        requires writes_in_place { form_in_place (coder_form self.now) ≡ Some codec.now }
         requires inside { is_box_inside self.now.shape region.now.starts region.now.lengths ≡ true }
         requires filled { 0 < product region.now.lengths }
-        requires region_kept { keeps_regions (plain_chain self.now.chain.now).arrays ≡ true }
-        ensures same_edit { IfOk result (λ there. LeavesThere B.functions (reader_form self.now)
-            self.now.encoded codec.now (subset_of region.now) elements.now there.0.items there.1) }
-        ensures checked { Gives (λ _. tt) result
-            (form_checked (reader_form self.now) (subset_of region.now) elements.now) }
+        requires region_kept { coder_keeps_regions self.now ≡ true }
+        ensures same_edit { SameEdit self.now codec.now region.now elements.now result }
+        ensures checked { Gives (λ _. tt) result (region_check self.now region.now elements.now) }
         ensures filled { IfOk result (λ there. All (λ run. 0 < run.1) there.0.items) }
-        ensures inside { IfOk result
-            (λ there. All (λ run. run.0 + run.1 ≤ product self.now.encoded) there.0.items) }
+        ensures inside { IfOk result (λ there. EndWithin (product self.now.encoded) there.0.items) }
         ensures fit { IfOk result
-            (λ there. FitsRuns (reader_form self.now) there.0.items there.1) }
+            (λ there. FitsRuns (coder_form self.now) there.0.items there.1) }
     {
         self.is_sound();
         let codecs = self.chain.array_to_array_codecs();
@@ -125,12 +111,12 @@ impl<'a, B: BytesToBytesCodecTraits> ChunkReader<'a, B> {
         region: &ArraySubset,
         elements: &ArrayBytes<'_>,
     ) -> Result<(), CodecError>
-        requires writes_in_place { form_in_place (reader_form self.now) ≡ Some codec.now }
+        requires writes_in_place { form_in_place (coder_form self.now) ≡ Some codec.now }
         requires inside { is_box_inside self.now.shape region.now.starts region.now.lengths ≡ true }
         requires filled { 0 < product region.now.lengths }
-        requires region_kept { keeps_regions (plain_chain self.now.chain.now).arrays ≡ true }
-        ensures writes { WritesChunk B.functions (reader_form self.now) (Some codec.now)
-            (H.state handle.old) (H.state handle.new)
+        requires region_kept { coder_keeps_regions self.now ≡ true }
+        // Wide: the handle before and after, the byte order, the region and the elements each count.
+        ensures writes { WritesInPlace H.state self.now codec.now handle.old handle.new
             (subset_of region.now) elements.now result }
         ensures left { HandleWrites H.state H.lent H.atomic handle.old handle.new result }
     {
@@ -157,9 +143,9 @@ impl<'a, B: BytesToBytesCodecTraits> ChunkReader<'a, B> {
         indexer: &Indexer,
         elements: &ArrayBytes<'_>,
     ) -> Result<(), CodecError>
-        requires writes_in_place { form_in_place (reader_form self.now) ≡ Some codec.now }
-        ensures writes { WritesChunk B.functions (reader_form self.now) (Some codec.now)
-            (H.state handle.old) (H.state handle.new)
+        requires writes_in_place { form_in_place (coder_form self.now) ≡ Some codec.now }
+        // Wide: the handle before and after, the byte order, the places and the elements each count.
+        ensures writes { WritesInPlace H.state self.now codec.now handle.old handle.new
             (selection_of indexer.now) elements.now result }
         ensures left { HandleWrites H.state H.lent H.atomic handle.old handle.new result }
     {

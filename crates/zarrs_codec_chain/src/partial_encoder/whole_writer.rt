@@ -1,20 +1,14 @@
 //! Writing a chunk in part by its whole value.
-ghost use Rattle.std.specs.Prelude.{◌≡◌, ◌<◌, ◌≤◌, ◌+◌, ◌^◌, IfErr, IfOk, All, None, OnErr, OnOk, Ok, Err, true, false, length};
-ghost use Rattle.zarrs_chunk.specs.Answer.{Answers, AnswersBy, is_fault, memory, memory_or_fault, seen, Gives};
+ghost use Rattle.std.specs.Prelude.{◌≡◌, ◌<◌, ◌^◌, IfOk, false, length};
+ghost use Rattle.zarrs_chunk.specs.Answer.{is_fault};
 ghost use Rattle.zarrs_chunk.specs.ChunkShape.{product};
-ghost use Rattle.zarrs_chunk.specs.Indexer.{selection_of};
-ghost use Rattle.zarrs_chunk.specs.Runs.{joined_runs};
-ghost use Rattle.zarrs_chunk.specs.Selection.{bounds_of};
-ghost use Rattle.zarrs_array_bytes.specs.Elements.{elements as elements_of};
-ghost use Rattle.zarrs_array_bytes.specs.Held.{items_of};
-ghost use Rattle.zarrs_array_bytes.specs.Validity.{Holds, data_fit, validity};
-ghost use Rattle.zarrs_codec.specs.ArrayWriter.{IsRefusedWrite};
-ghost use Rattle.zarrs_codec.specs.CodersOverHandles.{HandleWrites, OnlyWrites};
-ghost use Rattle.zarrs_codec.specs.ChunkEdits.{data_checked, data_places};
-ghost use Rattle.zarrs_codec.specs.StorageState.{after_reading, after_writing, apart_from_value};
-ghost use Rattle.zarrs_codec_chain.specs.ChunkWrite.{edited_value, selection_left, started_chunk, value_left, WritesChunk, WritesSelection, WriteRefusedAtSelection, RefusedAtData, UntouchedAtData, IsWhole, RunsInside, FitsRuns, GivesEdited, ReadsNewValue, WritesRuns};
+ghost use Rattle.zarrs_chunk.specs.Runs.{joined_runs, EndWithin};
+ghost use Rattle.zarrs_array_bytes.specs.Validity.{data_fit};
+ghost use Rattle.zarrs_codec.specs.CodersOverHandles.{HandleWrites};
+ghost use Rattle.zarrs_codec.specs.StorageState.{after_reading};
+ghost use Rattle.zarrs_codec_chain.specs.ChunkWrite.{IsWhole, RunsInside, FitsRuns, FitsPlacesIn, GivesDataPlaces};
 
-use crate::partial_decoder::chunk_reader::ChunkReader;
+use crate::chunk_coder::ChunkCoder;
 use crate::partial_decoder::fill_runs::count_places;
 use std::alloc::Global;
 use std::borrow::CowSlice;
@@ -47,20 +41,18 @@ fn checked_runs(
     data_type: &DataType,
     elements: &ArrayBytes<'_>,
 ) -> Result<Vec<(u64, u64)>, CodecError>
-    ensures answer { Gives (λ runs. joined_runs runs.items) result
-        (data_places shape.now data_type.now (selection_of indexer.now) elements.now) }
-    ensures below { IfOk result
-        (λ runs. All (λ run. run.0 + run.1 ≤ product shape.now) runs.items) }
-    ensures fit { IfOk result
-        (λ runs. data_fit data_type.now (length (joined_runs runs.items)) elements.now ≡ Ok tt) }
+    ensures answer { GivesDataPlaces indexer.now shape.now data_type.now elements.now result }
+    ensures below { IfOk result (λ runs. EndWithin (product shape.now) runs.items) }
+    ensures fit { IfOk result (FitsPlacesIn data_type.now elements.now) }
 {
     let runs = indexer.runs(alloc, shape)?;
     check_data(elements, runs.as_slice(), data_type)?;
     Ok(runs)
 }
 
-impl<'a, B: BytesToBytesCodecTraits> ChunkReader<'a, B> {
-    ghost use Rattle.zarrs_codec_chain.specs.ChunkReader.{reader_form};
+impl<'a, B: BytesToBytesCodecTraits> ChunkCoder<'a, B> {
+    ghost use Rattle.zarrs_codec_chain.specs.ChunkCoder.{coder_form};
+    ghost use Rattle.zarrs_codec_chain.specs.ChunkWriter.{GivesEdited, ReadsNewValue, ReadsStart, Renews, WritesRuns};
 
     /// The chunk that an edit starts from: the one that the stored value stands for, or one of fill
     /// values. Refusals: `Storage`; those of `CodecChain::decode`; `Overflow` where 64 bits don't count
@@ -70,8 +62,7 @@ impl<'a, B: BytesToBytesCodecTraits> ChunkReader<'a, B> {
         alloc: Global,
         handle: &mut H,
     ) -> Result<ArrayBytes<'static>, CodecError>
-        ensures answer { AnswersBy memory_or_fault (Holds (reader_form self.now).type) result
-            (started_chunk B.functions (reader_form self.now) (H.state handle.old).value) }
+        ensures answer { ReadsStart H.state self.now handle.old result }
         ensures left { H.state handle.new ≡ after_reading result (H.state handle.old) }
         ensures same_reference { H.lent handle.new ≡ H.lent handle.old }
     {
@@ -99,11 +90,10 @@ impl<'a, B: BytesToBytesCodecTraits> ChunkReader<'a, B> {
         runs: &[(u64, u64)],
         elements: &ArrayBytes<'_>,
     ) -> Result<ArrayBytesRaw<'static>, CodecError>
-        requires valid { IsWhole (reader_form self.now) chunk }
-        requires below { RunsInside (reader_form self.now) runs.now }
-        requires fit { FitsRuns (reader_form self.now) runs.now elements.now }
-        ensures answer { GivesEdited B.functions (reader_form self.now)
-            chunk.entry runs.now elements.now result }
+        requires valid { IsWhole (coder_form self.now) chunk }
+        requires below { RunsInside (coder_form self.now) runs.now }
+        requires fit { FitsRuns (coder_form self.now) runs.now elements.now }
+        ensures answer { GivesEdited self.now chunk.entry runs.now elements.now result }
     {
         let count = self.shape.num_elements()?;
         let edited = update_runs(alloc, chunk, count, runs, elements, &self.data_type)?;
@@ -125,10 +115,9 @@ impl<'a, B: BytesToBytesCodecTraits> ChunkReader<'a, B> {
         runs: &[(u64, u64)],
         elements: &ArrayBytes<'_>,
     ) -> Result<ArrayBytesRaw<'static>, CodecError>
-        requires below { RunsInside (reader_form self.now) runs.now }
-        requires fit { FitsRuns (reader_form self.now) runs.now elements.now }
-        ensures answer { ReadsNewValue B.functions (reader_form self.now)
-            (H.state handle.old).value runs.now elements.now result }
+        requires below { RunsInside (coder_form self.now) runs.now }
+        requires fit { FitsRuns (coder_form self.now) runs.now elements.now }
+        ensures answer { ReadsNewValue H.state self.now handle.old runs.now elements.now result }
         ensures left { H.state handle.new ≡ after_reading result (H.state handle.old) }
         ensures same_reference { H.lent handle.new ≡ H.lent handle.old }
     {
@@ -143,15 +132,14 @@ impl<'a, B: BytesToBytesCodecTraits> ChunkReader<'a, B> {
         alloc: Global,
         handle: &mut H,
         runs: &[(u64, u64)],
-        elements: &ArrayBytes<'_>,
+        new: &ArrayBytes<'_>,
     ) -> Result<(), CodecError>
-        requires below { RunsInside (reader_form self.now) runs.now }
-        requires fit { FitsRuns (reader_form self.now) runs.now elements.now }
-        ensures answer { WritesRuns B.functions (reader_form self.now)
-            (H.state handle.old) (H.state handle.new) runs.now elements.now result }
+        requires below { RunsInside (coder_form self.now) runs.now }
+        requires fit { FitsRuns (coder_form self.now) runs.now new.now }
+        ensures answer { WritesRuns H.state self.now handle.old handle.new runs.now new.now result }
         ensures left { HandleWrites H.state H.lent H.atomic handle.old handle.new result }
     {
-        let value = self.new_value(alloc, handle, runs, elements)?;
+        let value = self.new_value(alloc, handle, runs, new)?;
         handle.replace(alloc, value.as_slice())
     }
 
@@ -162,14 +150,12 @@ impl<'a, B: BytesToBytesCodecTraits> ChunkReader<'a, B> {
         alloc: Global,
         handle: &mut H,
         indexer: &Indexer,
-        elements: &ArrayBytes<'_>,
+        new: &ArrayBytes<'_>,
     ) -> Result<(), CodecError>
-        ensures writes { WritesChunk B.functions (reader_form self.now) None
-            (H.state handle.old) (H.state handle.new)
-            (selection_of indexer.now) elements.now result }
+        ensures writes { Renews H.state self.now handle.old handle.new indexer.now new.now result }
         ensures left { HandleWrites H.state H.lent H.atomic handle.old handle.new result }
     {
-        let runs = checked_runs(alloc, indexer, &self.shape, &self.data_type, elements)?;
-        self.replace_value(alloc, handle, runs.as_slice(), elements)
+        let runs = checked_runs(alloc, indexer, &self.shape, &self.data_type, new)?;
+        self.replace_value(alloc, handle, runs.as_slice(), new)
     }
 }

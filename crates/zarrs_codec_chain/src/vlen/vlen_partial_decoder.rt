@@ -1,24 +1,13 @@
-ghost use Rattle.zarrs_data_type.specs.Form.{form_of};
-ghost use Rattle.zarrs_chain_laws.specs.CallAnswers.{codec_represented};
-ghost use Rattle.zarrs_codec_chain.specs.ChunkRead.{TakenBy, MadeWhereTaken};
-ghost use Rattle.std.specs.Prelude.{◌≡◌, ◌<◌, ◌≤◌, ◌+◌, ◌^◌, ◌&&◌, ℕ, List, Ok, Err, IfOk, IfErr, All, Some, None, is_ok, is_some, length, map, option_map, true, false};
-ghost use Rattle.zarrs_chunk.specs.Answer.{Answers, AnswersBy, fault, memory, memory_or_fault, seen, Gives, GivesBy};
+ghost use Rattle.zarrs_codec_chain.specs.vlen.VlenRuns.{VlenTakes, GivesForm};
+ghost use Rattle.std.specs.Prelude.{◌≡◌, ◌<◌, ◌^◌, ◌&&◌, IfOk, IfErr, is_ok, is_some, true};
 ghost use Rattle.zarrs_chunk.specs.ChunkShape.{product};
 ghost use Rattle.zarrs_chunk.specs.Indexer.{selection_of};
-ghost use Rattle.zarrs_chunk.specs.Runs.{joined_runs};
-ghost use Rattle.zarrs_chunk.specs.Selection.{bounds_of, places_of};
-ghost use Rattle.zarrs_data_type.specs.Element.{Chunk, fill_element};
 ghost use Rattle.zarrs_data_type.specs.FillValue.{fill_fits};
 ghost use Rattle.zarrs_array_bytes.specs.Blank.{AbsentAreBlank};
-ghost use Rattle.zarrs_array_bytes.specs.Elements.{elements, select};
-ghost use Rattle.zarrs_array_bytes.specs.Validity.{Holds, validity};
-ghost use Rattle.zarrs_codec.specs.HandleCalls.{NeverFailsIf};
-ghost use Rattle.zarrs_codec.specs.Refused.{outcome};
-ghost use Rattle.zarrs_codec.specs.StorageState.{after_reading};
+ghost use Rattle.zarrs_codec.specs.HandleCalls.{NeverFailsIf, Tells};
 ghost use Rattle.zarrs_chain_laws.specs.Chain.{codec_reads};
 ghost use Rattle.zarrs_chain_whole.specs.ChainView.{plain_vlen};
 ghost use Rattle.zarrs_chain_laws.specs.Representation.{codec_representation};
-ghost use Rattle.zarrs_chain_laws.specs.Stands.{CodecStands};
 
 use crate::vlen::vlen_runs::vlen_runs;
 use std::alloc::Global;
@@ -59,12 +48,8 @@ fn parts_of_decoder<B: BytesToBytesCodecTraits>(
     data_type: &DataType,
     fill_value: &FillValue,
 ) -> Result<(ChunkShape, DataType, FillValue), CodecError>
-    ensures answer { Gives (λ parts. parts) result
-        (seen (λ _. (shape.now, data_type.now, fill_value.now))
-        (codec_represented B.functions (plain_vlen codec.now)
-        (form_of shape.now data_type.now fill_value.now))) }
-    ensures taken { IfOk result
-        (λ parts. TakenBy B.functions (plain_vlen codec.now) (form_of parts.0 parts.1 parts.2)) }
+    ensures answer { GivesForm B.functions codec.now shape.now data_type.now fill_value.now result }
+    ensures taken { IfOk result (λ parts. VlenTakes B.functions codec.now parts.0 parts.1 parts.2) }
     ensures filling { IfOk result (λ parts. fill_fits parts.1 parts.2 ≡ true) }
     ensures counted { IfOk result (λ parts. product parts.0 < 2 ^ 64) }
 {
@@ -91,7 +76,7 @@ pub trait VlenCodecPartialTraits<B: BytesToBytesCodecTraits> {
 }
 
 impl<B: BytesToBytesCodecTraits> VlenCodecPartialTraits<B> for VlenCodec<B> {
-    ghost use Rattle.zarrs_codec_chain.specs.vlen.VlenPartialDecoder.{vlen_form_of, vlen_handle_of, HasCodecForm};
+    ghost use Rattle.zarrs_codec_chain.specs.vlen.VlenPartialDecoder.{vlen_handle_of, VlenDecoderMade, VlenHasForm};
 
     /// A decoder of a chunk in part, over a handle. Refusals, the first that holds: those of
     /// `encoded_representation`; `OutOfMemory`. A refusal hands the handle back as it was.
@@ -103,10 +88,8 @@ impl<B: BytesToBytesCodecTraits> VlenCodecPartialTraits<B> for VlenCodec<B> {
         data_type: &DataType,
         fill_value: &FillValue,
     ) -> Result<VlenPartialDecoder<'a, H, B>, Refused<H>>
-        ensures answer { MadeWhereTaken B.functions (plain_vlen self.now)
-            (form_of shape.now data_type.now fill_value.now) (outcome result) }
-        ensures form { HasCodecForm (λ decoder. vlen_form_of decoder) (plain_vlen self.now)
-            (form_of shape.now data_type.now fill_value.now) result }
+        ensures answer { VlenDecoderMade self.now shape.now data_type.now fill_value.now result }
+        ensures form { VlenHasForm self.now shape.now data_type.now fill_value.now result }
         ensures over { IfOk result (λ decoder. vlen_handle_of decoder ≡ handle) }
         ensures handed_back { IfErr result (λ refused. refused.handle ≡ handle) }
     {
@@ -124,7 +107,7 @@ impl<B: BytesToBytesCodecTraits> VlenCodecPartialTraits<B> for VlenCodec<B> {
 }
 
 impl<'a, H: BytesPartialDecoderTraits, B: BytesToBytesCodecTraits> VlenPartialDecoder<'a, H, B> {
-    ghost use Rattle.zarrs_codec_chain.specs.vlen.VlenPartialDecoder.{codec_stored_read, CodecWhereSure, vlen_form_of, vlen_handle_of, VlenGives, VlenLeaves, VlenReads, VlenRefusedAtSelection, SureVlen};
+    ghost use Rattle.zarrs_codec_chain.specs.vlen.VlenPartialDecoder.{vlen_decodes_in_part, vlen_form_of, vlen_handle_of, VlenGives, VlenLeaves, VlenReads, VlenRefusedAtSelection, SureVlen};
 
     /// The type of the elements.
     pub fn data_type(&self) -> &DataType
@@ -178,8 +161,7 @@ impl<'a, H: BytesPartialDecoderTraits, B: BytesToBytesCodecTraits> VlenPartialDe
 
     /// Whether a value is stored. Refusals: `Storage`, but never where the handle has sure bytes.
     pub fn exists(&mut self) -> Result<bool, CodecError>
-        ensures answer { Answers fault (λ there. there) result
-            (Ok (is_some (H.state (vlen_handle_of self.old)).value)) }
+        ensures answer { Tells result (is_some (H.state (vlen_handle_of self.old)).value) }
         ensures sure { NeverFailsIf (is_some (H.state (vlen_handle_of self.old)).sure) result }
         ensures left { VlenLeaves H.state H.lent self.old self.new result }
     {
@@ -196,8 +178,7 @@ impl<'a, H: BytesPartialDecoderTraits, B: BytesToBytesCodecTraits> VlenPartialDe
     /// Whether a part is read without the rest: where the codec is plain, and the handle reads ranges
     /// by themselves.
     pub fn supports_partial_decode(&self) -> bool
-        ensures value { result ≡
-            (codec_reads (vlen_form_of self.now).codec).partial_decode && H.reads_ranges }
+        ensures value { result ≡ vlen_decodes_in_part self.now && H.reads_ranges }
     {
         self.codec.partial_decoder_capability().partial_decode
             && self.handle.supports_partial_decode()

@@ -1,24 +1,14 @@
 //! Reading runs of places through a `vlen`: of a plain one by the offsets and the elements' bytes alone,
 //! of any other by the whole value.
-ghost use Rattle.zarrs_data_type.specs.Form.{form_of};
-ghost use Rattle.std.specs.Prelude.{◌≡◌, ◌<◌, ◌≤◌, ◌+◌, ◌^◌, Ok, IfOk, All, is_ok, length, option_map, true, false};
-ghost use Rattle.zarrs_chunk.specs.Answer.{AnswersBy, memory_or_fault, is_fault, Gives, GivesBy};
+ghost use Rattle.std.specs.Prelude.{◌≡◌, ◌<◌, ◌≤◌, ◌+◌, ◌^◌, Ok, IfOk, All, length, true};
 ghost use Rattle.zarrs_chunk.specs.ChunkShape.{product};
 ghost use Rattle.zarrs_chunk.specs.Runs.{joined_runs};
 ghost use Rattle.zarrs_data_type.specs.ElementType.{is_variable};
 ghost use Rattle.zarrs_data_type.specs.FillValue.{fill_fits};
 ghost use Rattle.zarrs_array_bytes.specs.Blank.{AbsentAreBlank};
-ghost use Rattle.zarrs_array_bytes.specs.Elements.{elements};
-ghost use Rattle.zarrs_array_bytes.specs.Validity.{Holds, validity};
-ghost use Rattle.zarrs_codec.specs.StorageState.{after_reading, are_sure};
-ghost use Rattle.zarrs_chain_laws.specs.Chain.{codec_reads};
-ghost use Rattle.zarrs_chain_laws.specs.Decode.{codec_chunk};
-ghost use Rattle.zarrs_chain_laws.specs.vlen.PlainVlen.{plain_form};
-ghost use Rattle.zarrs_chain_laws.specs.Representation.{codec_representation};
-ghost use Rattle.zarrs_chain_whole.specs.ChainView.{plain_vlen};
-ghost use Rattle.zarrs_plain_vlen.specs.PlainRead.{plain_read};
-ghost use Rattle.zarrs_plain_vlen.specs.VlenRead.{stored_rests_on};
-ghost use Rattle.zarrs_codec_chain.specs.ChunkRead.{codec_read, codec_rests_on, whole_read, TakenBy, ReadsRuns, SureParts, GivesElements, GivesWhole, ReadsPlain, SurePlain, ReadsWhole, value_items};
+ghost use Rattle.zarrs_array_bytes.specs.Validity.{validity};
+ghost use Rattle.zarrs_codec.specs.StorageState.{after_reading};
+ghost use Rattle.zarrs_codec_chain.specs.vlen.VlenRuns.{VlenTakes, GivesVlen, Picks, ReadsWhole, ReadsPlain, Fetches, SurePlain, ReadsVlenRuns, IsSure};
 
 use crate::partial_decoder::fill_runs::fill_runs;
 use std::alloc::Global;
@@ -38,24 +28,15 @@ fn decoded<B: BytesToBytesCodecTraits>(
     codec: &VlenCodec<B>,
     value: Vec<u8>,
     shape: &ChunkShape,
-    data_type: &DataType,
-    fill_value: &FillValue,
+    kind: &DataType,
+    fill: &FillValue,
 ) -> Result<ArrayBytes<'static>, CodecError>
-    requires taken { TakenBy B.functions (plain_vlen codec.now)
-        (form_of shape.now data_type.now fill_value.now) }
-    ensures answer { GivesElements B.functions (plain_vlen codec.now)
-        (form_of shape.now data_type.now fill_value.now) value.items result }
-    ensures blank { IfOk result (AbsentAreBlank data_type.now) }
-    ensures valid { IfOk result (λ held. validity data_type.now (product shape.now) held ≡ Ok tt) }
+    requires taken { VlenTakes B.functions codec.now shape.now kind.now fill.now }
+    ensures answer { GivesVlen B.functions codec.now value shape.now kind.now fill.now result }
+    ensures blank { IfOk result (AbsentAreBlank kind.now) }
+    ensures valid { IfOk result (λ held. validity kind.now (product shape.now) held ≡ Ok tt) }
 {
-    vlen_decode(
-        alloc,
-        codec,
-        CowSlice::Owned(value),
-        shape,
-        data_type,
-        fill_value,
-    )
+    vlen_decode(alloc, codec, CowSlice::Owned(value), shape, kind, fill)
 }
 
 /// The elements at the places of these runs of a chunk that the codec takes, by its whole value: the
@@ -65,26 +46,24 @@ fn runs_of_value<B: BytesToBytesCodecTraits>(
     codec: &VlenCodec<B>,
     value: Option<Vec<u8>>,
     shape: &ChunkShape,
-    data_type: &DataType,
-    fill_value: &FillValue,
+    kind: &DataType,
+    fill: &FillValue,
     runs: &[(u64, u64)],
 ) -> Result<ArrayBytes<'static>, CodecError>
-    requires taken { TakenBy B.functions (plain_vlen codec.now)
-        (form_of shape.now data_type.now fill_value.now) }
-    requires filling { fill_fits data_type.now fill_value.now ≡ true }
+    requires taken { VlenTakes B.functions codec.now shape.now kind.now fill.now }
+    requires filling { fill_fits kind.now fill.now ≡ true }
     requires counted { product shape.now < 2 ^ 64 }
     requires inside { All (λ run. run.0 + run.1 ≤ product shape.now) runs.now }
     requires count { length (joined_runs runs.now) < 2 ^ 64 }
-    ensures answer { GivesWhole B.functions (plain_vlen codec.now)
-        (form_of shape.now data_type.now fill_value.now) (value_items value) runs.now result }
-    ensures blank { IfOk result (AbsentAreBlank data_type.now) }
+    ensures answer { Picks B.functions codec.now value shape.now kind.now fill.now runs.now result }
+    ensures blank { IfOk result (AbsentAreBlank kind.now) }
 {
     match value {
-        None => fill_runs(alloc, data_type, fill_value, runs),
+        None => fill_runs(alloc, kind, fill, runs),
         Some(value) => {
-            let chunk = decoded(alloc, codec, value, shape, data_type, fill_value)?;
+            let chunk = decoded(alloc, codec, value, shape, kind, fill)?;
             let count = shape.num_elements()?;
-            chunk.extract_runs(alloc, runs, count, data_type)
+            chunk.extract_runs(alloc, runs, count, kind)
         }
     }
 }
@@ -98,24 +77,23 @@ fn read_or_fill<H: BytesPartialDecoderTraits>(
     codec: PlainVlen,
     handle: &mut H,
     count: u64,
-    data_type: &DataType,
-    fill_value: &FillValue,
+    kind: &DataType,
+    fill: &FillValue,
     runs: &[(u64, u64)],
 ) -> Result<ArrayBytes<'static>, CodecError>
-    requires variable { is_variable data_type.now ≡ true }
-    requires filling { fill_fits data_type.now fill_value.now ≡ true }
+    requires variable { is_variable kind.now ≡ true }
+    requires filling { fill_fits kind.now fill.now ≡ true }
     requires inside { All (λ run. run.0 + run.1 ≤ count) runs.now }
     requires count { length (joined_runs runs.now) < 2 ^ 64 }
-    ensures answer { ReadsPlain (plain_form codec) count
-        data_type.now fill_value.now (H.state handle.old) runs.now result }
-    ensures blank { IfOk result (AbsentAreBlank data_type.now) }
-    ensures sure { SurePlain (plain_form codec) count (H.state handle.old) runs.now result }
+    ensures answer { ReadsPlain H.state codec handle.old count kind.now fill.now runs.now result }
+    ensures blank { IfOk result (AbsentAreBlank kind.now) }
+    ensures sure { SurePlain H.state codec handle.old count runs.now result }
     ensures left { H.state handle.new ≡ after_reading result (H.state handle.old) }
     ensures same_reference { H.lent handle.new ≡ H.lent handle.old }
 {
-    match zarrs_plain_vlen::read_runs(codec, alloc, handle, count, data_type, runs)? {
+    match zarrs_plain_vlen::read_runs(codec, alloc, handle, count, kind, runs)? {
         Some(elements) => Ok(elements),
-        None => fill_runs(alloc, data_type, fill_value, runs),
+        None => fill_runs(alloc, kind, fill, runs),
     }
 }
 
@@ -125,25 +103,23 @@ fn plain_runs<H: BytesPartialDecoderTraits>(
     codec: PlainVlen,
     handle: &mut H,
     shape: &ChunkShape,
-    data_type: &DataType,
-    fill_value: &FillValue,
+    kind: &DataType,
+    fill: &FillValue,
     runs: &[(u64, u64)],
 ) -> Result<ArrayBytes<'static>, CodecError>
-    requires variable { is_variable data_type.now ≡ true }
-    requires filling { fill_fits data_type.now fill_value.now ≡ true }
+    requires variable { is_variable kind.now ≡ true }
+    requires filling { fill_fits kind.now fill.now ≡ true }
     requires counted { product shape.now < 2 ^ 64 }
     requires inside { All (λ run. run.0 + run.1 ≤ product shape.now) runs.now }
     requires count { length (joined_runs runs.now) < 2 ^ 64 }
-    ensures answer { ReadsPlain (plain_form codec) (product shape.now)
-        data_type.now fill_value.now (H.state handle.old) runs.now result }
-    ensures blank { IfOk result (AbsentAreBlank data_type.now) }
-    ensures sure { SurePlain (plain_form codec) (product shape.now)
-        (H.state handle.old) runs.now result }
+    ensures answer { Fetches H.state codec handle.old shape.now kind.now fill.now runs.now result }
+    ensures blank { IfOk result (AbsentAreBlank kind.now) }
+    ensures sure { SurePlain H.state codec handle.old (product shape.now) runs.now result }
     ensures left { H.state handle.new ≡ after_reading result (H.state handle.old) }
     ensures same_reference { H.lent handle.new ≡ H.lent handle.old }
 {
     let count = shape.num_elements()?;
-    read_or_fill(alloc, codec, handle, count, data_type, fill_value, runs)
+    read_or_fill(alloc, codec, handle, count, kind, fill, runs)
 }
 
 /// The elements at the places of these runs of a chunk that the codec takes, by the whole value that
@@ -153,24 +129,24 @@ fn whole_runs<H: BytesPartialDecoderTraits, B: BytesToBytesCodecTraits>(
     codec: &VlenCodec<B>,
     handle: &mut H,
     shape: &ChunkShape,
-    data_type: &DataType,
-    fill_value: &FillValue,
+    kind: &DataType,
+    fill: &FillValue,
     runs: &[(u64, u64)],
 ) -> Result<ArrayBytes<'static>, CodecError>
-    requires taken { TakenBy B.functions (plain_vlen codec.now)
-        (form_of shape.now data_type.now fill_value.now) }
-    requires filling { fill_fits data_type.now fill_value.now ≡ true }
+    requires taken { VlenTakes B.functions codec.now shape.now kind.now fill.now }
+    requires filling { fill_fits kind.now fill.now ≡ true }
     requires counted { product shape.now < 2 ^ 64 }
     requires inside { All (λ run. run.0 + run.1 ≤ product shape.now) runs.now }
     requires count { length (joined_runs runs.now) < 2 ^ 64 }
-    ensures answer { ReadsWhole B.functions (plain_vlen codec.now)
-        (form_of shape.now data_type.now fill_value.now) (H.state handle.old) runs.now result }
-    ensures blank { IfOk result (AbsentAreBlank data_type.now) }
+    // Wide: the codec, the handle, the chunk's sizes, type and fill value, the runs: each counts.
+    ensures answer { ReadsWhole H.state B.functions codec.now handle.old
+        shape.now kind.now fill.now runs.now result }
+    ensures blank { IfOk result (AbsentAreBlank kind.now) }
     ensures left { H.state handle.new ≡ after_reading result (H.state handle.old) }
     ensures same_reference { H.lent handle.new ≡ H.lent handle.old }
 {
     let value = handle.decode(alloc)?;
-    runs_of_value(alloc, codec, value, shape, data_type, fill_value, runs)
+    runs_of_value(alloc, codec, value, shape, kind, fill, runs)
 }
 
 /// The elements at the places of these runs of a chunk that the codec takes, over a handle that keeps
@@ -182,24 +158,23 @@ pub(crate) fn vlen_runs<H: BytesPartialDecoderTraits, B: BytesToBytesCodecTraits
     codec: &VlenCodec<B>,
     handle: &mut H,
     shape: &ChunkShape,
-    data_type: &DataType,
-    fill_value: &FillValue,
+    kind: &DataType,
+    fill: &FillValue,
     runs: &[(u64, u64)],
 ) -> Result<ArrayBytes<'static>, CodecError>
-    requires taken { TakenBy B.functions (plain_vlen codec.now)
-        (form_of shape.now data_type.now fill_value.now) }
+    requires taken { VlenTakes B.functions codec.now shape.now kind.now fill.now }
     requires inside { All (λ run. run.0 + run.1 ≤ product shape.now) runs.now }
     requires count { length (joined_runs runs.now) < 2 ^ 64 }
-    ensures answer { ReadsRuns B.functions (plain_vlen codec.now)
-        (form_of shape.now data_type.now fill_value.now) (H.state handle.old) runs.now result }
-    ensures blank { IfOk result (AbsentAreBlank data_type.now) }
-    ensures sure { SureParts (plain_vlen codec.now)
-        (form_of shape.now data_type.now fill_value.now) (H.state handle.old) runs.now result }
+    // Wide: the codec, the handle, the chunk's sizes, type and fill value, the runs: each counts.
+    ensures answer { ReadsVlenRuns H.state B.functions codec.now handle.old
+        shape.now kind.now fill.now runs.now result }
+    ensures blank { IfOk result (AbsentAreBlank kind.now) }
+    ensures sure { IsSure H.state codec.now handle.old shape.now kind.now fill.now runs.now result }
     ensures left { H.state handle.new ≡ after_reading result (H.state handle.old) }
     ensures same_reference { H.lent handle.new ≡ H.lent handle.old }
 {
     match codec.plain_form() {
-        Some(plain) => plain_runs(alloc, plain, handle, shape, data_type, fill_value, runs),
-        None => whole_runs(alloc, codec, handle, shape, data_type, fill_value, runs),
+        Some(plain) => plain_runs(alloc, plain, handle, shape, kind, fill, runs),
+        None => whole_runs(alloc, codec, handle, shape, kind, fill, runs),
     }
 }

@@ -109,50 +109,48 @@ fn name_of_location(index_location: VlenIndexLocation) -> &'static str
 
 /// Version 0.1 where the place of the offsets is said, else version 0.
 fn of_parts(
-    index_codecs: Vec<MetadataV3>,
-    data_codecs: Vec<MetadataV3>,
-    index_data_type: VlenIndexDataType,
-    index_location: Option<VlenIndexLocation>,
+    index: Vec<MetadataV3>,
+    content: Vec<MetadataV3>,
+    data_type: VlenIndexDataType,
+    location: Option<VlenIndexLocation>,
 ) -> VlenCodecConfiguration
-    ensures made { vlen_seen result
-        ≡ vlen_parts index_codecs.items data_codecs.items index_data_type index_location }
+    ensures made { vlen_seen result ≡ vlen_parts index.items content.items data_type location }
 {
-    match index_location {
+    match location {
         None => VlenCodecConfiguration::V0(VlenCodecConfigurationV0 {
-            index_codecs,
-            data_codecs,
-            index_data_type,
+            index_codecs: index,
+            data_codecs: content,
+            index_data_type: data_type,
         }),
-        Some(index_location) => VlenCodecConfiguration::V0_1(VlenCodecConfigurationV0_1 {
-            index_codecs,
-            data_codecs,
-            index_data_type,
-            index_location,
+        Some(location) => VlenCodecConfiguration::V0_1(VlenCodecConfigurationV0_1 {
+            index_codecs: index,
+            data_codecs: content,
+            index_data_type: data_type,
+            index_location: location,
         }),
     }
 }
 
 fn members_of(
     alloc: Global,
-    index_codecs: &[MetadataV3],
-    data_codecs: &[MetadataV3],
-    index_data_type: VlenIndexDataType,
-    index_location: Option<VlenIndexLocation>,
+    index: &[MetadataV3],
+    content: &[MetadataV3],
+    data_type: VlenIndexDataType,
+    location: Option<VlenIndexLocation>,
 ) -> Result<Configuration, PluginCreateError>
-    ensures answer { Writes result
-        (write_vlen (vlen_parts index_codecs.now data_codecs.now index_data_type index_location)) }
+    ensures answer { Writes result (write_vlen (vlen_parts index.now content.now data_type location)) }
 {
-    let index = tree_of_codecs(alloc, index_codecs)?;
-    let elements = tree_of_codecs(alloc, data_codecs)?;
+    let index_codecs = tree_of_codecs(alloc, index)?;
+    let data_codecs = tree_of_codecs(alloc, content)?;
     let mut members = Map::new(alloc);
-    if let Some(location) = index_location {
+    if let Some(location) = location {
         let name = Value::try_from_str(alloc, name_of_location(location))?;
         serde_json::put(&mut members, alloc, "index_location", name)?;
     }
-    let name = Value::try_from_str(alloc, name_of_data_type(index_data_type))?;
+    let name = Value::try_from_str(alloc, name_of_data_type(data_type))?;
     serde_json::put(&mut members, alloc, "index_data_type", name)?;
-    serde_json::put(&mut members, alloc, "index_codecs", index)?;
-    serde_json::put(&mut members, alloc, "data_codecs", elements)?;
+    serde_json::put(&mut members, alloc, "index_codecs", index_codecs)?;
+    serde_json::put(&mut members, alloc, "data_codecs", data_codecs)?;
     Ok(members)
 }
 

@@ -11,6 +11,6 @@ write_runs-requires c = record {
 
 pub returns : goal.returns
 returns c = record {
-  written = c.write_runs.ensures.written ∙ with_runs-update c.args.size c.args.count c.args.bytes.now c.args.runs.now c.args.new.now c.requires.whole c.requires.inside (omega (arith, c.requires.enough));
+  written = c.write_runs.ensures.written ∙ with_runs-update c.args.size c.args.count c.args.out.now c.args.runs.now c.args.new.now c.requires.whole c.requires.inside (omega (arith, c.requires.enough));
   len = c.write_runs.ensures.len;
 }

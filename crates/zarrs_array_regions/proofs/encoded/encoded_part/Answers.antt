@@ -9,27 +9,27 @@ use Rattle.zarrs_array_to_array.proofs.MappedChunks.{holds_elements}
 use Rattle.zarrs_array_regions.proofs.encoded.encoded_part.Goals as goal
 
 pub returns-in_err-count-in-Transpose : goal.returns-in_err-count-in-Transpose
-returns-in_err-count-in-Transpose c = absurd (no_count (product c.args.region.now.lengths) c.in_err-count-in-Transpose.field-0.0 c.requires.counted (c.in_err-count-in-Transpose.ensures {u = tt}).product)
+returns-in_err-count-in-Transpose c = absurd (no_count (product c.args.part.now.lengths) c.in_err-count-in-Transpose.field-0.0 c.requires.counted (c.in_err-count-in-Transpose.ensures {u = tt}).product)
 
 pub transposed-requires-clause-axes : goal.transposed-requires-clause-axes
-transposed-requires-clause-axes c = ap length c.order.ensures.value ∙ axes_fit _ _ c.args.region.now (ap mapping_of c.in-Transpose.is) c.requires.axes ∙ sym (ap length c.shape.ensures.value)
+transposed-requires-clause-axes c = ap length c.order.ensures.value ∙ axes_fit _ _ c.args.part.now (ap mapping_of c.in-Transpose.is) c.requires.axes ∙ sym (ap length c.shape.ensures.value)
 
 pub transposed-requires-clause-positive : goal.transposed-requires-clause-positive
-transposed-requires-clause-positive c = subst (λ sizes. All (λ size. 0 < size) sizes) (sym c.shape.ensures.value) (factors_positive c.args.region.now.lengths c.requires.filled)
+transposed-requires-clause-positive c = subst (λ sizes. All (λ size. 0 < size) sizes) (sym c.shape.ensures.value) (factors_positive c.args.part.now.lengths c.requires.filled)
 
 pub transposed-requires-clause-count : goal.transposed-requires-clause-count
-transposed-requires-clause-count c = ap product c.shape.ensures.value ∙ sym (count_is (product c.args.region.now.lengths) c.in_ok-count-in-Transpose.count c.requires.counted (c.in_ok-count-in-Transpose.ensures {u = tt}).product)
+transposed-requires-clause-count c = ap product c.shape.ensures.value ∙ sym (count_is (product c.args.part.now.lengths) c.in_ok-count-in-Transpose.count c.requires.counted (c.in_ok-count-in-Transpose.ensures {u = tt}).product)
 
 pub transposed-requires-clause-valid : goal.transposed-requires-clause-valid
-transposed-requires-clause-valid c = subst (λ count. validity c.args.data_type.now count c.args.held ≡ Ok tt) (sym (count_is (product c.args.region.now.lengths) c.in_ok-count-in-Transpose.count c.requires.counted (c.in_ok-count-in-Transpose.ensures {u = tt}).product)) c.requires.valid
+transposed-requires-clause-valid c = subst (λ count. validity c.args.data_type.now count c.args.held ≡ Ok tt) (sym (count_is (product c.args.part.now.lengths) c.in_ok-count-in-Transpose.count c.requires.counted (c.in_ok-count-in-Transpose.ensures {u = tt}).product)) c.requires.valid
 
 pub returns-in-Transpose : goal.returns-in-Transpose
 returns-in-Transpose c =
-    let count = count_is (product c.args.region.now.lengths) c.in_ok-count-in-Transpose.count c.requires.counted (c.in_ok-count-in-Transpose.ensures {u = tt}).product in
-    rw c.in-Transpose.is (record { encoded = transposed_part _ c.args.data_type.now c.args.region.now c.args.held c.shape.result.now c.order.result.now c.in_ok-count-in-Transpose.count c.transposed.result c.order.ensures.value c.shape.ensures.value count c.transposed.ensures.exact })
+    let count = count_is (product c.args.part.now.lengths) c.in_ok-count-in-Transpose.count c.requires.counted (c.in_ok-count-in-Transpose.ensures {u = tt}).product in
+    rw c.in-Transpose.is (record { encoded = transposed_part _ c.args.data_type.now c.args.part.now c.args.held c.shape.result.now c.order.result.now c.in_ok-count-in-Transpose.count c.transposed.result c.order.ensures.value c.shape.ensures.value count c.transposed.ensures.exact })
 
 pub returns-in-Reshape : goal.returns-in-Reshape
-returns-in-Reshape c = rw c.in-Reshape.is (record { encoded = record { is = holds_elements c.args.data_type.now (product c.args.region.now.lengths) c.args.held c.requires.valid; no_fault = search rules } })
+returns-in-Reshape c = rw c.in-Reshape.is (record { encoded = record { is = holds_elements c.args.data_type.now (product c.args.part.now.lengths) c.args.held c.requires.valid; no_fault = search rules } })
 
 pub returns : goal.returns
-returns c = rw c.in-Squeeze.is (record { encoded = record { is = holds_elements c.args.data_type.now (product c.args.region.now.lengths) c.args.held c.requires.valid; no_fault = search rules } })
+returns c = rw c.in-Squeeze.is (record { encoded = record { is = holds_elements c.args.data_type.now (product c.args.part.now.lengths) c.args.held c.requires.valid; no_fault = search rules } })

@@ -1,4 +1,3 @@
-use Rattle.std.specs.Option.{option_map}
 use Rattle.std.proofs.Common.{◌≡◌}
 use Rattle.std.proofs.lemmas.Result.{err_from_is_err_and}
 use Rattle.zarrs_chunk.specs.Answer.{memory}
@@ -6,13 +5,14 @@ use Rattle.zarrs_chunk.specs.Indexer.{selection_of}
 use Rattle.zarrs_codec.specs.MemoryHandle.{handle_value}
 use Rattle.zarrs_chain_header.specs.HeaderRead.{header_seen}
 use Rattle.zarrs_calls.specs.Buffers.{buffers}
+use Rattle.zarrs_calls.specs.Reads.{stored_bytes}
 use Rattle.zarrs_calls.proofs.WrittenLemmas.{written_due, write_refused}
 use Rattle.zarrs_calls.proofs.part_writes.write.Goals as goal
 
 pub returns : goal.returns
 returns c =
     let edit = c.args.edit.now in
-    let stored = option_map (λ value. value.now) c.args.stored in
+    let stored = stored_bytes c.args.stored in
     let before = handle_value c.in_ok-handle.handle in
     let same : before ≡ stored = cc (c.in_ok-handle.ensures.answer) in
     record {
@@ -23,7 +23,7 @@ returns c =
 pub returns-in_err-write_part : goal.returns-in_err-write_part
 returns-in_err-write_part c =
     let edit = c.args.edit.now in
-    let stored = option_map (λ value. value.now) c.args.stored in
+    let stored = stored_bytes c.args.stored in
     let before = handle_value c.in_ok-handle.handle in
     let same : before ≡ stored = cc (c.in_ok-handle.ensures.answer) in
     let p = err_from_is_err_and c.from_residual-in_err-write_part.result c.from_residual-in_err-write_part.ensures.1 in

@@ -6,28 +6,29 @@ use Rattle.zarrs_calls.proofs.FetchedDue.{pieces_told, pieces_refused}
 use Rattle.zarrs_calls.proofs.TellLemmas.{elements_told, elements_refused}
 use Rattle.zarrs_calls.proofs.read_pieces.zarrs_read_pieces.Goals as goal
 
-pub returns-in-Ok-clause-told : goal.returns-in-Ok-clause-told
-returns-in-Ok-clause-told c =
+pub returns-in-Ok : goal.returns-in-Ok
+returns-in-Ok c =
     let due = pieces_read c.args.text.now c.args.len c.args.ranges.now c.args.fetched.now c.args.tuples c.args.numbers.now in
     let old = buffers c.args.masks.now c.args.offsets.now c.args.bytes.now in
     let new = buffers c.tell.new.masks c.tell.new.offsets c.tell.new.bytes in
-    pieces_told c.in-Ok.elements due c.tell.result old new c.args.needed.now c.tell.new.needed c.in-Ok.ensures.answer c.tell.ensures.told
+    record {
+      told = record {
+        told = pieces_told c.in-Ok.elements due c.tell.result old new c.args.needed.now c.tell.new.needed c.in-Ok.ensures.answer c.tell.ensures.told;
+        alike = λ value has.
+            let read = part_read c.args.text.now (Some value) c.args.tuples c.args.numbers.now in
+            elements_told c.in-Ok.elements read c.tell.result old new c.args.needed.now c.tell.new.needed (c.in-Ok.ensures.alike value has) c.tell.ensures.told;
+      };
+    }
 
-pub returns-in-Ok-clause-alike : goal.returns-in-Ok-clause-alike
-returns-in-Ok-clause-alike c = λ value has.
-    let due = part_read c.args.text.now (Some value) c.args.tuples c.args.numbers.now in
-    let old = buffers c.args.masks.now c.args.offsets.now c.args.bytes.now in
-    let new = buffers c.tell.new.masks c.tell.new.offsets c.tell.new.bytes in
-    elements_told c.in-Ok.elements due c.tell.result old new c.args.needed.now c.tell.new.needed (c.in-Ok.ensures.alike value has) c.tell.ensures.told
-
-pub returns-in-Err-clause-told : goal.returns-in-Err-clause-told
-returns-in-Err-clause-told c =
+pub returns-in-Err : goal.returns-in-Err
+returns-in-Err c =
     let due = pieces_read c.args.text.now c.args.len c.args.ranges.now c.args.fetched.now c.args.tuples c.args.numbers.now in
     let old = buffers c.args.masks.now c.args.offsets.now c.args.bytes.now in
-    pieces_refused c.in-Err.cause due c.cause_code.result old c.args.needed.now c.in-Err.ensures.answer c.cause_code.ensures.value
-
-pub returns-in-Err-clause-alike : goal.returns-in-Err-clause-alike
-returns-in-Err-clause-alike c = λ value has.
-    let due = part_read c.args.text.now (Some value) c.args.tuples c.args.numbers.now in
-    let old = buffers c.args.masks.now c.args.offsets.now c.args.bytes.now in
-    elements_refused c.in-Err.cause due c.cause_code.result old c.args.needed.now (c.in-Err.ensures.alike value has) c.cause_code.ensures.value
+    record {
+      told = record {
+        told = pieces_refused c.in-Err.cause due c.cause_code.result old c.args.needed.now c.in-Err.ensures.answer c.cause_code.ensures.value;
+        alike = λ value has.
+            let read = part_read c.args.text.now (Some value) c.args.tuples c.args.numbers.now in
+            elements_refused c.in-Err.cause read c.cause_code.result old c.args.needed.now (c.in-Err.ensures.alike value has) c.cause_code.ensures.value;
+      };
+    }

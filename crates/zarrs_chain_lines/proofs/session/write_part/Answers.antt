@@ -8,11 +8,11 @@ use Rattle.zarrs_chain_lines.proofs.session.write_part.Goals as goal
 
 pub returns-in-Err-clause-answer : goal.returns-in-Err-clause-answer
 returns-in-Err-clause-answer c =
-    part_unwritten (record { chain = plain_chain c.args.chain.now; sizes = c.args.shape.now; type = c.args.data_type.now; fill = c.args.fill_value.now }) (handle_value c.args.handle.now) (edit_seen c.args.edit.now) c.in-Err.refused.error c.in-Err.ensures.answer.is
+    part_unwritten (record { chain = plain_chain c.args.header.now.chain; sizes = c.args.header.now.shape; type = c.args.header.now.data_type; fill = c.args.header.now.fill_value }) (handle_value c.args.handle.now) (edit_seen c.args.edit.now) c.in-Err.refused.error c.in-Err.ensures.answer.is
 
 pub returns-in-Ok-clause-answer : goal.returns-in-Ok-clause-answer
 returns-in-Ok-clause-answer c =
-    let chunk : Form = record { chain = plain_chain c.args.chain.now; sizes = c.args.shape.now; type = c.args.data_type.now; fill = c.args.fill_value.now } in
+    let chunk : Form = record { chain = plain_chain c.args.header.now.chain; sizes = c.args.header.now.shape; type = c.args.header.now.data_type; fill = c.args.header.now.fill_value } in
     let old = (encoder_handle c.in-Ok.encoder).now in
     let new = (encoder_handle c.partial_encode-written.new.self).now in
     part_written chunk (encoder_form c.in-Ok.encoder) (handle_value c.args.handle.now) (handle_value old) _ (handle_value new) (edit_seen c.args.edit.now) c.partial_encode-written.result c.in-Ok.ensures.form (ap (λ h. handle_value h.now) c.in-Ok.ensures.over) c.in-Ok.ensures.answer.is

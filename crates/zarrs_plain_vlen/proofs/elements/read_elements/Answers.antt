@@ -20,7 +20,7 @@ variable-requires-clause-ending g c =
 
 pub returns-clause-answer : goal.returns-clause-answer
 returns-clause-answer g c =
-    let content = span_bytes (value_or_empty (g.H.BytesPartialDecoderTraits.state c.args.handle.now).value) c.args.content in
+    let content = span_bytes (value_or_empty (g.H.BytesPartialDecoderTraits.state c.args.handle.now).value) c.args.span in
     let type = c.args.data_type.now in
     subst (λ r. AnswersBy memory_or_fault (Holds type) r (elements_read c.args.offsets.now content (joined_runs c.args.runs.now))) (sym c.variable.ensures.made)
     (elements_held type c.args.offsets.now content (joined_runs c.args.runs.now) c.in_ok-bytes.bytes.items c.in_ok-ends.ends.items c.requires.variable c.in_ok-bytes.ensures.answer c.in_ok-ends.ensures.ends c.in_ok-ends.ensures.small)

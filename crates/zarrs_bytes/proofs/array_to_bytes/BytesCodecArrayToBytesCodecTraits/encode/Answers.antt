@@ -4,4 +4,4 @@ use Rattle.zarrs_bytes.proofs.array_to_bytes.BytesCodecArrayToBytesCodecTraits.e
 
 pub returns-clause-decoded_again : goal.returns-clause-decoded_again
 returns-clause-decoded_again c =
-    found_decodes c.args.self.now (form_of c.args.shape.now c.args.data_type.now c.args.fill_value.now) c.args.elements c.encode.result c.encode.ensures.encodes.found
+    found_decodes c.args.self.now (form_of c.args.shape.now c.args.data_type.now c.args.fill.now) c.args.given c.encode.result c.encode.ensures.encodes.found

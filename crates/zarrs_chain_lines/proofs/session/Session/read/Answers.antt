@@ -12,7 +12,7 @@ pub ok_elements-requires : goal.ok_elements-requires
 ok_elements-requires c =
     let before = state_of c.args.self.now in
     let kept : state_of c.selected.new.self ≡ before = c.in_ok-elements.ensures.kept in
-    record { held = held_some before.header.data_type c.selected.new.self.data_type c.in_ok-elements.elements (part_of before.header before.value (selection_of c.in_ok-indexer.indexer)) (ap (λ (s : State). s.header.data_type) kept) c.in_ok-elements.ensures.answer }
+    record { held = held_some before.header.data_type c.selected.new.self.header.data_type c.in_ok-elements.elements (part_of before.header before.value (selection_of c.in_ok-indexer.indexer)) (ap (λ (s : State). s.header.data_type) kept) c.in_ok-elements.ensures.answer }
 
 pub returns-clause-answer : goal.returns-clause-answer
 returns-clause-answer c =
@@ -22,4 +22,4 @@ returns-clause-answer c =
     let kept : after ≡ before = c.in_ok-elements.ensures.kept in
     subst (λ (y : LineAnswer). Answers {V = List ℕ × State} wants_memory (λ line. (line.items, after)) c.ok_elements.result y)
     (sym (read_answer-selection before c.args.text.now (view c.in_ok-tree.tree) selection c.in_ok-tree.ensures.answer c.in_ok-indexer.ensures.answer))
-    (shown_elements (λ line. line.items) before.header.data_type c.selected.new.self.data_type c.in_ok-elements.elements (part_of before.header before.value selection) c.ok_elements.result before after kept (ap (λ (s : State). s.header.data_type) kept) c.in_ok-elements.ensures.answer c.ok_elements.ensures.answer)
+    (shown_elements (λ line. line.items) before.header.data_type c.selected.new.self.header.data_type c.in_ok-elements.elements (part_of before.header before.value selection) c.ok_elements.result before after kept (ap (λ (s : State). s.header.data_type) kept) c.in_ok-elements.ensures.answer c.ok_elements.ensures.answer)

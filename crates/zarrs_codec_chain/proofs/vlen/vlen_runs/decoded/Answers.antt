@@ -4,8 +4,8 @@ use Rattle.zarrs_codec_chain.proofs.vlen.vlen_runs.decoded.Goals as goal
 
 pub returns-clause-answer : goal.returns-clause-answer
 returns-clause-answer g c =
-    record { is = vlen_decoded g.B.BytesToBytesCodecTraits.functions c.args.codec.now c.args.shape.now c.args.data_type.now c.args.fill_value.now c.args.value.items c.vlen_decode.result c.vlen_decode.ensures.answer.is; no_fault = search rules }
+    record { is = vlen_decoded g.B.BytesToBytesCodecTraits.functions c.args.codec.now c.args.shape.now c.args.kind.now c.args.fill.now c.args.value.items c.vlen_decode.result c.vlen_decode.ensures.answer.is; no_fault = search rules }
 
 pub returns-clause-valid : goal.returns-clause-valid
 returns-clause-valid g c =
-    vlen_valid g.B.BytesToBytesCodecTraits.functions c.args.codec.now c.args.shape.now c.args.data_type.now c.args.fill_value.now c.args.value.items c.vlen_decode.result c.vlen_decode.ensures.answer.is
+    vlen_valid g.B.BytesToBytesCodecTraits.functions c.args.codec.now c.args.shape.now c.args.kind.now c.args.fill.now c.args.value.items c.vlen_decode.result c.vlen_decode.ensures.answer.is

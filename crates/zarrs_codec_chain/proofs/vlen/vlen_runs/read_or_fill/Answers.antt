@@ -9,4 +9,4 @@ returns-in_err-elements-clause-answer g c =
     let p = err_from_is_err_and c.from_residual.result c.from_residual.ensures.1 in
     let e = c.in_err-elements.field-0.0 in
     let stored = (g.H.BytesPartialDecoderTraits.state c.args.handle.now).value in
-    rw (p.1, p.2) (λ ne. refused_stored (plain_form c.args.codec) c.args.count c.args.data_type.now c.args.fill_value.now stored (joined_runs c.args.runs.now) e (c.in_err-elements.ensures.answer ne))
+    rw (p.1, p.2) (λ ne. refused_stored (plain_form c.args.codec) c.args.count c.args.kind.now c.args.fill.now stored (joined_runs c.args.runs.now) e (c.in_err-elements.ensures.answer ne))

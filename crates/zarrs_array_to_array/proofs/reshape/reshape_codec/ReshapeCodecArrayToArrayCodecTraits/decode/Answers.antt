@@ -5,5 +5,5 @@ use Rattle.zarrs_array_to_array.proofs.reshape.reshape_codec.ReshapeCodecArrayTo
 pub returns-clause-moved : goal.returns-clause-moved
 returns-clause-moved c =
     let dims = c.args.self.now in
-    let sizes = c.args._decoded_shape.now in
-    kept_decoded (coordinates (reshape dims) sizes) c.args._decoded_data_type.now sizes c.args.bytes (λ m e. reshape_keeps dims sizes m c.is_sound.ensures.sound e)
+    let sizes = c.args._shape.now in
+    kept_decoded (coordinates (reshape dims) sizes) c.args._data_type.now sizes c.args.bytes (λ m e. reshape_keeps dims sizes m c.is_sound.ensures.sound e)

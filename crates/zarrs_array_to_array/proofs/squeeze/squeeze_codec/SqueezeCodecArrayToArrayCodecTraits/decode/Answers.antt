@@ -4,5 +4,5 @@ use Rattle.zarrs_array_to_array.proofs.squeeze.squeeze_codec.SqueezeCodecArrayTo
 
 pub returns-clause-moved : goal.returns-clause-moved
 returns-clause-moved c =
-    let sizes = c.args._decoded_shape.now in
-    kept_decoded (coordinates squeeze sizes) c.args._decoded_data_type.now sizes c.args.bytes (λ m e. squeeze_keeps sizes m e)
+    let sizes = c.args._shape.now in
+    kept_decoded (coordinates squeeze sizes) c.args._data_type.now sizes c.args.bytes (λ m e. squeeze_keeps sizes m e)

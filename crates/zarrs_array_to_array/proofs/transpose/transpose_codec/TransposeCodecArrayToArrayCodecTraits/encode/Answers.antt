@@ -18,27 +18,27 @@ use Rattle.zarrs_array_to_array.proofs.transpose.transpose_codec.TransposeCodecA
 pub returns-clause-exact : goal.returns-clause-exact
 returns-clause-exact c =
     let checked = c.in_ok-count.ensures {u = tt} in
-    record { is = encoded_answers c.args.self.now c.args.decoded_shape.now c.as_slice.result.now c.as_slice-2.result.now c.args.decoded_data_type.now c.args.bytes c.in_ok-count.count c.transposed.result (sym checked.exact) checked.count (c.as_slice.ensures.value ∙ c.self.view_is) c.as_slice-2.ensures.value c.transposed.ensures.exact.is; no_fault = search rules }
+    record { is = encoded_answers c.args.self.now c.args.shape.now c.as_slice.result.now c.as_slice-2.result.now c.args.data_type.now c.args.bytes c.in_ok-count.count c.transposed.result (sym checked.exact) checked.count (c.as_slice.ensures.value ∙ c.self.view_is) c.as_slice-2.ensures.value c.transposed.ensures.exact.is; no_fault = search rules }
 
 pub returns-clause-by_tuple : goal.returns-clause-by_tuple
 returns-clause-by_tuple c =
     let order : is_order c.args.self.now ≡ true = rw (← (c.as_slice.ensures.value ∙ c.self.view_is)) c.as_slice.ensures.sound in
-    found_by memory (Holds c.args.decoded_data_type.now) c.transposed.result (transpose_encoded c.args.self.now c.args.decoded_data_type.now c.args.decoded_shape.now c.args.bytes) (λ v. IsTransposed c.args.self.now c.args.decoded_shape.now (elements c.args.decoded_data_type.now (product c.args.decoded_shape.now) c.args.bytes) v) (returns-clause-exact c).is
-    (λ v e. encoded_found c.args.self.now c.args.decoded_shape.now c.args.decoded_data_type.now c.args.bytes v order e)
+    found_by memory (Holds c.args.data_type.now) c.transposed.result (transpose_encoded c.args.self.now c.args.data_type.now c.args.shape.now c.args.bytes) (λ v. IsTransposed c.args.self.now c.args.shape.now (elements c.args.data_type.now (product c.args.shape.now) c.args.bytes) v) (returns-clause-exact c).is
+    (λ v e. encoded_found c.args.self.now c.args.shape.now c.args.data_type.now c.args.bytes v order e)
 
 pub returns-clause-moved : goal.returns-clause-moved
 returns-clause-moved c =
     let order = c.args.self.now in
-    let sizes = c.args.decoded_shape.now in
-    let type = c.args.decoded_data_type.now in
+    let sizes = c.args.shape.now in
+    let type = c.args.data_type.now in
     let held = c.args.bytes in
     where_expected (Holds type) c.transposed.result (encoded_chunk (type_taken (transpose order) type) (coordinates (transpose order) sizes) type sizes held)
     (subst (λ expected. AnswersBy memory (Holds type) c.transposed.result expected) (transpose_encoded-chunk order sizes type held) (returns-clause-exact c).is)
 
 pub returns-in_err-count-clause-moved : goal.returns-in_err-count-clause-moved
 returns-in_err-count-clause-moved c =
-    encoded_refused c.args.self.now c.args.decoded_shape.now c.args.decoded_data_type.now c.args.bytes c.in_err-count.field-0.0 _ (sym (c.in_err-count.ensures {u = tt}).exact)
+    encoded_refused c.args.self.now c.args.shape.now c.args.data_type.now c.args.bytes c.in_err-count.field-0.0 _ (sym (c.in_err-count.ensures {u = tt}).exact)
 
 pub returns-clause-blank : goal.returns-clause-blank
 returns-clause-blank c =
-    transposed_blank c.args.decoded_data_type.now c.args.bytes c.transposed.result (c.in_ok-count.ensures {u = tt}).never_absent
+    transposed_blank c.args.data_type.now c.args.bytes c.transposed.result (c.in_ok-count.ensures {u = tt}).never_absent

@@ -10,4 +10,4 @@ pub returns-clause-answer : goal.returns-clause-answer
 returns-clause-answer g c =
     let d = c.args.self.now in
     let stored = (g.H.BytesPartialDecoderTraits.state d.handle).value in
-    subst (λ (b : Bool). Answers fault (λ there. there) c.exists.result (Ok b)) (source_there g.B.BytesToBytesCodecTraits.functions (kept_stage d.reader.cache) (form_of d) stored (decoder_source d stored) d.kept) c.exists.ensures.answer
+    subst (λ (b : Bool). Answers fault (λ there. there) c.exists.result (Ok b)) (source_there g.B.BytesToBytesCodecTraits.functions (kept_stage d.coder.cache) (form_of d) stored (decoder_source d stored) d.kept) c.exists.ensures.answer

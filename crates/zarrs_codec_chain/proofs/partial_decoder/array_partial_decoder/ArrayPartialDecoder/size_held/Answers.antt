@@ -2,7 +2,7 @@ use Rattle.std.proofs.Common.{length, sym, subst}
 use Rattle.zarrs_chunk.specs.ChunkShape.{product}
 use Rattle.zarrs_chain_laws.specs.Chain.{codec_reads}
 use Rattle.zarrs_chain_whole.specs.ChainView.{plain_chain}
-use Rattle.zarrs_codec_chain.specs.ChunkReader.{reader_source}
+use Rattle.zarrs_codec_chain.specs.ChunkCoder.{reader_source}
 use Rattle.zarrs_codec_chain.specs.ChunkSource.{IsSizeOf}
 use Rattle.zarrs_codec_chain.proofs.CachePlaces.{answered, size_kept}
 use Rattle.zarrs_codec_chain.proofs.partial_decoder.array_partial_decoder.ArrayPartialDecoder.size_held.Goals as goal
@@ -10,9 +10,9 @@ use Rattle.zarrs_codec_chain.proofs.partial_decoder.array_partial_decoder.ArrayP
 pub returns-clause-cache : goal.returns-clause-cache
 returns-clause-cache g c e =
     let d = c.args.self.now in
-    let k = d.reader in
+    let k = d.coder in
     let chain = plain_chain k.chain.now in
     let stored = (g.H.BytesPartialDecoderTraits.state d.handle).value in
-    let size = size_kept (codec_reads chain.codec) k.data_type (product k.encoded) (length chain.outer) (g.H.BytesPartialDecoderTraits.held d.handle) stored k.cache k.fits e in
+    let size = size_kept (codec_reads chain.array_to_bytes) k.data_type (product k.encoded) (length chain.bytes_to_bytes) (g.H.BytesPartialDecoderTraits.held d.handle) stored k.cache k.fits e in
     answered _ (reader_source k stored) (λ source. IsSizeOf k.data_type source c.size_held.result) (d.wanted e)
     (subst (IsSizeOf k.data_type (reader_source k stored)) (sym c.size_held.ensures.value) size)

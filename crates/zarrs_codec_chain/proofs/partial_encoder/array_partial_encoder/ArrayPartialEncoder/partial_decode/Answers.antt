@@ -1,11 +1,11 @@
-use Rattle.zarrs_codec_chain.specs.ChunkReader.{reader_form}
+use Rattle.zarrs_codec_chain.specs.ChunkCoder.{coder_form}
 use Rattle.zarrs_codec_chain.proofs.WholeReads.{uncached_filled}
 use Rattle.zarrs_codec_chain.proofs.partial_encoder.array_partial_encoder.ArrayPartialEncoder.partial_decode.Goals as goal
 
 pub read_chunk-requires : goal.read_chunk-requires
 read_chunk-requires g c =
     let d = c.args.self.now in
-    let k = d.reader in
+    let k = d.coder in
     record {
-      cache_filled = uncached_filled g.B.BytesToBytesCodecTraits.functions (reader_form k) k.encoded k.representation k.cache (g.H.BytesPartialDecoderTraits.state d.handle).value k.taken d.uncached;
+      cache_filled = uncached_filled g.B.BytesToBytesCodecTraits.functions (coder_form k) k.encoded k.representation k.cache (g.H.BytesPartialDecoderTraits.state d.handle).value k.taken d.uncached;
     }

@@ -1,5 +1,5 @@
 use Rattle.zarrs_chunk.specs.Indexer.{selection_of}
-use Rattle.zarrs_codec_chain.specs.ChunkReader.{reader_form}
+use Rattle.zarrs_codec_chain.specs.ChunkCoder.{coder_form}
 use Rattle.zarrs_codec_chain.proofs.PartialReads.{is_readable}
 use Rattle.zarrs_codec_chain.proofs.PlaceWrites.{edit_found, edit_only}
 use Rattle.zarrs_codec_chain.proofs.partial_encoder.array_partial_encoder.ArrayPartialEncoder.partial_encode.Goals as goal
@@ -8,8 +8,8 @@ pub returns-clause-edits : goal.returns-clause-edits
 returns-clause-edits g c =
     let f = g.B.BytesToBytesCodecTraits.functions in
     let d = c.args.self.now in
-    let k = d.reader in
-    let form = reader_form k in
+    let k = d.coder in
+    let form = coder_form k in
     let selection = selection_of c.args.indexer.now in
     let mappings = c.is_sound.ensures.mappings in
     let positive = c.is_sound.ensures.positive in

@@ -1,0 +1,2 @@
+-- The codec `optional`: elements that may be absent.
+pub mod OptionalCalls

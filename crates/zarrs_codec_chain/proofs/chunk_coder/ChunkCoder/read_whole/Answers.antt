@@ -1,0 +1,11 @@
+use Rattle.zarrs_chunk.specs.Runs.{joined_runs}
+use Rattle.zarrs_chain_whole.specs.ChainView.{plain_chain}
+use Rattle.zarrs_codec_chain.proofs.PartialCalls.{same_stored}
+use Rattle.zarrs_codec_chain.proofs.WholeReads.{whole_answer}
+use Rattle.zarrs_codec_chain.proofs.chunk_coder.ChunkCoder.read_whole.Goals as goal
+
+pub returns-in-Some-clause-answer : goal.returns-in-Some-clause-answer
+returns-in-Some-clause-answer g c =
+    let k = c.args.self.now in
+    let stored = same_stored _ _ (rw c.in-Some.is at c.in_ok-decode.ensures.answer) in
+    whole_answer g.B.BytesToBytesCodecTraits.functions (plain_chain k.chain.now) k.encoded k.data_type k.fill_value k.representation (g.H.BytesPartialDecoderTraits.state c.args.handle.now).value c.in-Some.value.items (joined_runs c.args.runs.now) c.runs_of_value.result c.requires.whole stored c.runs_of_value.ensures.answer.is

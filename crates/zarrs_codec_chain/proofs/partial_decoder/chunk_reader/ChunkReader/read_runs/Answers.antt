@@ -1,8 +1,0 @@
-use Rattle.std.proofs.Common.{subst}
-use Rattle.zarrs_codec_chain.specs.CacheBlank.{CacheIsBlank}
-use Rattle.zarrs_codec_chain.proofs.partial_decoder.chunk_reader.ChunkReader.read_runs.Goals as goal
-
-pub returns-in-Chunk-clause-blank : goal.returns-in-Chunk-clause-blank
-returns-in-Chunk-clause-blank g c =
-    let k = c.args.self.now in
-    c.read_kept.ensures.blank (subst (CacheIsBlank k.data_type) c.in-Chunk.is k.blank)

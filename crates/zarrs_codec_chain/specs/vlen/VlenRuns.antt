@@ -1,0 +1,80 @@
+-- Reading runs of places through a `vlen` codec: what the calls for that ask and give.
+use Rattle.std.specs.Prelude.{◌≡◌, ℕ, Option, option_map, List, Vec, Result, true, false}
+use Rattle.std.proofs.Common.{Global}
+use Rattle.zarrs_chunk.specs.Answer.{AnswersBy, Gives, GivesBy, GivesValue, is_fault, memory_or_fault, seen}
+use Rattle.zarrs_chunk.specs.ChunkShape.{product}
+use Rattle.zarrs_chunk.specs.Runs.{joined_runs}
+use Rattle.zarrs_chunk.specs.declared.codec_error.CodecError.{CodecError}
+use Rattle.zarrs_data_type.specs.ElementType.{ElementType}
+use Rattle.zarrs_data_type.specs.Form.{form_of}
+use Rattle.zarrs_array_bytes.specs.Elements.{elements}
+use Rattle.zarrs_array_bytes.specs.Held.{Held}
+use Rattle.zarrs_array_bytes.specs.Validity.{Holds}
+use Rattle.zarrs_codec.specs.BytesToBytesCodec.{BytesCodecs}
+use Rattle.zarrs_codec.specs.StorageState.{StorageState, are_sure}
+use Rattle.zarrs_chain_laws.specs.CallAnswers.{codec_represented}
+use Rattle.zarrs_chain_laws.specs.Chain.{codec_reads}
+use Rattle.zarrs_chain_laws.specs.Decode.{codec_chunk}
+use Rattle.zarrs_chain_laws.specs.vlen.PlainVlen.{plain_form}
+use Rattle.zarrs_chain_laws.specs.declared.vlen.plain_vlen.PlainVlen.{PlainVlen}
+use Rattle.zarrs_chain_whole.specs.ChainView.{plain_vlen}
+use Rattle.zarrs_chain_whole.specs.declared.vlen.vlen_codec.VlenCodec.{VlenCodec}
+use Rattle.zarrs_plain_vlen.specs.PlainRead.{plain_read}
+use Rattle.zarrs_plain_vlen.specs.VlenRead.{stored_rests_on}
+use Rattle.zarrs_codec_chain.specs.ChunkRead.{ReadsRuns, SureRuns, TakenBy, whole_read}
+
+-- ---- which chunks the codec takes
+
+-- those of these sizes, this type and this fill value
+abbrev pub VlenTakes : {B : Type 0} → BytesCodecs B → VlenCodec B → List ℕ → ElementType → List ℕ → Type 0
+VlenTakes f codec sizes type fill = TakenBy f (plain_vlen codec) (form_of sizes type fill)
+
+-- these three are given where it takes such chunks, or why it doesn't
+abbrev pub GivesForm : {B : Type 0} → BytesCodecs B → VlenCodec B → List ℕ → ElementType → List ℕ → Result (List ℕ × ElementType × List ℕ) CodecError → Type 0
+GivesForm f codec sizes type fill result =
+    GivesValue result (seen (λ _. (sizes, type, fill)) (codec_represented f (plain_vlen codec) (form_of sizes type fill)))
+
+-- ---- by the whole value
+
+-- the elements of the chunk that a value stands for, or the first refusal
+abbrev pub GivesVlen : {B : Type 0} → BytesCodecs B → VlenCodec B → Vec ℕ Global → List ℕ → ElementType → List ℕ → Result Held CodecError → Type 0
+GivesVlen f codec value sizes type fill result =
+    Gives (elements type (product sizes)) result (codec_chunk f (plain_vlen codec) sizes type fill value.items)
+
+-- a container of those at the places of these runs; of fill elements, where there is no value
+abbrev pub Picks : {B : Type 0} → BytesCodecs B → VlenCodec B → Option (Vec ℕ Global) → List ℕ → ElementType → List ℕ → List (ℕ × ℕ) → Result Held CodecError → Type 0
+Picks f codec value sizes type fill runs result =
+    GivesBy (Holds type) result (whole_read (codec_chunk f (plain_vlen codec)) sizes type fill (option_map (λ items. items.items) value) (joined_runs runs))
+
+-- the same of what a handle keeps, which may fail (`state` says what a handle keeps)
+abbrev pub ReadsWhole : {H B : Type 0} → (H → StorageState) → BytesCodecs B → VlenCodec B → H → List ℕ → ElementType → List ℕ → List (ℕ × ℕ) → Result Held CodecError → Type 0
+ReadsWhole state f codec before sizes type fill runs result =
+    AnswersBy memory_or_fault (Holds type) result (whole_read (codec_chunk f (plain_vlen codec)) sizes type fill (state before).value (joined_runs runs))
+
+-- ---- of a plain `vlen`, by the offsets and the elements' bytes
+
+-- the elements at the places of these runs of a chunk of so many elements, of what a handle keeps; fill elements, where nothing is stored
+abbrev pub ReadsPlain : {H : Type 0} → (H → StorageState) → PlainVlen → H → ℕ → ElementType → List ℕ → List (ℕ × ℕ) → Result Held CodecError → Type 0
+ReadsPlain state codec before count type fill runs result =
+    AnswersBy memory_or_fault (Holds type) result (plain_read (plain_form codec) count type fill (state before).value (joined_runs runs))
+
+-- the same of a chunk of these sizes
+abbrev pub Fetches : {H : Type 0} → (H → StorageState) → PlainVlen → H → List ℕ → ElementType → List ℕ → List (ℕ × ℕ) → Result Held CodecError → Type 0
+Fetches state codec before sizes type fill runs result = ReadsPlain state codec before (product sizes) type fill runs result
+
+-- no failure of the handle comes where the bytes are sure that such a read rests on
+abbrev pub SurePlain : {H T : Type 0} → (H → StorageState) → PlainVlen → H → ℕ → List (ℕ × ℕ) → Result T CodecError → Type 0
+SurePlain state codec before count runs result =
+    are_sure (state before).sure (stored_rests_on (plain_form codec) count (state before).value (joined_runs runs)) ≡ true → is_fault result ≡ false
+
+-- ---- either way
+
+-- a container of the elements at the places of these runs, of what a handle keeps, or the first refusal
+abbrev pub ReadsVlenRuns : {H B : Type 0} → (H → StorageState) → BytesCodecs B → VlenCodec B → H → List ℕ → ElementType → List ℕ → List (ℕ × ℕ) → Result Held CodecError → Type 0
+ReadsVlenRuns state f codec before sizes type fill runs result =
+    ReadsRuns f (plain_vlen codec) (form_of sizes type fill) (state before) runs result
+
+-- no failure of the handle comes where the codec reads in part and the bytes are sure that the read rests on
+abbrev pub IsSure : {H B T : Type 0} → (H → StorageState) → VlenCodec B → H → List ℕ → ElementType → List ℕ → List (ℕ × ℕ) → Result T CodecError → Type 0
+IsSure state codec before sizes type fill runs result =
+    (codec_reads (plain_vlen codec)).partial_decode ≡ true → SureRuns (plain_vlen codec) (form_of sizes type fill) (state before) runs result
