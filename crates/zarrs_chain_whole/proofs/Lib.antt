@@ -13,3 +13,5 @@ pub mod WrittenAt
 pub mod ReencodeSteps
 pub mod ReencodeLaws
 pub mod PlainForms
+pub mod TurnedLast
+pub mod BytesBehind

@@ -173,7 +173,8 @@ impl<B: BytesToBytesCodecTraits> CodecChain<B> {
     ///
     /// A chain inside is asked as this one is, `encoded_representation` first, and not at all about
     /// a row of no elements. Each codec gets what the one behind it made, owned bytes as owned
-    /// ones. Absent elements stand over blank ones, at every depth, whatever the value has there.
+    /// ones; elements of `bytes` are moved as they are stored, and their bytes turned round last.
+    /// Absent elements stand over blank ones, at every depth, whatever the value has there.
     pub fn decode<'a>(
         &self,
         alloc: Global,

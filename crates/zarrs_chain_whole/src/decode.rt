@@ -4,7 +4,8 @@ ghost use Rattle.std.specs.Prelude.{◌≡◌, IfOk, true};
 ghost use Rattle.zarrs_data_type.specs.FillValue.{fill_fits};
 ghost use Rattle.zarrs_chain_whole.specs.ChainCalls.{Reads, ReadsRow};
 
-use crate::array_to_bytes_codec::codec_decode;
+use crate::array_to_bytes_codec::{ArrayToBytesCodec, codec_decode};
+use crate::bytes_decode::bytes_decode;
 use crate::codec_chain::CodecChain;
 use crate::encode::row_of;
 use crate::representation::taken_form;
@@ -32,6 +33,10 @@ pub(crate) fn chain_decode<'a, B: BytesToBytesCodecTraits>(
 {
     let taken = taken_form(alloc, chain, shape, kind, fill)?;
     let below = decode_bytes(alloc, &chain.bytes_to_bytes, &taken.representation, value)?;
+    let codecs = chain.array_to_array.as_slice();
+    if let ArrayToBytesCodec::Bytes(codec) = &chain.array_to_bytes {
+        return bytes_decode(alloc, codec, codecs, below, shape, kind, fill);
+    }
     let chunk = codec_decode(
         alloc,
         &chain.array_to_bytes,
@@ -40,7 +45,7 @@ pub(crate) fn chain_decode<'a, B: BytesToBytesCodecTraits>(
         kind,
         fill,
     )?;
-    decode_arrays(alloc, &chain.array_to_array, chunk, shape, kind, fill)
+    decode_arrays(alloc, codecs, chunk, shape, kind, fill)
 }
 
 /// The row of so many elements that a part stands for through the chain; of none, whatever the part

@@ -8,6 +8,7 @@
 
 mod array_to_bytes;
 mod array_to_bytes_codec;
+mod bytes_decode;
 mod codec_chain;
 mod decode;
 mod encode;

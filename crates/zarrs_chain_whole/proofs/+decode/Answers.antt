@@ -5,13 +5,17 @@ use Rattle.zarrs_array_bytes.specs.Present.{present_count}
 use Rattle.zarrs_array_bytes.specs.Validity.{Holds, sizes_fit}
 use Rattle.zarrs_array_to_array.specs.Mapping.{mapping_of}
 use Rattle.zarrs_array_to_array.specs.declared.array_to_array_codec.ArrayToArrayCodec.{ArrayToArrayCodec}
-use Rattle.zarrs_chunk.specs.Answer.{AnswersBy, memory, checked_u64}
+use Rattle.zarrs_data_type.specs.Form.{form_of}
+use Rattle.zarrs_chunk.specs.Answer.{AnswersBy, GivesBy, memory, seen, checked_u64}
 use Rattle.zarrs_chunk.specs.declared.codec_error.CodecError.{CodecError}
+use Rattle.zarrs_codec.specs.CoordinateMap.{moved_chunk, inverse_map}
 use Rattle.zarrs_codec.specs.MappedChunk.{decoded_chunk}
+use Rattle.zarrs_bytes.specs.BytesCodec.{bytes_chunk}
 use Rattle.zarrs_bytes.proofs.Coding.{ok}
 use Rattle.zarrs_chain_laws.proofs.ChainSteps.{chunk_back}
 use Rattle.zarrs_chain_laws.proofs.OptionalSteps.{mask_refused, part_refused, part_expanded}
 use Rattle.zarrs_chain_laws.proofs.PartSteps.{chunk_of_none}
+use Rattle.zarrs_chain_whole.proofs.BytesBehind.{takes_behind, reads_behind}
 use Rattle.zarrs_chain_whole.proofs.VlenDecode.{content_answered, content_counted, offsets_answered, vlen_answered, index_refused_by, content_refused_by}
 use Rattle.zarrs_chain_laws.specs.ArrayStages.{arrays_map}
 use Rattle.zarrs_chain_laws.specs.BytesStages.{outer_bytes}
@@ -42,12 +46,35 @@ decode::chain_decode-returns g t c =
             let fill = c.args.fill.now in
             let taken = c.in_ok-taken.taken in
             let opened = subst (λ bs. outer_bytes f bs taken.representation (raw_of c.args.value).items ≡ Ok (raw_of c.in_ok-below.below).items) c.deref.ensures.value c.in_ok-below.ensures.answer.is in
-            let found = subst (λ (cs : List ArrayToArrayCodec). IfOk (decoded_chunk (Ok tt) (arrays_map type (map mapping_of cs) sizes) type sizes c.in_ok-chunk.chunk) (λ chunk. AnswersBy memory (Holds type) c.decode_arrays.result (Ok chunk))) c.deref-2.ensures.value c.decode_arrays.ensures.moved in
+            let found = subst (λ (cs : List ArrayToArrayCodec). IfOk (decoded_chunk (Ok tt) (arrays_map type (map mapping_of cs) sizes) type sizes c.in_ok-chunk.chunk) (λ chunk. AnswersBy memory (Holds type) c.decode_arrays.result (Ok chunk))) c.as_slice-codecs.ensures.value c.decode_arrays.ensures.moved in
             chunk_back f chain.array_to_array chain.array_to_bytes chain.bytes_to_bytes sizes type fill (taken.shape, taken.representation) (raw_of c.args.value).items (raw_of c.in_ok-below.below).items c.in_ok-chunk.chunk c.decode_arrays.result c.in_ok-taken.ensures.map c.in_ok-taken.ensures.answer.is opened c.in_ok-chunk.ensures.answer.is found;
         no_fault = search rules;
       };
       blank = c.decode_arrays.ensures.blank c.in_ok-chunk.ensures.blank;
     }
+
+pub decode::chain_decode-bytes_decode-requires : goal.decode::chain_decode-bytes_decode-requires
+decode::chain_decode-bytes_decode-requires g t c =
+    let f = g.B.BytesToBytesCodecTraits.functions in
+    let chain = plain_chain c.args.chain.now in
+    let taken = c.in_ok-taken.taken in
+    record {
+      taken = takes_behind f chain.array_to_array c.args.chain.now.array_to_bytes c.in-Bytes.codec chain.bytes_to_bytes c.args.shape.now c.args.kind.now c.args.fill.now (taken.shape, taken.representation) c.in-Bytes.is c.in_ok-taken.ensures.map c.in_ok-taken.ensures.answer.is;
+    }
+
+pub decode::chain_decode-returns-in-Bytes-clause-exact : goal.decode::chain_decode-returns-in-Bytes-clause-exact
+decode::chain_decode-returns-in-Bytes-clause-exact g t c =
+    let f = g.B.BytesToBytesCodecTraits.functions in
+    let chain = plain_chain c.args.chain.now in
+    let sizes = c.args.shape.now in
+    let type = c.args.kind.now in
+    let fill = c.args.fill.now in
+    let taken = c.in_ok-taken.taken in
+    let order = c.in-Bytes.codec in
+    let below = (raw_of c.in_ok-below.below).items in
+    let opened = subst (λ bs. outer_bytes f bs taken.representation (raw_of c.args.value).items ≡ Ok below) c.deref.ensures.value c.in_ok-below.ensures.answer.is in
+    let found = subst (λ (cs : List ArrayToArrayCodec). IfOk (arrays_map type (map mapping_of cs) sizes) (λ m. GivesBy (Holds type) c.bytes_decode.result (seen (moved_chunk (inverse_map sizes m)) (bytes_chunk order (form_of sizes type fill) below)))) c.as_slice-codecs.ensures.value c.bytes_decode.ensures.answer in
+    reads_behind f chain.array_to_array c.args.chain.now.array_to_bytes order chain.bytes_to_bytes sizes type fill (taken.shape, taken.representation) (raw_of c.args.value).items below c.bytes_decode.result c.in-Bytes.is c.in_ok-taken.ensures.map c.in_ok-taken.ensures.answer.is opened found
 
 pub decode::part_decode-returns : goal.decode::part_decode-returns
 decode::part_decode-returns g t c =
