@@ -1,4 +1,4 @@
--- What stands under absent elements is blank in containers that are made, and stays so.
+-- What is under absent elements is blank in containers that are made, and stays so.
 use Rattle.std.proofs.Common.{◌≡◌, ◌≢◌, ℕ, zero, suc, ◌+◌, ◌-◌, ◌*◌, ◌<◌, ◌≤◌, Bool, true, false, if◌then◌else◌, nat_lt, List, [], ◌∷◌, length, map, set, take, replicate, get_or, slice_index, Result, Ok, Err, IfOk, None, refl, sym, ap, ◌∙◌, subst, arith, eqb-true, ltb-true}
 use Rattle.std.specs.Prelude.{is_some}
 use Rattle.std.specs.List.{All, list_all, between, range_with_len}
@@ -86,7 +86,7 @@ fill_blank text n bs = tt
 fill_blank bytes n bs = tt
 fill_blank (optional t) n bs = either_blank t n (is_null bs) (container_fill t n (front_of bs)) (fill_blank t n (front_of bs))
 
--- ---- what is taken out
+-- ---- what is extracted
 
 module _ (refusal : LengthRefusal) where
   pub selection_blank : (t : ElementType) (n : ℕ) (h : Held) (ps : List ℕ) → levels_fit refusal t n h ≡ Ok tt → All (λ p. p < n) ps → AbsentAreBlank t h → AbsentAreBlank t (container_selection t h ps)

@@ -1,4 +1,4 @@
--- How many bytes a container has whose elements all take as many.
+-- How many bytes a container has whose elements all have as many.
 use Rattle.std.proofs.Common.{◌≡◌, ℕ, ◌+◌, ◌*◌, length, Option, Some, None, Ok, arith, refl}
 use Rattle.std.specs.Option.{option_map}
 use Rattle.zarrs_chunk.specs.declared.codec_error.CodecError.TheVariants.{InvalidBytesLength}

@@ -1,4 +1,4 @@
--- The elements of bytes that stand one behind another.
+-- The elements of bytes one behind another.
 use Rattle.std.proofs.Common.{◌≡◌, ℕ, zero, suc, ◌+◌, ◌-◌, ◌*◌, ◌<◌, ◌≤◌, List, [], ◌∷◌, ◌++◌, length, map, take, drop, get_or, refl, ap, arith, zero-mul, take_at, drop_at, drop-drop, append_assoc, length-append, length-take, length-drop}
 use Rattle.std.specs.List.{flat_map, between}
 use Rattle.zarrs_array_bytes.specs.Elements.{piece}

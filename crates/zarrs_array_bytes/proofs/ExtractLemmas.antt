@@ -1,4 +1,4 @@
--- What is taken out holds the elements at those places.
+-- What is extracted holds the elements at those places.
 use Rattle.std.proofs.Common.{◌≡◌, ℕ, ◌*◌, ◌<◌, List, [], length, map, slice_index, get_or, Ok, refl, sym, ap, ◌∙◌, arith, add-one}
 use Rattle.std.specs.List.{All, flat_map, range_with_len}
 use Rattle.std.proofs.lemmas.List.{get_or-map, length-map}
@@ -67,7 +67,7 @@ module _ (refusal : LengthRefusal) where
   extracted_fits (optional t) n (flen r) ps fit inside = cc
   extracted_fits (optional t) n (vlen r os) ps fit inside = cc
 
--- what is taken out holds the selection
+-- what is extracted holds the selection
 pub extracted_holds : (t : ElementType) (n : ℕ) (h : Held) (ps : List ℕ) → levels_fit InvalidBytesLength t n h ≡ Ok tt → All (λ p. p < n) ps → sizes_fit t (length ps) ≡ Ok tt
     → Holds t (container_selection t h ps) (select (elements t n h) ps)
 extracted_holds t n h ps fit inside sizes =

@@ -1,12 +1,12 @@
 -- The steps of a fill.
-use Rattle.std.proofs.Common.{◌≡◌, ℕ, zero, suc, ◌+◌, ◌-◌, ◌*◌, ◌/◌, ◌%◌, ◌∙◌, sym, ◌<◌, ◌≤◌, get_or, List, [], ◌∷◌, ◌++◌, length, map, replicate, nat_lt, true, refl, ap, ap₂, arith, add-one, lt-ltb}
+use Rattle.std.proofs.Common.{◌≡◌, ℕ, zero, suc, ◌+◌, ◌-◌, ◌*◌, ◌/◌, ◌%◌, ◌∙◌, sym, ◌<◌, ◌≤◌, get_or, slice_index, List, [], ◌∷◌, ◌++◌, length, map, replicate, nat_lt, true, refl, ap, ap₂, arith, add-one, lt-ltb}
 use Rattle.std.specs.List.{list_all, range_with_len}
 use Rattle.std.proofs.lemmas.Nat.{div-add-mod'}
 use Rattle.std.proofs.lemmas.List.{append_assoc, length-append, get_or-replicate, length-replicate}
 use Rattle.zarrs_array_bytes.specs.Offsets.{rises, is_offsets, last_of}
 use Rattle.zarrs_array_bytes.specs.Pieces.{ends, IsLonger}
 use Rattle.zarrs_array_bytes.specs.Filled.{copies}
-use Rattle.zarrs_array_bytes.proofs.OffsetLemmas.{offsets_rise, offsets_end}
+use Rattle.zarrs_array_bytes.proofs.OffsetLemmas.{offsets_rise, offsets_begin, offsets_end}
 
 -- the ends of copies
 pub ends-replicate : (part : List ℕ) (start first count : ℕ) → start ≡ first * length part → ends start (map (λ p. p) (replicate count part)) ≡ map (λ place. place * length part + length part) (range_with_len first count)
@@ -34,8 +34,11 @@ zeros_are_offsets n = rw add-one (zeros_rise n)
 pub last_of_zeros : (n : ℕ) → last_of (replicate (n + 1) 0) ≡ 0
 last_of_zeros n = get_or-replicate (n + 1) (length (replicate (n + 1) (let z : ℕ = 0 in z)) - 1) 0 0 (omega (arith, length-replicate (n + 1) (let z : ℕ = 0 in z)))
 
+pub zeros_begin : (n : ℕ) → slice_index (replicate (n + 1) 0) 0 ≡ 0
+zeros_begin n = get_or-replicate (n + 1) 0 0 0 (omega arith)
+
 -- what the calls of a fill rest on
-pub ruleset fill_calls = (mask_of_same, zeros_are_offsets, last_of_zeros, offsets_rise, offsets_end)
+pub ruleset fill_calls = (mask_of_same, zeros_are_offsets, zeros_begin, last_of_zeros, offsets_rise, offsets_begin, offsets_end)
 
 -- one byte so many times
 single_copies : (byte count : ℕ) → replicate count byte ≡ copies (byte ∷ []) count

@@ -23,3 +23,6 @@ pub mod TargetLemmas
 pub mod ViewLaw
 pub mod CountLaw
 pub mod BlankLemmas
+pub mod FlushLemmas
+pub mod TightLemmas
+pub mod TightLaw

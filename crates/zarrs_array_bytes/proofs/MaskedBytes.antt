@@ -1,4 +1,4 @@
--- Bytes of elements of one size, taken out from under a mask and put back, by the first mask byte and the rest.
+-- Bytes of elements of one size, extracted from under a mask and put back, by the first mask byte and the rest.
 use Rattle.std.proofs.Common.{◌≡◌, ℕ, zero, suc, ◌+◌, ◌-◌, ◌*◌, ◌<◌, ◌≤◌, ◌^◌, Bool, true, false, ◌&&◌, nat_lt, lt-ltb, ltb-true, Some, Ok, List, [], ◌∷◌, ◌++◌, length, map, take, drop, slice_index, replicate, refl, sym, ap, ap₂, ◌∙◌, subst, arith, take_at, drop-drop, append_assoc, length-append, length-take-le}
 use Rattle.std.specs.List.{All, concat}
 use Rattle.std.proofs.lemmas.List.Elements.{All-cons, All-tail}
@@ -18,7 +18,7 @@ use Rattle.zarrs_array_bytes.proofs.ElementLemmas.{length_piece}
 use Rattle.zarrs_array_bytes.proofs.RunLemmas.{piece_is}
 use Rattle.zarrs_array_bytes.proofs.PresentLemmas.{marked, present_places-marked, update-suc}
 
--- ---- taken out
+-- ---- extracted
 
 -- the elements at the mask bytes that aren't 0
 abbrev pub keeps : ℕ → List ℕ → List ℕ → List ℕ

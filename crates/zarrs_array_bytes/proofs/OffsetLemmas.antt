@@ -43,6 +43,9 @@ last_of-ends f at ps = rw sub-one (at_end f at ps)
 pub offsets_rise : {X : Type 0} (f : X → List ℕ) (xs : List X) → is_offsets (bytes_with_offsets f xs).1 ≡ true
 offsets_rise f xs = ends_rise 0 (map f xs)
 
+pub offsets_begin : {X : Type 0} (f : X → List ℕ) (xs : List X) → slice_index (bytes_with_offsets f xs).1 0 ≡ 0
+offsets_begin f xs = refl
+
 pub offsets_end : {X : Type 0} (f : X → List ℕ) (xs : List X) → last_of (bytes_with_offsets f xs).1 ≡ length (bytes_with_offsets f xs).0
 offsets_end f xs = last_of-ends f 0 xs ∙ zero-add _
 

@@ -55,7 +55,7 @@ present_answers t h mask (Ok a) valid inside small gives =
     rw (valid, present_selected t h mask) (small_holds t (length mask) h a (present_places mask) (both_ok _ _ valid).1 inside small is)
 present_answers t h mask (Err e) valid inside small gives = λ ne. let never : ⊥ = cc (gives ne) in absurd never
 
--- what fits with one refusal fits with another
+-- what fits with one error fits with another
 pub fits_too : (r e : LengthRefusal) (t : ElementType) (n : ℕ) (h : Held) → levels_fit r t n h ≡ Ok tt → levels_fit e t n h ≡ Ok tt
 fits_too r e (fixed w c s) n (flen q) a = length_due e _ _ (length_found r _ _ a)
 fits_too r e text n (vlen q us) a = length_due e _ _ (length_found r _ _ a)
@@ -65,7 +65,7 @@ fits_too r e _ n h a = cc
 
 -- ---- put back
 
--- what stands under a mask has so many elements, and they are these under it
+-- what is under a mask has so many elements, and they are these under it
 record StandsUnder (t : ElementType) (mask : List ℕ) (a : Held) (ds : Chunk) : Type 0 where
   valid : validity t (length mask) a ≡ Ok tt
   are : flags mask (elements t (length mask) a) ≡ expansion mask ds

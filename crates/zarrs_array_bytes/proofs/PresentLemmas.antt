@@ -164,7 +164,7 @@ length-expanded (zero ∷ mask) ds = ap suc (length-expanded mask ds)
 length-expanded (suc byte ∷ mask) [] = ap suc (length-expanded mask [])
 length-expanded (suc byte ∷ mask) (d ∷ ds) = ap suc (length-expanded mask ds)
 
--- ---- taken out and put back
+-- ---- extracted and put back
 
 pub expanded-present : (type : ElementType) (chunk : Chunk) → AreElements (optional type) chunk → expansion (mask_of chunk) (present_elements chunk) ≡ chunk
 expanded-present type [] h = refl

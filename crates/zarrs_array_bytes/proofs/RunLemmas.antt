@@ -8,7 +8,7 @@ use Rattle.std.proofs.lemmas.List.Concat.{flat_map-append}
 use Rattle.std.proofs.lemmas.List.Elements.{All-append, All-cons, All-tail}
 use Rattle.std.proofs.lemmas.List.FromFn.{length-range_with_len}
 use Rattle.zarrs_chunk.specs.Runs.{joined_runs}
-use Rattle.zarrs_chunk.proofs.BoxTuples.{flat_map-take_more}
+pub use Rattle.zarrs_chunk.proofs.CountedRuns.{joined_runs-take_more, length-take_runs}
 use Rattle.zarrs_array_bytes.specs.Elements.{piece, cut}
 use Rattle.zarrs_array_bytes.specs.Offsets.{is_offsets, last_of}
 use Rattle.zarrs_array_bytes.specs.Pieces.{ends}
@@ -16,18 +16,9 @@ use Rattle.zarrs_array_bytes.proofs.OffsetLemmas.{rising_steps, rising_last}
 use Rattle.zarrs_array_bytes.proofs.ElementLemmas.{length_between}
 
 -- one run more
-pub joined_runs-take_more : (runs : List (ℕ × ℕ)) (i : ℕ) → i < length runs
-    → joined_runs (take (i + 1) runs) ≡ joined_runs (take i runs) ++ range_with_len (get_or runs i (0, 0)).0 (get_or runs i (0, 0)).1
-joined_runs-take_more runs i l = flat_map-take_more (λ (run : ℕ × ℕ). range_with_len run.0 run.1) runs i (0, 0) l
-
 pub flat_map-take_runs : (f : ℕ → List ℕ) (runs : List (ℕ × ℕ)) (i : ℕ) → i < length runs
     → flat_map f (joined_runs (take (i + 1) runs)) ≡ flat_map f (joined_runs (take i runs)) ++ flat_map f (range_with_len (get_or runs i (0, 0)).0 (get_or runs i (0, 0)).1)
 flat_map-take_runs f runs i l = ap (flat_map f) (joined_runs-take_more runs i l) ∙ flat_map-append f _ _
-
-pub length-take_runs : (runs : List (ℕ × ℕ)) (i : ℕ) → i < length runs → length (joined_runs (take (i + 1) runs)) ≡ length (joined_runs (take i runs)) + (get_or runs i (0, 0)).1
-length-take_runs runs i l =
-    ap length (joined_runs-take_more runs i l) ∙ length-append (joined_runs (take i runs)) (range_with_len (get_or runs i (0, 0)).0 (get_or runs i (0, 0)).1)
-    ∙ ap (λ n. length (joined_runs (take i runs)) + n) (length-range_with_len (get_or runs i (0, 0)).0 (get_or runs i (0, 0)).1)
 
 -- a part and the part behind it
 pub take_two : (m n : ℕ) (xs : List ℕ) → take m xs ++ take n (drop m xs) ≡ take (m + n) xs

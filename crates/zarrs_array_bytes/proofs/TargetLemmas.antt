@@ -1,4 +1,4 @@
--- Decode targets: which chunks they take, and what a container has for them.
+-- Decode targets: which chunks they accept, and what a container has for them.
 use Rattle.std.proofs.Common.{◌≡◌, ℕ, ◌+◌, ◌*◌, ◌<◌, Bool, true, false, ◌==◌, ◌&&◌, List, [], ◌∷◌, ◌++◌, length, map, get_or, take, drop, set, IsOk, Ok, refl, sym, ap, ap₂, ◌∙◌, arith, eqb-true, eq-eqb}
 use Rattle.std.proofs.lemmas.Bool.{false≢true, and_from}
 use Rattle.std.proofs.lemmas.List.{length-drop, drop_more, drop-set-lt, take_more_set, get_or-map, length-map, map-set, append_assoc}
@@ -17,7 +17,7 @@ and_false : (a : Bool) (b : Bool) → b ≡ false → (a && b) ≡ false
 and_false true b e = e
 and_false false b e = refl
 
--- a target of another number of elements takes no chunk
+-- a target of another number of elements accepts no chunk
 pub miscounted : (type : ElementType) (count : ℕ) (masks : List FixedView) (values : FixedView) → (length values.places == count) ≡ false → levels_taken type count masks values ≡ false
 miscounted (fixed width components sign) count [] values e = and_false (values.element_size == element_size width components) (length values.places == count) e
 miscounted (fixed width components sign) count (mask ∷ masks) values e = refl
@@ -85,7 +85,7 @@ levels_written f masks level d w held l e =
     ∙ ap (λ v. before ++ (v ∷ written_masks behind (inner_in held))) e
     ∙ ap (λ vs. before ++ written_masks vs held) (sym (first_view f masks level d l))
 
--- ---- a container for a target that takes its chunk
+-- ---- a container for a target that accepts its chunk
 
 level_bytes : (view : FixedView) (size count n : ℕ) → takes_elements view size count ≡ true → n ≡ count * size → (n == length view.places * view.element_size) ≡ true
 level_bytes view size count n t e =
@@ -114,7 +114,7 @@ levels_filled (optional type) count (mask ∷ masks) values (masked inner flags)
     let rest : LevelsFilled masks values inner = levels_filled type count masks values inner (both_true _ _ t).1 (both_ok _ _ v).1 in
     (and_from _ _ (level_bytes mask 1 count (length flags.items) (both_true _ _ t).0 flagged) rest.0, rest.1)
 
--- a container with so many elements of the type fills a target that takes such a chunk
+-- a container with so many elements of the type fills a target that accepts such a chunk
 pub taken_filled : (type : ElementType) (count : ℕ) (target : DecodeTarget) (held : Held) → target_fit type count target ≡ Ok tt → validity type count held ≡ Ok tt → fills target held ≡ true
 taken_filled type count target held t v =
     let taken : levels_taken type count target.masks target.values ≡ true = demand_ok _ TargetMismatch (both_ok (demand (has_one_size type) UnsupportedTarget) _ t).1 in

@@ -15,7 +15,7 @@ use Rattle.zarrs_array_bytes.specs.Update.{update, cuts, cuts_update, container_
 use Rattle.zarrs_array_bytes.specs.Sources.{sources, source_bytes, IsSourceOf}
 use Rattle.zarrs_array_bytes.specs.declared.sources.Source.TheVariants.{Old, New}
 use Rattle.zarrs_array_bytes.specs.SameBytesLaws.{both_true}
-use Rattle.zarrs_array_bytes.proofs.OffsetLemmas.{offsets_rise, offsets_end}
+use Rattle.zarrs_array_bytes.proofs.OffsetLemmas.{offsets_rise, offsets_begin, offsets_end}
 use Rattle.zarrs_array_bytes.proofs.ValidLemmas.{raw_items, fixed_fits, variable_fits, inner_fits}
 use Rattle.zarrs_array_bytes.proofs.WriteLemmas.{map-update, with_runs-update}
 
@@ -89,7 +89,7 @@ sources_known n ps = All-update (IsSourceOf n (length ps)) (map Old (range_with_
 bytes_with_offsets-map : {X : Type 0} (f : X → List ℕ) (xs : List X) → bytes_with_offsets f xs ≡ bytes_with_offsets (λ (part : List ℕ). part) (map f xs)
 bytes_with_offsets-map f xs = ap₂ (λ bs parts. (bs, 0 ∷ ends 0 parts)) (sym (flat_map-map (λ (part : List ℕ). part) f xs)) (sym (map-id (map f xs)))
 
--- what the sources give is an update of what they are taken from
+-- what the sources give is an update of what they come from
 pub bytes_with_offsets-sources : (f g : ℕ → List ℕ) (n : ℕ) (ps : List ℕ)
     → bytes_with_offsets (source_bytes f g) (sources n ps) ≡ bytes_with_offsets (λ (part : List ℕ). part) (update (map f (range_with_len 0 n)) ps (map g (range_with_len 0 (length ps))))
 bytes_with_offsets-sources f g n ps =
@@ -122,7 +122,7 @@ list_all-update test xs [] ys h e = h
 list_all-update test xs (p ∷ ps) [] h e = h
 list_all-update test xs (p ∷ ps) (y ∷ ys) h e = list_all-update test (set xs p y) ps ys (all_set test xs p y h (both_true _ _ e).0) (both_true _ _ e).1
 
-pub ruleset update_calls = (fixed_too, variable_too, optional_too, offsets_rise, offsets_end, inner_fits, inner_count, raw_items)
+pub ruleset update_calls = (fixed_too, variable_too, optional_too, offsets_rise, offsets_begin, offsets_end, inner_fits, inner_count, raw_items)
 
 -- ---- what each kind's call gives
 

@@ -65,7 +65,7 @@ raw_items (cow.Borrowed r) = refl
 raw_items (cow.Owned v) = refl
 
 -- mask bytes at places are mask bytes
-list_all-at : (test : ℕ → Bool) (xs : List ℕ) (i : ℕ) → list_all test xs ≡ true → i < length xs → test (get_or xs i 0) ≡ true
+pub list_all-at : (test : ℕ → Bool) (xs : List ℕ) (i : ℕ) → list_all test xs ≡ true → i < length xs → test (get_or xs i 0) ≡ true
 list_all-at test [] i h l = absurd (omega arith)
 list_all-at test (x ∷ xs) zero h l = (both_true _ _ h).0
 list_all-at test (x ∷ xs) (suc i) h l = list_all-at test xs i (both_true _ _ h).1 (omega arith)

@@ -30,11 +30,11 @@ takes_levels type count masks values = levels_taken type count (map view_of mask
 abbrev pub views_from : ℕ → List ArrayBytesFixedView → List FixedView
 views_from level masks = drop level (map view_of masks)
 
--- what stands under the masks from this level on
+-- what is under the masks from this level on
 abbrev pub under_from : ℕ → List ArrayBytesFixedView → Held → Held
 under_from level masks held = under_views (views_from level masks) held
 
--- what stands under these masks has as many bytes as the view's elements
+-- what is under these masks has as many bytes as the view's elements
 abbrev pub has_values_from : ℕ → List ArrayBytesFixedView → ArrayBytesFixedView → Held → Bool
 has_values_from level masks values held = has_values (view_of values) (under_from level masks held)
 
@@ -42,11 +42,11 @@ has_values_from level masks values held = has_values (view_of values) (under_fro
 abbrev pub written_from : ℕ → List ArrayBytesFixedView → Held → List FixedView
 written_from level masks held = take level (map view_of masks) ++ written_masks (views_from level masks) held
 
--- the view of the elements, with those written into it that stand under the masks from this level on
+-- the view of the elements, with those written into it that are under the masks from this level on
 abbrev pub written_under : ℕ → List ArrayBytesFixedView → ArrayBytesFixedView → Held → FixedView
 written_under level masks values held = written_view (view_of values) (bytes_in (under_from level masks held))
 
--- what stands under the masks from this level on is what stands in `inner` under those from the next one on
+-- what is under the masks from this level on is what is in `inner` under those from the next one on
 abbrev pub StaysUnder : ℕ → List ArrayBytesFixedView → List ArrayBytesFixedView → Held → Held → Type 0
 StaysUnder level old new held inner = under_from (level + 1) new inner ≡ under_from level old held
 

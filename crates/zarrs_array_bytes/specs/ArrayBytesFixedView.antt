@@ -11,7 +11,7 @@ abbrev pub view_of : ArrayBytesFixedView → FixedView
 view_of view =
     record { bytes = view.bytes.now; element_size = view.element_size; count = view.count; places = joined_runs view.runs.items }
 
--- the answered view is the expected one, or the first refusal is answered; a want of memory may come at any time
+-- the answered view is the expected one, or the first error; out of memory may come at any time
 abbrev pub AnswersView : Result ArrayBytesFixedView CodecError → Result FixedView CodecError → Type 0
 AnswersView result expected = Answers memory view_of result expected
 

@@ -1,12 +1,12 @@
--- What stands under absent elements.
-use Rattle.std.specs.Prelude.{◌≡◌, ℕ, ◌<◌, Bool, true, ◌&&◌, nat_lt, List, [], length, replicate, slice_index, Result, IfOk}
+-- What is under absent elements.
+use Rattle.std.specs.Prelude.{◌≡◌, ℕ, ◌<◌, true, nat_lt, List, [], length, replicate, slice_index, Result, IfOk}
 use Rattle.std.specs.List.{list_all}
 use Rattle.zarrs_data_type.specs.ElementType.{ElementType, fixed, text, bytes, optional, element_size}
 use Rattle.zarrs_data_type.specs.Element.{Element, plain, absent}
 use Rattle.zarrs_array_bytes.specs.Held.{Held, masked}
 use Rattle.zarrs_array_bytes.specs.Elements.{element_at}
 
--- an element that says nothing: zeros, an empty text, or an absent element
+-- a blank element: zeros, an empty text, or an absent element
 abbrev pub blank_element : ElementType → Element
 blank_element (fixed width components sign) = plain (replicate (element_size width components) 0)
 blank_element text = plain []
@@ -23,7 +23,7 @@ abbrev pub OuterAreBlank : ElementType → Held → Type 0
 OuterAreBlank (optional type) (masked inner mask) = IsOverBlanks mask.items type inner
 OuterAreBlank _ held = Unit {0}
 
--- blank elements stand under those that are absent, at every depth, and masks have zeros and ones
+-- blank elements are under those that are absent, at every depth, and masks have zeros and ones
 abbrev pub AbsentAreBlank : ElementType → Held → Type 0
 AbsentAreBlank (optional type) (masked inner mask) = IsOverBlanks mask.items type inner × AbsentAreBlank type inner
 AbsentAreBlank _ held = Unit {0}
@@ -35,12 +35,3 @@ KeepsBlanks type held result = AbsentAreBlank type held → IfOk result (AbsentA
 -- where they do in a container, they do in what is made of it by putting it under a mask
 abbrev pub ExpandsBlanks : {E : Type 0} → ElementType → Held → Result Held E → Type 0
 ExpandsBlanks type held result = AbsentAreBlank type held → IfOk result (AbsentAreBlank (optional type))
-
--- where they do in the old elements and in the new ones, they do in what is made of both
-abbrev pub UpdatesBlanks : {E : Type 0} → ElementType → Held → Held → Result Held E → Type 0
-UpdatesBlanks type old new result = AbsentAreBlank type old → AbsentAreBlank type new → IfOk result (AbsentAreBlank type)
-
--- each mask byte is 0 or 1, at every depth
-abbrev pub has_flags : Held → Bool
-has_flags (masked inner mask) = list_all (λ byte. nat_lt byte 2) mask.items && has_flags inner
-has_flags held = true

@@ -1,4 +1,4 @@
--- What the calls over a chunk's container answer, as chunks.
+-- What the calls over a chunk's container return, as chunks.
 use Rattle.std.specs.Prelude.{ℕ, List, length, replicate, Result, Ok}
 use Rattle.zarrs_chunk.specs.Answer.{◌>>=◌, demand, GivesBy}
 use Rattle.zarrs_chunk.specs.ChunkShape.{product}
@@ -16,30 +16,30 @@ use Rattle.zarrs_array_bytes.specs.Elements.{elements, select}
 use Rattle.zarrs_array_bytes.specs.Validity.{Holds, sizes_fit, validity, data_fit}
 use Rattle.zarrs_array_bytes.specs.Update.{update}
 
--- so many fill elements, or the first cause why they can't be made
+-- so many fill elements, or the first error
 abbrev pub fill_chunk : ElementType → ℕ → List ℕ → Result Chunk CodecError
 fill_chunk type count fill = do
   _ ← demand (fill_fits type fill) InvalidFillValue
   _ ← sizes_fit type count
   Ok (replicate count (fill_element type fill))
 
--- a container of so many fill elements is given, or the first cause why it can't be made
+-- a container of so many fill elements is given, or the first error
 abbrev pub GivesFill : ElementType → ℕ → List ℕ → Result Held CodecError → Type 0
 GivesFill type count fill result = GivesBy (Holds type) result (fill_chunk type count fill)
 
--- the elements at these places of a container of so many, or the first cause why there are none
+-- the elements at these places of a container of so many, or the first error
 abbrev pub chunk_at : ElementType → ℕ → List ℕ → Held → Result Chunk CodecError
 chunk_at type count places held = do
   _ ← validity type count held
   Ok (select (elements type count held) places)
 
--- the selection at the selected places, or the first cause why there is none
+-- the selection at the selected places, or the first error
 abbrev pub selected_chunk : ElementType → List ℕ → Selection → Held → Result Chunk CodecError
 selected_chunk type sizes selection held = do
   places ← places_of selection sizes
   chunk_at type (product sizes) places held
 
--- a container of the elements at the places of the runs is given, or the first cause why there is none
+-- a container of the elements at the places of the runs is given, or the first error
 abbrev pub ExtractsRuns : ElementType → ℕ → List (ℕ × ℕ) → Held → Result Held CodecError → Type 0
 ExtractsRuns type count runs held result = GivesBy (Holds type) result (chunk_at type count (joined_runs runs) held)
 
@@ -48,25 +48,25 @@ abbrev pub ExtractsSelected : ElementType → List ℕ → Indexer → Held → 
 ExtractsSelected type sizes indexer held result =
     GivesBy (Holds type) result (selected_chunk type sizes (selection_of indexer) held)
 
--- the old elements have the type and their count, and there is one new element of the type for each place, or the first cause why not
+-- the old elements have the type and their count, and there is one new element of the type for each place, or the first error
 abbrev pub update_fit : ElementType → ℕ → List ℕ → Held → Held → Result (Unit {0}) CodecError
 update_fit type count places held new = do
   _ ← validity type count held
   data_fit type (length places) new
 
--- the chunk with the elements at these places replaced by the new ones, or the first cause why it can't be made
+-- the chunk with the elements at these places replaced by the new ones, or the first error
 abbrev pub update_at_places : ElementType → ℕ → List ℕ → Held → Held → Result Chunk CodecError
 update_at_places type count places held new = do
   _ ← update_fit type count places held new
   Ok (update (elements type count held) places (elements type (length places) new))
 
--- the chunk with the elements at the selected places replaced by the new ones, or the first cause why it can't be made
+-- the chunk with the elements at the selected places replaced by the new ones, or the first error
 abbrev pub chunk_update : ElementType → List ℕ → Selection → Held → Held → Result Chunk CodecError
 chunk_update type sizes selection held new = do
   places ← places_of selection sizes
   update_at_places type (product sizes) places held new
 
--- a container of the chunk with the elements at the places of the runs replaced is given, or the first cause why it can't be made
+-- a container of the chunk with the elements at the places of the runs replaced is given, or the first error
 abbrev pub UpdatesRuns : ElementType → ℕ → List (ℕ × ℕ) → Held → Held → Result Held CodecError → Type 0
 UpdatesRuns type count runs old new result =
     GivesBy (Holds type) result (update_at_places type count (joined_runs runs) old new)

@@ -1,4 +1,4 @@
--- The bytes of elements of any length that stand one behind another, and where each of them ends.
+-- The bytes of elements of any length one behind another, and where each of them ends.
 use Rattle.std.specs.Prelude.{◌≡◌, ℕ, ◌+◌, ◌-◌, ◌*◌, List, Vec, ◌++◌, length, map, slice_index}
 use Rattle.std.specs.List.{flat_map, range_with_len}
 use Rattle.std.specs.declared.alloc.Global.{Global}
@@ -17,7 +17,7 @@ run_bytes offsets items first count = flat_map (cut offsets items) (range_with_l
 abbrev pub run_size : List ℕ → ℕ → ℕ → ℕ
 run_size offsets first count = slice_index offsets (first + count) - slice_index offsets first
 
--- behind the old ends stands where each of these parts ends, if the first one begins where the old bytes end
+-- behind the old ends is where each of these parts ends, if the first one begins where the old bytes end
 abbrev pub EndsFollow : Vec ℕ Global → Vec ℕ Global → Vec ℕ Global → List (List ℕ) → Type 0
 EndsFollow bytes old new parts = new.items ≡ old.items ++ ends (length bytes.items) parts
 

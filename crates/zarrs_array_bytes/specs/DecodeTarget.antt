@@ -6,7 +6,7 @@ use Rattle.zarrs_chunk.specs.declared.codec_error.CodecError.{CodecError}
 use Rattle.zarrs_chunk.specs.declared.codec_error.CodecError.TheVariants.{UnsupportedTarget, TargetMismatch}
 use Rattle.zarrs_data_type.specs.ElementType.{ElementType, fixed, text, bytes, optional, element_size}
 use Rattle.zarrs_data_type.specs.Element.{Chunk}
-use Rattle.zarrs_array_bytes.specs.Blank.{AbsentAreBlank, has_flags}
+use Rattle.zarrs_array_bytes.specs.Tight.{IsTight}
 use Rattle.zarrs_array_bytes.specs.FixedView.{FixedView, written_view}
 use Rattle.zarrs_array_bytes.specs.Held.{Held, flen, vlen, masked}
 use Rattle.zarrs_array_bytes.specs.Parts.{bytes_in, inner_in}
@@ -34,13 +34,13 @@ levels_taken (fixed width components sign) count [] values = takes_elements valu
 levels_taken (optional type) count (mask ∷ masks) values = takes_elements mask 1 count && levels_taken type count masks values
 levels_taken _ count masks values = false
 
--- the target takes a chunk of so many elements of the type, or the first cause why not
+-- the target accepts a chunk of so many elements of the type, or the first error
 abbrev pub target_fit : ElementType → ℕ → DecodeTarget → Result (Unit {0}) CodecError
 target_fit type count target = do
   _ ← demand (has_one_size type) UnsupportedTarget
   demand (levels_taken type count target.masks target.values) TargetMismatch
 
--- the target takes a chunk of this shape and type, or the first cause why not
+-- the target accepts a chunk of this shape and type, or the first error
 abbrev pub shape_fit : ElementType → List ℕ → DecodeTarget → Result (Unit {0}) CodecError
 shape_fit type sizes target = target_fit type (product sizes) target
 
@@ -49,7 +49,7 @@ abbrev pub written_masks : List FixedView → Held → List FixedView
 written_masks [] held = []
 written_masks (mask ∷ masks) held = written_view mask (bytes_in held) ∷ written_masks masks (inner_in held)
 
--- what stands under so many masks as there are views
+-- what is under so many masks as there are views
 abbrev pub under_views : List FixedView → Held → Held
 under_views [] held = held
 under_views (mask ∷ masks) held = under_views masks (inner_in held)
@@ -77,10 +77,9 @@ has_masks (mask ∷ masks) held = false
 abbrev pub fills : DecodeTarget → Held → Bool
 fills target held = has_masks target.masks held && has_values target.values (under_views target.masks held)
 
--- what the target was and is: it was written with a container that holds the chunk, with mask bytes of 0 and 1, and blank elements under absent ones
+-- what the target was and is: it was written with a container that holds the chunk and is fixed by it
 pub record TargetHolds (type : ElementType) (before after : DecodeTarget) (chunk : Chunk) : Type 0 where
   pub held : Held
   pub holds : Holds type held chunk
   pub written : after ≡ written_target before held
-  pub flags : has_flags held ≡ true
-  pub blank : AbsentAreBlank type held
+  pub tight : IsTight type held

@@ -1,4 +1,4 @@
--- The container that is taken out of another at places.
+-- The container that is extracted from another at places.
 use Rattle.std.specs.Prelude.{ℕ, ◌<◌, ◌^◌, List, length, map, slice_index, Result, Ok}
 use Rattle.zarrs_chunk.specs.Answer.{GivesValue}
 use Rattle.zarrs_chunk.specs.declared.codec_error.CodecError.{CodecError}

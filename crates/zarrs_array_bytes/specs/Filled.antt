@@ -14,7 +14,7 @@ copies items count = flat_map (λ part. part) (replicate count items)
 abbrev pub copies_with_offsets : List ℕ → ℕ → List ℕ × List ℕ
 copies_with_offsets items count = bytes_with_offsets (λ part. part) (replicate count items)
 
--- what stands under `count` absent elements: zeros, empty bytes, inner masks of zero
+-- what is under `count` absent elements: zeros, empty bytes, inner masks of zero
 abbrev pub blank_elements : ElementType → ℕ → Held
 blank_elements (fixed width components sign) count =
     flen (owned_bytes (replicate (count * element_size width components) 0))
@@ -22,7 +22,7 @@ blank_elements text count = vlen (owned_bytes []) (replicate (count + 1) 0)
 blank_elements bytes count = vlen (owned_bytes []) (replicate (count + 1) 0)
 blank_elements (optional type) count = masked (blank_elements type count) (owned_bytes (replicate count 0))
 
--- a container of `count` elements, each of them the fill value; where that is absent, they stand over blank ones
+-- a container of `count` elements, each of them the fill value; where that is absent, they are over blank ones
 abbrev pub container_fill : ElementType → ℕ → List ℕ → Held
 container_fill (fixed width components sign) count fill = flen (owned_bytes (copies fill count))
 container_fill text count fill = variable_of (copies_with_offsets fill count)

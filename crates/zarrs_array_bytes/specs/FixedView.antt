@@ -15,7 +15,7 @@ pub record FixedView : Type 0 where
   pub count : ℕ
   pub places : List ℕ
 
--- the view of a subset of an array's elements, or the first cause why there is none
+-- the view of a subset of an array's elements, or the first error
 abbrev pub fixed_view : List ℕ → ℕ → List ℕ → Region → Result FixedView CodecError
 fixed_view bytes size sizes region = do
   _ ← demand (nat_lt 0 size) TargetMismatch

@@ -12,7 +12,7 @@ use Rattle.zarrs_array_bytes.specs.Sources.{cuts_from}
 use Rattle.zarrs_array_bytes.specs.Update.{with_runs, cuts_update, variable_update, mask_update, container_written}
 use Rattle.zarrs_array_bytes.specs.declared.sources.Source.{Source}
 
--- these items are given; only a want of memory may come in their place
+-- these items are given; only out of memory may come in their place
 abbrev pub MakesItems : {A : Type 0} → Result (Vec A Global) CodecError → List A → Type 0
 MakesItems result items = GivesItems result (Ok items)
 

@@ -1,5 +1,5 @@
 -- What a container of elements is seen as.
-use Rattle.std.specs.Prelude.{◌≡◌, ℕ, ◌+◌, ◌*◌, Bool, true, false, List, [], ◌∷◌, length, cond}
+use Rattle.std.specs.Prelude.{◌≡◌, ℕ, ◌+◌, ◌*◌, Bool, true, false, not, List, [], ◌∷◌, length, cond}
 use Rattle.std.proofs.Common.{refl, ap, Global}
 use Rattle.std.specs.Coded.{Coded, code_by, coded×, coded_ℕ, coded_bool, coded_list}
 use Rattle.std.specs.declared.borrow.CowSlice.{CowSlice}
@@ -29,13 +29,18 @@ pub data Held : Type 0 where
   vlen : Raw → List ℕ → Held
   masked : Held → Raw → Held
 
--- how many masks stand one round another
+-- elements of one size whose bytes are lent
+abbrev pub is_lent : Held → Bool
+is_lent (flen raw) = not raw.is_owned
+is_lent _ = false
+
+-- how many masks are one over another
 abbrev pub mask_levels : Held → ℕ
 mask_levels (flen raw) = 0
 mask_levels (vlen raw offsets) = 0
 mask_levels (masked inner mask) = mask_levels inner + 1
 
--- how many bytes a container takes: those of its elements, 8 for each offset, one for each mask byte
+-- how many bytes a container has: those of its elements, 8 for each offset, one for each mask byte
 abbrev pub byte_count : Held → ℕ
 byte_count (flen raw) = length raw.items
 byte_count (vlen raw offsets) = length raw.items + 8 * length offsets
@@ -46,7 +51,7 @@ abbrev raw_code : Coded Raw
 raw_code =
     code_by (List ℕ × Bool) (coded× (coded_list coded_ℕ) coded_bool) (λ raw. (raw.items, raw.is_owned)) (λ p. record { items = p.0; is_owned = p.1 }) (λ _. refl)
 
--- a container as plain parts: the masks, the outermost first, and then what they stand over, with true for elements of one size
+-- a container as plain parts: the masks, the outermost first, and then what is under them, with true for elements of one size
 abbrev HeldParts : Type 0
 HeldParts = List Raw × (Bool × (Raw × List ℕ))
 

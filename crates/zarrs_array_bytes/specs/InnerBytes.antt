@@ -1,4 +1,4 @@
--- What stands under a mask has fewer masks.
+-- What is under a mask has fewer masks.
 use Rattle.std.proofs.Common.{◌≤◌, max, arith}
 use Rattle.zarrs_array_bytes.specs.Held.{mask_levels}
 use Rattle.zarrs_array_bytes.specs.ArrayBytes.{held_of}

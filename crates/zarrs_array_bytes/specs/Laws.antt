@@ -10,6 +10,8 @@ use Rattle.zarrs_array_bytes.specs.Held.{Raw, Held, masked, byte_count}
 use Rattle.zarrs_array_bytes.specs.Elements.{piece, select}
 use Rattle.zarrs_array_bytes.specs.FixedView.{FixedView, fixed_view, written_bytes, written_view, elements_fit}
 use Rattle.zarrs_array_bytes.specs.Validity.{sizes_fit, validity, Holds}
+use Rattle.zarrs_array_bytes.specs.SameBytes.{is_same_held}
+use Rattle.zarrs_array_bytes.specs.Tight.{IsTight}
 use Rattle.zarrs_array_bytes.specs.Update.{update}
 use Rattle.zarrs_array_bytes.specs.Present.{present_elements, mask_of, expansion, present_places, present_count, present_chunk, expanded_chunk}
 
@@ -34,13 +36,13 @@ UpdateThenSelect =
     → (IsUntouched places (get_or others i 0) → get_or (select (update chunk places new) others) i absent ≡ get_or chunk (get_or others i 0) absent)
     × ((number : ℕ) → IsLastWrite places (get_or others i 0) number → get_or (select (update chunk places new) others) i absent ≡ get_or new number absent)
 
--- what is taken out of a container under a mask is what is present of the chunk, so many, under the chunk's mask
+-- what is extracted from a container under a mask is what is present of the chunk, so many, under the chunk's mask
 pub record IsPresent (type : ElementType) (inner : Held) (flags : Raw) (chunk : Chunk) : Type 0 where
   pub elements : present_chunk type inner flags.items ≡ Ok (present_elements chunk)
   pub count : present_count flags.items ≡ Ok (length (present_elements chunk))
   pub mask : mask_of chunk ≡ flags.items
 
--- Of a container that holds a chunk under a mask of zeros and ones, what is taken out is what is present of the chunk.
+-- Of a container that holds a chunk under a mask of zeros and ones, what is extracted is what is present of the chunk.
 abbrev pub PresentElementsAreHeld : Type 0
 PresentElementsAreHeld =
     (type : ElementType) (held : Held) (mask : Raw) (chunk : Chunk) → Holds (optional type) (masked held mask) chunk → list_all (λ byte. nat_lt byte 2) mask.items ≡ true
@@ -76,7 +78,7 @@ bytes_at_places view = flat_map (piece view.element_size view.bytes) view.places
 abbrev pub SubsetsAreViews : Type 0
 SubsetsAreViews = (bytes : List ℕ) (size : ℕ) (sizes : List ℕ) (region : Region) (view : FixedView) → fixed_view bytes size sizes region ≡ Ok view → IsView view
 
--- After a write, the new elements stand at the view's places, in order.
+-- After a write, the new elements are at the view's places, in order.
 abbrev pub WrittenElementsStand : Type 0
 WrittenElementsStand = (view : FixedView) (new : List ℕ) → IsView view → elements_fit view new ≡ Ok tt → bytes_at_places (written_view view new) ≡ new
 
@@ -86,14 +88,19 @@ OtherElementsStay =
     (view : FixedView) (new : List ℕ) (place : ℕ) → IsView view → elements_fit view new ≡ Ok tt → place < view.count → IsUntouched view.places place
     → piece view.element_size (written_bytes view new) place ≡ piece view.element_size view.bytes place
 
--- how many bytes an element of the type takes in a container, with its mask bytes; none where elements of the type differ in it
+-- how many bytes an element of the type has in a container, with its mask bytes; none where elements of the type differ in it
 abbrev pub bytes_each : ElementType → Option ℕ
 bytes_each (fixed width components sign) = Some (element_size width components)
 bytes_each text = None
 bytes_each bytes = None
 bytes_each (optional type) = option_map (λ each. each + 1) (bytes_each type)
 
--- A container of elements that all take as many bytes has these bytes and no others.
+-- A container of elements that all have as many bytes has these bytes and no others.
 abbrev pub ContainersAreCounted : Type 0
 ContainersAreCounted =
     (type : ElementType) (count each : ℕ) (held : Held) → bytes_each type ≡ Some each → validity type count held ≡ Ok tt → byte_count held ≡ count * each
+
+-- Two tight containers that hold the same chunk are the same bytes, offsets and masks.
+abbrev pub TightContainersAreSame : Type 0
+TightContainersAreSame =
+    (type : ElementType) (held other : Held) (chunk : Chunk) → IsTight type held → IsTight type other → Holds type held chunk → Holds type other chunk → is_same_held held other ≡ true

@@ -8,6 +8,7 @@ pub mod Parts
 pub mod Elements
 pub mod Validity
 pub mod Blank
+pub mod Tight
 pub mod WrongLength
 pub mod Pieces
 pub mod Cuts

@@ -19,7 +19,7 @@ is_offsets (a ∷ rest) = rises (a ∷ rest)
 abbrev pub last_of : List ℕ → ℕ
 last_of offsets = slice_index offsets (length offsets - 1)
 
--- the offsets, or why they are none
+-- the offsets, or the error where they are none
 abbrev pub offsets_of : List ℕ → Result (List ℕ) CodecError
 offsets_of numbers = do
   _ ← demand (is_offsets numbers) InvalidOffsets

@@ -34,7 +34,7 @@ variable_part (flen raw) = Err ArrayBytesKind
 variable_part (vlen raw offsets) = Ok (raw, offsets)
 variable_part (masked inner mask) = Err ArrayBytesKind
 
--- what stands under the outermost mask, and that mask
+-- what is under the outermost mask, and that mask
 abbrev pub optional_part : Held → Result (Held × Raw) CodecError
 optional_part (flen raw) = Err ArrayBytesKind
 optional_part (vlen raw offsets) = Err ArrayBytesKind
@@ -74,7 +74,7 @@ offsets_in (flen raw) = []
 offsets_in (vlen raw offsets) = offsets
 offsets_in (masked inner mask) = []
 
--- what stands under the outermost mask
+-- what is under the outermost mask
 abbrev pub inner_in : Held → Held
 inner_in (flen raw) = flen raw
 inner_in (vlen raw offsets) = vlen raw offsets

@@ -1,4 +1,4 @@
--- Elements under a mask: those that are present, taken out and put back.
+-- Elements under a mask: those that are present, extracted and put back.
 use Rattle.std.specs.Prelude.{◌≡◌, ℕ, zero, suc, ◌*◌, ◌==◌, Bool, true, nat_lt, if◌then◌else◌, List, [], ◌∷◌, length, map, replicate, slice_index, take, Result, Ok}
 use Rattle.std.specs.List.{filter, list_all, range_with_len}
 use Rattle.zarrs_chunk.specs.Answer.{◌>>=◌, demand, GivesBy}
@@ -39,7 +39,7 @@ expansion (suc byte ∷ mask) (element ∷ elements) = present element ∷ expan
 abbrev pub present_places : List ℕ → List ℕ
 present_places mask = filter (λ place. nat_lt 0 (slice_index mask place)) (range_with_len 0 (length mask))
 
--- how many elements are present under a mask of zeros and ones, or the refusal of another byte
+-- how many elements are present under a mask of zeros and ones, or the error for another byte
 abbrev pub present_count : List ℕ → Result ℕ CodecError
 present_count mask = do
   _ ← demand (list_all (λ byte. nat_lt byte 2) mask) MaskValue
@@ -49,35 +49,35 @@ present_count mask = do
 abbrev pub are_all_present : List ℕ → Bool
 are_all_present mask = length (present_places mask) == length mask
 
--- the elements of a container that are present under a mask, or the first cause why they can't be taken out
+-- the elements of a container that are present under a mask, or the first error
 abbrev pub present_chunk : ElementType → Held → List ℕ → Result Chunk CodecError
 present_chunk type held mask = do
   _ ← validity type (length mask) held
   Ok (present_elements (elements (optional type) (length mask) (masked held (owned_bytes mask))))
 
--- a container of the elements that are present under a mask is given, or the first cause why they can't be taken out
+-- a container of the elements that are present under a mask is given, or the first error
 abbrev pub ExtractsPresent : ElementType → Held → List ℕ → Result Held CodecError → Type 0
 ExtractsPresent type held mask result = GivesBy (Holds type) result (present_chunk type held mask)
 
--- where all are present, the container itself is given, or the first cause why not
+-- where all are present, the container itself is given, or the first error
 abbrev pub KeptIfAllPresent : ElementType → Held → List ℕ → Result Held CodecError → Type 0
 KeptIfAllPresent type held mask result =
     are_all_present mask ≡ true → result ≡ validated type (length mask) held
 
--- a container has one element for each that is present under a mask of zeros and ones, or the first cause why they can't be put back
+-- a container has one element for each that is present under a mask of zeros and ones, or the first error
 abbrev pub expansion_fits : ElementType → Held → List ℕ → Result (Unit {0}) CodecError
 expansion_fits type held mask = do
   count ← present_count mask
   _ ← validity type count held
   sizes_fit type (length mask)
 
--- the elements of a container put back under a mask, or the first cause why they can't be
+-- the elements of a container put back under a mask, or the first error
 abbrev pub expanded_chunk : ElementType → Held → List ℕ → Result Chunk CodecError
 expanded_chunk type held mask = do
   _ ← expansion_fits type held mask
   Ok (expansion mask (elements type (length (present_places mask)) held))
 
--- a container of the elements put back under a mask is given, or the first cause why they can't be
+-- a container of the elements put back under a mask is given, or the first error
 abbrev pub ExpandsPresent : ElementType → Held → List ℕ → Result Held CodecError → Type 0
 ExpandsPresent type held mask result = GivesBy (Holds (optional type)) result (expanded_chunk type held mask)
 
@@ -86,11 +86,11 @@ abbrev pub container_spread : ElementType → Held → List ℕ → Held
 container_spread type held mask =
     container_written type (length mask) (blank_elements type (length mask)) (present_places mask) held
 
--- what stands under a mask where the elements are put back: they themselves where all are present, else blank ones between them
+-- what is under a mask where the elements are put back: they themselves where all are present, else blank ones between them
 abbrev pub container_expansion : ElementType → Held → List ℕ → Held
 container_expansion type held mask = if are_all_present mask then held else container_spread type held mask
 
--- the same, or the first cause why the elements can't be put back
+-- the same, or the first error
 abbrev pub expansion_of : ElementType → Held → List ℕ → Result Held CodecError
 expansion_of type held mask = do
   _ ← expansion_fits type held mask

@@ -1,4 +1,4 @@
--- Writes at places, the last one of a place standing.
+-- Writes at places, the last one of a place counting.
 use Rattle.std.specs.Prelude.{ℕ, ◌+◌, ◌-◌, ◌*◌, Bool, true, nat_le, ◌&&◌, List, [], ◌∷◌, ◌++◌, length, map, take, drop, set}
 use Rattle.std.specs.List.{concat, range_with_len}
 use Rattle.zarrs_data_type.specs.ElementType.{ElementType, fixed, text, bytes, optional, element_size}
@@ -41,7 +41,7 @@ abbrev pub cuts_update : List ℕ → List ℕ → List ℕ → List ℕ → Lis
 cuts_update offsets items new_offsets new_items places =
     bytes_with_offsets (λ part. part) (update (cuts (length offsets - 1) offsets items) places (cuts (length new_offsets - 1) new_offsets new_items))
 
--- the same as a container, with the new bytes and offsets taken from one
+-- the same as a container, with the new bytes and offsets from one
 abbrev pub variable_update : List ℕ → List ℕ → List ℕ → Held → Held
 variable_update offsets items places new = variable_of (cuts_update offsets items (offsets_in new) (bytes_in new) places)
 

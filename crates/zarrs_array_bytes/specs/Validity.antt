@@ -1,4 +1,4 @@
--- Whether a container has the kind of a type and so many elements, and the first cause where not.
+-- Whether a container has the kind of a type and so many elements, and the first error where not.
 use Rattle.std.specs.Prelude.{◌≡◌, ℕ, ◌+◌, ◌*◌, length, ◌==◌, ◌^◌, nat_lt, Result, Ok, Err}
 use Rattle.zarrs_chunk.specs.Answer.{◌>>=◌, demand, seen}
 use Rattle.zarrs_chunk.specs.declared.codec_error.CodecError.{CodecError}
@@ -15,7 +15,7 @@ sizes_fit text count = demand (nat_lt (count + 1) (2 ^ 64)) Overflow
 sizes_fit bytes count = demand (nat_lt (count + 1) (2 ^ 64)) Overflow
 sizes_fit (optional type) count = sizes_fit type count
 
--- the refusal of a wrong length, made from the length that was found and the one that was due
+-- the error for a wrong length, of the length that was found and the one that was due
 abbrev pub LengthRefusal : Type 0
 LengthRefusal = ℕ → ℕ → CodecError
 
@@ -43,7 +43,7 @@ validity type count held = do
   _ ← sizes_fit type count
   levels_fit InvalidBytesLength type count held
 
--- the container, where it has so many elements of the type, or the first cause why not
+-- the container, where it has so many elements of the type, or the first error
 abbrev pub validated : ElementType → ℕ → Held → Result Held CodecError
 validated type count held = seen (λ _. held) (validity type count held)
 

@@ -1,20 +1,22 @@
-ghost use Rattle.std.specs.Prelude.{◌≡◌, ◌<◌, ◌^◌, Ok, IfOk, true, false, min, length};
+//! The container of a chunk's elements: how it is made, its parts, its size and whether it is valid.
+ghost use Rattle.std.specs.Prelude.{◌≡◌, ◌<◌, ◌^◌, Ok, IfOk, true, false, min, length, slice_index};
 ghost use Rattle.std.specs.Cmp.{partial_equiv_from_equiv};
 ghost use Rattle.zarrs_chunk.specs.Answer.{AnswersValue, GivesValue, memory, seen, is_fault};
-ghost use Rattle.zarrs_array_bytes.specs.Held.{flen, vlen, owned_bytes, raw_of, byte_count, mask_levels};
+ghost use Rattle.zarrs_array_bytes.specs.Held.{flen, vlen, owned_bytes, raw_of, byte_count, is_lent, mask_levels};
 ghost use Rattle.zarrs_array_bytes.specs.Offsets.{is_offsets, last_of};
 ghost use Rattle.zarrs_array_bytes.specs.Extracted.{IsSmall};
 ghost use Rattle.zarrs_array_bytes.specs.SameBytes.{is_same_held};
 ghost use Rattle.zarrs_array_bytes.specs.SameBytesLaws.{is_same_held-equivalence};
 ghost use Rattle.zarrs_array_bytes.specs.Parts.{with_offsets, with_mask, variable_part, optional_part, fixed_part, fixed_items, variable_items, optional_items, lent_both, raw_and_offsets, inner_and_mask};
 ghost use Rattle.zarrs_array_bytes.specs.Pieces.{masked_by};
+ghost use Rattle.zarrs_array_bytes.specs.Tight.{IsFlush, GivesFlush, HoldsSame, flush_with_offsets};
 ghost use Rattle.zarrs_array_bytes.specs.Validity.{levels_fit, validity, data_fit};
 ghost use Rattle.zarrs_array_bytes.specs.WrongLength.{refusal_of, LengthsFit};
 ghost use Rattle.std.specs.List.{list_all};
 ghost use Rattle.std.specs.Prelude.{nat_lt};
 
 use crate::array_bytes_offsets::ArrayBytesOffsets;
-use crate::array_bytes_raw::{ArrayBytesRaw, clone_raw};
+use crate::array_bytes_raw::{ArrayBytesRaw, behind, clone_raw};
 use crate::validate::{WrongLength, check_length, check_offsets, check_sizes};
 use std::alloc::Global;
 use std::borrow::CowSlice;
@@ -25,7 +27,7 @@ use zarrs_data_type::DataType;
 /// The elements of a chunk, in row-major order.
 ///
 /// They are of one size and one after another, or of any length with offsets, or under a mask that
-/// has one byte for each, 0 for absent and 1 for present. Which type they are of, a call says.
+/// has one byte for each, 0 for absent and 1 for present. Each call states their type.
 #[cycle(array_bytes)]
 #[derive(Debug, Drop)]
 pub struct ArrayBytes<'a> {
@@ -71,7 +73,7 @@ impl<'a> ArrayBytes<'a> {
     }
 
     /// Elements of any length: element i is the bytes from offset i to offset i + 1. The first
-    /// offset may be above zero. Refusals: `InvalidOffsets` where the last offset isn't the number
+    /// offset may be above zero. Errors: `InvalidOffsets` where the last offset isn't the number
     /// of bytes.
     pub fn new_vlen(
         bytes: ArrayBytesRaw<'a>,
@@ -88,9 +90,31 @@ impl<'a> ArrayBytes<'a> {
         })
     }
 
-    /// These elements under a mask with one byte for each: 0 for absent, 1 for present. What stands
-    /// under an absent one doesn't matter, and how many bytes the mask has is looked at not here
-    /// but by `validate`. Refusals, the first that holds: `MaskValue` where a byte is another
+    /// The same elements as by `new_vlen`, without the bytes before the first one and with offsets from
+    /// 0: a container that its elements fix. Borrowed bytes stay borrowed, owned bytes and the offsets
+    /// are moved in place. Errors: `InvalidOffsets` where the last offset isn't the number of bytes.
+    #[tactic(auto, using(crate::proofs::ValidLemmas::raw_items))]
+    pub fn new_flush(
+        bytes: ArrayBytesRaw<'a>,
+        offsets: ArrayBytesOffsets,
+    ) -> Result<ArrayBytes<'a>, CodecError>
+        ensures answer { result ≡ flush_with_offsets (raw_of bytes.entry) offsets }
+        ensures flush { GivesFlush result }
+        ensures same { IfOk result (HoldsSame (vlen (raw_of bytes.entry) offsets)) }
+    {
+        let ends = offsets.as_slice();
+        if ends[ends.len() - 1] != bytes.len() {
+            return Err(CodecError::InvalidOffsets);
+        }
+        let bytes = behind(bytes, ends[0]);
+        Ok(ArrayBytes {
+            parts: Parts::Variable(bytes, offsets.from_first()),
+        })
+    }
+
+    /// These elements under a mask with one byte for each: 0 for absent, 1 for present. The element
+    /// under an absent one doesn't matter. How many bytes the mask has is checked by `validate`, not
+    /// here. Errors, the first that applies: `MaskValue` where a byte is another
     /// number; `OutOfMemory`.
     pub fn with_optional_mask(
         self,
@@ -113,16 +137,20 @@ impl<'a> ArrayBytes<'a> {
     ) -> Result<ArrayBytes<'a>, CodecError>
         requires flags { list_all (λ byte. nat_lt byte 2) (raw_of mask).items ≡ true }
         ensures answer { AnswersValue memory result (with_mask self.entry (raw_of mask.entry)) }
+        ensures flush { IfOk result (λ array. IsFlush self.entry → IsFlush array) }
     {
         Ok(ArrayBytes {
             parts: Parts::Optional(Box::new(alloc, self)?, mask),
         })
     }
 
+    #[tactic(auto, using(crate::proofs::FlushLemmas::flush_from))]
     pub(crate) fn of_variable(bytes: Vec<u8>, offsets: Vec<usize>) -> ArrayBytes<'a>
         requires rising { is_offsets offsets.items ≡ true }
+        requires beginning { slice_index offsets.items 0 ≡ 0 }
         requires ending { last_of offsets.items ≡ length bytes.items }
         ensures made { result ≡ vlen (owned_bytes bytes.items) offsets.items }
+        ensures flush { IsFlush result }
     {
         ArrayBytes {
             parts: Parts::Variable(
@@ -139,6 +167,7 @@ impl<'a> ArrayBytes<'a> {
     ) -> Result<ArrayBytes<'a>, CodecError>
         requires flags { list_all (λ byte. nat_lt byte 2) mask.items ≡ true }
         ensures small { IfOk result (λ array. IsSmall inner.entry → IsSmall array) }
+        ensures flush { IfOk result (λ array. IsFlush inner.entry → IsFlush array) }
         ensures exact { GivesValue result (Ok (masked_by inner.entry mask.items)) }
     {
         Ok(ArrayBytes {
@@ -146,7 +175,7 @@ impl<'a> ArrayBytes<'a> {
         })
     }
 
-    /// The bytes of elements of one size. Refusals: `ArrayBytesKind` for any other elements.
+    /// The bytes of elements of one size. Errors: `ArrayBytesKind` for any other elements.
     pub fn into_fixed(self) -> Result<ArrayBytesRaw<'a>, CodecError>
         ensures answer { seen raw_of result ≡ fixed_part self.entry }
     {
@@ -156,7 +185,7 @@ impl<'a> ArrayBytes<'a> {
         }
     }
 
-    /// The bytes and offsets of elements of any length. Refusals: `ArrayBytesKind` for any other
+    /// The bytes and offsets of elements of any length. Errors: `ArrayBytesKind` for any other
     /// elements.
     pub fn into_variable(self) -> Result<(ArrayBytesRaw<'a>, ArrayBytesOffsets), CodecError>
         ensures answer { seen raw_and_offsets result ≡ variable_part self.entry }
@@ -167,7 +196,7 @@ impl<'a> ArrayBytes<'a> {
         }
     }
 
-    /// What stands under the outermost mask, and that mask. Refusals: `ArrayBytesKind` for elements
+    /// The elements under the outermost mask, and that mask. Errors: `ArrayBytesKind` for elements
     /// without a mask.
     pub fn into_optional(self) -> Result<(Box<ArrayBytes<'a>>, ArrayBytesRaw<'a>), CodecError>
         ensures answer { seen inner_and_mask result ≡ optional_part self.entry }
@@ -178,7 +207,7 @@ impl<'a> ArrayBytes<'a> {
         }
     }
 
-    /// The bytes of elements of one size, lent. Refusals: `ArrayBytesKind` for any other elements.
+    /// The bytes of elements of one size, lent. Errors: `ArrayBytesKind` for any other elements.
     pub fn as_fixed(&self) -> Result<&[u8], CodecError>
         ensures answer { seen (λ bytes. bytes.now) result ≡ fixed_items self.now }
     {
@@ -188,7 +217,7 @@ impl<'a> ArrayBytes<'a> {
         }
     }
 
-    /// The bytes and offsets of elements of any length, lent. Refusals: `ArrayBytesKind` for any other
+    /// The bytes and offsets of elements of any length, lent. Errors: `ArrayBytesKind` for any other
     /// elements.
     pub fn as_variable(&self) -> Result<(&[u8], &ArrayBytesOffsets), CodecError>
         ensures answer { seen lent_both result ≡ variable_items self.now }
@@ -200,8 +229,8 @@ impl<'a> ArrayBytes<'a> {
         }
     }
 
-    /// What stands under the outermost mask, and that mask, lent: a byte for each element, 0 for
-    /// absent and 1 for present. Refusals: `ArrayBytesKind` for elements without a mask.
+    /// The elements under the outermost mask, and that mask, lent: a byte for each element, 0 for
+    /// absent and 1 for present. Errors: `ArrayBytesKind` for elements without a mask.
     pub fn as_optional(&self) -> Result<(&ArrayBytes<'a>, &[u8]), CodecError>
         ensures answer { seen lent_both result ≡ optional_items self.now }
         ensures mask { IfOk result (λ parts. list_all (λ byte. nat_lt byte 2) parts.1.now ≡ true) }
@@ -229,7 +258,7 @@ impl<'a> ArrayBytes<'a> {
         }
     }
 
-    /// Whether these are `count` elements of the type. Refusals, the first that holds: `Overflow`
+    /// Whether these are `count` elements of the type. Errors, the first that applies: `Overflow`
     /// where 64 bits don't count the bytes of so many elements, or for a variable type their
     /// offsets; then level by level, the outermost mask first, `ArrayBytesKind` where the kind isn't
     /// the type's, `InvalidBytesLength` where the bytes, offsets or mask bytes are more or fewer.
@@ -241,8 +270,8 @@ impl<'a> ArrayBytes<'a> {
         self.check_levels(count as u128, data_type, WrongLength::InvalidBytesLength)
     }
 
-    /// Whether these are new data for `count` places: one element of the type for each. Refusals,
-    /// the first that holds, level by level, the outermost mask first: `ArrayBytesKind` where the
+    /// Whether these are new data for `count` places: one element of the type for each. Errors,
+    /// the first that applies, level by level, the outermost mask first: `ArrayBytesKind` where the
     /// kind isn't the type's, `DataMismatch` where there are more or fewer.
     pub fn validate_data(&self, count: u64, data_type: &DataType) -> Result<(), CodecError>
         ensures exact { result ≡ data_fit data_type.now count self.now }
@@ -284,9 +313,11 @@ impl<'a> ArrayBytes<'a> {
         }
     }
 
-    /// An equal container, in which borrowed bytes stay borrowed. Refusals: `OutOfMemory`.
+    /// An equal container, in which borrowed bytes stay borrowed. Errors: `OutOfMemory`; none where the
+    /// elements are of one size and borrowed.
     pub fn clone(&self) -> Result<ArrayBytes<'a>, CodecError>
         ensures copy { AnswersValue memory result (Ok self.now) }
+        ensures in_place { is_lent self.now ≡ true → result ≡ Ok self.now }
     {
         let parts = match &self.parts {
             Parts::Fixed(bytes) => Parts::Fixed(clone_raw(bytes)?),

@@ -1,8 +1,9 @@
+//! Views of caller's bytes, into which a chunk is decoded.
 ghost use Rattle.std.specs.Prelude.{◌≡◌, ◌+◌, ◌<◌, ◌≤◌, ◌==◌, map, length, true};
 ghost use Rattle.zarrs_chunk.specs.ChunkShape.{product};
 ghost use Rattle.zarrs_array_bytes.specs.ArrayBytesDecodeIntoTarget.{view_name};
 ghost use Rattle.zarrs_array_bytes.specs.ArrayBytesFixedView.{view_of};
-ghost use Rattle.zarrs_array_bytes.specs.Blank.{has_flags};
+ghost use Rattle.zarrs_array_bytes.specs.Tight.{IsFlush};
 ghost use Rattle.zarrs_array_bytes.specs.DecodeTarget.{has_one_size as has_one_size_of, has_masks};
 ghost use Rattle.zarrs_array_bytes.specs.ArrayBytesDecodeIntoTarget.{takes_levels, views_from, has_values_from, written_from, written_under, StaysUnder, StaysWritten};
 
@@ -25,8 +26,8 @@ impl<'a> ArrayBytesDecodeIntoTarget<'a> {
     ghost use Rattle.zarrs_array_bytes.specs.ArrayBytesDecodeIntoTarget.{target_of, target_names};
     ghost use Rattle.zarrs_array_bytes.specs.DecodeTarget.{shape_fit, written_target, fills};
 
-    /// Whether a chunk of this shape and type can be decoded into the target. Refusals, the first that
-    /// holds: `UnsupportedTarget` for a type with a variable part; `TargetMismatch` where there is not
+    /// Whether a chunk of this shape and type can be decoded into the target. Errors, the first that
+    /// applies: `UnsupportedTarget` for a type with a variable part; `TargetMismatch` where there is not
     /// one mask for each optional level, or a view is not of as many elements as the chunk has, that of
     /// a mask of one byte for each, that of the elements of their size.
     #[tactic(auto, using(crate::proofs::TargetLemmas::miscounted))]
@@ -54,7 +55,7 @@ impl<'a> ArrayBytesDecodeIntoTarget<'a> {
         requires fills { fills (target_of self.old) elements.now ≡ true }
         ensures same_reference { target_names self.new ≡ target_names self.old }
         ensures written { target_of self.new ≡ written_target (target_of self.old) elements.now }
-        ensures flags { has_flags elements.now ≡ true }
+        ensures flush { IsFlush elements.now }
     {
         write_levels(&mut self.masks, 0, &mut self.values, elements);
     }
@@ -101,7 +102,7 @@ fn levels_taken(
     }
 }
 
-/// Writes a container, that stands under so many masks already written, into the other views, level by
+/// Writes a container, which is under so many masks already written, into the other views, level by
 /// level.
 fn write_levels(
     masks: &mut [ArrayBytesFixedView<'_>],
@@ -116,7 +117,7 @@ fn write_levels(
     ensures mask_names { map view_name masks.new ≡ map view_name masks.old }
     ensures name { view_name values.new ≡ view_name values.old }
     ensures values { view_of values.new ≡ written_under level masks.old values.old elements.now }
-    ensures flags { has_flags elements.now ≡ true }
+    ensures flush { IsFlush elements.now }
 {
     if level == masks.len() {
         values.write(elements.fixed_bytes());
@@ -126,8 +127,8 @@ fn write_levels(
     write_levels(masks, level + 1, values, inner)
 }
 
-/// Writes the outermost mask of a container into the view of this level, and answers what stands under
-/// the mask.
+/// Writes the outermost mask of a container into the view of this level, and returns the elements under
+/// it.
 fn write_mask<'b, 'c>(
     masks: &mut [ArrayBytesFixedView<'_>],
     level: usize,
@@ -140,7 +141,7 @@ fn write_mask<'b, 'c>(
     ensures masks { has_masks (views_from (level + 1) masks.new) result.now ≡ true }
     ensures under { StaysUnder level masks.old masks.new elements.now result.now }
     ensures written { StaysWritten level masks.old masks.new elements.now result.now }
-    ensures flags { has_flags result.now ≡ true → has_flags elements.now ≡ true }
+    ensures flush { IsFlush result.now → IsFlush elements.now }
 {
     let (inner, flags) = elements.optional_parts();
     masks[level].write(flags);

@@ -1,3 +1,4 @@
+//! A view of the elements of an array, at the places of a subset.
 ghost use Rattle.std.specs.Prelude.{◌≡◌, ◌+◌, ◌*◌, ◌^◌, ◌<◌, ◌≤◌, All, length};
 ghost use Rattle.zarrs_chunk.specs.Runs.{joined_runs};
 
@@ -7,7 +8,7 @@ use std::alloc::Global;
 use zarrs_chunk::{ArraySubset, ChunkShape, CodecError, Indexer};
 
 /// The elements of a subset of an array, to be written into the array's own bytes: elements of one
-/// size, which stand in row-major order.
+/// size, in row-major order.
 #[derive(Debug, Drop)]
 pub struct ArrayBytesFixedView<'a> {
     bytes: &'a mut [u8],
@@ -26,7 +27,7 @@ impl<'a> ArrayBytesFixedView<'a> {
     ghost use Rattle.zarrs_array_bytes.specs.FixedView.{fixed_view, view_length, elements_fit};
 
     /// The elements of the subset of an array of this shape, whose elements have `element_size` bytes
-    /// each and stand in `bytes`. Refusals, the first that holds, `OutOfMemory` aside:
+    /// each and are in `bytes`. Errors, the first that applies, `OutOfMemory` aside:
     /// `TargetMismatch` where an element has no byte; `IncompatibleDimensionality` and `OutOfBounds` of
     /// the subset; `Overflow` where the array has `2^64` elements or bytes or more;
     /// `InvalidBytesLength` where `bytes` are not as many as the array has.
@@ -68,8 +69,8 @@ impl<'a> ArrayBytesFixedView<'a> {
         &self.bytes[..]
     }
 
-    /// Writes the subset's elements, which stand one after another in its row-major order, a run at a
-    /// time. All other bytes stay as they were. Refusals: `TargetMismatch` where they are not as many
+    /// Writes the subset's elements, one after another in its row-major order, a run at a
+    /// time. All other bytes stay as they were. Errors: `TargetMismatch` where they are not as many
     /// bytes as the subset's elements have; then nothing is written.
     pub fn copy_from_slice(&mut self, elements: &[u8]) -> Result<(), CodecError>
         ensures answer { result ≡ elements_fit (view_of self.old) elements.now }

@@ -1,3 +1,4 @@
+//! Where elements of any length begin and end in their bytes.
 ghost use Rattle.std.specs.Prelude.{◌≡◌, ◌∷◌, Ok, true};
 ghost use Rattle.std.specs.Bool.{nat_eq};
 ghost use Rattle.std.specs.Cmp.Lexicographic.{pointwise};
@@ -5,6 +6,7 @@ ghost use Rattle.std.specs.Cmp.Rules.{comparing};
 ghost use Rattle.std.proofs.Common.{rules};
 ghost use Rattle.zarrs_chunk.specs.Answer.{Answers, memory};
 ghost use Rattle.zarrs_array_bytes.specs.Offsets.{offsets_of, is_offsets, rises};
+ghost use Rattle.zarrs_array_bytes.specs.Tight.{from_first};
 
 use std::marker::Model;
 use zarrs_chunk::CodecError;
@@ -28,7 +30,7 @@ impl Model for ArrayBytesOffsets {
 }
 
 impl ArrayBytesOffsets {
-    /// The offsets, one more than elements. Refusals: `InvalidOffsets` where there is none, or one
+    /// The offsets, one more than elements. Errors: `InvalidOffsets` where there is none, or one
     /// is less than the one before.
     pub fn new(offsets: Vec<usize>) -> Result<ArrayBytesOffsets, CodecError>
         ensures answer { result ≡ offsets_of offsets.items }
@@ -46,6 +48,15 @@ impl ArrayBytesOffsets {
         ArrayBytesOffsets { offsets }
     }
 
+    /// The offsets counted from the first one, in place.
+    pub(crate) fn from_first(self) -> ArrayBytesOffsets
+        ensures moved { result ≡ from_first self }
+    {
+        let mut offsets = self.offsets;
+        move_to_zero(offsets.as_mut_slice());
+        ArrayBytesOffsets { offsets }
+    }
+
     /// The offsets, one more than elements.
     pub fn as_slice(&self) -> &[usize]
         ensures value { result.now ≡ self.now }
@@ -54,7 +65,7 @@ impl ArrayBytesOffsets {
         self.offsets.as_slice()
     }
 
-    /// Equal offsets. Refusals: `OutOfMemory`.
+    /// Equal offsets. Errors: `OutOfMemory`.
     pub fn clone(&self) -> Result<ArrayBytesOffsets, CodecError>
         ensures copy { Answers memory (λ copy. copy) result (Ok self.now) }
     {
@@ -75,6 +86,22 @@ impl PartialEq for ArrayBytesOffsets {
 
 impl Eq for ArrayBytesOffsets {
     ghost laws = { Prim.search (comparing, rules) };
+}
+
+/// Counts the offsets from the first one.
+#[tactic(auto, using(crate::proofs::FlushLemmas::from_zero))]
+fn move_to_zero(offsets: &mut [usize])
+    requires rising { is_offsets offsets.old ≡ true }
+    ensures moved { offsets.new ≡ from_first offsets.old }
+    ensures rising { is_offsets offsets.new ≡ true }
+{
+    let first = offsets[0];
+    if first == 0 {
+        return;
+    }
+    for offset in offsets.iter_mut() {
+        *offset -= first;
+    }
 }
 
 fn are_rising(offsets: &[usize]) -> bool

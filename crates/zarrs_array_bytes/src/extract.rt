@@ -1,6 +1,7 @@
+//! Elements of a container at the tuples of an indexer, or at runs.
 ghost use Rattle.std.specs.Prelude.{◌+◌, ◌≤◌, IfOk, All};
 ghost use Rattle.zarrs_chunk.specs.Runs.{joined_runs};
-ghost use Rattle.zarrs_array_bytes.specs.Blank.{KeepsBlanks};
+ghost use Rattle.zarrs_array_bytes.specs.Tight.{ExtractsTight, GivesFlush};
 ghost use Rattle.zarrs_array_bytes.specs.Extracted.{IsSmall, GivesHeldAt};
 ghost use Rattle.zarrs_array_bytes.specs.Chunks.{ExtractsRuns, ExtractsSelected};
 ghost use Rattle.zarrs_array_bytes.specs.Validity.{HasElements};
@@ -13,8 +14,8 @@ use zarrs_chunk::{ChunkShape, CodecError, Indexer};
 use zarrs_data_type::DataType;
 
 impl<'a> ArrayBytes<'a> {
-    /// The elements of a chunk of this shape and type at the indexer's tuples, in their order. The bytes
-    /// of a run are copied at once. Refusals, the first that holds, `OutOfMemory` aside:
+    /// The elements of a chunk of this shape and type at the indexer's tuples, in their order, in a
+    /// container whose offsets begin at 0. The bytes of a run are copied at once. Errors, the first that applies, `OutOfMemory` aside:
     /// those of the indexer (`IncompatibleDimensionality`, `OutOfBounds`, and `Overflow` where the
     /// shape has `2^64` elements or more), and then those of `validate` at the shape's element count.
     pub fn extract_array_subset(
@@ -25,7 +26,8 @@ impl<'a> ArrayBytes<'a> {
         data_type: &DataType,
     ) -> Result<ArrayBytes<'static>, CodecError>
         ensures exact { ExtractsSelected data_type.now shape.now indexer.now self.now result }
-        ensures blank { KeepsBlanks data_type.now self.now result }
+        ensures flush { GivesFlush result }
+        ensures tight { ExtractsTight data_type.now self.now result }
     {
         let runs = indexer.runs(alloc, shape)?;
         let count = shape.num_elements()?;
@@ -33,8 +35,8 @@ impl<'a> ArrayBytes<'a> {
     }
 
     /// The elements at the places of the runs, each a start and a length, in their order, of a chunk of
-    /// `count` elements of the type. The bytes of a run are copied at once. Refusals, the first that
-    /// holds, `OutOfMemory` aside: those of `validate` at `count`.
+    /// `count` elements of the type, in a container whose offsets begin at 0. The bytes of a run are copied at once. Errors, the first that
+    /// applies, `OutOfMemory` aside: those of `validate` at `count`.
     pub fn extract_runs<'b>(
         &self,
         alloc: Global,
@@ -44,7 +46,8 @@ impl<'a> ArrayBytes<'a> {
     ) -> Result<ArrayBytes<'b>, CodecError>
         requires inside { All (λ run. run.0 + run.1 ≤ count) runs.now }
         ensures answer { ExtractsRuns data_type.now count runs.now self.now result }
-        ensures blank { KeepsBlanks data_type.now self.now result }
+        ensures flush { GivesFlush result }
+        ensures tight { ExtractsTight data_type.now self.now result }
     {
         self.validate(count, data_type)?;
         self.at_runs(alloc, runs, count, data_type)
@@ -61,6 +64,7 @@ impl<'a> ArrayBytes<'a> {
         requires valid { HasElements data_type.now count self.now }
         requires inside { All (λ run. run.0 + run.1 ≤ count) runs.now }
         ensures small { IfOk result IsSmall }
+        ensures flush { GivesFlush result }
         ensures exact { GivesHeldAt data_type.now self.now (joined_runs runs.now) result }
     {
         match &self.parts {

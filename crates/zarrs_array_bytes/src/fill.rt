@@ -1,7 +1,8 @@
+//! Containers of fill values, and of blank elements.
 ghost use Rattle.std.specs.Prelude.{◌≡◌, Ok, IfOk};
 ghost use Rattle.zarrs_chunk.specs.Answer.{GivesValue};
 ghost use Rattle.zarrs_array_bytes.specs.Validity.{sizes_fit};
-ghost use Rattle.zarrs_array_bytes.specs.Blank.{AbsentAreBlank};
+ghost use Rattle.zarrs_array_bytes.specs.Tight.{IsTight};
 ghost use Rattle.zarrs_array_bytes.specs.Extracted.{IsSmall};
 ghost use Rattle.zarrs_array_bytes.specs.Filled.{blank_elements as blank_of, container_fill, IsFill};
 ghost use Rattle.zarrs_array_bytes.specs.Chunks.{GivesFill};
@@ -15,8 +16,8 @@ use zarrs_chunk::CodecError;
 use zarrs_data_type::{DataType, FillValue};
 
 impl<'a> ArrayBytes<'a> {
-    /// `count` elements of the type, each of them the fill value. Absent ones stand over zeros, empty
-    /// bytes and inner masks of zero. Refusals, the first that holds, `OutOfMemory` aside:
+    /// `count` elements of the type, each of them the fill value. Absent ones are over zeros, empty bytes
+    /// and inner masks of zero. Errors, the first that applies, `OutOfMemory` aside:
     /// `InvalidFillValue` where the bytes don't fit the type; `Overflow` as in `validate`.
     pub fn new_fill_value(
         alloc: Global,
@@ -26,7 +27,7 @@ impl<'a> ArrayBytes<'a> {
     ) -> Result<ArrayBytes<'a>, CodecError>
         ensures exact { GivesFill data_type.now count fill_value.now result }
         ensures held { IfOk result (IsFill data_type.now count fill_value.now) }
-        ensures blank { IfOk result (AbsentAreBlank data_type.now) }
+        ensures tight { IfOk result (IsTight data_type.now) }
     {
         if !fill_value.fits(data_type) {
             return Err(CodecError::InvalidFillValue);
@@ -36,7 +37,7 @@ impl<'a> ArrayBytes<'a> {
     }
 }
 
-/// `count` elements that are absent, and what stands under them.
+/// `count` blank elements: zeros, empty bytes, inner masks of zero.
 #[tactic(auto, using(crate::proofs::FillLemmas::fill_calls))]
 pub(crate) fn blank_elements<'a>(
     alloc: Global,

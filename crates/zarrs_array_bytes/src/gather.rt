@@ -1,3 +1,4 @@
+//! Bytes of elements at runs, one after another.
 ghost use Rattle.std.specs.Prelude.{◌≡◌, ◌+◌, ◌-◌, ◌*◌, ◌<◌, ◌^◌, ◌≤◌, All, IfOk, OnOk, length, map, slice_index, true};
 ghost use Rattle.zarrs_chunk.specs.Answer.{Appends};
 ghost use Rattle.zarrs_chunk.specs.Runs.{joined_runs};
@@ -73,7 +74,7 @@ pub(crate) fn gather_cuts(
     Ok((out, ends))
 }
 
-/// Appends the bytes of the `count` elements from `first` on, which stand one behind another, and
+/// Appends the bytes of the `count` elements from `first` on, one behind another, and
 /// where each ends behind the bytes that are there already.
 pub(crate) fn append_cuts(
     out: &mut Vec<u8>,

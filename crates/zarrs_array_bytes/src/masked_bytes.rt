@@ -1,7 +1,7 @@
-//! Bytes of elements of one size under a mask: taken out, and put back.
+//! Bytes of elements of one size under a mask: extracted, and put back.
 //!
 //! No step asks whether an element is present: each is written where the next present one belongs, and
-//! only the count tells whether it stays. Where it doesn't, the next one is written over it.
+//! only the count decides whether it stays. Where it doesn't, the next one is written over it.
 ghost use Rattle.std.specs.Prelude.{◌≡◌, ◌+◌, ◌*◌, ◌<◌, ◌≤◌, ◌^◌, IfOk, length, replicate, take, true};
 ghost use Rattle.std.specs.List.{between};
 ghost use Rattle.zarrs_array_bytes.specs.Given.{MakesItems};

@@ -1,3 +1,4 @@
+//! Elements that are present under a mask: extracted, and put back.
 ghost use Rattle.std.specs.Prelude.{◌≡◌, ◌<◌, ◌-◌, ◌≤◌, false, Ok, IfOk, OnOk, length};
 ghost use Rattle.std.specs.List.{range_with_len};
 ghost use Rattle.zarrs_chunk.specs.Answer.{Gives, GivesValue, is_fault};
@@ -7,6 +8,7 @@ ghost use Rattle.zarrs_array_bytes.specs.Held.{items_of, raw_of};
 ghost use Rattle.zarrs_array_bytes.specs.Validity.{HasElements, sizes_fit};
 ghost use Rattle.zarrs_array_bytes.specs.Blank.{OuterAreBlank, KeepsBlanks, ExpandsBlanks};
 ghost use Rattle.zarrs_array_bytes.specs.Extracted.{IsSmall, GivesHeldAt};
+ghost use Rattle.zarrs_array_bytes.specs.Tight.{IsFlush, GivesFlush, KeepsTight, ExpandsTight};
 ghost use Rattle.zarrs_array_bytes.specs.Present.{present_places, present_count, container_spread, expansion_of, IsExpansion, ExtractsPresent, KeptIfAllPresent, ExpandsPresent};
 
 use crate::array_bytes::{ArrayBytes, Parts, is_mask};
@@ -24,7 +26,7 @@ use zarrs_data_type::DataType;
 const BLOCK: usize = 128;
 
 /// How many elements are present under a mask with a byte for each: 0 for absent, 1 for present.
-/// Refusals: `MaskValue` where a byte is another number.
+/// Errors: `MaskValue` where a byte is another number.
 pub fn count_present(mask: &[u8]) -> Result<u64, CodecError>
     ensures answer { result ≡ present_count mask.now }
     ensures no_fault { is_fault result ≡ false }
@@ -111,10 +113,10 @@ fn runs_of_mask(alloc: Global, mask: &[u8]) -> Result<Vec<(u64, u64)>, CodecErro
 
 impl<'a> ArrayBytes<'a> {
     /// The elements that are present under the mask, one after another, of this container of the
-    /// elements of the type that stand under it: those where its byte isn't 0. Elements of 1, 2, 4, 8
+    /// elements of the type under it: those where its byte isn't 0. Elements of 1, 2, 4, 8
     /// or 16 bytes are moved one by one, of others the bytes of a run of present ones at once; where
-    /// all are present, the container is handed back as it is, in no new memory. Refusals, the first
-    /// that holds, `OutOfMemory` aside: those of `validate` at the number of mask bytes.
+    /// all are present, the container is returned as it is, in no new memory. Errors, the first
+    /// that applies, `OutOfMemory` aside: those of `validate` at the number of mask bytes.
     pub fn extract_present(
         self,
         alloc: Global,
@@ -124,6 +126,7 @@ impl<'a> ArrayBytes<'a> {
         ensures answer { ExtractsPresent data_type.now self.entry mask.now result }
         ensures kept { KeptIfAllPresent data_type.now self.entry mask.now result }
         ensures blank { KeepsBlanks data_type.now self.entry result }
+        ensures tight { KeepsTight data_type.now self.entry result }
     {
         self.validate(mask.len() as u64, data_type)?;
         let count = count_set(mask);
@@ -147,6 +150,7 @@ impl<'a> ArrayBytes<'a> {
         requires counted { count ≡ length (present_places mask.now) }
         requires some { count < length mask.now }
         ensures small { IfOk result IsSmall }
+        ensures flush { GivesFlush result }
         ensures exact { GivesHeldAt data_type.now self.now (present_places mask.now) result }
     {
         if let Parts::Fixed(bytes) = &self.parts {
@@ -161,10 +165,10 @@ impl<'a> ArrayBytes<'a> {
     }
 
     /// These elements of the type put back under the mask: the elements of the optional type that are
-    /// present, one after another, where its byte is 1, and absent elsewhere. Absent ones stand over
+    /// present, one after another, where its byte is 1, and absent elsewhere. Absent ones are over
     /// zeros, empty bytes and inner masks of zero. Elements of 1, 2, 4, 8 or 16 bytes are moved one by
-    /// one, of others a run of present ones at once; where all are present, the container is taken as
-    /// it is. Refusals, the first that holds, `OutOfMemory` aside: those of `count_present`; those of
+    /// one, of others a run of present ones at once; where all are present, the container is used as
+    /// it is. Errors, the first that applies, `OutOfMemory` aside: those of `count_present`; those of
     /// `validate` at that count; `Overflow` as in `validate` at the number of mask bytes.
     pub fn expand_present(
         self,
@@ -176,12 +180,13 @@ impl<'a> ArrayBytes<'a> {
         ensures held { IfOk result (IsExpansion data_type.now self.entry (raw_of mask.entry)) }
         ensures absent { IfOk result (OuterAreBlank (optional data_type.now)) }
         ensures blank { ExpandsBlanks data_type.now self.entry result }
+        ensures tight { ExpandsTight data_type.now self.entry result }
     {
         let inner = self.expanded(alloc, mask.as_slice(), data_type)?;
         inner.under_mask(alloc, mask)
     }
 
-    /// What stands under the mask.
+    /// The elements under the mask.
     fn expanded(
         self,
         alloc: Global,
@@ -189,6 +194,7 @@ impl<'a> ArrayBytes<'a> {
         data_type: &DataType,
     ) -> Result<ArrayBytes<'a>, CodecError>
         ensures exact { GivesValue result (expansion_of data_type.now self.entry mask.now) }
+        ensures flush { IsFlush self.entry → GivesFlush result }
     {
         let count = count_present(mask)?;
         self.validate(count, data_type)?;
@@ -211,6 +217,7 @@ fn spread<'a>(
     requires valid { HasElements data_type.now (length (present_places mask.now)) array.now }
     requires sizes { sizes_fit data_type.now (length mask.now) ≡ Ok tt }
     ensures exact { GivesValue result (Ok (container_spread data_type.now array.now mask.now)) }
+    ensures flush { GivesFlush result }
 {
     if let Parts::Fixed(bytes) = &array.parts {
         let size = data_type.fixed_size().unwrap();
@@ -232,6 +239,7 @@ fn spread_runs<'a>(
     requires valid { HasElements data_type.now (length (present_places mask.now)) array.now }
     requires sizes { sizes_fit data_type.now (length mask.now) ≡ Ok tt }
     ensures exact { GivesValue result (Ok (container_spread data_type.now array.now mask.now)) }
+    ensures flush { GivesFlush result }
 {
     let count = mask.len() as u64;
     let runs = runs_of_mask(alloc, mask)?;

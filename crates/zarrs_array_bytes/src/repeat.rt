@@ -1,3 +1,4 @@
+//! Bytes repeated, and their offsets.
 ghost use Rattle.std.specs.Prelude.{◌≡◌, ◌*◌, ◌^◌, ◌<◌, ◌++◌, IfOk, OnOk, OnErr, length, replicate};
 ghost use Rattle.zarrs_array_bytes.specs.Cuts.{even_ends};
 ghost use Rattle.zarrs_array_bytes.specs.Filled.{copies, copies_with_offsets};
@@ -7,7 +8,7 @@ ghost use Rattle.zarrs_array_bytes.specs.Pieces.{IsLonger};
 use std::alloc::{AllocError, Global};
 use zarrs_chunk::CodecError;
 
-/// Appends these bytes `count` times. Room for all of them is made first. Refusals: `AllocError`, and
+/// Appends these bytes `count` times. Room for all of them is made first. Errors: `AllocError`, and
 /// then the old bytes are all there is.
 pub fn append_copies(out: &mut Vec<u8>, bytes: &[u8], count: u64) -> Result<(), AllocError>
     ensures appended { OnOk result (out.new.items ≡ out.old.items ++ copies bytes.now count) }

@@ -1,3 +1,4 @@
+//! Elements of any length replaced at runs in any order.
 ghost use Rattle.std.specs.Prelude.{◌≡◌, ◌+◌, ◌≤◌, ◌-◌, ◌<◌, ◌^◌, All, IfOk, length, true};
 ghost use Rattle.zarrs_chunk.specs.Runs.{joined_runs};
 ghost use Rattle.zarrs_array_bytes.specs.Given.{MakesItems, UpdatesCuts, GathersCuts};

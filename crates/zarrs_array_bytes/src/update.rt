@@ -1,4 +1,5 @@
-ghost use Rattle.std.specs.Prelude.{◌≡◌, ◌+◌, ◌*◌, ◌-◌, ◌≤◌, ◌<◌, Ok, IsOk, All, length, nat_lt, true, false};
+//! Elements of a container replaced at the tuples of an indexer, or at runs.
+ghost use Rattle.std.specs.Prelude.{◌≡◌, ◌+◌, ◌*◌, ◌-◌, ◌≤◌, ◌<◌, Ok, IsOk, IfOk, All, length, nat_lt, true, false};
 ghost use Rattle.std.specs.List.{list_all};
 ghost use Rattle.zarrs_chunk.specs.Answer.{is_fault};
 ghost use Rattle.zarrs_chunk.specs.Runs.{joined_runs};
@@ -6,7 +7,7 @@ ghost use Rattle.zarrs_array_bytes.specs.Held.{items_of, mask_levels};
 ghost use Rattle.zarrs_array_bytes.specs.Offsets.{is_offsets, last_of};
 ghost use Rattle.zarrs_array_bytes.specs.Parts.{fixed_part, variable_part, optional_part, bytes_in, offsets_in, inner_in};
 ghost use Rattle.zarrs_array_bytes.specs.Validity.{HasElements, data_fit};
-ghost use Rattle.zarrs_array_bytes.specs.Blank.{UpdatesBlanks};
+ghost use Rattle.zarrs_array_bytes.specs.Tight.{UpdatesTight, GivesFlush, IsFlush};
 ghost use Rattle.zarrs_array_bytes.specs.Chunks.{update_fit, UpdatesRuns, UpdatesSelected};
 ghost use Rattle.zarrs_array_bytes.specs.Given.{WritesAtRuns, WritesFixed, WritesVariable, WritesMask};
 
@@ -23,9 +24,9 @@ use zarrs_chunk::{ChunkShape, CodecError, Indexer};
 use zarrs_data_type::DataType;
 
 /// The elements of a chunk of this shape and type, with those at the indexer's tuples replaced by
-/// the new ones, one after another: where a tuple comes twice, the last one stands. Elements of one
-/// size are written into the old bytes where those are owned, a run at a time. Refusals, the first
-/// that holds, `OutOfMemory` aside: those of the indexer (`IncompatibleDimensionality`,
+/// the new ones, one after another: where a tuple comes twice, the last one counts. Elements of one
+/// size are written into the old bytes where those are owned, a run at a time. Errors, the first
+/// that applies, `OutOfMemory` aside: those of the indexer (`IncompatibleDimensionality`,
 /// `OutOfBounds`, and `Overflow` where the shape has `2^64` elements or more); those of `validate` of
 /// the old elements at the shape's element count; those of `validate_data` of the new ones,
 /// `ArrayBytesKind` or `DataMismatch` level by level.
@@ -38,7 +39,8 @@ pub fn update_array_bytes(
     data_type: &DataType,
 ) -> Result<ArrayBytes<'static>, CodecError>
     ensures exact { UpdatesSelected data_type.now shape.now indexer.now array.entry new.now result }
-    ensures blank { UpdatesBlanks data_type.now array.entry new.now result }
+    ensures flush { GivesFlush result }
+    ensures tight { UpdatesTight data_type.now array.entry new.now result }
 {
     let runs = indexer.runs(alloc, shape)?;
     let count = shape.num_elements()?;
@@ -47,8 +49,8 @@ pub fn update_array_bytes(
 
 /// The `count` elements of the type, with those at the places of the runs, each a start and a
 /// length, replaced by the new ones, one after another: where a place comes twice, the last one
-/// stands. Elements of one size are written into the old bytes where those are owned, a run at a
-/// time. Refusals, the first that holds, `OutOfMemory` aside: those of `validate` of the old elements
+/// counts. Elements of one size are written into the old bytes where those are owned, a run at a
+/// time. Errors, the first that applies, `OutOfMemory` aside: those of `validate` of the old elements
 /// at `count`; those of `validate_data` of the new ones at the number of the runs' places.
 pub fn update_runs(
     alloc: Global,
@@ -60,7 +62,8 @@ pub fn update_runs(
 ) -> Result<ArrayBytes<'static>, CodecError>
     requires inside { All (λ run. run.0 + run.1 ≤ count) runs.now }
     ensures answer { UpdatesRuns data_type.now count runs.now array.entry new.now result }
-    ensures blank { UpdatesBlanks data_type.now array.entry new.now result }
+    ensures flush { GivesFlush result }
+    ensures tight { UpdatesTight data_type.now array.entry new.now result }
 {
     check_update(&array, count, runs, new, data_type)?;
     write_elements(alloc, array, count, new, runs, data_type)
@@ -108,6 +111,7 @@ pub(crate) fn write_elements<'b>(
     requires data_valid { data_fit data_type.now (length (joined_runs runs.now)) new.now ≡ Ok tt }
     requires inside { All (λ run. run.0 + run.1 ≤ count) runs.now }
     ensures exact { WritesAtRuns data_type.now count runs.now array.entry new.now result }
+    ensures flush { GivesFlush result }
 {
     match array.parts {
         Parts::Fixed(old) => {
@@ -136,6 +140,7 @@ fn write_fixed<'b>(
     requires inside { All (λ run. (run.0 + run.1) * size ≤ length (items_of old)) runs.now }
     requires enough { length (joined_runs runs.now) * size ≤ length (bytes_in new.now) }
     ensures exact { WritesFixed size (items_of old.entry) runs.now new.now result }
+    ensures flush { GivesFlush result }
 {
     let bytes = written_elements(alloc, old, new.fixed_bytes(), size, runs)?;
     Ok(ArrayBytes::new_flen(CowSlice::Owned(bytes)))
@@ -155,6 +160,7 @@ fn write_variable<'b>(
     requires inside { All (λ run. run.0 + run.1 ≤ length offsets - 1) runs.now }
     requires enough { length (offsets_in new.now) ≡ length (joined_runs runs.now) + 1 }
     ensures exact { WritesVariable offsets (items_of old.entry) runs.now new.now result }
+    ensures flush { GivesFlush result }
 {
     let (new, new_offsets) = new.variable_parts();
     let (bytes, offsets) = written_cuts(
@@ -182,6 +188,7 @@ fn write_mask<'b>(
     requires inside { All (λ run. run.0 + run.1 ≤ length (items_of mask)) runs.now }
     requires enough { length new_mask.now ≡ length (joined_runs runs.now) }
     ensures exact { WritesMask inner.entry (items_of mask.entry) runs.now new_mask.now result }
+    ensures flush { IfOk result (λ array. IsFlush inner.entry → IsFlush array) }
 {
     let mask = written_flags(alloc, mask, new_mask, runs)?;
     ArrayBytes::of_masked(alloc, inner, mask)

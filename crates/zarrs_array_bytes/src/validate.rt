@@ -1,3 +1,4 @@
+//! Whether bytes, offsets and mask bytes have the lengths that a type and a count ask for.
 ghost use Rattle.std.specs.Prelude.{◌≡◌, ◌*◌, ◌+◌, ◌<◌, ◌^◌, Ok, false};
 ghost use Rattle.zarrs_chunk.specs.Answer.{is_fault};
 ghost use Rattle.zarrs_array_bytes.specs.WrongLength.{refusal_of};
@@ -6,7 +7,7 @@ ghost use Rattle.zarrs_array_bytes.specs.Validity.{sizes_fit, length_is};
 use zarrs_chunk::CodecError;
 use zarrs_data_type::DataType;
 
-/// What a wrong length is refused as.
+/// Which error a wrong length gives.
 #[derive(Clone, Copy, Drop)]
 pub(crate) enum WrongLength {
     InvalidBytesLength,

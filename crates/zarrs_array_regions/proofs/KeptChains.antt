@@ -40,7 +40,7 @@ places_stay (codec ∷ codecs) sizes m place h e =
     ∙ places_stay codecs first.0.encoded rest.0 (first.0.to place) both.1 rest.1
     ∙ place_stays codec sizes first.0 place both.0 first.1
 
--- ---- the next window has the sizes of the encoded chunk
+-- ---- the next window has the sizes of the moved chunk
 
 pub next_sizes : (codec : ArrayMapping) (sizes : List ℕ) (region : Region) (m : CoordinateMap) (next : Window) → coordinates codec sizes ≡ Ok m → next_window codec (window_of sizes region) ≡ Some next → m.encoded ≡ next.sizes
 next_sizes (transpose order) sizes region m next h e =

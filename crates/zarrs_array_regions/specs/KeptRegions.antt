@@ -1,4 +1,4 @@
--- Regions that go through array codecs as regions.
+-- Regions that go through array-to-array codecs as regions.
 use Rattle.std.specs.Prelude.{◌≡◌, ℕ, ◌<◌, ◌==◌, ◌&&◌, Bool, true, false, not, is_ok, List, [], ◌∷◌, map, Option, Some, None, IfSome, option_map, if◌then◌else◌}
 use Rattle.std.specs.List.{list_all, list_any}
 use Rattle.std.proofs.Common.{Bor}
@@ -35,19 +35,19 @@ is_kept [] sizes region = false
 is_kept (codec ∷ codecs) sizes region =
     is_ok (bounds_of (subset region) sizes) && is_filled region && keeps_regions (codec ∷ codecs)
 
--- the box that a selection means, where it goes through array codecs as a box
+-- the box that a selection is, where it goes through array-to-array codecs as a box
 abbrev pub kept_region : List ArrayMapping → List ℕ → Selection → Option Region
 kept_region codecs sizes (subset region) = if is_kept codecs sizes region then Some region else None
 kept_region codecs sizes (indices tuples) = None
 
--- the selection means this box, which lies inside the chunk and has elements, and the codecs keep it
+-- the selection is this box, which lies inside the chunk and has elements, and the codecs keep it
 pub record IsKept (codecs : List ArrayMapping) (sizes : List ℕ) (selection : Selection) (region : Region) : Type 0 where
   pub selection_is : selection ≡ subset region
   pub inside : is_box_inside sizes region.starts region.lengths ≡ true
   pub filled : 0 < product region.lengths
   pub kept : keeps_regions codecs ≡ true
 
--- what is found is the box that the indexer means, where it goes through the codecs as a box
+-- what is found is the box that the indexer selects, where it goes through the codecs as a box
 abbrev pub FindsKept : List ArrayToArrayCodec → List ℕ → Indexer → Option (Bor Region) → Type 0
 FindsKept codecs sizes indexer found =
     option_map (λ region. region.now) found ≡ kept_region (map mapping_of codecs) sizes (selection_of indexer)

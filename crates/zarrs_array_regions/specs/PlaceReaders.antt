@@ -15,7 +15,7 @@ brought_back lengths part default items = map (λ index. get_or items (part.to i
 abbrev pub taken_along : {A : Type 0} → List ℕ → CoordinateMap → A → List A → List A
 taken_along lengths part default items = map (λ index. get_or items (part.from index) default) (range_with_len 0 (product lengths))
 
--- Of places in another order the elements are answered in that order, or the same refusal.
+-- Of places in another order the elements are returned in that order, or the same error.
 pub record ReadsInAnyOrder (read : List ℕ → Result Chunk CodecError) : Type 0 where
   pub moved : (lengths : List ℕ) (part : CoordinateMap) (places : List ℕ) → IsCoordinateMap lengths part → length places ≡ product lengths
       → read (brought_back lengths part 0 places) ≡ seen (moved_chunk (inverse_map lengths part)) (read places)

@@ -1,4 +1,4 @@
--- Laws of regions that go through array codecs.
+-- Laws of regions that go through array-to-array codecs.
 use Rattle.std.specs.Prelude.{◌≡◌, ◌≢◌, ℕ, ◌<◌, Bool, true, List, [], length, get_or, is_ok, IsOkAnd, map, Result, Ok, Err, Option, Some, All}
 use Rattle.std.specs.List.{concat, flat_map, list_all}
 use Rattle.zarrs_chunk.specs.Answer.{◌>>=◌, demand, seen}
@@ -87,7 +87,7 @@ WindowsCompose =
 abbrev pub PlacesStay : Type 0
 PlacesStay = (codecs : List ArrayMapping) (sizes : List ℕ) (m : CoordinateMap) (place : ℕ) → list_all keeps_places codecs ≡ true → chained codecs sizes ≡ Ok m → m.to place ≡ place
 
--- what is said of a region inside a chunk of these sizes that goes as a region through codecs, which do this to such chunks
+-- what holds of a region inside a chunk of these sizes that goes as a region through codecs, which do this to such chunks
 abbrev pub OfKeptRegions : (List ArrayMapping → List ℕ → CoordinateMap → Region → Type 0) → Type 0
 OfKeptRegions P =
     (codecs : List ArrayMapping) (sizes : List ℕ) (m : CoordinateMap) (region : Region) → All IsMapping codecs → All (λ size. 0 < size) sizes → chained codecs sizes ≡ Ok m → keeps_regions codecs ≡ true → is_box_inside sizes region.starts region.lengths ≡ true
@@ -99,13 +99,13 @@ ChainsKeepWindows = OfKeptRegions (λ codecs sizes m region.
     let window = window_of sizes region in
     KeepsWindow (product sizes) m window (last_window codecs window) (region_map codecs window))
 
--- Selecting a region of a chunk is decoding, at the region's own lengths, what the encoded chunk has in the last window.
+-- Selecting a region of a chunk is decoding, at the region's own lengths, what the moved chunk has in the last window.
 abbrev pub RegionsAreRead : Type 0
 RegionsAreRead = OfKeptRegions (λ codecs sizes m region.
     let window = window_of sizes region in
     (chunk : Chunk) → select chunk (window_places window) ≡ decoded_elements codecs window (select (moved_chunk m chunk) (window_places (last_window codecs window))))
 
--- Updating the encoded chunk in the last window, with the new elements encoded at the region's own lengths, is encoding the updated chunk.
+-- Updating the moved chunk in the last window, with the new elements encoded at the region's own lengths, is encoding the updated chunk.
 abbrev pub RegionsAreWritten : Type 0
 RegionsAreWritten = OfKeptRegions (λ codecs sizes m region.
     let window = window_of sizes region in
@@ -131,11 +131,11 @@ abbrev pub TestedPlacesAreReadInAnyOrder : Type 0
 TestedPlacesAreReadInAnyOrder =
     (test : ℕ → Bool) (cause : CodecError) (element : ℕ → Element) → ReadsInAnyOrder (λ places. demand (list_all test places) cause >>= λ _. Ok (map element places))
 
--- and what refuses every read.
+-- and what makes every read fail.
 abbrev pub RefusalsReadInAnyOrder : Type 0
 RefusalsReadInAnyOrder = (cause : CodecError) → ReadsInAnyOrder (λ places. Err cause)
 
--- What reads places in any order reads where a region's places go just what it reads in the last window, decoded at the region's own lengths; or the same refusal.
+-- What reads places in any order reads where a region's places go just what it reads in the last window, decoded at the region's own lengths; or the same error.
 abbrev pub RegionsAreReadByPlaces : Type 0
 RegionsAreReadByPlaces = OfKeptRegions (λ codecs sizes m region.
     let window = window_of sizes region in

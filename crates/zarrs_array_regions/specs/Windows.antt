@@ -1,4 +1,4 @@
--- Regions of chunks, and where array codecs take them.
+-- Regions of chunks, and where array-to-array codecs take them.
 use Rattle.std.specs.Prelude.{◌≡◌, ℕ, ◌<◌, ◌^◌, true, List, [], ◌∷◌, map, get_or, is_ok, All, Option, Some, None, Result, Ok}
 use Rattle.zarrs_chunk.specs.Answer.{Gives, GivesBy}
 use Rattle.zarrs_chunk.specs.ChunkShape.{product}
@@ -95,13 +95,13 @@ decoded_elements codecs window chunk = moved_chunk (inverse_map window.region.le
 
 -- ---- what calls ask for and give
 
--- the codecs take chunks of these sizes, which 64 bits count, and the region lies inside
+-- the codecs accept chunks of these sizes, which 64 bits count, and the region lies inside
 pub record TakesRegion (codecs : List ArrayMapping) (sizes : List ℕ) (region : Region) : Type 0 where
   pub taken : is_ok (chained codecs sizes) ≡ true
   pub counted : product sizes < 2 ^ 64
   pub inside : is_box_inside sizes region.starts region.lengths ≡ true
 
--- each codec takes elements of the type
+-- each codec accepts elements of the type
 abbrev pub TakeType : List ArrayMapping → ElementType → Type 0
 TakeType codecs type = All (λ codec. type_taken codec type ≡ Ok tt) codecs
 

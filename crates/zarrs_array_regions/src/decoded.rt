@@ -2,7 +2,7 @@
 ghost use Rattle.std.specs.Prelude.{◌≡◌, ◌<◌, ◌^◌, Ok, true, map};
 ghost use Rattle.zarrs_chunk.specs.Answer.{GivesValue};
 ghost use Rattle.zarrs_chunk.specs.ChunkShape.{product};
-ghost use Rattle.zarrs_array_bytes.specs.Blank.{KeepsBlanks};
+ghost use Rattle.zarrs_array_bytes.specs.Tight.{KeepsTight};
 ghost use Rattle.zarrs_array_bytes.specs.Validity.{validity};
 ghost use Rattle.zarrs_array_to_array.specs.CodecAnswers.{type_taken};
 ghost use Rattle.zarrs_array_to_array.specs.Mapping.{mapping_of};
@@ -17,7 +17,7 @@ use zarrs_chunk::{ArraySubset, ChunkShape, CodecError};
 use zarrs_codec::ArrayToArrayCodecTraits;
 use zarrs_data_type::{DataType, FillValue};
 
-/// The shape that a region with elements has as a chunk. Refusals: `OutOfMemory`.
+/// The shape that a region with elements has as a chunk. Errors: `OutOfMemory`.
 fn region_shape(alloc: Global, region: &ArraySubset) -> Result<ChunkShape, CodecError>
     requires filled { 0 < product region.now.lengths }
     ensures answer { GivesValue result (Ok region.now.lengths) }
@@ -41,7 +41,7 @@ fn decoded_part<'a>(
     requires takes { type_taken (mapping_of codec.now) data_type.now ≡ Ok tt }
     requires valid { validity data_type.now (product part.now.lengths) held ≡ Ok tt }
     ensures decoded { DecodesPart (mapping_of codec.now) data_type.now part.now held.entry result }
-    ensures blank { KeepsBlanks data_type.now held.entry result }
+    ensures tight { KeepsTight data_type.now held.entry result }
 {
     match codec {
         ArrayToArrayCodec::Transpose(codec) => {
@@ -55,9 +55,9 @@ fn decoded_part<'a>(
 
 /// The elements of a region of a chunk of this shape from those of the window that the codecs take it
 /// to, decoded codec by codec, each at the region's lengths before it: `transpose` moves them, and the
-/// others leave them as they are. The codecs take the chunk and its type, the region has elements, and
-/// there is one in `held` for each. Where blank elements stand under absent ones, they do in what is
-/// made. Refusals: `OutOfMemory`.
+/// others leave them as they are. The codecs accept the chunk and its type, the region has elements,
+/// and there is one in `held` for each. Where `held` is fixed by its elements, so is what is made.
+/// Errors: `OutOfMemory`.
 pub fn decoded_window<'a>(
     alloc: Global,
     codecs: &[ArrayToArrayCodec],
@@ -72,7 +72,7 @@ pub fn decoded_window<'a>(
     requires filled { 0 < product region.now.lengths }
     requires valid { validity data_type.now (product region.now.lengths) held ≡ Ok tt }
     ensures decoded { GivesDecoded codecs.now data_type.now shape.now region.now held.entry result }
-    ensures blank { KeepsBlanks data_type.now held.entry result }
+    ensures tight { KeepsTight data_type.now held.entry result }
 {
     match codecs {
         [] => Ok(held),

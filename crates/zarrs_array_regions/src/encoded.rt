@@ -1,6 +1,8 @@
 //! The last window of a region with its elements, from those of the region.
 ghost use Rattle.std.specs.Prelude.{◌≡◌, ◌<◌, ◌^◌, Ok, true, map, IfOk};
+ghost use Rattle.zarrs_chunk.specs.Answer.{seen};
 ghost use Rattle.zarrs_chunk.specs.ChunkShape.{product};
+ghost use Rattle.zarrs_array_bytes.specs.Tight.{KeepsTight};
 ghost use Rattle.zarrs_array_bytes.specs.Validity.{validity};
 ghost use Rattle.zarrs_array_to_array.specs.CodecAnswers.{type_taken};
 ghost use Rattle.zarrs_array_to_array.specs.Mapping.{mapping_of};
@@ -30,6 +32,7 @@ fn encoded_part<'a>(
     requires takes { type_taken (mapping_of codec.now) data_type.now ≡ Ok tt }
     requires valid { validity data_type.now (product part.now.lengths) held ≡ Ok tt }
     ensures encoded { EncodesPart (mapping_of codec.now) data_type.now part.now held.entry result }
+    ensures tight { KeepsTight data_type.now held.entry result }
 {
     match codec {
         ArrayToArrayCodec::Transpose(codec) => {
@@ -54,6 +57,7 @@ fn encoded_through<'a>(
     requires filled { 0 < product window.region.lengths }
     requires valid { validity data_type.now (product window.region.lengths) held ≡ Ok tt }
     ensures encoded { EncodesThrough codecs.now data_type.now window held.entry result }
+    ensures tight { KeepsTight data_type.now held.entry (seen (λ answer. answer.1) result) }
     ensures inside { IfOk result (λ answer. IsWindow (product window.sizes) answer.0) }
     ensures map { IfOk result (λ _. IsRegionMap (map mapping_of codecs.now) window) }
 {
@@ -72,10 +76,10 @@ fn encoded_through<'a>(
     }
 }
 
-/// The window that the codecs take a region to, of a chunk of this shape, as [`last_window`] says, and
-/// its elements, encoded from those of the region codec by codec, each at the region's lengths before
-/// it. The codecs take the chunk and its type, the region has elements, and there is one in `held` for
-/// each. Refusals: `OutOfMemory`.
+/// The window that the codecs take a region to, of a chunk of this shape, as [`last_window`] returns
+/// it, and its elements, encoded from those of the region codec by codec, each at the region's lengths
+/// before it. The codecs accept the chunk and its type, the region has elements, and there is one in
+/// `held` for each. Where `held` is fixed by its elements, so is what is made. Errors: `OutOfMemory`.
 ///
 /// [`last_window`]: crate::last_window
 pub fn encoded_window<'a>(
@@ -91,6 +95,7 @@ pub fn encoded_window<'a>(
     requires filled { 0 < product region.now.lengths }
     requires valid { validity data_type.now (product region.now.lengths) held ≡ Ok tt }
     ensures encoded { GivesEncoded codecs.now data_type.now shape.now region.now held.entry result }
+    ensures tight { KeepsTight data_type.now held.entry (seen (λ answer. answer.1) result) }
     ensures inside { IfOk result (λ answer. IsWindow (product shape.now) answer.0) }
 {
     match codecs {

@@ -1,4 +1,4 @@
-//! Where a region goes through array codecs as a region.
+//! Where a region goes through array-to-array codecs as a region.
 ghost use Rattle.std.specs.Prelude.{◌≡◌, map};
 ghost use Rattle.std.specs.List.{list_all};
 ghost use Rattle.zarrs_array_to_array.specs.Mapping.{mapping_of};
@@ -47,9 +47,9 @@ fn is_filled(region: &ArraySubset) -> bool
     !region.shape().contains(&0)
 }
 
-/// The box that the indexer means, where it goes through the codecs as a box: it lies inside a chunk of
-/// this shape and has elements, and there are codecs, with no `transpose` behind a `reshape`. Nothing is
-/// refused: what isn't such a box goes place by place.
+/// The box that the indexer selects, where it goes through the codecs as a box: it lies inside a chunk
+/// of this shape and has elements, and there are codecs, with no `transpose` behind a `reshape`. It
+/// never fails: what isn't such a box goes place by place.
 pub fn kept_region<'i>(
     codecs: &[ArrayToArrayCodec],
     shape: &ChunkShape,

@@ -1,4 +1,4 @@
-//! The window that array codecs take a region to.
+//! The window that array-to-array codecs take a region to.
 ghost use Rattle.std.specs.Prelude.{◌≡◌, Ok, map, IfOk};
 ghost use Rattle.zarrs_chunk.specs.ChunkShape.{product};
 ghost use Rattle.zarrs_array_to_array.specs.Mapping.{mapping_of};
@@ -32,10 +32,10 @@ fn window_through(
     }
 }
 
-/// The window that the codecs take a region to, of a chunk of this shape that they take, one after
+/// The window that the codecs take a region to, of a chunk of this shape that they accept, one after
 /// another: `transpose` permutes it, `squeeze` drops its axes of size one, and `reshape` and the codecs
-/// behind it leave it. Where the codecs keep regions ([`kept_region`](crate::kept_region)), the encoded
-/// chunk has the region's elements there, in the order in which the codecs move them. Refusals:
+/// behind it leave it. Where the codecs keep regions ([`kept_region`](crate::kept_region)), the moved
+/// chunk has the region's elements there, in the order in which the codecs move them. Errors:
 /// `OutOfMemory`.
 pub fn last_window(
     alloc: Global,

@@ -27,8 +27,8 @@ pub fn regions_are_kept()
 {}
 
 /// What reads places reads them in any order: `bytes`, `packbits`, what answers an element of its own
-/// for each place, as of a whole chunk, or does so where all places pass a test, and what refuses every
-/// read. It answers an element for each place.
+/// for each place, as of a whole chunk, or does so where all places pass a test, and what makes every
+/// read fail. It answers an element for each place.
 pub fn places_are_read_in_any_order()
     ensures bytes { BytesReadInAnyOrder }
     ensures packbits { PackBitsReadsInAnyOrder }

@@ -62,8 +62,8 @@ fn squeezed_window(
     Ok(Window { sizes, region })
 }
 
-/// Where the codec takes a part of a chunk of this shape, which it takes: a window of the encoded
-/// shape, or `None` where the part stays. Refusals: `OutOfMemory`.
+/// Where the codec takes a part of a chunk of this shape, which it accepts: a window of the moved
+/// shape, or `None` where the part stays. Errors: `OutOfMemory`.
 pub(crate) fn next_window(
     alloc: Global,
     codec: &ArrayToArrayCodec,

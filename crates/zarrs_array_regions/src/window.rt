@@ -20,7 +20,7 @@ pub struct Window {
 impl Window {
     ghost use Rattle.zarrs_array_regions.specs.Windows.{IsWindow, window_places, window_of};
 
-    /// The window of a region of a chunk of this shape. Refusals: `OutOfMemory`.
+    /// The window of a region of a chunk of this shape. Errors: `OutOfMemory`.
     pub(crate) fn new(shape: &ChunkShape, region: &ArraySubset) -> Result<Window, CodecError>
         ensures made { GivesValue result (Ok (window_of shape.now region.now)) }
     {
@@ -31,7 +31,7 @@ impl Window {
 
     /// The places of the window's elements in row-major order, as runs of a start and a length: none
     /// is empty, and none starts where the one before it ends. The region lies inside the sizes, of
-    /// which 64 bits count the elements. Refusals: `OutOfMemory`.
+    /// which 64 bits count the elements. Errors: `OutOfMemory`.
     pub fn into_runs(self, alloc: Global) -> Result<Vec<(u64, u64)>, CodecError>
         requires inside { IsWindow (product self.sizes) self }
         requires counted { product self.sizes < 2 ^ 64 }

@@ -9,7 +9,7 @@ found_by excuse R (Ok x) (Ok v) P h f = (v, h, f v refl)
 found_by excuse R (Ok x) (Err e) P h f = absurd h
 found_by excuse R (Err e) expected P h f = tt
 
--- the value of a step that wasn't refused
+-- the value of a step that passed
 pub step_ok : {E A B : Type 0} (r : Result A E) (f : A → Result B E) (y : B) → (r >>= f) ≡ Ok y → (x : A) × (r ≡ Ok x) × (f x ≡ Ok y)
 step_ok (Ok x) f y h = (x, refl, h)
 step_ok (Err e) f y h = absurd (cc)

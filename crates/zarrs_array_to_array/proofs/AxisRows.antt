@@ -3,7 +3,7 @@ use Rattle.std.proofs.Common.{◌≡◌, ℕ, zero, suc, ◌+◌, ◌-◌, ◌*�
 use Rattle.std.specs.List.{flat_map, range_with_len}
 use Rattle.std.proofs.lemmas.List.{map_more}
 use Rattle.std.proofs.lemmas.List.Concat.{flat_map-append}
-use Rattle.zarrs_array_to_array.specs.declared.axis.Axis.{Axis}
+use Rattle.zarrs_array_to_array.specs.declared.transpose.axis.Axis.{Axis}
 use Rattle.zarrs_array_to_array.specs.Orders.{permuted}
 use Rattle.zarrs_array_to_array.specs.Strides.{row, next_rows, stepped, last_tuple, all_behind, IsRoomy}
 use Rattle.zarrs_array_to_array.specs.Axes.{behind, reach, axes_of}

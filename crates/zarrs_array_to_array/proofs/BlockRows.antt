@@ -7,7 +7,7 @@ use Rattle.std.proofs.Math.Nat.{mul-le-mul_right}
 use Rattle.zarrs_array_bytes.specs.Elements.{piece}
 use Rattle.zarrs_array_bytes.proofs.RunLemmas.{piece_is}
 use Rattle.zarrs_array_bytes.proofs.ElementLemmas.{piece_at, length_between, length-flat_map_sized}
-use Rattle.zarrs_array_to_array.specs.declared.axis.Axis.{Axis}
+use Rattle.zarrs_array_to_array.specs.declared.transpose.axis.Axis.{Axis}
 use Rattle.zarrs_array_to_array.specs.Strides.{row, next_rows}
 use Rattle.zarrs_array_to_array.specs.Axes.{behind, reach, stretch}
 use Rattle.zarrs_array_to_array.proofs.AxisRows.{behind-append, behind-nil, behind-moved, behind_below}

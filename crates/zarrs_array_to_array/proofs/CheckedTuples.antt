@@ -1,4 +1,4 @@
--- What a check of tuples says that passed.
+-- What a check of tuples that passed proves.
 use Rattle.std.proofs.Common.{◌≡◌, ◌==◌, ℕ, Bool, true, false, Ok, List, length, map, refl, ◌∙◌, sym, Vec, Global}
 use Rattle.std.specs.List.{list_all}
 use Rattle.std.proofs.lemmas.List.Folds.{list_all-map}

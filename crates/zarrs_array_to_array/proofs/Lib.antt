@@ -28,7 +28,7 @@ pub mod Readers
 pub mod BlockRows
 pub mod Writers
 pub mod WritingStages
-pub mod TransposedBlank
+pub mod NeverAbsent
 pub mod InPlace
 pub mod CodecLists
 pub mod ListedPlaces

@@ -27,7 +27,7 @@ use Rattle.zarrs_array_to_array.proofs.Transposition.{transposed_tuple}
 
 -- ---- one list
 
--- each of the tuples goes where its number says in the order of axes
+-- each of the tuples goes where its number leads in the order of axes
 numbered : (order sizes : List ℕ) (tuples : List (Vec ℕ Global)) → IsOrder order → length order ≡ length sizes → are_tuples_inside sizes tuples ≡ true → ordered_numbers order sizes tuples ≡ map (transposed_place order sizes) (numbers_of_tuples sizes tuples)
 numbered order sizes [] o axes h = refl
 numbered order sizes (tuple ∷ tuples) o axes h =

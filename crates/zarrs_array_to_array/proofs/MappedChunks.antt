@@ -1,5 +1,5 @@
 -- Encoded and decoded chunks, in the words that all codecs share.
-use Rattle.std.proofs.Common.{◌≡◌, ◌==◌, ℕ, true, List, length, Ok, Err, Result, Some, refl, ap, sym, ◌∙◌, IfOk}
+use Rattle.std.proofs.Common.{◌≡◌, ◌==◌, ℕ, true, List, length, Ok, Err, Result, Some, refl, ap, subst, sym, ◌∙◌, IfOk}
 use Rattle.std.proofs.lemmas.List.FromFn.{length-map-range_with_len}
 use Rattle.zarrs_chunk.specs.Answer.{◌>>=◌, demand, checked_u64, AnswersBy, memory}
 use Rattle.zarrs_chunk.specs.ChunkShape.{product}
@@ -12,10 +12,11 @@ use Rattle.zarrs_array_bytes.specs.Elements.{element_at, elements}
 use Rattle.zarrs_array_bytes.specs.Validity.{Holds, validity}
 use Rattle.zarrs_codec.specs.CoordinateMap.{CoordinateMap, same_places, moved_chunk, inverse_map}
 use Rattle.zarrs_codec.specs.MappedChunk.{encoded_chunk, decoded_chunk, IsSource}
+use Rattle.zarrs_codec.proofs.UnfitLemmas.{unfit_encoded, unfit_decoded}
 use Rattle.zarrs_metadata.specs.Dims.{Dim, is_reshape}
 use Rattle.zarrs_metadata.specs.Orders.{IsOrder}
 use Rattle.zarrs_array_to_array.specs.ArrayToArrayCodec.{transpose, reshape, squeeze, coordinates}
-use Rattle.zarrs_array_to_array.specs.CodecAnswers.{type_taken}
+use Rattle.zarrs_array_to_array.specs.CodecAnswers.{type_taken, LeavesUnmoved}
 use Rattle.zarrs_array_to_array.specs.Orders.{permuted, inverse}
 use Rattle.zarrs_array_to_array.specs.Reshape.{reshaped}
 use Rattle.zarrs_array_to_array.specs.Squeeze.{squeezed}
@@ -57,6 +58,15 @@ pub decoded_refused : (order sizes : List ℕ) (type : ElementType) (held : Held
 decoded_refused order sizes type held e P h =
     let refused : transpose_decoded order type sizes held ≡ Err e = rw h refl in
     rw (sym (transpose_decoded-chunk order sizes type held) ∙ refused) tt
+
+-- what transposition does of a container that holds no chunk
+pub encoded_unfit : (order sizes : List ℕ) (type : ElementType) (held : Held) (result : Result Held CodecError) → AnswersBy memory (Holds type) result (transpose_encoded order type sizes held) → LeavesUnmoved (transpose order) type sizes held result
+encoded_unfit order sizes type held result answer =
+    unfit_encoded (type_taken (transpose order)) (coordinates (transpose order)) type sizes held result (subst (λ expected. AnswersBy memory (Holds type) result expected) (transpose_encoded-chunk order sizes type held) answer)
+
+pub decoded_unfit : (order sizes : List ℕ) (type : ElementType) (held : Held) (result : Result Held CodecError) → AnswersBy memory (Holds type) result (transpose_decoded order type sizes held) → LeavesUnmoved (transpose order) type sizes held result
+decoded_unfit order sizes type held result answer =
+    unfit_decoded (type_taken (transpose order)) (coordinates (transpose order)) type sizes held result (subst (λ expected. AnswersBy memory (Holds type) result expected) (transpose_decoded-chunk order sizes type held) answer)
 
 -- ---- elements that keep their places
 

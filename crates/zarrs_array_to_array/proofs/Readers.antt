@@ -1,4 +1,4 @@
--- What a reader answers over the reader of an encoded chunk, by places.
+-- What a reader answers over the reader of a moved chunk, by places.
 use Rattle.std.proofs.Common.{◌≡◌, ◌==◌, ℕ, ◌<◌, ◌^◌, Bool, List, length, map, Result, Ok, Err, arith, refl, ap, ◌∙◌}
 use Rattle.std.specs.List.{All}
 use Rattle.std.proofs.lemmas.List.{length-map}

@@ -1,4 +1,4 @@
--- What a writer leaves over the writer of an encoded chunk.
+-- What a writer leaves over the writer of a moved chunk.
 use Rattle.std.proofs.Common.{◌≡◌, ℕ, ◌<◌, ◌^◌, Bool, Option, List, length, map, Result, Ok, Err, refl, ap, sym, ◌∙◌}
 use Rattle.std.specs.List.{All}
 use Rattle.std.proofs.lemmas.List.{length-map}
@@ -39,7 +39,7 @@ edit_left sizes type chunk selection new value_of = go (places_of selection size
     go (Err e) = refl
 
 module _ (codec : ArrayMapping) (sizes : List ℕ) (m : CoordinateMap) (is : IsMapping codec) (positive : All (λ size. 0 < size) sizes) (takes : coordinates codec sizes ≡ Ok m) where
-  -- an edit of the encoded chunk at the places where they go is the edit of the chunk
+  -- an edit of the moved chunk at the places where they go is the edit of the chunk
   left_moved : (type : ElementType) (chunk : Chunk) (new : Held) (value_of : Chunk → Result (List ℕ) CodecError) → length chunk ≡ product sizes → (places : List ℕ) → All (λ place. place < product sizes) places
       → left_at type (moved_chunk m chunk) new value_of (map m.to places) ≡ left_at type chunk new (λ edited. value_of (moved_chunk m edited)) places
   left_moved type chunk new value_of count places below =

@@ -1,4 +1,4 @@
--- Writers over the writers of encoded chunks.
+-- Writers over the writers of moved chunks.
 use Rattle.std.proofs.Common.{◌≡◌, false, Option, Some, Result, Ok, Err, refl, inl, IfErr}
 use Rattle.zarrs_chunk.specs.Answer.{◌>>=◌, Answers, memory, fault, memory_or_fault, seen}
 use Rattle.zarrs_chunk.specs.declared.codec_error.CodecError.{CodecError}
@@ -10,7 +10,7 @@ use Rattle.zarrs_array_to_array.proofs.Stages.{left_alone, first_false}
 pub passed_write : {T V W : Type 0} (view : T → Option W) (r : Result T CodecError) (image : Result V CodecError) (v : V) (f : V → Result W CodecError) → image ≡ Ok v → Answers memory_or_fault view r (seen Some (f v)) → Answers memory_or_fault view r (seen Some (image >>= f))
 passed_write view r image v f e h = rw e h
 
--- a refusal of the encoded indexer is the writer's
+-- an error of the moved indexer is the writer's
 pub refused_write : {V W : Type 0} (e : CodecError) (image : Result V CodecError) (f : V → Result W CodecError) → (memory e ≡ false → image ≡ Err e) → memory_or_fault e ≡ false → seen Some (image >>= f) ≡ Err e
 refused_write e image f h = λ ne. rw (h (first_false (memory e) (fault e) ne)) refl
 
@@ -27,6 +27,6 @@ refused_check {V} e (Ok v) f h =
     any_refusal (f v) (λ cause. Answers {T = Unit {0}} {V = Unit {0}} memory (λ done. done) (Err e) (Err cause)) (λ cause ne. absurd (let bad : ◌≡◌ {A = Result V CodecError} (Ok v) (Err e) = h ne in cc))
 refused_check {V} e (Err cause) f h = λ ne. let same : ◌≡◌ {A = Result V CodecError} (Err cause) (Err e) = h ne in cc
 
--- a refusal of the encoded indexer leaves the handle
+-- an error of the moved indexer leaves the handle
 pub alone : (e : CodecError) (state : StorageState) → fault e ≡ false → IsRefusedWrite {T = Unit {0}} (Err e) state state
 alone e state h = inl (left_alone (Unit {0}) e state h)

@@ -4,7 +4,7 @@ use Rattle.std.specs.List.{between, flat_map}
 use Rattle.std.specs.declared.alloc.Global.{Global}
 use Rattle.zarrs_chunk.specs.Answer.{Appends}
 use Rattle.zarrs_array_bytes.specs.Pieces.{pieces_at}
-use Rattle.zarrs_array_to_array.specs.declared.axis.Axis.{Axis}
+use Rattle.zarrs_array_to_array.specs.declared.transpose.axis.Axis.{Axis}
 use Rattle.zarrs_array_to_array.specs.Orders.{permuted}
 use Rattle.zarrs_array_to_array.specs.Strides.{row, next_rows, strides, stepped, last_tuple, all_stepped}
 

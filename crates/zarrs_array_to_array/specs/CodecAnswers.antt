@@ -3,36 +3,44 @@ use Rattle.std.specs.Prelude.{◌≡◌, ℕ, not, is_some, List, Result, Ok, If
 use Rattle.zarrs_chunk.specs.Answer.{demand, seen, AnswersValue, GivesBy, memory}
 use Rattle.zarrs_chunk.specs.declared.codec_error.CodecError.{CodecError}
 use Rattle.zarrs_chunk.specs.declared.codec_error.CodecError.TheVariants.{UnsupportedDataType}
-use Rattle.zarrs_chunk.specs.declared.codec_error.CodecName.TheVariants.{Transpose}
 use Rattle.zarrs_data_type.specs.ElementType.{ElementType, inner_of}
 use Rattle.zarrs_data_type.specs.Form.{Form}
 use Rattle.zarrs_array_bytes.specs.Held.{Held}
 use Rattle.zarrs_array_bytes.specs.Validity.{Holds}
-use Rattle.zarrs_codec.specs.MappedChunk.{encoded_form, IsSource, EncodesMoved, DecodesMoved}
+use Rattle.zarrs_codec.specs.MappedChunk.{encoded_form, encoded_type, IsSource, EncodesMoved, DecodesMoved, LeavesUnfit}
 use Rattle.zarrs_array_to_array.specs.ArrayToArrayCodec.{ArrayMapping, transpose, reshape, squeeze, coordinates}
 use Rattle.zarrs_array_to_array.specs.TransposeCodec.{transposed_back_sizes, transpose_encoded, transpose_decoded}
+use Rattle.zarrs_array_to_array.specs.declared.transpose.transpose_codec.TheConstants.{TRANSPOSE}
 
--- the codec takes elements of the type: transposition of those that are not optional, the others of all
+-- the codec accepts elements of the type: transposition of those that are not optional, the others of all
 abbrev pub type_taken : ArrayMapping → ElementType → Result (Unit {0}) CodecError
-type_taken (transpose order) type = demand (not (is_some (inner_of type))) (UnsupportedDataType Transpose)
+type_taken (transpose order) type = demand (not (is_some (inner_of type))) (UnsupportedDataType TRANSPOSE)
 type_taken (reshape dims) type = Ok tt
 type_taken squeeze type = Ok tt
 
--- the sizes of the decoded chunk, where those of the encoded one tell them
+-- the type of the moved elements: the same, where the codec accepts it
+abbrev pub type_moved : ArrayMapping → ElementType → Result ElementType CodecError
+type_moved codec type = encoded_type (type_taken codec) type
+
+-- the sizes of the decoded chunk, where those of the moved one fix them
 abbrev pub sizes_before : ArrayMapping → List ℕ → Result (Option (List ℕ)) CodecError
 sizes_before (transpose order) sizes = seen (λ decoded. Some decoded) (transposed_back_sizes order sizes)
 sizes_before (reshape dims) sizes = Ok None
 sizes_before squeeze sizes = Ok None
 
--- the answer is these sizes, where they are told, or the first cause of a refusal
+-- the answer is these sizes, where they are fixed, or the first error
 abbrev pub AnswersSizesBefore : ArrayMapping → List ℕ → Result (Option (List ℕ)) CodecError → Type 0
 AnswersSizesBefore codec sizes result = AnswersValue memory result (sizes_before codec sizes)
 
--- the sizes that are answered, where some are told, are the only ones of which the codec makes the encoded ones
+-- the sizes that are returned, where there are some, are the only ones of which the codec makes the moved ones
 abbrev pub AnswersSource : ArrayMapping → List ℕ → Result (Option (List ℕ)) CodecError → Type 0
 AnswersSource codec encoded result = IfOk result (IsSource (coordinates codec) encoded)
 
--- what `encode` gives of a container: transposition its encoded chunk or its first refusal, the others the container as it is
+-- where no sizes are fixed, that is returned in no new memory
+abbrev pub NoneInPlace : ArrayMapping → List ℕ → Result (Option (List ℕ)) CodecError → Type 0
+NoneInPlace codec encoded result = sizes_before codec encoded ≡ Ok None → result ≡ Ok None
+
+-- what `encode` gives of a container: transposition its moved chunk or its first error, the others the container as it is
 abbrev pub HeldMoved : ArrayMapping → ElementType → List ℕ → Held → Result Held CodecError → Type 0
 HeldMoved (transpose order) type sizes held result =
     GivesBy (Holds type) result (transpose_encoded order type sizes held)
@@ -46,12 +54,12 @@ HeldBack (transpose order) type sizes held result =
 HeldBack (reshape dims) type sizes held result = result ≡ Ok held
 HeldBack squeeze type sizes held result = result ≡ Ok held
 
--- the sizes, the type and the fill value of the encoded chunk of such a one, or the first cause why the codec doesn't take it
+-- the sizes, the type and the fill value of the moved chunk of such a one, or the first error
 abbrev pub moved_form : ArrayMapping → Form → Result (List ℕ × ElementType × List ℕ) CodecError
 moved_form codec form =
     encoded_form (type_taken codec form.type) (coordinates codec form.sizes) form.type form.fill
 
--- where the codec takes such chunks and the container holds one, the answer is a container of the chunk moved, or a want of memory
+-- where the codec accepts such chunks and the container holds one, the answer is a container of the chunk moved, or `OutOfMemory`
 abbrev pub Moves : ArrayMapping → ElementType → List ℕ → Held → Result Held CodecError → Type 0
 Moves codec type sizes held result =
     EncodesMoved (type_taken codec) (coordinates codec) type sizes held result
@@ -61,10 +69,15 @@ abbrev pub MovesBack : ArrayMapping → ElementType → List ℕ → Held → Re
 MovesBack codec type sizes held result =
     DecodesMoved (type_taken codec) (coordinates codec) type sizes held result
 
--- what `Moves` says, of squeezing
+-- where there is no such chunk, the container is handed on as it is, or the first error is returned
+abbrev pub LeavesUnmoved : ArrayMapping → ElementType → List ℕ → Held → Result Held CodecError → Type 0
+LeavesUnmoved codec type sizes held result =
+    LeavesUnfit (type_taken codec) (coordinates codec) type sizes held result
+
+-- `Moves` of squeezing
 abbrev pub SqueezesChunk : ElementType → List ℕ → Held → Result Held CodecError → Type 0
 SqueezesChunk type sizes held result = Moves squeeze type sizes held result
 
--- what `MovesBack` says, of squeezing
+-- `MovesBack` of squeezing
 abbrev pub SqueezesBack : ElementType → List ℕ → Held → Result Held CodecError → Type 0
 SqueezesBack type sizes held result = MovesBack squeeze type sizes held result

@@ -1,4 +1,4 @@
--- A selection of an encoded chunk has as many tuples as the one of the decoded chunk.
+-- A selection of a moved chunk has as many tuples as the one of the decoded chunk.
 use Rattle.std.specs.Prelude.{◌≡◌, ℕ, suc, ◌+◌, ◌*◌, ◌==◌, ◌&&◌, ◌||◌, ◌≤◌, nat_le, Bool, true, false, List, [], ◌∷◌, length, map, replicate, Ok, refl}
 use Rattle.std.proofs.Common.{sym, ap, ◌∙◌, arith, inl, inr}
 use Rattle.std.proofs.lemmas.Bool.{false≢true, cases_Bool}

@@ -1,4 +1,4 @@
--- Which elements of an encoded chunk are those that are meant of the decoded one.
+-- Which elements of a moved chunk are those that are selected of the decoded one.
 use Rattle.std.specs.Prelude.{◌==◌, ◌&&◌, ℕ, Bool, List, map, length, replicate, Result, Ok, if◌then◌else◌}
 use Rattle.std.specs.List.{list_any, zip}
 use Rattle.zarrs_chunk.specs.Answer.{Answers, Gives, memory}
@@ -38,20 +38,20 @@ selection_in (reshape dims) sizes encoded selection =
 selection_in squeeze sizes encoded (subset region) = subset (squeezed_region sizes region)
 selection_in squeeze sizes encoded (indices tuples) = indices (map (squeezed_tuple sizes) tuples)
 
--- the answer is the indexer of what the codec asks for of the encoded chunk, or the first refusal
+-- the answer is the indexer of what the codec asks for of the moved chunk, or the first error
 abbrev pub MovesIndexer : ArrayMapping → List ℕ → Indexer → Result Indexer CodecError → Type 0
 MovesIndexer codec sizes indexer result = AsksImage (coordinates codec) (selection_in codec) sizes indexer result
 
--- the indexer that is answered means of the encoded chunk, in the same order, the elements that the given one means
+-- the indexer that is returned selects of the moved chunk, in the same order, the elements that the given one selects
 abbrev pub MovesPlaces : ArrayMapping → List ℕ → Indexer → Result Indexer CodecError → Type 0
 MovesPlaces codec sizes indexer result = KeepsPlaces (coordinates codec) sizes indexer result
 
--- the tuples that an indexer means are given, each in this order of axes
+-- the tuples that an indexer selects are given, each in this order of axes
 abbrev pub GivesOrdered : List ℕ → Indexer → Result Indexer CodecError → Type 0
 GivesOrdered order indexer result =
     Gives selection_of result (Ok (indices (map (permuted order) (tuples_of (selection_of indexer)))))
 
--- the indexer that is answered is what squeezing asks for of the squeezed chunk, or a growth was refused
+-- the indexer that is answered is what squeezing asks for of the squeezed chunk, or `OutOfMemory`
 abbrev pub AnswersSqueezed : List ℕ → Indexer → Result Indexer CodecError → Type 0
 AnswersSqueezed sizes indexer result =
     Answers memory selection_of result (Ok (selection_in squeeze sizes (squeezed sizes) (selection_of indexer)))

@@ -33,7 +33,7 @@ pub record MovesList (order sizes : List ℕ) (tuples : List (Vec ℕ Global)) (
 abbrev pub CodecMovesList : ArrayMapping → List ℕ → List (Vec ℕ Global) → List ℕ → Type 0
 CodecMovesList codec sizes tuples places = (order : List ℕ) × (codec ≡ transpose order) × MovesList order sizes tuples places
 
--- the first of the codecs is a transposition, and takes the places that a selection means to these
+-- the first of the codecs is a transposition, and takes the places of a selection to these
 pub record StartsList (codecs : List ArrayMapping) (sizes : List ℕ) (selection : Selection) (places : List ℕ) : Type 0 where
   pub order : List ℕ
   pub rest : List ArrayMapping

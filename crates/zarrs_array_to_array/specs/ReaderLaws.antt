@@ -1,4 +1,4 @@
--- What a reader of a chunk answers over the reader of the encoded chunk, by places.
+-- What a reader of a chunk answers over the reader of the moved chunk, by places.
 use Rattle.std.specs.Prelude.{◌≡◌, ℕ, ◌<◌, ◌^◌, Bool, List, map, length, Result, Ok, All}
 use Rattle.zarrs_chunk.specs.Answer.{◌>>=◌}
 use Rattle.zarrs_chunk.specs.Selection.{Selection, tuples_of, bounds_of, places_of}
@@ -11,7 +11,7 @@ use Rattle.zarrs_codec.specs.MappedSelection.{IsImage}
 use Rattle.zarrs_array_to_array.specs.ArrayToArrayCodec.{ArrayMapping, IsMapping, coordinates}
 use Rattle.zarrs_array_to_array.specs.EncodedSelection.{selection_in}
 
--- The reader answers of each selection what is answered of the selection's places, in their order, or the first cause why they aren't places of its chunk. A selection has fewer than 2^64 tuples, as a list in memory has.
+-- The reader answers of each selection what is answered of the selection's places, in their order, or the first error. A selection has fewer than 2^64 tuples, as a list in memory has.
 abbrev pub AnswersByPlaces : ArrayReader → (List ℕ → Result Chunk CodecError) → Type 0
 AnswersByPlaces reader answer =
     (selection : Selection) → length (tuples_of selection) < 2 ^ 64 → reader.answer selection ≡ (places_of selection reader.sizes >>= answer)
@@ -24,11 +24,11 @@ ReadsChunk reader chunk = AnswersByPlaces reader (λ places. Ok (select chunk pl
 abbrev pub ReadsFill : ArrayReader → Element → Type 0
 ReadsFill reader fill = AnswersByPlaces reader (λ places. Ok (map (λ _. fill) places))
 
--- the reader of a chunk of these sizes over one of the encoded chunk
+-- the reader of a chunk of these sizes over one of the moved chunk
 abbrev pub reader_through : ArrayMapping → List ℕ → Bool → ArrayReader → ArrayReader
 reader_through codec sizes in_part input = mapped_reader (coordinates codec sizes) (selection_in codec sizes) in_part sizes input
 
--- what a codec asks for of the encoded chunk lies inside it, and means there the same elements in the same order
+-- what a codec asks for of the moved chunk lies inside it, and selects there the same elements in the same order
 abbrev pub SelectionsAreImages : Type 0
 SelectionsAreImages =
     (codec : ArrayMapping) (sizes : List ℕ) (m : CoordinateMap) (selection : Selection) → IsMapping codec → coordinates codec sizes ≡ Ok m → bounds_of selection sizes ≡ Ok tt
@@ -40,7 +40,7 @@ ReadersAskMappedPlaces =
     (codec : ArrayMapping) (sizes : List ℕ) (m : CoordinateMap) (in_part : Bool) (input : ArrayReader) (answer : List ℕ → Result Chunk CodecError) → IsMapping codec → All (λ size. 0 < size) sizes → coordinates codec sizes ≡ Ok m → input.sizes ≡ m.encoded
     → AnswersByPlaces input answer → AnswersByPlaces (reader_through codec sizes in_part input) (λ places. answer (map m.to places))
 
--- over a reader of the encoded chunk it reads the chunk
+-- over a reader of the moved chunk it reads the chunk
 abbrev pub ReadersReadChunks : Type 0
 ReadersReadChunks =
     (codec : ArrayMapping) (sizes : List ℕ) (m : CoordinateMap) (in_part : Bool) (input : ArrayReader) (chunk : Chunk) → IsMapping codec → All (λ size. 0 < size) sizes → coordinates codec sizes ≡ Ok m → input.sizes ≡ m.encoded

@@ -14,12 +14,12 @@ use Rattle.zarrs_array_to_array.specs.Mapping.{mapping_of}
 use Rattle.zarrs_array_to_array.specs.declared.array_to_array_codec.ArrayToArrayCodec.{ArrayToArrayCodec}
 use Rattle.zarrs_array_to_array.specs.declared.array_to_array_codec_partial.ArrayToArrayCodecPartial.{ArrayToArrayCodecPartial}
 
--- The parts of a stage are made, an equal codec, as `view` shows it, and the sizes, where the codec takes such chunks; else the first cause is answered why it doesn't. Only a want of memory may come in its place.
+-- The parts of a stage are made, an equal codec, as `view` shows it, and the sizes, where the codec accepts such chunks; else the first error is returned. Only `OutOfMemory` may come in its place.
 abbrev pub MakesParts : {C S : Type 0} → (C → S) → C → ArrayMapping → Form → Result (C × List ℕ) CodecError → Type 0
 MakesParts {S = S} view codec mapping form result =
     Answers {V = S × List ℕ} memory (λ parts. (view parts.0, parts.1)) result (seen (λ _. (view codec, form.sizes)) (moved_form mapping form))
 
--- A stage is made where the codec takes such chunks; else the first cause is answered why it doesn't.
+-- A stage is made where the codec accepts such chunks; else the first error is returned.
 abbrev pub MakesStage : {T I : Type 0} → ArrayMapping → Form → Result T (Refused I) → Type 0
 MakesStage mapping form result = Gives (λ made. made) (outcome result) (seen (λ _. tt) (moved_form mapping form))
 

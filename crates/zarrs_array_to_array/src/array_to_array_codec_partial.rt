@@ -1,3 +1,4 @@
+//! Reads and writes of a chunk in part, over the reader or the writer of the moved chunk.
 ghost use Rattle.std.specs.Prelude.{◌≡◌, ◌&&◌, Ok, IfOk, IfErr};
 ghost use Rattle.zarrs_chunk.specs.Answer.{seen};
 ghost use Rattle.zarrs_codec.specs.ArrayReader.{mapped_reader};
@@ -16,9 +17,9 @@ use zarrs_codec::{
 };
 use zarrs_data_type::{DataType, FillValue};
 
-/// Reads a chunk in part over the reader of its encoded chunk, which it owns: it asks that one for
-/// the encoded indexer. Over a writer it writes too, the same elements at the encoded indexer. The
-/// indexer is checked against the decoded shape first.
+/// Reads a chunk in part over the reader of its moved chunk, which it owns: it asks that one for the
+/// moved indexer, and for nothing else. Over a writer it writes too, the same elements at the moved
+/// indexer. The indexer is checked against the decoded shape first.
 #[derive(Drop)]
 pub struct ArrayToArrayCodecPartial<C, I> {
     input: I,
@@ -26,7 +27,7 @@ pub struct ArrayToArrayCodecPartial<C, I> {
     shape: ChunkShape,
 }
 
-/// The reader over this input, or the refusal that is due.
+/// The reader over this input, or the error that is due.
 pub(crate) fn partial_decoder_of<C, I>(
     parts: Result<(C, ChunkShape), CodecError>,
     input: I,
@@ -145,7 +146,7 @@ impl<C: ArrayToArrayCodecTraits, I: ArrayPartialEncoderTraits> ArrayPartialEncod
 }
 
 impl ArrayToArrayCodec {
-    /// What a reader keeps of a chunk that the codec takes.
+    /// What a reader keeps of a chunk that the codec accepts.
     fn parts_of_decoder(
         &self,
         alloc: Global,
@@ -161,8 +162,8 @@ impl ArrayToArrayCodec {
         Ok((codec, shape))
     }
 
-    /// A reader of a chunk in part, over the reader of the encoded chunk. Refusals: those of
-    /// `encoded_representation`; `OutOfMemory`. A refusal hands the input back as it was.
+    /// A reader of a chunk in part, over the reader of the moved chunk. Errors: those of
+    /// `encoded_representation`; `OutOfMemory`. An error hands the input back as it was.
     pub fn partial_decoder<I: ArrayPartialDecoderTraits>(
         &self,
         alloc: Global,
@@ -181,8 +182,8 @@ impl ArrayToArrayCodec {
             input,
         )
     }
-    /// A reader of a chunk in part that writes too, over the writer of the encoded chunk. Refusals:
-    /// those of `encoded_representation`; `OutOfMemory`. A refusal hands the input back as it was.
+    /// A reader of a chunk in part that writes too, over the writer of the moved chunk. Errors:
+    /// those of `encoded_representation`; `OutOfMemory`. An error hands the input back as it was.
     pub fn partial_encoder<I: ArrayPartialEncoderTraits>(
         &self,
         alloc: Global,

@@ -1,3 +1,4 @@
+//! The tuples of boxes and of numbers, in an order of axes.
 ghost use Rattle.std.specs.Prelude.{◌≡◌, ◌<◌, Ok, length, map, All};
 ghost use Rattle.zarrs_chunk.specs.Answer.{Gives, GivesItems};
 ghost use Rattle.zarrs_chunk.specs.ChunkShape.{product};

@@ -2,29 +2,24 @@
 //! `squeeze` (codec.zarrs.dev).
 //!
 //! Each is a coordinate map: every element of a chunk goes to a place of its own in the encoded
-//! chunk. [`encoded_places`] says where through several codecs, one after another.
+//! chunk. [`encoded_places`] returns where through several codecs, one after another.
 #![tactic(auto)]
 
 mod array_to_array_codec;
 mod array_to_array_codec_partial;
-mod axis;
-mod axis_positions;
 mod boxes;
 pub mod laws;
 mod metadata;
-mod planes;
 mod reshape;
-mod row_groups;
 mod squeeze;
-mod strides;
 mod transpose;
 
 pub use array_to_array_codec::{ArrayToArrayCodec, encoded_places};
 pub use array_to_array_codec_partial::ArrayToArrayCodecPartial;
-pub use reshape::reshape_codec::ReshapeCodec;
+pub use reshape::reshape_codec::{RESHAPE, ReshapeCodec};
 pub use reshape::reshape_codec_partial::ReshapeCodecPartial;
-pub use squeeze::squeeze_codec::{SqueezeCodec, squeezed_subset};
+pub use squeeze::squeeze_codec::{SQUEEZE, SqueezeCodec, squeezed_subset};
 pub use squeeze::squeeze_codec_partial::SqueezeCodecPartial;
-pub use strides::permuted;
-pub use transpose::transpose_codec::{TransposeCodec, transposed};
+pub use transpose::strides::permuted;
+pub use transpose::transpose_codec::{TRANSPOSE, TransposeCodec, transposed};
 pub use transpose::transpose_codec_partial::TransposeCodecPartial;

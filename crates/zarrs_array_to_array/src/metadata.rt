@@ -20,7 +20,7 @@ use zarrs_metadata::{
 };
 
 impl TransposeCodec {
-    /// The codec of a configuration. Refusals: `OutOfMemory`.
+    /// The codec of a configuration. Errors: `OutOfMemory`.
     pub fn new_with_configuration(
         _alloc: Global,
         configuration: &TransposeCodecConfiguration,
@@ -32,7 +32,7 @@ impl TransposeCodec {
     }
 
     /// The codec of a metadata, whose name is `transpose` (Zarr v3 codec `transpose`). A missing
-    /// configuration is read as one without members. Refusals, the first that holds, `OutOfMemory`
+    /// configuration is read as one without members. Errors, the first that holds, `OutOfMemory`
     /// aside: `UnknownName` for another name; those of
     /// `TransposeCodecConfiguration::from_configuration`.
     pub fn create(alloc: Global, metadata: &MetadataV3) -> Result<TransposeCodec, PluginCreateError>
@@ -51,7 +51,7 @@ impl TransposeCodec {
 }
 
 impl ReshapeCodec {
-    /// The codec of a configuration. Refusals: `OutOfMemory`.
+    /// The codec of a configuration. Errors: `OutOfMemory`.
     pub fn new_with_configuration(
         _alloc: Global,
         configuration: &ReshapeCodecConfiguration,
@@ -63,7 +63,7 @@ impl ReshapeCodec {
     }
 
     /// The codec of a metadata, whose name is `reshape` (zarr-extensions codec `reshape`). A missing
-    /// configuration is read as one without members. Refusals, the first that holds, `OutOfMemory`
+    /// configuration is read as one without members. Errors, the first that holds, `OutOfMemory`
     /// aside: `UnknownName` for another name; those of
     /// `ReshapeCodecConfiguration::from_configuration`.
     pub fn create(alloc: Global, metadata: &MetadataV3) -> Result<ReshapeCodec, PluginCreateError>
@@ -89,7 +89,7 @@ fn is_squeeze(name: &str) -> bool
 }
 
 impl SqueezeCodec {
-    /// The codec of a configuration. Nothing is refused.
+    /// The codec of a configuration. It never fails.
     pub fn new_with_configuration(
         _configuration: &SqueezeCodecConfiguration,
     ) -> Result<SqueezeCodec, PluginCreateError>
@@ -99,7 +99,7 @@ impl SqueezeCodec {
     }
 
     /// The codec of a metadata, whose name is `zarrs.squeeze` or
-    /// `https://codec.zarrs.dev/array_to_array/squeeze` (codec.zarrs.dev). Refusals, the first that
+    /// `https://codec.zarrs.dev/array_to_array/squeeze` (codec.zarrs.dev). Errors, the first that
     /// holds: `UnknownName` for another name; those of
     /// `SqueezeCodecConfiguration::from_configuration`.
     pub fn create(metadata: &MetadataV3) -> Result<SqueezeCodec, PluginCreateError>
@@ -117,7 +117,7 @@ impl SqueezeCodec {
 
 impl ArrayToArrayCodec {
     /// The codec of a metadata, by its name: `transpose`, `reshape`, `zarrs.squeeze` or
-    /// `https://codec.zarrs.dev/array_to_array/squeeze`. Refusals, the first that holds,
+    /// `https://codec.zarrs.dev/array_to_array/squeeze`. Errors, the first that holds,
     /// `OutOfMemory` aside: `UnknownName` for another name; those of the codec's configuration.
     pub fn create(
         alloc: Global,

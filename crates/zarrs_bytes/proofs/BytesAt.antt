@@ -77,7 +77,7 @@ read_on size (Some value) now next xs ys h =
     both_if (has_all size value xs) (has_all size value ys) now next (joined size value xs) (joined size value ys) h
     ∙ ap (seen (grown now)) (sym (two_parts size value xs ys))
 
--- what refuses the first places refuses all
+-- where a read of the first places fails, one of all fails so
 pub read_off : (size : ℕ) (stored : Option (List ℕ)) (now xs ys : List ℕ) (e : CodecError) → seen (grown now) (bytes_at size stored xs) ≡ Err e → seen (grown now) (bytes_at size stored (xs ++ ys)) ≡ Err e
 read_off size None now xs ys e h = absurd cc
 read_off size (Some value) now xs ys e h =
@@ -157,7 +157,7 @@ module _ (size : ℕ) (stored : Option (List ℕ)) (first : List ℕ) (all : Lis
       ∙ ap (λ (runs : List (ℕ × ℕ)). seen (grown now) (bytes_at size stored (joined_runs runs))) (nil_from_length rest empty)
       ∙ read_end size stored now h
 
--- a first batch that is refused refuses all
+-- where the first batch fails, all fail so
 pub first_refused : (size : ℕ) (stored : Option (List ℕ)) (all xs ys : List (ℕ × ℕ)) (ranges slice : List ByteSpan) (cause : CodecError) → all ≡ xs ++ ys → slice ≡ ranges → 0 < size → range_indices ranges ≡ place_bytes size (joined_runs xs) → All (λ range. range.start < range.end) ranges → read_ranges stored slice ≡ Err cause → bytes_at size stored (joined_runs all) ≡ Err cause
 first_refused size stored all xs ys ranges slice cause e same positive numbers filled read =
     ap (λ (runs : List (ℕ × ℕ)). bytes_at size stored (joined_runs runs)) e

@@ -1,4 +1,4 @@
--- What the codec computes is what its definitions say.
+-- What the codec computes is what its definitions state.
 use Rattle.zarrs_data_type.specs.Form.{form_of}
 use Rattle.std.proofs.Common.{◌≡◌, ℕ, ◌*◌, ◌<◌, ◌^◌, ◌==◌, ◌&&◌, Bool, true, false, nat_lt, cond, not, Option, Some, None, Result, Ok, Err, List, length, map, arith, refl, ap, sym, ◌∙◌, subst}
 use Rattle.std.specs.List.{range_with_len}
@@ -42,7 +42,7 @@ checked_test false n m e = absurd cc
 pub checked_ok : (n m : ℕ) → checked_u64 n ≡ Ok m → (n < 2 ^ 64) × (m ≡ n)
 checked_ok n m e = let t = checked_test (nat_lt n (2 ^ 64)) n m e in (grind (arith, nat_tests, t.0), t.1)
 
--- ---- a chunk that the codec takes
+-- ---- a chunk that the codec accepts
 
 pub record IsTaken (order : Option Endianness) (sizes : List ℕ) (width components : ℕ) (sign : Bool) (fill : List ℕ) (len : ℕ) : Type 0 where
   pub len_is : len ≡ product sizes * element_size width components

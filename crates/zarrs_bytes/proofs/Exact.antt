@@ -1,4 +1,4 @@
--- Values are written and read exactly where the grammar says.
+-- Values are written and read exactly where the grammar has them.
 use Rattle.zarrs_data_type.specs.Form.{form_of}
 use Rattle.std.proofs.Common.{◌≡◌, ℕ, suc, ◌*◌, ◌^◌, ◌==◌, Bool, true, Option, Result, Ok, Err, List, [], ◌∷◌, length, map, nat_lt, arith, refl, ap, sym, ◌∙◌, subst}
 use Rattle.std.specs.List.{concat, range_with_len}

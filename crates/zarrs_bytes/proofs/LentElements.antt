@@ -1,5 +1,5 @@
 -- New elements of one size that are lent.
-use Rattle.std.proofs.Common.{◌≡◌, ℕ, true, Option, Some, None, List, length, Result, Ok, Err, ap, ◌∙◌}
+use Rattle.std.proofs.Common.{◌≡◌, ℕ, true, Option, Some, None, List, length, Result, Ok, Err, refl, ap, ◌∙◌}
 use Rattle.std.specs.Prelude.{is_ok}
 use Rattle.zarrs_chunk.specs.declared.codec_error.CodecError.{CodecError}
 use Rattle.zarrs_data_type.specs.ElementType.{ElementType, fixed, text, bytes, optional}
@@ -11,9 +11,10 @@ use Rattle.zarrs_array_bytes.specs.Held.{Held, flen, vlen, masked}
 use Rattle.zarrs_array_bytes.specs.Parts.{fixed_items}
 use Rattle.zarrs_array_bytes.specs.Update.{update}
 use Rattle.zarrs_array_bytes.specs.Validity.{data_fit}
+use Rattle.zarrs_codec.specs.StorageState.{value_indices}
 use Rattle.zarrs_bytes.specs.BytesCodec.{bytes_length, spelling}
 use Rattle.zarrs_bytes.specs.PartialRead.{place_size}
-use Rattle.zarrs_bytes.specs.PartialWrite.{bytes_left, filled_chunk, with_place_bytes}
+use Rattle.zarrs_bytes.specs.PartialWrite.{bytes_left, bytes_replaced, filled_chunk, with_place_bytes}
 
 -- the container has the bytes of elements of one size that another one has, whoever owns them
 abbrev pub HasItems : Held → Held → Type 0
@@ -57,6 +58,13 @@ lent_left order sizes type fill None places new lent t fit e =
 lent_left order sizes type fill (Some value) places new lent t fit e =
     ap (λ (es : Chunk). with_place_bytes (place_size type) value places (spelling order type es)) (same_elements order sizes type fill (length places) new lent t fit e)
 
--- lending is refused nothing
+-- and replace the same
+pub lent_replaced : (order : Option Endianness) (sizes : List ℕ) (type : ElementType) (fill : List ℕ) (stored : Option (List ℕ)) (places : List ℕ) (new lent : Held) → is_ok (bytes_length order (form_of sizes type fill)) ≡ true → data_fit type (length places) new ≡ Ok tt → HasItems lent new
+    → bytes_replaced order (form_of sizes type fill) stored places lent ≡ bytes_replaced order (form_of sizes type fill) stored places new
+lent_replaced order sizes type fill None places new lent t fit e =
+    ap (λ (value : List ℕ). value_indices (Some value)) (lent_left order sizes type fill None places new lent t fit e)
+lent_replaced order sizes type fill (Some value) places new lent t fit e = refl
+
+-- lending never fails
 pub never_refused : (new : Held) (e : CodecError) (P : Type 0) → ◌≡◌ {A = Result (Result (List ℕ) CodecError) CodecError} (Err e) (Ok (fixed_items new)) → P
 never_refused new e P h = absurd cc

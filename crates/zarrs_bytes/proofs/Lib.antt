@@ -18,3 +18,6 @@ pub mod LentElements
 pub mod Spelled
 pub mod Taken
 pub mod Counted
+pub mod ConsecutiveRuns
+pub mod Scattered
+pub mod CallCounts

@@ -1,13 +1,13 @@
--- What is written in part is what the definitions say.
+-- What is written in part is what the definitions state.
 use Rattle.zarrs_data_type.specs.Form.{form_of}
 use Rattle.std.proofs.Common.{◌≡◌, ℕ, zero, suc, ◌*◌, ◌<◌, ◌^◌, ◌==◌, Bool, true, nat_lt, Option, Some, None, Result, Ok, Err, List, [], ◌∷◌, length, map, replicate, get_or, arith, refl, ap, ap₂, sym, ◌∙◌, subst}
 use Rattle.std.specs.List.{All, concat}
-use Rattle.std.specs.Prelude.{IsOk, IsOkAnd, OnOk, is_ok, is_some}
+use Rattle.std.specs.Prelude.{IfErr, IsOk, IsOkAnd, OnOk, false, is_ok, is_some}
 use Rattle.std.proofs.lemmas.Bool.Decides.{nat_tests}
 use Rattle.std.proofs.lemmas.List.{length-map, length-replicate}
-use Rattle.zarrs_chunk.specs.Answer.{checked_u64, Answers, AnswersBy, memory_or_fault}
+use Rattle.zarrs_chunk.specs.Answer.{◌>>=◌, checked_u64, Answers, AnswersBy, memory_or_fault}
 use Rattle.zarrs_chunk.specs.ChunkShape.{product}
-use Rattle.zarrs_chunk.specs.Selection.{Selection}
+use Rattle.zarrs_chunk.specs.Selection.{Selection, places_of}
 use Rattle.zarrs_chunk.specs.declared.codec_error.CodecError.{CodecError}
 use Rattle.zarrs_data_type.specs.Element.{plain, Chunk, fill_element, IsElement, AreElements}
 use Rattle.zarrs_data_type.specs.ElementType.{ElementType, fixed, text, bytes, optional, element_size}
@@ -22,6 +22,7 @@ use Rattle.zarrs_array_bytes.specs.Pieces.{pieces}
 use Rattle.zarrs_array_bytes.proofs.Pieces.{AllSized, length-pieces, pieces_sized, length-concat, elements-pieces}
 use Rattle.zarrs_array_bytes.proofs.ValidLemmas.{length_found}
 use Rattle.zarrs_array_bytes.proofs.WriteLemmas.{length-update, map-update}
+use Rattle.zarrs_codec.specs.CountLaws.{passed, same_value}
 use Rattle.zarrs_codec.specs.StorageState.{value_or_empty}
 use Rattle.zarrs_bytes.specs.ByteOrder.{bytes_in_order, spelled_chunk, turned_bytes}
 use Rattle.zarrs_bytes.specs.BytesCodec.{bytes_length, bytes_value, spelling, turn_size, BytesStands, BytesWritten}
@@ -56,7 +57,7 @@ new_pieces width components count sign (flen raw) fit =
 new_pieces width components count sign (vlen raw offsets) fit = absurd cc
 new_pieces width components count sign (masked inner mask) fit = absurd cc
 
--- new elements of a type that the codec takes are of one size
+-- new elements of a type that the codec accepts are of one size
 pub fits_kind : (order : Option Endianness) (sizes : List ℕ) (type : ElementType) (fill : List ℕ) (count : ℕ) (new : Held) → is_ok (bytes_length order (form_of sizes type fill)) ≡ true → data_fit type count new ≡ Ok tt → IsOk (fixed_part new)
 fits_kind order sizes (fixed width components sign) fill count (flen raw) t fit = refl
 fits_kind order sizes (fixed width components sign) fill count (vlen raw offsets) t fit = absurd cc
@@ -286,3 +287,19 @@ stored_left order sizes type fill (Some value) here after size places new (Err e
 -- a value is stored where that is answered
 pub there_is : (stored : Option (List ℕ)) (there : Bool) → ◌≡◌ {A = Result Bool CodecError} (Ok (is_some stored)) (Ok there) → there ≡ true → is_some stored ≡ true
 there_is stored there e h = cc
+
+-- and none where that is answered
+pub there_is_none : (stored : Option (List ℕ)) (there : Bool) → ◌≡◌ {A = Result Bool CodecError} (Ok (is_some stored)) (Ok there) → there ≡ false → is_some stored ≡ false
+there_is_none stored there e h = cc
+
+-- no error but an excused one comes where an answer is expected
+pub only_excused : {V : Type 0} (r : Result (Unit {0}) CodecError) (view : Unit {0} → V) (v : V) (P : Type 0) → Answers memory_or_fault view r (Ok v) → IfErr r (λ cause. memory_or_fault cause ≡ false → P)
+only_excused (Ok x) view v P h = tt
+only_excused {V} (Err e) view v P h = λ m. absurd (let bad : ◌≡◌ {A = Result V CodecError} (Ok v) (Err e) = h m in cc)
+
+-- the places of new elements that fit are those of the selection
+pub data_places_are : (sizes : List ℕ) (type : ElementType) (selection : Selection) (new : Held) (places : List ℕ) → data_places sizes type selection new ≡ Ok places → places_of selection sizes ≡ Ok places
+data_places_are sizes type selection new places e =
+    let found = passed (places_of selection sizes) (λ places. data_fit type (length places) new >>= λ _. Ok places) places e in
+    let fit = passed (data_fit type (length found.given) new) (λ _. Ok found.given) places found.second_is in
+    found.first_is ∙ ap (λ (ps : List ℕ). ok ps) (same_value found.given places fit.second_is)

@@ -75,7 +75,7 @@ module _ (size : ℕ) (stored : Option (List ℕ)) (first all : List ℕ) where
       ∙ ap (λ ps. seen (grown now) (bytes_at size stored ps)) (nil_from_length rest empty)
       ∙ read_end size stored now h
 
--- a first batch that is refused refuses all
+-- where the first batch fails, all fail so
 pub first_refused : (size : ℕ) (stored : Option (List ℕ)) (all xs ys joined : List ℕ) (cause : CodecError) → all ≡ xs ++ ys → joined ≡ xs → bytes_at size stored joined ≡ Err cause → bytes_at size stored all ≡ Err cause
 first_refused size stored all xs ys joined cause e is h =
     ap (bytes_at size stored) (e ∙ ap (λ ps. ps ++ ys) (sym is)) ∙ read_refused size stored joined ys cause h

@@ -1,5 +1,5 @@
 -- A read of ranges is a read of the places whose bytes the ranges are.
-use Rattle.std.proofs.Common.{◌≡◌, ℕ, zero, suc, ◌+◌, ◌-◌, ◌*◌, ◌<◌, ◌≤◌, ◌&&◌, Bool, true, false, nat_lt, nat_le, Result, Ok, List, [], ◌∷◌, ◌++◌, length, take, drop, map, get_or, ◌^◌, arith, refl, ap, sym, ◌∙◌}
+use Rattle.std.proofs.Common.{◌≡◌, ℕ, zero, suc, ◌+◌, ◌-◌, ◌*◌, ◌<◌, ◌≤◌, ◌&&◌, Bool, true, false, nat_lt, nat_le, Result, Ok, List, [], ◌∷◌, ◌++◌, length, take, drop, map, get_or, ◌^◌, arith, refl, ap, ap₂, sym, ◌∙◌}
 use Rattle.std.specs.List.{All, concat, flat_map, list_all, range_with_len, sum_by}
 use Rattle.std.proofs.lemmas.Bool.{and_parts}
 use Rattle.std.proofs.lemmas.Bool.Decides.{nat_tests}
@@ -10,12 +10,13 @@ use Rattle.std.proofs.Math.Nat.{mul-le-mul_right}
 use Rattle.std.proofs.lemmas.List.Concat.{flat_map-append}
 use Rattle.std.proofs.lemmas.List.Folds.{list_all-append}
 use Rattle.zarrs_chunk.specs.Answer.{◌>>=◌, demand}
-use Rattle.zarrs_chunk.specs.Runs.{joined_runs}
+use Rattle.zarrs_chunk.specs.Runs.{joined_runs, AreApart, AreFilled}
 use Rattle.zarrs_chunk.specs.declared.codec_error.CodecError.{CodecError}
 use Rattle.zarrs_chunk.specs.declared.codec_error.CodecError.TheVariants.{InvalidByteRange}
 use Rattle.zarrs_array_bytes.specs.Elements.{piece}
 use Rattle.zarrs_codec.specs.ByteRanges.{range_indices, bytes_in_ranges, read_value}
 use Rattle.zarrs_bytes.specs.PartialRead.{place_bytes}
+use Rattle.zarrs_bytes.specs.PlannedRanges.{element_span, spans, IsPlan}
 use Rattle.zarrs_codec.specs.ByteSpan.{ByteSpan}
 use Rattle.zarrs_chunk.proofs.Consecutive.{range-append}
 use Rattle.zarrs_chunk.proofs.Inside.{from_le_test}
@@ -221,6 +222,19 @@ ranges_more size runs index d ranges range h is start end =
     ∙ sym (place_bytes-append size (joined_runs (take index runs)) (range_with_len run.0 run.1))
     ∙ ap (place_bytes size) (sym (joined_runs-more runs index d h))
 
+-- and one span more
+pub spans_more : (size : ℕ) (runs : List (ℕ × ℕ)) (index : ℕ) (d : ℕ × ℕ) (ranges : List ByteSpan) (range : ByteSpan) → index < length runs → spans ranges ≡ map (element_span size) (take index runs) → range.start ≡ (get_or runs index d).0 * size → range.end ≡ (get_or runs index d).0 * size + (get_or runs index d).1 * size
+    → spans (ranges ++ range ∷ []) ≡ map (element_span size) (take (index + 1) runs)
+spans_more size runs index d ranges range h is start end =
+    let run = get_or runs index d in
+    let front : List (ℕ × ℕ) = map (element_span size) (take index runs) in
+    let last : range.end ≡ (run.0 + run.1) * size = omega (arith, end) in
+    map-append (λ (r : ByteSpan). (r.start, r.end)) ranges (range ∷ [])
+    ∙ ap (λ (l : List (ℕ × ℕ)). l ++ (range.start, range.end) ∷ []) is
+    ∙ ap₂ (λ (s e : ℕ). front ++ (s, e) ∷ []) start last
+    ∙ sym (map-append (element_span size) (take index runs) (run ∷ []))
+    ∙ ap (map (element_span size)) (sym (take_more runs index d h))
+
 -- runs within the elements end where 64 bits count their bytes
 pub runs_fit : (runs : List (ℕ × ℕ)) (total size : ℕ) → All (λ run. run.0 + run.1 ≤ total) runs → total * size < 2 ^ 64 → All (λ run. (run.0 + run.1) * size < 2 ^ 64) runs
 runs_fit runs total size h fits = λ k d l. omega (arith, mul-le-mul_right size (h k d l), fits)
@@ -238,3 +252,15 @@ place_lengths size (place ∷ places) =
 -- ranges whose bytes are those of the places have as many of them
 pub ranges_sum : (size : ℕ) (places : List ℕ) (ranges : List ByteSpan) → range_indices ranges ≡ place_bytes size places → sum_by (λ range. range.end - range.start) ranges ≡ length places * size
 ranges_sum size places ranges h = sym (range_lengths ranges) ∙ ap length h ∙ place_lengths size places
+
+-- ranges of runs that are apart are the plan of a read of their places
+pub plan_of_runs : (size : ℕ) (runs : List (ℕ × ℕ)) (ranges : List ByteSpan) → AreFilled runs → AreApart runs → spans ranges ≡ map (element_span size) runs → range_indices ranges ≡ place_bytes size (joined_runs runs) → IsPlan size (joined_runs runs) ranges
+plan_of_runs size runs ranges filled apart each bytes = record {
+  runs = runs;
+  filled = filled;
+  apart = apart;
+  joined = refl;
+  each = each;
+  bytes = bytes;
+  sum = ranges_sum size (joined_runs runs) ranges bytes;
+}

@@ -88,7 +88,7 @@ at_some order text fill places bytes' stored raw t read is small = absurd t
 at_some order bytes fill places bytes' stored raw t read is small = absurd t
 at_some order (optional type) fill places bytes' stored raw t read is small = absurd t
 
--- a refused read is the refusal of the places
+-- a failed read fails with the error of the places
 pub at_err : (order : Option Endianness) (type : ElementType) (fill places : List ℕ) (stored : Option (List ℕ)) (e : CodecError) → IsFilledType type fill → bytes_at (place_size type) stored places ≡ Err e → read_places order type fill stored places ≡ Err e
 at_err order (fixed width components sign) fill places None e t read = absurd cc
 at_err order (fixed width components sign) fill places (Some value) e t read =

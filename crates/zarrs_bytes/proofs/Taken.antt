@@ -1,4 +1,4 @@
--- What is known of chunks that the codec takes.
+-- What is known of chunks that the codec accepts.
 use Rattle.zarrs_data_type.specs.Form.{form_of}
 use Rattle.std.proofs.Common.{◌≡◌, ℕ, ◌+◌, ◌-◌, ◌*◌, ◌<◌, ◌≤◌, ◌^◌, true, Option, Ok, List, arith, refl, ap, sym, ◌∙◌}
 use Rattle.std.specs.Prelude.{is_ok, is_some}

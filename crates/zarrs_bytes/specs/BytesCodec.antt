@@ -7,7 +7,6 @@ use Rattle.zarrs_chunk.specs.Answer.{◌>>=◌, Gives, demand, checked_u64, seen
 use Rattle.zarrs_chunk.specs.ChunkShape.{product}
 use Rattle.zarrs_chunk.specs.declared.codec_error.CodecError.{CodecError}
 use Rattle.zarrs_chunk.specs.declared.codec_error.CodecError.TheVariants.{UnsupportedDataType, InvalidFillValue, EndiannessMissing, InvalidBytesLength}
-use Rattle.zarrs_chunk.specs.declared.codec_error.CodecName.TheVariants as codec
 use Rattle.zarrs_data_type.specs.Element.{Element, plain, absent, Chunk, AreElements}
 use Rattle.zarrs_data_type.specs.ElementType.{ElementType, fixed, text, bytes, optional, component_bytes, element_size}
 use Rattle.zarrs_data_type.specs.FillValue.{fill_fits}
@@ -17,12 +16,13 @@ use Rattle.zarrs_array_bytes.specs.Elements.{piece, elements}
 use Rattle.zarrs_array_bytes.specs.Held.{Held, flen, items_of, raw_of}
 use Rattle.zarrs_array_bytes.specs.Validity.{validity}
 use Rattle.zarrs_data_type.specs.Form.{Form, form_of}
-use Rattle.zarrs_codec.specs.ChunkCodec.{RepresentsBy, EncodesBy, DecodesBy}
+use Rattle.zarrs_codec.specs.ChunkCodec.{RepresentsBy, EncodesBy, DecodesBy, CompactsNone}
 use Rattle.zarrs_codec.specs.CodecMembers.{DecodesAgain}
 use Rattle.zarrs_codec.specs.declared.bytes_representation.BytesRepresentation.{BytesRepresentation}
 use Rattle.zarrs_codec.specs.declared.bytes_representation.BytesRepresentation.TheVariants.{FixedSize}
 use Rattle.zarrs_bytes.specs.ByteOrder.{bytes_in_order, has_order, spelled_chunk}
 use Rattle.zarrs_bytes.specs.GivenBytes.{EncodesNow, DecodesNow}
+use Rattle.zarrs_bytes.specs.declared.bytes_codec.TheConstants.{BYTES}
 
 -- ---- which chunks it takes
 
@@ -34,19 +34,19 @@ length_by order sizes (fixed width components sign) fill = do
   len ← checked_u64 (count * element_size width components)
   _ ← demand (has_order order width) EndiannessMissing
   Ok len
-length_by order sizes text fill = Err (UnsupportedDataType codec.Bytes)
-length_by order sizes bytes fill = Err (UnsupportedDataType codec.Bytes)
-length_by order sizes (optional type) fill = Err (UnsupportedDataType codec.Bytes)
+length_by order sizes text fill = Err (UnsupportedDataType BYTES)
+length_by order sizes bytes fill = Err (UnsupportedDataType BYTES)
+length_by order sizes (optional type) fill = Err (UnsupportedDataType BYTES)
 
--- how many bytes the value of such a chunk has, or the first cause why the codec doesn't take such chunks
+-- how many bytes the value of such a chunk has, or the first error of chunks that the codec doesn't accept
 abbrev pub bytes_length : Option Endianness → Form → Result ℕ CodecError
 bytes_length order form = length_by order form.sizes form.type form.fill
 
--- the representation of the value of such a chunk, or the first cause why the codec doesn't take such chunks
+-- the representation of the value of such a chunk, or the first error of chunks that the codec doesn't accept
 abbrev pub bytes_represented : Option Endianness → Form → Result BytesRepresentation CodecError
 bytes_represented order form = seen FixedSize (bytes_length order form)
 
--- the answer is that representation, or the first cause why the codec doesn't take such chunks; no want of memory comes in its place
+-- the answer is that representation, or the first error of chunks that the codec doesn't accept; it is never out of memory
 abbrev pub RepresentsNow : Option Endianness → List ℕ → ElementType → List ℕ → Result BytesRepresentation CodecError → Type 0
 RepresentsNow order sizes type fill result = result ≡ bytes_represented order (form_of sizes type fill)
 
@@ -54,11 +54,11 @@ RepresentsNow order sizes type fill result = result ≡ bytes_represented order 
 abbrev pub RepresentsBytes : Option Endianness → List ℕ → ElementType → List ℕ → Result BytesRepresentation CodecError → Type 0
 RepresentsBytes order sizes type fill result = RepresentsBy (bytes_represented order) (form_of sizes type fill) result
 
--- the codec takes such chunks
+-- the codec accepts such chunks
 abbrev pub BytesTakes : Option Endianness → Form → Type 0
 BytesTakes order form = is_ok (bytes_length order form) ≡ true
 
--- what such a chunk is made of is given, where the codec takes such chunks, or the first refusal
+-- what such a chunk is made of is given, where the codec accepts such chunks, or the first error
 abbrev pub Copies : Option Endianness → Form → Result (List ℕ × ElementType × List ℕ) CodecError → Type 0
 Copies order form result =
     Gives (λ parts. parts) result (seen (λ _. (form.sizes, form.type, form.fill)) (bytes_length order form))
@@ -75,14 +75,14 @@ abbrev pub spelling : Option Endianness → ElementType → Chunk → List ℕ
 spelling order (fixed width components sign) chunk = spelled_chunk order width components chunk
 spelling order type chunk = []
 
--- The value stands for the chunk: the codec takes such chunks, and the value is the bytes of the chunk's elements.
+-- The value stands for the chunk: the codec accepts such chunks, and the value is the bytes of the chunk's elements.
 pub record BytesStands (order : Option Endianness) (form : Form) (value : List ℕ) (chunk : Chunk) : Type 0 where
   pub len : ℕ
   pub length_is : bytes_length order form ≡ Ok len
   pub elements : IsChunk form.type (product form.sizes) chunk
   pub value_is : value ≡ spelling order form.type chunk
 
--- The value is written for the chunk: the codec takes such chunks, the value is the bytes of the chunk's elements, and 64 bits count them.
+-- The value is written for the chunk: the codec accepts such chunks, the value is the bytes of the chunk's elements, and 64 bits count them.
 pub record BytesWritten (order : Option Endianness) (form : Form) (value : List ℕ) (chunk : Chunk) : Type 0 where
   pub len : ℕ
   pub length_is : bytes_length order form ≡ Ok len
@@ -98,23 +98,24 @@ bytes_element order (fixed width components sign) value place =
     plain (bytes_in_order order width components (piece (element_size width components) value place))
 bytes_element order type value place = absent
 
--- the value of the chunk that a container holds, or the first refusal
+-- the value of the chunk that a container holds, or the first error
 abbrev pub bytes_value : Option Endianness → Form → Held → Result (List ℕ) CodecError
 bytes_value order form held = do
   _ ← bytes_length order form
   _ ← validity form.type (product form.sizes) held
   Ok (spelling order form.type (elements form.type (product form.sizes) held))
 
--- the chunk that a value stands for, or the first refusal
+-- the chunk that a value stands for, or the first error
 abbrev pub bytes_chunk : Option Endianness → Form → List ℕ → Result Chunk CodecError
 bytes_chunk order form value = do
   len ← bytes_length order form
   _ ← demand (length value == len) (InvalidBytesLength (length value) len)
   Ok (map (bytes_element order form.type value) (range_with_len 0 (product form.sizes)))
 
--- a value that is answered stands for such a chunk: it is decoded again
-abbrev pub DecodesBack : Option Endianness → List ℕ → ElementType → List ℕ → Result (CowSlice ℕ Global) CodecError → Type 0
-DecodesBack order sizes type fill result = DecodesAgain (bytes_chunk order) (form_of sizes type fill) result
+-- a value that is answered is decoded again, to the chunk that the container holds
+abbrev pub DecodesBack : Option Endianness → List ℕ → ElementType → List ℕ → Held → Result (CowSlice ℕ Global) CodecError → Type 0
+DecodesBack order sizes type fill held result =
+    DecodesAgain (bytes_chunk order) (λ type chunk. chunk) (form_of sizes type fill) held result
 
 -- how many bytes the components have that the order turns round; none, where it leaves all bytes in their places
 abbrev pub turn_size : Option Endianness → ElementType → Option ℕ
@@ -127,31 +128,41 @@ abbrev pub needs_memory : Option Endianness → ElementType → Held → Bool
 needs_memory order type (flen raw) = is_some (turn_size order type) && not raw.is_owned
 needs_memory order type held = false
 
--- where no memory is taken for a container's bytes, its chunk's value is answered, or the first refusal
+-- where no memory is taken for a container's bytes, its chunk's value is answered, or the first error
 abbrev pub EncodesInPlace : Option Endianness → Form → Held → Result (CowSlice ℕ Global) CodecError → Type 0
 EncodesInPlace order form held result =
     needs_memory order form.type held ≡ false → EncodesNow (bytes_value order) form held result
 
--- where no memory is taken for a value's bytes, a container of its chunk is answered, or the first refusal
+-- where no memory is taken for a value's bytes, a container of its chunk is answered, or the first error
 abbrev pub DecodesInPlace : Option Endianness → Form → CowSlice ℕ Global → Result Held CodecError → Type 0
 DecodesInPlace order form given result =
     needs_memory order form.type (flen (raw_of given)) ≡ false → DecodesNow (bytes_chunk order) form (items_of given) result
 
 -- ---- the same of chunks of these sizes, this type and this fill value
 
--- the value of the chunk that a container holds is answered, or the first refusal
+-- the value of the chunk that a container holds is answered, or the first error
 abbrev pub Encoded : Option Endianness → List ℕ → ElementType → List ℕ → Held → Result (CowSlice ℕ Global) CodecError → Type 0
 Encoded order sizes type fill held result = EncodesBy (bytes_value order) (form_of sizes type fill) held result
 
--- the same where no memory is taken for the container's bytes, and no want of memory comes in its place
+-- the same where no memory is taken for the container's bytes, and it is never out of memory
 abbrev pub EncodedNow : Option Endianness → List ℕ → ElementType → List ℕ → Held → Result (CowSlice ℕ Global) CodecError → Type 0
 EncodedNow order sizes type fill held result = EncodesInPlace order (form_of sizes type fill) held result
 
--- a container of the chunk that a value stands for is answered, or the first refusal
+-- a container of the chunk that a value stands for is answered, or the first error
 abbrev pub Decoded : Option Endianness → List ℕ → ElementType → List ℕ → CowSlice ℕ Global → Result Held CodecError → Type 0
 Decoded order sizes type fill given result =
     DecodesBy (bytes_chunk order) (form_of sizes type fill) (items_of given) result
 
--- the same where no memory is taken for the value's bytes, and no want of memory comes in its place
+-- the same where no memory is taken for the value's bytes, and it is never out of memory
 abbrev pub DecodedNow : Option Endianness → List ℕ → ElementType → List ℕ → CowSlice ℕ Global → Result Held CodecError → Type 0
 DecodedNow order sizes type fill given result = DecodesInPlace order (form_of sizes type fill) given result
+
+-- no value of fewer bytes is returned, or the first error is
+abbrev pub CompactsBytes : Option Endianness → List ℕ → ElementType → List ℕ → CowSlice ℕ Global → Result (Option (CowSlice ℕ Global)) CodecError → Type 0
+CompactsBytes order sizes type fill given result =
+    CompactsNone (λ form _. seen (λ _. tt) (bytes_length order form)) (form_of sizes type fill) (items_of given) result
+
+-- the same; it is never out of memory
+abbrev pub CompactsNow : Option Endianness → List ℕ → ElementType → List ℕ → Result (Option (CowSlice ℕ Global)) CodecError → Type 0
+CompactsNow order sizes type fill result =
+    result ≡ seen (λ _. None) (bytes_length order (form_of sizes type fill))

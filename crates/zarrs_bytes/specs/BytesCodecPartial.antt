@@ -1,7 +1,6 @@
 -- What a partial coder of `bytes` is made of, and what it reads and writes of a chunk.
-use Rattle.std.specs.Prelude.{◌≡◌, ◌*◌, ℕ, Bool, Option, is_some, List, length, Result, IfOk, Vec}
+use Rattle.std.specs.Prelude.{◌≡◌, ℕ, Bool, true, Option, is_some, List, Result, Ok, Err, IfOk, Vec}
 use Rattle.std.proofs.Common.{Global}
-use Rattle.zarrs_chunk.specs.Answer.{Gives}
 use Rattle.zarrs_chunk.specs.Indexer.{selection_of}
 use Rattle.zarrs_chunk.specs.Selection.{places_of}
 use Rattle.zarrs_chunk.specs.declared.codec_error.CodecError.{CodecError}
@@ -11,17 +10,18 @@ use Rattle.zarrs_data_type.specs.declared.endianness.Endianness.{Endianness}
 use Rattle.zarrs_array_bytes.specs.Held.{Held}
 use Rattle.zarrs_codec.specs.ArrayReader.{ArrayReader}
 use Rattle.zarrs_codec.specs.ArrayWriter.{ArrayWriter}
-use Rattle.zarrs_codec.specs.ByteRanges.{range_indices}
 use Rattle.zarrs_codec.specs.ByteSpan.{ByteSpan}
+use Rattle.zarrs_codec.specs.Calls.{Calls, MakesReads, MakesWrite, after_reads, ok_count}
 use Rattle.zarrs_codec.specs.ChunkEdits.{data_checked}
-use Rattle.zarrs_codec.specs.StorageState.{StorageState, KeptIfAtomic}
+use Rattle.zarrs_codec.specs.StorageState.{StorageState, KeptIfAtomic, are_sure}
 use Rattle.zarrs_codec.specs.declared.refused.Refused.{Refused}
 use Rattle.zarrs_bytes.specs.BytesGrammar.{bytes_grammar, bytes_reads_part}
 use Rattle.zarrs_data_type.specs.Form.{Form, form_of}
 use Rattle.zarrs_codec.specs.CodersOverHandles.{ReadsPart, OnlyReads, EditsPart, OnlyWrites}
 use Rattle.zarrs_bytes.specs.PartialRead.{bytes_plan, bytes_read, place_size}
-use Rattle.zarrs_bytes.specs.PartialWrite.{bytes_written}
-use Rattle.zarrs_bytes.specs.PlannedRanges.{ranges_len}
+use Rattle.zarrs_bytes.specs.PartialWrite.{bytes_replaced, bytes_written}
+use Rattle.zarrs_bytes.specs.PlannedRanges.{PlansPlaces}
+use Rattle.zarrs_bytes.specs.ReadingCalls.{calls_for_runs, consecutive_runs}
 use Rattle.zarrs_bytes.specs.declared.bytes_codec_partial.BytesCodecPartial.{BytesCodecPartial}
 
 -- the chunks that a decoder reads: the byte order, the shape, the type and the fill value
@@ -56,45 +56,61 @@ stored_in state coder = (coder_state state coder).value
 abbrev pub coder_lent : {H L : Type 0} → (H → L) → BytesCodecPartial H → L
 coder_lent lent coder = lent (bytes_handle_of coder)
 
+-- the record of a coder's handle, where it keeps one
+abbrev pub coder_calls : {H : Type 0} → (H → Option Calls) → BytesCodecPartial H → Option Calls
+coder_calls calls coder = calls (bytes_handle_of coder)
+
 -- a coder that is made has this byte order, and is one of chunks of this form
 abbrev pub HasForm : {H : Type 0} → Option Endianness → Form → Result (BytesCodecPartial H) (Refused H) → Type 0
 HasForm order form result =
     IfOk result (λ coder. bytes_form_of coder ≡ record { order = order; sizes = form.sizes; type = form.type; fill = form.fill })
 
--- what a decoder reads at a selection by its grammar (`state` says what a handle keeps)
+-- what a decoder reads at a selection by its grammar (`state` states what a handle keeps)
 abbrev pub Reads : {H : Type 0} → (H → StorageState) → BytesCodecPartial H → Indexer → Result Held CodecError → Type 0
 Reads state decoder indexer result =
     ReadsPart (bytes_grammar decoder.codec) (bytes_reads_part decoder.codec) (form_of decoder.shape decoder.data_type decoder.fill_value) (state decoder.handle) (selection_of indexer) result
+
+-- an accepted read makes one reading call, or one for each batch of many short runs (`calls` states what the record of a handle is)
+abbrev pub CountsReads : {H T : Type 0} → (H → StorageState) → (H → Option Calls) → BytesCodecPartial H → BytesCodecPartial H → Indexer → Result T CodecError → Type 0
+CountsReads state calls before after indexer result =
+    IfOk (places_of (selection_of indexer) before.shape) (λ places.
+    MakesReads (coder_calls calls) (calls_for_runs (place_size before.data_type) (stored_in state before) (consecutive_runs places)) before after result)
+
+-- a call of a coder makes one reading call
+abbrev pub AsksOnce : {H T : Type 0} → (H → Option Calls) → BytesCodecPartial H → BytesCodecPartial H → Result T CodecError → Type 0
+AsksOnce calls before after result =
+    coder_calls calls after ≡ after_reads (ok_count result) (coder_calls calls before)
 
 -- that a call of a decoder changes nothing
 abbrev pub Leaves : {H T L : Type 0} → (H → StorageState) → (H → L) → BytesCodecPartial H → BytesCodecPartial H → Result T CodecError → Type 0
 Leaves state lent before after result =
     OnlyReads (coder_state state) (coder_lent lent) bytes_form_of before after result
 
--- the ranges that a decoder plans are the bytes of the places that the indexer means, in order, or the first refusal is answered
+-- the ranges that a decoder plans are the plan of a read of the places that the indexer selects, or the first error is returned
 abbrev pub Plans : {H : Type 0} → BytesCodecPartial H → Indexer → Result (Vec ByteSpan Global) CodecError → Type 0
 Plans decoder indexer result =
-    Gives (λ ranges. range_indices ranges.items) result (bytes_plan decoder.shape decoder.data_type (selection_of indexer))
+    PlansPlaces (place_size decoder.data_type) result (places_of (selection_of indexer) decoder.shape)
 
--- the ranges that a decoder plans have as many bytes as the elements that the indexer means
-abbrev pub PlansAllBytes : {H : Type 0} → BytesCodecPartial H → Indexer → Result (Vec ByteSpan Global) CodecError → Type 0
-PlansAllBytes decoder indexer result =
-    IfOk result (λ ranges. IfOk (places_of (selection_of indexer) decoder.shape) (λ places. ranges_len ranges.items ≡ length places * place_size decoder.data_type))
+-- whether a read is sure that asks for bytes of these numbers, or fails before it asks
+abbrev pub plan_is_sure : Option (ℕ → Bool) → Result (List ℕ) CodecError → Bool
+plan_is_sure sure (Ok numbers) = are_sure sure numbers
+plan_is_sure sure (Err _) = true
 
--- the reader of a chunk of this form, where this value or none is stored: it answers of a selection what `bytes_read` says
-abbrev pub bytes_reader : BytesForm → Option (List ℕ) → Bool → ArrayReader
-bytes_reader form stored in_part = record {
+-- the reader of a chunk of this form, where this value or none is stored and these bytes are sure: it answers of a selection what `bytes_read` states, and is sure where the bytes of its places are
+abbrev pub bytes_reader : BytesForm → Option (List ℕ) → Option (ℕ → Bool) → Bool → ArrayReader
+bytes_reader form stored sure in_part = record {
   sizes = form.sizes;
   type = form.type;
   is_stored = is_some stored;
   answer = bytes_read form.order (form_in form) stored;
+  sure = λ selection. plan_is_sure sure (bytes_plan form.sizes form.type selection);
   in_part = in_part;
 }
 
--- the writer of a chunk of this form: it leaves of a selection and new elements what `bytes_written` says
-abbrev pub bytes_writer : BytesForm → Bool → ArrayWriter
-bytes_writer form in_part = record {
-  reads = λ stored. bytes_reader form stored in_part;
+-- the writer of a chunk of this form: it leaves of a selection and new elements what `bytes_written` states
+abbrev pub bytes_writer : BytesForm → Option (ℕ → Bool) → Bool → ArrayWriter
+bytes_writer form sure in_part = record {
+  reads = λ stored. bytes_reader form stored sure in_part;
   checks = data_checked form.sizes form.type;
   written = bytes_written form.order (form_in form);
 }
@@ -104,11 +120,17 @@ abbrev pub Edits : {H : Type 0} → (H → StorageState) → BytesCodecPartial H
 Edits state before after indexer new result =
     EditsPart (bytes_grammar before.codec) (form_of before.shape before.data_type before.fill_value) (bytes_written before.codec (form_of before.shape before.data_type before.fill_value)) (state before.handle) (state after.handle) (selection_of indexer) new result
 
+-- an accepted write asks once whether a value is stored, and replaces the bytes of its places and no others; all of the new value, where none is stored
+abbrev pub CountsEdit : {H T : Type 0} → (H → StorageState) → (H → Option Calls) → BytesCodecPartial H → BytesCodecPartial H → Indexer → Held → Result T CodecError → Type 0
+CountsEdit state calls before after indexer new result =
+    IfOk (places_of (selection_of indexer) before.shape) (λ places.
+    MakesWrite (coder_calls calls) 1 (bytes_replaced before.codec (form_of before.shape before.data_type before.fill_value) (stored_in state before) places new) before after result)
+
 -- that a call of a coder makes one writing call at most, and changes nothing else
 abbrev pub WritesAtMostOnce : {H T L : Type 0} → (H → StorageState) → (H → L) → Bool → BytesCodecPartial H → BytesCodecPartial H → Result T CodecError → Type 0
 WritesAtMostOnce state lent atomic before after result =
     OnlyWrites (coder_state state) (coder_lent lent) bytes_form_of atomic before after result
 
--- a refused call of a coder leaves the value as it was, where its handle is atomic
+-- a failed call of a coder leaves the value as it was, where its handle is atomic
 abbrev pub CoderKeptIfAtomic : {H T : Type 0} → Bool → (H → StorageState) → BytesCodecPartial H → BytesCodecPartial H → Result T CodecError → Type 0
 CoderKeptIfAtomic atomic state before after result = KeptIfAtomic atomic (coder_state state) before after result

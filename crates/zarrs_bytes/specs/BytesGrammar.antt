@@ -1,4 +1,4 @@
--- What the codec `bytes` says of chunks.
+-- What the codec `bytes` states of chunks.
 use Rattle.std.specs.Prelude.{Option}
 use Rattle.zarrs_data_type.specs.declared.endianness.Endianness.{Endianness}
 use Rattle.zarrs_bytes.specs.BytesCodec.{BytesStands, BytesWritten, bytes_value, bytes_chunk}

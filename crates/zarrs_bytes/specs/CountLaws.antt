@@ -23,8 +23,8 @@ read_count order type fill (Some value) places chunk e =
     let rest = passed (demand (list_all (has_place type value) places) InvalidByteRange) (λ _. Ok read) chunk e in
     ap length (sym (same_value read chunk rest.second_is)) ∙ length-map places (bytes_element order type value)
 
-pub bytes_counts : (form : BytesForm) (stored : Option (List ℕ)) (in_part : Bool) → IsCounted (bytes_reader form stored in_part)
-bytes_counts form stored in_part selection chunk e =
+pub bytes_counts : (form : BytesForm) (stored : Option (List ℕ)) (sure : Option (ℕ → Bool)) (in_part : Bool) → IsCounted (bytes_reader form stored sure in_part)
+bytes_counts form stored sure in_part selection chunk e =
     let places = passed (places_of selection form.sizes) (read_places form.order form.type form.fill stored) chunk e in
     let counted = places_counted selection form.sizes places.given places.first_is in
     record {

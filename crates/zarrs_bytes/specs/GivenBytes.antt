@@ -9,11 +9,11 @@ use Rattle.zarrs_data_type.specs.Form.{Form}
 use Rattle.zarrs_array_bytes.specs.Held.{Held, flen, items_of, raw_of}
 use Rattle.zarrs_array_bytes.specs.Validity.{Holds}
 
--- the answer is the value that the codec tells of a container of such a chunk, or the first refusal; no want of memory comes in its place
+-- the answer is the value of a container of such a chunk by the codec, or the first error; it is never out of memory
 abbrev pub EncodesNow : (Form → Held → Result (List ℕ) CodecError) → Form → Held → Result (CowSlice ℕ Global) CodecError → Type 0
 EncodesNow encoded form held result = seen items_of result ≡ encoded form held
 
--- the answer is a container of the chunk that the codec tells of the value, or the first refusal; no want of memory comes in its place
+-- the answer is a container of the chunk that the value stands for by the codec, or the first error; it is never out of memory
 abbrev pub DecodesNow : (Form → List ℕ → Result Chunk CodecError) → Form → List ℕ → Result Held CodecError → Type 0
 DecodesNow decoded form value result = AnswersBy never (Holds form.type) result (decoded form value)
 

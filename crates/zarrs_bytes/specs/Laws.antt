@@ -33,7 +33,7 @@ WrittenAlike =
     (order : Option Endianness) (sizes : List ℕ) (type : ElementType) (fill value other_value : List ℕ) (chunk other : Chunk)
     → BytesWritten order (form_of sizes type fill) value chunk → BytesWritten order (form_of sizes type fill) other_value other → (value ≡ other_value) ↔ (chunk ≡ other)
 
--- A written value has the length that the representation says.
+-- A written value has the length that the representation declares.
 abbrev pub HasRepresentedLength : Type 0
 HasRepresentedLength =
     (order : Option Endianness) (sizes : List ℕ) (type : ElementType) (fill value : List ℕ) (chunk : Chunk) (len : ℕ)
@@ -60,7 +60,7 @@ WriteUpdates =
     → is_ok (bytes_length order (form_of sizes type fill)) ≡ true → StartsFrom order (form_of sizes type fill) stored chunk → All (λ place. place < product sizes) places → data_fit type (length places) new ≡ Ok tt
     → BytesWritten order (form_of sizes type fill) (bytes_left order (form_of sizes type fill) stored places new) (with_elements type chunk places new)
 
--- Of as many elements a value is as long, or there is none by the same refusal, whatever the sizes.
+-- Of as many elements a value is as long, or there is none by the same error, whatever the sizes.
 abbrev pub LengthByCount : Type 0
 LengthByCount =
     (order : Option Endianness) (sizes other_sizes : List ℕ) (type : ElementType) (fill : List ℕ)

@@ -11,6 +11,7 @@ pub mod MadeCoders
 pub mod PartialRead
 pub mod PartialWrite
 pub mod PlannedRanges
+pub mod ReadingCalls
 pub use Rattle.zarrs_chunk.specs.Answer
 pub use Rattle.zarrs_chunk.specs.ChunkShape
 pub use Rattle.zarrs_chunk.specs.Indexer

@@ -1,4 +1,4 @@
--- The making of a coder of chunks in part.
+-- Construction of a coder of chunks in part.
 use Rattle.std.specs.Prelude.{ℕ, Option, List, Result}
 use Rattle.zarrs_chunk.specs.Answer.{Gives, seen}
 use Rattle.zarrs_chunk.specs.declared.codec_error.CodecError.{CodecError}
@@ -9,10 +9,10 @@ use Rattle.zarrs_codec.specs.Refused.{outcome}
 use Rattle.zarrs_codec.specs.declared.refused.Refused.{Refused}
 use Rattle.zarrs_bytes.specs.BytesCodec.{bytes_length}
 
--- A coder is made where something is expected, else the refusal that is expected is answered. Only a want of memory may come in its place.
+-- A coder is made where something is expected, else the expected error is returned. Only a lack of memory may come in its place.
 abbrev pub GivesCoder : {T H A : Type 0} → Result T (Refused H) → Result A CodecError → Type 0
 GivesCoder result expected = Gives (λ made. made) (outcome result) (seen (λ _. tt) expected)
 
--- a coder is made where the codec `bytes` takes such chunks, else the first cause why it doesn't is answered
+-- a coder is made where the codec `bytes` accepts such chunks, else the first error is returned
 abbrev pub GivesBytesCoder : {T H : Type 0} → Option Endianness → List ℕ → ElementType → List ℕ → Result T (Refused H) → Type 0
 GivesBytesCoder order sizes type fill result = GivesCoder result (bytes_length order (form_of sizes type fill))

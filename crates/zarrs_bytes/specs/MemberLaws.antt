@@ -1,4 +1,4 @@
--- What joins the members of the codec `bytes`: what is decoded is of chunks that it takes, and has as many elements as they have.
+-- What joins the members of the codec `bytes`: what is decoded is of chunks that it accepts, and has as many elements as they have.
 use Rattle.std.specs.Prelude.{◌≡◌, ℕ, ◌==◌, Option, List, length, map, Result, Ok, Err, IsOk, refl}
 use Rattle.std.specs.List.{range_with_len}
 use Rattle.std.proofs.Common.{◌∙◌, ap, sym}

@@ -55,7 +55,7 @@ places_are_sure size before places = are_sure before.sure (place_bytes size plac
 abbrev pub with_read : List ℕ → Result (Option (List ℕ)) CodecError → Result (Option (List ℕ)) CodecError
 with_read before read = seen (option_map (λ more. before ++ more)) read
 
--- Behind the old bytes stand those of elements of one size at the places of these runs, of what the handle keeps, or the first refusal is answered. Only a want of memory or a failure of the handle may come in its place.
+-- Behind the old bytes stand those of elements of one size at the places of these runs, of what the handle keeps, or the first error is returned. Only a lack of memory or a failure of the handle may come in its place.
 abbrev pub AddsRuns : Vec ℕ Global → Vec ℕ Global → ℕ → StorageState → List (ℕ × ℕ) → Result (Unit {0}) CodecError → Type 0
 AddsRuns old new size before runs result =
     Answers memory_or_fault (λ _. Some new.items) result (with_read old.items (bytes_at_runs size before runs))
@@ -99,13 +99,13 @@ read_places order type fill (Some value) places = do
   _ ← demand (list_all (has_place type value) places) InvalidByteRange
   Ok (map (bytes_element order type value) places)
 
--- the elements that a selection means, of what is stored, or the first refusal
+-- the elements that a selection selects, of what is stored, or the first error
 abbrev pub bytes_read : Option Endianness → Form → Option (List ℕ) → Selection → Result Chunk CodecError
 bytes_read order form stored selection = do
   places ← places_of selection form.sizes
   read_places order form.type form.fill stored places
 
--- The answer is a container of the elements at the places of these runs: those of the stored value, where it has all their bytes; the fill element at each, where nothing is stored. Only a want of memory or a failure of the handle may come in its place.
+-- The answer is a container of the elements at the places of these runs: those of the stored value, where it has all their bytes; the fill element at each, where nothing is stored. Only a lack of memory or a failure of the handle may come in its place.
 abbrev pub ReadsRuns : Option Endianness → ElementType → List ℕ → StorageState → List (ℕ × ℕ) → Result Held CodecError → Type 0
 ReadsRuns order type fill before runs result =
     AnswersBy memory_or_fault (Holds type) result (read_places order type fill before.value (joined_runs runs))
@@ -126,10 +126,10 @@ ReadsPlacesSurely type before places result = NeverFailsIf (places_are_sure (pla
 abbrev pub byte_count_of : ElementType → List (ℕ × ℕ) → ℕ
 byte_count_of type runs = length (joined_runs runs) * place_size type
 
--- the numbers of the bytes that such a read asks for, or the first refusal
+-- the numbers of the bytes that such a read asks for, or the first error
 abbrev pub bytes_plan : List ℕ → ElementType → Selection → Result (List ℕ) CodecError
 bytes_plan sizes type selection = seen (place_bytes (place_size type)) (places_of selection sizes)
 
--- the ranges that are given are the bytes of the places of these runs, in order; only a want of memory may come in their place
+-- the ranges that are given are the bytes of the places of these runs, in order; only a lack of memory may come in their place
 abbrev pub PlansRuns : ElementType → List (ℕ × ℕ) → Result (Vec ByteSpan Global) CodecError → Type 0
 PlansRuns type runs result = Gives (λ ranges. range_indices ranges.items) result (Ok (run_bytes (place_size type) runs))

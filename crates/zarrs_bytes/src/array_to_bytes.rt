@@ -1,4 +1,4 @@
-//! The codec `bytes` as every codec of chunks to bytes.
+//! The codec `bytes` as an array-to-bytes codec.
 use crate::bytes_codec::BytesCodec;
 use std::alloc::Global;
 use zarrs_array_bytes::{ArrayBytes, ArrayBytesRaw};
@@ -9,8 +9,8 @@ use zarrs_data_type::{DataType, FillValue};
 impl ArrayToBytesCodecTraits for BytesCodec {
     ghost use Rattle.std.specs.Prelude.{◌≡◌, None, IfOk};
     ghost use Rattle.zarrs_chunk.specs.Answer.{seen};
-    ghost use Rattle.zarrs_array_bytes.specs.Blank.{AbsentAreBlank};
-    ghost use Rattle.zarrs_bytes.specs.BytesCodec.{bytes_represented, bytes_length, bytes_value, bytes_chunk, turn_size, RepresentsBytes, RepresentsNow, DecodesBack, Encoded, EncodedNow, Decoded, DecodedNow};
+    ghost use Rattle.zarrs_array_bytes.specs.Tight.{IsTight};
+    ghost use Rattle.zarrs_bytes.specs.BytesCodec.{bytes_represented, bytes_length, bytes_value, bytes_chunk, turn_size, RepresentsBytes, RepresentsNow, DecodesBack, Encoded, EncodedNow, Decoded, DecodedNow, CompactsBytes, CompactsNow};
     ghost use Rattle.zarrs_codec.specs.ChunkCodec.{GivesValid};
     ghost use Rattle.zarrs_bytes.specs.GivenBytes.{IsGiven, HoldsGiven};
 
@@ -51,12 +51,14 @@ impl ArrayToBytesCodecTraits for BytesCodec {
         ensures answer { Encoded self.now shape.now data_type.now fill.now given.entry result }
         ensures in_place { EncodedNow self.now shape.now data_type.now fill.now given.entry result }
         ensures kept { turn_size self.now data_type.now ≡ None → IsGiven given.entry result }
-        ensures decoded_again { DecodesBack self.now shape.now data_type.now fill.now result }
+        // Wide: the three parameters of a form, the container and the answer.
+        ensures decoded_again { DecodesBack self.now
+            shape.now data_type.now fill.now given.entry result }
     {
         BytesCodec::encode(self, alloc, given, shape, data_type, fill)
     }
 
-    #[tactic(auto, using(crate::proofs::Counted::found_valid, crate::proofs::Counted::found_blank))]
+    #[tactic(auto, using(crate::proofs::Counted::found_valid, crate::proofs::Counted::found_tight))]
     fn decode<'a>(
         &self,
         alloc: Global,
@@ -69,19 +71,26 @@ impl ArrayToBytesCodecTraits for BytesCodec {
         ensures valid { GivesValid data_type.now shape.now result }
         ensures in_place { DecodedNow self.now shape.now data_type.now fill.now value.entry result }
         ensures kept { turn_size self.now data_type.now ≡ None → HoldsGiven value.entry result }
-        ensures blank { IfOk result (AbsentAreBlank data_type.now) }
+        ensures tight { IfOk result (IsTight data_type.now) }
     {
         BytesCodec::decode(self, alloc, value, shape, data_type, fill)
     }
 
+    /// A value of fewer bytes for the same chunk: `None`, since there is none. It takes no memory.
+    /// Errors: those of `encoded_representation`.
     fn compact<'a>(
         &self,
         _alloc: Global,
-        _value: ArrayBytesRaw<'a>,
+        value: ArrayBytesRaw<'a>,
         shape: &ChunkShape,
         data_type: &DataType,
         fill_value: &FillValue,
-    ) -> Result<Option<ArrayBytesRaw<'a>>, CodecError> {
+    ) -> Result<Option<ArrayBytesRaw<'a>>, CodecError>
+        // Wide: the three parameters of a form, the value and the answer.
+        ensures answer { CompactsBytes self.now
+            shape.now data_type.now fill_value.now value.entry result }
+        ensures in_place { CompactsNow self.now shape.now data_type.now fill_value.now result }
+    {
         self.lengths(shape, data_type, fill_value)?;
         Ok(None)
     }

@@ -2,16 +2,17 @@
 //!
 //! A range takes 16 bytes of memory, more than most elements have. So where a read asks for many
 //! short ranges, they are made and asked for a batch at a time.
-ghost use Rattle.std.specs.Prelude.{◌≡◌, ◌<◌, ◌≤◌, ◌+◌, ◌*◌, ◌-◌, ◌^◌, true, IfOk, All, is_some, min, length};
-ghost use Rattle.zarrs_chunk.specs.Runs.{joined_runs};
+ghost use Rattle.std.specs.Prelude.{◌≡◌, ◌<◌, ◌≤◌, ◌+◌, ◌*◌, ◌^◌, true, IfOk, All, is_some, length};
 ghost use Rattle.zarrs_codec.specs.ByteRanges.{range_indices};
+ghost use Rattle.zarrs_codec.specs.Calls.{MakesReads};
 ghost use Rattle.zarrs_codec.specs.StorageState.{after_reading};
 ghost use Rattle.zarrs_codec.specs.HandleCalls.{NeverFailsIf, ReadsBytes};
 ghost use Rattle.zarrs_bytes.specs.PartialRead.{bytes_at_runs, run_bytes, runs_are_sure, AddsRuns};
-ghost use Rattle.zarrs_bytes.specs.PlannedRanges.{NoneIsEmpty};
+ghost use Rattle.zarrs_bytes.specs.PlannedRanges.{NoneIsEmpty, AreOfRuns};
+ghost use Rattle.zarrs_bytes.specs.ReadingCalls.{first_count, CountsRuns, MakesBatches};
 
 use std::alloc::{AllocError, Global};
-use zarrs_chunk::CodecError;
+use zarrs_chunk::{CodecError, count_places};
 use zarrs_codec::{ByteRange, BytesPartialDecoderTraits};
 
 /// How many ranges are made at a time, where they would take more memory than their bytes.
@@ -28,6 +29,7 @@ pub fn run_ranges(
     requires sized { 0 < size }
     ensures bytes { IfOk result (λ ranges. range_indices ranges.items ≡ run_bytes size runs.now) }
     ensures filled { IfOk result (λ ranges. NoneIsEmpty ranges.items) }
+    ensures each { IfOk result (AreOfRuns size runs.now) }
 {
     let mut ranges = Vec::with_capacity(alloc, runs.len())?;
     for (start, len) in runs {
@@ -40,27 +42,17 @@ pub fn run_ranges(
     Ok(ranges)
 }
 
-/// How many places the runs have, or `u64::MAX` where they have more.
-pub fn count_of(runs: &[(u64, u64)]) -> u64
-    ensures count { result ≡ min (length (joined_runs runs.now)) (2 ^ 64 - 1) }
-{
-    let mut count: u64 = 0;
-    for (_, len) in runs {
-        count = count.saturating_add(*len);
-    }
-    count
-}
-
 /// How many of the runs are read first: all of them, but for many whose ranges take more memory
 /// than their bytes.
 fn first_batch(size: u64, runs: &[(u64, u64)]) -> usize
     ensures within { result ≤ length runs.now }
+    ensures count { result ≡ first_count size runs.now }
 {
     let count = runs.len();
     if count <= BATCH {
         return count;
     }
-    let bytes = count_of(runs).saturating_mul(size);
+    let bytes = count_places(runs).saturating_mul(size);
     if bytes / 16 >= count as u64 {
         count
     } else {
@@ -84,6 +76,7 @@ pub(crate) fn append_batch<H: BytesPartialDecoderTraits>(
     ensures sure { NeverFailsIf (runs_are_sure size (H.state handle.old) runs.now) result }
     ensures left { H.state handle.new ≡ after_reading result (H.state handle.old) }
     ensures same_reference { H.lent handle.new ≡ H.lent handle.old }
+    ensures counted { MakesReads H.calls 1 handle.old handle.new result }
 {
     let ranges = run_ranges(alloc, size, runs)?;
     match handle.partial_decode_many(alloc, ranges.as_slice())? {
@@ -109,6 +102,7 @@ fn append_batches<H: BytesPartialDecoderTraits>(
     ensures sure { NeverFailsIf (runs_are_sure size (H.state handle.old) runs.now) result }
     ensures left { H.state handle.new ≡ after_reading result (H.state handle.old) }
     ensures same_reference { H.lent handle.new ≡ H.lent handle.old }
+    ensures counted { MakesBatches H.calls (length runs.now) handle.old handle.new result }
 {
     let mut rest = runs;
     while !rest.is_empty() {
@@ -135,13 +129,14 @@ pub fn read_bytes<H: BytesPartialDecoderTraits>(
     ensures sure { NeverFailsIf (runs_are_sure size (H.state handle.old) runs.now) result }
     ensures left { H.state handle.new ≡ after_reading result (H.state handle.old) }
     ensures same_reference { H.lent handle.new ≡ H.lent handle.old }
+    ensures counted { CountsRuns size H.state H.calls handle.old handle.new runs.now result }
 {
     let (first, rest) = runs.split_at(first_batch(size, runs));
     let ranges = run_ranges(alloc, size, first)?;
     match handle.partial_decode_many(alloc, ranges.as_slice())? {
         None => Ok(None),
         Some(mut bytes) => {
-            bytes.reserve_exact(count_of(rest).saturating_mul(size) as usize)?;
+            bytes.reserve_exact(count_places(rest).saturating_mul(size) as usize)?;
             append_batches(&mut bytes, alloc, handle, size, rest)?;
             Ok(Some(bytes))
         }

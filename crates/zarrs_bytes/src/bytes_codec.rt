@@ -1,3 +1,4 @@
+//! The codec `bytes`, of whole chunks.
 ghost use Rattle.std.specs.Prelude.{◌≡◌, ◌<◌, Some, None, IfOk, IfSome, false};
 ghost use Rattle.zarrs_chunk.specs.Answer.{is_fault};
 ghost use Rattle.zarrs_chunk.specs.ChunkShape.{product};
@@ -6,7 +7,7 @@ ghost use Rattle.zarrs_bytes.specs.ByteOrder.{has_order};
 ghost use Rattle.zarrs_data_type.specs.Form.{form_of};
 ghost use Rattle.zarrs_bytes.specs.BytesGrammar.{bytes_grammar};
 ghost use Rattle.zarrs_codec.specs.Grammar.{Encodes, Decodes};
-ghost use Rattle.zarrs_bytes.specs.BytesCodec.{turn_size as turn_size_of, RepresentsNow, EncodesInPlace, DecodesInPlace};
+ghost use Rattle.zarrs_bytes.specs.BytesCodec.{turn_size as turn_size_of, RepresentsNow, EncodedNow, DecodedNow};
 ghost use Rattle.zarrs_bytes.specs.ChunkLengths.{MeasuresBytes};
 ghost use Rattle.zarrs_bytes.specs.GivenBytes.{IsGiven, HoldsGiven};
 
@@ -18,8 +19,13 @@ use zarrs_chunk::{ChunkShape, CodecError, CodecName};
 use zarrs_codec::BytesRepresentation;
 use zarrs_data_type::{DataType, Endianness, FillValue, HasComponents};
 
-/// The array codec `bytes`: a chunk's value is its elements in row-major order, each component in
-/// the byte order that was asked for (Zarr v3 codec `bytes`). It takes every fixed data type.
+/// The name of `bytes` in errors.
+pub const BYTES: CodecName = CodecName {
+    letters: *b"bytes\0\0\0\0\0\0\0\0\0\0\0",
+};
+
+/// The codec `bytes`: a chunk's value is its elements in row-major order, each component in
+/// the byte order that was asked for (Zarr v3 codec `bytes`). It accepts every fixed data type.
 #[derive(Clone, Copy, Debug, PartialEq, Eq)]
 pub struct BytesCodec {
     pub(crate) endianness: Option<Endianness>,
@@ -44,7 +50,7 @@ pub(crate) struct ChunkLengths {
 }
 
 impl BytesCodec {
-    /// The codec with this byte order. Without one it takes only components of one byte.
+    /// The codec with this byte order. Without one it accepts only components of one byte.
     pub fn new(endianness: Option<Endianness>) -> BytesCodec
         ensures made { result ≡ endianness }
     {
@@ -72,7 +78,7 @@ impl BytesCodec {
         self.endianness
     }
 
-    /// Whether the codec takes components of so many bits.
+    /// Whether the codec accepts components of so many bits.
     fn takes(&self, component_size_bits: u64) -> bool
         ensures value { result ≡ has_order self.now component_size_bits }
     {
@@ -98,7 +104,7 @@ impl BytesCodec {
         Some(components.component_size_bits.div_ceil(8) as usize)
     }
 
-    /// How long a chunk of this form is. Refusals are those of `encoded_representation`.
+    /// How long a chunk of this form is. Errors are those of `encoded_representation`.
     pub(crate) fn lengths(
         &self,
         shape: &ChunkShape,
@@ -110,7 +116,7 @@ impl BytesCodec {
         ensures no_fault { is_fault result ≡ false }
     {
         let Some(components) = HasComponents::components(data_type) else {
-            return Err(CodecError::UnsupportedDataType(CodecName::Bytes));
+            return Err(CodecError::UnsupportedDataType(BYTES));
         };
         if !fill_value.fits(data_type) {
             return Err(CodecError::InvalidFillValue);
@@ -126,7 +132,7 @@ impl BytesCodec {
         Ok(ChunkLengths { elements, bytes })
     }
 
-    /// How many bytes the value of such a chunk has. Refusals, the first that holds:
+    /// How many bytes the value of such a chunk has. Errors, the first that holds:
     /// `UnsupportedDataType` for a type that isn't fixed; `InvalidFillValue`; `Overflow` where 64
     /// bits don't count the elements, or their bytes; `EndiannessMissing` where a component has more
     /// than one byte and there is no byte order.
@@ -142,7 +148,7 @@ impl BytesCodec {
         Ok(BytesRepresentation::FixedSize(lengths.bytes))
     }
 
-    /// The value that is written for the chunk that `elements` hold. Refusals, the first that
+    /// The value that is written for the chunk that `elements` hold. Errors, the first that
     /// holds: those of `encoded_representation`, those of `ArrayBytes::validate`; `OutOfMemory`.
     ///
     /// Only borrowed bytes that are turned round take memory. Where no byte changes its place, the
@@ -159,8 +165,8 @@ impl BytesCodec {
         ensures encodes { Encodes (bytes_grammar self.now)
             (form_of shape.now data_type.now fill_value.now) elements.entry result }
         // Wide: the names of its parameters, which the Rust crate has too, fill the row.
-        ensures in_place { EncodesInPlace self.now
-            (form_of shape.now data_type.now fill_value.now) elements.entry result }
+        ensures in_place { EncodedNow self.now
+            shape.now data_type.now fill_value.now elements.entry result }
         ensures kept { turn_size_of self.now data_type.now ≡ None → IsGiven elements.entry result }
     {
         let lengths = self.lengths(shape, data_type, fill_value)?;
@@ -169,7 +175,7 @@ impl BytesCodec {
         turn(alloc, raw, self.turn_size(data_type))
     }
 
-    /// The chunk that a value stands for. Refusals, the first that holds: those of
+    /// The chunk that a value stands for. Errors, the first that holds: those of
     /// `encoded_representation`; `InvalidBytesLength` where the value has another length;
     /// `OutOfMemory`.
     ///
@@ -186,9 +192,7 @@ impl BytesCodec {
         // Wide: the names of its parameters, which the Rust crate has too, fill the row.
         ensures decodes { Decodes (bytes_grammar self.now)
             (form_of shape.now data_type.now fill_value.now) (items_of value.entry) result }
-        // Wide: the names of its parameters, which the Rust crate has too, fill the row.
-        ensures in_place { DecodesInPlace self.now
-            (form_of shape.now data_type.now fill_value.now) value.entry result }
+        ensures in_place { DecodedNow self.now shape.now data_type.now fill_value.now value.entry result }
         ensures kept { turn_size_of self.now data_type.now ≡ None → HoldsGiven value.entry result }
     {
         let lengths = self.lengths(shape, data_type, fill_value)?;

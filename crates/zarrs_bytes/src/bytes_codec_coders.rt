@@ -12,9 +12,9 @@ use zarrs_data_type::DataType;
 impl<H: BytesPartialDecoderTraits> ArrayPartialDecoderTraits for BytesCodecPartial<H> {
     ghost use Rattle.zarrs_bytes.specs.BytesCodecPartial.{bytes_form_of, bytes_handle_of, bytes_reader, bytes_writer};
 
-    ghost reader = { λ decoder. bytes_reader (bytes_form_of decoder) (H.state (bytes_handle_of decoder)).value H.reads_ranges };
+    ghost reader = { λ decoder. bytes_reader (bytes_form_of decoder) (H.state (bytes_handle_of decoder)).value (H.state (bytes_handle_of decoder)).sure H.reads_ranges };
 
-    ghost writer = { λ decoder. bytes_writer (bytes_form_of decoder) H.reads_ranges };
+    ghost writer = { λ decoder. bytes_writer (bytes_form_of decoder) (H.state (bytes_handle_of decoder)).sure H.reads_ranges };
 
     ghost state = { λ decoder. H.state (bytes_handle_of decoder) };
 
@@ -24,7 +24,7 @@ impl<H: BytesPartialDecoderTraits> ArrayPartialDecoderTraits for BytesCodecParti
 
     ghost use Rattle.zarrs_bytes.specs.CountLaws.{bytes_counts};
 
-    ghost counts = { λ decoder. bytes_counts (bytes_form_of decoder) (H.state (bytes_handle_of decoder)).value H.reads_ranges };
+    ghost counts = { λ decoder. bytes_counts (bytes_form_of decoder) (H.state (bytes_handle_of decoder)).value (H.state (bytes_handle_of decoder)).sure H.reads_ranges };
 
     fn data_type(&self) -> &DataType {
         BytesCodecPartial::data_type(self)
@@ -64,7 +64,7 @@ impl<H: BytesPartialEncoderTraits> ArrayPartialEncoderTraits for BytesCodecParti
     ghost use Rattle.zarrs_bytes.specs.PartialWrite.{bytes_written};
     ghost use Rattle.zarrs_codec.specs.CountLaws.{checks_of_data};
 
-    ghost checks_data = { λ encoder. checks_of_data (bytes_reader (bytes_form_of encoder) (H.state (bytes_handle_of encoder)).value H.reads_ranges) (λ stored. bytes_reader (bytes_form_of encoder) stored H.reads_ranges) (bytes_written (bytes_form_of encoder).order (form_in (bytes_form_of encoder))) };
+    ghost checks_data = { λ encoder. checks_of_data (bytes_reader (bytes_form_of encoder) (H.state (bytes_handle_of encoder)).value (H.state (bytes_handle_of encoder)).sure H.reads_ranges) (λ stored. bytes_reader (bytes_form_of encoder) stored (H.state (bytes_handle_of encoder)).sure H.reads_ranges) (bytes_written (bytes_form_of encoder).order (form_in (bytes_form_of encoder))) };
 
     fn partial_encode(
         &mut self,

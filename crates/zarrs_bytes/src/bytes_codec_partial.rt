@@ -1,26 +1,28 @@
+//! Coders of a chunk in part, over a storage handle, and the read of runs of places.
 ghost use Rattle.zarrs_data_type.specs.Form.{form_of};
 ghost use Rattle.std.specs.Prelude.{◌≡◌, ◌<◌, ◌+◌, ◌*◌, ◌^◌, true, None, Ok, IfOk, IfErr, All, is_some, length};
 ghost use Rattle.zarrs_chunk.specs.Answer.{Answers, fault};
 ghost use Rattle.zarrs_chunk.specs.Runs.{joined_runs, EndWithin};
 ghost use Rattle.zarrs_data_type.specs.ElementType.{fixed_size_of};
 ghost use Rattle.zarrs_data_type.specs.FillValue.{fill_fits};
-ghost use Rattle.zarrs_array_bytes.specs.Blank.{AbsentAreBlank};
+ghost use Rattle.zarrs_array_bytes.specs.Tight.{IsTight};
 ghost use Rattle.zarrs_chunk.specs.ChunkShape.{product};
 ghost use Rattle.zarrs_codec.specs.StorageState.{after_reading, LeftByWriting};
 ghost use Rattle.zarrs_bytes.specs.BytesCodec.{BytesTakes, Copies};
 ghost use Rattle.zarrs_codec.specs.HandleCalls.{NeverFailsIf, Tells};
 ghost use Rattle.zarrs_bytes.specs.MadeCoders.{GivesBytesCoder};
 ghost use Rattle.zarrs_bytes.specs.PartialRead.{place_size, IsFilledType, ReadsRuns, ReadsRunsSurely, RepeatsFill};
-ghost use Rattle.zarrs_bytes.specs.PartialWrite.{FitRuns, GivesDataPlaces};
+ghost use Rattle.zarrs_bytes.specs.PartialWrite.{FailsByWriting, FitRuns, GivesDataPlaces};
 ghost use Rattle.zarrs_bytes.specs.PlannedRanges.{NoneIsEmpty};
+ghost use Rattle.zarrs_bytes.specs.ReadingCalls.{CountsRunsOf};
 
-use crate::batches::{count_of, read_bytes, run_ranges};
+use crate::batches::{read_bytes, run_ranges};
 use crate::byte_order::turn;
 use crate::bytes_codec::BytesCodec;
 use std::alloc::{AllocError, Global};
 use std::borrow::CowSlice;
 use zarrs_array_bytes::{ArrayBytes, append_copies};
-use zarrs_chunk::{ChunkShape, CodecError, Indexer};
+use zarrs_chunk::{ChunkShape, CodecError, Indexer, count_places};
 use zarrs_codec::{ByteRange, BytesPartialDecoderTraits, BytesPartialEncoderTraits, Refused};
 use zarrs_data_type::{DataType, FillValue};
 
@@ -53,11 +55,11 @@ pub(crate) fn element_size(data_type: &DataType, fill_value: &FillValue) -> usiz
 
 /// The fill element for each place of the runs. It is the same for each, so the places are counted,
 /// and nothing is made run by run. No memory has room for `u64::MAX` of them.
-fn fill_runs(alloc: Global, fill: &[u8], runs: &[(u64, u64)]) -> Result<Vec<u8>, AllocError>
+pub fn fill_runs(alloc: Global, fill: &[u8], runs: &[(u64, u64)]) -> Result<Vec<u8>, AllocError>
     requires fill_some { 0 < length fill.now }
     ensures value { RepeatsFill fill.now (joined_runs runs.now) result }
 {
-    let count = count_of(runs);
+    let count = count_places(runs);
     let room = fill.len().saturating_mul(count as usize);
     let mut bytes = Vec::with_capacity(alloc, room)?;
     append_copies(&mut bytes, fill, count)?;
@@ -70,11 +72,13 @@ impl BytesCodec {
     /// The elements at the places of these runs, each a start and a length, in order, over a handle
     /// that keeps a chunk's value: those of the stored value by the places' bytes alone, and the fill
     /// value at each place where nothing is stored. The type is fixed and the fill value one of its
-    /// elements, no run is empty, and 64 bits count the bytes up to the end of each. Refusals:
+    /// elements, no run is empty, and 64 bits count the bytes up to the end of each. Errors:
     /// `InvalidByteRange` where a place's bytes lie past the value's end; `OutOfMemory` and
     /// `Storage`, which may come before. `Storage` never comes where all bytes of the places are
-    /// sure. Many short runs are asked for in more than one call of the handle.
-    #[tactic(auto, using(zarrs_array_bytes::proofs::BlankLemmas::sized_blank))]
+    /// sure.
+    ///
+    /// The handle is asked by one reading call; where the runs are more than 1,024, and their ranges
+    /// would take more memory than their bytes, by one for each 1,024 of them.
     pub fn read_runs<H: BytesPartialDecoderTraits>(
         &self,
         alloc: Global,
@@ -91,9 +95,10 @@ impl BytesCodec {
         ensures answer { ReadsRuns self.now data_type.now fill_value.now
             (H.state handle.old) runs.now result }
         ensures sure { ReadsRunsSurely data_type.now (H.state handle.old) runs.now result }
-        ensures blank { IfOk result (AbsentAreBlank data_type.now) }
+        ensures tight { IfOk result (IsTight data_type.now) }
         ensures left { H.state handle.new ≡ after_reading result (H.state handle.old) }
         ensures same_reference { H.lent handle.new ≡ H.lent handle.old }
+        ensures counted { CountsRunsOf data_type.now H.state H.calls handle.old handle.new runs.now result }
     {
         let size = element_size(data_type, fill_value);
         match read_bytes(alloc, handle, size as u64, runs)? {
@@ -109,7 +114,7 @@ impl BytesCodec {
         }
     }
 
-    /// What a partial decoder keeps of a chunk that the codec takes.
+    /// What a partial decoder keeps of a chunk that the codec accepts.
     fn parts_of_decoder(
         &self,
         shape: &ChunkShape,
@@ -126,8 +131,8 @@ impl BytesCodec {
         Ok((shape, data_type, fill_value))
     }
 
-    /// A decoder of a chunk in part, over a handle. Refusals: those of `encoded_representation`;
-    /// `OutOfMemory`. A refusal hands the handle back as it was.
+    /// A decoder of a chunk in part, over a handle. Errors: those of `encoded_representation`;
+    /// `OutOfMemory`. An error hands the handle back as it was.
     pub fn partial_decoder<H: BytesPartialDecoderTraits>(
         &self,
         alloc: Global,
@@ -153,8 +158,8 @@ impl BytesCodec {
         }
     }
 
-    /// A coder of a chunk in part, over a handle, that writes too. Refusals: those of
-    /// `encoded_representation`; `OutOfMemory`. A refusal hands the handle back as it was.
+    /// A coder of a chunk in part, over a handle, that writes too. Errors: those of
+    /// `encoded_representation`; `OutOfMemory`. An error hands the handle back as it was.
     pub fn partial_encoder<H: BytesPartialEncoderTraits>(
         &self,
         alloc: Global,
@@ -172,7 +177,7 @@ impl BytesCodec {
     }
 }
 
-/// The runs of the places that the indexer means, where there is one new element for each. Refusals,
+/// The runs of the places that the indexer selects, where there is one new element for each. Errors,
 /// the first that holds, `OutOfMemory` aside: those of `Indexer::places`; those of
 /// `ArrayBytes::validate_data`.
 fn runs_for(
@@ -188,12 +193,12 @@ fn runs_for(
     ensures fit { IfOk result (λ runs. FitRuns data_type.now runs.items elements.now) }
 {
     let runs = indexer.runs(alloc, shape)?;
-    elements.validate_data(count_of(runs.as_slice()), data_type)?;
+    elements.validate_data(count_places(runs.as_slice()), data_type)?;
     Ok(runs)
 }
 
 impl<H: BytesPartialDecoderTraits> BytesCodecPartial<H> {
-    ghost use Rattle.zarrs_bytes.specs.BytesCodecPartial.{bytes_form_of, bytes_handle_of, coder_state, stored_in, Reads, Plans, PlansAllBytes, Leaves};
+    ghost use Rattle.zarrs_bytes.specs.BytesCodecPartial.{bytes_form_of, bytes_handle_of, coder_state, stored_in, AsksOnce, CountsReads, Reads, Plans, Leaves};
 
     /// The type of the elements.
     pub fn data_type(&self) -> &DataType
@@ -202,10 +207,10 @@ impl<H: BytesPartialDecoderTraits> BytesCodecPartial<H> {
         &self.data_type
     }
 
-    /// The elements that the indexer means, in its order: those of the stored value by the places'
-    /// bytes alone, and the fill value at each place where nothing is stored. Refusals, the first
+    /// The elements that the indexer selects, in its order: those of the stored value by the places'
+    /// bytes alone, and the fill value at each place where nothing is stored. Errors, the first
     /// that holds: those of `Indexer::places`; `InvalidByteRange` where a place's bytes lie past the
-    /// value's end; `OutOfMemory` and `Storage`. `Storage` comes after the refusals of the indexer,
+    /// value's end; `OutOfMemory` and `Storage`. `Storage` comes after the errors of the indexer,
     /// and never where all bytes of the places are sure.
     pub fn partial_decode(
         &mut self,
@@ -213,7 +218,8 @@ impl<H: BytesPartialDecoderTraits> BytesCodecPartial<H> {
         indexer: &Indexer,
     ) -> Result<ArrayBytes<'static>, CodecError>
         ensures reads { Reads H.state self.old indexer.now result }
-        ensures blank { IfOk result (AbsentAreBlank (bytes_form_of self.old).type) }
+        ensures counted { CountsReads H.state H.calls self.old self.new indexer.now result }
+        ensures tight { IfOk result (IsTight (bytes_form_of self.old).type) }
         ensures left { Leaves H.state H.lent self.old self.new result }
     {
         let runs = indexer.runs(alloc, &self.shape)?;
@@ -226,17 +232,16 @@ impl<H: BytesPartialDecoderTraits> BytesCodecPartial<H> {
         )
     }
 
-    /// The ranges of bytes that such a read asks for: the bytes of the places, in order, and no
-    /// others. None is empty. Refusals, the first that holds: those of `Indexer::places`;
-    /// `OutOfMemory`.
+    /// The ranges of bytes that such a read asks for, in order, one for each run of consecutive
+    /// places: the bytes of its places, and no others. None is empty, and none begins where the one
+    /// before it ends. Errors, the first that holds: those of `Indexer::places`; `OutOfMemory`.
     pub fn planned_ranges(
         &self,
         alloc: Global,
         indexer: &Indexer,
     ) -> Result<Vec<ByteRange>, CodecError>
-        ensures bytes { Plans self.now indexer.now result }
+        ensures plan { Plans self.now indexer.now result }
         ensures filled { IfOk result (λ ranges. NoneIsEmpty ranges.items) }
-        ensures sum { PlansAllBytes self.now indexer.now result }
     {
         let asked = indexer.runs(alloc, &self.shape)?;
         let size = element_size(&self.data_type, &self.fill_value);
@@ -244,10 +249,11 @@ impl<H: BytesPartialDecoderTraits> BytesCodecPartial<H> {
         Ok(ranges)
     }
 
-    /// Whether a value is stored. Refusals: `Storage`, but never where the handle has sure bytes.
+    /// Whether a value is stored. Errors: `Storage`, but never where the handle has sure bytes.
     pub fn exists(&mut self) -> Result<bool, CodecError>
         ensures answer { Tells result (is_some (stored_in H.state self.old)) }
         ensures sure { NeverFailsIf (is_some (coder_state H.state self.old).sure) result }
+        ensures counted { AsksOnce H.calls self.old self.new result }
         ensures left { Leaves H.state H.lent self.old self.new result }
     {
         self.handle.exists()
@@ -269,18 +275,18 @@ impl<H: BytesPartialDecoderTraits> BytesCodecPartial<H> {
 }
 
 impl<H: BytesPartialEncoderTraits> BytesCodecPartial<H> {
-    ghost use Rattle.zarrs_bytes.specs.BytesCodecPartial.{bytes_form_of, coder_lent, coder_state, stored_in, CoderKeptIfAtomic, Edits, WritesAtMostOnce};
+    ghost use Rattle.zarrs_bytes.specs.BytesCodecPartial.{bytes_form_of, coder_calls, coder_lent, coder_state, stored_in, CoderKeptIfAtomic, CountsEdit, Edits, WritesAtMostOnce};
 
-    /// Writes these elements at the places that the indexer means, in its order: where a place comes
+    /// Writes these elements at the places that the indexer selects, in its order: where a place comes
     /// twice, the last one stands. Of a stored value the places' bytes alone are replaced, and it
     /// grows with zeros up to the furthest place. Where nothing is stored, the value of the whole
-    /// chunk is written, which begins as fill elements, for an indexer without places too. Refusals,
+    /// chunk is written, which begins as fill elements, for an indexer without places too. Errors,
     /// the first that holds: those of `Indexer::places`; those of `ArrayBytes::validate_data` for so
     /// many places, `ArrayBytesKind` or `DataMismatch`; then `Storage`. `OutOfMemory` may come at any
     /// time.
     ///
-    /// The handle is asked whether a value is stored, and then one writing call is made. A refusal
-    /// leaves the value as it was, but where that call is refused and the handle isn't atomic.
+    /// The handle is asked whether a value is stored, and then one writing call is made. An error
+    /// leaves the value as it was, but where that call fails and the handle isn't atomic.
     pub fn partial_encode(
         &mut self,
         alloc: Global,
@@ -288,6 +294,10 @@ impl<H: BytesPartialEncoderTraits> BytesCodecPartial<H> {
         elements: &ArrayBytes<'_>,
     ) -> Result<(), CodecError>
         ensures edits { Edits H.state self.old self.new indexer.now elements.now result }
+        ensures unread { FailsByWriting (coder_state H.state) self.old self.new result }
+        // Wide: the handle's record and state, the coder before and after, and the edit.
+        ensures counted { CountsEdit H.state H.calls
+            self.old self.new indexer.now elements.now result }
         ensures left { WritesAtMostOnce H.state H.lent H.atomic self.old self.new result }
     {
         let runs = runs_for(alloc, indexer, &self.shape, &self.data_type, elements)?;
@@ -302,11 +312,12 @@ impl<H: BytesPartialEncoderTraits> BytesCodecPartial<H> {
         )
     }
 
-    /// Leaves no value; there may have been none. Refusals: `Storage`.
+    /// Leaves no value; there may have been none. Errors: `Storage`.
     pub fn erase(&mut self) -> Result<(), CodecError>
         ensures answer { Answers fault (λ _. stored_in H.state self.new) result (Ok None) }
         ensures left { LeftByWriting (coder_state H.state) self.old self.new result }
         ensures kept_if_atomic { CoderKeptIfAtomic H.atomic H.state self.old self.new result }
+        ensures counted { coder_calls H.calls self.new ≡ coder_calls H.calls self.old }
         ensures same_reference { coder_lent H.lent self.new ≡ coder_lent H.lent self.old }
         ensures form_kept { bytes_form_of self.new ≡ bytes_form_of self.old }
     {

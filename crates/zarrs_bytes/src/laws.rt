@@ -16,7 +16,7 @@ pub fn written_alike()
     ensures law { WrittenAlike }
 {}
 
-/// A written value has the length that the representation says.
+/// A written value has the length that the representation declares.
 pub fn has_represented_length()
     ensures law { HasRepresentedLength }
 {}

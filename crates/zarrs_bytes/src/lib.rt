@@ -1,4 +1,4 @@
-//! The array codec `bytes`: the elements of a chunk in row-major order, each component in a byte
+//! The codec `bytes`: the elements of a chunk in row-major order, each component in a byte
 //! order (Zarr v3 codec `bytes`).
 //!
 //! [`BytesCodec`] encodes and decodes whole chunks, [`BytesCodecPartial`] reads and writes a chunk
@@ -17,5 +17,5 @@ mod place_batches;
 mod planned_runs;
 mod write_runs;
 
-pub use bytes_codec::BytesCodec;
-pub use bytes_codec_partial::BytesCodecPartial;
+pub use bytes_codec::{BYTES, BytesCodec};
+pub use bytes_codec_partial::{BytesCodecPartial, fill_runs};

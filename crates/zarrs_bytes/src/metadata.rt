@@ -1,4 +1,4 @@
-//! The codec `bytes` made from its metadata, and what it says of itself, as every codec does.
+//! The codec `bytes` made from its metadata, and what it states of itself, as every codec does.
 ghost use Rattle.std.specs.Prelude.{◌≡◌, Ok, Some, true};
 ghost use Rattle.zarrs_metadata.specs.BytesConfiguration.{bytes_seen, write_bytes};
 ghost use Rattle.zarrs_metadata.specs.CodecMetadata.{bytes_made, bytes_name, is_bytes_name};
@@ -23,7 +23,7 @@ fn has_name(name: &str) -> bool
 }
 
 impl BytesCodec {
-    /// The codec of a configuration. Nothing is refused.
+    /// The codec of a configuration. It never fails.
     pub fn new_with_configuration(
         configuration: &BytesCodecConfiguration,
     ) -> Result<BytesCodec, PluginCreateError>
@@ -34,7 +34,7 @@ impl BytesCodec {
     }
 
     /// The codec of a metadata, whose name is `bytes` or `endian` (Zarr v3 codec `bytes`). A missing
-    /// configuration is read as one without members. Refusals, the first that holds: `UnknownName`
+    /// configuration is read as one without members. Errors, the first that holds: `UnknownName`
     /// for another name; those of `BytesCodecConfiguration::from_configuration`.
     pub fn create(metadata: &MetadataV3) -> Result<BytesCodec, PluginCreateError>
         ensures answer { result ≡ bytes_made (metadata_seen metadata.now) }
@@ -67,7 +67,7 @@ impl CodecTraits for BytesCodec {
     }
 
     /// The codec's configuration: `endian`, where it has a byte order. With its name it makes an
-    /// equal codec. Refusals: `OutOfMemory`.
+    /// equal codec. Errors: `OutOfMemory`.
     fn configuration(&self, alloc: Global) -> Result<Option<Configuration>, PluginCreateError>
         ensures answer { MakesConfiguration result (Ok (Some (write_bytes self.now))) }
         ensures made_again { MadeAgain configuration_seen result bytes_made bytes_name self.now }

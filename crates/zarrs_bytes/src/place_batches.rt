@@ -2,15 +2,16 @@
 //!
 //! A run takes 16 bytes of memory, more than most elements have. So where many places follow no other
 //! one, their runs are made and read a batch at a time.
-ghost use Rattle.std.specs.Prelude.{◌≡◌, ◌<◌, true, Ok, IfOk, is_some};
+ghost use Rattle.std.specs.Prelude.{◌≡◌, ◌<◌, ◌≤◌, true, Ok, IfOk, is_some, length};
 ghost use Rattle.zarrs_chunk.specs.Answer.{Gives};
-ghost use Rattle.zarrs_chunk.specs.Runs.{places_in, AreFilled, EndsBelow};
+ghost use Rattle.zarrs_chunk.specs.Runs.{places_in, AreApart, AreFilled, EndsBelow};
 ghost use Rattle.zarrs_data_type.specs.ElementType.{fixed_size_of};
 ghost use Rattle.zarrs_data_type.specs.FillValue.{fill_fits};
-ghost use Rattle.zarrs_array_bytes.specs.Blank.{AbsentAreBlank};
+ghost use Rattle.zarrs_array_bytes.specs.Tight.{IsTight};
 ghost use Rattle.zarrs_codec.specs.StorageState.{after_reading};
 ghost use Rattle.zarrs_codec.specs.HandleCalls.{NeverFailsIf, ReadsBytes};
 ghost use Rattle.zarrs_bytes.specs.PartialRead.{bytes_at_places, place_size, places_are_sure, AddsAt, AreCounted, ReadsPlaces, ReadsPlacesSurely, RepeatsFill};
+ghost use Rattle.zarrs_bytes.specs.ReadingCalls.{are_scattered, follows_count, CountsBatches, CountsAt, MakesBatches};
 
 use crate::batches::{BATCH, append_batch, read_bytes};
 use crate::byte_order::turn;
@@ -23,16 +24,26 @@ use zarrs_chunk::{CodecError, runs_of_places};
 use zarrs_codec::BytesPartialDecoderTraits;
 use zarrs_data_type::{DataType, FillValue};
 
+/// 1 where the second place follows the first, and else 0.
+fn count_follower(place: u64, next: u64) -> usize
+    ensures count { result ≡ follows_count place next }
+    ensures within { result ≤ 1 }
+{
+    if next > place && next - place == 1 {
+        1
+    } else {
+        0
+    }
+}
+
 /// Whether the places are more than a batch, and fewer than half of them follow the one before: their
 /// runs would take more memory than the places.
-fn are_scattered(places: &[u64]) -> bool {
+fn are_scattered(places: &[u64]) -> bool
+    ensures value { result ≡ are_scattered places.now }
+{
     let mut joined: usize = 0;
     for index in 1..places.len() {
-        let before = places[index - 1];
-        let place = places[index];
-        if place > before && place - before == 1 {
-            joined = joined.saturating_add(1);
-        }
+        joined += count_follower(places[index - 1], places[index]);
     }
     places.len() > BATCH && joined < places.len() / 2
 }
@@ -52,6 +63,7 @@ fn append_places<H: BytesPartialDecoderTraits>(
     ensures sure { NeverFailsIf (places_are_sure size (H.state handle.old) places.now) result }
     ensures left { H.state handle.new ≡ after_reading result (H.state handle.old) }
     ensures same_reference { H.lent handle.new ≡ H.lent handle.old }
+    ensures counted { MakesBatches H.calls (length places.now) handle.old handle.new result }
 {
     let mut rest = places;
     while !rest.is_empty() {
@@ -77,6 +89,7 @@ fn read_place_bytes<H: BytesPartialDecoderTraits>(
     ensures sure { NeverFailsIf (places_are_sure size (H.state handle.old) places.now) result }
     ensures left { H.state handle.new ≡ after_reading result (H.state handle.old) }
     ensures same_reference { H.lent handle.new ≡ H.lent handle.old }
+    ensures counted { CountsBatches H.state H.calls handle.old handle.new places.now result }
 {
     let (first, rest) = places.split_at(BATCH.min(places.len()));
     let runs = runs_of_places(alloc, first)?;
@@ -95,6 +108,7 @@ fn into_runs(alloc: Global, places: Vec<u64>) -> Result<Vec<(u64, u64)>, CodecEr
     ensures places { Gives places_in result (Ok places.items) }
     ensures filled { IfOk result (λ runs. AreFilled runs.items) }
     ensures below { EndsBelow places.items result }
+    ensures apart { IfOk result (λ runs. AreApart runs.items) }
 {
     runs_of_places(alloc, places.as_slice())
 }
@@ -110,7 +124,6 @@ fn fill_places(alloc: Global, fill: &[u8], places: &[u64]) -> Result<Vec<u8>, Al
 
 impl BytesCodec {
     /// The elements at many places.
-    #[tactic(auto, using(zarrs_array_bytes::proofs::BlankLemmas::sized_blank))]
     fn read_scattered<H: BytesPartialDecoderTraits>(
         &self,
         alloc: Global,
@@ -126,9 +139,10 @@ impl BytesCodec {
         ensures answer { ReadsPlaces self.now data_type.now fill_value.now
             (H.state handle.old) places.now result }
         ensures sure { ReadsPlacesSurely data_type.now (H.state handle.old) places.now result }
-        ensures blank { IfOk result (AbsentAreBlank data_type.now) }
+        ensures tight { IfOk result (IsTight data_type.now) }
         ensures left { H.state handle.new ≡ after_reading result (H.state handle.old) }
         ensures same_reference { H.lent handle.new ≡ H.lent handle.old }
+        ensures counted { CountsBatches H.state H.calls handle.old handle.new places.now result }
     {
         let size = element_size(data_type, fill_value);
         match read_place_bytes(alloc, handle, size as u64, places)? {
@@ -147,7 +161,7 @@ impl BytesCodec {
     /// The elements at these places, in order, over a handle that keeps a chunk's value, as `read_runs`
     /// gives them of the places' runs: where many places follow no other one, no list of their runs is
     /// made, and else the places are let go before they are read. The type is fixed and the fill value
-    /// one of its elements, and 64 bits count the bytes up to the end of each place. Refusals: those of
+    /// one of its elements, and 64 bits count the bytes up to the end of each place. Errors: those of
     /// `read_runs`. Many places are asked for in more than one call of the handle.
     pub fn read_places<H: BytesPartialDecoderTraits>(
         &self,
@@ -164,9 +178,10 @@ impl BytesCodec {
         ensures answer { ReadsPlaces self.now data_type.now fill_value.now
             (H.state handle.old) places.items result }
         ensures sure { ReadsPlacesSurely data_type.now (H.state handle.old) places.items result }
-        ensures blank { IfOk result (AbsentAreBlank data_type.now) }
+        ensures tight { IfOk result (IsTight data_type.now) }
         ensures left { H.state handle.new ≡ after_reading result (H.state handle.old) }
         ensures same_reference { H.lent handle.new ≡ H.lent handle.old }
+        ensures counted { CountsAt data_type.now H.state H.calls handle.old handle.new places.items result }
     {
         if are_scattered(&places) {
             return self.read_scattered(alloc, handle, data_type, fill_value, &places);

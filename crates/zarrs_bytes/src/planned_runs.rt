@@ -1,8 +1,9 @@
+//! The ranges of bytes that a read of runs asks for.
 ghost use Rattle.std.specs.Prelude.{◌≡◌, ◌<◌, ◌+◌, ◌*◌, ◌^◌, true, IfOk, All, is_some};
 ghost use Rattle.zarrs_data_type.specs.ElementType.{fixed_size_of};
 ghost use Rattle.zarrs_data_type.specs.FillValue.{fill_fits};
 ghost use Rattle.zarrs_bytes.specs.PartialRead.{byte_count_of, place_size, PlansRuns};
-ghost use Rattle.zarrs_bytes.specs.PlannedRanges.{NoneIsEmpty, SumTo};
+ghost use Rattle.zarrs_bytes.specs.PlannedRanges.{NoneIsEmpty, SumTo, AreOfRuns, PlansApart};
 
 use crate::batches::run_ranges;
 use crate::bytes_codec::BytesCodec;
@@ -13,10 +14,10 @@ use zarrs_codec::ByteRange;
 use zarrs_data_type::{DataType, FillValue};
 
 impl BytesCodec {
-    /// The ranges of bytes that `read_runs` asks for of these runs, each a start and a length: the
-    /// bytes of their places, in order, and no others. None is empty, and their lengths sum to the
-    /// elements' bytes. The type is fixed and the fill value one of its elements, no run is empty,
-    /// and 64 bits count the bytes up to the end of each. Refusals: `OutOfMemory`.
+    /// The ranges of bytes that `read_runs` asks for of these runs, each a start and a length: one
+    /// for each run, in order, which is the bytes of its places. None is empty, and their lengths sum
+    /// to the elements' bytes. The type is fixed and the fill value one of its elements, no run is empty,
+    /// and 64 bits count the bytes up to the end of each. Errors: `OutOfMemory`.
     pub fn planned_runs(
         &self,
         alloc: Global,
@@ -30,6 +31,8 @@ impl BytesCodec {
         requires ends { All (λ run. (run.0 + run.1) * place_size data_type.now < 2 ^ 64) runs.now }
         ensures bytes { PlansRuns data_type.now runs.now result }
         ensures filled { IfOk result (λ ranges. NoneIsEmpty ranges.items) }
+        ensures each { IfOk result (AreOfRuns (place_size data_type.now) runs.now) }
+        ensures plan { PlansApart (place_size data_type.now) runs.now result }
         ensures sum { SumTo result (byte_count_of data_type.now runs.now) }
     {
         let size = element_size(data_type, fill_value);

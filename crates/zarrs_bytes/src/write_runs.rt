@@ -6,9 +6,11 @@ ghost use Rattle.zarrs_chunk.specs.ChunkShape.{product};
 ghost use Rattle.zarrs_chunk.specs.Runs.{joined_runs, EndWithin};
 ghost use Rattle.zarrs_array_bytes.specs.Parts.{fixed_part, fixed_items, bytes_in};
 ghost use Rattle.zarrs_bytes.specs.BytesCodec.{BytesTakes};
+ghost use Rattle.zarrs_codec.specs.Calls.{CountsWrite};
 ghost use Rattle.zarrs_codec.specs.StorageState.{KeptIfAtomic, LeftByWriting};
 ghost use Rattle.zarrs_codec.specs.ArrayWriter.{LeftByRefusal};
-ghost use Rattle.zarrs_bytes.specs.PartialWrite.{byte_runs, value_bytes, FillsUp, FitRuns, GivesBytes, PutsBytes, WritesRuns};
+ghost use Rattle.zarrs_bytes.specs.PartialRead.{run_bytes};
+ghost use Rattle.zarrs_bytes.specs.PartialWrite.{byte_runs, value_bytes, CountsWriteOfRuns, FailsByWriting, FillsUp, FitRuns, GivesBytes, PutsBytes, WritesRuns};
 
 use crate::byte_order::turn;
 use crate::bytes_codec::BytesCodec;
@@ -49,6 +51,8 @@ fn put_runs<H: BytesPartialEncoderTraits>(
     ensures kept_if_atomic { KeptIfAtomic H.atomic H.state handle.old handle.new result }
     ensures left { LeftByWriting H.state handle.old handle.new result }
     ensures same_reference { H.lent handle.new ≡ H.lent handle.old }
+    // Wide: the record of the handle's calls, and the numbers of the runs' bytes.
+    ensures counted { CountsWrite H.calls handle.old handle.new (run_bytes size runs.items) result }
 {
     scale_runs(&mut runs, size);
     handle.partial_encode_many(alloc, runs.as_slice(), bytes)
@@ -64,7 +68,7 @@ fn lent<'b>(elements: &'b ArrayBytes<'_>) -> Result<ArrayBytes<'b>, CodecError>
 }
 
 impl BytesCodec {
-    /// The bytes of elements of a fixed type as they stand in a value. Refusals: `ArrayBytesKind` for
+    /// The bytes of elements of a fixed type as they stand in a value. Errors: `ArrayBytesKind` for
     /// any other elements; `OutOfMemory`.
     fn spelled<'b>(
         &self,
@@ -101,8 +105,12 @@ impl BytesCodec {
             H.state handle.old handle.new result }
         ensures one_write { OnOk result (LeftByWriting H.state handle.old handle.new result) }
         ensures refused { OnErr result (LeftByRefusal H.state handle.old handle.new result) }
+        ensures unread { FailsByWriting H.state handle.old handle.new result }
         ensures kept_if_atomic { KeptIfAtomic H.atomic H.state handle.old handle.new result }
         ensures same_reference { H.lent handle.new ≡ H.lent handle.old }
+        // Wide: the record of the handle's calls, and the numbers of the runs' bytes.
+        ensures counted { CountsWrite H.calls
+            handle.old handle.new (run_bytes size runs.items) result }
     {
         let bytes = self.spelled(alloc, elements, data_type)?;
         put_runs(alloc, handle, size, runs, bytes.as_slice())
@@ -133,8 +141,8 @@ impl BytesCodec {
     /// handle that keeps the value of a chunk of this form: where a place comes twice, the last one
     /// stands. Of a stored value the places' bytes alone are replaced, and it grows with zeros up to
     /// the furthest place. Where nothing is stored, the value of the whole chunk is written, which
-    /// begins as fill elements, without runs too. The codec takes such chunks, no run is empty, each
-    /// ends within the chunk, and there is one new element of the type for each place. Refusals:
+    /// begins as fill elements, without runs too. The codec accepts such chunks, no run is empty, each
+    /// ends within the chunk, and there is one new element of the type for each place. Errors:
     /// `OutOfMemory` and `Storage`.
     ///
     /// The handle is asked whether a value is stored, and then one writing call is made. Elements that
@@ -158,8 +166,13 @@ impl BytesCodec {
             runs.items elements.entry H.state handle.old handle.new result }
         ensures one_write { OnOk result (LeftByWriting H.state handle.old handle.new result) }
         ensures refused { OnErr result (LeftByRefusal H.state handle.old handle.new result) }
+        ensures unread { FailsByWriting H.state handle.old handle.new result }
         ensures kept_if_atomic { KeptIfAtomic H.atomic H.state handle.old handle.new result }
         ensures same_reference { H.lent handle.new ≡ H.lent handle.old }
+        // Wide: the form and the new elements, and the handle's record and state.
+        ensures counted { CountsWriteOfRuns self.now
+            (form_of shape.now data_type.now fill_value.now) runs.items elements.entry
+            H.calls H.state handle.old handle.new result }
     {
         if handle.exists()? {
             let size = element_size(data_type, fill_value) as u64;
@@ -197,8 +210,13 @@ impl BytesCodec {
             runs.items elements.now H.state handle.old handle.new result }
         ensures one_write { OnOk result (LeftByWriting H.state handle.old handle.new result) }
         ensures refused { OnErr result (LeftByRefusal H.state handle.old handle.new result) }
+        ensures unread { FailsByWriting H.state handle.old handle.new result }
         ensures kept_if_atomic { KeptIfAtomic H.atomic H.state handle.old handle.new result }
         ensures same_reference { H.lent handle.new ≡ H.lent handle.old }
+        // Wide: the form and the new elements, and the handle's record and state.
+        ensures counted { CountsWriteOfRuns self.now
+            (form_of shape.now data_type.now fill_value.now) runs.items elements.now
+            H.calls H.state handle.old handle.new result }
     {
         let elements = lent(elements)?;
         self.write_given_runs(alloc, handle, shape, data_type, fill_value, runs, elements)

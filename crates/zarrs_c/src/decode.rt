@@ -8,9 +8,10 @@ use zarrs_calls::Sizes;
 
 /// The elements of the chunk that a value stands for.
 ///
-/// They stand in front of the three buffers, and `needed` says how many items each part has; where a
-/// buffer is too short, that alone, and 1 is answered. Refusals, the first that holds, `OutOfMemory` aside:
-/// those of `zarrs_check`; those of `CodecChain::decode`.
+/// They stand in front of the three buffers: offsets begin at 0 and end at the length of the bytes, mask
+/// bytes are 0 and 1, and blank elements stand under absent ones. `needed` has how many items each part
+/// has; where a buffer is too short, that alone, and 1 is returned. Refusals, the first that holds,
+/// `OutOfMemory` aside: those of `zarrs_check`; those of `CodecChain::decode`.
 #[unsafe(no_mangle)]
 pub extern "C" fn zarrs_decode(
     alloc: Global,

@@ -1,7 +1,7 @@
 -- Codes of causes.
 use Rattle.std.proofs.Common.{◌≡◌, ℕ, true, false, Result, Err, Bool, inl, inr, refl, sym, ap, ◌∙◌}
 use Rattle.zarrs_chunk.specs.Answer.{Excused}
-use Rattle.zarrs_chunk.specs.declared.codec_error.CodecError.TheVariants.{OutOfMemory, Storage, UnsupportedDataType, EndiannessMissing, ArrayBytesKind, InvalidBytesLength, IncompatibleDimensionality, OutOfBounds, Overflow, InvalidFillValue, ReshapeDimension, ReshapeElements, BitRange, PaddingByte, IndexLength, InvalidOffsets, OffsetTooLarge, OffsetNotKept, MaskValue, HeaderOverflow, InvalidByteRange, BytesCodec, DataMismatch, UnsupportedTarget, TargetMismatch, ReversedRange}
+use Rattle.zarrs_chunk.specs.declared.codec_error.CodecError.TheVariants.{OutOfMemory, Storage, UnsupportedDataType, EndiannessMissing, ArrayBytesKind, InvalidBytesLength, IncompatibleDimensionality, OutOfBounds, Overflow, InvalidFillValue, ReshapeDimension, ReshapeElements, BitRange, PaddingByte, IndexLength, InvalidOffsets, OffsetTooLarge, OffsetNotKept, MaskValue, HeaderOverflow, InvalidByteRange, BytesCodec, DataMismatch, UnsupportedTarget, TargetMismatch, ReversedRange, ElementCount, IndivisibleShape, IndexNotFixed}
 use Rattle.zarrs_metadata.specs.declared.plugin_create_error.PluginCreateError.TheVariants as making
 use Rattle.zarrs_chain_json.specs.declared.refusal.Refusal.TheVariants.{Syntax, Making, Codec}
 use Rattle.zarrs_calls.specs.Codes.{cause_code, cause_memory, answer_code, IsCode, IsRefusal}
@@ -38,6 +38,9 @@ wanting (Refused (Codec DataMismatch)) e = cc
 wanting (Refused (Codec UnsupportedTarget)) e = cc
 wanting (Refused (Codec TargetMismatch)) e = cc
 wanting (Refused (Codec ReversedRange)) e = cc
+wanting (Refused (Codec ElementCount)) e = cc
+wanting (Refused (Codec IndivisibleShape)) e = cc
+wanting (Refused (Codec IndexNotFixed)) e = cc
 wanting (Refused (Making making.OutOfMemory)) e = refl
 wanting (Refused (Making making.UnknownName)) e = cc
 wanting (Refused (Making making.InvalidConfiguration)) e = cc

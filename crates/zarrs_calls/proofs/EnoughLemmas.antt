@@ -104,7 +104,7 @@ module _ (made : List ByteSpan) (test : ℕ → Bool) (all : (n : ℕ) → have_
 
   codec_passes : (codec : PlainCodec SampleBytesCodec) (sizes : List ℕ) (type : ElementType) (fill places : List ℕ) → IsCodecPlan codec sizes type fill places made → Passing (codec_rests_on codec sizes type fill None places)
   codec_passes (bytes_codec order) sizes type fill places plan =
-      (place_bytes (place_size type) places, refl, subst (λ (ns : List ℕ). list_all test ns ≡ true) plan.0 (passes test made all))
+      (place_bytes (place_size type) places, refl, subst (λ (ns : List ℕ). list_all test ns ≡ true) plan.bytes (passes test made all))
   codec_passes (packbits_codec settings) sizes type fill places plan =
       packed_passes (λ l. packed_places_bytes l places) (λ l. IsPlan l places made) (λ l p. p.bytes) (packed_layout settings (form_of sizes type fill)) plan
   codec_passes (vlen_codec ia ix ib da dx db wide at_end) sizes type fill places plan = absurd plan
@@ -113,7 +113,7 @@ module _ (made : List ByteSpan) (test : ℕ → Bool) (all : (n : ℕ) → have_
   -- over `bytes` in whatever order the places are planned
   moved_passes : (order : Option Endianness) (sizes : List ℕ) (type : ElementType) (fill places planned : List ℕ) → IsPermutation places planned → IsCodecPlan {B = SampleBytesCodec} (bytes_codec order) sizes type fill planned made → Passing (codec_rests_on {B = SampleBytesCodec} (bytes_codec order) sizes type fill None places)
   moved_passes order sizes type fill places planned same plan =
-      let all_planned : list_all test (place_bytes (place_size type) planned) ≡ true = subst (λ (ns : List ℕ). list_all test ns ≡ true) plan.0 (passes test made all) in
+      let all_planned : list_all test (place_bytes (place_size type) planned) ≡ true = subst (λ (ns : List ℕ). list_all test ns ≡ true) plan.bytes (passes test made all) in
       (place_bytes (place_size type) places, refl, same_bytes test (place_size type) places planned same ∙ all_planned)
 
   -- ---- through a chain

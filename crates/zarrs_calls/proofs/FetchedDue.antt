@@ -3,9 +3,10 @@ use Rattle.std.proofs.Common.{◌≡◌, ◌⊎◌, ℕ, true, false, Bool, List
 use Rattle.zarrs_chunk.specs.Answer.{Excused, fault, memory, memory_or_fault, ◌>>=◌}
 use Rattle.zarrs_chunk.specs.Selection.{Selection}
 use Rattle.zarrs_chunk.specs.declared.codec_error.CodecError.{CodecError}
-use Rattle.zarrs_chunk.specs.declared.codec_error.CodecError.TheVariants.{OutOfMemory, Storage, UnsupportedDataType, EndiannessMissing, ArrayBytesKind, InvalidBytesLength, IncompatibleDimensionality, OutOfBounds, Overflow, InvalidFillValue, ReshapeDimension, ReshapeElements, BitRange, PaddingByte, IndexLength, InvalidOffsets, OffsetTooLarge, OffsetNotKept, MaskValue, HeaderOverflow, InvalidByteRange, BytesCodec, DataMismatch, UnsupportedTarget, TargetMismatch, ReversedRange}
+use Rattle.zarrs_chunk.specs.declared.codec_error.CodecError.TheVariants.{OutOfMemory, Storage, UnsupportedDataType, EndiannessMissing, ArrayBytesKind, InvalidBytesLength, IncompatibleDimensionality, OutOfBounds, Overflow, InvalidFillValue, ReshapeDimension, ReshapeElements, BitRange, PaddingByte, IndexLength, InvalidOffsets, OffsetTooLarge, OffsetNotKept, MaskValue, HeaderOverflow, InvalidByteRange, BytesCodec, DataMismatch, UnsupportedTarget, TargetMismatch, ReversedRange, ElementCount, IndivisibleShape, IndexNotFixed}
 use Rattle.zarrs_data_type.specs.Element.{Chunk}
 use Rattle.zarrs_array_bytes.specs.Held.{Held}
+use Rattle.zarrs_array_bytes.specs.Tight.{IsTight}
 use Rattle.zarrs_array_bytes.specs.Validity.{Holds}
 use Rattle.zarrs_codec.specs.SampleBytesCodec.{sample_codecs}
 use Rattle.zarrs_codec.specs.StorageState.{StorageState, are_sure}
@@ -73,9 +74,9 @@ module _ (text : List ℕ) (len : ℕ) (ranges fetched : List ℕ) (tuples : ℕ
           ∙ ap (λ (v : Option (List ℕ)). codec_answer (form_read (form_of header) v selection) >>= typed header.data_type) (sym is.value_is)
 
       -- a container that holds what is read of the pieces holds what is due
-      pub pieces_due : (held : Held) → IsOkAnd (form_read (form_of header) state.value selection) (Holds header.data_type held) → IsOkAnd (pieces_read text len ranges fetched tuples numbers) (HoldsThese held)
-      pieces_due held h =
-          subst (λ (x : Result Elements Cause). IsOkAnd x (HoldsThese held)) (sym of_state) (elements_due header.data_type held (form_read (form_of header) state.value selection) h)
+      pub pieces_due : (held : Held) → IsOkAnd (form_read (form_of header) state.value selection) (Holds header.data_type held) → IsTight header.data_type held → IsOkAnd (pieces_read text len ranges fetched tuples numbers) (HoldsThese held)
+      pieces_due held h tight =
+          subst (λ (x : Result Elements Cause). IsOkAnd x (HoldsThese held)) (sym of_state) (elements_due header.data_type held (form_read (form_of header) state.value selection) h tight)
 
       -- what is read of the pieces is what is read of a value that has them, where the planned bytes are among them
       read_alike : (value : List ℕ) → HasPlannedPieces text len ranges fetched tuples numbers value → form_read (form_of header) state.value selection ≡ form_read (form_of header) (Some value) selection
@@ -92,10 +93,10 @@ module _ (text : List ℕ) (len : ℕ) (ranges fetched : List ℕ) (tuples : ℕ
           let is = made_is len pieces state made in
           sure here.planned here.planned_are (subst (λ (s : Option (ℕ → Bool)). are_sure s here.planned ≡ true) (sym is.sure_is) here.at_hand)
 
-      pub alike_due : (value : List ℕ) (held : Held) → HasPlannedPieces text len ranges fetched tuples numbers value → IsOkAnd (form_read (form_of header) state.value selection) (Holds header.data_type held)
+      pub alike_due : (value : List ℕ) (held : Held) → HasPlannedPieces text len ranges fetched tuples numbers value → IsOkAnd (form_read (form_of header) state.value selection) (Holds header.data_type held) → IsTight header.data_type held
           → IsOkAnd (part_read text (Some value) tuples numbers) (HoldsThese held)
-      alike_due value held h holds =
-          read_due text (Some value) (Some value) tuples numbers header selection reads means refl held (subst (λ (x : Result Chunk CodecError). IsOkAnd x (Holds header.data_type held)) (read_alike value h) holds)
+      alike_due value held h holds tight =
+          read_due text (Some value) (Some value) tuples numbers header selection reads means refl held (subst (λ (x : Result Chunk CodecError). IsOkAnd x (Holds header.data_type held)) (read_alike value h) holds) tight
 
       pub alike_refused : (value : List ℕ) (error : CodecError) → HasPlannedPieces text len ranges fetched tuples numbers value → fault error ≡ false → Excused (memory_or_fault error) (form_read (form_of header) state.value selection ≡ Err error)
           → Excused (memory error) (part_read text (Some value) tuples numbers ≡ Err (of_codec error))
@@ -137,6 +138,9 @@ lacking (Refused (Codec DataMismatch)) e = absurd (cc)
 lacking (Refused (Codec UnsupportedTarget)) e = absurd (cc)
 lacking (Refused (Codec TargetMismatch)) e = absurd (cc)
 lacking (Refused (Codec ReversedRange)) e = absurd (cc)
+lacking (Refused (Codec ElementCount)) e = absurd (cc)
+lacking (Refused (Codec IndivisibleShape)) e = absurd (cc)
+lacking (Refused (Codec IndexNotFixed)) e = absurd (cc)
 
 refused_or_lacks : (cause : Cause) (expected : Result Elements Cause) → Excused (memory_or_lack cause) (expected ≡ Err cause) → IsRefusal expected (cause_code cause) ⊎ (cause_code cause ≡ 11)
 refused_or_lacks cause expected gives = by (cause_lacks cause) refl

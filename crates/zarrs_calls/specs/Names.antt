@@ -44,6 +44,9 @@ bytes_name code =
     if code == 33 then codes "UnsupportedTarget" else
     if code == 34 then codes "TargetMismatch" else
     if code == 35 then codes "ReversedRange" else
+    if code == 36 then codes "ElementCount" else
+    if code == 37 then codes "IndivisibleShape" else
+    if code == 38 then codes "IndexNotFixed" else
     []
 
 -- refusals of metadata

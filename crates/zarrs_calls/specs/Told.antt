@@ -3,6 +3,7 @@ use Rattle.std.specs.Prelude.{◌≡◌, ◌⊎◌, ℕ, nat_le, if◌then◌els
 use Rattle.zarrs_data_type.specs.Element.{Chunk}
 use Rattle.zarrs_data_type.specs.ElementType.{ElementType}
 use Rattle.zarrs_array_bytes.specs.Held.{Held}
+use Rattle.zarrs_array_bytes.specs.Tight.{IsTight}
 use Rattle.zarrs_array_bytes.specs.Update.{with_items_at}
 use Rattle.zarrs_array_bytes.specs.Validity.{Holds}
 use Rattle.zarrs_codec.specs.declared.bytes_representation.BytesRepresentation.{BytesRepresentation}
@@ -32,9 +33,10 @@ TellsBytes expected code old new needed_old needed_new =
 abbrev pub Elements : Type 0
 Elements = ElementType × Chunk
 
--- the container holds these elements
-abbrev pub HoldsThese : Held → Elements → Type 0
-HoldsThese held elements = Holds elements.0 held elements.1
+-- The container holds these elements, and is tight: its offsets begin at 0 and end at the length of its bytes, its mask bytes are 0 and 1, and blank elements stand under absent ones. So they fix its bytes.
+pub record HoldsThese (held : Held) (elements : Elements) : Type 0 where
+  pub holds : Holds elements.0 held elements.1
+  pub tight : IsTight elements.0 held
 
 -- The caller is told a container: its parts stand in front of the buffers, and the code is 0; or a buffer is too short and all are left as they were, and the code is 1. How many there are of each part is told in either case.
 pub record ToldParts (parts : Buffers) (code : ℕ) (old new : Buffers) (needed : Sizes) : Type 0 where

@@ -85,6 +85,9 @@ fn codec_code(error: &CodecError) -> u32
         CodecError::UnsupportedTarget => 33,
         CodecError::TargetMismatch => 34,
         CodecError::ReversedRange => 35,
+        CodecError::ElementCount => 36,
+        CodecError::IndivisibleShape => 37,
+        CodecError::IndexNotFixed => 38,
     }
 }
 

@@ -1,6 +1,8 @@
 //! Reading a chunk of which pieces are at hand, before it is told to C.
 ghost use Rattle.std.specs.Prelude.{◌≡◌, ◌-◌, IfOk, length};
 ghost use Rattle.zarrs_chunk.specs.Answer.{Answers, seen};
+ghost use Rattle.zarrs_array_bytes.specs.Tight.{IsTight};
+ghost use Rattle.zarrs_chain_header.specs.HeaderRead.{header_seen};
 ghost use Rattle.zarrs_calls.specs.Codes.{cause_memory};
 ghost use Rattle.zarrs_calls.specs.Fetched.{front_bytes, pieces_in, pieces_given as pieces_of, GivesPiecesRead, NoFaultIfPlanned, GivesFetchedRead, ReadsAlike};
 
@@ -59,6 +61,7 @@ fn read_pieces_part(
     indexer: &Indexer,
 ) -> Result<ArrayBytes<'static>, CodecError>
     ensures answer { GivesPiecesRead form.now handle.entry indexer.now result }
+    ensures tight { IfOk result (IsTight (header_seen form.now).data_type) }
     ensures sure { NoFaultIfPlanned form.now handle.entry indexer.now result }
 {
     let chain = &form.chain;

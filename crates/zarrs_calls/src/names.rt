@@ -55,6 +55,9 @@ fn bytes_name(code: u32) -> &'static str
         33 => "UnsupportedTarget",
         34 => "TargetMismatch",
         35 => "ReversedRange",
+        36 => "ElementCount",
+        37 => "IndivisibleShape",
+        38 => "IndexNotFixed",
         _ => "",
     }
 }

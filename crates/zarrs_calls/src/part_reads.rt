@@ -1,5 +1,7 @@
 //! Reading a chunk in part, before it is told to C.
-ghost use Rattle.std.specs.Prelude.{◌≡◌};
+ghost use Rattle.std.specs.Prelude.{◌≡◌, IfOk};
+ghost use Rattle.zarrs_array_bytes.specs.Tight.{IsTight};
+ghost use Rattle.zarrs_chain_header.specs.HeaderRead.{header_seen};
 ghost use Rattle.zarrs_calls.specs.Reads.{stored_value, stored_bytes, GivesFormRead, GivesPartRead};
 
 use crate::calls::form_given;
@@ -27,6 +29,7 @@ fn read_part(
     indexer: &Indexer,
 ) -> Result<ArrayBytes<'static>, CodecError>
     ensures answer { GivesFormRead form.now handle.entry indexer.now result }
+    ensures tight { IfOk result (IsTight (header_seen form.now).data_type) }
 {
     let chain = &form.chain;
     match chain.partial_decoder(

@@ -28,7 +28,7 @@ variable_made chunk items offsets parts =
     ∙ ap (λ (r : Result (List ℕ) CodecError). r >>= with_offsets (owned_bytes both.0)) (passed (is_offsets both.1) InvalidOffsets (Ok both.1) (offsets_rise (bytes_or_zeros 0) chunk))
     ∙ passed (last_of both.1 == length both.0) InvalidOffsets (Ok (variable_of both)) (eq-eqb _ _ (offsets_end (bytes_or_zeros 0) chunk))
 
--- so they aren't refused
+-- so they aren't rejected
 pub never_refused : (answer : Result Held CodecError) (held : Held) (e : CodecError) (P : Type 0) → Err e ≡ answer → answer ≡ Ok held → P
 never_refused answer held e P h made = absurd (let wrong : Err e ≡ Ok held = h ∙ made in cc)
 

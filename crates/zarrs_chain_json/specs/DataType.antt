@@ -47,7 +47,7 @@ components_in members = do
   signed ← ok_or (truth_at (codes "signed") members) Syntax
   codec_answer (components_type bits count signed)
 
--- a type of several components, by the object that says them
+-- a type of several components, by the object that has them
 abbrev pub components_at : Data → Result ElementType Refusal
 components_at tree = do
   members ← ok_or (as_object tree) Syntax

@@ -25,7 +25,7 @@ pub record PlainEdit : Type 0 where
 abbrev pub edit_seen : Edit → PlainEdit
 edit_seen edit = record { selection = selection_of edit.indexer; new = edit.elements }
 
--- the edit that is read is the expected one, or the first refusal is answered; only a want of memory may come in its place
+-- the edit that is read is the expected one, or the first error is returned; only lack of memory may come in its place
 abbrev pub ReadsEdit : Result Edit Refusal → Result PlainEdit Refusal → Type 0
 ReadsEdit result expected = ReadsAs edit_seen result expected
 
@@ -48,7 +48,7 @@ edit_among type members = do
   elements ← needed_member (codes "data") members
   edit_at type at elements
 
--- the edit that a tree says
+-- the edit that a tree shows
 abbrev pub edit_in : ElementType → Data → Result PlainEdit Refusal
 edit_in type tree = do
   members ← ok_or (as_object tree) Syntax

@@ -17,7 +17,7 @@ element_seen (Present' p element) = present (element_seen element)
 abbrev pub chunk_seen : Vec Read Global → Chunk
 chunk_seen elements = map element_seen elements.items
 
--- the elements that are read are the expected ones, or the first refusal is answered; only a want of memory may come in their place
+-- the elements that are read are the expected ones, or the first error is returned; only lack of memory may come in their place
 abbrev pub ReadsElements : Result (Vec Read Global) Refusal → Result Chunk Refusal → Type 0
 ReadsElements result expected = ReadsAs chunk_seen result expected
 

@@ -56,7 +56,7 @@ element_in text tree = plain_in None tree
 element_in bytes tree = plain_in None tree
 element_in (optional type) tree = optional_in (element_in type) tree
 
--- the elements in list order: the first that is refused answers
+-- the elements in list order, or the error of the first that is rejected
 abbrev pub elements_in : ElementType → Items → Result Chunk Refusal
 elements_in type no_items = Ok []
 elements_in type (item tree items) = do

@@ -62,12 +62,12 @@ selection_at (Some ranges) other = ranges_selection ranges
 selection_at None (Some tuples) = indices_selection tuples
 selection_at None None = Err Syntax
 
--- what an indexer means; it has one key alone
+-- what an indexer selects; it has one key alone
 abbrev pub selection_in : Data → Result Selection Refusal
 selection_in tree = do
   members ← ok_or (as_object tree) Syntax
   selection_at (only_member (codes "ranges") members) (only_member (codes "indices") members)
 
--- the index tuples that are read are the expected ones, or the first refusal is answered; only a want of memory may come in their place
+-- the index tuples that are read are the expected ones, or the first error is returned; only lack of memory may come in their place
 abbrev pub ReadsTuples : Result (Vec (Vec ℕ Global) Global) Refusal → Result (List (List ℕ)) Refusal → Type 0
 ReadsTuples result expected = ReadsAs (λ v. tuples_seen v.items) result expected

@@ -1,4 +1,4 @@
--- Why a line is refused, and how an answer says so.
+-- The errors of lines, and how an answer shows them.
 use Rattle.std.specs.Prelude.{ℕ, ◌++◌, Bool, false, List, Vec, Result, Ok, Err, codes}
 use Rattle.std.specs.declared.alloc.Global.{Global}
 use Rattle.zarrs_chunk.specs.Answer.{memory, Answers}
@@ -9,13 +9,13 @@ use Rattle.zarrs_metadata.specs.declared.plugin_create_error.PluginCreateError.{
 use Rattle.zarrs_chain_json.specs.declared.refusal.Refusal.{Refusal}
 use Rattle.zarrs_chain_json.specs.declared.refusal.Refusal.TheVariants.{Syntax, Making, Codec}
 
--- a growth was refused
+-- out of memory
 abbrev pub wants_memory : Refusal → Bool
 wants_memory Syntax = false
 wants_memory (Making error) = plugin_memory error
 wants_memory (Codec error) = memory error
 
--- The answer of a reading is the expected one, its value or its first refusal; only a want of memory may come in its place.
+-- The answer of a reading is the expected one, its value or its first error; only lack of memory may come in its place.
 abbrev pub Reads : {T : Type 0} → Result T Refusal → Result T Refusal → Type 0
 Reads result expected = Answers wants_memory (λ value. value) result expected
 
@@ -37,12 +37,12 @@ abbrev pub codec_answer : {A : Type 0} → Result A CodecError → Result A Refu
 codec_answer (Ok value) = Ok value
 codec_answer (Err error) = Err (Codec error)
 
--- the name that an answer has for a refusal
+-- the name that an answer has for an error
 abbrev pub refusal_name : Refusal → List ℕ
 refusal_name Syntax = codes "Syntax"
 refusal_name (Making error) = plugin_name_of error
 refusal_name (Codec error) = name_of error
 
--- the answer to a line that is refused
+-- the answer to a line that fails
 abbrev pub error_line : Refusal → List ℕ
 error_line refusal = codes "error " ++ refusal_name refusal

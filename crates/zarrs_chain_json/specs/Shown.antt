@@ -23,7 +23,7 @@ HasElement _ _ place = ⊥
 abbrev pub HoldsSome : ElementType → Held → Type 0
 HoldsSome type held = (chunk : Chunk) × Holds type held chunk
 
--- the answer shows the elements of the chunk that the container holds; only a want of memory may come in its place
+-- the answer shows the elements of the chunk that the container holds; only lack of memory may come in its place
 abbrev pub ShowsElements : ElementType → Held → Result (Vec ℕ Global) Refusal → Type 0
 ShowsElements type held result =
     (chunk : Chunk) → Holds type held chunk → ReadsItems result (Ok (ok_line (chunk_tree chunk)))

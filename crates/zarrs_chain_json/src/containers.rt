@@ -138,7 +138,7 @@ fn under(
 }
 
 /// The container of elements of the type, level by level: the list of one level is let go before that
-/// of the next is made. Refusals: `OutOfMemory`.
+/// of the next is made. Errors: `OutOfMemory`.
 pub fn container(
     alloc: Global,
     data_type: &DataType,

@@ -92,7 +92,7 @@ fn optional(alloc: Global, inner: Result<DataType, Refusal>) -> Result<DataType,
     }
 }
 
-/// The type that a tree names. Refusals: `Syntax` where the tree names none; `BitRange` or `Overflow`
+/// The type that a tree names. Errors: `Syntax` where the tree names none; `BitRange` or `Overflow`
 /// of components that are none; `OutOfMemory`.
 pub fn data_type(alloc: Global, tree: &Value) -> Result<DataType, Refusal>
     ensures answer { Reads result (type_in (view tree.now)) }

@@ -51,7 +51,7 @@ fn edit_among(alloc: Global, data_type: &DataType, members: &Members) -> Result<
     edit_of(alloc, data_type, at, items)
 }
 
-/// The edit of `{"at":INDEXER,"data":ELEMENTS}`. Refusals: `Syntax` where the tree is no object with
+/// The edit of `{"at":INDEXER,"data":ELEMENTS}`. Errors: `Syntax` where the tree is no object with
 /// these two keys alone; then those of the indexer, and then those of the elements; `OutOfMemory`.
 pub fn read_edit(alloc: Global, data_type: &DataType, tree: &Value) -> Result<Edit, Refusal>
     ensures answer { ReadsEdit result (edit_in data_type.now (view tree.now)) }

@@ -48,7 +48,7 @@ fn plain_element(alloc: Global, size: Option<usize>, tree: &Value) -> Result<Vec
     }
 }
 
-/// The element of a type that a tree shows. Refusals: where bytes are due, `ArrayBytesKind` for null
+/// The element of a type that a tree shows. Errors: where bytes are due, `ArrayBytesKind` for null
 /// and for a list, `Syntax` for what is no hex text, and then `InvalidBytesLength` for another number
 /// of bytes than the type has; where an element that may be absent is due, `Syntax` for all but null
 /// and a list of one; `OutOfMemory`.

@@ -40,8 +40,8 @@ fn slots(alloc: Global, elements: &[Element]) -> Result<Vec<Option<&Element>>, A
     Ok(slots)
 }
 
-/// The elements of a list, in a container. Refusals: `Syntax` where the tree is no list; those of the
-/// first element that is refused; `OutOfMemory`.
+/// The elements of a list, in a container. Errors: `Syntax` where the tree is no list; those of the
+/// first element that is rejected; `OutOfMemory`.
 pub fn elements(
     alloc: Global,
     data_type: &DataType,

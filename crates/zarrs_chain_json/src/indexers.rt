@@ -70,7 +70,7 @@ fn indices(alloc: Global, tree: &Value) -> Result<Indexer, Refusal>
     }
 }
 
-/// The indexer of `{"ranges":[[start,end],..]}` or `{"indices":[[..],..]}`. Refusals: `Syntax` where
+/// The indexer of `{"ranges":[[start,end],..]}` or `{"indices":[[..],..]}`. Errors: `Syntax` where
 /// the tree is anything else; then `ReversedRange` where a range ends before it starts;
 /// `OutOfMemory`.
 pub fn indexer(alloc: Global, tree: &Value) -> Result<Indexer, Refusal>

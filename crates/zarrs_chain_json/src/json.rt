@@ -55,7 +55,7 @@ fn members_hold_float(members: &Members) -> bool
 }
 
 /// The tree of a text. Of values of one key in an object the last one stands, and the others are no
-/// part of the tree. Refusals: `Syntax` where the text isn't UTF-8, isn't one JSON value, or its
+/// part of the tree. Errors: `Syntax` where the text isn't UTF-8, isn't one JSON value, or its
 /// tree has a float at any depth; `OutOfMemory`.
 pub fn tree(alloc: Global, text: &[u8]) -> Result<Value, Refusal>
     ensures answer { ReadsAs view result (tree_of text.now) }
@@ -78,7 +78,7 @@ pub fn tree(alloc: Global, text: &[u8]) -> Result<Value, Refusal>
     }
 }
 
-/// The members of an object. Refusals: `Syntax` for any other tree.
+/// The members of an object. Errors: `Syntax` for any other tree.
 pub fn object(tree: &Value) -> Result<&Members, Refusal>
     ensures answer { seen lent_object result ≡ ok_or (as_object (view tree.now)) Refusal.Syntax }
 {
@@ -134,7 +134,7 @@ fn numbers_among(alloc: Global, items: &Vec<Value>) -> Result<Vec<u64>, Refusal>
     Ok(numbers)
 }
 
-/// The whole numbers of a list. Refusals: `Syntax` where the tree is anything else; `OutOfMemory`.
+/// The whole numbers of a list. Errors: `Syntax` where the tree is anything else; `OutOfMemory`.
 pub fn numbers(alloc: Global, tree: &Value) -> Result<Vec<u64>, Refusal>
     ensures answer { ReadsItems result (number_list (view tree.now)) }
 {
@@ -144,7 +144,7 @@ pub fn numbers(alloc: Global, tree: &Value) -> Result<Vec<u64>, Refusal>
     }
 }
 
-/// The bytes of a hex text. Refusals: `Syntax` where the tree is anything else; `OutOfMemory`.
+/// The bytes of a hex text. Errors: `Syntax` where the tree is anything else; `OutOfMemory`.
 pub fn hex_bytes(alloc: Global, tree: &Value) -> Result<Vec<u8>, Refusal>
     ensures answer { ReadsItems result (ok_or (hex_of (view tree.now)) Refusal.Syntax) }
 {
@@ -158,7 +158,7 @@ pub fn hex_bytes(alloc: Global, tree: &Value) -> Result<Vec<u8>, Refusal>
     }
 }
 
-/// The answer that shows a tree without floats. Only a want of memory refuses.
+/// The answer that shows a tree without floats. It fails only for lack of memory.
 pub fn ok_line(alloc: Global, tree: &Value) -> Result<Vec<u8>, AllocError>
     requires no_float { has_float (view tree.now) ≡ false }
     ensures value { IfOk result (λ line. line.items ≡ line_of (view tree.now)) }
@@ -169,7 +169,7 @@ pub fn ok_line(alloc: Global, tree: &Value) -> Result<Vec<u8>, AllocError>
     Ok(line)
 }
 
-/// The answer that shows bytes, in hex of lower case. Only a want of memory refuses.
+/// The answer that shows bytes, in hex of lower case. It fails only for lack of memory.
 pub fn ok_hex(alloc: Global, bytes: &[u8]) -> Result<Vec<u8>, AllocError>
     ensures value { IfOk result (λ line. line.items ≡ line_of (hex_tree_of bytes.now)) }
 {

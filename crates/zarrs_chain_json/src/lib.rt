@@ -1,5 +1,5 @@
-//! What the lines of the tool say in JSON: data types, elements, indexers and edits, read and shown,
-//! and why one of them is refused.
+//! The JSON of the tool's lines: data types, elements, indexers and edits, read and shown, and the
+//! errors of lines.
 #![tactic(auto)]
 
 mod containers;

@@ -1,4 +1,4 @@
-//! Why a line is refused.
+//! The errors of lines.
 ghost use Rattle.std.specs.Prelude.{◌≡◌};
 ghost use Rattle.zarrs_chain_json.specs.Refusal.{refusal_name};
 ghost use Rattle.zarrs_chain_json.specs.declared.refusal.Refusal.TheVariants.{Making, Codec};
@@ -10,19 +10,19 @@ use std::fmt;
 use zarrs_chunk::CodecError;
 use zarrs_metadata::PluginCreateError;
 
-/// Why a line is refused.
+/// The error of a line.
 #[derive(Clone, Copy, Debug, PartialEq, Eq)]
 pub enum Refusal {
     /// The line doesn't read: no such command, no such argument, no UTF-8, or a float in it.
     Syntax,
-    /// No chain can be made of a list of metadata, or memory is wanting for it.
+    /// No chain can be made of a list of metadata, or memory is lacking for it.
     Making(PluginCreateError),
-    /// A codec refuses, or memory is wanting.
+    /// A codec fails, or memory is lacking.
     Codec(CodecError),
 }
 
 impl Refusal {
-    /// The name that an answer has for a refusal, without what it carries.
+    /// The name that an answer has for an error, without what it carries.
     pub fn name(&self) -> &'static str
         ensures value { result.now ≡ refusal_name self.now }
     {

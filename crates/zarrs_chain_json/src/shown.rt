@@ -85,7 +85,7 @@ fn value_at(
     }
 }
 
-/// How many elements of the type a container has. Refusals: `ArrayBytesKind` where it has another
+/// How many elements of the type a container has. Errors: `ArrayBytesKind` where it has another
 /// kind.
 fn count(data_type: &DataType, elements: &ArrayBytes<'_>) -> Result<usize, CodecError>
     ensures count { (count : ℕ) → HasElements data_type.now count elements.now
@@ -121,7 +121,7 @@ fn values(
     Ok(values)
 }
 
-/// The answer that shows the elements of a container. Refusals: `OutOfMemory`.
+/// The answer that shows the elements of a container. Errors: `OutOfMemory`.
 pub fn ok_elements(
     alloc: Global,
     data_type: &DataType,

@@ -6,7 +6,6 @@ use Rattle.zarrs_chunk.specs.Answer.{◌>>=◌, demand, seen, checked_u64, Answe
 use Rattle.zarrs_chunk.specs.ChunkShape.{product}
 use Rattle.zarrs_chunk.specs.declared.codec_error.CodecError.{CodecError}
 use Rattle.zarrs_chunk.specs.declared.codec_error.CodecError.TheVariants.{InvalidFillValue, BitRange, UnsupportedDataType, InvalidOffsets}
-use Rattle.zarrs_chunk.specs.declared.codec_error.CodecName.TheVariants as name
 use Rattle.zarrs_data_type.specs.ElementType.{ElementType, fixed, text, bytes, optional, is_variable}
 use Rattle.zarrs_data_type.specs.FillValue.{fill_fits}
 use Rattle.zarrs_data_type.specs.Element.{plain, Chunk}
@@ -37,6 +36,7 @@ use Rattle.zarrs_chain_laws.specs.Representation.{Measure, flag_type, byte_type,
 use Rattle.zarrs_chain_laws.proofs.NestedParts.{length_under}
 use Rattle.zarrs_bytes.proofs.Coding.{ok, bind_ok}
 use Rattle.zarrs_chain_laws.proofs.ArraySteps.{err, at_ok, ok_is, counted_so, next_answer}
+use Rattle.zarrs_chain_laws.specs.declared.codec_name.TheConstants.{VLEN}
 
 -- ---- what a chain takes
 
@@ -124,7 +124,7 @@ codec_counted f (packbits_codec settings) sizes type fill r e =
     let a = seen_ok FixedSize (packbits_length settings (form_of sizes type fill)) r e in
     counted_packed settings sizes type fill a.0 a.1
 codec_counted f (vlen_codec ia ix ib da dx db wide at_end) sizes type fill r e =
-    let a = bind_ok (demand (is_variable type) (UnsupportedDataType name.Vlen)) _ r e in
+    let a = bind_ok (demand (is_variable type) (UnsupportedDataType VLEN)) _ r e in
     let b = bind_ok (checked_u64 (product sizes)) _ r a.2 in
     counted_so (product sizes) b.0 b.1
 codec_counted f (optional_codec ma mx mb da dx db) sizes (optional type) fill r e =

@@ -1,7 +1,7 @@
--- A container of bytes holds a chunk of bytes, and what is written for that chunk is decoded again.
-use Rattle.std.proofs.Common.{◌≡◌, ℕ, zero, suc, ◌<◌, List, length, get_or, Ok, refl, sym, subst}
+-- A container of bytes holds a chunk of bytes, and what is written for that chunk is decoded to what is kept of it.
+use Rattle.std.proofs.Common.{◌≡◌, ℕ, zero, suc, ◌<◌, List, length, get_or, Ok, subst}
 use Rattle.std.specs.List.{All, range_with_len}
-use Rattle.std.specs.Prelude.{IsOk, slice_index}
+use Rattle.std.specs.Prelude.{slice_index}
 use Rattle.std.proofs.lemmas.List.Elements.{All-take, All-drop, All-map}
 use Rattle.zarrs_chunk.specs.ChunkShape.{product}
 use Rattle.zarrs_data_type.specs.Element.{Element, Chunk}
@@ -50,20 +50,20 @@ held_bytes type count held h = All-map HasBytes (element_at type held) (range_wi
 chunk_bytes : (type : ElementType) (held : Held) (chunk : Chunk) → HeldHasBytes held → Holds type held chunk → All HasBytes chunk
 chunk_bytes type held chunk small holds = subst (All HasBytes) holds.elements_are (held_bytes type (length chunk) held small)
 
--- ---- what is written for a chunk is decoded again
+-- ---- what is written for a chunk is decoded again to what is kept of it
 
 pub codec_again : {B : Type 0} (f : BytesCodecs B) (codec : PlainCodec B) (sizes : List ℕ) (type : ElementType) (fill value : List ℕ) (held : Held) (chunk : Chunk) (r : BytesRepresentation)
     → IsLawful f → HasMappings codec → All (λ size. 0 < size) sizes → HeldHasBytes held → Holds type held chunk → length chunk ≡ product sizes
-    → codec_representation f codec sizes type fill ≡ Ok r → CodecWritten f codec sizes type fill value chunk → IsOk (codec_chunk f codec sizes type fill value)
+    → codec_representation f codec sizes type fill ≡ Ok r → CodecWritten f codec sizes type fill value chunk → codec_chunk f codec sizes type fill value ≡ Ok (normal_form codec type chunk)
 codec_again f codec sizes type fill value held chunk r lawful is positive small holds count taken written =
     let valid : validity type (product sizes) held ≡ Ok tt = subst (λ (k : ℕ). validity type k held ≡ Ok tt) count holds.valid in
     let are : IsChunk type (product sizes) chunk = record { count_is = count; each = AreElements-held type held chunk holds } in
     let stands = codec_stands f lawful codec is sizes type fill value chunk r positive (chunk_bytes type held chunk small holds) are (validity_fits type (product sizes) held valid) taken written in
-    subst IsOk (sym (chunk_only f codec is sizes type fill value (normal_form codec type chunk) positive stands)) refl
+    chunk_only f codec is sizes type fill value (normal_form codec type chunk) positive stands
 
 pub chain_again : {B : Type 0} (f : BytesCodecs B) (chain : PlainChain B) (sizes : List ℕ) (type : ElementType) (fill value : List ℕ) (held : Held) (chunk : Chunk)
     → IsLawful f → IsChainOfMappings chain → All (λ size. 0 < size) sizes → HeldHasBytes held → Holds type held chunk
-    → ChainWritten f chain sizes type fill value chunk → IsOk (chain_chunk f chain sizes type fill value)
+    → ChainWritten f chain sizes type fill value chunk → chain_chunk f chain sizes type fill value ≡ Ok (normal_form chain.array_to_bytes type chunk)
 chain_again f chain sizes type fill value held chunk lawful is positive small holds written =
     let stands = chain_stands f chain lawful is sizes type fill value chunk positive (chunk_bytes type held chunk small holds) written in
-    subst IsOk (sym (chain_chunk_only f chain is sizes type fill value (normal_form chain.array_to_bytes type chunk) positive stands)) refl
+    chain_chunk_only f chain is sizes type fill value (normal_form chain.array_to_bytes type chunk) positive stands

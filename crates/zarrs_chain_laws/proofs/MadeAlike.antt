@@ -2,8 +2,8 @@
 use Rattle.std.proofs.Common.{◌≡◌, ◌∙◌, ℕ, zero, suc, ◌<◌, ◌≤◌, List, [], ◌∷◌, Ok, Err, Option, Some, None, IfOk, refl, ap, arith}
 use Rattle.std.specs.Prelude.{Result}
 use Rattle.zarrs_chunk.specs.Answer.{◌>>=◌, seen}
-use Rattle.zarrs_chunk.specs.declared.codec_error.CodecName.{CodecName}
-use Rattle.zarrs_chunk.specs.declared.codec_error.CodecName.TheVariants.{Transpose, Reshape, Squeeze, Bytes, PackBits, Vlen, Optional}
+use Rattle.zarrs_chain_laws.specs.declared.codec_name.KnownCodec.{KnownCodec}
+use Rattle.zarrs_chain_laws.specs.declared.codec_name.KnownCodec.TheVariants.{Transpose, Reshape, Squeeze, Bytes, PackBits, Vlen, Optional}
 use Rattle.zarrs_metadata.specs.CodecMetadata.{made_of}
 use Rattle.zarrs_metadata.specs.Metadata.{Metadata}
 use Rattle.zarrs_metadata.specs.OptionalConfiguration.{OptionalChains, read_optional}
@@ -45,7 +45,7 @@ chains-alike f g bound alike chains within =
 below : {B : Type 0} (f g : List Metadata → Result (PlainChain B) PluginCreateError) (depth bound : ℕ) → depth ≤ bound → AreAlike f g bound → AreAlike f g depth
 below f g depth bound le alike = λ xs h. alike xs (omega (arith, h, le))
 
-named-alike : {B : Type 0} (f g : List Metadata → Result (PlainChain B) PluginCreateError) (makes : Metadata → Result (Option B) PluginCreateError) (m : Metadata) → AreAlike f g (depth_of m) → (name : Option CodecName) → made_by_name name f makes m ≡ made_by_name name g makes m
+named-alike : {B : Type 0} (f g : List Metadata → Result (PlainChain B) PluginCreateError) (makes : Metadata → Result (Option B) PluginCreateError) (m : Metadata) → AreAlike f g (depth_of m) → (name : Option KnownCodec) → made_by_name name f makes m ≡ made_by_name name g makes m
 named-alike f g makes m alike (Some Transpose) = refl
 named-alike f g makes m alike (Some Reshape) = refl
 named-alike f g makes m alike (Some Squeeze) = refl

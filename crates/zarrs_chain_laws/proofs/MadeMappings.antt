@@ -7,8 +7,8 @@ use Rattle.std.proofs.lemmas.List.Elements.{All-nil, All-cons, All-append}
 use Rattle.serde_json.specs.Data.{Members}
 use Rattle.serde_json.specs.Find.{as_array, get_member}
 use Rattle.zarrs_chunk.specs.Answer.{demand, seen}
-use Rattle.zarrs_chunk.specs.declared.codec_error.CodecName.{CodecName}
-use Rattle.zarrs_chunk.specs.declared.codec_error.CodecName.TheVariants.{Transpose, Reshape, Squeeze, Bytes, PackBits, Vlen, Optional}
+use Rattle.zarrs_chain_laws.specs.declared.codec_name.KnownCodec.{KnownCodec}
+use Rattle.zarrs_chain_laws.specs.declared.codec_name.KnownCodec.TheVariants.{Transpose, Reshape, Squeeze, Bytes, PackBits, Vlen, Optional}
 use Rattle.zarrs_metadata.specs.CodecMetadata.{members_of, is_transpose_name, transpose_made, is_reshape_name, reshape_made, squeeze_made, bytes_made}
 use Rattle.zarrs_metadata.specs.Dims.{Dim, autos, has_no_zero, is_reshape}
 use Rattle.zarrs_metadata.specs.Metadata.{Metadata}
@@ -97,7 +97,7 @@ asked_is (Ok None) made e = absurd (cc)
 asked_is (Err x) made e = absurd (cc)
 
 module _ {B : Type 0} (inside : List Metadata → Result (PlainChain B) PluginCreateError) (makes : Metadata → Result (Option B) PluginCreateError) where
-  named_is : (metadata : Metadata) (made : CodecMade B) (name : Option CodecName) → made_by_name name inside makes metadata ≡ Ok made → MakesMapping made
+  named_is : (metadata : Metadata) (made : CodecMade B) (name : Option KnownCodec) → made_by_name name inside makes metadata ≡ Ok made → MakesMapping made
   named_is metadata made (Some Transpose) e = array_is (mapping_made metadata) made (made_is metadata) e
   named_is metadata made (Some Reshape) e = array_is (mapping_made metadata) made (made_is metadata) e
   named_is metadata made (Some Squeeze) e = array_is (mapping_made metadata) made (made_is metadata) e

@@ -7,7 +7,6 @@ use Rattle.std.proofs.lemmas.Bool.Decides.{nat_tests}
 use Rattle.zarrs_chunk.specs.Answer.{demand, checked_u64}
 use Rattle.zarrs_chunk.specs.ChunkShape.{product}
 use Rattle.zarrs_chunk.specs.declared.codec_error.CodecError.TheVariants.{UnsupportedDataType, InvalidFillValue}
-use Rattle.zarrs_chunk.specs.declared.codec_error.CodecName.TheVariants as codec
 use Rattle.zarrs_data_type.specs.ElementType.{ElementType, fixed, text, bytes, optional, element_size, is_variable}
 use Rattle.zarrs_data_type.specs.FillValue.{fill_fits}
 use Rattle.zarrs_data_type.specs.declared.endianness.Endianness.{Endianness}
@@ -30,6 +29,7 @@ use Rattle.zarrs_bytes.proofs.Coding.{bind_ok}
 use Rattle.zarrs_chain_laws.proofs.ArraySteps.{ok_is}
 use Rattle.zarrs_chain_laws.proofs.ChainSteps.{seen_ok}
 use Rattle.zarrs_chain_laws.proofs.NestedStages.{arrays_are_map}
+use Rattle.zarrs_chain_laws.specs.declared.codec_name.TheConstants.{VLEN}
 
 -- of more elements it is no smaller
 abbrev pub Grows : Measure → Type 0
@@ -83,7 +83,7 @@ packed_grows settings sizes others (optional type) fill m n h a b = absurd cc
 
 pub vlen_unbounded : (sizes : List ℕ) (type : ElementType) (fill : List ℕ) (r : BytesRepresentation) → vlen_representation sizes type fill ≡ Ok r → UnboundedSize ≡ r
 vlen_unbounded sizes type fill r e =
-    let a = bind_ok (demand (is_variable type) (UnsupportedDataType codec.Vlen)) _ r e in
+    let a = bind_ok (demand (is_variable type) (UnsupportedDataType VLEN)) _ r e in
     let b = bind_ok (checked_u64 (product sizes)) _ r a.2 in
     ok_is UnboundedSize r b.2
 

@@ -7,7 +7,6 @@ use Rattle.std.proofs.lemmas.List.FromFn.{length-map-range_with_len}
 use Rattle.zarrs_chunk.specs.Answer.{demand, checked_u64}
 use Rattle.zarrs_chunk.specs.ChunkShape.{product}
 use Rattle.zarrs_chunk.specs.declared.codec_error.CodecError.TheVariants.{UnsupportedDataType, InvalidOffsets}
-use Rattle.zarrs_chunk.specs.declared.codec_error.CodecName.TheVariants as codec
 use Rattle.zarrs_data_type.specs.ElementType.{ElementType, fixed, text, bytes, optional, is_variable}
 use Rattle.zarrs_data_type.specs.Element.{Element, plain, Chunk, IsElement, AreElements}
 use Rattle.zarrs_array_bytes.specs.Elements.{cut}
@@ -33,6 +32,7 @@ use Rattle.zarrs_chain_laws.proofs.ArraySteps.{ok_is}
 use Rattle.zarrs_chain_laws.proofs.NestedParts.{vlen_cut, optional_cut_found, flag_element, flags_found, flags_under, present_under, length_under, elements_under}
 use Rattle.zarrs_chain_laws.proofs.NestedStages.{arrays_are_map, row_positive}
 use Rattle.zarrs_chain_laws.proofs.NestedWrittenStands.{moved_is}
+use Rattle.zarrs_chain_laws.specs.declared.codec_name.TheConstants.{VLEN}
 
 -- what a chain answers of a value stands, and its elements are of the type
 abbrev pub Reads : Standing → Decoder → Type 0
@@ -186,9 +186,9 @@ chunk_read f (packbits_codec settings) has sizes type fill value chunk r positiv
     let stands = packbits.decoded_found settings sizes type fill value chunk e in
     (stands, stands.elements)
 chunk_read f (vlen_codec ia ix ib da dx db wide at_end) has sizes type fill value chunk r positive t e =
-    let v = bind_ok (demand (is_variable type) (UnsupportedDataType codec.Vlen)) _ r t in
+    let v = bind_ok (demand (is_variable type) (UnsupportedDataType VLEN)) _ r t in
     vlen_read wide at_end _ _ _ _ (through_read f ia (codec_representation f ix) (CodecStands f ix) (codec_chunk f ix) ib has.0 (chunk_read f ix has.1)) (through_read f da (codec_representation f dx) (CodecStands f dx) (codec_chunk f dx) db has.2 (chunk_read f dx has.3))
-    (product sizes) type value chunk (demand_ok (is_variable type) (UnsupportedDataType codec.Vlen) v.0 v.1) e
+    (product sizes) type value chunk (demand_ok (is_variable type) (UnsupportedDataType VLEN) v.0 v.1) e
 chunk_read f (optional_codec ma mx mb da dx db) has sizes (optional type) fill value chunk r positive t e =
     optional_read _ _ _ _ (through_read f ma (codec_representation f mx) (CodecStands f mx) (codec_chunk f mx) mb has.0 (chunk_read f mx has.1)) (through_read f da (codec_representation f dx) (CodecStands f dx) (codec_chunk f dx) db has.2 (chunk_read f dx has.3))
     sizes type value chunk positive e

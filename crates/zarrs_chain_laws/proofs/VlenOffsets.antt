@@ -27,11 +27,12 @@ use Rattle.std.specs.Prelude.{None}
 use Rattle.zarrs_chain_laws.specs.Decode.{offset_of, offsets_in_chunk}
 use Rattle.zarrs_chain_laws.specs.Encode.{offset_bytes, offset_elements}
 use Rattle.zarrs_chain_laws.specs.Representation.{offset_type}
-use Rattle.zarrs_chain_laws.specs.vlen.VlenSteps.{offset_size, bytes_from, from_first, offsets_fit, written_offsets, index_elements, read_offsets}
+use Rattle.zarrs_chain_laws.specs.vlen.VlenSteps.{offset_size, bytes_from, offsets_fit, written_offsets, index_elements, read_offsets}
 use Rattle.zarrs_bytes.proofs.Coding.{ok}
 use Rattle.zarrs_chain_laws.proofs.ArraySteps.{err, ok_is}
 use Rattle.zarrs_data_type.specs.FillValue.{fill_fits}
 use Rattle.zarrs_array_bytes.specs.Parts.{fixed_part}
+use Rattle.zarrs_array_bytes.specs.Tight.{from_first}
 
 -- the offset zero, as a fill value
 pub zero_fits : (wide : Bool) → fill_fits (offset_type wide) (offset_bytes wide 0) ≡ true

@@ -1,8 +1,8 @@
 -- The names of the codecs in metadata.
 use Rattle.std.specs.Prelude.{ℕ, Bool, ◌||◌, List, Option, Some, None, codes, if◌then◌else◌}
 use Rattle.std.specs.Str.{bytes_eq}
-use Rattle.zarrs_chunk.specs.declared.codec_error.CodecName.{CodecName}
-use Rattle.zarrs_chunk.specs.declared.codec_error.CodecName.TheVariants.{Transpose, Reshape, Squeeze, Bytes, PackBits, Vlen, Optional}
+use Rattle.zarrs_chain_laws.specs.declared.codec_name.KnownCodec.{KnownCodec}
+use Rattle.zarrs_chain_laws.specs.declared.codec_name.KnownCodec.TheVariants.{Transpose, Reshape, Squeeze, Bytes, PackBits, Vlen, Optional}
 use Rattle.zarrs_metadata.specs.CodecMetadata.{is_transpose_name, is_reshape_name, is_squeeze_name, is_bytes_name, is_packbits_name}
 
 -- vlen, which is written by the first of its names
@@ -21,7 +21,7 @@ is_optional_name name =
     bytes_eq name optional_name || bytes_eq name (codes "optional") || bytes_eq name (codes "https://codec.zarrs.dev/array_to_bytes/optional")
 
 -- the codec that is known by a name
-abbrev pub codec_named : List ℕ → Option CodecName
+abbrev pub codec_named : List ℕ → Option KnownCodec
 codec_named name =
     if is_transpose_name name then Some Transpose
     else if is_reshape_name name then Some Reshape

@@ -7,7 +7,6 @@ use Rattle.zarrs_chunk.specs.Answer.{◌>>=◌, demand, checked_u64}
 use Rattle.zarrs_chunk.specs.ChunkShape.{product}
 use Rattle.zarrs_chunk.specs.declared.codec_error.CodecError.{CodecError}
 use Rattle.zarrs_chunk.specs.declared.codec_error.CodecError.TheVariants.{UnsupportedDataType, InvalidBytesLength, IndexLength, InvalidOffsets, MaskValue, HeaderOverflow}
-use Rattle.zarrs_chunk.specs.declared.codec_error.CodecName.TheVariants as codec
 use Rattle.zarrs_data_type.specs.ElementType.{ElementType, optional}
 use Rattle.zarrs_data_type.specs.Element.{Element, plain, absent, present, Chunk}
 use Rattle.zarrs_array_bytes.specs.Elements.{cut}
@@ -23,6 +22,7 @@ use Rattle.zarrs_chain_laws.specs.ArrayStages.{arrays_map}
 use Rattle.zarrs_chain_laws.specs.BytesStages.{outer_bytes}
 use Rattle.zarrs_chain_laws.specs.Encode.{offset_bytes, all_bytes}
 use Rattle.zarrs_chain_laws.specs.Representation.{Measure, flag_type, byte_type, offset_type, blank_fill, codec_representation}
+use Rattle.zarrs_chain_laws.specs.declared.codec_name.TheConstants.{OPTIONAL}
 
 -- what answers the chunk of these sizes, this type and this fill value that bytes stand for
 abbrev pub Decoder : Type 0
@@ -121,7 +121,7 @@ optional_chunk mask data' sizes (optional type) value = do
   flags ← flags_in mask_chunk
   elements ← part_chunk data' type (blank_fill type) (count_set flags) parts.1
   Ok (under_flags flags elements)
-optional_chunk mask data' sizes type value = Err (UnsupportedDataType codec.Optional)
+optional_chunk mask data' sizes type value = Err (UnsupportedDataType OPTIONAL)
 
 -- ---- chains
 

@@ -1,8 +1,8 @@
 -- What is made of metadata: codecs, and chains of them.
 use Rattle.std.specs.Prelude.{◌≡◌, ℕ, ◌<◌, zero, suc, max, Bool, true, false, not, List, [], ◌∷◌, ◌++◌, Option, Some, None, is_some, ok_or, Result, Ok, Err}
 use Rattle.zarrs_chunk.specs.Answer.{◌>>=◌, demand, seen}
-use Rattle.zarrs_chunk.specs.declared.codec_error.CodecName.{CodecName}
-use Rattle.zarrs_chunk.specs.declared.codec_error.CodecName.TheVariants.{Transpose, Reshape, Squeeze, Bytes, PackBits, Vlen, Optional}
+use Rattle.zarrs_chain_laws.specs.declared.codec_name.KnownCodec.{KnownCodec}
+use Rattle.zarrs_chain_laws.specs.declared.codec_name.KnownCodec.TheVariants.{Transpose, Reshape, Squeeze, Bytes, PackBits, Vlen, Optional}
 use Rattle.zarrs_metadata.specs.CodecMetadata.{made_of, members_of, bytes_made}
 use Rattle.zarrs_metadata.specs.Data.{members_depth}
 use Rattle.zarrs_metadata.specs.Metadata.{Metadata}
@@ -83,7 +83,7 @@ asked_maker (Ok None) = Err UnknownName
 asked_maker (Err refusal) = Err refusal
 
 -- what a metadata makes whose name is that of a codec, or of none: then the maker is asked
-abbrev pub made_by_name : {B : Type 0} → Option CodecName → (List Metadata → Result (PlainChain B) PluginCreateError) → (Metadata → Result (Option B) PluginCreateError) → Metadata → Result (CodecMade B) PluginCreateError
+abbrev pub made_by_name : {B : Type 0} → Option KnownCodec → (List Metadata → Result (PlainChain B) PluginCreateError) → (Metadata → Result (Option B) PluginCreateError) → Metadata → Result (CodecMade B) PluginCreateError
 made_by_name (Some Transpose) inside makes metadata = seen array_made (mapping_made metadata)
 made_by_name (Some Reshape) inside makes metadata = seen array_made (mapping_made metadata)
 made_by_name (Some Squeeze) inside makes metadata = seen array_made (mapping_made metadata)

@@ -5,7 +5,6 @@ use Rattle.zarrs_chunk.specs.Answer.{◌>>=◌, demand, checked_u64, seen}
 use Rattle.zarrs_chunk.specs.ChunkShape.{product}
 use Rattle.zarrs_chunk.specs.declared.codec_error.CodecError.{CodecError}
 use Rattle.zarrs_chunk.specs.declared.codec_error.CodecError.TheVariants.{UnsupportedDataType, InvalidFillValue}
-use Rattle.zarrs_chunk.specs.declared.codec_error.CodecName.TheVariants as codec
 use Rattle.zarrs_data_type.specs.ElementType.{ElementType, fixed, text, bytes, optional, element_size, is_variable}
 use Rattle.zarrs_data_type.specs.FillValue.{fill_fits}
 use Rattle.zarrs_codec.specs.BytesToBytesCodec.{BytesCodecs}
@@ -17,6 +16,7 @@ use Rattle.zarrs_packbits.specs.PackBitsSettings.{packbits_length}
 use Rattle.zarrs_chain_laws.specs.PlainChain.{PlainCodec, bytes_codec, packbits_codec, vlen_codec, optional_codec, PlainChain}
 use Rattle.zarrs_chain_laws.specs.ArrayStages.{arrays_map}
 use Rattle.zarrs_chain_laws.specs.BytesStages.{outer_representation}
+use Rattle.zarrs_chain_laws.specs.declared.codec_name.TheConstants.{VLEN, OPTIONAL}
 
 -- ---- the chunks of inner chains
 
@@ -48,7 +48,7 @@ Measure = List ℕ → ElementType → List ℕ → Result BytesRepresentation C
 -- that of `vlen`: it doesn't ask the inner chains
 abbrev pub vlen_representation : Measure
 vlen_representation sizes type fill = do
-  _ ← demand (is_variable type) (UnsupportedDataType codec.Vlen)
+  _ ← demand (is_variable type) (UnsupportedDataType VLEN)
   _ ← checked_u64 (product sizes)
   Ok UnboundedSize
 
@@ -72,9 +72,9 @@ optional_representation mask data' sizes (optional type) fill = do
   m ← mask sizes flag_type (0 ∷ [])
   d ← data' sizes type (blank_fill type)
   Ok (both_representations m d)
-optional_representation mask data' sizes (fixed width components sign) fill = Err (UnsupportedDataType codec.Optional)
-optional_representation mask data' sizes text fill = Err (UnsupportedDataType codec.Optional)
-optional_representation mask data' sizes bytes fill = Err (UnsupportedDataType codec.Optional)
+optional_representation mask data' sizes (fixed width components sign) fill = Err (UnsupportedDataType OPTIONAL)
+optional_representation mask data' sizes text fill = Err (UnsupportedDataType OPTIONAL)
+optional_representation mask data' sizes bytes fill = Err (UnsupportedDataType OPTIONAL)
 
 -- that of a chain, by that of its codec to bytes: the array codecs in order, then the codec to bytes; bytes codecs refuse nothing
 abbrev pub around_representation : {B : Type 0} → BytesCodecs B → List ArrayMapping → Measure → List B → Measure

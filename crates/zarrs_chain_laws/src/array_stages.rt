@@ -1,7 +1,7 @@
 //! The array codecs of a chain, one after another.
 ghost use Rattle.std.specs.Prelude.{◌≡◌, IfOk, false};
 ghost use Rattle.zarrs_chunk.specs.Answer.{is_fault};
-ghost use Rattle.zarrs_array_bytes.specs.Blank.{KeepsBlanks};
+ghost use Rattle.zarrs_array_bytes.specs.Tight.{KeepsTight};
 ghost use Rattle.zarrs_codec.specs.CoordinateMap.{MapsSizes};
 ghost use Rattle.zarrs_codec.specs.MappedChunk.{GivesSizes};
 ghost use Rattle.zarrs_array_to_array.specs.ArrayToArrayCodec.{coordinates};
@@ -75,9 +75,9 @@ pub fn encode_arrays<'a>(
     }
 }
 
-/// The chunk of this shape that the codecs make the given one of, where they take such chunks. Where
-/// blank elements stand under absent ones, they do in what is made. Refusals, of each codec: those
-/// of its `encoded_shape`; those of its `decode`; `OutOfMemory`.
+/// The chunk of this shape that the codecs make the given one of, where they take such chunks. What
+/// is made of a tight container is tight. Refusals, of each codec: those of its `encoded_shape`;
+/// those of its `decode`; `OutOfMemory`.
 pub fn decode_arrays<'a>(
     alloc: Global,
     codecs: &[ArrayToArrayCodec],
@@ -87,7 +87,7 @@ pub fn decode_arrays<'a>(
     fill_value: &FillValue,
 ) -> Result<ArrayBytes<'a>, CodecError>
     ensures moved { DecodesThrough data_type.now codecs.now shape.now chunk.entry result }
-    ensures blank { KeepsBlanks data_type.now chunk.entry result }
+    ensures tight { KeepsTight data_type.now chunk.entry result }
     ensures map { IfOk result (λ _. IsMapThrough data_type.now codecs.now shape.now) }
     ensures no_fault { is_fault result ≡ false }
 {

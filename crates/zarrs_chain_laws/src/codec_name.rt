@@ -1,9 +1,38 @@
-//! The names of the codecs in metadata.
+//! The names of the codecs: in metadata, and those of `vlen` and `optional` in errors.
 ghost use Rattle.std.specs.Prelude.{◌≡◌};
 ghost use Rattle.zarrs_metadata.specs.CodecMetadata.{is_bytes_name, is_squeeze_name};
 ghost use Rattle.zarrs_chain_laws.specs.CodecNames.{is_vlen_name, is_optional_name, codec_named as codec_named_of};
 
 use zarrs_chunk::CodecName;
+
+/// The name of `vlen` in errors.
+pub const VLEN: CodecName = CodecName {
+    letters: *b"vlen\0\0\0\0\0\0\0\0\0\0\0\0",
+};
+
+/// The name of `optional` in errors.
+pub const OPTIONAL: CodecName = CodecName {
+    letters: *b"optional\0\0\0\0\0\0\0\0",
+};
+
+/// The codecs that a chain knows by their names.
+#[derive(Clone, Copy)]
+pub enum KnownCodec {
+    /// `transpose`.
+    Transpose,
+    /// `reshape`.
+    Reshape,
+    /// `zarrs.squeeze`.
+    Squeeze,
+    /// `bytes`.
+    Bytes,
+    /// `packbits`.
+    PackBits,
+    /// `zarrs.vlen`.
+    Vlen,
+    /// `zarrs.optional`.
+    Optional,
+}
 
 /// Whether the codec `squeeze` is known by this name.
 fn is_squeeze(name: &str) -> bool
@@ -36,29 +65,29 @@ pub fn is_optional(name: &str) -> bool
 }
 
 /// The codec that is known by this name.
-pub fn codec_named(name: &str) -> Option<CodecName>
+pub fn codec_named(name: &str) -> Option<KnownCodec>
     ensures value { result ≡ codec_named_of name.now }
 {
     if name == "transpose" {
-        return Some(CodecName::Transpose);
+        return Some(KnownCodec::Transpose);
     }
     if name == "reshape" {
-        return Some(CodecName::Reshape);
+        return Some(KnownCodec::Reshape);
     }
     if is_squeeze(name) {
-        return Some(CodecName::Squeeze);
+        return Some(KnownCodec::Squeeze);
     }
     if is_bytes(name) {
-        return Some(CodecName::Bytes);
+        return Some(KnownCodec::Bytes);
     }
     if name == "packbits" {
-        return Some(CodecName::PackBits);
+        return Some(KnownCodec::PackBits);
     }
     if is_vlen(name) {
-        return Some(CodecName::Vlen);
+        return Some(KnownCodec::Vlen);
     }
     if is_optional(name) {
-        return Some(CodecName::Optional);
+        return Some(KnownCodec::Optional);
     }
     None
 }

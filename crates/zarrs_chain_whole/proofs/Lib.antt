@@ -7,7 +7,7 @@ pub mod OptionalRoom
 pub mod CodecRelations
 pub mod MakeSteps
 pub mod Counted
-pub mod TakenBlank
+pub mod TakenTight
 pub mod EncodedAgain
 pub mod WrittenAt
 pub mod ReencodeSteps

@@ -9,7 +9,7 @@ use Rattle.zarrs_chunk.specs.declared.codec_error.CodecError.TheVariants.{Invali
 use Rattle.zarrs_data_type.specs.ElementType.{ElementType, optional}
 use Rattle.zarrs_data_type.specs.Element.{Chunk}
 use Rattle.zarrs_data_type.specs.FillValue.{fill_fits}
-use Rattle.zarrs_array_bytes.specs.Blank.{AbsentAreBlank}
+use Rattle.zarrs_array_bytes.specs.Tight.{IsTight}
 use Rattle.zarrs_array_bytes.specs.Elements.{elements}
 use Rattle.zarrs_array_bytes.specs.Held.{Raw, Held, masked}
 use Rattle.zarrs_array_bytes.specs.Present.{present_count, present_chunk}
@@ -142,6 +142,6 @@ chunk_at result f codec sizes type inner fill value mask_part data_part flags e 
     subst (λ (x : PlainCodec _). AnswersBy memory (Holds type) result (codec_chunk f x sizes type fill value)) (sym (plain_optional_at codec))
     (chunk_answers result f (plain_chain (out-OptionalCodec _ codec).mask_codecs.value) (plain_chain (out-OptionalCodec _ codec).data_codecs.value) sizes type inner fill value mask_part data_part flags e parts read gives)
 
--- what stands under absent elements of the type inside stands under those of the type
-pub blank_at : (result : Result Held CodecError) (type inner : ElementType) → Ok inner ≡ optional_inner type → IfOk result (AbsentAreBlank (optional inner)) → IfOk result (AbsentAreBlank type)
-blank_at result type inner e blank = subst (λ (t : ElementType). IfOk result (AbsentAreBlank t)) (sym (inner_is type inner (sym e))) blank
+-- what is tight as elements of the optional type of the one inside is tight as those of the type
+pub tight_at : (result : Result Held CodecError) (type inner : ElementType) → Ok inner ≡ optional_inner type → IfOk result (IsTight (optional inner)) → IfOk result (IsTight type)
+tight_at result type inner e tight = subst (λ (t : ElementType). IfOk result (IsTight t)) (sym (inner_is type inner (sym e))) tight

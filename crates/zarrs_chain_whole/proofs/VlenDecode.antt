@@ -16,8 +16,9 @@ use Rattle.zarrs_data_type.specs.FillValue.{fill_fits}
 use Rattle.zarrs_array_bytes.specs.Elements.{cut, elements}
 use Rattle.zarrs_array_bytes.specs.Held.{Held, Raw, flen, vlen, masked}
 use Rattle.zarrs_array_bytes.specs.Offsets.{rises, last_of, offsets_of}
-use Rattle.zarrs_array_bytes.specs.Parts.{fixed_part, with_offsets}
+use Rattle.zarrs_array_bytes.specs.Parts.{fixed_part}
 use Rattle.zarrs_array_bytes.specs.Pieces.{pieces}
+use Rattle.zarrs_array_bytes.specs.Tight.{HoldsSame, flush_with_offsets, without_front}
 use Rattle.zarrs_array_bytes.specs.Validity.{Holds}
 use Rattle.zarrs_array_bytes.proofs.OffsetLemmas.{flat_map-concat}
 use Rattle.zarrs_array_bytes.proofs.Pieces.{concat-pieces, elements-pieces}
@@ -294,7 +295,7 @@ unfolding codec_representation
 taken_so f codec sizes type fill h =
     variable_so sizes type fill (subst (λ c. IsOk (codec_representation f c sizes type fill)) (plain_vlen_at codec) h)
 
-made_so : (raw : Raw) (offsets : List ℕ) → length raw.items ≡ last_of offsets → with_offsets raw offsets ≡ Ok (vlen raw offsets)
+made_so : (raw : Raw) (offsets : List ℕ) → length raw.items ≡ last_of offsets → flush_with_offsets raw offsets ≡ Ok (without_front raw offsets)
 made_so raw offsets e = let t : (last_of offsets == length raw.items) ≡ true = eq-eqb (last_of offsets) (length raw.items) (sym e) in rw t refl
 
 -- the container that the code makes holds the chunk
@@ -302,8 +303,8 @@ pub vlen_answered : {B : Type 0} (f : BytesCodecs B) (codec : VlenCodec B) (size
     → IsOk (codec_representation f (plain_vlen codec) sizes type fill) → ok (i, d) ≡ vlen_parts (is_at_end (out-VlenCodec _ codec).index_location) value → ok count ≡ checked_u64 (product sizes + 1)
     → index_offsets f (plain_chain (out-VlenCodec _ codec).index_codecs.value) (is_wide (out-VlenCodec _ codec).index_data_type) count i ≡ Ok offsets
     → content_bytes f (plain_chain (out-VlenCodec _ codec).data_codecs.value) (last_of offsets) (data_part (is_at_end (out-VlenCodec _ codec).index_location) (length i) value) ≡ Ok raw.items
-    → length raw.items ≡ last_of offsets → r ≡ with_offsets raw offsets → AnswersBy memory (Holds type) r (codec_chunk f (plain_vlen codec) sizes type fill value)
-vlen_answered f codec sizes type fill value r i d offsets raw count taken parts counted index content long made =
+    → length raw.items ≡ last_of offsets → r ≡ flush_with_offsets raw offsets → IfOk r (HoldsSame (vlen raw offsets)) → AnswersBy memory (Holds type) r (codec_chunk f (plain_vlen codec) sizes type fill value)
+vlen_answered f codec sizes type fill value r i d offsets raw count taken parts counted index content long made same =
     let o = out-VlenCodec _ codec in
     let n = count_test (product sizes + 1) count counted in
     let many : index_offsets f (plain_chain o.index_codecs.value) (is_wide o.index_data_type) (product sizes + 1) i ≡ Ok offsets = ap (λ k. index_offsets f (plain_chain o.index_codecs.value) (is_wide o.index_data_type) k i) n.0 ∙ index in
@@ -312,8 +313,10 @@ vlen_answered f codec sizes type fill value r i d offsets raw count taken parts 
     read_done f (plain_vlen codec) (plain_chain o.index_codecs.value) (plain_chain o.data_codecs.value) (is_wide o.index_data_type) (is_at_end o.index_location) sizes type fill value i d offsets raw.items (plain_vlen_at codec) parts n.1 many rest in
     let holds : Holds type (vlen raw offsets) (slices (product sizes) offsets raw.items) =
     holds_slices type raw offsets (product sizes) (taken_so f codec sizes type fill taken) (offsets_long f (plain_chain o.index_codecs.value) (is_wide o.index_data_type) (product sizes + 1) i offsets many) n.1 in
-    subst (λ x. AnswersBy memory (Holds type) x (codec_chunk f (plain_vlen codec) sizes type fill value)) (sym (made ∙ made_so raw offsets long))
-    (subst (λ (x : Result Chunk CodecError). AnswersBy memory (Holds type) (Ok (vlen raw offsets)) x) (sym chunk) holds)
+    let is : r ≡ Ok (without_front raw offsets) = made ∙ made_so raw offsets long in
+    let kept : HoldsSame (vlen raw offsets) (without_front raw offsets) = subst (λ (x : Result Held CodecError). IfOk x (HoldsSame (vlen raw offsets))) is same in
+    subst (λ x. AnswersBy memory (Holds type) x (codec_chunk f (plain_vlen codec) sizes type fill value)) (sym is)
+    (subst (λ (x : Result Chunk CodecError). AnswersBy memory (Holds type) (Ok (without_front raw offsets)) x) (sym chunk) (kept type (slices (product sizes) offsets raw.items) holds))
 
 -- refusals, by the number of offsets that the code counts
 

@@ -10,7 +10,6 @@ use Rattle.zarrs_chunk.specs.Answer.{◌>>=◌, Answers, memory, demand, checked
 use Rattle.zarrs_chunk.specs.ChunkShape.{product}
 use Rattle.zarrs_chunk.specs.declared.codec_error.CodecError.{CodecError}
 use Rattle.zarrs_chunk.specs.declared.codec_error.CodecError.TheVariants.{InvalidBytesLength, OffsetTooLarge, OffsetNotKept, InvalidFillValue, BitRange, Overflow, UnsupportedDataType}
-use Rattle.zarrs_chunk.specs.declared.codec_error.CodecName.TheVariants as names
 use Rattle.zarrs_data_type.specs.Element.{plain, Chunk}
 use Rattle.zarrs_data_type.specs.ElementType.{ElementType, fixed, text, bytes, optional, element_size, is_variable}
 use Rattle.zarrs_data_type.specs.FillValue.{fill_fits}
@@ -20,6 +19,7 @@ use Rattle.zarrs_array_bytes.specs.Held.{Held, Raw, flen, vlen, masked}
 use Rattle.zarrs_array_bytes.specs.Offsets.{is_offsets, last_of}
 use Rattle.zarrs_array_bytes.specs.Parts.{variable_part}
 use Rattle.zarrs_array_bytes.specs.Pieces.{ends}
+use Rattle.zarrs_array_bytes.specs.Tight.{from_first}
 use Rattle.zarrs_array_bytes.specs.Validity.{validity, Holds}
 use Rattle.zarrs_array_bytes.proofs.OffsetLemmas.{rising_last}
 use Rattle.zarrs_array_bytes.proofs.Pieces.{AllSized}
@@ -45,7 +45,7 @@ use Rattle.zarrs_chain_laws.specs.NormalForm.{normal_element}
 use Rattle.zarrs_chain_laws.specs.Representation.{byte_type, offset_type, vlen_representation, around_representation, codec_representation, chain_representation}
 use Rattle.zarrs_chain_whole.specs.ChainView.{plain_vlen, plain_vlen_at}
 use Rattle.zarrs_chain_whole.specs.declared.vlen.vlen_codec.VlenCodec.{VlenCodec}
-use Rattle.zarrs_chain_laws.specs.vlen.VlenSteps.{from_first, offsets_fit, index_elements, keeps_offsets, TakesOffsets, index_part, content_part}
+use Rattle.zarrs_chain_laws.specs.vlen.VlenSteps.{offsets_fit, index_elements, keeps_offsets, TakesOffsets, index_part, content_part}
 use Rattle.zarrs_bytes.proofs.Coding.{ok, bind_ok}
 use Rattle.zarrs_chain_laws.proofs.ArraySteps.{ok_is, next_answer}
 use Rattle.zarrs_chain_laws.proofs.ChainSteps.{seen_ok, next_err}
@@ -55,6 +55,7 @@ use Rattle.zarrs_chain_laws.proofs.NestedStages.{arrays_are_map, row_positive}
 use Rattle.zarrs_chain_laws.proofs.NestedEncode.{memory_so}
 use Rattle.zarrs_chain_laws.proofs.ChainRelations.{held_value_is}
 use Rattle.zarrs_chain_laws.proofs.VlenOffsets.{elements_long, some_offset}
+use Rattle.zarrs_chain_laws.specs.declared.codec_name.TheConstants.{VLEN}
 
 -- ---- elements of any length in a container
 
@@ -164,7 +165,7 @@ pub held_is : {B : Type 0} (f : BytesCodecs B) (codec : PlainCodec B) (index con
 unfolding codec_representation codec_value
 held_is f codec index content wide at_end sizes type fill raw offsets e t =
     let count = product sizes in
-    let variable : is_variable type ≡ true = demand_so (is_variable type) (UnsupportedDataType names.Vlen) t.size _ t.measured in
+    let variable : is_variable type ≡ true = demand_so (is_variable type) (UnsupportedDataType VLEN) t.size _ t.measured in
     let row : IsRow offsets raw.items count = record { rising = t.rising; ending = t.ending; long = variable_fits InvalidBytesLength type count raw offsets (both_ok _ _ t.valid).1 } in
     ap (λ c. codec_held_value f c sizes type fill (vlen raw offsets)) e
     ∙ rw (t.measured, t.valid) (ap (vlen_value wide at_end (normal_element index.array_to_bytes) (chain_value f index) (chain_value f content)) (elements_cut type count raw offsets variable)

@@ -14,6 +14,7 @@ use Rattle.zarrs_array_bytes.specs.Elements.{elements}
 use Rattle.zarrs_array_bytes.specs.Held.{Held, Raw, flen, vlen, masked}
 use Rattle.zarrs_array_bytes.specs.Parts.{fixed_part}
 use Rattle.zarrs_array_bytes.specs.Pieces.{pieces}
+use Rattle.zarrs_array_bytes.specs.Tight.{from_first}
 use Rattle.zarrs_array_bytes.specs.Validity.{Holds}
 use Rattle.zarrs_array_bytes.proofs.Pieces.{elements-pieces, pieces-suc}
 use Rattle.zarrs_array_bytes.proofs.ValidLemmas.{both_ok, fixed_fits}
@@ -27,7 +28,7 @@ use Rattle.zarrs_chain_whole.specs.ChainView.{plain_codec, plain_vlen_at, plain_
 use Rattle.zarrs_chain_laws.specs.NormalForm.{normal_element}
 use Rattle.zarrs_chain_laws.specs.PlainChain.{PlainChain, bytes_codec, packbits_codec, vlen_codec_of, optional_codec_of}
 use Rattle.zarrs_chain_laws.specs.Representation.{offset_type}
-use Rattle.zarrs_chain_laws.specs.vlen.VlenSteps.{lent_bytes, from_first, written_offsets, keeps_offsets, TakesOffsets}
+use Rattle.zarrs_chain_laws.specs.vlen.VlenSteps.{lent_bytes, written_offsets, keeps_offsets, TakesOffsets}
 use Rattle.zarrs_chain_whole.specs.declared.array_to_bytes_codec.ArrayToBytesCodec.{ArrayToBytesCodec}
 use Rattle.zarrs_chain_whole.specs.declared.array_to_bytes_codec.ArrayToBytesCodec.TheVariants.{Bytes, PackBits, Vlen, Optional}
 use Rattle.zarrs_chain_whole.specs.declared.optional.optional_codec.OptionalCodec.{OptionalCodec}

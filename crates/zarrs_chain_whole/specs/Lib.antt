@@ -14,6 +14,7 @@ pub use Rattle.zarrs_chunk.specs.Answer
 pub use Rattle.zarrs_data_type.specs.Element
 pub use Rattle.zarrs_array_bytes.specs.Elements
 pub use Rattle.zarrs_array_bytes.specs.Held
+pub use Rattle.zarrs_array_bytes.specs.Tight
 pub use Rattle.zarrs_array_bytes.specs.Validity
 pub use Rattle.zarrs_codec.specs.BytesRepresentation
 pub use Rattle.zarrs_codec.specs.BytesToBytesCodec

@@ -17,6 +17,7 @@ impl<B: BytesToBytesCodecTraits> ArrayToBytesCodecTraits for CodecChain<B> {
     ghost use Rattle.zarrs_chain_whole.specs.ChainView.{plain_chain};
     ghost use Rattle.zarrs_chain_whole.specs.Compact.{chain_opened};
     ghost use Rattle.zarrs_chain_laws.specs.Decode.{chain_chunk};
+    ghost use Rattle.zarrs_chain_laws.specs.NormalForm.{normal_form};
     ghost use Rattle.zarrs_chain_laws.specs.Representation.{chain_representation};
 
     ghost represented = { λ chain form. chain_representation B.functions (plain_chain chain) form.sizes form.type form.fill };
@@ -24,6 +25,8 @@ impl<B: BytesToBytesCodecTraits> ArrayToBytesCodecTraits for CodecChain<B> {
     ghost encoded = { λ chain form held. held_value B.functions (plain_chain chain) form.sizes form.type form.fill held };
 
     ghost decoded = { λ chain form value. chain_chunk B.functions (plain_chain chain) form.sizes form.type form.fill value };
+
+    ghost normal = { λ chain type chunk. normal_form (plain_chain chain).array_to_bytes type chunk };
 
     ghost opened = { λ chain form value. chain_opened B.functions (plain_chain chain) form.sizes form.type form.fill value };
 
@@ -85,6 +88,7 @@ impl<B: BytesToBytesCodecTraits> ArrayToBytesCodecTraits for ArrayToBytesCodec<B
     ghost use Rattle.zarrs_chain_laws.specs.Chain.{codec_held_value, taken_chunk};
     ghost use Rattle.zarrs_chain_whole.specs.ChainView.{plain_codec};
     ghost use Rattle.zarrs_chain_whole.specs.Compact.{codec_opened};
+    ghost use Rattle.zarrs_chain_laws.specs.NormalForm.{normal_form};
     ghost use Rattle.zarrs_chain_laws.specs.Representation.{codec_representation};
 
     ghost represented = { λ codec form. codec_representation B.functions (plain_codec codec) form.sizes form.type form.fill };
@@ -92,6 +96,8 @@ impl<B: BytesToBytesCodecTraits> ArrayToBytesCodecTraits for ArrayToBytesCodec<B
     ghost encoded = { λ codec form held. codec_held_value B.functions (plain_codec codec) form.sizes form.type form.fill held };
 
     ghost decoded = { λ codec form value. taken_chunk B.functions (plain_codec codec) form.sizes form.type form.fill value };
+
+    ghost normal = { λ codec type chunk. normal_form (plain_codec codec) type chunk };
 
     ghost opened = { λ codec form _. codec_opened B.functions (plain_codec codec) form.sizes form.type form.fill };
 

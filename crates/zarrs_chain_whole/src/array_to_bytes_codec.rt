@@ -1,4 +1,4 @@
-ghost use Rattle.zarrs_array_bytes.specs.Blank.{AbsentAreBlank};
+ghost use Rattle.zarrs_array_bytes.specs.Tight.{IsTight};
 ghost use Rattle.std.specs.Prelude.{◌≡◌, IfOk};
 ghost use Rattle.zarrs_chain_laws.specs.Chain.{codec_reads as codec_reads_of, codec_writes as codec_writes_of};
 ghost use Rattle.zarrs_chain_whole.specs.ChainView.{plain_codec};
@@ -133,11 +133,10 @@ pub(crate) fn codec_taken_encode<'a, B: BytesToBytesCodecTraits>(
     codec_encode(alloc, codec, held, shape, kind, fill)
 }
 
-/// The chunk that a value stands for, with blank elements under absent ones, where the codec takes
-/// such chunks. Refusals: those of the codec's `decode` behind those of its
-/// `encoded_representation`.
+/// The chunk that a value stands for, in the container that it fixes, where the codec takes such
+/// chunks. Refusals: those of the codec's `decode` behind those of its `encoded_representation`.
 #[cycle(decode)]
-#[tactic(auto, unfolding(crate::specs::ChainView::plain_codec), using(crate::proofs::CodecSteps::bytes_chunk_at, crate::proofs::CodecSteps::packbits_chunk_at, crate::proofs::TakenBlank::bytes_blank_at, crate::proofs::TakenBlank::packbits_blank_at))]
+#[tactic(auto, unfolding(crate::specs::ChainView::plain_codec), using(crate::proofs::CodecSteps::bytes_chunk_at, crate::proofs::CodecSteps::packbits_chunk_at, crate::proofs::TakenTight::bytes_tight_at, crate::proofs::TakenTight::packbits_tight_at))]
 pub fn codec_decode<'a, B: BytesToBytesCodecTraits>(
     alloc: Global,
     codec: &ArrayToBytesCodec<B>,
@@ -148,7 +147,7 @@ pub fn codec_decode<'a, B: BytesToBytesCodecTraits>(
 ) -> Result<ArrayBytes<'a>, CodecError>
     requires taken { Takes B.functions codec.now shape.now kind.now fill.now }
     ensures answer { Reads B.functions codec.now shape.now kind.now fill.now value.entry result }
-    ensures blank { IfOk result (AbsentAreBlank kind.now) }
+    ensures tight { IfOk result (IsTight kind.now) }
 {
     match codec {
         ArrayToBytesCodec::Bytes(codec) => codec.decode(alloc, value, shape, kind, fill),

@@ -1,5 +1,5 @@
 //! The chunk that a value of the codec `bytes` stands for, behind array codecs.
-ghost use Rattle.zarrs_array_bytes.specs.Blank.{AbsentAreBlank};
+ghost use Rattle.zarrs_array_bytes.specs.Tight.{IsTight};
 ghost use Rattle.std.specs.Prelude.{IfOk};
 ghost use Rattle.zarrs_data_type.specs.Form.{form_of};
 ghost use Rattle.zarrs_bytes.specs.BytesCodec.{BytesTakes};
@@ -28,7 +28,7 @@ pub(crate) fn bytes_decode<'a>(
 ) -> Result<ArrayBytes<'a>, CodecError>
     requires taken { BytesTakes codec.now (form_of shape.now kind.now fill.now) }
     ensures answer { ReadsBehind codec.now codecs.now shape.now kind.now fill.now value.entry result }
-    ensures blank { IfOk result (AbsentAreBlank kind.now) }
+    ensures tight { IfOk result (IsTight kind.now) }
 {
     shape.as_slice();
     let stored = BytesCodec::little().decode(alloc, value, shape, kind, fill)?;

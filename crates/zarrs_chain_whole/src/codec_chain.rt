@@ -1,5 +1,5 @@
 ghost use Rattle.std.specs.Prelude.{◌≡◌, Ok, IfOk, None, All, map};
-ghost use Rattle.zarrs_array_bytes.specs.Blank.{AbsentAreBlank};
+ghost use Rattle.zarrs_array_bytes.specs.Tight.{IsTight};
 ghost use Rattle.zarrs_array_bytes.specs.Held.{items_of};
 ghost use Rattle.zarrs_data_type.specs.Form.{form_of};
 ghost use Rattle.zarrs_codec.specs.Grammar.{Encodes, Decodes};
@@ -174,7 +174,9 @@ impl<B: BytesToBytesCodecTraits> CodecChain<B> {
     /// A chain inside is asked as this one is, `encoded_representation` first, and not at all about
     /// a row of no elements. Each codec gets what the one behind it made, owned bytes as owned
     /// ones; elements of `bytes` are moved as they are stored, and their bytes turned round last.
-    /// Absent elements stand over blank ones, at every depth, whatever the value has there.
+    ///
+    /// The chunk alone fixes the container, at every depth and whatever the value has: offsets begin
+    /// at 0, mask bytes are 0 or 1, and absent elements stand over blank ones.
     pub fn decode<'a>(
         &self,
         alloc: Global,
@@ -186,7 +188,7 @@ impl<B: BytesToBytesCodecTraits> CodecChain<B> {
         // Wide: the form of a chunk is three parameters, as in the Rust crate.
         ensures decodes { Decodes (chain_grammar B.functions (plain_chain self.now))
             (form_of shape.now data_type.now fill_value.now) (items_of value.entry) result }
-        ensures blank { IfOk result (AbsentAreBlank data_type.now) }
+        ensures tight { IfOk result (IsTight data_type.now) }
     {
         chain_is_sound(self);
         shape.as_slice();

@@ -1,5 +1,5 @@
 //! The chunk that a value stands for, through a chain.
-ghost use Rattle.zarrs_array_bytes.specs.Blank.{AbsentAreBlank};
+ghost use Rattle.zarrs_array_bytes.specs.Tight.{IsTight};
 ghost use Rattle.std.specs.Prelude.{◌≡◌, IfOk, true};
 ghost use Rattle.zarrs_data_type.specs.FillValue.{fill_fits};
 ghost use Rattle.zarrs_chain_whole.specs.ChainCalls.{Reads, ReadsRow};
@@ -17,8 +17,8 @@ use zarrs_chunk::{ChunkShape, CodecError};
 use zarrs_codec::BytesToBytesCodecTraits;
 use zarrs_data_type::{DataType, FillValue};
 
-/// The chunk that a value stands for through the chain, with blank elements under absent ones.
-/// Refusals: those of `CodecChain::decode`.
+/// The chunk that a value stands for through the chain, in the container that it fixes. Refusals:
+/// those of `CodecChain::decode`.
 #[cycle(decode)]
 pub(crate) fn chain_decode<'a, B: BytesToBytesCodecTraits>(
     alloc: Global,
@@ -29,7 +29,7 @@ pub(crate) fn chain_decode<'a, B: BytesToBytesCodecTraits>(
     fill: &FillValue,
 ) -> Result<ArrayBytes<'a>, CodecError>
     ensures exact { Reads B.functions chain.now shape.now kind.now fill.now value.entry result }
-    ensures blank { IfOk result (AbsentAreBlank kind.now) }
+    ensures tight { IfOk result (IsTight kind.now) }
 {
     let taken = taken_form(alloc, chain, shape, kind, fill)?;
     let below = decode_bytes(alloc, &chain.bytes_to_bytes, &taken.representation, value)?;
@@ -61,7 +61,7 @@ pub(crate) fn part_decode<'a, B: BytesToBytesCodecTraits>(
 ) -> Result<ArrayBytes<'a>, CodecError>
     requires filling { fill_fits kind.now fill.now ≡ true }
     ensures exact { ReadsRow B.functions chain.now count kind.now fill.now part.entry result }
-    ensures blank { IfOk result (AbsentAreBlank kind.now) }
+    ensures tight { IfOk result (IsTight kind.now) }
 {
     match row_of(alloc, count)? {
         Some(row) => chain_decode(alloc, chain, part, &row, kind, fill),

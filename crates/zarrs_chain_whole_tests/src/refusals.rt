@@ -3,8 +3,8 @@
 
 use crate::forms::{Chunk, Elements, OPTIONS, PAIR, TEXTS};
 use crate::whole_rows::Row;
+use zarrs_chain_laws::codec_name::{OPTIONAL, VLEN};
 use zarrs_chunk::CodecError::{ArrayBytesKind, InvalidBytesLength, UnsupportedDataType};
-use zarrs_chunk::CodecName;
 use zarrs_codec::BytesRepresentation::{BoundedSize, UnboundedSize};
 
 const STRINGS: Chunk = Chunk {
@@ -24,29 +24,29 @@ pub(crate) const REFUSED: &'static [Row] = &[
         name: "vlen over elements of one size",
         codecs: TEXTS,
         chunk: PAIR,
-        size: Err(UnsupportedDataType(CodecName::Vlen)),
+        size: Err(UnsupportedDataType(VLEN)),
         elements: Elements {
             bytes: &[1, 2],
             ends: &[],
             masks: &[],
         },
-        encoded: Err(UnsupportedDataType(CodecName::Vlen)),
+        encoded: Err(UnsupportedDataType(VLEN)),
         value: &[1, 2],
-        decoded: Err(UnsupportedDataType(CodecName::Vlen)),
+        decoded: Err(UnsupportedDataType(VLEN)),
     },
     Row {
         name: "optional over elements that are there",
         codecs: OPTIONS,
         chunk: PAIR,
-        size: Err(UnsupportedDataType(CodecName::Optional)),
+        size: Err(UnsupportedDataType(OPTIONAL)),
         elements: Elements {
             bytes: &[1, 2],
             ends: &[],
             masks: &[],
         },
-        encoded: Err(UnsupportedDataType(CodecName::Optional)),
+        encoded: Err(UnsupportedDataType(OPTIONAL)),
         value: &[1, 2],
-        decoded: Err(UnsupportedDataType(CodecName::Optional)),
+        decoded: Err(UnsupportedDataType(OPTIONAL)),
     },
     Row {
         name: "elements of one size in place of texts, and seven bytes",

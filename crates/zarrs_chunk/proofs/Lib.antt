@@ -2,6 +2,7 @@ pub mod Apart
 pub mod BoxLaws
 pub mod BoxTuples
 pub mod Consecutive
+pub mod CountedRuns
 pub mod Ends
 pub mod Fitting
 pub mod Inside

@@ -1,4 +1,4 @@
--- A number belongs to one tuple, and what the test for a tuple says.
+-- A number belongs to one tuple, and what the test for a tuple decides.
 use Rattle.std.proofs.Common.{◌≡◌, ◌↔◌, ℕ, ◌+◌, ◌*◌, ◌<◌, ◌≤◌, ◌∙◌, true, List, [], ◌∷◌, arith, refl, ap, sym}
 use Rattle.std.proofs.lemmas.Bool.{and_parts}
 use Rattle.std.proofs.Math.Nat.{mul-le-mul_right}

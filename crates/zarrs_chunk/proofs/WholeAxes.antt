@@ -14,7 +14,7 @@ use Rattle.zarrs_chunk.proofs.Consecutive.{range-append}
 use Rattle.zarrs_chunk.proofs.Inside.{is_box_inside-at}
 use Rattle.zarrs_chunk.proofs.Products.{product_drop}
 
--- the numbers that the numbers of a list stand for, as many as `whole` says for each
+-- the numbers that the numbers of a list stand for, `whole` for each
 abbrev pub spread : ℕ → List ℕ → List ℕ
 spread whole numbers = flat_map (λ number. range_with_len (number * whole) whole) numbers
 

@@ -1,7 +1,7 @@
--- The names of the refusals.
+-- The names of the errors.
 use Rattle.std.specs.Prelude.{ℕ, List, codes}
 use Rattle.zarrs_chunk.specs.declared.codec_error.CodecError.{CodecError}
-use Rattle.zarrs_chunk.specs.declared.codec_error.CodecError.TheVariants.{OutOfMemory, Storage, UnsupportedDataType, EndiannessMissing, ArrayBytesKind, InvalidBytesLength, IncompatibleDimensionality, OutOfBounds, Overflow, InvalidFillValue, ReshapeDimension, ReshapeElements, BitRange, PaddingByte, IndexLength, InvalidOffsets, OffsetTooLarge, OffsetNotKept, MaskValue, HeaderOverflow, InvalidByteRange, BytesCodec, DataMismatch, UnsupportedTarget, TargetMismatch, ReversedRange}
+use Rattle.zarrs_chunk.specs.declared.codec_error.CodecError.TheVariants.{OutOfMemory, Storage, UnsupportedDataType, EndiannessMissing, ArrayBytesKind, InvalidBytesLength, IncompatibleDimensionality, OutOfBounds, Overflow, InvalidFillValue, ReshapeDimension, ReshapeElements, BitRange, PaddingByte, IndexLength, InvalidOffsets, OffsetTooLarge, OffsetNotKept, MaskValue, HeaderOverflow, InvalidByteRange, BytesCodec, DataMismatch, UnsupportedTarget, TargetMismatch, ReversedRange, ElementCount, IndivisibleShape, IndexNotFixed}
 
 -- the variant's name, as its bytes
 abbrev pub name_of : CodecError → List ℕ
@@ -31,3 +31,6 @@ name_of DataMismatch = codes "DataMismatch"
 name_of UnsupportedTarget = codes "UnsupportedTarget"
 name_of TargetMismatch = codes "TargetMismatch"
 name_of ReversedRange = codes "ReversedRange"
+name_of ElementCount = codes "ElementCount"
+name_of IndivisibleShape = codes "IndivisibleShape"
+name_of IndexNotFixed = codes "IndexNotFixed"

@@ -28,7 +28,7 @@ abbrev pub IsTupleOfNumber : List ℕ → ℕ → Option (List ℕ) → Type 0
 IsTupleOfNumber sizes number None = product sizes ≤ number
 IsTupleOfNumber sizes number (Some tuple) = (is_tuple_inside sizes tuple ≡ true) × (row_major sizes tuple ≡ number)
 
--- the same of what a call finds that is refused nothing
+-- the same of a call that never fails
 abbrev pub FindsTuple : List ℕ → ℕ → Option (Vec ℕ Global) → Unit {0} → Type 0
 FindsTuple sizes number found _ = IsTupleOfNumber sizes number (option_map (λ tuple. tuple.items) found)
 

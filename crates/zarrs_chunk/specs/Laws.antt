@@ -1,4 +1,4 @@
--- Laws of tuples, boxes and places: what their definitions mean, axis by axis and element by element.
+-- Laws of tuples, boxes and places: their definitions, read axis by axis and element by element.
 use Rattle.std.specs.Prelude.{◌≡◌, ◌↔◌, ℕ, ◌+◌, ◌<◌, ◌≤◌, true, List, length, map, replicate, slice_index, All, Contains, IfOk}
 use Rattle.std.specs.List.{range_with_len}
 use Rattle.std.specs.List.Sorted.{IsStrictlyIncreasing}
@@ -29,11 +29,11 @@ pub record IsBoxInShape (sizes starts lengths : List ℕ) : Type 0 where
 abbrev pub BoxHasItsTuples : Type 0
 BoxHasItsTuples = (starts lengths tuple : List ℕ) → length starts ≡ length lengths → Contains (box_tuples starts lengths) tuple ↔ IsInBox starts lengths tuple
 
--- the test for a tuple is what it says, axis by axis
+-- the test for a tuple, axis by axis
 abbrev pub TuplesAreInsideByAxis : Type 0
 TuplesAreInsideByAxis = (sizes tuple : List ℕ) → (is_tuple_inside sizes tuple ≡ true) ↔ IsInShape sizes tuple
 
--- the test for a box is what it says, axis by axis
+-- the test for a box, axis by axis
 abbrev pub BoxesAreInsideByAxis : Type 0
 BoxesAreInsideByAxis = (sizes starts lengths : List ℕ) → (is_box_inside sizes starts lengths ≡ true) ↔ IsBoxInShape sizes starts lengths
 

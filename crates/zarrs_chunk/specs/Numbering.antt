@@ -24,7 +24,7 @@ numbers_of_tuples sizes tuples = map (λ tuple. row_major sizes tuple.items) tup
 abbrev pub AreCountable : List ℕ → List (Vec ℕ Global) → Type 0
 AreCountable sizes tuples = (are_of_axes (length sizes) tuples ≡ true) × (product sizes < 2 ^ 64)
 
--- the call is Ok only where this test for what lies inside passes, and answers `OutOfBounds` where it doesn't; `OutOfMemory` may come at any time
+-- the call is Ok only where this test for what lies inside passes, and returns `OutOfBounds` where it doesn't; `OutOfMemory` may come at any time
 abbrev pub IsOkInside : {T : Type 0} → Bool → Result T CodecError → Type 0
 IsOkInside inside result =
     MatchResult result (λ _. inside ≡ true) (λ e. Excused (memory e) ((inside ≡ false) × (e ≡ OutOfBounds)))

@@ -32,16 +32,16 @@ abbrev pub EndsRun : ℕ → List ℕ → Type 0
 EndsRun count places =
     count < length places → slice_index places count ≢ slice_index places (count - 1) + 1
 
--- a call that answers Ok has put runs of these places behind the old ones
+-- a call that returns Ok has put runs of these places behind the old ones
 abbrev pub AddsPlaces : {E : Type 0} → Vec (ℕ × ℕ) Global → Vec (ℕ × ℕ) Global → Result (Unit {0}) E → List ℕ → Type 0
 AddsPlaces old new result places = OnOk result (places_in new ≡ places_in old ++ places)
 
--- below each limit of the place, a call that answers Ok keeps the runs within that limit
+-- below each limit of the place, a call that returns Ok keeps the runs within that limit
 abbrev pub KeepsBelow : {E : Type 0} → ℕ → Vec (ℕ × ℕ) Global → Vec (ℕ × ℕ) Global → Result (Unit {0}) E → Type 0
 KeepsBelow place old new result =
     (limit : ℕ) → place < limit → OnOk result (StayWithin limit old.items new.items)
 
--- below each limit of all the places, the answered runs end within that limit
+-- below each limit of all the places, the returned runs end within that limit
 abbrev pub EndsBelow : {E : Type 0} → List ℕ → Result (Vec (ℕ × ℕ) Global) E → Type 0
 EndsBelow places result =
     (limit : ℕ) → All (λ place. place < limit) places → IfOk result (λ v. EndWithin limit v.items)

@@ -1,4 +1,4 @@
--- Which index tuples are meant, and their places in a chunk.
+-- Which index tuples are selected, and their places in a chunk.
 use Rattle.std.specs.Prelude.{ℕ, ◌==◌, List, Vec, map, length, Result, Ok}
 use Rattle.std.specs.List.{list_all}
 use Rattle.std.specs.declared.alloc.Global.{Global}
@@ -22,7 +22,7 @@ tuples_seen tuples = map (λ tuple. tuple.items) tuples
 abbrev pub indices_of : List (Vec ℕ Global) → Selection
 indices_of tuples = indices (tuples_seen tuples)
 
--- the tuples that are meant, in order: those of a box row-major, those of a list in list order
+-- the selected tuples, in order: those of a box row-major, those of a list in list order
 abbrev pub tuples_of : Selection → List (List ℕ)
 tuples_of (subset region) = box_tuples region.starts region.lengths
 tuples_of (indices tuples) = tuples
@@ -36,7 +36,7 @@ bounds_of (indices tuples) sizes = do
   _ ← demand (list_all (λ tuple. length tuple == length sizes) tuples) IncompatibleDimensionality
   demand (list_all (λ tuple. is_tuple_inside sizes tuple) tuples) OutOfBounds
 
--- how many elements are meant
+-- how many elements are selected
 abbrev pub len_of : Selection → Result ℕ CodecError
 len_of selection = checked_u64 (length (tuples_of selection))
 

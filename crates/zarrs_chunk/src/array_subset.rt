@@ -1,3 +1,4 @@
+//! Boxes of index tuples.
 ghost use Rattle.std.specs.Prelude.{◌≡◌, Ok, length, ◌&&◌};
 ghost use Rattle.std.specs.Bool.{nat_eq};
 ghost use Rattle.std.specs.Cmp.Lexicographic.{pointwise};
@@ -43,7 +44,7 @@ fn all_ends_fit(starts: &[u64], lengths: &[u64]) -> bool
 }
 
 impl ArraySubset {
-    /// The box of these ranges, one an axis. Refusals: `OutOfMemory`; `ReversedRange` where a range
+    /// The box of these ranges, one an axis. Errors: `OutOfMemory`; `ReversedRange` where a range
     /// ends before it starts.
     pub fn new_with_ranges(alloc: Global, ranges: &[Range<u64>]) -> Result<ArraySubset, CodecError>
         ensures answer { AnswersValue memory result (subset_of_ranges ranges.now) }
@@ -60,7 +61,7 @@ impl ArraySubset {
         Ok(ArraySubset { starts, lengths })
     }
 
-    /// The box that begins at `start` and is `shape` long, both one number an axis. Refusals, the
+    /// The box that begins at `start` and is `shape` long, both one number an axis. Errors, the
     /// first that holds: `IncompatibleDimensionality` where their axes differ; `Overflow` where a
     /// range ends past `2^64 - 1`.
     pub fn new_with_start_shape(start: Vec<u64>, shape: Vec<u64>) -> Result<ArraySubset, CodecError>
@@ -78,7 +79,7 @@ impl ArraySubset {
         })
     }
 
-    /// The box of all tuples of `shape`. Refusals: `OutOfMemory`.
+    /// The box of all tuples of `shape`. Errors: `OutOfMemory`.
     pub fn new_with_shape(alloc: Global, shape: Vec<u64>) -> Result<ArraySubset, CodecError>
         ensures made { AnswersValue memory result (Ok (subset_of_shape shape.items)) }
     {
@@ -105,7 +106,7 @@ impl ArraySubset {
         self.lengths.as_slice()
     }
 
-    /// How many tuples the box has: the product of its lengths. Refusals: `Overflow`.
+    /// How many tuples the box has: the product of its lengths. Errors: `Overflow`.
     pub fn num_elements(&self) -> Result<u64, CodecError>
         ensures product { result ≡ checked_u64 (product self.now.lengths) }
         ensures tuples { result ≡ len_of (subset_of self.now) }
@@ -113,7 +114,7 @@ impl ArraySubset {
         checked_product(self.lengths.as_slice()).ok_or(CodecError::Overflow)
     }
 
-    /// An equal subset. Refusals: `OutOfMemory`.
+    /// An equal subset. Errors: `OutOfMemory`.
     pub fn clone(&self) -> Result<ArraySubset, CodecError>
         ensures copy { AnswersValue memory result (Ok self.now) }
     {

@@ -1,3 +1,4 @@
+//! Shapes of chunks.
 ghost use Rattle.std.specs.Prelude.{◌≡◌, Ok, ◌<◌, All};
 ghost use Rattle.std.specs.Bool.{nat_eq};
 ghost use Rattle.std.specs.Cmp.Lexicographic.{pointwise};
@@ -45,14 +46,14 @@ impl ChunkShape {
         self.sizes.as_slice()
     }
 
-    /// The product of the sizes. Refusals: `Overflow`.
+    /// The product of the sizes. Errors: `Overflow`.
     pub fn num_elements(&self) -> Result<u64, CodecError>
         ensures answer { result ≡ checked_u64 (product self.now) }
     {
         checked_product(self.as_slice()).ok_or(CodecError::Overflow)
     }
 
-    /// An equal shape. Refusals: `OutOfMemory`.
+    /// An equal shape. Errors: `OutOfMemory`.
     pub fn clone(&self) -> Result<ChunkShape, CodecError>
         ensures copy { AnswersValue memory result (Ok self.now) }
     {

@@ -1,3 +1,4 @@
+//! The one error of all layers.
 ghost use Rattle.std.specs.Prelude.{◌≡◌};
 ghost use Rattle.zarrs_chunk.specs.CodecError.{name_of};
 ghost use Rattle.zarrs_chunk.specs.declared.codec_error.CodecError.TheVariants.{OutOfMemory};
@@ -6,43 +7,34 @@ use std::alloc::{AllocError, AllocFailed};
 use std::error::Error;
 use std::fmt;
 
-/// What a storage handle answers where it fails: a number of its own.
+/// The error of a storage handle: a number of its own.
 #[derive(Clone, Copy, Debug, PartialEq, Eq)]
 pub struct StorageError {
-    /// The number, which means what the handle says.
+    /// The number, whose meaning the handle defines.
     pub code: u32,
 }
 
-/// The seven array codecs, as a refusal of a data type names them.
-#[derive(Clone, Copy, Debug, PartialEq, Eq)]
-pub enum CodecName {
-    /// `transpose`.
-    Transpose,
-    /// `reshape`.
-    Reshape,
-    /// `zarrs.squeeze`.
-    Squeeze,
-    /// `bytes`.
-    Bytes,
-    /// `packbits`.
-    PackBits,
-    /// `zarrs.vlen`.
-    Vlen,
-    /// `zarrs.optional`.
-    Optional,
+/// The name of a codec, as an error of a data type shows it: each codec's crate has its own.
+#[derive(Clone, Copy, PartialEq, Eq)]
+pub struct CodecName {
+    /// The letters, and zeros behind them.
+    pub letters: [u8; 16],
 }
 
-/// Why a call of any layer was refused. Nothing in it is on the heap.
+const _: () = prove!(size_of::<CodecError>() <= 24);
+
+/// The error of a call of any layer. Nothing in it is on the heap.
 ///
-/// Where several causes hold, each call's contract says which one it answers. `OutOfMemory` may
-/// come in place of any of them, and comes only where a growth was refused.
+/// Where several errors hold, each call's contract states which one it returns. `OutOfMemory` may
+/// come in place of any of them where a call allocates; that an allocation failed is no clause.
+/// Clauses fix the name of an error, and not the text that `Display` writes of it.
 #[derive(Clone, Copy, Debug, PartialEq, Eq)]
 pub enum CodecError {
-    /// A growth was refused.
+    /// An allocation failed.
     OutOfMemory,
     /// The storage handle failed in this call.
     Storage(StorageError),
-    /// The codec doesn't take this data type.
+    /// The codec doesn't accept this data type.
     UnsupportedDataType(CodecName),
     /// No byte order is given, and a component has more than one byte.
     EndiannessMissing,
@@ -78,10 +70,10 @@ pub enum CodecError {
     MaskValue,
     /// The two lengths of an `optional` value pass `2^64 - 1` with their 16 bytes.
     HeaderOverflow,
-    /// A range ends past the bytes that it is one of: the stored value, what its bytes codecs gave,
-    /// or the data part of a `vlen`.
+    /// A range ends past its bytes: the stored value, what its bytes-to-bytes codecs returned, or the
+    /// data part of a `vlen`.
     InvalidByteRange,
-    /// The caller's bytes codec refused, with its number.
+    /// The caller's bytes-to-bytes codec failed, with its number.
     BytesCodec(u32),
     /// There isn't one element of data for each place.
     DataMismatch,
@@ -91,6 +83,12 @@ pub enum CodecError {
     TargetMismatch,
     /// A range ends before it starts.
     ReversedRange,
+    /// A value's count of elements isn't the chunk's.
+    ElementCount,
+    /// An inner chunk's size doesn't divide the chunk's.
+    IndivisibleShape,
+    /// The encoded index isn't of a fixed size.
+    IndexNotFixed,
 }
 
 impl CodecError {
@@ -128,6 +126,9 @@ impl CodecError {
             CodecError::UnsupportedTarget => "UnsupportedTarget",
             CodecError::TargetMismatch => "TargetMismatch",
             CodecError::ReversedRange => "ReversedRange",
+            CodecError::ElementCount => "ElementCount",
+            CodecError::IndivisibleShape => "IndivisibleShape",
+            CodecError::IndexNotFixed => "IndexNotFixed",
         }
     }
 }
@@ -142,15 +143,16 @@ impl Error for StorageError {}
 
 impl fmt::Display for CodecName {
     fn fmt<W: fmt::Write>(&self, f: &mut fmt::Formatter<W>) -> fmt::Result {
-        f.write_str(match self {
-            CodecName::Transpose => "transpose",
-            CodecName::Reshape => "reshape",
-            CodecName::Squeeze => "squeeze",
-            CodecName::Bytes => "bytes",
-            CodecName::PackBits => "packbits",
-            CodecName::Vlen => "vlen",
-            CodecName::Optional => "optional",
-        })
+        for letter in self.letters.iter().filter(|letter| **letter != 0) {
+            f.write_char(*letter as char)?;
+        }
+        Ok(())
+    }
+}
+
+impl fmt::Debug for CodecName {
+    fn fmt<W: fmt::Write>(&self, f: &mut fmt::Formatter<W>) -> fmt::Result {
+        fmt::Display::fmt(self, f)
     }
 }
 

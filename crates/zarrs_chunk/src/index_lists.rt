@@ -41,7 +41,7 @@ pub fn check_indices(sizes: &[u64], tuples: &[ArrayIndices]) -> Result<(), Codec
 }
 
 /// What comes before tuples are numbered: each has one number an axis, and 64 bits count the
-/// elements. Where they don't, a tuple outside is refused first.
+/// elements. Where they don't, a tuple outside is the first error.
 fn check_countable(sizes: &[u64], tuples: &[ArrayIndices]) -> Result<(), CodecError>
     ensures countable { OnOk result (AreCountable sizes.now tuples.now) }
     ensures cause { IfErr result (λ e. places_of (indices_of tuples.now) sizes.now ≡ Err e) }

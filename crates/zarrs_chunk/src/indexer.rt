@@ -1,3 +1,4 @@
+//! Selections of index tuples, and their places and runs.
 ghost use Rattle.std.specs.Prelude.{◌≡◌, ◌<◌, ◌^◌, length, IfOk, Ok, All};
 ghost use Rattle.zarrs_chunk.specs.Answer.{Answers, memory, Gives, GivesItems};
 ghost use Rattle.zarrs_chunk.specs.ChunkShape.{product};
@@ -13,7 +14,7 @@ use crate::index_lists::{check_indices, indices_places, indices_runs};
 use crate::indices::ArrayIndices;
 use std::alloc::Global;
 
-/// Which elements of a chunk are meant, in which order.
+/// Which elements of a chunk are selected, in which order.
 #[derive(Debug, PartialEq, Eq, Drop)]
 pub enum Indexer {
     /// The tuples of a box, in row-major order.
@@ -73,7 +74,7 @@ fn subset_runs(
 impl Indexer {
     /// Whether every tuple has one number an axis of the shape and lies inside it. A range may be
     /// empty, and has to lie inside too; an empty list fits every shape.
-    /// Refusals, the first that holds: `IncompatibleDimensionality`, `OutOfBounds`.
+    /// Errors, the first that holds: `IncompatibleDimensionality`, `OutOfBounds`.
     pub fn check(&self, shape: &ChunkShape) -> Result<(), CodecError>
         ensures answer { result ≡ bounds_of (selection_of self.now) shape.now }
     {
@@ -83,7 +84,7 @@ impl Indexer {
         }
     }
 
-    /// How many elements are meant, repeated ones counted each time. Refusals: `Overflow`.
+    /// How many elements are selected, repeated ones counted each time. Errors: `Overflow`.
     pub fn len(&self) -> Result<u64, CodecError>
         ensures answer { result ≡ len_of (selection_of self.now) }
     {
@@ -93,7 +94,7 @@ impl Indexer {
         }
     }
 
-    /// The row-major numbers of the tuples, in order. Refusals, the first that holds, `OutOfMemory`
+    /// The row-major numbers of the tuples, in order. Errors, the first that holds, `OutOfMemory`
     /// aside: `IncompatibleDimensionality`, `OutOfBounds`, `Overflow` where the shape has `2^64`
     /// elements or more.
     pub fn places(&self, alloc: Global, shape: &ChunkShape) -> Result<Vec<u64>, CodecError>
@@ -108,7 +109,7 @@ impl Indexer {
     }
 
     /// The places in order, as runs of a start and a length: consecutive numbers, none of the runs
-    /// empty, and none starting where the one before it ends. Refusals as `places`.
+    /// empty, and none starting where the one before it ends. Errors as `places`.
     pub fn runs(&self, alloc: Global, shape: &ChunkShape) -> Result<Vec<(u64, u64)>, CodecError>
         ensures places { Gives places_in result (places_of (selection_of self.now) shape.now) }
         ensures filled { IfOk result (λ v. AreFilled v.items) }
@@ -122,7 +123,7 @@ impl Indexer {
         }
     }
 
-    /// An equal indexer. Refusals: `OutOfMemory`.
+    /// An equal indexer. Errors: `OutOfMemory`.
     pub fn clone(&self) -> Result<Indexer, CodecError>
         ensures copy { Answers memory selection_of result (Ok (selection_of self.now)) }
     {

@@ -1,3 +1,4 @@
+//! Index tuples, and their row-major numbers.
 ghost use Rattle.std.specs.Prelude.{◌≡◌, ◌<◌, ◌^◌, length, All};
 ghost use Rattle.zarrs_chunk.specs.Answer.{AnswersBy, memory, no_refusal};
 ghost use Rattle.zarrs_chunk.specs.ChunkShape.{product};
@@ -62,7 +63,7 @@ pub fn ravel_indices(indices: &[u64], shape: &ChunkShape) -> Option<u64>
 }
 
 /// The tuple that has this row-major number in a chunk, or `None` where the number lies past the
-/// chunk's end. Refusals: `OutOfMemory`.
+/// chunk's end. Errors: `OutOfMemory`.
 pub fn unravel_index(
     alloc: Global,
     index: u64,

@@ -2,7 +2,7 @@
 //! contracts hold for all lists, and proofs may take them from here.
 ghost use Rattle.zarrs_chunk.specs.Laws.{BoxHasItsTuples, BoxesAreInsideByAxis, BoxesInsideHaveTuplesInside, TuplesAreInsideByAxis, NumbersAreBelow, NumbersDiffer, NumbersHaveTuples, TuplesAreFound, BoxesAreCounted, PlacesAreBelow, SubsetPlacesRise, WholeChunkIsCounted};
 
-/// Which tuples are meant: a box has those whose numbers lie in its ranges. A tuple or a box is
+/// Which tuples are selected: a box has those whose numbers lie in its ranges. A tuple or a box is
 /// inside a shape where it is so along each axis, and a box inside has tuples inside alone.
 pub fn tuples_go_by_axis()
     ensures in_box { BoxHasItsTuples }

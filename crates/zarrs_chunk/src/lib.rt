@@ -1,4 +1,4 @@
-//! Shapes of chunks, which elements of them are meant, and the one error of all layers.
+//! Shapes of chunks, selections of their elements, and the one error of all layers.
 //!
 //! A chunk's elements are numbered row-major, the last axis fastest (Zarr v3 core specification,
 //! "Chunks" and "Chunk grids"). An [`Indexer`] names index tuples; its places are their numbers.
@@ -19,4 +19,4 @@ pub use chunk_shape::ChunkShape;
 pub use codec_error::{CodecError, CodecName, StorageError};
 pub use indexer::Indexer;
 pub use indices::{ArrayIndices, ravel_indices, unravel_index};
-pub use runs::runs_of_places;
+pub use runs::{count_places, runs_of_places};

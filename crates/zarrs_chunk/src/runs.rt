@@ -1,8 +1,8 @@
 //! Runs of consecutive places.
-ghost use Rattle.std.specs.Prelude.{◌≡◌, ◌≢◌, ◌<◌, ◌≤◌, ◌+◌, ◌-◌, ◌^◌, ◌++◌, ◌∷◌, [], ℕ, length, take, slice_index, true, IfOk, OnOk, Ok, All, ◌↔◌};
+ghost use Rattle.std.specs.Prelude.{◌≡◌, ◌≢◌, ◌<◌, ◌≤◌, ◌+◌, ◌-◌, ◌^◌, ◌++◌, ◌∷◌, [], ℕ, length, min, take, slice_index, true, IfOk, OnOk, Ok, All, ◌↔◌};
 ghost use Rattle.std.specs.List.{range_with_len};
 ghost use Rattle.zarrs_chunk.specs.Answer.{Gives};
-ghost use Rattle.zarrs_chunk.specs.Runs.{places_in, AreFilled, AreApart, EndsRun, AddsPlaces, KeepsBelow, EndsBelow};
+ghost use Rattle.zarrs_chunk.specs.Runs.{joined_runs, places_in, AreFilled, AreApart, EndsRun, AddsPlaces, KeepsBelow, EndsBelow};
 
 use crate::codec_error::CodecError;
 use std::alloc::{AllocError, Global};
@@ -43,6 +43,17 @@ fn count_runs(places: &[u64]) -> usize
     count
 }
 
+/// How many places the runs have, or `u64::MAX` where they have more.
+pub fn count_places(runs: &[(u64, u64)]) -> u64
+    ensures count { result ≡ min (length (joined_runs runs.now)) (2 ^ 64 - 1) }
+{
+    let mut count: u64 = 0;
+    for (_, len) in runs {
+        count = count.saturating_add(*len);
+    }
+    count
+}
+
 /// One place more behind those of the runs: the last run grows where the place follows it.
 pub fn append_place(runs: &mut Vec<(u64, u64)>, place: u64) -> Result<(), AllocError>
     requires room { place + 1 < 2 ^ 64 }
@@ -65,7 +76,7 @@ pub fn append_place(runs: &mut Vec<(u64, u64)>, place: u64) -> Result<(), AllocE
 
 /// These places in runs of a start and a length, in their order. Neighbours that follow one another
 /// are one run, so there are no more runs than places, none is empty, and none starts where the one
-/// before it ends. Refusals: `OutOfMemory`.
+/// before it ends. Errors: `OutOfMemory`.
 pub fn runs_of_places(alloc: Global, places: &[u64]) -> Result<Vec<(u64, u64)>, CodecError>
     ensures places { Gives places_in result (Ok places.now) }
     ensures filled { IfOk result (λ v. AreFilled v.items) }

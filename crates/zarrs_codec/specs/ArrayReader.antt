@@ -1,5 +1,5 @@
 -- What contracts see of a partial decoder of chunks.
-use Rattle.std.specs.Prelude.{◌≡◌, ℕ, Bool, ◌&&◌, List, length, Result, Ok, Err, IfErr}
+use Rattle.std.specs.Prelude.{◌≡◌, ℕ, Bool, true, ◌&&◌, List, length, Result, Ok, Err, IfErr}
 use Rattle.zarrs_chunk.specs.Answer.{◌>>=◌, AnswersBy, memory, memory_or_fault}
 use Rattle.zarrs_chunk.specs.Indexer.{selection_of}
 use Rattle.zarrs_chunk.specs.Selection.{Selection, bounds_of, tuples_of}
@@ -12,30 +12,37 @@ use Rattle.zarrs_array_bytes.specs.Validity.{Holds}
 use Rattle.zarrs_codec.specs.CoordinateMap.{CoordinateMap}
 use Rattle.zarrs_codec.specs.MappedSelection.{image_of}
 
--- The sizes of the chunk that is read, and the type of its elements; whether it is stored; what is answered of a selection, its elements or the first cause of a refusal; and whether a part is read without the rest.
+-- The sizes of the chunk that is read, and the type of its elements; whether it is stored; what is answered of a selection, its elements or the first error; of which selections a read never meets a failure of the handle; and whether a part is read without the rest.
 pub record ArrayReader : Type 0 where
   pub sizes : List ℕ
   pub type : ElementType
   pub is_stored : Bool
   pub answer : Selection → Result Chunk CodecError
+  pub sure : Selection → Bool
   pub in_part : Bool
 
--- The reader of a decoded chunk of these sizes over one of the encoded chunk: it answers what that one answers where it is asked for the encoded selection.
+-- whether a read is sure that asks for this image of its selection, or fails before it asks
+abbrev pub image_is_sure : (Selection → Bool) → Result Selection CodecError → Bool
+image_is_sure sure (Ok image) = sure image
+image_is_sure sure (Err _) = true
+
+-- The reader of a decoded chunk of these sizes over one of the moved chunk: it answers what that one answers where it is asked for the encoded selection, and is as sure, since it asks for no more.
 abbrev pub mapped_reader : Result CoordinateMap CodecError → (List ℕ → Selection → Selection) → Bool → List ℕ → ArrayReader → ArrayReader
 mapped_reader coordinates asked in_part sizes input = record {
   sizes = sizes;
   type = input.type;
   is_stored = input.is_stored;
   answer = λ selection. image_of coordinates asked sizes selection >>= input.answer;
+  sure = λ selection. image_is_sure input.sure (image_of coordinates asked sizes selection);
   in_part = in_part && input.in_part;
 }
 
--- The answer is a container of the elements that the reader answers of the selection, or the reader's first refusal. Only a want of memory or a failure of the handle may come in its place.
+-- The answer is a container of the elements that the reader answers of the selection, or the reader's first error. Only lack of memory or a failure of the handle may come in its place.
 abbrev pub ReadsSelection : ArrayReader → Selection → Result Held CodecError → Type 0
 ReadsSelection reader selection result =
     AnswersBy memory_or_fault (Holds reader.type) result (reader.answer selection)
 
--- A read by an indexer that the chunk has no room for answers the cause, or a want of memory: no failure of the handle comes in its place.
+-- A read by an indexer that the chunk has no room for answers that error, or lack of memory: no failure of the handle comes in its place.
 abbrev pub IndexerFirstOfRead : ArrayReader → Indexer → Result Held CodecError → Type 0
 IndexerFirstOfRead reader indexer result =
     IfErr (bounds_of (selection_of indexer) reader.sizes) (λ cause. AnswersBy memory (Holds reader.type) result (Err cause))

@@ -13,7 +13,7 @@ use Rattle.zarrs_codec.specs.CoordinateMap.{CoordinateMap}
 use Rattle.zarrs_codec.specs.MappedSelection.{image_of}
 use Rattle.zarrs_codec.specs.StorageState.{StorageState, after_reading, after_writing, apart_from_value, value_or_empty}
 
--- What is read where this value, or none, is stored; whether new elements at a selection are refused whatever is stored, and the first cause; and the value that writing them leaves of the stored one, or the first cause of a refusal.
+-- What is read where this value, or none, is stored; whether new elements at a selection are rejected whatever is stored, with the first error; and the value that writing them leaves of the stored one, or the first error.
 pub record ArrayWriter : Type 0 where
   pub reads : Option (List ℕ) → ArrayReader
   pub checks : Selection → Held → Result (Unit {0}) CodecError
@@ -22,12 +22,12 @@ pub record ArrayWriter : Type 0 where
 -- what stands in the place of one where a chunk is only read: nothing is asked of it
 abbrev pub no_writer : ArrayWriter
 no_writer = record {
-  reads = λ stored. record { sizes = []; type = bytes; is_stored = is_some stored; answer = λ selection. Ok []; in_part = false };
+  reads = λ stored. record { sizes = []; type = bytes; is_stored = is_some stored; answer = λ selection. Ok []; sure = λ selection. false; in_part = false };
   checks = λ selection new. no_refusal;
   written = λ stored selection new. Ok (value_or_empty stored);
 }
 
--- The writer of a decoded chunk of these sizes over one of the encoded chunk: what that one is asked for, and given the same elements at, is the encoded selection.
+-- The writer of a decoded chunk of these sizes over one of the moved chunk: what that one is asked for, and given the same elements at, is the encoded selection.
 abbrev pub mapped_writer : Result CoordinateMap CodecError → (List ℕ → Selection → Selection) → Bool → List ℕ → ArrayWriter → ArrayWriter
 mapped_writer coordinates asked in_part sizes input = record {
   reads = λ stored. mapped_reader coordinates asked in_part sizes (input.reads stored);
@@ -40,39 +40,39 @@ pub record ChecksData (reader : ArrayReader) (writer : ArrayWriter) : Type 0 whe
   pub bounds : (selection : Selection) (new : Held) → IfErr (bounds_of selection reader.sizes) (λ cause. writer.checks selection new ≡ Err cause)
   pub fit : (selection : Selection) (new : Held) → writer.checks selection new ≡ Ok tt → data_fit reader.type (length (tuples_of selection)) new ≡ Ok tt
 
--- what a refused write leaves of the handle: nothing was written, and all is as a reading call leaves it that answers the same; or the one writing call that was made was refused
+-- what a failed write leaves of the handle: nothing was written, and all is as a reading call leaves it that answers the same; or the one writing call that was made failed
 abbrev pub IsRefusedWrite : {T : Type 0} → Result T CodecError → StorageState → StorageState → Type 0
 IsRefusedWrite result old new =
     (new ≡ after_reading result old) ⊎ (apart_from_value new ≡ after_writing result old)
 
--- the same of a call of a coder: `state` says what it knows of its handle
+-- the same of a call of a coder: `state` is what it knows of its handle
 abbrev pub LeftByRefusal : {C T : Type 0} → (C → StorageState) → C → C → Result T CodecError → Type 0
 LeftByRefusal state before after result = IsRefusedWrite result (state before) (state after)
 
--- the value that is stored once new elements are written at an indexer's places, or the first cause of a refusal
+-- the value that is stored once new elements are written at an indexer's places, or the first error
 abbrev pub written_value : ArrayWriter → StorageState → Indexer → Held → Result (Option (List ℕ)) CodecError
 written_value writer state indexer new = seen Some (writer.written state.value (selection_of indexer) new)
 
--- that new elements can be written at an indexer's places, as far as that is seen without the handle, or the first cause why not
+-- that new elements can be written at an indexer's places, as far as that is seen without the handle, or the first error
 abbrev pub edit_check : ArrayWriter → Indexer → Held → Result (Unit {0}) CodecError
 edit_check writer indexer new = writer.checks (selection_of indexer) new
 
--- The value afterwards is the one that is stored once new elements are written at an indexer's places, or the first refusal is answered; a want of memory or a failure of the handle may come in its place. `state` and `writer` say what a coder keeps and what it writes.
+-- The value afterwards is the one that is stored once new elements are written at an indexer's places, or the first error is returned; lack of memory or a failure of the handle may come in its place. `state` and `writer` are what a coder keeps and what it writes.
 abbrev pub WritesPart : {C : Type 0} → (C → StorageState) → (C → ArrayWriter) → C → C → Indexer → Held → Result (Unit {0}) CodecError → Type 0
 WritesPart state writer before after indexer new result =
     Answers memory_or_fault (λ _. (state after).value) result (written_value (writer before) (state before) indexer new)
 
--- new elements that are refused without the handle leave all as it was
+-- new elements that are rejected without the handle leave all as it was
 abbrev pub KeptIfUnfit : {C : Type 0} → (C → StorageState) → (C → ArrayWriter) → C → C → Indexer → Held → Type 0
 KeptIfUnfit state writer before after indexer new =
     OnErr (edit_check (writer before) indexer new) (state after ≡ state before)
 
--- A write by an indexer that the chunk has no room for answers the cause, or a want of memory: no failure of the handle comes in its place.
+-- A write by an indexer that the chunk has no room for answers that error, or lack of memory: no failure of the handle comes in its place.
 abbrev pub IndexerFirst : ArrayReader → Indexer → Result (Unit {0}) CodecError → Type 0
 IndexerFirst reader indexer result =
     IfErr (bounds_of (selection_of indexer) reader.sizes) (λ cause. Answers memory (λ done. done) result (Err cause))
 
--- What can be seen without the handle, of the indexer and of the new elements, is refused with its cause, or for want of memory: no failure of the handle comes in its place.
+-- What can be seen without the handle, of the indexer and of the new elements, fails with its error, or for lack of memory: no failure of the handle comes in its place.
 abbrev pub ChecksFirst : ArrayWriter → Indexer → Held → Result (Unit {0}) CodecError → Type 0
 ChecksFirst writer indexer new result =
     IfErr (edit_check writer indexer new) (λ cause. Answers memory (λ done. done) result (Err cause))

@@ -25,7 +25,7 @@ with_zeros value count = value ++ replicate (count - length value) 0
 abbrev pub with_pieces : List ℕ → List (ℕ × ℕ) → List ℕ → List ℕ
 with_pieces value pieces bytes = update (with_zeros value (furthest_end pieces)) (joined_runs pieces) bytes
 
--- pieces can be written with so many bytes: each ends below 2^64, so many are they together, and so many bytes are there; or the first cause why not
+-- pieces can be written with so many bytes: each ends below 2^64, so many are they together, and so many bytes are there; or the first error
 abbrev pub pieces_fit : List (ℕ × ℕ) → ℕ → Result (Unit {0}) CodecError
 pieces_fit pieces count = do
   _ ← demand (list_all (λ piece. nat_lt (piece.0 + piece.1) (2 ^ 64)) pieces) Overflow

@@ -1,5 +1,5 @@
 -- The bytes of a stored value, by ranges of them.
-use Rattle.std.specs.Prelude.{◌≡◌, ℕ, ◌-◌, ◌<◌, nat_le, Bool, true, false, Option, Some, None, List, length, slice_index, Result, Ok}
+use Rattle.std.specs.Prelude.{◌≡◌, ℕ, ◌-◌, ◌^◌, ◌<◌, nat_le, min, if◌then◌else◌, Bool, true, false, Option, Some, None, List, length, slice_index, Result, Ok}
 use Rattle.std.specs.List.{between, flat_map, list_all, range_with_len}
 use Rattle.zarrs_chunk.specs.Answer.{◌>>=◌, demand}
 use Rattle.zarrs_chunk.specs.declared.codec_error.CodecError.{CodecError}
@@ -11,6 +11,11 @@ use Rattle.zarrs_codec.specs.StorageState.{StorageState, are_sure}
 abbrev pub range_indices : List ByteSpan → List ℕ
 range_indices ranges = flat_map (λ range. range_with_len range.start (range.end - range.start)) ranges
 
+-- how many bytes the ranges of a value of so many bytes have, counted up to 2^64 - 1; none where one of them ends past the value
+abbrev pub room_of : ℕ → List ByteSpan → ℕ
+room_of len ranges =
+    if list_all (λ range. nat_le range.end len) ranges then min (length (range_indices ranges)) (2 ^ 64 - 1) else 0
+
 -- all bytes of the ranges are sure to be read
 abbrev pub ranges_are_sure : StorageState → List ByteSpan → Bool
 ranges_are_sure state ranges = are_sure state.sure (range_indices ranges)
@@ -20,7 +25,7 @@ abbrev pub IsPieceOf : List ℕ → ByteSpan → List ℕ → Type 0
 IsPieceOf value range bytes =
     (bytes ≡ between range.start range.end value) × (nat_le range.end (length value) ≡ true)
 
--- the range ends past the value, and is refused for that
+-- the range ends past the value, and is rejected for that
 abbrev pub EndsOutside : List ℕ → ByteSpan → CodecError → Type 0
 EndsOutside value range error = (error ≡ InvalidByteRange) × (nat_le range.end (length value) ≡ false)
 

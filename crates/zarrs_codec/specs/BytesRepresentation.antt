@@ -1,4 +1,4 @@
--- How many bytes an encoded chunk has.
+-- How many bytes the value of a chunk has.
 use Rattle.std.specs.Prelude.{ℕ, Option, Some, None}
 use Rattle.zarrs_codec.specs.declared.bytes_representation.BytesRepresentation.{BytesRepresentation}
 use Rattle.zarrs_codec.specs.declared.bytes_representation.BytesRepresentation.TheVariants.{FixedSize, BoundedSize, UnboundedSize}

@@ -29,11 +29,11 @@ abbrev pub DecodesBytes : {B : Type 0} → BytesCodecs B → B → BytesRepresen
 DecodesBytes codecs codec representation encoded result =
     Gives items_of result (codecs.decoded_bytes codec representation (items_of encoded))
 
--- the answer is what the maker says that it makes of the metadata, or why it makes none
+-- the answer is what the maker makes of the metadata, or why it makes none
 abbrev pub MakesBy : {M T : Type 0} → (M → Metadata → Result T PluginCreateError) → M → MetadataV3 → Result T PluginCreateError → Type 0
 MakesBy makes maker metadata result = Makes (λ made. made) result (makes maker (metadata_seen metadata))
 
--- the bytes are as many as the representation says
+-- the bytes are as many as the representation states
 abbrev pub KeepsTo : BytesRepresentation → List ℕ → Type 0
 KeepsTo (FixedSize size) bytes = length bytes ≡ size
 KeepsTo (BoundedSize size) bytes = length bytes ≤ size
@@ -57,12 +57,12 @@ pub record IsValue (bytes : List ℕ) : Type 0 where
   pub each : AreBytes bytes
   pub small : length bytes < 2 ^ 64
 
--- the caller's codec refused
+-- the error is the caller's codec's
 abbrev pub IsBytesRefusal : CodecError → Type 0
 IsBytesRefusal (BytesCodec number) = Unit {0}
 IsBytesRefusal _ = ⊥
 
--- The laws: what is encoded is decoded again, and is as many bytes as was said, where it was as many as was said before; encoded bytes are bytes; what can't be decoded is refused with the codec's own number; and a greater size never gives a smaller one.
+-- The laws: what is encoded is decoded again, and is as many bytes as declared, where it was as many as declared before; encoded bytes are bytes; what can't be decoded fails with the codec's own number; and a greater size never gives a smaller one.
 pub record IsLawful {B : Type 0} (codecs : BytesCodecs B) : Type 0 where
   pub decode_undoes :
       (codec : B) (r : BytesRepresentation) (bytes : List ℕ) → IsValue bytes → KeepsTo r bytes → length (codecs.encoded_bytes codec bytes) < 2 ^ 64 → codecs.decoded_bytes codec r (codecs.encoded_bytes codec bytes) ≡ Ok bytes

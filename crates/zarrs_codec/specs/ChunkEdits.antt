@@ -10,14 +10,14 @@ use Rattle.zarrs_array_bytes.specs.Held.{Held}
 use Rattle.zarrs_array_bytes.specs.Update.{update}
 use Rattle.zarrs_array_bytes.specs.Validity.{data_fit}
 
--- the places of a selection, where there is one new element for each, or the first refusal
+-- the places of a selection, where there is one new element for each, or the first error
 abbrev pub data_places : List ℕ → ElementType → Selection → Held → Result (List ℕ) CodecError
 data_places sizes type selection new = do
   places ← places_of selection sizes
   _ ← data_fit type (length places) new
   Ok places
 
--- that there is one new element for each place of a selection, or the first refusal
+-- that there is one new element for each place of a selection, or the first error
 abbrev pub data_checked : List ℕ → ElementType → Selection → Held → Result (Unit {0}) CodecError
 data_checked sizes type selection new = seen (λ _. tt) (data_places sizes type selection new)
 
@@ -25,7 +25,7 @@ data_checked sizes type selection new = seen (λ _. tt) (data_places sizes type 
 abbrev pub with_elements : ElementType → Chunk → List ℕ → Held → Chunk
 with_elements type chunk places new = update chunk places (elements type (length places) new)
 
--- the chunk with new elements at a selection, or the first refusal
+-- the chunk with new elements at a selection, or the first error
 abbrev pub edited_chunk : List ℕ → ElementType → Chunk → Selection → Held → Result Chunk CodecError
 edited_chunk sizes type chunk selection new = do
   places ← data_places sizes type selection new

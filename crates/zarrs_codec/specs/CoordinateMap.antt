@@ -6,7 +6,7 @@ use Rattle.zarrs_chunk.specs.declared.codec_error.CodecError.{CodecError}
 use Rattle.zarrs_data_type.specs.Element.{Chunk}
 use Rattle.zarrs_array_bytes.specs.Elements.{select}
 
--- the sizes of the encoded chunk, the place in it of each place of the decoded chunk, and the way back
+-- the sizes of the moved chunk, the place in it of each place of the decoded chunk, and the way back
 pub record CoordinateMap : Type 0 where
   pub encoded : List ℕ
   pub to : ℕ → ℕ
@@ -49,10 +49,10 @@ composition first second = record {
 abbrev pub inverse_map : List ℕ → CoordinateMap → CoordinateMap
 inverse_map sizes m = record { encoded = sizes; to = m.from; from = m.to }
 
--- for each place of the encoded chunk, the place that its element comes from
+-- for each place of the moved chunk, the place that its element comes from
 abbrev pub origins : CoordinateMap → List ℕ
 origins m = map m.from (range_with_len 0 (product m.encoded))
 
--- the encoded chunk
+-- the moved chunk
 abbrev pub moved_chunk : CoordinateMap → Chunk → Chunk
 moved_chunk m chunk = select chunk (origins m)

@@ -10,14 +10,14 @@ use Rattle.zarrs_array_bytes.specs.DecodeTarget.{TargetHolds, target_fit}
 use Rattle.zarrs_array_bytes.specs.declared.array_bytes_decode_into_target.ArrayBytesDecodeIntoTarget.{ArrayBytesDecodeIntoTarget}
 use Rattle.zarrs_codec.specs.declared.bytes_representation.BytesRepresentation.{BytesRepresentation}
 
--- the chunk that is written, or the first refusal: the codec's representation, the target, the value
+-- the chunk that is written, or the first error: the codec's representation, the target, the value
 abbrev pub decoded_into : {R : Type 0} → Result R CodecError → Result (Unit {0}) CodecError → Result Chunk CodecError → Result Chunk CodecError
 decoded_into representation fit chunk = do
   _ ← representation
   _ ← fit
   chunk
 
--- The chunk that the codec tells of the value is written at the target's places, or the first refusal is answered: of the codec's representation, of the target, of the value. Only a want of memory may come in its place.
+-- The chunk that the codec reads of the value is written at the target's places, or the first error is returned: of the codec's representation, of the target, of the value. Only lack of memory may come in its place.
 abbrev pub DecodesInto : (Form → Result BytesRepresentation CodecError) → (Form → List ℕ → Result Chunk CodecError) → ArrayBytesDecodeIntoTarget → ArrayBytesDecodeIntoTarget → Form → List ℕ → Result (Unit {0}) CodecError → Type 0
 DecodesInto represented decoded before after form value result =
     AnswersBy memory (λ _ chunk. TargetHolds form.type (target_of before) (target_of after) chunk) result

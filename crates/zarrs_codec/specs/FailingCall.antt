@@ -26,7 +26,7 @@ pub record FailsInTurn {T : Type 0} (result : Result T CodecError) (before after
   pub failure : last_failure result None ≡ failure_due before
   pub counted : after ≡ turn_after before
 
--- whether a growth was refused in the call that gave this result
+-- whether memory was lacking in the call that gave this result
 abbrev pub wants_memory : {T : Type 0} → Result T CodecError → Bool
 wants_memory (Ok _) = false
 wants_memory (Err e) = memory e

@@ -5,6 +5,7 @@ pub mod ByteRanges
 pub mod ByteSpan
 pub mod BytesRepresentation
 pub mod BytesToBytesCodec
+pub mod Calls
 pub mod ChunkCodec
 pub mod ChunkEdits
 pub mod CodecMembers
@@ -14,8 +15,10 @@ pub mod FailingCall
 pub mod FailingHandle
 pub mod FencedHandle
 pub mod Grammar
+pub mod Lent
 pub mod HandleCalls
 pub mod MadeAgain
+pub mod RecordingHandle
 pub mod SampleBytesCodec
 pub mod SampleLaws
 pub mod SampleMetadata

@@ -11,12 +11,12 @@ use Rattle.zarrs_codec.specs.CoordinateMap.{CoordinateMap}
 use Rattle.zarrs_codec.specs.CountLaws.{passed}
 use Rattle.zarrs_codec.specs.MappedSelection.{image_of, KeepsCount}
 
--- where the bounds are refused, so is what comes behind them
+-- where the bounds are rejected, so is what comes behind them
 refused_first : {A B : Type 0} (bounds : Result (Unit {0}) CodecError) (next : Unit {0} → Result A CodecError) (last : A → Result B CodecError) → IfErr bounds (λ cause. (bounds >>= next) >>= last ≡ Err cause)
 refused_first (Ok u) next last = tt
 refused_first (Err c) next last = refl
 
--- what is asked for of the encoded chunk behind the bounds
+-- what is asked for of the moved chunk behind the bounds
 abbrev pub asked_behind : Result CoordinateMap CodecError → (List ℕ → Selection → Selection) → Selection → Unit {0} → Result Selection CodecError
 asked_behind coordinates asked selection _ = do
   m ← coordinates

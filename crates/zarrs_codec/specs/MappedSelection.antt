@@ -1,4 +1,4 @@
--- The places of a selection in an encoded chunk.
+-- The places of a selection in a moved chunk.
 use Rattle.std.specs.Prelude.{◌≡◌, ℕ, List, length, map, Result, Ok, IfOk, IsOkAnd}
 use Rattle.zarrs_chunk.specs.Answer.{◌>>=◌, Gives}
 use Rattle.zarrs_chunk.specs.Indexer.{selection_of}
@@ -8,12 +8,12 @@ use Rattle.zarrs_chunk.specs.declared.codec_error.CodecError.{CodecError}
 use Rattle.zarrs_chunk.specs.declared.indexer.Indexer.{Indexer}
 use Rattle.zarrs_codec.specs.CoordinateMap.{CoordinateMap}
 
--- The second selection, of the encoded chunk, lies inside it, and means there, in the same order, the elements that the first one means of the decoded chunk.
+-- The second selection, of the moved chunk, lies inside it, and selects there, in the same order, the elements that the first one selects of the decoded chunk.
 pub record IsImage (sizes : List ℕ) (m : CoordinateMap) (selection image : Selection) : Type 0 where
   pub inside : bounds_of image m.encoded ≡ Ok tt
   pub places : map (row_major m.encoded) (tuples_of image) ≡ map m.to (map (row_major sizes) (tuples_of selection))
 
--- What is asked for of an encoded chunk, or the first cause of a refusal: the selection's bounds, then the codec's, then the count of elements.
+-- What is asked for of a moved chunk, or the first error: the selection's bounds, then the codec's, then the count of elements.
 abbrev pub image_of : Result CoordinateMap CodecError → (List ℕ → Selection → Selection) → List ℕ → Selection → Result Selection CodecError
 image_of coordinates asked sizes selection = do
   _ ← bounds_of selection sizes
@@ -25,7 +25,7 @@ image_of coordinates asked sizes selection = do
 abbrev pub IsImageBy : Result CoordinateMap CodecError → List ℕ → Selection → Selection → Type 0
 IsImageBy coordinates sizes selection image = IsOkAnd coordinates (λ m. IsImage sizes m selection image)
 
--- The answer is the indexer of what is asked for of the encoded chunk, or the first refusal.
+-- The answer is the indexer of what is asked for of the moved chunk, or the first error.
 abbrev pub AsksImage : (List ℕ → Result CoordinateMap CodecError) → (List ℕ → List ℕ → Selection → Selection) → List ℕ → Indexer → Result Indexer CodecError → Type 0
 AsksImage coordinates asked sizes indexer result =
     Gives selection_of result (image_of (coordinates sizes) (asked sizes) sizes (selection_of indexer))
@@ -34,7 +34,7 @@ AsksImage coordinates asked sizes indexer result =
 abbrev pub AsksBy : {C : Type 0} → (C → List ℕ → Result CoordinateMap CodecError) → (C → List ℕ → List ℕ → Selection → Selection) → C → List ℕ → Indexer → Result Indexer CodecError → Type 0
 AsksBy coordinates asked codec sizes indexer result = AsksImage (coordinates codec) (asked codec) sizes indexer result
 
--- the indexer that is answered means of the encoded chunk, in the same order, the elements that the given one means
+-- the indexer that is answered selects of the moved chunk, in the same order, the elements that the given one selects
 abbrev pub KeepsPlaces : (List ℕ → Result CoordinateMap CodecError) → List ℕ → Indexer → Result Indexer CodecError → Type 0
 KeepsPlaces coordinates sizes indexer result =
     IfOk result (λ encoded. IsImageBy (coordinates sizes) sizes (selection_of indexer) (selection_of encoded))

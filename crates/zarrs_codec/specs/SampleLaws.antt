@@ -112,7 +112,7 @@ length_grows (BoundedSize m) (BoundedSize n) h = grown m n BoundedSize BoundedSi
 length_grows UnboundedSize (FixedSize n) h = absurd h
 length_grows UnboundedSize (BoundedSize n) h = absurd h
 
--- ---- refusals
+-- ---- errors
 
 abbrev okay : List ℕ → Result (List ℕ) CodecError
 okay bytes = Ok bytes

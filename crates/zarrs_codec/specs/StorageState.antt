@@ -71,13 +71,13 @@ after_writing result state =
       accepted_writes = count_if (is_ok result) state.accepted_writes;
     }
 
--- ---- what a call leaves: `state` says what its object keeps of the handle
+-- ---- what a call leaves: `state` is what its object keeps of the handle
 
 -- the value is as it was
 abbrev pub SameValue : {C : Type 0} → (C → StorageState) → C → C → Type 0
 SameValue state before after = (state after).value ≡ (state before).value
 
--- a call that is refused leaves the value where its writing calls are atomic
+-- a call that fails leaves the value where its writing calls are atomic
 abbrev pub KeptIfAtomic : {C T : Type 0} → Bool → (C → StorageState) → C → C → Result T CodecError → Type 0
 KeptIfAtomic atomic state before after result = OnErr result (atomic ≡ true → SameValue state before after)
 

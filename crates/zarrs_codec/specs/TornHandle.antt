@@ -31,11 +31,11 @@ abbrev pub half_of_pieces : List (ℕ × ℕ) → List ℕ → Option (List ℕ)
 half_of_pieces pieces bytes value =
     half_of_made (pieces_fit pieces (length bytes)) (with_pieces (value_or_empty value) pieces bytes) value
 
--- what a refused write leaves: what is torn, where the handle failed in it, and else the value as it was
+-- what a failed write leaves: what is torn, where the handle failed in it, and else the value as it was
 abbrev pub torn_or_kept : {T : Type 0} → Result T CodecError → Option (List ℕ) → Option (List ℕ) → Option (List ℕ)
 torn_or_kept result torn value = if is_fault result then torn else value
 
--- the same of a call: `torn` says what is torn of the value that there was
+-- the same of a call: `torn` is what is torn of the value that there was
 abbrev pub Tears : {T : Type 0} → (Option (List ℕ) → Option (List ℕ)) → TornHandle → TornHandle → Result T CodecError → Type 0
 Tears torn before after result =
     OnErr result ((torn_state after).value ≡ torn_or_kept result (torn (torn_state before).value) (torn_state before).value)

@@ -1,11 +1,12 @@
-ghost use Rattle.std.specs.Prelude.{◌≡◌, ℕ, Option, IfOk};
-ghost use Rattle.std.specs.Borrow.{GName};
+//! Readers of chunks in part.
+ghost use Rattle.std.specs.Prelude.{◌≡◌, ℕ, List, IfOk};
 ghost use Rattle.zarrs_chunk.specs.Indexer.{selection_of};
-ghost use Rattle.zarrs_array_bytes.specs.Blank.{AbsentAreBlank};
+ghost use Rattle.zarrs_array_bytes.specs.Tight.{IsTight};
 ghost use Rattle.zarrs_codec.specs.ArrayReader.{ArrayReader, IsCounted, ReadsSelection, IndexerFirstOfRead};
 ghost use Rattle.zarrs_codec.specs.ArrayWriter.{ArrayWriter, no_writer};
 ghost use Rattle.zarrs_codec.specs.CodersOverHandles.{OnlyReads};
-ghost use Rattle.zarrs_codec.specs.HandleCalls.{Tells};
+ghost use Rattle.zarrs_codec.specs.HandleCalls.{NeverFailsIf, Tells};
+ghost use Rattle.zarrs_codec.specs.Lent.{Lent};
 ghost use Rattle.zarrs_codec.specs.StorageState.{StorageState};
 
 use std::alloc::Global;
@@ -13,7 +14,7 @@ use zarrs_array_bytes::ArrayBytes;
 use zarrs_chunk::{CodecError, Indexer};
 use zarrs_data_type::DataType;
 
-/// Reads a chunk in part, over a storage handle or over the reader of an encoded chunk.
+/// Reads a chunk in part, over a storage handle or over the reader of a moved chunk.
 ///
 /// Reading leaves what the reader answers as it is, and of the handle all but the failure that is
 /// answered.
@@ -24,10 +25,10 @@ pub trait ArrayPartialDecoderTraits {
     // What is read of each value that may be stored, and what a write leaves of it. A chunk that is only read needs none.
     ghost writer: { Self → ArrayWriter } = { λ _. no_writer };
 
-    // The handle under the reader, and the name of the reference that it is, where it is one.
+    // The handle under the reader, and the references that it is made of.
     ghost state: { Self → StorageState };
 
-    ghost lent: { Self → Option GName };
+    ghost lent: { Self → List Lent };
 
     // How many bytes are kept in memory.
     ghost held: { Self → ℕ };
@@ -36,7 +37,7 @@ pub trait ArrayPartialDecoderTraits {
     fn data_type(&self) -> &DataType
         ensures value { result.now ≡ (reader self.now).type };
 
-    /// Whether the chunk is stored. Refusals: `Storage`.
+    /// Whether the chunk is stored. Errors: `Storage`.
     fn exists(&mut self) -> Result<bool, CodecError>
         ensures answer { Tells result (reader self.old).is_stored }
         ensures left { OnlyReads state lent reader self.old self.new result }
@@ -46,9 +47,11 @@ pub trait ArrayPartialDecoderTraits {
     fn size_held(&self) -> usize
         ensures value { result ≡ held self.now };
 
-    /// The elements that the indexer means, in its order, with blank elements under absent ones.
-    /// Refusals: those of `Indexer::check` at the chunk's shape come before the handle is asked;
-    /// `Storage`, `OutOfMemory`, and those of the codecs.
+    /// The elements that the indexer selects, in its order, in a container that they fix: offsets begin
+    /// at 0, mask bytes are 0 or 1, and blank elements stand under absent ones.
+    /// Errors: those of `Indexer::check` at the chunk's shape come before the handle is asked;
+    /// `Storage`, but never for an indexer of which the reader is sure; `OutOfMemory`, and those of
+    /// the codecs.
     fn partial_decode(
         &mut self,
         alloc: Global,
@@ -56,7 +59,8 @@ pub trait ArrayPartialDecoderTraits {
     ) -> Result<ArrayBytes<'static>, CodecError>
         ensures answer { ReadsSelection (reader self.old) (selection_of indexer.now) result }
         ensures indexer_first { IndexerFirstOfRead (reader self.old) indexer.now result }
-        ensures blank { IfOk result (AbsentAreBlank (reader self.old).type) }
+        ensures sure { NeverFailsIf ((reader self.old).sure (selection_of indexer.now)) result }
+        ensures tight { IfOk result (IsTight (reader self.old).type) }
         ensures left { OnlyReads state lent reader self.old self.new result }
         ensures writer_kept { writer self.new ≡ writer self.old };
 

@@ -1,3 +1,4 @@
+//! Writers of chunks in part.
 ghost use Rattle.std.specs.Prelude.{◌≡◌, Bool, None, Ok};
 ghost use Rattle.zarrs_chunk.specs.Answer.{Answers, fault};
 ghost use Rattle.zarrs_codec.specs.ArrayWriter.{ChecksData, ChecksFirst, IndexerFirst, KeptIfUnfit, WritesPart};
@@ -9,21 +10,22 @@ use std::alloc::Global;
 use zarrs_array_bytes::ArrayBytes;
 use zarrs_chunk::{CodecError, Indexer};
 
-/// Writes a chunk in part, over a storage handle or over the writer of an encoded chunk.
+/// Writes a chunk in part, over a storage handle or over the writer of a moved chunk.
 ///
-/// A call that is accepted makes exactly one writing call of the handle. One that is refused makes
-/// none, or the one that refused it, and leaves the stored value as it was, but where that writing
-/// call may leave any. What is read afterwards is what the value tells that is stored then.
+/// A call that is accepted makes exactly one writing call of the handle. One that fails makes none, or
+/// the one that failed, and leaves the stored value as it was, but where that writing call may leave
+/// any. One that answers neither `Storage` nor `OutOfMemory` leaves the handle as it was. What is read
+/// afterwards is what the value stands for that is stored then.
 pub trait ArrayPartialEncoderTraits: ArrayPartialDecoderTraits {
-    // Whether a writing call of the handle that is refused leaves the value as it was.
+    // Whether a writing call of the handle that fails leaves the value as it was.
     ghost atomic: { Bool };
 
     // Whether a part is written without the rest of the chunk.
     ghost writes_part: { Self → Bool };
 
-    /// Writes these elements at the places that the indexer means, in its order: where a place comes
+    /// Writes these elements at the places that the indexer selects, in its order: where a place comes
     /// twice, the last one stands. Where nothing is stored, the chunk begins as fill values, and all
-    /// of it is written, for an indexer without places too. Refusals, the first that holds: those of
+    /// of it is written, for an indexer without places too. Errors, the first that holds: those of
     /// `Indexer::check` at the chunk's shape; those of `ArrayBytes::validate_data` for so many places
     /// (`ArrayBytesKind`, `DataMismatch`); then, once the handle is asked, those of the codecs and
     /// `Storage`. `OutOfMemory` may come at any time.
@@ -43,7 +45,7 @@ pub trait ArrayPartialEncoderTraits: ArrayPartialDecoderTraits {
         ensures checked_first { ChecksFirst (Self.writer self.old) indexer.now elements.now result }
         ensures indexer_first { IndexerFirst (Self.reader self.old) indexer.now result };
 
-    /// Leaves no value; there may have been none. Refusals: `Storage`.
+    /// Leaves no value; there may have been none. Errors: `Storage`.
     fn erase(&mut self) -> Result<(), CodecError>
         ensures answer { Answers fault (λ _. (Self.state self.new).value) result (Ok None) }
         ensures left { LeftByWriting Self.state self.old self.new result }
@@ -55,10 +57,10 @@ pub trait ArrayPartialEncoderTraits: ArrayPartialDecoderTraits {
     fn supports_partial_encode(&self) -> bool
         ensures value { result ≡ writes_part self.now };
 
-    // What is read is what the stored value tells.
+    // What is read is what the stored value stands for.
     ghost tells: { (encoder : Self) → Self.reader encoder ≡ (Self.writer encoder).reads (Self.state encoder).value };
 
-    // What is refused whatever is stored are selections that aren't inside the chunk, and new elements
+    // What is rejected whatever is stored are selections that aren't inside the chunk, and new elements
     // that don't fit.
     ghost checks_data: { (encoder : Self) → ChecksData (Self.reader encoder) (Self.writer encoder) };
 }

@@ -1,10 +1,12 @@
+//! Codecs that make the value of a chunk.
 ghost use Rattle.std.specs.Prelude.{◌≡◌, ℕ, List, Result, Ok, IfOk, OnErr, false};
 ghost use Rattle.zarrs_chunk.specs.Answer.{is_fault};
 ghost use Rattle.zarrs_chunk.specs.declared.codec_error.CodecError.{CodecError};
 ghost use Rattle.zarrs_data_type.specs.Element.{Chunk};
+ghost use Rattle.zarrs_data_type.specs.ElementType.{ElementType};
 ghost use Rattle.zarrs_data_type.specs.Form.{Form, form_of};
 ghost use Rattle.zarrs_array_bytes.specs.ArrayBytesDecodeIntoTarget.{target_of, target_names};
-ghost use Rattle.zarrs_array_bytes.specs.Blank.{AbsentAreBlank};
+ghost use Rattle.zarrs_array_bytes.specs.Tight.{IsTight};
 ghost use Rattle.zarrs_array_bytes.specs.Held.{Held, items_of};
 ghost use Rattle.zarrs_codec.specs.ChunkCodec.{RepresentsBy, EncodesBy, DecodesBy, GivesValid, CompactsNone};
 ghost use Rattle.zarrs_codec.specs.CodecMembers.{FitsForm, DecodesAgain};
@@ -18,24 +20,27 @@ use zarrs_array_bytes::{ArrayBytes, ArrayBytesDecodeIntoTarget, ArrayBytesRaw};
 use zarrs_chunk::{ChunkShape, CodecError};
 use zarrs_data_type::{DataType, FillValue};
 
-/// A codec of chunks to bytes: the codec of a chain that makes a chunk's value, or a whole chain.
+/// An array-to-bytes codec: the codec of a chain that makes a chunk's value, or a whole chain.
 ///
 /// What it computes is a function of the chunk's shape, type and fill value, and of what is given.
 pub trait ArrayToBytesCodecTraits: ArrayCodecTraits {
-    // How many bytes a value has, or the first cause why the codec doesn't take such chunks.
+    // How many bytes a value has, or the first error.
     ghost represented: { Self → Form → Result BytesRepresentation CodecError };
 
-    // The value of the chunk that a container holds, or the first refusal.
+    // The value of the chunk that a container holds, or the first error.
     ghost encoded: { Self → Form → Held → Result (List ℕ) CodecError };
 
-    // The chunk that a value stands for, or the first refusal.
+    // The chunk that a value stands for, or the first error.
     ghost decoded: { Self → Form → List ℕ → Result Chunk CodecError };
 
-    // That the codec takes such chunks and the bytes codecs, where it has some, decode a value, or the first refusal.
+    // What the codec keeps of a chunk of such elements, which is decoded again of its value. All of it, where nothing else is declared.
+    ghost normal: { Self → ElementType → Chunk → Chunk } = { λ codec type chunk. chunk };
+
+    // That the codec accepts such chunks and the bytes-to-bytes codecs, where it has some, decode a value, or the first error.
     ghost opened: { Self → Form → List ℕ → Result (Unit {0}) CodecError };
 
-    /// How many bytes the value of such a chunk has. Refusals: those of chunks that the codec doesn't
-    /// take; `OutOfMemory`.
+    /// How many bytes the value of such a chunk has. Errors: those of chunks that the codec doesn't
+    /// accept; `OutOfMemory`.
     fn encoded_representation(
         &self,
         alloc: Global,
@@ -47,9 +52,9 @@ pub trait ArrayToBytesCodecTraits: ArrayCodecTraits {
         ensures answer { RepresentsBy (represented self.now)
             (form_of shape.now data_type.now fill_value.now) result };
 
-    /// The value of the chunk that `elements` hold, which `decode` takes. Refusals, the first that
-    /// holds, `OutOfMemory` aside: those of `encoded_representation`; those of
-    /// `ArrayBytes::validate`; the codec's own, which its `encode` names.
+    /// The value of the chunk that `elements` hold: `decode` gives of it what the codec keeps of the
+    /// chunk. Errors, the first that holds, `OutOfMemory` aside: those of `encoded_representation`;
+    /// those of `ArrayBytes::validate`; the codec's own, which its `encode` names.
     fn encode<'a>(
         &self,
         alloc: Global,
@@ -62,12 +67,13 @@ pub trait ArrayToBytesCodecTraits: ArrayCodecTraits {
         ensures answer { EncodesBy (encoded self.now)
             (form_of shape.now data_type.now fill_value.now) elements.entry result }
         // Wide: the three parameters of a form, as the Rust crate has them.
-        ensures decoded_again { DecodesAgain (decoded self.now)
-            (form_of shape.now data_type.now fill_value.now) result };
+        ensures decoded_again { DecodesAgain (decoded self.now) (normal self.now)
+            (form_of shape.now data_type.now fill_value.now) elements.entry result };
 
-    /// The chunk that a value stands for, with blank elements under absent ones. Refusals, the
-    /// first that holds, `OutOfMemory` aside: those of `encoded_representation`; the codec's own,
-    /// which its `decode` names.
+    /// The chunk that a value stands for, in a container that it fixes: offsets begin at 0, mask bytes
+    /// are 0 or 1, and blank elements stand under absent ones. Errors, the first that holds,
+    /// `OutOfMemory` aside: those of `encoded_representation`; the codec's own, which its `decode`
+    /// names.
     fn decode<'a>(
         &self,
         alloc: Global,
@@ -80,10 +86,10 @@ pub trait ArrayToBytesCodecTraits: ArrayCodecTraits {
         ensures answer { DecodesBy (decoded self.now)
             (form_of shape.now data_type.now fill_value.now) (items_of value.entry) result }
         ensures valid { GivesValid data_type.now shape.now result }
-        ensures blank { IfOk result (AbsentAreBlank data_type.now) };
+        ensures tight { IfOk result (IsTight data_type.now) };
 
     /// Writes the chunk that a value stands for at the target's places, in row-major order; all other
-    /// bytes of the target stay. It takes no memory for the elements beyond that of `decode`. Refusals,
+    /// bytes of the target stay. It takes no memory for the elements beyond that of `decode`. Errors,
     /// the first that holds, `OutOfMemory` aside, which all leave the target: those of
     /// `encoded_representation`; those of `ArrayBytesDecodeIntoTarget::check`, `UnsupportedTarget` and
     /// `TargetMismatch`; those of `decode`.
@@ -112,8 +118,8 @@ pub trait ArrayToBytesCodecTraits: ArrayCodecTraits {
     }
 
     /// A value of fewer bytes for the same chunk, where the codec can make one: `None`, since no codec
-    /// here can. Refusals, the first that holds, `OutOfMemory` aside: those of
-    /// `encoded_representation`; `BytesCodec` of the last bytes codec, then of the one before.
+    /// here can. Errors, the first that holds, `OutOfMemory` aside: those of
+    /// `encoded_representation`; `BytesCodec` of the last bytes-to-bytes codec, then of the one before.
     fn compact<'a>(
         &self,
         alloc: Global,
@@ -126,6 +132,6 @@ pub trait ArrayToBytesCodecTraits: ArrayCodecTraits {
         ensures answer { CompactsNone (opened self.now)
             (form_of shape.now data_type.now fill_value.now) (items_of value.entry) result };
 
-    // What is decoded is of chunks that the codec takes, and has as many elements as they have.
+    // What is decoded is of chunks that the codec accepts, and has as many elements as they have.
     ghost fits: { (codec : Self) (form : Form) (value : List ℕ) (chunk : Chunk) → decoded codec form value ≡ Ok chunk → FitsForm (represented codec form) form chunk };
 }

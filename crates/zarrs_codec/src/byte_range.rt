@@ -1,3 +1,4 @@
+//! Ranges of bytes.
 ghost use Rattle.std.specs.Prelude.{◌≡◌, ◌≤◌};
 ghost use Rattle.zarrs_codec.specs.ByteSpan.{MakesSpan};
 

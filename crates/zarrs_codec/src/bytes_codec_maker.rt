@@ -1,3 +1,4 @@
+//! What makes bytes-to-bytes codecs of their metadata.
 ghost use Rattle.std.specs.Prelude.{Option, Result};
 ghost use Rattle.zarrs_metadata.specs.Metadata.{Metadata};
 ghost use Rattle.zarrs_metadata.specs.declared.plugin_create_error.PluginCreateError.{PluginCreateError};
@@ -7,13 +8,13 @@ use std::alloc::Global;
 use zarrs_metadata::{MetadataV3, PluginCreateError};
 
 /// What makes codecs of bytes to bytes from metadata: the caller's own, for the names that it knows.
-/// What it makes of a metadata is a function of the metadata, want of memory aside.
+/// What it makes of a metadata is a function of the metadata, lack of memory aside.
 pub trait BytesCodecMaker<B> {
     // What it makes of a metadata: a codec; none, where it doesn't know the name; or why it makes
     // none.
     ghost makes: { Self → Metadata → Result (Option B) PluginCreateError };
 
-    /// The codec of a metadata; none where the name is unknown. Refusals: the maker's own where the
+    /// The codec of a metadata; none where the name is unknown. Errors: the maker's own where the
     /// name is known; `OutOfMemory`.
     fn make(&self, alloc: Global, metadata: &MetadataV3) -> Result<Option<B>, PluginCreateError>
         ensures answer { MakesBy makes self.now metadata.now result };

@@ -1,7 +1,8 @@
+//! How many bytes a value has.
 ghost use Rattle.std.specs.Prelude.{◌≡◌};
 ghost use Rattle.zarrs_codec.specs.BytesRepresentation.{greatest_size};
 
-/// How many bytes an encoded chunk has.
+/// How many bytes the value of a chunk has.
 #[derive(Clone, Copy, Debug, PartialEq, Eq)]
 pub enum BytesRepresentation {
     /// Just so many.

@@ -1,3 +1,4 @@
+//! Codecs of the bytes behind an array-to-bytes codec.
 ghost use Rattle.std.specs.Prelude.{◌≡◌, Ok};
 ghost use Rattle.zarrs_metadata.specs.Metadata.{Metadata};
 ghost use Rattle.zarrs_metadata.specs.MetadataV3.{metadata_seen};
@@ -16,8 +17,8 @@ use zarrs_metadata::{MetadataV3, PluginCreateError};
 /// A codec of bytes to bytes, as a compressor is: the caller's own.
 ///
 /// What it computes is a function of what it is given, and an implementer proves its laws: decoding
-/// undoes encoding on bytes that are as many as their representation says; encoded bytes are as many
-/// as the encoded representation says; and a greater size never gives a smaller one, none counting
+/// undoes encoding on bytes that are as many as their representation states; encoded bytes are as many
+/// as the encoded representation states; and a greater size never gives a smaller one, none counting
 /// as endless.
 pub trait BytesToBytesCodecTraits {
     // What codecs of this type compute.
@@ -31,7 +32,7 @@ pub trait BytesToBytesCodecTraits {
     // The metadata that is written of it.
     ghost described: { Self → Metadata };
 
-    /// The encoded bytes. Refusals: `OutOfMemory`.
+    /// The encoded bytes. Errors: `OutOfMemory`.
     fn encode<'a>(
         &self,
         alloc: Global,
@@ -39,7 +40,7 @@ pub trait BytesToBytesCodecTraits {
     ) -> Result<ArrayBytesRaw<'a>, CodecError>
         ensures answer { EncodesBytes functions self.now bytes.entry result };
 
-    /// The bytes of this representation that encoded ones stand for. Refusals: `BytesCodec` with a
+    /// The bytes of this representation that encoded ones stand for. Errors: `BytesCodec` with a
     /// number of the codec's own, where they stand for none; `OutOfMemory`.
     fn decode<'a>(
         &self,
@@ -58,7 +59,7 @@ pub trait BytesToBytesCodecTraits {
     ) -> BytesRepresentation
         ensures value { result ≡ functions.representation self.now decoded_representation.now };
 
-    /// What it can read in part. It only says where a partial decoder keeps its cache: the codec
+    /// What it can read in part. It only states where a partial decoder keeps its cache: the codec
     /// itself always decodes whole values.
     fn partial_decoder_capability(&self) -> PartialDecoderCapability
         ensures value { result ≡ reads_in_part self.now };
@@ -68,7 +69,7 @@ pub trait BytesToBytesCodecTraits {
         ensures value { result ≡ writes_in_part self.now };
 
     /// The codec's metadata: its name, its configuration where it has one, and whether a reader that
-    /// can't make the codec has to refuse. Refusals: `OutOfMemory`.
+    /// can't make the codec has to fail. Errors: `OutOfMemory`.
     fn metadata(&self, alloc: Global) -> Result<MetadataV3, PluginCreateError>
         ensures answer { Makes metadata_seen result (Ok (described self.now)) };
 

@@ -1,3 +1,5 @@
+//! What codecs can do in part.
+
 /// What a codec can read of a chunk without the rest.
 #[derive(Clone, Copy, Debug, PartialEq, Eq)]
 pub struct PartialDecoderCapability {

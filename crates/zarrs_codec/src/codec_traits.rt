@@ -1,3 +1,4 @@
+//! What all codecs can be asked.
 ghost use Rattle.std.specs.Prelude.{◌≡◌, ℕ, List, Ok, Option, option_map};
 ghost use Rattle.zarrs_chunk.specs.Answer.{Answers, memory};
 ghost use Rattle.zarrs_metadata.specs.Data.{Members};
@@ -27,22 +28,22 @@ pub trait CodecTraits {
     fn name_v3(&self) -> Option<&'static str>
         ensures value { option_map (λ name. name.now) result ≡ named self.now };
 
-    /// The codec's configuration in metadata, where it has one. Refusals: `OutOfMemory`.
+    /// The codec's configuration in metadata, where it has one. Errors: `OutOfMemory`.
     fn configuration(&self, alloc: Global) -> Result<Option<Configuration>, PluginCreateError>
         ensures answer { Makes (option_map configuration_seen) result (Ok (written self.now)) };
 
-    /// What it can read in part.
+    /// What it can read in part. No contract ties it to what coders do: it is the implementer's word.
     fn partial_decoder_capability(&self) -> PartialDecoderCapability
         ensures value { result ≡ reads_in_part self.now };
 
-    /// What it can write in part.
+    /// What it can write in part. No contract ties it to what coders do: it is the implementer's word.
     fn partial_encoder_capability(&self) -> PartialEncoderCapability
         ensures value { result ≡ writes_in_part self.now };
 }
 
 /// A codec of chunks.
 pub trait ArrayCodecTraits: CodecTraits {
-    /// The shape of the parts of a chunk that are best decoded together: the whole chunk's. Refusals:
+    /// The shape of the parts of a chunk that are best decoded together: the whole chunk's. Errors:
     /// `OutOfMemory`.
     fn partial_decode_granularity(
         &self,

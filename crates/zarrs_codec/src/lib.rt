@@ -1,10 +1,12 @@
-//! What all codecs share: the traits of codecs, of coders in part and of makers of bytes codecs;
-//! how long encoded bytes are; what can be done in part; storage handles and ranges of their bytes;
-//! and two codecs of bytes as samples.
+//! What all codecs share: the traits of codecs, of coders in part and of makers of bytes-to-bytes
+//! codecs; how long encoded bytes are; what can be done in part; storage handles and ranges of their
+//! bytes; and two bytes-to-bytes codecs as samples.
 //!
-//! A coder that reads a chunk in part does so over a storage handle, a
+//! A **value** is the encoded chunk that a store keeps under a key: a list of bytes. A storage handle
+//! keeps one value, or none. A coder that reads a chunk in part does so over such a handle, a
 //! [`BytesPartialDecoderTraits`], and one that writes over a [`BytesPartialEncoderTraits`].
-//! [`MemoryHandle`] is one whose value is in memory, and [`testing`] has some that fail.
+//! [`MemoryHandle`] is one whose value is in memory, and [`testing`] has some that fail, and one that
+//! keeps a record of its calls.
 #![tactic(auto)]
 
 mod array_partial_decoder_traits;
@@ -21,6 +23,7 @@ mod bytes_to_bytes_codec_traits;
 mod capabilities;
 mod codec_traits;
 mod memory_handle;
+mod range_reads;
 mod refused;
 mod sample_bytes_codec;
 mod sample_maker;
@@ -39,6 +42,8 @@ pub use bytes_to_bytes_codec_traits::BytesToBytesCodecTraits;
 pub use capabilities::{PartialDecoderCapability, PartialEncoderCapability};
 pub use codec_traits::{ArrayCodecTraits, CodecTraits};
 pub use memory_handle::MemoryHandle;
+#[doc(hidden)]
+pub use range_reads::{append_piece, gather, room_for};
 pub use refused::Refused;
 pub use sample_bytes_codec::SampleBytesCodec;
 pub use sample_maker::SampleMaker;

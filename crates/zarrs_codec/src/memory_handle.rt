@@ -1,71 +1,18 @@
+//! A value in memory as a handle.
 ghost use Rattle.std.specs.Prelude.{◌≡◌, ◌++◌, IfOk, IfErr, OnErr, OnOk, Ok, true, Some, None, length};
 ghost use Rattle.std.specs.Option.{option_map};
 ghost use Rattle.zarrs_chunk.specs.Answer.{Answers, memory, is_fault, Gives};
 ghost use Rattle.zarrs_codec.specs.BytePieces.{pieces_fit, with_pieces};
-ghost use Rattle.zarrs_codec.specs.ByteRanges.{read_value, IsPieceOf, EndsOutside};
 
 use crate::byte_pieces::{check_pieces, furthest_end_of, write_pieces};
 use crate::byte_range::ByteRange;
 use crate::bytes_partial_decoder_traits::BytesPartialDecoderTraits;
 use crate::bytes_partial_encoder_traits::BytesPartialEncoderTraits;
+use crate::range_reads::gather;
 use std::alloc::{AllocError, Global};
 use zarrs_chunk::CodecError;
 
-/// How many bytes to reserve for the ranges of a value of `len` bytes, so that the answer never
-/// grows: as many as the ranges have. None where one of them is to be refused, as then nothing is
-/// read.
-fn room_for(len: usize, ranges: &[ByteRange]) -> usize {
-    let mut room: u64 = 0;
-    for range in ranges {
-        if range.end() > len as u64 {
-            return 0;
-        }
-        room = room.saturating_add(range.end() - range.start());
-    }
-    room as usize
-}
-
-/// Appends a piece. The sizes of most elements are constants here, so that each of these is a
-/// single move and no call to copy.
-#[inline(always)]
-fn append_piece(bytes: &mut Vec<u8>, piece: &[u8]) -> Result<(), AllocError>
-    ensures appended { OnOk result (bytes.new.items ≡ bytes.old.items ++ piece.now) }
-{
-    match piece.len() {
-        1 => bytes.extend_from_slice(&piece[..1]),
-        2 => bytes.extend_from_slice(&piece[..2]),
-        4 => bytes.extend_from_slice(&piece[..4]),
-        8 => bytes.extend_from_slice(&piece[..8]),
-        _ => bytes.extend_from_slice(piece),
-    }
-}
-
-/// A range's bytes of a value.
-#[inline(always)]
-fn piece_of<'a>(value: &'a [u8], range: &ByteRange) -> Result<&'a [u8], CodecError>
-    ensures inside { IfOk result (λ piece. IsPieceOf value.now range.now piece.now) }
-    ensures outside { IfErr result (EndsOutside value.now range.now) }
-{
-    let start = range.start() as usize;
-    let end = range.end() as usize;
-    if value.len() < end {
-        return Err(CodecError::InvalidByteRange);
-    }
-    Ok(&value[start..end])
-}
-
-/// The ranges' bytes of a value, joined in order.
-fn gather(alloc: Global, value: &[u8], ranges: &[ByteRange]) -> Result<Vec<u8>, CodecError>
-    ensures answer { Gives (λ bytes. bytes.items) result (read_value value.now ranges.now) }
-{
-    let mut bytes = Vec::with_capacity(alloc, room_for(value.len(), ranges))?;
-    for range in ranges {
-        append_piece(&mut bytes, piece_of(value, range)?)?;
-    }
-    Ok(bytes)
-}
-
-/// A handle whose value is in memory. It never fails, but for want of memory, so all of its bytes
+/// A handle whose value is in memory. It never fails, but for lack of memory, so all of its bytes
 /// are sure.
 #[derive(Drop)]
 pub struct MemoryHandle {
@@ -133,7 +80,7 @@ impl MemoryHandle {
         }
     }
 
-    /// How many writing calls there were, those that were refused among them, modulo 2^64.
+    /// How many writing calls there were, those that failed among them, modulo 2^64.
     pub fn write_calls(&self) -> u64
         ensures value { result ≡ write_count self.now }
     {
@@ -152,6 +99,15 @@ impl MemoryHandle {
         *accepted_writes
     }
 
+    /// Counts a writing call that fails before it is made.
+    pub(crate) fn refuse_write(&mut self)
+        ensures value_kept { handle_value self.new ≡ handle_value self.old }
+        ensures count { write_count self.new ≡ count_if true (write_count self.old) }
+        ensures accepted_kept { accepted_count self.new ≡ accepted_count self.old }
+    {
+        self.write_calls = self.write_calls.wrapping_add(1);
+    }
+
     /// Counts a writing call that was accepted.
     fn accept_write(&mut self)
         ensures value_kept { handle_value self.new ≡ handle_value self.old }
@@ -163,12 +119,13 @@ impl MemoryHandle {
 }
 
 impl BytesPartialDecoderTraits for MemoryHandle {
+    ghost use Rattle.std.specs.Prelude.{[]};
     ghost use Rattle.zarrs_codec.specs.StorageState.{held_bytes};
     ghost use Rattle.zarrs_codec.specs.MemoryHandle.{handle_value, memory_state};
 
     ghost state = { memory_state };
 
-    ghost lent = { λ _. None };
+    ghost lent = { λ _. [] };
 
     ghost held = { λ handle. held_bytes (handle_value handle) };
 
@@ -215,7 +172,7 @@ impl BytesPartialDecoderTraits for MemoryHandle {
     }
 }
 
-/// Writes the pieces, for which the value grows first: nothing is refused from then on.
+/// Writes the pieces, for which the value grows first: nothing fails from then on.
 fn write_grown(out: &mut Vec<u8>, pieces: &[(u64, u64)], bytes: &[u8]) -> Result<(), AllocError>
     requires fit { pieces_fit pieces.now (length bytes.now) ≡ Ok tt }
     ensures written { OnOk result (out.new.items ≡ with_pieces out.old.items pieces.now bytes.now) }

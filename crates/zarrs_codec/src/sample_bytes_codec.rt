@@ -1,3 +1,4 @@
+//! Two bytes-to-bytes codecs as samples.
 ghost use Rattle.std.specs.Prelude.{◌≡◌, ◌++◌, ◌≤◌, Ok, IfOk, false, reverse, length, drop};
 ghost use Rattle.zarrs_chunk.specs.Answer.{seen, GivesItems};
 ghost use Rattle.zarrs_array_bytes.specs.Held.{items_of, raw_of};
@@ -18,13 +19,13 @@ use zarrs_metadata::{MetadataV3, PluginCreateError};
 /// How many bytes a length takes.
 const LENGTH_SIZE: usize = 8;
 
-/// Two codecs of bytes as samples of what a caller may bring.
+/// Two bytes-to-bytes codecs as samples of what a caller may bring.
 #[derive(Clone, Copy, Debug, PartialEq, Eq)]
 pub enum SampleBytesCodec {
-    /// The bytes in reverse (`sample.reverse`), as many of them. Only a want of memory refuses.
+    /// The bytes in reverse (`sample.reverse`), as many of them. Only lack of memory is an error.
     Reverse,
     /// The bytes behind how many they are, as 8 bytes with the lowest first (`sample.length`): 8
-    /// bytes more, and no bound where 64 bits don't count them. Refusals of decoding:
+    /// bytes more, and no bound where 64 bits don't count them. Errors of decoding:
     /// `BytesCodec(1)` for fewer than 8 bytes; `BytesCodec(2)` where the length isn't that of the
     /// rest.
     Length,
@@ -185,7 +186,7 @@ impl BytesToBytesCodecTraits for SampleBytesCodec {
         }
     }
 
-    /// The codec's name, without a configuration, by which `SampleMaker` makes it. Refusals:
+    /// The codec's name, without a configuration, by which `SampleMaker` makes it. Errors:
     /// `OutOfMemory`.
     fn metadata(&self, alloc: Global) -> Result<MetadataV3, PluginCreateError>
         ensures answer { Makes metadata_seen result (Ok (sample_metadata self.now)) }

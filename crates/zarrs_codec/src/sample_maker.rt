@@ -1,9 +1,10 @@
+//! What makes the sample codecs.
 use crate::bytes_codec_maker::BytesCodecMaker;
 use crate::sample_bytes_codec::SampleBytesCodec;
 use std::alloc::Global;
 use zarrs_metadata::{MetadataV3, PluginCreateError};
 
-/// What makes the sample codecs of bytes, by their names, with any configuration. Nothing is refused.
+/// What makes the sample codecs of bytes, by their names, with any configuration. Nothing is rejected.
 #[derive(Clone, Copy, Debug, PartialEq, Eq)]
 pub struct SampleMaker;
 

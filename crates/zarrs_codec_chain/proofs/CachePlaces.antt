@@ -11,6 +11,7 @@ use Rattle.zarrs_array_to_array.specs.ArrayToArrayCodec.{ArrayMapping}
 use Rattle.zarrs_codec_chain.specs.CachePlace.{array_reads, codecs_read, last_without, greater, cache_place}
 use Rattle.zarrs_chain_laws.specs.Chain.{codec_reads, reads_all_if}
 use Rattle.zarrs_codec_chain.specs.ChunkRead.{asks_in_part}
+use Rattle.zarrs_codec_chain.specs.CacheTight.{CacheIsTight}
 use Rattle.zarrs_codec_chain.specs.ChunkSource.{IsSizeOf, bytes_left, bytes_stage, cache_fits, cache_stage, held_by, is_kept, source_of, stage_at, stage_by, stage_fits}
 use Rattle.zarrs_chain_laws.specs.PlainChain.{PlainCodec, bytes_codec, packbits_codec, vlen_codec, optional_codec, PlainChain}
 use Rattle.zarrs_chain_laws.specs.vlen.PlainVlen.{is_plain}
@@ -191,13 +192,13 @@ valid_so (Ok u) e = refl
 valid_so (Err x) e = absurd cc
 
 -- a cache keeps as many bytes as what answers rest on has
-pub size_kept : (reads : PartialDecoderCapability) (type : ElementType) (count codecs handle : ℕ) (stored : Option (List ℕ)) (cache : Cache) → cache_fits reads type count codecs cache ≡ true → is_kept cache ≡ true
+pub size_kept : (reads : PartialDecoderCapability) (type : ElementType) (count codecs handle : ℕ) (stored : Option (List ℕ)) (cache : Cache) → cache_fits reads type count codecs cache ≡ true → CacheIsTight type cache → is_kept cache ≡ true
     → IsSizeOf type (source_of type count codecs stored cache) (held_by handle cache)
-size_kept reads type count codecs handle stored kept.Handle fits e = absurd cc
-size_kept reads type count codecs handle stored (kept.Bytes below None) fits e = refl
-size_kept reads type count codecs handle stored (kept.Bytes below (Some value)) fits e = refl
-size_kept reads type count codecs handle stored (kept.Chunk None) fits e = refl
-size_kept reads type count codecs handle stored (kept.Chunk (Some held)) fits e = (held, holds_elements type count held (valid_so (validity type count held) fits), refl)
+size_kept reads type count codecs handle stored kept.Handle fits tight e = absurd cc
+size_kept reads type count codecs handle stored (kept.Bytes below None) fits tight e = refl
+size_kept reads type count codecs handle stored (kept.Bytes below (Some value)) fits tight e = refl
+size_kept reads type count codecs handle stored (kept.Chunk None) fits tight e = refl
+size_kept reads type count codecs handle stored (kept.Chunk (Some held)) fits tight e = (held, holds_elements type count held (valid_so (validity type count held) fits), tight, refl)
 
 pub answered : {A : Type 0} (r : Result A CodecError) (x : A) (P : A → Type 0) → r ≡ Ok x → P x → IsOkAnd r P
 answered r x P e h = rw e h

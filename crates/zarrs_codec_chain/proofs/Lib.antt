@@ -15,3 +15,6 @@ pub mod RegionReads
 pub mod RegionWrites
 pub mod PlannedPlaces
 pub mod ListedReads
+pub mod Unharmed
+pub mod Counting
+pub mod SameWriters

@@ -1,16 +1,15 @@
 -- The calls of reads in part.
 use Rattle.zarrs_data_type.specs.Form.{form_of}
-use Rattle.std.proofs.Common.{◌≡◌, ℕ, ◌-◌, ◌*◌, ◌<◌, ◌^◌, nat_lt, Bool, true, false, if◌then◌else◌, Option, List, [], ◌∷◌, length, map, replicate, Result, Ok, Err, IfOk, arith, refl, ap, sym, ◌∙◌, subst}
+use Rattle.std.proofs.Common.{◌≡◌, ℕ, ◌<◌, ◌^◌, nat_lt, Bool, true, false, if◌then◌else◌, Option, List, [], ◌∷◌, length, map, replicate, Result, Ok, Err, IfOk, arith, refl, ap, sym, ◌∙◌, subst}
 use Rattle.std.specs.Prelude.{is_ok, IsOkAnd}
-use Rattle.std.specs.List.{sum_by}
 use Rattle.std.proofs.lemmas.Bool.Decides.{nat_tests}
 use Rattle.zarrs_chunk.specs.Answer.{◌>>=◌, checked_u64, demand, seen, Answers, AnswersBy, memory, no_refusal}
 use Rattle.zarrs_chunk.specs.AnswerLaws.{demand_ok}
 use Rattle.zarrs_chunk.specs.ChunkShape.{product}
+use Rattle.zarrs_chunk.specs.Runs.{joined_runs, AreApart, AreFilled}
 use Rattle.zarrs_chunk.specs.Selection.{Selection}
 use Rattle.zarrs_chunk.specs.declared.codec_error.CodecError.{CodecError}
 use Rattle.zarrs_chunk.specs.declared.codec_error.CodecError.TheVariants.{InvalidFillValue, UnsupportedDataType, Overflow}
-use Rattle.zarrs_chunk.specs.declared.codec_error.CodecName.TheVariants as codec
 use Rattle.zarrs_data_type.specs.Element.{Element, Chunk, fill_element}
 use Rattle.zarrs_data_type.specs.ElementType.{ElementType, fixed, text, bytes, optional, is_variable}
 use Rattle.zarrs_data_type.specs.FillValue.{fill_fits}
@@ -29,10 +28,12 @@ use Rattle.zarrs_array_to_array.specs.ArrayToArrayCodec.{ArrayMapping}
 use Rattle.zarrs_array_to_array.specs.Mapping.{chained_places}
 use Rattle.zarrs_bytes.specs.BytesCodec.{bytes_length}
 use Rattle.zarrs_bytes.specs.PartialRead.{place_bytes, place_size}
+use Rattle.zarrs_bytes.specs.PlannedRanges.{IsPlan as IsElementPlan}
 use Rattle.zarrs_bytes.proofs.Taken.{taken_fill}
 use Rattle.zarrs_packbits.specs.PackBitsSettings.{PackBitsSettings, packed_layout, packbits_length}
 use Rattle.zarrs_packbits.specs.PaddingByte.{value_len}
-use Rattle.zarrs_packbits.specs.ReadPlan.{IsPlan}
+use Rattle.zarrs_packbits.specs.ReadPlan.{IsPlan, IsPlanOfRuns}
+use Rattle.zarrs_packbits.proofs.PartReads.{plan_of_runs}
 use Rattle.zarrs_chain_laws.specs.ArrayStages.{arrays_map, IsMapWhere}
 use Rattle.zarrs_chain_laws.specs.Chain.{taken_form}
 use Rattle.zarrs_chain_whole.specs.ChainView.{plain_codec}
@@ -47,6 +48,7 @@ use Rattle.zarrs_bytes.proofs.Coding.{ok, bind_ok}
 use Rattle.zarrs_chain_laws.proofs.ArraySteps.{at_ok, ok_is}
 use Rattle.zarrs_chain_laws.proofs.ChainSteps.{chunk_count, is_taken}
 use Rattle.zarrs_codec_chain.proofs.PartialReads.{is_ok_of, places_through}
+use Rattle.zarrs_chain_laws.specs.declared.codec_name.TheConstants.{VLEN}
 
 -- ---- fill values
 
@@ -109,8 +111,8 @@ codec_fits f (packbits_codec settings) sizes type fill r e =
     let l = from_ok (packed_layout settings (form_of sizes type fill)) (seen_is_ok value_len (packed_layout settings (form_of sizes type fill)) (seen_is_ok FixedSize (packbits_length settings (form_of sizes type fill)) (is_ok_of _ r e))) in
     packed_fits settings sizes type fill l.0 l.1
 codec_fits f (vlen_codec ia ix ib da dx db wide at_end) sizes type fill r e =
-    let a = bind_ok (demand (is_variable type) (UnsupportedDataType codec.Vlen)) _ r e in
-    variable_fits type fill (demand_ok (is_variable type) (UnsupportedDataType codec.Vlen) a.1)
+    let a = bind_ok (demand (is_variable type) (UnsupportedDataType VLEN)) _ r e in
+    variable_fits type fill (demand_ok (is_variable type) (UnsupportedDataType VLEN) a.1)
 codec_fits f (optional_codec ma mx mb da dx db) sizes (optional type) fill r e =
     let a = bind_ok (demand (fill_fits (optional type) fill) InvalidFillValue) _ r e in
     demand_ok (fill_fits (optional type) fill) InvalidFillValue a.1
@@ -148,18 +150,24 @@ kept_of f chain sizes type fill encoded r maps counted e =
 -- ---- plans
 
 pub bytes_planned : (B : Type 0) {A : Type 0} (view : A → List ByteSpan) (r : Result A CodecError) (codec : ArrayToBytesCodec B) (order : Option Endianness) (sizes : List ℕ) (type : ElementType) (fill places : List ℕ) → codec ≡ Bytes order
-    → Answers memory (λ x. range_indices (view x)) r (Ok (place_bytes (place_size type) places)) → IfOk r (λ x. sum_by (λ range. range.end - range.start) (view x) ≡ length places * place_size type)
+    → Answers memory (λ x. range_indices (view x)) r (Ok (place_bytes (place_size type) places)) → IfOk r (λ x. IsElementPlan (place_size type) places (view x))
     → AnswersBy memory (λ x (_ : Unit {0}). IsCodecPlan {B = B} (plain_codec codec) sizes type fill places (view x)) r no_refusal
 unfolding plain_codec
-bytes_planned B view (Ok x) codec order sizes type fill places is h sum = subst (λ k. IsCodecPlan {B = B} (plain_codec k) sizes type fill places (view x)) (sym is) (sym (ok_is _ _ h), sum)
-bytes_planned B view (Err e) codec order sizes type fill places is h sum = λ ne. let never : ⊥ = cc (h ne) in absurd never
+bytes_planned B view (Ok x) codec order sizes type fill places is h plan = subst (λ k. IsCodecPlan {B = B} (plain_codec k) sizes type fill places (view x)) (sym is) plan
+bytes_planned B view (Err e) codec order sizes type fill places is h plan = λ ne. let never : ⊥ = cc (h ne) in absurd never
 
-pub packed_planned : (B : Type 0) {A : Type 0} (view : A → List ByteSpan) (r : Result A CodecError) (codec : ArrayToBytesCodec B) (settings : PackBitsSettings) (sizes : List ℕ) (type : ElementType) (fill places : List ℕ) → codec ≡ PackBits settings
-    → is_ok (packed_layout settings (form_of sizes type fill)) ≡ true → AnswersBy memory (λ x layout. IsPlan layout places (view x)) r (packed_layout settings (form_of sizes type fill))
-    → AnswersBy memory (λ x (_ : Unit {0}). IsCodecPlan {B = B} (plain_codec codec) sizes type fill places (view x)) r no_refusal
+plan_from : {L : Type 0} (P Q : L → Type 0) → ((l : L) → P l → Q l) → (r : Result L CodecError) → IsOkAnd r P → IsOkAnd r Q
+plan_from P Q each (Ok l) h = each l h
+plan_from P Q each (Err e) h = absurd h
+
+pub packed_planned : (B : Type 0) {A : Type 0} (view : A → List ByteSpan) (r : Result A CodecError) (codec : ArrayToBytesCodec B) (settings : PackBitsSettings) (sizes : List ℕ) (type : ElementType) (fill : List ℕ) (runs : List (ℕ × ℕ)) → codec ≡ PackBits settings → AreFilled runs → AreApart runs
+    → is_ok (packed_layout settings (form_of sizes type fill)) ≡ true → AnswersBy memory (λ x layout. IsPlanOfRuns layout runs (view x)) r (packed_layout settings (form_of sizes type fill))
+    → AnswersBy memory (λ x (_ : Unit {0}). IsCodecPlan {B = B} (plain_codec codec) sizes type fill (joined_runs runs) (view x)) r no_refusal
 unfolding plain_codec
-packed_planned B view (Ok x) codec settings sizes type fill places is taken h = subst (λ k. IsCodecPlan {B = B} (plain_codec k) sizes type fill places (view x)) (sym is) h
-packed_planned B view (Err e) codec settings sizes type fill places is taken h = λ ne.
+packed_planned B view (Ok x) codec settings sizes type fill runs is filled apart taken h =
+    subst (λ k. IsCodecPlan {B = B} (plain_codec k) sizes type fill (joined_runs runs) (view x)) (sym is)
+    (plan_from (λ l. IsPlanOfRuns l runs (view x)) (λ l. IsPlan l (joined_runs runs) (view x)) (λ l p. plan_of_runs l runs (view x) (joined_runs runs) filled apart refl p) (packed_layout settings (form_of sizes type fill)) h)
+packed_planned B view (Err e) codec settings sizes type fill runs is filled apart taken h = λ ne.
     let l = from_ok (packed_layout settings (form_of sizes type fill)) taken in
     let never : ⊥ = cc (sym l.1 ∙ h ne) in
     absurd never

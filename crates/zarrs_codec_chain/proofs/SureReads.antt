@@ -1,5 +1,5 @@
 -- Sure bytes and indexers of reads in part.
-use Rattle.std.proofs.Common.{◌≡◌, ℕ, Bool, true, false, if◌then◌else◌, Option, Some, None, List, [], Result, Ok, Err, IfOk, refl, ap}
+use Rattle.std.proofs.Common.{◌≡◌, ◌&&◌, ℕ, Bool, true, false, if◌then◌else◌, Option, Some, None, List, [], Result, Ok, Err, IfOk, refl, ap}
 use Rattle.std.specs.Prelude.{IfErr, IfSome}
 use Rattle.zarrs_chunk.specs.Answer.{◌>>=◌, memory}
 use Rattle.zarrs_chunk.specs.Selection.{Selection, bounds_of}
@@ -9,8 +9,9 @@ use Rattle.zarrs_codec.specs.BytesToBytesCodec.{BytesCodecs}
 use Rattle.zarrs_codec.specs.StorageState.{are_sure, StorageState}
 use Rattle.zarrs_codec.specs.declared.bytes_representation.BytesRepresentation.{BytesRepresentation}
 use Rattle.zarrs_array_to_array.specs.ArrayToArrayCodec.{ArrayMapping}
-use Rattle.zarrs_chain_laws.specs.Chain.{taken_form}
-use Rattle.zarrs_codec_chain.specs.ChunkRead.{ChunkForm, asks_in_part, codec_rests_on, encoded_places, read_rests_on, WhereSure}
+use Rattle.zarrs_chain_laws.specs.Chain.{codec_reads, taken_form}
+use Rattle.zarrs_codec_chain.specs.ChunkRead.{ChunkForm, are_asked_sure, asks_in_part, codec_rests_on, encoded_places, read_rests_on, reads_surely, WhereSure}
+use Rattle.zarrs_codec_chain.specs.vlen.VlenPartialDecoder.{CodecForm, CodecWhereSure, are_given_sure, codec_reads_surely, codec_selection_rests_on}
 use Rattle.zarrs_bytes.proofs.Coding.{ok}
 use Rattle.zarrs_chain_laws.proofs.ArraySteps.{error_is}
 
@@ -33,6 +34,28 @@ anyway sure P (Err e) h = tt
 -- what holds anyway holds where bytes are sure
 pub sure_anyway : {B : Type 0} (f : BytesCodecs B) (form : ChunkForm B) (before : StorageState) (selection : Selection) (P : Type 0) → P → WhereSure f form before selection P
 sure_anyway f form before selection P h = anyway before.sure P (read_rests_on f form before.value selection) h
+
+surely_by : (sure : Option (ℕ → Bool)) (P : Type 0) (r : Result (Option (List ℕ)) CodecError) → IfOk r (λ asked. IfSome asked (λ numbers. are_sure sure numbers ≡ true → P)) → are_asked_sure sure r ≡ true → P
+surely_by sure P (Ok (Some numbers)) h e = h e
+surely_by sure P (Ok None) h e = absurd cc
+surely_by sure P (Err x) h e = absurd cc
+
+-- what holds where bytes are sure, or with a cache, holds where a read never fails
+pub surely : {B : Type 0} (f : BytesCodecs B) (form : ChunkForm B) (before : StorageState) (selection : Selection) (P : Type 0) (cached : Bool) → (cached ≡ true → P) → WhereSure f form before selection P → reads_surely cached f form before.value before.sure selection ≡ true → P
+surely f form before selection P true by_cache here e = by_cache refl
+surely f form before selection P false by_cache here e = surely_by before.sure P (read_rests_on f form before.value selection) here e
+
+given_surely : (sure : Option (ℕ → Bool)) (P : Type 0) (r : Result (List ℕ) CodecError) → IfOk r (λ numbers. are_sure sure numbers ≡ true → P) → are_given_sure sure r ≡ true → P
+given_surely sure P (Ok numbers) h e = h e
+given_surely sure P (Err x) h e = absurd cc
+
+in_part_surely : (sure : Option (ℕ → Bool)) (P : Type 0) (r : Result (List ℕ) CodecError) (b : Bool) → (b ≡ true → IfOk r (λ numbers. are_sure sure numbers ≡ true → P)) → (b && are_given_sure sure r) ≡ true → P
+in_part_surely sure P r true h e = given_surely sure P r (h refl) e
+in_part_surely sure P r false h e = absurd cc
+
+-- the same of a `vlen`
+pub codec_surely : {B : Type 0} (form : CodecForm B) (before : StorageState) (selection : Selection) (P : Type 0) → CodecWhereSure form before selection P → codec_reads_surely form before.value before.sure selection ≡ true → P
+codec_surely form before selection P h = in_part_surely before.sure P (codec_selection_rests_on form before.value selection) (codec_reads form.codec).partial_decode h
 
 -- ---- indexers
 

@@ -8,7 +8,6 @@ use Rattle.zarrs_chunk.specs.ChunkShape.{product}
 use Rattle.zarrs_chunk.specs.Selection.{Selection, places_of}
 use Rattle.zarrs_chunk.specs.declared.codec_error.CodecError.{CodecError}
 use Rattle.zarrs_chunk.specs.declared.codec_error.CodecError.TheVariants.{Overflow, UnsupportedDataType}
-use Rattle.zarrs_chunk.specs.declared.codec_error.CodecName.TheVariants as codec
 use Rattle.zarrs_data_type.specs.Element.{Chunk, fill_element}
 use Rattle.zarrs_data_type.specs.ElementType.{ElementType, is_variable}
 use Rattle.zarrs_data_type.specs.FillValue.{fill_fits}
@@ -39,7 +38,8 @@ use Rattle.zarrs_chain_laws.proofs.ChainSteps.{chunk_count}
 use Rattle.zarrs_chain_laws.proofs.NestedDecode.{chunk_only}
 use Rattle.zarrs_codec_chain.proofs.PartialCalls.{counted_is, held_of, variable_fits}
 use Rattle.zarrs_codec_chain.proofs.PartialReads.{codec_fills, codec_selects}
-use Rattle.zarrs_chain_whole.proofs.TakenBlank.{vlen_measured}
+use Rattle.zarrs_chain_whole.proofs.TakenTight.{vlen_measured}
+use Rattle.zarrs_chain_laws.specs.declared.codec_name.TheConstants.{VLEN}
 
 -- ---- chunks that the codec takes
 
@@ -52,9 +52,9 @@ pub record IsTakenByVlen (sizes : List ℕ) (type : ElementType) (fill : List �
 taken_so : (sizes : List ℕ) (type : ElementType) (fill : List ℕ) → is_ok (vlen_representation sizes type fill) ≡ true → IsTakenByVlen sizes type fill
 taken_so sizes type fill taken =
     let t = from_ok (vlen_representation sizes type fill) taken in
-    let a = bind_ok (demand (is_variable type) (UnsupportedDataType codec.Vlen)) _ t.0 t.1 in
+    let a = bind_ok (demand (is_variable type) (UnsupportedDataType VLEN)) _ t.0 t.1 in
     let b = bind_ok (checked_u64 (product sizes)) _ t.0 a.2 in
-    let variable = demand_ok (is_variable type) (UnsupportedDataType codec.Vlen) a.1 in
+    let variable = demand_ok (is_variable type) (UnsupportedDataType VLEN) a.1 in
     record {
       variable = variable;
       filled = variable_fits type fill variable;

@@ -12,7 +12,7 @@ use Rattle.zarrs_chain_whole.specs.declared.codec_chain.CodecChain.{CodecChain}
 use Rattle.zarrs_codec.specs.ByteSpan.{ByteSpan}
 use Rattle.zarrs_codec.specs.BytesToBytesCodec.{BytesCodecs}
 use Rattle.zarrs_codec_chain.specs.ChunkRead.{ChunkForm, PlansRead, ReadsChunk, WhereSure, asks_in_part, chunk_of, codec_rests_on, form_in_place, form_places, ordered_places, planned_region, standing_places}
-use Rattle.zarrs_codec_chain.specs.ChunkSource.{Source, is_kept, kept_stage, source_made_at, source_of, bytes_above, chunk_below, is_cache_of, opened_chunk, source_made, source_places, source_read, is_there, wants_cache}
+use Rattle.zarrs_codec_chain.specs.ChunkSource.{Source, is_kept, kept_stage, source_made_at, source_of, bytes_above, chunk_below, is_cache_of, opened_chunk, source_made, source_places, source_read, is_there, wants_cache, filling_reads}
 use Rattle.zarrs_codec_chain.specs.declared.chunk_coder.ChunkCoder.{ChunkCoder}
 use Rattle.zarrs_chunk.specs.Answer.{Answers, AnswersBy, Gives, GivesBy, memory, memory_or_fault, seen, is_fault}
 use Rattle.zarrs_chunk.specs.Runs.{EndWithin, joined_runs, places_in}
@@ -22,13 +22,15 @@ use Rattle.zarrs_data_type.specs.Element.{Chunk}
 use Rattle.zarrs_data_type.specs.ElementType.{ElementType}
 use Rattle.zarrs_data_type.specs.declared.endianness.Endianness.{Endianness}
 use Rattle.zarrs_array_bytes.specs.Elements.{elements, select}
-use Rattle.zarrs_array_bytes.specs.Blank.{AbsentAreBlank}
+use Rattle.zarrs_array_bytes.specs.Tight.{IsTight}
 use Rattle.zarrs_array_bytes.specs.Held.{Held, items_of}
 use Rattle.zarrs_array_bytes.specs.Validity.{Holds}
+use Rattle.zarrs_codec.specs.Calls.{Calls, after_reads}
 use Rattle.zarrs_codec.specs.StorageState.{are_sure, StorageState}
 use Rattle.zarrs_codec.specs.declared.capabilities.PartialDecoderCapability.{PartialDecoderCapability}
 use Rattle.zarrs_chain_laws.specs.Chain.{codec_reads, taken_form}
-use Rattle.zarrs_codec_chain.specs.CacheBlank.{CacheIsBlank}
+use Rattle.zarrs_codec_chain.specs.CacheTight.{CacheIsTight}
+use Rattle.zarrs_codec_chain.specs.ChunkCalls.{AsksOnceForAll, AsksOnceUncached, LeftAloneIf}
 use Rattle.zarrs_codec_chain.specs.RefusedFirst.{RefusedFirst}
 use Rattle.zarrs_codec_chain.specs.declared.partial_decoder.cache.Cache.{Cache}
 use Rattle.zarrs_codec_chain.specs.declared.partial_decoder.cache.Cache.TheVariants as kept
@@ -96,6 +98,10 @@ CachesAsWanted reads chain result = IfOk result (λ coder. is_kept coder.cache �
 abbrev pub FillsFrom : {B : Type 0} {b : _} → BytesCodecs B → Option (List ℕ) → Result (ChunkCoder B b) CodecError → Type 0
 FillsFrom f stored result = IfOk result (λ coder. IsFilledFrom f coder stored)
 
+-- a coder was made by one reading call where it has a cache, and else by none
+abbrev pub MakesByReads : {H B : Type 0} {b : _} → (H → Option Calls) → (before after : H) → Result (ChunkCoder B b) CodecError → Type 0
+MakesByReads calls before after result = IfOk result (λ coder. calls after ≡ after_reads (filling_reads (coder_is_cached coder)) (calls before))
+
 -- ---- what its calls give, of runs of places of the encoded chunk
 
 -- its codec to bytes reads in part
@@ -132,10 +138,10 @@ GivesAbove f coder below value runs result =
 abbrev pub GivesKept : {B : Type 0} {b : _} → BytesCodecs B → ChunkCoder B b → Option Held → List (ℕ × ℕ) → Result Held CodecError → Type 0
 GivesKept f coder chunk runs result = GivesSource f coder (kept_source coder chunk) runs result
 
--- blank elements stand under the absent ones, where they do in the chunk that is kept
-abbrev pub BlankAsKept : {B : Type 0} {b : _} → ChunkCoder B b → Option Held → Result Held CodecError → Type 0
-BlankAsKept coder chunk result =
-    CacheIsBlank coder.data_type (kept.Chunk chunk) → IfOk result (AbsentAreBlank coder.data_type)
+-- the container is tight, where the chunk that is kept is
+abbrev pub TightAsKept : {B : Type 0} {b : _} → ChunkCoder B b → Option Held → Result Held CodecError → Type 0
+TightAsKept coder chunk result =
+    CacheIsTight coder.data_type (kept.Chunk chunk) → IfOk result (IsTight coder.data_type)
 
 -- by what the handle keeps
 abbrev pub ReadsStored : {B : Type 0} {b : _} → BytesCodecs B → ChunkCoder B b → StorageState → List (ℕ × ℕ) → Result Held CodecError → Type 0
@@ -155,6 +161,20 @@ abbrev pub SureSource : {B T : Type 0} {b : _} → ChunkCoder B b → StorageSta
 SureSource coder before runs result =
     asks_in_part (plain_chain coder.chain.now).bytes_to_bytes (plain_chain coder.chain.now).array_to_bytes ≡ true
     → IfOk (codec_rests_on (plain_chain coder.chain.now).array_to_bytes coder.encoded coder.data_type coder.fill_value before.value (joined_runs runs)) (λ numbers. are_sure before.sure numbers ≡ true → is_fault result ≡ false)
+
+-- with a cache the handle is left alone
+abbrev pub LeavesAlone : {H B : Type 0} {b : _} → ChunkCoder B b → (before after : H) → Type 0
+LeavesAlone coder before after = LeftAloneIf (coder_is_cached coder) before after
+
+-- a read without a cache that asks for the whole value asks once (`calls` says what the record of a handle is)
+abbrev pub AsksOnce : {H T B : Type 0} {b : _} → (H → Option Calls) → ChunkCoder B b → (before after : H) → Result T CodecError → Type 0
+AsksOnce calls coder before after result =
+    AsksOnceUncached calls (coder_is_cached coder) (plain_chain coder.chain.now).bytes_to_bytes (plain_chain coder.chain.now).array_to_bytes before after result
+
+-- the same of what the handle keeps, whether there is a cache or not
+abbrev pub AsksStoredOnce : {H T B : Type 0} {b : _} → (H → Option Calls) → ChunkCoder B b → (before after : H) → Result T CodecError → Type 0
+AsksStoredOnce calls coder before after result =
+    AsksOnceForAll calls (plain_chain coder.chain.now).bytes_to_bytes (plain_chain coder.chain.now).array_to_bytes before after result
 
 -- ---- what its calls give, of a selection
 

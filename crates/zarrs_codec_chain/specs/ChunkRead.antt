@@ -3,7 +3,7 @@ use Rattle.zarrs_chain_laws.specs.Stands.{ChainStands}
 use Rattle.zarrs_array_bytes.specs.Validity.{Holds}
 use Rattle.zarrs_array_bytes.specs.Held.{Held}
 use Rattle.zarrs_data_type.specs.Form.{form_of, Form}
-use Rattle.std.specs.Prelude.{◌≡◌, ℕ, ◌-◌, ◌*◌, Bool, true, false, if◌then◌else◌, Option, Some, None, IfSome, IfOk, IsOkAnd, List, [], ◌∷◌, length, map, sum_by, Result, Ok, Err, IfErr, is_ok, is_some, option_map, Vec}
+use Rattle.std.specs.Prelude.{◌≡◌, ℕ, ◌||◌, Bool, true, false, if◌then◌else◌, Option, Some, None, IfSome, IfOk, IsOkAnd, List, [], ◌∷◌, map, Result, Ok, Err, IfErr, is_ok, is_some, option_map, Vec}
 use Rattle.zarrs_chunk.specs.ChunkShape.{product}
 use Rattle.zarrs_chunk.specs.Answer.{◌>>=◌, seen, AnswersBy, memory, memory_or_fault, is_fault, GivesBy}
 use Rattle.zarrs_chunk.specs.Region.{Region}
@@ -13,7 +13,6 @@ use Rattle.zarrs_data_type.specs.Element.{Chunk, fill_element}
 use Rattle.zarrs_data_type.specs.ElementType.{ElementType}
 use Rattle.zarrs_data_type.specs.declared.endianness.Endianness.{Endianness}
 use Rattle.zarrs_array_bytes.specs.Elements.{select}
-use Rattle.zarrs_codec.specs.ByteRanges.{range_indices}
 use Rattle.zarrs_codec.specs.ByteSpan.{ByteSpan}
 use Rattle.zarrs_codec.specs.BytesToBytesCodec.{BytesCodecs}
 use Rattle.zarrs_codec.specs.StorageState.{are_sure, StorageState}
@@ -21,6 +20,7 @@ use Rattle.zarrs_codec.specs.declared.bytes_representation.BytesRepresentation.{
 use Rattle.zarrs_array_to_array.specs.ArrayToArrayCodec.{ArrayMapping}
 use Rattle.zarrs_array_regions.specs.KeptRegions.{kept_region}
 use Rattle.zarrs_array_regions.specs.Windows.{window_of, window_places, last_window}
+use Rattle.zarrs_bytes.specs.PlannedRanges.{IsPlan as IsElementPlan}
 use Rattle.zarrs_bytes.specs.PartialRead.{place_bytes, place_size, read_places}
 use Rattle.zarrs_packbits.specs.PackBitsSettings.{packed_layout}
 use Rattle.zarrs_packbits.specs.PartialRead.{bytes_of_places, read_places_of}
@@ -155,10 +155,9 @@ abbrev pub planned_places : {B : Type 0} → ChunkForm B → Selection → Resul
 planned_places form selection =
     seen (λ places. if reads_places form.chain.bytes_to_bytes form.chain.array_to_bytes then Some places else None) (ordered_places form selection)
 
--- The ranges are the bytes of these places and no others. Of `bytes` they come in the places' order, and their lengths sum to the elements' bytes. Of `packbits` each is the bytes of one run of places.
+-- The ranges are the bytes of these places and no others: each is the bytes of one run of places, none of them empty, and no run starts where the one before it ends. Of `bytes` their lengths sum to the elements' bytes.
 abbrev pub IsCodecPlan : {B : Type 0} → PlainCodec B → List ℕ → ElementType → List ℕ → List ℕ → List ByteSpan → Type 0
-IsCodecPlan (bytes_codec order) sizes type fill places ranges =
-    (range_indices ranges ≡ place_bytes (place_size type) places) × (sum_by (λ range. range.end - range.start) ranges ≡ length places * place_size type)
+IsCodecPlan (bytes_codec order) sizes type fill places ranges = IsElementPlan (place_size type) places ranges
 IsCodecPlan (packbits_codec settings) sizes type fill places ranges = IsOkAnd (packed_layout settings (form_of sizes type fill)) (λ layout. IsPlan layout places ranges)
 IsCodecPlan (vlen_codec ia ix ib da dx db wide at_end) sizes type fill places ranges = ⊥
 IsCodecPlan (optional_codec ma mx mb da dx db) sizes type fill places ranges = ⊥
@@ -207,6 +206,16 @@ read_rests_on f form stored selection = do
 abbrev pub WhereSure : {B : Type 0} → BytesCodecs B → ChunkForm B → StorageState → Selection → Type 0 → Type 0
 WhereSure f form before selection P =
     IfOk (read_rests_on f form before.value selection) (λ asked. IfSome asked (λ numbers. are_sure before.sure numbers ≡ true → P))
+
+-- the bytes are sure that a read rests on, where it asks for a part of the value alone
+abbrev pub are_asked_sure : Option (ℕ → Bool) → Result (Option (List ℕ)) CodecError → Bool
+are_asked_sure sure (Ok (Some numbers)) = are_sure sure numbers
+are_asked_sure sure (Ok None) = false
+are_asked_sure sure (Err error) = false
+
+-- a read of the selection never meets a failure of the handle that has this value and these sure bytes: it comes from a cache, or the bytes are sure that it rests on
+abbrev pub reads_surely : {B : Type 0} → Bool → BytesCodecs B → ChunkForm B → Option (List ℕ) → Option (ℕ → Bool) → Selection → Bool
+reads_surely cached f form stored sure selection = cached || are_asked_sure sure (read_rests_on f form stored selection)
 
 -- ---- what a read gives
 

@@ -8,8 +8,10 @@ use Rattle.zarrs_data_type.specs.Element.{Chunk, fill_element}
 use Rattle.zarrs_data_type.specs.ElementType.{ElementType}
 use Rattle.zarrs_array_bytes.specs.Elements.{elements, select}
 use Rattle.zarrs_array_bytes.specs.Held.{Held, byte_count}
+use Rattle.zarrs_array_bytes.specs.Tight.{IsTight}
 use Rattle.zarrs_array_bytes.specs.Validity.{Holds, validity}
 use Rattle.zarrs_codec.specs.BytesToBytesCodec.{BytesCodecs}
+use Rattle.zarrs_codec.specs.Calls.{Calls, after_reads}
 use Rattle.zarrs_codec.specs.declared.bytes_representation.BytesRepresentation.{BytesRepresentation}
 use Rattle.zarrs_codec.specs.declared.capabilities.PartialDecoderCapability.{PartialDecoderCapability}
 use Rattle.zarrs_chain_laws.specs.BytesStages.{outer_bytes, outer_representation}
@@ -150,12 +152,12 @@ held_by handle (kept.Bytes below (Some value)) = length value.items
 held_by handle (kept.Chunk None) = 0
 held_by handle (kept.Chunk (Some held)) = min (byte_count held) (2 ^ 64 - 1)
 
--- A cache of what answers rest on has so many bytes: those that it keeps, or those of a container that holds the chunk; none where nothing is stored. (At most 2^64 - 1 are counted.)
+-- A cache of what answers rest on has so many bytes: those that it keeps, or those of the tight container that holds the chunk; none where nothing is stored. (At most 2^64 - 1 are counted.)
 abbrev pub IsSizeOf : ElementType → Source → ℕ → Type 0
 IsSizeOf type (bytes_above below None) size = size ≡ 0
 IsSizeOf type (bytes_above below (Some value)) size = size ≡ length value
 IsSizeOf type (chunk_below None) size = size ≡ 0
-IsSizeOf type (chunk_below (Some chunk)) size = (held : Held) × Holds type held chunk × (size ≡ min (byte_count held) (2 ^ 64 - 1))
+IsSizeOf type (chunk_below (Some chunk)) size = (held : Held) × Holds type held chunk × IsTight type held × (size ≡ min (byte_count held) (2 ^ 64 - 1))
 
 -- ---- what calls give
 
@@ -199,3 +201,13 @@ wants_cache reads chain = has_cache (cache_stage reads chain)
 -- no failure of the handle comes where the chain's cache stands nowhere
 abbrev pub SureUncached : {B T : Type 0} → (B → PartialDecoderCapability) → CodecChain B → Result T CodecError → Type 0
 SureUncached reads chain result = cache_stage reads (plain_chain chain) ≡ stage.Nowhere → is_fault result ≡ false
+
+-- ---- how often the handle is asked: `calls` says what the record of a handle is
+
+-- how many reading calls fill a cache: one; where there is none, none
+abbrev pub filling_reads : Bool → ℕ
+filling_reads cached = if cached then 1 else 0
+
+-- a cache was made by so many reading calls
+abbrev pub FillsByReads : {H : Type 0} → (H → Option Calls) → (before after : H) → Result Cache CodecError → Type 0
+FillsByReads calls before after result = IfOk result (λ cache. calls after ≡ after_reads (filling_reads (is_kept cache)) (calls before))

@@ -1,6 +1,6 @@
 -- What a write in part leaves through a chain.
 use Rattle.zarrs_codec.specs.StorageState.{StorageState}
-use Rattle.std.specs.Prelude.{◌≡◌, ℕ, Bool, Option, Some, None, List, length, map, Result, Ok, Err, IfErr, OnOk, IsOkAnd, ◌+◌, ◌≤◌, All, Vec}
+use Rattle.std.specs.Prelude.{◌≡◌, ℕ, Bool, false, Option, Some, None, List, length, map, Result, Ok, Err, IfErr, OnOk, IsOkAnd, ◌+◌, ◌≤◌, All, Vec}
 use Rattle.zarrs_chunk.specs.Answer.{◌>>=◌, Answers, memory, memory_or_fault, seen, Gives}
 use Rattle.zarrs_chunk.specs.ChunkShape.{product}
 use Rattle.zarrs_chunk.specs.Indexer.{selection_of}
@@ -72,10 +72,10 @@ written_places type arrays sizes selection new = do
   m ← arrays_map type arrays sizes
   Ok (map m.to places)
 
--- the writer of a chunk of this form: it leaves of a selection and new elements what `stored_written` says
-abbrev pub chunk_writer : {B : Type 0} → BytesCodecs B → ChunkForm B → Bool → ArrayWriter
-chunk_writer f form in_part = record {
-  reads = λ stored. chunk_reader f form stored in_part;
+-- the writer of a chunk of this form, where these bytes are sure: it leaves of a selection and new elements what `stored_written` says
+abbrev pub chunk_writer : {B : Type 0} → BytesCodecs B → ChunkForm B → Option (ℕ → Bool) → Bool → ArrayWriter
+chunk_writer f form sure in_part = record {
+  reads = λ stored. chunk_reader f form false sure stored in_part;
   checks = data_checked form.sizes form.type;
   written = stored_written f form;
 }

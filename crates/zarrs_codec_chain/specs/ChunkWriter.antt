@@ -1,5 +1,5 @@
 -- What a reader of chunks writes, and what its private calls for that give.
-use Rattle.std.specs.Prelude.{ℕ, Option, None, Some, List, Vec, Result, IfOk}
+use Rattle.std.specs.Prelude.{◌≡◌, ℕ, true, false, Option, None, Some, is_some, List, Vec, Result, Ok, IfErr, IfOk}
 use Rattle.std.proofs.Common.{Global}
 use Rattle.std.specs.declared.borrow.CowSlice.{CowSlice}
 use Rattle.zarrs_chunk.specs.Answer.{Answers, AnswersBy, Gives, memory, memory_or_fault, seen}
@@ -15,9 +15,13 @@ use Rattle.zarrs_array_bytes.specs.Elements.{elements}
 use Rattle.zarrs_array_bytes.specs.Held.{Held, items_of}
 use Rattle.zarrs_array_bytes.specs.Validity.{Holds}
 use Rattle.zarrs_codec.specs.BytesToBytesCodec.{BytesCodecs}
-use Rattle.zarrs_codec.specs.StorageState.{StorageState}
-use Rattle.zarrs_codec_chain.specs.ChunkRead.{form_in_place}
-use Rattle.zarrs_codec_chain.specs.ChunkCoder.{coder_form}
+use Rattle.zarrs_codec.specs.Calls.{Calls, MakesWrite}
+use Rattle.zarrs_codec.specs.StorageState.{StorageState, value_indices}
+use Rattle.zarrs_bytes.specs.PartialWrite.{FailsByWriting}
+use Rattle.zarrs_chain_whole.specs.ChainView.{plain_chain}
+use Rattle.zarrs_codec_chain.specs.ChunkRead.{form_in_place, standing_places}
+use Rattle.zarrs_codec_chain.specs.ChunkCalls.{CountsEdit}
+use Rattle.zarrs_codec_chain.specs.ChunkCoder.{coder_form, reader_places}
 use Rattle.zarrs_codec_chain.specs.ChunkWrite.{WritesChunk, LeavesThere, edited_value, form_checked, form_written, started_chunk, value_left}
 use Rattle.zarrs_codec_chain.specs.declared.chunk_coder.ChunkCoder.{ChunkCoder}
 
@@ -46,6 +50,14 @@ abbrev pub SameEdit : {B : Type 0} {b : _} → ChunkCoder B b → Option Endiann
 SameEdit coder order region new result =
     IfOk result (λ there. LeavesThere (reader_functions coder) (coder_form coder) coder.encoded order (subset region) new there.0.items there.1)
 
+-- the runs of new elements that are given are those of the places where a region stands in the moved chunk
+abbrev pub StandThere : {B : Type 0} {b : _} → ChunkCoder B b → Region → Vec (ℕ × ℕ) Global × Held → Type 0
+StandThere coder region there = places_in there.0 ≡ standing_places (plain_chain coder.chain.now).array_to_array coder.shape region
+
+-- the runs that are given are those of the places where the places go that the indexer means
+abbrev pub ArePlaced : {B : Type 0} {b : _} → ChunkCoder B b → Indexer → Vec (ℕ × ℕ) Global → Type 0
+ArePlaced coder indexer runs = reader_places coder indexer ≡ Ok (places_in runs)
+
 -- ---- by the whole value
 
 -- the chunk that an edit starts from, of what the handle keeps, is read, or the first refusal (`state` says what a handle keeps)
@@ -68,6 +80,10 @@ abbrev pub WritesRuns : {H B : Type 0} {b : _} → (H → StorageState) → Chun
 WritesRuns state coder before after runs new result =
     Answers memory_or_fault (λ _. (state after).value) result (seen Some (value_left (reader_functions coder) (coder_form coder) None (state before).value (joined_runs runs) new))
 
+-- what is refused neither for want of memory nor by the handle leaves the handle as it was
+abbrev pub LeavesUnharmed : {H T : Type 0} → (H → StorageState) → (before after : H) → Result T CodecError → Type 0
+LeavesUnharmed state before after result = IfErr result (λ cause. memory_or_fault cause ≡ false → state after ≡ state before)
+
 -- ---- writes, as `WritesChunk` says
 
 -- of a selection, in place with this byte order
@@ -84,3 +100,16 @@ Renews state coder before after indexer new result =
 abbrev pub Writes : {H B : Type 0} {b : _} → (H → StorageState) → ChunkCoder B b → (before after : H) → Indexer → Held → Result (Unit {0}) CodecError → Type 0
 Writes state coder before after indexer new result =
     WritesChunk (reader_functions coder) (coder_form coder) (form_in_place (coder_form coder)) (state before) (state after) (selection_of indexer) new result
+
+-- where the chain writes in place and the handle has sure bytes, a failure that is returned is that of the writing call: nothing of the value is read
+abbrev pub ReadsNothing : {H T B : Type 0} {b : _} → (H → StorageState) → ChunkCoder B b → (before after : H) → Result T CodecError → Type 0
+ReadsNothing state coder before after result = is_some (form_in_place (coder_form coder)) ≡ true → FailsByWriting state before after result
+
+-- a write of what the indexer means is counted as an edit is
+abbrev pub CountsWriting : {H T B : Type 0} {b : _} → (H → Option Calls) → (H → StorageState) → ChunkCoder B b → Indexer → (before after : H) → Result T CodecError → Type 0
+CountsWriting calls state coder indexer before after result =
+    CountsEdit calls state (coder_form coder) (form_in_place (coder_form coder)) (selection_of indexer) before after result
+
+-- by the whole value: it is read once, and all of it is replaced
+abbrev pub CountsRenewal : {H T : Type 0} → (H → Option Calls) → (H → StorageState) → (before after : H) → Result T CodecError → Type 0
+CountsRenewal calls state before after result = MakesWrite calls 1 (value_indices (state after).value) before after result

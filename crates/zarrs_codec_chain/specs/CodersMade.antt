@@ -1,7 +1,8 @@
 -- How a chain makes coders of a chunk in part.
-use Rattle.std.specs.Prelude.{◌≡◌, List, ℕ, Result, IfOk, IfErr}
+use Rattle.std.specs.Prelude.{◌≡◌, List, ℕ, Option, Result, IfOk, IfErr}
 use Rattle.zarrs_chunk.specs.Answer.{Answers, GivesValue, memory_or_fault, seen}
 use Rattle.zarrs_data_type.specs.ElementType.{ElementType}
+use Rattle.zarrs_codec.specs.Calls.{Calls, after_reads}
 use Rattle.zarrs_codec.specs.Refused.{outcome}
 use Rattle.zarrs_codec.specs.StorageState.{StorageState, after_reading}
 use Rattle.zarrs_codec.specs.declared.capabilities.PartialDecoderCapability.{PartialDecoderCapability}
@@ -11,7 +12,7 @@ use Rattle.zarrs_chain_whole.specs.ChainView.{plain_chain}
 use Rattle.zarrs_chain_whole.specs.declared.codec_chain.CodecChain.{CodecChain}
 use Rattle.zarrs_codec_chain.specs.CachePlace.{has_cache_place}
 use Rattle.zarrs_codec_chain.specs.ChunkRead.{chunk_of}
-use Rattle.zarrs_codec_chain.specs.ChunkSource.{source_made}
+use Rattle.zarrs_codec_chain.specs.ChunkSource.{filling_reads, source_made}
 use Rattle.zarrs_codec_chain.specs.PartialDecoder.{decoder_source, form_of, handle_of, is_cached, made}
 use Rattle.zarrs_codec_chain.specs.PartialEncoder.{encoder_form}
 use Rattle.zarrs_codec_chain.specs.RefusedFirst.{RefusedFirst}
@@ -43,6 +44,10 @@ MadeOver view handle result = IfOk result (λ decoder. view (handle_of decoder) 
 -- the handle that a refusal hands back is as a reading call leaves it
 abbrev pub HandsBackRead : {H B : Type 0} {h : _} {b : _} → (H → StorageState) → H → Result (ArrayPartialDecoder H B h b) (Refused H) → Type 0
 HandsBackRead state handle result = IfErr result (λ refused. state refused.handle ≡ after_reading (made result) (state handle))
+
+-- a decoder that is made asked the handle once where it has a cache, and else never (`calls` says what the record of a handle is)
+abbrev pub MadeByReads : {H B : Type 0} {h : _} {b : _} → (H → Option Calls) → H → Result (ArrayPartialDecoder H B h b) (Refused H) → Type 0
+MadeByReads calls handle result = IfOk result (λ decoder. calls (handle_of decoder) ≡ after_reads (filling_reads (is_cached decoder)) (calls handle))
 
 -- An encoder of the chunk of these sizes, this type and this fill value is made where the chain has a representation of it; else the first refusal is answered.
 abbrev pub EncoderMade : {H B : Type 0} {h : _} {w : _} {b : _} → CodecChain B → List ℕ → ElementType → List ℕ → Result (ArrayPartialEncoder H B h w b) (Refused H) → Type 0

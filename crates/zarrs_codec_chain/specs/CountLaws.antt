@@ -62,8 +62,8 @@ codec_count f (vlen_codec ia ix ib da dx db wide at_end) sizes type fill stored 
 codec_count f (optional_codec ma mx mb da dx db) sizes type fill stored places chunk e =
     whole_count (codec_chunk f (optional_codec ma mx mb da dx db)) sizes type fill stored places chunk e
 
-pub chunk_counts : {B : Type 0} (f : BytesCodecs B) (form : ChunkForm B) (stored : Option (List ℕ)) (in_part : Bool) → IsCounted (chunk_reader f form stored in_part)
-chunk_counts f form stored in_part selection chunk e =
+pub chunk_counts : {B : Type 0} (f : BytesCodecs B) (form : ChunkForm B) (cached : Bool) (sure : Option (ℕ → Bool)) (stored : Option (List ℕ)) (in_part : Bool) → IsCounted (chunk_reader f form cached sure stored in_part)
+chunk_counts f form cached sure stored in_part selection chunk e =
     let encoded = passed (encoded_places form.type form.chain.array_to_array form.sizes selection)
     (λ places. taken_form f form.chain form.sizes form.type form.fill >>= λ taken. outer_stored f form.chain.bytes_to_bytes taken.1 stored >>= λ below. codec_read f form.chain.array_to_bytes taken.0 form.type form.fill below places) chunk e in
     let places = passed (places_of selection form.sizes) (λ places. arrays_map form.type form.chain.array_to_array form.sizes >>= λ m. Ok (map m.to places)) encoded.given encoded.first_is in
@@ -77,8 +77,8 @@ chunk_counts f form stored in_part selection chunk e =
           ∙ ap length (sym (same_value (map moved.given.to places.given) encoded.given moved.second_is)) ∙ length-map places.given moved.given.to ∙ counted.count;
     }
 
-pub codec_counts : {B : Type 0} (f : BytesCodecs B) (form : CodecForm B) (stored : Option (List ℕ)) (in_part : Bool) → IsCounted (codec_reader f form stored in_part)
-codec_counts f form stored in_part selection chunk e =
+pub codec_counts : {B : Type 0} (f : BytesCodecs B) (form : CodecForm B) (sure : Option (ℕ → Bool)) (stored : Option (List ℕ)) (in_part : Bool) → IsCounted (codec_reader f form sure stored in_part)
+codec_counts f form sure stored in_part selection chunk e =
     let places = passed (places_of selection form.sizes) (codec_read f form.codec form.sizes form.type form.fill stored) chunk e in
     let counted = places_counted selection form.sizes places.given places.first_is in
     record {

@@ -1,5 +1,5 @@
 -- Edits of a stored chunk, one after another.
-use Rattle.std.specs.Prelude.{◌≡◌, ℕ, zero, suc, ◌+◌, Bool, true, Option, Some, None, IfNone, IfSome, List, [], ◌∷◌, take, Result, Ok, Err, IsOkAnd, All}
+use Rattle.std.specs.Prelude.{◌≡◌, ℕ, zero, suc, ◌+◌, Bool, true, false, Option, Some, None, IfNone, IfSome, List, [], ◌∷◌, take, Result, Ok, Err, IsOkAnd, All}
 use Rattle.zarrs_chunk.specs.Answer.{◌>>=◌, Excused, fault, memory_or_fault, never, seen}
 use Rattle.zarrs_chunk.specs.Indexer.{selection_of}
 use Rattle.zarrs_chunk.specs.declared.codec_error.CodecError.{CodecError}
@@ -110,10 +110,11 @@ after_edits done stored state = record state {
   accepted_writes = advanced done state.accepted_writes;
 }
 
--- what is left where an edit was refused behind so many accepted ones: what a refused write leaves of that; else that
+-- what is left where an edit was refused behind so many accepted ones: what a refused write leaves of that, and that itself where neither memory nor the handle was the cause; else that
 abbrev pub LeavesEdits : Option CodecError → StorageState → StorageState → Type 0
 LeavesEdits None accepted left = left ≡ accepted
-LeavesEdits (Some refusal) accepted left = IsRefusedWrite {T = Unit {0}} (Err refusal) accepted left
+LeavesEdits (Some refusal) accepted left =
+    IsRefusedWrite {T = Unit {0}} (Err refusal) accepted left × (memory_or_fault refusal ≡ false → left ≡ accepted)
 
 -- ---- what a list of edits gives
 

@@ -3,7 +3,7 @@ pub mod CachePlace
 pub mod ChunkRead
 pub mod CodecRead
 pub mod ChunkSource
-pub mod CacheBlank
+pub mod CacheTight
 pub mod SizeLaws
 pub mod ChunkCoder
 pub mod PartialDecoder
@@ -11,6 +11,7 @@ pub mod CountLaws
 pub mod ChunkWrite
 pub mod PartialEncoder
 pub mod CodersMade
+pub mod ChunkCalls
 pub mod ChunkWriter
 pub mod Edits
 pub mod ElementCode

@@ -7,10 +7,12 @@ use Rattle.zarrs_chunk.specs.declared.indexer.Indexer.{Indexer}
 use Rattle.zarrs_codec.specs.ArrayReader.{ArrayReader}
 use Rattle.zarrs_codec.specs.ByteSpan.{ByteSpan}
 use Rattle.zarrs_codec.specs.BytesToBytesCodec.{BytesCodecs}
+use Rattle.zarrs_codec.specs.Calls.{Calls}
 use Rattle.zarrs_codec.specs.StorageState.{StorageState, after_reading}
+use Rattle.zarrs_codec_chain.specs.ChunkCalls.{AsksOnceUncached, LeftAloneIf}
 use Rattle.zarrs_codec.specs.declared.refused.Refused.{Refused}
 use Rattle.zarrs_codec_chain.specs.ChunkCoder.{coder_form, reader_source}
-use Rattle.zarrs_codec_chain.specs.ChunkRead.{ChunkForm, PlansRead, ReadsChunk, form_decodes_parts, stored_read}
+use Rattle.zarrs_codec_chain.specs.ChunkRead.{ChunkForm, PlansRead, ReadsChunk, form_decodes_parts, reads_surely, stored_read}
 use Rattle.zarrs_codec_chain.specs.ChunkSource.{Source, held_by, is_kept, IsCacheSize}
 use Rattle.zarrs_codec_chain.specs.declared.partial_decoder.array_partial_decoder.ArrayPartialDecoder.{ArrayPartialDecoder}
 use Rattle.zarrs_array_bytes.specs.Held.{Held}
@@ -41,13 +43,14 @@ abbrev pub made : {T H : Type 0} → Result T (Refused H) → Result T CodecErro
 made (Ok decoder) = Ok decoder
 made (Err refused) = Err refused.error
 
--- the reader of a chunk of this form, where this value or none is stored: it answers of a selection what `stored_read` says
-abbrev pub chunk_reader : {B : Type 0} → BytesCodecs B → ChunkForm B → Option (List ℕ) → Bool → ArrayReader
-chunk_reader f form stored in_part = record {
+-- the reader of a chunk of this form, with a cache or without one, where these bytes are sure and this value or none is stored: it answers of a selection what `stored_read` says
+abbrev pub chunk_reader : {B : Type 0} → BytesCodecs B → ChunkForm B → Bool → Option (ℕ → Bool) → Option (List ℕ) → Bool → ArrayReader
+chunk_reader f form cached sure stored in_part = record {
   sizes = form.sizes;
   type = form.type;
   is_stored = is_some stored;
   answer = stored_read f form stored;
+  sure = reads_surely cached f form stored sure;
   in_part = in_part;
 }
 
@@ -62,6 +65,15 @@ pub record LeavesAll {C T L F : Type 0} (state : C → StorageState) (lent : C �
 abbrev pub DecoderLeaves : {H B T L : Type 0} {h : _} {b : _} → (H → StorageState) → (H → L) → ArrayPartialDecoder H B h b → ArrayPartialDecoder H B h b → Result T CodecError → Type 0
 DecoderLeaves state lent before after result =
     LeavesAll (λ decoder. state (handle_of decoder)) (λ decoder. lent (handle_of decoder)) form_of is_cached before after result
+
+-- with a cache the handle is left alone
+abbrev pub DecoderLeavesAlone : {H B : Type 0} {h : _} {b : _} → (before after : ArrayPartialDecoder H B h b) → Type 0
+DecoderLeavesAlone before after = LeftAloneIf (is_cached before) (handle_of before) (handle_of after)
+
+-- a read without a cache that asks for the whole value asks once (`calls` says what the record of a handle is)
+abbrev pub DecoderAsksOnce : {H B T : Type 0} {h : _} {b : _} → (H → Option Calls) → (before after : ArrayPartialDecoder H B h b) → Result T CodecError → Type 0
+DecoderAsksOnce calls before after result =
+    AsksOnceUncached calls (is_cached before) (form_of before).chain.bytes_to_bytes (form_of before).chain.array_to_bytes (handle_of before) (handle_of after) result
 
 -- all codecs of its chain decode a part
 abbrev pub decoder_reads_parts : {H B : Type 0} {h : _} {b : _} → (B → PartialDecoderCapability) → ArrayPartialDecoder H B h b → Bool

@@ -1,5 +1,5 @@
 -- What a partial encoder of a chain is made of, and what its calls leave.
-use Rattle.std.specs.Prelude.{◌≡◌, ℕ, Bool, true, Option, List, OnErr, Result, Vec}
+use Rattle.std.specs.Prelude.{◌≡◌, ℕ, Bool, true, Option, is_some, List, OnErr, Result, Vec}
 use Rattle.std.proofs.Common.{Global}
 use Rattle.zarrs_chunk.specs.Answer.{Answers}
 use Rattle.zarrs_chunk.specs.declared.codec_error.CodecError.{CodecError}
@@ -8,9 +8,12 @@ use Rattle.zarrs_codec.specs.BytesToBytesCodec.{BytesCodecs}
 use Rattle.zarrs_codec.specs.declared.capabilities.PartialDecoderCapability.{PartialDecoderCapability}
 use Rattle.zarrs_codec.specs.declared.capabilities.PartialEncoderCapability.{PartialEncoderCapability}
 use Rattle.zarrs_codec.specs.CodersOverHandles.{OnlyReads, OnlyWrites}
+use Rattle.zarrs_codec.specs.Calls.{Calls}
 use Rattle.zarrs_codec.specs.StorageState.{StorageState, after_writing, apart_from_value}
+use Rattle.zarrs_codec_chain.specs.ChunkCalls.{AsksOnceForAll, CountsEdit}
 use Rattle.zarrs_codec_chain.specs.ChunkCoder.{coder_form}
-use Rattle.zarrs_codec_chain.specs.ChunkRead.{ChunkForm, PlansRead, ReadsChunk, form_decodes_parts}
+use Rattle.zarrs_bytes.specs.PartialWrite.{FailsByWriting}
+use Rattle.zarrs_codec_chain.specs.ChunkRead.{ChunkForm, PlansRead, ReadsChunk, form_decodes_parts, form_in_place}
 use Rattle.zarrs_codec_chain.specs.Edits.{edit_excuse, edited_store, RunsEdits}
 use Rattle.zarrs_codec_chain.specs.declared.partial_encoder.array_partial_encoder.ArrayPartialEncoder.{ArrayPartialEncoder}
 use Rattle.zarrs_codec_chain.specs.declared.partial_encoder.edits.Edit.{Edit}
@@ -94,6 +97,21 @@ EncoderPlans encoder indexer result = PlansRead (encoder_functions encoder) (enc
 abbrev pub EncoderLeaves : {H B : Type 0} {h : _} {w : _} {b : _} → (H → StorageState) → (before after : ArrayPartialEncoder H B h w b) → Indexer → Held → Result (Unit {0}) CodecError → Type 0
 EncoderLeaves state before after indexer new result =
     EditsChunk (encoder_functions before) (encoder_form before) (encoder_state state before) (encoder_state state after) (selection_of indexer) new result
+
+-- where its chain writes in place and the handle has sure bytes, a failure that is returned is that of the writing call: nothing of the value is read
+abbrev pub EncoderReadsNothing : {H B T : Type 0} {h : _} {w : _} {b : _} → (H → StorageState) → (before after : ArrayPartialEncoder H B h w b) → Result T CodecError → Type 0
+EncoderReadsNothing state before after result =
+    is_some (form_in_place (encoder_form before)) ≡ true → FailsByWriting (encoder_state state) before after result
+
+-- a read that asks for the whole value asks once (`calls` says what the record of a handle is)
+abbrev pub EncoderAsksOnce : {H B T : Type 0} {h : _} {w : _} {b : _} → (H → Option Calls) → (before after : ArrayPartialEncoder H B h w b) → Result T CodecError → Type 0
+EncoderAsksOnce calls before after result =
+    AsksOnceForAll calls (encoder_form before).chain.bytes_to_bytes (encoder_form before).chain.array_to_bytes (encoder_handle before) (encoder_handle after) result
+
+-- how often an accepted write of an encoder asks the handle, and which bytes it replaces (`calls` says what the record of a handle is)
+abbrev pub EncoderCounts : {H B T : Type 0} {h : _} {w : _} {b : _} → (H → Option Calls) → (H → StorageState) → (before after : ArrayPartialEncoder H B h w b) → Indexer → Result T CodecError → Type 0
+EncoderCounts calls state before after indexer result =
+    CountsEdit calls state (encoder_form before) (form_in_place (encoder_form before)) (selection_of indexer) (encoder_handle before) (encoder_handle after) result
 
 -- all codecs of an encoder's chain decode a part
 abbrev pub decodes_in_part : {H B : Type 0} {h : _} {w : _} {b : _} → (B → PartialDecoderCapability) → ArrayPartialEncoder H B h w b → Bool

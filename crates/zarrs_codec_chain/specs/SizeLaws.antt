@@ -10,7 +10,6 @@ abbrev pub ChunkSizesAreExact : Type 0
 ChunkSizesAreExact =
     (type : ElementType) (each size : ℕ) (chunk : Chunk) → bytes_each type ≡ Some each → IsSizeOf type (chunk_below (Some chunk)) size → size ≡ min (length chunk * each) (2 ^ 64 - 1)
 
--- So what answers rest on has one size, whatever a cache keeps of it.
+-- What answers rest on has one size, whatever a cache keeps of it.
 abbrev pub SizesAreExact : Type 0
-SizesAreExact =
-    (type : ElementType) (each size other : ℕ) (source : Source) → bytes_each type ≡ Some each → IsSizeOf type source size → IsSizeOf type source other → size ≡ other
+SizesAreExact = (type : ElementType) (size other : ℕ) (source : Source) → IsSizeOf type source size → IsSizeOf type source other → size ≡ other

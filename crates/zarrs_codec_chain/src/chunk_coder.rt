@@ -6,7 +6,7 @@ ghost use Rattle.zarrs_codec.specs.StorageState.{after_reading};
 ghost use Rattle.zarrs_chain_laws.specs.Chain.{codec_reads as codec_reads_of, taken_form as taken_form_of};
 ghost use Rattle.zarrs_chain_whole.specs.ChainView.{plain_chain};
 ghost use Rattle.zarrs_codec_chain.specs.ChunkSource.{cache_fits, SureUncached};
-ghost use Rattle.zarrs_codec_chain.specs.CacheBlank.{CacheIsBlank, CacheIsBlank-prop};
+ghost use Rattle.zarrs_codec_chain.specs.CacheTight.{CacheIsTight, CacheIsTight-prop};
 ghost use Rattle.zarrs_chain_laws.specs.Laws.{IsChainOfMappings};
 ghost use Rattle.zarrs_chain_laws.specs.Representation.{codec_representation};
 
@@ -36,11 +36,11 @@ pub(crate) struct ChunkCoder<'a, B: BytesToBytesCodecTraits> {
     ghost counted: { product encoded < 2 ^ 64 },
     ghost counted_whole: { product shape < 2 ^ 64 },
     ghost fits: { cache_fits (codec_reads_of (plain_chain chain.now).array_to_bytes) data_type (product encoded) (length (plain_chain chain.now).bytes_to_bytes) cache ≡ true },
-    ghost blank: { CacheIsBlank data_type cache } by { CacheIsBlank-prop data_type cache },
+    ghost tight: { CacheIsTight data_type cache } by { CacheIsTight-prop data_type cache },
 }
 
 impl<'a, B: BytesToBytesCodecTraits> ChunkCoder<'a, B> {
-    ghost use Rattle.zarrs_codec_chain.specs.ChunkCoder.{coder_form, coder_is_cached, MeasuresCoder, MakesCoder, CachesAsWanted, FillsFrom, FormFirst, CoderHasForm};
+    ghost use Rattle.zarrs_codec_chain.specs.ChunkCoder.{coder_form, coder_is_cached, MeasuresCoder, MakesByReads, MakesCoder, CachesAsWanted, FillsFrom, FormFirst, CoderHasForm};
 
     /// A coder of such a chunk without a cache. Refusals: those of the chain's representation.
     pub(crate) fn uncached(
@@ -88,6 +88,7 @@ impl<'a, B: BytesToBytesCodecTraits> ChunkCoder<'a, B> {
         ensures no_fault_if_uncached { SureUncached B.reads_in_part chain.now result }
         ensures measured_first { FormFirst chain.now shape.now data_type.now fill.now result }
         ensures cache_filled { FillsFrom B.functions (H.state handle.old).value result }
+        ensures counted { MakesByReads H.calls handle.old handle.new result }
         ensures left { H.state handle.new ≡ after_reading result (H.state handle.old) }
         ensures same_reference { H.lent handle.new ≡ H.lent handle.old }
     {

@@ -2,7 +2,7 @@
 ghost use Rattle.std.specs.Prelude.{◌≡◌, IfOk, IfErr};
 ghost use Rattle.zarrs_codec_chain.specs.CachePlace.{SureWithoutCache};
 ghost use Rattle.zarrs_codec_chain.specs.ChunkRead.{SureInPart};
-ghost use Rattle.zarrs_codec_chain.specs.CodersMade.{CachesAsPlaced, ChainFirst, DecoderHasForm, DecoderMade, EncoderHasForm, EncoderMade, HandsBackRead, MadeOver};
+ghost use Rattle.zarrs_codec_chain.specs.CodersMade.{CachesAsPlaced, ChainFirst, DecoderHasForm, DecoderMade, EncoderHasForm, EncoderMade, HandsBackRead, MadeByReads, MadeOver};
 ghost use Rattle.zarrs_codec_chain.specs.PartialDecoder.{made};
 ghost use Rattle.zarrs_codec_chain.specs.PartialEncoder.{encoder_handle};
 
@@ -56,7 +56,8 @@ impl<B: BytesToBytesCodecTraits> CodecChainPartialTraits<B> for CodecChain<B> {
     /// - of `optional` `InvalidBytesLength`, `HeaderOverflow`, `InvalidBytesLength`, those of the
     ///   mask chain, `MaskValue`, those of the data chain.
     ///
-    /// A refusal hands the handle back, as it stands. Without a cache the handle isn't asked.
+    /// A refusal hands the handle back, as it stands. With a cache the handle is asked once, and without one
+    /// never.
     fn partial_decoder<'a, H: BytesPartialDecoderTraits>(
         &'a self,
         alloc: Global,
@@ -69,6 +70,7 @@ impl<B: BytesToBytesCodecTraits> CodecChainPartialTraits<B> for CodecChain<B> {
         ensures form { DecoderHasForm self.now shape.now data_type.now fill_value.now result }
         ensures cached { CachesAsPlaced B.reads_in_part self.now result }
         ensures over_state { MadeOver H.state handle result }
+        ensures counted { MadeByReads H.calls handle result }
         ensures over_reference { MadeOver H.lent handle result }
         ensures handed_left { HandsBackRead H.state handle result }
         ensures handed_reference { IfErr result (λ refused. H.lent refused.handle ≡ H.lent handle) }

@@ -3,8 +3,8 @@ ghost use Rattle.zarrs_codec.specs.BytesToBytesCodec.{BytesCodecs};
 ghost use Rattle.zarrs_codec_chain.specs.ReadLaws.{PlannedPlacesAreMeant, StoredReadsAlike, StoredSelects};
 ghost use Rattle.zarrs_codec_chain.specs.SizeLaws.{ChunkSizesAreExact, SizesAreExact};
 
-/// Where elements all take as many bytes, with their mask bytes, a cache of a chunk has these bytes and
-/// no others. So what answers rest on has one size, whatever container holds it.
+/// What answers rest on has one size, whatever a cache keeps of it: tight containers of one chunk are the
+/// same bytes. Where elements all take as many bytes, with their mask bytes, it is these and no others.
 pub fn sizes_are_exact()
     ensures chunk { ChunkSizesAreExact }
     ensures law { SizesAreExact }

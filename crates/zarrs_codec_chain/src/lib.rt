@@ -25,8 +25,11 @@ pub use zarrs_array_bytes::{
     ArrayBytes, ArrayBytesDecodeIntoTarget, ArrayBytesFixedView, ArrayBytesOffsets, ArrayBytesRaw,
     update_array_bytes,
 };
-pub use zarrs_array_to_array::{ArrayToArrayCodec, ReshapeCodec, SqueezeCodec, TransposeCodec};
-pub use zarrs_bytes::{BytesCodec, BytesCodecPartial};
+pub use zarrs_array_to_array::{
+    ArrayToArrayCodec, RESHAPE, ReshapeCodec, SQUEEZE, SqueezeCodec, TRANSPOSE, TransposeCodec,
+};
+pub use zarrs_bytes::{BYTES, BytesCodec, BytesCodecPartial};
+pub use zarrs_chain_laws::codec_name::{OPTIONAL, VLEN};
 pub use zarrs_chain_laws::vlen::plain_vlen::PlainVlen;
 pub use zarrs_chain_whole::reencode::reencode;
 pub use zarrs_chain_whole::{ArrayToBytesCodec, CodecChain, OptionalCodec, VlenCodec};
@@ -49,4 +52,4 @@ pub use zarrs_metadata::{
     TransposeCodecConfigurationV1, TransposeOrder, VlenCodecConfiguration,
     VlenCodecConfigurationV0, VlenCodecConfigurationV0_1, VlenIndexDataType, VlenIndexLocation,
 };
-pub use zarrs_packbits::{PackBitsCodec, PackBitsPartialDecoder};
+pub use zarrs_packbits::{PACKBITS, PackBitsCodec, PackBitsPartialDecoder};

@@ -3,7 +3,8 @@
 use crate::chunks::{A_AND_BC, BYTES, FOUR_BITS, HALF_BYTES, ORDERLESS, TEXTS, WITH_LENGTH};
 use crate::coders::Kind;
 use crate::rows::{FIRST, NONE, Row, SECOND};
-use zarrs_chunk::{CodecError, CodecName};
+use zarrs_chunk::CodecError;
+use zarrs_codec_chain::VLEN;
 
 /// Encoders keep what their handles do.
 pub(crate) const ENCODERS: &'static [Row] = &[
@@ -256,11 +257,7 @@ pub(crate) const NEVER_MADE: &'static [Row] = &[
         value: Some(b"\x07"),
         fails_at: 0,
         part: r#"{"at":{"ranges":[[1,2]]},"data":[]}"#,
-        refusals: [
-            Some(CodecError::UnsupportedDataType(CodecName::Vlen)),
-            None,
-            None,
-        ],
+        refusals: [Some(CodecError::UnsupportedDataType(VLEN)), None, None],
         in_part: false,
         planned: None,
         size_held: 0,

@@ -13,7 +13,7 @@ pub data Element : Type 0 where
 abbrev pub Chunk : Type 0
 Chunk = List Element
 
--- The element is of the type: of a fixed type as many bytes as its size says, of a variable type any bytes, of an optional type absent, or present with an element of the type inside.
+-- The element is of the type: of a fixed type as many bytes as its size, of a variable type any bytes, of an optional type absent, or present with an element of the type inside.
 abbrev pub IsElement : ElementType → Element → Type 0
 IsElement (fixed width count sign) (plain items) = length items ≡ element_size width count
 IsElement text (plain items) = Unit {0}

@@ -14,15 +14,15 @@ pub data ElementType : Type 0 where
   bytes : ElementType
   optional : ElementType → ElementType
 
--- how many bytes a component of so many bits takes
+-- how many bytes a component of so many bits has
 abbrev pub component_bytes : ℕ → ℕ
 component_bytes width = (width + 7) / 8
 
--- how many bytes an element of so many components takes
+-- how many bytes an element of so many components has
 abbrev pub element_size : ℕ → ℕ → ℕ
 element_size width count = count * component_bytes width
 
--- how many bytes an element takes, where the type is fixed
+-- how many bytes an element has, where the type is fixed
 abbrev pub fixed_size_of : ElementType → Option ℕ
 fixed_size_of (fixed width count sign) = Some (element_size width count)
 fixed_size_of text = None
@@ -102,7 +102,7 @@ type_of_numbers-numbers_of_type text = refl
 type_of_numbers-numbers_of_type bytes = refl
 type_of_numbers-numbers_of_type (optional type) = ap optional (type_of_numbers-numbers_of_type type)
 
--- types are told apart by their numbers
+-- types of different numbers differ
 abbrev pub type_code : Coded ElementType
 type_code =
     code_by TypeNumbers (coded× coded_ℕ (coded× coded_ℕ (coded× coded_ℕ (coded× coded_ℕ coded_bool)))) numbers_of_type type_of_numbers type_of_numbers-numbers_of_type

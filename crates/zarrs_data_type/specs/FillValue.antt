@@ -14,7 +14,7 @@ ends_in_one fill = nat_lt 0 (length fill) && (slice_index fill (length fill - 1)
 abbrev pub front_of : List ℕ → List ℕ
 front_of fill = take (length fill - 1) fill
 
--- The bytes are a fill value of the type: of a fixed type as many as an element takes, of a variable type any, of an optional type the byte 0, or bytes that fit the type inside and then 1.
+-- The bytes are a fill value of the type: of a fixed type as many as an element has, of a variable type any, of an optional type the byte 0, or bytes that fit the type inside and then 1.
 abbrev pub fill_fits : ElementType → List ℕ → Bool
 fill_fits (fixed width count sign) fill = length fill == element_size width count
 fill_fits text fill = true

@@ -1,4 +1,4 @@
--- What kind of chunk is meant.
+-- The kind of a chunk.
 use Rattle.std.specs.Prelude.{ℕ, List}
 use Rattle.zarrs_data_type.specs.ElementType.{ElementType}
 

@@ -1,10 +1,11 @@
+//! The components of the elements of fixed types.
 ghost use Rattle.std.specs.Prelude.{◌≡◌, IfSome};
 ghost use Rattle.zarrs_data_type.specs.ElementType.{ElementType, IsFixedType, components_of};
 
 /// The components of an element of a fixed type.
 #[derive(Clone, Copy, Debug, PartialEq, Eq)]
 pub struct Components {
-    /// The bits of a component, at least 1. In memory it takes whole bytes.
+    /// The bits of a component, at least 1. In memory it has whole bytes.
     pub component_size_bits: u64,
     /// The components of an element, at least 1.
     pub num_components: u64,
@@ -15,7 +16,7 @@ pub struct Components {
 /// What a codec has to know of a fixed type. It stands in a trait, since
 /// [`DataType::components`](crate::DataType::components) makes a type.
 pub trait HasComponents {
-    // The type that is meant.
+    // The type.
     ghost element_type: { Self → ElementType };
 
     /// The components of an element, or `None` for a type that is not fixed.

@@ -1,3 +1,4 @@
+//! The types of elements.
 ghost use Rattle.std.specs.Prelude.{◌≡◌, ◌<◌, false, true, IfSome, is_some};
 ghost use Rattle.std.specs.Option.{option_map};
 ghost use Rattle.std.specs.Cmp.{partial_equiv_from_equiv};
@@ -165,8 +166,8 @@ impl DataType {
         DataType::single(64, false)
     }
 
-    /// Elements of `num_components` components of `component_size_bits` bits each. Refusals, the
-    /// first that holds: `BitRange` where either number is zero; `Overflow` where an element takes
+    /// Elements of `num_components` components of `component_size_bits` bits each. Errors, the
+    /// first that holds: `BitRange` where either number is zero; `Overflow` where an element has
     /// `2^64` bytes or more.
     pub fn components(
         component_size_bits: u64,
@@ -200,7 +201,7 @@ impl DataType {
         DataType { kind: Kind::Bytes }
     }
 
-    /// Elements of `inner` that may be absent. Refusals: `OutOfMemory`.
+    /// Elements of `inner` that may be absent. Errors: `OutOfMemory`.
     pub fn optional(alloc: Global, inner: DataType) -> Result<DataType, CodecError>
         ensures answer { Answers memory (λ data_type. data_type) result (Ok (optional inner)) }
     {
@@ -263,7 +264,7 @@ impl DataType {
         }
     }
 
-    /// An equal type. Refusals: `OutOfMemory`, of an optional type alone.
+    /// An equal type. Errors: `OutOfMemory`, of an optional type alone.
     pub fn clone(&self) -> Result<DataType, CodecError>
         ensures copy { Answers memory (λ copy. copy) result (Ok self.now) }
         ensures in_place { inner_of self.now ≡ None → result ≡ Ok self.now }

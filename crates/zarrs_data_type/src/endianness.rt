@@ -1,3 +1,4 @@
+//! Byte orders.
 ghost use Rattle.std.specs.Prelude.{◌≡◌};
 
 /// The order of the bytes of a component (Zarr v3 codec `bytes`, its key `endian`).

@@ -1,3 +1,4 @@
+//! Fill values.
 ghost use Rattle.std.specs.Prelude.{◌≡◌, [], ◌∷◌, ◌++◌, IsTrue};
 ghost use Rattle.std.specs.Bool.{nat_eq};
 ghost use Rattle.std.specs.Cmp.Lexicographic.{pointwise};
@@ -38,14 +39,14 @@ impl FillValue {
         FillValue { bytes }
     }
 
-    /// The absent fill value of an optional type. Refusals: `OutOfMemory`.
+    /// The absent fill value of an optional type. Errors: `OutOfMemory`.
     pub fn new_optional_null(alloc: Global) -> Result<FillValue, CodecError>
         ensures answer { Answers memory (λ fill. fill) result (Ok (0 ∷ [])) }
     {
         Ok(FillValue::new(vec![in alloc; 0u8; 1]?))
     }
 
-    /// The fill value as a present one of the optional type round its own. Refusals: `OutOfMemory`.
+    /// The fill value as a present one of the optional type round its own. Errors: `OutOfMemory`.
     pub fn into_optional(self) -> Result<FillValue, CodecError>
         ensures answer { Answers memory (λ fill. fill) result (Ok (self ++ 1 ∷ [])) }
     {
@@ -69,7 +70,7 @@ impl FillValue {
         data_type.accepts(self.as_ne_bytes())
     }
 
-    /// An equal fill value. Refusals: `OutOfMemory`.
+    /// An equal fill value. Errors: `OutOfMemory`.
     pub fn clone(&self) -> Result<FillValue, CodecError>
         ensures copy { Answers memory (λ copy. copy) result (Ok self.now) }
     {

@@ -29,7 +29,7 @@ abbrev pub members_of : Option Members → Members
 members_of None = no_members
 members_of (Some members) = members
 
--- what is read of a metadata by one of a codec's names: another name is refused before the configuration is looked at
+-- what is read of a metadata by one of a codec's names: another name is rejected before the configuration is looked at
 abbrev pub made_of : {A : Type 0} → (List ℕ → Bool) → (Members → Result A PluginCreateError) → Metadata → Result A PluginCreateError
 made_of is_name reading metadata = do
   _ ← demand (is_name metadata.name) UnknownName
@@ -142,6 +142,6 @@ SqueezeMadeAgain = squeeze_made squeeze_metadata ≡ Ok tt
 abbrev pub BytesMadeAgain : Type 0
 BytesMadeAgain = (endian : Option Endianness) → bytes_made (bytes_metadata endian) ≡ Ok endian
 
--- what is written of fields whose bits are in order makes those fields, with their padding said
+-- what is written of fields whose bits are in order makes those fields, with their padding given
 abbrev pub PackBitsMadeAgain : Type 0
 PackBitsMadeAgain = (fields : PackBitsCodecConfigurationV1) → are_bits_in_order fields.first_bit fields.last_bit ≡ true → packbits_made (packbits_metadata fields) ≡ Ok (with_padding_said fields)

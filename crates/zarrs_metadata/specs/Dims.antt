@@ -20,6 +20,12 @@ is_auto (size n) = false
 is_auto auto = true
 is_auto (input_dims axes) = false
 
+-- the size is the product of those of named axes
+abbrev pub names_axes : Dim → Bool
+names_axes (size n) = false
+names_axes auto = false
+names_axes (input_dims axes) = true
+
 -- no size is the number zero
 abbrev pub has_no_zero : List Dim → Bool
 has_no_zero dims = list_all is_nonzero dims

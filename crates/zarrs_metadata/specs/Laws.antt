@@ -5,7 +5,7 @@ use Rattle.std.specs.List.Sorted.{IsPermutation}
 use Rattle.zarrs_metadata.specs.Dims.{Dim, is_reshape, IsReshape}
 use Rattle.zarrs_metadata.specs.Orders.{is_order, IsOrder}
 
--- the test for an order says what it says entry by entry
+-- the test for an order, entry by entry
 abbrev pub OrdersGoByEntry : Type 0
 OrdersGoByEntry = (order : List ℕ) → (is_order order ≡ true) ↔ IsOrder order
 
@@ -17,6 +17,6 @@ OrdersHaveEachAxis = (order : List ℕ) (axis : ℕ) → is_order order ≡ true
 abbrev pub OrdersArePermutations : Type 0
 OrdersArePermutations = (order : List ℕ) → is_order order ≡ true → IsPermutation (range_with_len 0 (length order)) order
 
--- the test for the sizes of a reshape says what it says size by size
+-- the test for the sizes of a reshape, size by size
 abbrev pub ReshapesGoBySize : Type 0
 ReshapesGoBySize = (dims : List Dim) → (is_reshape dims ≡ true) ↔ IsReshape dims

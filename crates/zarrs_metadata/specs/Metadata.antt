@@ -8,13 +8,13 @@ use Rattle.zarrs_metadata.specs.Trees.{needed_text, optional_key}
 use Rattle.zarrs_metadata.specs.declared.plugin_create_error.PluginCreateError.{PluginCreateError}
 use Rattle.zarrs_metadata.specs.declared.plugin_create_error.PluginCreateError.TheVariants.{InvalidConfiguration}
 
--- A codec's name, its configuration where it has one, and whether a reader that can't make the codec has to refuse.
+-- A codec's name, its configuration where it has one, and whether a reader that can't make the codec has to fail.
 pub record Metadata : Type 0 where
   pub name : List ℕ
   pub configuration : Option Members
   pub must_understand : Bool
 
--- true where nothing is said
+-- true where nothing is given
 abbrev pub unless_false : Option Bool → Bool
 unless_false None = true
 unless_false (Some truth) = truth
@@ -63,11 +63,11 @@ abbrev pub metadata_members : Metadata → Members
 metadata_members m =
     configuration_written m.configuration (must_understand_written m.must_understand (member (codes "name") (string m.name) no_members))
 
--- the name says everything
+-- the name is enough
 abbrev pub is_name_alone : Option Members → Bool → Bool
 is_name_alone configuration must_understand = must_understand && not (is_some configuration)
 
--- how metadata is written: as its name, where that says everything, else as an object
+-- how metadata is written: as its name, where that is enough, else as an object
 abbrev pub write_metadata : Metadata → Data
 write_metadata m = if is_name_alone m.configuration m.must_understand then string m.name else object (metadata_members m)
 

@@ -19,7 +19,7 @@ configuration_seen configuration = members_view configuration.entries
 abbrev pub lent_members : Option (Bor (BTreeMap (String Global) Value Global)) → Option Members
 lent_members configuration = option_map (λ members. configuration_seen members.now) configuration
 
--- what a reading of members says of those of a configuration
+-- a reading of members, of those of a configuration
 abbrev pub read_by : {A : Type 0} → (Members → A) → BTreeMap (String Global) Value Global → A
 read_by reading configuration = reading (configuration_seen configuration)
 

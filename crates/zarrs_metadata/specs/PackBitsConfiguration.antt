@@ -44,7 +44,7 @@ read_packbits configuration = do
   _ ← demand (are_bits_in_order first last) BitOrder
   Ok (record { padding_encoding = padding; first_bit = first; last_bit = last })
 
--- no padding byte where nothing is said
+-- no padding byte where nothing is given
 abbrev pub padding_or_none : Option PackBitsPaddingEncoding → PackBitsPaddingEncoding
 padding_or_none None = PackBitsPaddingEncoding.None
 padding_or_none (Some padding) = padding
@@ -66,10 +66,10 @@ write_packbits c =
     (member (codes "last_bit") (bit_tree c.last_bit)
     (member (codes "padding_encoding") (string (padding_name (padding_or_none c.padding_encoding))) no_members))
 
--- the same, with its padding said
+-- the same, with its padding given
 abbrev pub with_padding_said : PackBitsCodecConfigurationV1 → PackBitsCodecConfigurationV1
 with_padding_said c = record { padding_encoding = Some (padding_or_none c.padding_encoding); first_bit = c.first_bit; last_bit = c.last_bit }
 
--- what is written of a configuration whose bits are in order is read as it, with its padding said
+-- what is written of a configuration whose bits are in order is read as it, with its padding given
 abbrev pub PackBitsReadsBack : Type 0
 PackBitsReadsBack = (c : PackBitsCodecConfigurationV1) → are_bits_in_order c.first_bit c.last_bit ≡ true → read_packbits (write_packbits c) ≡ Ok (with_padding_said c)

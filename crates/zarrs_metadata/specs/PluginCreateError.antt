@@ -1,15 +1,15 @@
--- The refusals of reading metadata and of making codecs.
+-- The errors of reading metadata and of making the codecs of it.
 use Rattle.std.specs.Prelude.{ℕ, Bool, true, false, List, Result, codes}
 use Rattle.zarrs_chunk.specs.Answer.{Answers}
 use Rattle.zarrs_metadata.specs.declared.plugin_create_error.PluginCreateError.{PluginCreateError}
 use Rattle.zarrs_metadata.specs.declared.plugin_create_error.PluginCreateError.TheVariants.{OutOfMemory, UnknownName, InvalidConfiguration, MissingArrayToBytes, MultipleArrayToBytes, BitOrder, MultipleAuto, ZeroSize, NotAPermutation}
 
--- a growth was refused, which a call that takes memory may answer at any time
+-- out of memory, which a call that allocates may return at any time
 abbrev pub plugin_memory : PluginCreateError → Bool
 plugin_memory OutOfMemory = true
 plugin_memory _ = false
 
--- What is made, seen by `view`, is the expected value, or its first refusal is answered; only a want of memory may come in its place.
+-- What is made, seen by `view`, is the expected value, or its first error is returned; only lack of memory may come in its place.
 abbrev pub Makes : {T V : Type 0} → (T → V) → Result T PluginCreateError → Result V PluginCreateError → Type 0
 Makes view result expected = Answers plugin_memory view result expected
 

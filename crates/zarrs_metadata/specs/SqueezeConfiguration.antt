@@ -1,4 +1,4 @@
--- The configuration of codec `squeeze`, which says nothing.
+-- The configuration of codec `squeeze`, which has no settings.
 use Rattle.std.specs.Prelude.{◌≡◌, Result, Ok}
 use Rattle.serde_json.specs.Data.{Members, no_members}
 use Rattle.zarrs_metadata.specs.Trees.{without_floats}

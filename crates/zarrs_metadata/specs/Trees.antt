@@ -26,7 +26,7 @@ needed found = ok_or found InvalidConfiguration
 abbrev pub needed_text : Option Data → Result (List ℕ) PluginCreateError
 needed_text tree = needed (option_and_then as_str tree)
 
--- the value at a key that may be missing, where null counts as missing too; a value of another kind is refused
+-- the value at a key that may be missing, where null counts as missing too; a value of another kind is rejected
 abbrev pub optional_key : {A : Type 0} → (Data → Option A) → Option Data → Result (Option A) PluginCreateError
 optional_key kind None = Ok None
 optional_key kind (Some tree) =

@@ -24,7 +24,7 @@ pub record VlenParts : Type 0 where
   pub index_data_type : VlenIndexDataType
   pub index_location : Option VlenIndexLocation
 
--- the parts of two lists of metadata, a type of offsets and their place, where it is said
+-- the parts of two lists of metadata, a type of offsets and their place, where it is given
 abbrev pub vlen_parts : List MetadataV3 → List MetadataV3 → VlenIndexDataType → Option VlenIndexLocation → VlenParts
 vlen_parts index_codecs data_codecs index_data_type index_location =
     record { index_codecs = metadatas_seen index_codecs; data_codecs = metadatas_seen data_codecs; index_data_type = index_data_type; index_location = index_location }
@@ -72,7 +72,7 @@ abbrev pub index_location_name : VlenIndexLocation → List ℕ
 index_location_name Start = codes "start"
 index_location_name End = codes "end"
 
--- the place of the offsets is written where it is said
+-- the place of the offsets is written where it is given
 abbrev pub index_location_members : Option VlenIndexLocation → Members
 index_location_members None = no_members
 index_location_members (Some location) = member (codes "index_location") (string (index_location_name location)) no_members

@@ -2,7 +2,7 @@
 //! for each codec.
 //!
 //! Keys that a codec doesn't have are passed over. A number that is a float, at any depth and under
-//! any key, is refused.
+//! any key, is rejected.
 pub mod bytes;
 pub mod codecs;
 pub mod optional;

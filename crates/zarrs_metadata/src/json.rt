@@ -72,7 +72,7 @@ pub(crate) fn copied(members: &Configuration, alloc: Global) -> Result<Configura
     Ok(copies)
 }
 
-/// The whole numbers of a list's items. Refusals: `InvalidConfiguration` where anything else is among
+/// The whole numbers of a list's items. Errors: `InvalidConfiguration` where anything else is among
 /// them; `OutOfMemory`.
 pub(crate) fn numbers_among(
     alloc: Global,
@@ -94,7 +94,7 @@ fn number(tree: &Value) -> Result<u64, PluginCreateError>
     tree.as_u64().ok_or(PluginCreateError::InvalidConfiguration)
 }
 
-/// The whole numbers of a list. Refusals: `InvalidConfiguration` where the tree is anything else;
+/// The whole numbers of a list. Errors: `InvalidConfiguration` where the tree is anything else;
 /// `OutOfMemory`.
 pub(crate) fn numbers(alloc: Global, tree: &Value) -> Result<Vec<u64>, PluginCreateError>
     ensures answer { Makes (λ v. v.items) result (number_list (view tree.now)) }

@@ -11,7 +11,7 @@ ghost use Rattle.zarrs_metadata.specs.SqueezeConfiguration.{SqueezeReadsBack};
 ghost use Rattle.zarrs_metadata.specs.TransposeConfiguration.{TransposeReadsBack};
 ghost use Rattle.zarrs_metadata.specs.VlenConfiguration.{VlenReadsBack};
 
-/// The test for an order says what it says entry by entry: each entry is an axis, and none comes
+/// The test for an order, entry by entry: each entry is an axis, and none comes
 /// twice. So each axis comes, and the order lists the axes in another order.
 pub fn orders_name_axes()
     ensures by_entry { OrdersGoByEntry }
@@ -19,20 +19,20 @@ pub fn orders_name_axes()
     ensures permutation { OrdersArePermutations }
 {}
 
-/// The test for the sizes of a reshape says what it says size by size: each number is positive, and
+/// The test for the sizes of a reshape, size by size: each number is positive, and
 /// no two sizes are what the others leave.
 pub fn reshapes_leave_one_size()
     ensures by_size { ReshapesGoBySize }
 {}
 
 /// What is written of metadata is read as that metadata. A number among its configuration that is a
-/// float would be refused.
+/// float would be rejected.
 pub fn metadata_reads_back()
     ensures law { MetadataReadsBack }
 {}
 
 /// What is written of a configuration is read as that configuration: of `packbits` with its padding
-/// said and its bits in order, of `optional` and `vlen` where no number of the metadata inside is a
+/// given and its bits in order, of `optional` and `vlen` where no number of the metadata inside is a
 /// float.
 pub fn configurations_read_back()
     ensures transpose { TransposeReadsBack }
@@ -45,7 +45,7 @@ pub fn configurations_read_back()
 {}
 
 /// What is written of a codec's name and settings makes these settings: of `packbits` with its
-/// padding said and its bits in order.
+/// padding given and its bits in order.
 pub fn codecs_are_made_again()
     ensures transpose { TransposeMadeAgain }
     ensures reshape { ReshapeMadeAgain }

@@ -1,6 +1,6 @@
 //! Metadata of codecs, read from JSON trees and written as them; the configurations of the seven
-//! codecs, and what in them holds a condition by its type; and the one error of reading metadata and
-//! of making codecs from it.
+//! codecs, and the types of settings that meet a condition; and the one error of reading metadata and
+//! of making a codec from it.
 //!
 //! Zarr v3 codecs `transpose` and `bytes`, of zarr-extensions the codecs `reshape` and `packbits`, and
 //! of codec.zarrs.dev the codecs `squeeze`, `vlen` and `optional`. A configuration has an enum over
@@ -15,7 +15,7 @@ mod metadata_v3;
 mod plugin_create_error;
 
 pub use codec::packbits::PackBitsPaddingEncoding;
-pub use codec::reshape::{ReshapeDim, ReshapeShape};
+pub use codec::reshape::{ReshapeDim, ReshapeShape, count_autos};
 pub use codec::transpose::TransposeOrder;
 pub use codec::vlen::{VlenIndexDataType, VlenIndexLocation};
 pub use configuration::bytes::{BytesCodecConfiguration, BytesCodecConfigurationV1};

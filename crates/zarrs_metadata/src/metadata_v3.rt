@@ -1,3 +1,4 @@
+//! The metadata of a codec.
 ghost use Rattle.std.specs.Prelude.{◌≡◌, Ok, option_map};
 ghost use Rattle.serde_json.specs.Find.{as_bool, as_object};
 ghost use Rattle.serde_json.specs.View.{view};
@@ -17,7 +18,7 @@ use std::alloc::Global;
 pub type Configuration = Map<String, Value>;
 
 /// The metadata of a codec (Zarr v3, an entry of `codecs`): its name, its configuration where it
-/// has one, and whether a reader that can't make the codec has to refuse.
+/// has one, and whether a reader that can't make the codec has to fail.
 #[derive(Debug, Drop)]
 pub struct MetadataV3 {
     name: String,
@@ -82,7 +83,7 @@ fn metadata_among(alloc: Global, members: &Configuration) -> Result<MetadataV3, 
 }
 
 impl MetadataV3 {
-    /// The metadata of this name, without configuration, which has to be understood. Refusals:
+    /// The metadata of this name, without configuration, which has to be understood. Errors:
     /// `OutOfMemory`.
     pub fn new(alloc: Global, name: &str) -> Result<MetadataV3, PluginCreateError>
         ensures made { Makes metadata_seen result (Ok (metadata_named name.now)) }
@@ -94,7 +95,7 @@ impl MetadataV3 {
         })
     }
 
-    /// The metadata of this name and configuration, which has to be understood. Refusals:
+    /// The metadata of this name and configuration, which has to be understood. Errors:
     /// `OutOfMemory`.
     pub fn new_with_configuration(
         alloc: Global,
@@ -132,7 +133,7 @@ impl MetadataV3 {
         self.configuration.as_ref()
     }
 
-    /// Whether a reader that can't make the codec has to refuse.
+    /// Whether a reader that can't make the codec has to fail.
     pub fn must_understand(&self) -> bool
         ensures value { result ≡ (metadata_seen self.now).must_understand }
     {
@@ -141,7 +142,7 @@ impl MetadataV3 {
 
     /// The metadata of a JSON tree: a name, or an object with a `name`, and optionally a
     /// `configuration` (an object) and `must_understand` (true where it is missing). Null counts as
-    /// missing there, and other keys are passed over. Refusals: `InvalidConfiguration` for any other
+    /// missing there, and other keys are passed over. Errors: `InvalidConfiguration` for any other
     /// tree, and where a number at any depth is a float; `OutOfMemory`.
     pub fn from_value(alloc: Global, tree: &Value) -> Result<MetadataV3, PluginCreateError>
         ensures answer { Makes metadata_seen result (read_metadata (view tree.now)) }
@@ -167,7 +168,7 @@ impl MetadataV3 {
     }
 
     /// The JSON tree: the name alone where there is no configuration and the codec has to be
-    /// understood; else an object, with `must_understand` only where it is false. Refusals:
+    /// understood; else an object, with `must_understand` only where it is false. Errors:
     /// `OutOfMemory`.
     pub fn to_value(&self, alloc: Global) -> Result<Value, PluginCreateError>
         ensures answer { Makes view result (Ok (write_metadata (metadata_seen self.now))) }

@@ -1,3 +1,4 @@
+//! The one error of reading metadata and of making a codec of it.
 ghost use Rattle.std.specs.Prelude.{◌≡◌};
 ghost use Rattle.zarrs_metadata.specs.PluginCreateError.{plugin_name_of};
 ghost use Rattle.zarrs_metadata.specs.declared.plugin_create_error.PluginCreateError.TheVariants.{OutOfMemory};
@@ -9,19 +10,20 @@ use std::fmt;
 /// Why metadata can't be read or written, or no codec can be made from it. Nothing in it is on the
 /// heap.
 ///
-/// Where several causes hold, each call's contract says which one it answers. `OutOfMemory` may
-/// come in place of any of them, and comes only where a growth was refused.
+/// Where several errors hold, each call's contract states which one it returns. `OutOfMemory` may
+/// come in place of any of them where a call allocates; that an allocation failed is no clause.
+/// Clauses fix the name of an error, and not the text that `Display` writes of it.
 #[derive(Clone, Copy, Debug, PartialEq, Eq)]
 pub enum PluginCreateError {
-    /// A growth was refused.
+    /// An allocation failed.
     OutOfMemory,
     /// No codec has this name.
     UnknownName,
     /// A key is missing, or a value is of another kind than its key asks for.
     InvalidConfiguration,
-    /// A list of codecs has none from arrays to bytes.
+    /// A list of codecs has no array-to-bytes codec.
     MissingArrayToBytes,
-    /// A list of codecs has more than one from arrays to bytes.
+    /// A list of codecs has more than one array-to-bytes codec.
     MultipleArrayToBytes,
     /// A bit range ends before it starts.
     BitOrder,

@@ -4,7 +4,7 @@ use Rattle.std.specs.List.{flat_map, range_with_len, take-map}
 use Rattle.std.specs.Prelude.{bit_or}
 use Rattle.std.proofs.Math.Seq.{take-add}
 use Rattle.std.proofs.lemmas.Nat.{pow_pos, mod_below, shl_whole, or_comm, or_shifted}
-use Rattle.std.proofs.lemmas.List.{drop_more, get_or-drop, append-nil, append_assoc, take_at, drop_at, drop-take, drop-drop, take-take, take_all, take-append-le, length-append, length-drop, length-take-le, length-map, length-set, take_more, take_more_set, take_rest, map-append}
+use Rattle.std.proofs.lemmas.List.{drop_more, get_or-drop, append-nil, append_assoc, take_at, drop_at, drop-take, drop-drop, take-take, take_all, take-append-le, length-append, length-drop, length-take-le, length-set, take_more, take_more_set, take_rest, map-append}
 use Rattle.std.proofs.lemmas.List.Concat.{flat_map-append}
 use Rattle.zarrs_packbits.specs.Bits.{low_bits, bits_of, field}
 use Rattle.zarrs_packbits.specs.BitStream.{components_from}
@@ -223,25 +223,6 @@ last_step l c m left n old new block front bytes zeros is whole some size made b
     ∙ ap (λ (xs : List ℕ). bits_of old ++ bits_of (take n xs)) made
     ∙ ap (λ (xs : List ℕ). bits_of old ++ xs) (block_is l c m left 0 n (front ++ zeros) bytes zeros is whole some size (ap (λ (xs : List ℕ). xs ++ zeros) begins) (omega arith) long (rw count short))
 
-pub whole_step : (l : PackedLayout) (c m size s n w next : ℕ) (old out new block from bytes : List ℕ) → l.count ≡ c → m * c ≡ 8 → 0 < c → l.first + l.count + l.above ≡ 8 → block ≡ map (lifted_byte l.first (sign_weight l.sign l.count)) (flat_map (fields_of c m) from) → from ≡ take size (drop s bytes) → s + size ≤ length bytes → n * c ≤ 8 * size → m * size ≡ n → 8 * s ≡ 0 + w * l.count → next ≡ w + n
-    → bits_of out ≡ bits_of old ++ components_from l 0 w (bits_of bytes) → new ≡ out ++ block
-    → bits_of new ≡ bits_of old ++ components_from l 0 next (bits_of bytes)
-whole_step l c m size s n w next old out new block from bytes is whole some fits made begins within long all place sum before added =
-    let bits = bits_of bytes in
-    let front = components_from l 0 w bits in
-    let count : length from ≡ size = ap length begins ∙ length-take-le size (drop s bytes) (omega (arith, length-drop s bytes)) in
-    let wide : length block ≡ n = ap length made ∙ length-map (flat_map (fields_of c m) from) (lifted_byte l.first (sign_weight l.sign l.count)) ∙ length-flat_fields c m from ∙ ap (λ k. m * k) count ∙ all in
-    let held : bits_of block ≡ components_from l (8 * s) n bits
-    = ap bits_of (sym (take_all n block (omega arith)))
-    ∙ ap (λ (xs : List ℕ). bits_of (take n xs)) made
-    ∙ block_is l c m size s n from bytes [] is whole some fits (begins ∙ sym (append-nil (take size (drop s bytes)))) within long (let e : n ≤ m * length from = omega (arith, ap (λ k. m * k) count, all) in e) in
-    ap bits_of added ∙ flat_map-append (low_bits 8) out block
-    ∙ ap (λ (xs : List ℕ). xs ++ bits_of block) before
-    ∙ ap (λ (xs : List ℕ). (bits_of old ++ front) ++ xs) (held ∙ ap (λ k. components_from l k n bits) place)
-    ∙ append_assoc (bits_of old) front (components_from l (0 + w * l.count) n bits)
-    ∙ ap (λ (xs : List ℕ). bits_of old ++ xs) (sym (components_more l 0 w n bits))
-    ∙ ap (λ k. bits_of old ++ components_from l 0 k bits) (sym sum)
-
 pub final_step : (l : PackedLayout) (at w r s parts : ℕ) (old out new bytes : List ℕ) → parts ≡ w + r → 8 * s ≡ at + w * l.count
     → out ≡ old ++ components_from l at w (bits_of bytes) → new ≡ out ++ components_from l 0 r (bits_of (take (length bytes - s) (drop s bytes)))
     → new ≡ old ++ components_from l at parts (bits_of bytes)
@@ -254,6 +235,13 @@ final_step l at w r s parts old out new bytes sum place before added =
     ∙ append_assoc old (components_from l at w bits) (components_from l (at + w * l.count) r bits)
     ∙ ap (λ (xs : List ℕ). old ++ xs) (sym (components_more l at w r bits))
     ∙ ap (λ k. old ++ components_from l at k bits) (sym sum)
+
+-- where a block's bytes begin, its kept bits do
+pub place_of_block : (l : PackedLayout) (count room len b : ℕ) → l.count ≡ count → room * count ≡ 8 * len → 8 * (len * b) ≡ 0 + room * b * l.count
+place_of_block l count room len b is whole =
+    let all : 8 * len * b ≡ room * count * b = ap (λ n. n * b) (sym whole) in
+    let same : room * b * l.count ≡ room * b * count = ap (λ n. room * b * n) is in
+    omega (arith, all, same)
 
 -- ---- packing
 
@@ -305,15 +293,15 @@ halves_joined to from p byte l k lt e sa sb is =
     ∙ ap (λ n. flat_map (low_bits 4) (take n from)) (let q : 2 * p + 1 + 1 ≡ 2 * (p + 1) = omega arith in q)
 
 -- a block more
-pub joined_step : (c first b : ℕ) (old out new block from bytes : List ℕ) → first + c ≤ 8 → 64 * b + 64 ≤ length bytes → from ≡ take 64 (drop (64 * b) bytes) → bits_of block ≡ flat_map (low_bits c) (map (cut_byte first c) from)
-    → bits_of out ≡ bits_of old ++ flat_map (λ part. field first c (component_bits 1 bytes part)) (range_with_len 0 (64 * b)) → new ≡ out ++ block
+pub joined_step : (c first b : ℕ) (old out new from kept bytes : List ℕ) → first + c ≤ 8 → 64 * b + 64 ≤ length bytes → from ≡ take 64 (drop (64 * b) bytes) → kept ≡ map (cut_byte first c) from
+    → bits_of out ≡ bits_of old ++ flat_map (λ part. field first c (component_bits 1 bytes part)) (range_with_len 0 (64 * b)) → bits_of new ≡ bits_of out ++ flat_map (low_bits c) kept
     → bits_of new ≡ bits_of old ++ flat_map (λ part. field first c (component_bits 1 bytes part)) (range_with_len 0 (64 * (b + 1)))
-joined_step c first b old out new block from bytes h within is made before added =
+joined_step c first b old out new from kept bytes h within is made before added =
     let f : ℕ → List ℕ = λ part. field first c (component_bits 1 bytes part) in
     let front = flat_map f (range_with_len 0 (64 * b)) in
-    ap bits_of added ∙ flat_map-append (low_bits 8) out block
-    ∙ ap (λ (xs : List ℕ). xs ++ bits_of block) before
-    ∙ ap (λ (xs : List ℕ). (bits_of old ++ front) ++ xs) (made ∙ ap (λ (xs : List ℕ). flat_map (low_bits c) (map (cut_byte first c) xs)) is ∙ cut_parts c first (64 * b) 64 bytes within h)
+    added
+    ∙ ap (λ (xs : List ℕ). xs ++ flat_map (low_bits c) kept) before
+    ∙ ap (λ (xs : List ℕ). (bits_of old ++ front) ++ xs) (ap (flat_map (low_bits c)) made ∙ ap (λ (xs : List ℕ). flat_map (low_bits c) (map (cut_byte first c) xs)) is ∙ cut_parts c first (64 * b) 64 bytes within h)
     ∙ append_assoc (bits_of old) front (flat_map (λ j. f (64 * b + j)) (range_with_len 0 64))
     ∙ ap (λ (xs : List ℕ). bits_of old ++ xs) (sym (flat_split f (64 * b) 64))
     ∙ ap (λ n. bits_of old ++ flat_map f (range_with_len 0 n)) (let e : 64 * b + 64 ≡ 64 * (b + 1) = omega arith in e)

@@ -1,4 +1,4 @@
--- Values are written and read exactly where the grammar says.
+-- Values are written and read exactly by the grammar.
 use Rattle.zarrs_data_type.specs.Form.{form_of}
 use Rattle.std.proofs.Common.{◌≡◌, ℕ, zero, suc, ◌+◌, ◌*◌, ◌<◌, ◌^◌, ◌==◌, Bool, true, nat_lt, Result, Ok, Err, List, [], ◌∷◌, ◌++◌, length, map, get_or, arith, refl, ap, sym, ◌∙◌, subst}
 use Rattle.std.specs.List.{concat, flat_map, range_with_len}

@@ -15,7 +15,7 @@ use Rattle.zarrs_packbits.specs.Packing.{packing}
 abbrev pub nf : PackedLayout → List ℕ → List ℕ
 nf l bytes = packing (flat_map (λ part. kept_component l.first l.count l.sign (component_bits l.size bytes part)) (range_with_len 0 (parts_of l)))
 
--- the chunk that a value stands for, or the first refusal
+-- the chunk that a value stands for, or the first error
 abbrev pub decoded : PackedLayout → List ℕ → Result (List ℕ) CodecError
 decoded l v =
     if length v == value_len l

@@ -14,7 +14,7 @@ use Rattle.zarrs_metadata.specs.declared.codec.packbits.PackBitsPaddingEncoding.
 use Rattle.zarrs_packbits.specs.KeptBits.{full_component, component_bits}
 use Rattle.zarrs_packbits.specs.PaddingByte.{lead, bytes_before}
 use Rattle.zarrs_packbits.specs.BitStream.{components_from, element_bits}
-use Rattle.zarrs_packbits.specs.ReadPlan.{spans}
+use Rattle.zarrs_bytes.specs.PlannedRanges.{spans}
 use Rattle.zarrs_packbits.proofs.FieldLemmas.{flat_more}
 use Rattle.zarrs_packbits.proofs.LayoutLemmas.{zero_first, zero_second}
 

@@ -1,17 +1,16 @@
 -- Reads in part.
 use Rattle.zarrs_data_type.specs.Form.{form_of}
-use Rattle.std.proofs.Common.{◌≡◌, ℕ, zero, suc, ◌+◌, ◌-◌, ◌*◌, ◌<◌, ◌≤◌, ◌^◌, ◌&&◌, Bool, true, false, nat_lt, Option, Some, None, Result, Ok, Err, List, [], ◌∷◌, ◌++◌, length, map, arith, refl, ap, sym, ◌∙◌, subst, if◌then◌else◌}
-use Rattle.std.specs.List.{All, concat, flat_map, list_all, range_with_len, sum_by}
+use Rattle.std.proofs.Common.{◌≡◌, ℕ, zero, suc, ◌+◌, ◌-◌, ◌*◌, ◌<◌, ◌≤◌, ◌^◌, ◌&&◌, Bool, true, false, nat_lt, Option, Some, None, Result, Ok, Err, List, [], ◌∷◌, ◌++◌, length, map, arith, refl, ap, sym, ◌∙◌, subst, if◌then◌else◌, Vec, Global}
+use Rattle.std.specs.List.{concat, flat_map, list_all, range_with_len, sum_by}
 use Rattle.std.specs.Prelude.{IsOkAnd}
 use Rattle.std.proofs.lemmas.Bool.Decides.{nat_tests}
 use Rattle.std.proofs.lemmas.List.{length-append}
-use Rattle.std.proofs.lemmas.List.Elements.{All-nil, All-cons}
 use Rattle.std.proofs.lemmas.List.Concat.{flat_map-append}
 use Rattle.std.proofs.lemmas.List.Folds.{list_all-append}
 use Rattle.std.proofs.lemmas.List.FromFn.{length-range_with_len}
 use Rattle.std.proofs.lemmas.List.Sums.{sum_by-cons}
-use Rattle.zarrs_chunk.specs.Answer.{◌>>=◌, demand}
-use Rattle.zarrs_chunk.specs.Runs.{joined_runs}
+use Rattle.zarrs_chunk.specs.Answer.{◌>>=◌, demand, GivesBy}
+use Rattle.zarrs_chunk.specs.Runs.{joined_runs, AreApart, AreFilled}
 use Rattle.zarrs_chunk.specs.declared.codec_error.CodecError.{CodecError}
 use Rattle.zarrs_chunk.specs.declared.codec_error.CodecError.TheVariants.{InvalidByteRange}
 use Rattle.zarrs_data_type.specs.Element.{Chunk, plain}
@@ -28,10 +27,11 @@ use Rattle.zarrs_packbits.specs.PackBitsSettings.{PackBitsSettings, packed_layou
 use Rattle.zarrs_packbits.specs.PackedLayout.{IsPackedLayout, is_whole, element_bits_len}
 use Rattle.zarrs_packbits.specs.Packing.{packing}
 use Rattle.zarrs_packbits.specs.PartialRead.{span_start, span_end, packed_place_bytes, packed_places_bytes, all_below, read_packed_bytes, read_packed_places}
-use Rattle.zarrs_packbits.specs.ReadPlan.{run_start, run_end, run_span, spans, IsPlan}
+use Rattle.zarrs_bytes.specs.PlannedRanges.{spans}
+use Rattle.zarrs_packbits.specs.ReadPlan.{run_start, run_end, run_span, IsPlan, IsPlanOf, IsPlanOfRuns}
 use Rattle.zarrs_packbits.proofs.ElementBits.{AllLong, element_long, places_hold, plain_holds}
 use Rattle.zarrs_packbits.proofs.FlatRead.{are_runs}
-use Rattle.zarrs_packbits.proofs.RunLemmas.{all_at, all_from, is_run, place_end, runs_sure, whole_run_start, whole_run_end, head_of, tail_of}
+use Rattle.zarrs_packbits.proofs.RunLemmas.{all_at, all_from, place_end, runs_sure, whole_run_start, whole_run_end, head_of, tail_of}
 use Rattle.zarrs_packbits.proofs.Taken.{taken}
 use Rattle.zarrs_codec.proofs.Fences.{second_true, first_true}
 use Rattle.zarrs_chunk.proofs.Inside.{from_le_test}
@@ -138,25 +138,33 @@ runs_sum l (p ∷ runs) (r ∷ rs) s w e =
     let m : (p.1 + length (joined_runs runs)) * size ≡ p.1 * size + length (joined_runs runs) * size = omega arith in
     sum_by-cons (λ (r : ByteSpan). r.end - r.start) r rs ∙ omega (arith, a, b, d, runs_sum l runs rs s w rest, m) ∙ ap (λ k. k * size) (sym n)
 
--- no run is empty
-runs_filled : (count : ℕ) (runs : List (ℕ × ℕ)) → are_runs count runs ≡ true → All (λ (run : ℕ × ℕ). 0 < run.1) runs
-runs_filled count [] h = All-nil (λ (run : ℕ × ℕ). 0 < run.1)
-runs_filled count (run ∷ runs) h =
-    let first = is_run count run runs h in
-    All-cons (λ (run : ℕ × ℕ). 0 < run.1) run runs first.some (runs_filled count runs first.rest)
-
-pub is_plan : (l : PackedLayout) (runs : List (ℕ × ℕ)) (rs : List ByteSpan) (places : List ℕ) → IsPackedLayout l → are_runs l.elements runs ≡ true → spans rs ≡ map (run_span l) runs → joined_runs runs ≡ places → IsPlan l places rs
-is_plan l runs rs places s h e same = record {
-  runs = runs;
-  filled = runs_filled l.elements runs h;
-  joined = same;
+pub plan_of : (l : PackedLayout) (runs : List (ℕ × ℕ)) (rs : List ByteSpan) → IsPackedLayout l → are_runs l.elements runs ≡ true → spans rs ≡ map (run_span l) runs → IsPlanOfRuns l runs rs
+plan_of l runs rs s h e = record {
   each = e;
-  bytes = λ test. same_bools (list_all test (range_indices rs)) (list_all test (packed_places_bytes l places))
-      (λ all. ap (λ (ps : List ℕ). list_all test (packed_places_bytes l ps)) (sym same) ∙ runs_covered test l runs rs e all)
-      (λ all. runs_sure test l runs rs s h e (ap (λ (ps : List ℕ). list_all test (packed_places_bytes l ps)) same ∙ all));
-  sum = λ whole. runs_sum l runs rs s whole e ∙ ap (λ (ps : List ℕ). length ps * (l.group * l.size)) same;
+  bytes = λ test. same_bools (list_all test (range_indices rs)) (list_all test (packed_places_bytes l (joined_runs runs)))
+      (λ all. runs_covered test l runs rs e all)
+      (λ all. runs_sure test l runs rs s h e all);
+  sum = λ whole. runs_sum l runs rs s whole e;
 }
 
--- an answer where both are there
-pub both_found : {A B : Type 0} (r : Result A CodecError) (s : Result B CodecError) (P : A × B → Type 0) (x : A) (y : B) → r ≡ Ok x → s ≡ Ok y → P (x, y) → IsOkAnd (r >>= λ a. s >>= λ b. ok (a, b)) P
-both_found r s P x y e f p = rw e (rw f p)
+-- where the runs are apart, it is the plan of a read of their places
+pub plan_of_runs : (l : PackedLayout) (runs : List (ℕ × ℕ)) (rs : List ByteSpan) (places : List ℕ) → AreFilled runs → AreApart runs → joined_runs runs ≡ places → IsPlanOfRuns l runs rs → IsPlan l places rs
+plan_of_runs l runs rs places filled apart same plan = record {
+  runs = runs;
+  filled = filled;
+  apart = apart;
+  joined = same;
+  each = plan.each;
+  bytes = λ test. plan.bytes test ∙ ap (λ (ps : List ℕ). list_all test (packed_places_bytes l ps)) same;
+  sum = λ whole. plan.sum whole ∙ ap (λ (ps : List ℕ). length ps * (l.group * l.size)) same;
+}
+
+-- the plan of a read of runs that are apart is the plan of a read of the places that they cover
+pub planned_places : (places : Result (List ℕ) CodecError) (layout : Result PackedLayout CodecError) (runs : List (ℕ × ℕ)) (r : Result (Vec ByteSpan Global) CodecError) → places ≡ Ok (joined_runs runs) → AreFilled runs → AreApart runs
+    → GivesBy (IsPlanOf runs) r layout → GivesBy (λ ranges (read : List ℕ × PackedLayout). IsPlan read.1 read.0 ranges.items) r (places >>= λ ps. layout >>= λ l. ok (ps, l))
+planned_places (Ok ps) (Ok l) runs (Ok ranges) e filled apart plan =
+    record { is = plan_of_runs l runs ranges.items ps filled apart (let same : joined_runs runs ≡ ps = cc in same) plan.is; no_fault = plan.no_fault }
+planned_places (Ok ps) (Err c) runs (Ok ranges) e filled apart plan = absurd plan.is
+planned_places (Ok ps) (Ok l) runs (Err c) e filled apart plan = record { is = λ due. (let never : ⊥ = cc (plan.is due) in absurd never); no_fault = plan.no_fault }
+planned_places (Ok ps) (Err d) runs (Err c) e filled apart plan = record { is = λ due. cc (plan.is due); no_fault = plan.no_fault }
+planned_places (Err d) layout runs r e filled apart plan = absurd cc

@@ -28,7 +28,8 @@ use Rattle.zarrs_packbits.specs.KeptBits.{full_component}
 use Rattle.zarrs_packbits.specs.Packing.{packing}
 use Rattle.zarrs_packbits.specs.PaddingByte.{lead, bytes_before}
 use Rattle.zarrs_packbits.specs.BitStream.{components_from, element_bits}
-use Rattle.zarrs_packbits.specs.ReadPlan.{spans, run_start, run_end, run_span, run_bits, runs_len}
+use Rattle.zarrs_bytes.specs.PlannedRanges.{spans}
+use Rattle.zarrs_packbits.specs.ReadPlan.{run_start, run_end, run_span, run_bits, runs_len}
 use Rattle.zarrs_chunk.specs.Runs.{joined_runs}
 use Rattle.zarrs_packbits.proofs.LocalLemmas.{ordered_run, whole_element, element_some, field_of_piece, field_of_rest, flat_range_same}
 use Rattle.zarrs_packbits.proofs.BlockLemmas.{components_more}

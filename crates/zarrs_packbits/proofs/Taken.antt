@@ -1,4 +1,4 @@
--- What is known of chunks that the codec takes.
+-- What is known of chunks that the codec accepts.
 use Rattle.zarrs_data_type.specs.Form.{form_of}
 use Rattle.std.proofs.Common.{◌≡◌, ℕ, ◌+◌, ◌-◌, ◌*◌, ◌<◌, ◌≤◌, ◌&&◌, Bool, true, nat_lt, nat_le, Ok, List, arith, ap, sym, ◌∙◌, subst}
 use Rattle.zarrs_chunk.specs.Answer.{demand, checked_u64}

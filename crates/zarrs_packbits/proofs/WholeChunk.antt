@@ -78,7 +78,7 @@ second_refused (Ok a) (Ok b) (Err d) f y x len cause e g h = cc
 second_refused (Ok a) (Err b) s f y x len cause e g h = absurd cc
 second_refused (Err d) q s f y x len cause e g h = absurd cc
 
--- what it refuses to write
+-- what it fails to write
 pub whole_refused : (settings : PackBitsSettings) (sizes : List ℕ) (type : ElementType) (fill : List ℕ) (held : Held) (cause : CodecError) → keeps_all_bytes (packed_layout settings (form_of sizes type fill)) ≡ true → bytes_value (Some Little) (form_of sizes type fill) held ≡ Err cause → packbits_value settings (form_of sizes type fill) held ≡ Err cause
 whole_refused settings sizes (fixed width components sign) fill held cause keeps e =
     let type = fixed width components sign in
@@ -139,7 +139,7 @@ length_refused (Ok m) (Ok k) n len x test f l cause e g is h =
 length_refused (Ok m) (Err d) n len x test f l cause e g is h = absurd cc
 length_refused (Err d) r n len x test f l cause e g is h = absurd cc
 
--- what it refuses to read
+-- what it fails to read
 pub whole_refused_chunk : (settings : PackBitsSettings) (sizes : List ℕ) (type : ElementType) (fill value : List ℕ) (cause : CodecError) → keeps_all_bytes (packed_layout settings (form_of sizes type fill)) ≡ true → bytes_chunk (Some Little) (form_of sizes type fill) value ≡ Err cause → packbits_chunk settings (form_of sizes type fill) value ≡ Err cause
 whole_refused_chunk settings sizes (fixed width components sign) fill value cause keeps e =
     let type = fixed width components sign in

@@ -149,7 +149,7 @@ whole_found settings sizes text fill places stored l held e h small read = absur
 whole_found settings sizes bytes fill places stored l held e h small read = absurd cc
 whole_found settings sizes (optional type) fill places stored l held e h small read = absurd cc
 
--- what it refuses to read
+-- what it fails to read
 whole_not_found : (settings : PackBitsSettings) (sizes : List ℕ) (type : ElementType) (fill places : List ℕ) (stored : Option (List ℕ)) (l : PackedLayout) (cause : CodecError) → packed_layout settings (form_of sizes type fill) ≡ Ok l → is_whole l ≡ true → read_places (Some Little) type fill stored places ≡ Err cause → read_packed_places l type fill stored places ≡ Err cause
 whole_not_found settings sizes (fixed width components sign) fill places None l cause e h read = absurd cc
 whole_not_found settings sizes (fixed width components sign) fill places (Some v) l cause e h read =

@@ -3,7 +3,7 @@ use Rattle.std.specs.List.{flat_map, range_with_len}
 use Rattle.zarrs_packbits.specs.Bits.{field}
 use Rattle.zarrs_packbits.specs.KeptBits.{component_bits}
 use Rattle.zarrs_packbits.specs.declared.layout.PackedLayout.{PackedLayout}
-use Rattle.std.specs.Prelude.{ℕ, zero, suc, ◌+◌, ◌-◌, ◌*◌, ◌/◌, ◌%◌, ◌^◌, List, [], ◌∷◌, bit_xor, length}
+use Rattle.std.specs.Prelude.{ℕ, zero, suc, ◌+◌, ◌-◌, ◌*◌, ◌/◌, ◌%◌, ◌^◌, List, [], ◌∷◌, bit_xor, length, ◌==◌, if◌then◌else◌}
 
 -- the fields of so many bits each of a number, the lowest first
 abbrev pub fields_of : ℕ → ℕ → ℕ → List ℕ
@@ -22,6 +22,10 @@ cut_byte first count byte = byte / 2 ^ first % 2 ^ count
 abbrev pub stream_before : PackedLayout → ℕ → List ℕ → List ℕ
 stream_before l parts bytes =
     flat_map (λ part. field l.first l.count (component_bits l.size bytes part)) (range_with_len 0 parts)
+
+-- how many bytes hold a block of components of which so many bits are kept: 64 components, of four bits 128
+abbrev pub block_len : ℕ → ℕ
+block_len count = if count == 1 then 8 else (if count == 2 then 16 else 64)
 
 -- how many of these bytes stand in whole blocks of 64
 abbrev pub blocks_len : List ℕ → ℕ

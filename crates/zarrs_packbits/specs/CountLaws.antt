@@ -29,8 +29,8 @@ read_count_of settings form stored places chunk e =
     let layout = passed (packed_layout settings form) (λ l. read_packed_places l form.type form.fill stored places) chunk e in
     read_count layout.given form.type form.fill stored places chunk layout.second_is
 
-pub packbits_counts : (form : PackBitsForm) (stored : Option (List ℕ)) (in_part : Bool) → IsCounted (packbits_reader form stored in_part)
-packbits_counts form stored in_part selection chunk e =
+pub packbits_counts : (form : PackBitsForm) (stored : Option (List ℕ)) (sure : Option (ℕ → Bool)) (in_part : Bool) → IsCounted (packbits_reader form stored sure in_part)
+packbits_counts form stored sure in_part selection chunk e =
     let places = passed (places_of selection form.sizes) (read_places_of form.settings (form_in form) stored) chunk e in
     let counted = places_counted selection form.sizes places.given places.first_is in
     record {

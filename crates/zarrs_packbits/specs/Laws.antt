@@ -29,7 +29,7 @@ DecodedIsNormal =
     (settings : PackBitsSettings) (sizes : List ℕ) (type : ElementType) (fill value : List ℕ) (chunk : Chunk)
     → PackBitsWritten settings (form_of sizes type fill) value chunk → packbits_chunk settings (form_of sizes type fill) value ≡ Ok (normal_chunk settings type chunk)
 
--- The normal form of a normal form is itself, for chunks that the codec takes.
+-- The normal form of a normal form is itself, for chunks that the codec accepts.
 abbrev pub NormalOnce : Type 0
 NormalOnce =
     (settings : PackBitsSettings) (sizes : List ℕ) (type : ElementType) (fill value : List ℕ) (chunk : Chunk)
@@ -66,7 +66,7 @@ WrittenAlike =
     → PackBitsWritten settings (form_of sizes type fill) value chunk → PackBitsWritten settings (form_of sizes type fill) other_value other
     → (value ≡ other_value) ↔ (normal_chunk settings type chunk ≡ normal_chunk settings type other)
 
--- A written value has the length that the representation says.
+-- A written value has the length that the representation declares.
 abbrev pub HasRepresentedLength : Type 0
 HasRepresentedLength =
     (settings : PackBitsSettings) (sizes : List ℕ) (type : ElementType) (fill value : List ℕ) (chunk : Chunk) (len : ℕ)

@@ -30,10 +30,12 @@ pub use Rattle.zarrs_data_type.specs.FillValue
 pub use Rattle.zarrs_data_type.specs.Form
 pub use Rattle.zarrs_array_bytes.specs.Elements
 pub use Rattle.zarrs_array_bytes.specs.Held
+pub use Rattle.zarrs_array_bytes.specs.Tight
 pub use Rattle.zarrs_array_bytes.specs.Update
 pub use Rattle.zarrs_array_bytes.specs.Validity
 pub use Rattle.zarrs_codec.specs.ArrayReader
 pub use Rattle.zarrs_codec.specs.ByteRanges
+pub use Rattle.zarrs_codec.specs.Calls
 pub use Rattle.zarrs_codec.specs.CodersOverHandles
 pub use Rattle.zarrs_codec.specs.Grammar
 pub use Rattle.zarrs_codec.specs.Refused
@@ -45,3 +47,4 @@ pub use Rattle.zarrs_codec.specs.HandleCalls
 pub use Rattle.zarrs_codec.specs.MadeAgain
 pub use Rattle.zarrs_bytes.specs.MadeCoders
 pub use Rattle.zarrs_bytes.specs.PlannedRanges
+pub use Rattle.zarrs_bytes.specs.ReadingCalls

@@ -18,7 +18,7 @@ abbrev pub kept_element : PackedLayout → Element → Element
 kept_element l (plain bytes) = plain (normal_bytes l bytes)
 kept_element l element = element
 
--- The normal form of an element: of each component the kept bits, and the others made of them. It is the element itself where the codec doesn't take the type, or its components don't have the bits.
+-- The normal form of an element: of each component the kept bits, and the others made of them. It is the element itself where the codec doesn't accept the type, or its components don't have the bits.
 abbrev pub normal_element : PackBitsSettings → ElementType → Element → Element
 normal_element settings (fixed width components sign) element =
     if has_bits settings width then kept_element (layout_for settings 1 width components sign) element else element

@@ -1,9 +1,9 @@
 -- What the codec `packbits` answers, for which chunk a value stands, and which value is written for a chunk.
-use Rattle.std.specs.Prelude.{◌≡◌, ℕ, ◌<◌, ◌==◌, true, List, length, drop, map, slice_index, Result, Ok}
+use Rattle.std.specs.Prelude.{◌≡◌, ℕ, ◌<◌, ◌==◌, true, List, length, drop, map, slice_index, Option, None, Result, Ok}
 use Rattle.std.specs.List.{range_with_len}
 use Rattle.std.proofs.Common.{Global}
 use Rattle.std.specs.declared.borrow.CowSlice.{CowSlice}
-use Rattle.zarrs_chunk.specs.Answer.{◌>>=◌, demand}
+use Rattle.zarrs_chunk.specs.Answer.{◌>>=◌, demand, seen}
 use Rattle.zarrs_chunk.specs.ChunkShape.{product}
 use Rattle.zarrs_chunk.specs.declared.codec_error.CodecError.{CodecError}
 use Rattle.zarrs_chunk.specs.declared.codec_error.CodecError.TheVariants.{InvalidBytesLength, PaddingByte}
@@ -13,21 +13,21 @@ use Rattle.zarrs_array_bytes.specs.Elements.{elements}
 use Rattle.zarrs_array_bytes.specs.Held.{Raw, Held, flen, items_of}
 use Rattle.zarrs_array_bytes.specs.Validity.{validity}
 use Rattle.zarrs_data_type.specs.Form.{Form, form_of}
-use Rattle.zarrs_codec.specs.ChunkCodec.{EncodesBy, DecodesBy}
+use Rattle.zarrs_codec.specs.ChunkCodec.{CompactsNone, EncodesBy, DecodesBy}
 use Rattle.zarrs_codec.specs.CodecMembers.{DecodesAgain}
 use Rattle.zarrs_bytes.specs.BytesCodec.{IsChunk}
 use Rattle.zarrs_bytes.specs.GivenBytes.{EncodesNow, DecodesNow, IsGiven, HoldsGiven}
 use Rattle.zarrs_packbits.specs.Bits.{bits_of, field}
 use Rattle.zarrs_packbits.specs.BitStream.{chunk_stream, packed_element}
 use Rattle.zarrs_packbits.specs.NormalForm.{normal_chunk}
-use Rattle.zarrs_packbits.specs.PackBitsSettings.{PackBitsSettings, packed_layout, KeepsAllBytes}
+use Rattle.zarrs_packbits.specs.PackBitsSettings.{PackBitsSettings, packbits_length, packed_layout, KeepsAllBytes}
 use Rattle.zarrs_packbits.specs.declared.layout.PackedLayout.{PackedLayout}
 use Rattle.zarrs_packbits.specs.PackedLayout.{bits_in}
 use Rattle.zarrs_packbits.specs.PaddingByte.{lead, value_len, padding_holds, value_with}
 
 -- ---- its grammar
 
--- The value stands for the chunk: the codec takes such chunks; the value has its length, and its padding byte is the number of spare bits; without a padding byte before them, its first bits are the kept ones of the chunk's components, in order; and the chunk has no other bits. Spare bits are free.
+-- The value stands for the chunk: the codec accepts such chunks; the value has its length, and its padding byte is the number of spare bits; without a padding byte before them, its first bits are the kept ones of the chunk's components, in order; and the chunk has no other bits. Spare bits are free.
 pub record PackBitsStands (settings : PackBitsSettings) (form : Form) (value : List ℕ) (chunk : Chunk) : Type 0 where
   pub layout : PackedLayout
   pub taken : packed_layout settings form ≡ Ok layout
@@ -37,7 +37,7 @@ pub record PackBitsStands (settings : PackBitsSettings) (form : Form) (value : L
   pub bits : field 0 (bits_in layout) (bits_of (drop (lead layout) value)) ≡ chunk_stream layout chunk
   pub kept : normal_chunk settings form.type chunk ≡ chunk
 
--- The value is written for the chunk: the codec takes such chunks, and the value is the kept bits of the chunk's components, in order, in as few bytes as hold them, with zeros for spare bits, and the padding byte where it belongs.
+-- The value is written for the chunk: the codec accepts such chunks, and the value is the kept bits of the chunk's components, in order, in as few bytes as hold them, with zeros for spare bits, and the padding byte where it belongs.
 pub record PackBitsWritten (settings : PackBitsSettings) (form : Form) (value : List ℕ) (chunk : Chunk) : Type 0 where
   pub layout : PackedLayout
   pub taken : packed_layout settings form ≡ Ok layout
@@ -46,14 +46,14 @@ pub record PackBitsWritten (settings : PackBitsSettings) (form : Form) (value : 
 
 -- ---- what its calls answer
 
--- the value of the chunk that a container holds, or the first refusal
+-- the value of the chunk that a container holds, or the first error
 abbrev pub packbits_value : PackBitsSettings → Form → Held → Result (List ℕ) CodecError
 packbits_value settings form held = do
   l ← packed_layout settings form
   _ ← validity form.type (product form.sizes) held
   Ok (value_with l (chunk_stream l (elements form.type (product form.sizes) held)))
 
--- the chunk that a value stands for, or the first refusal
+-- the chunk that a value stands for, or the first error
 abbrev pub packbits_chunk : PackBitsSettings → Form → List ℕ → Result Chunk CodecError
 packbits_chunk settings form value = do
   l ← packed_layout settings form
@@ -61,12 +61,12 @@ packbits_chunk settings form value = do
   _ ← demand (padding_holds l value) PaddingByte
   Ok (map (packed_element l value) (range_with_len 0 (product form.sizes)))
 
--- where all bits of whole bytes are kept, the value of a container's chunk is answered in no new memory, or the first refusal
+-- where all bits of whole bytes are kept, the value of a container's chunk is answered in no new memory, or the first error
 abbrev pub EncodesInPlace : PackBitsSettings → Form → Held → Result (CowSlice ℕ Global) CodecError → Type 0
 EncodesInPlace settings form held result =
     KeepsAllBytes settings form → EncodesNow (packbits_value settings) form held result
 
--- where all bits of whole bytes are kept, a container of a value's chunk is answered in no new memory, or the first refusal
+-- where all bits of whole bytes are kept, a container of a value's chunk is answered in no new memory, or the first error
 abbrev pub DecodesInPlace : PackBitsSettings → Form → CowSlice ℕ Global → Result Held CodecError → Type 0
 DecodesInPlace settings form given result =
     KeepsAllBytes settings form → DecodesNow (packbits_chunk settings) form (items_of given) result
@@ -77,16 +77,16 @@ HoldsBytes elements = (raw : Raw) → elements ≡ flen raw → (i : ℕ) → sl
 
 -- ---- the same of chunks of these sizes, this type and this fill value
 
--- the value of the chunk that a container holds is answered, or the first refusal
+-- the value of the chunk that a container holds is answered, or the first error
 abbrev pub Packs : PackBitsSettings → List ℕ → ElementType → List ℕ → Held → Result (CowSlice ℕ Global) CodecError → Type 0
 Packs settings sizes type fill held result = EncodesBy (packbits_value settings) (form_of sizes type fill) held result
 
--- the same, and no want of memory comes in its place
+-- the same, and `OutOfMemory` never comes in its place
 abbrev pub PacksWhole : PackBitsSettings → List ℕ → ElementType → List ℕ → Held → Result (CowSlice ℕ Global) CodecError → Type 0
 PacksWhole settings sizes type fill held result =
     EncodesNow (packbits_value settings) (form_of sizes type fill) held result
 
--- where all bits of whole bytes are kept, the value is answered in no new memory, or the first refusal
+-- where all bits of whole bytes are kept, the value is answered in no new memory, or the first error
 abbrev pub PacksNow : PackBitsSettings → List ℕ → ElementType → List ℕ → Held → Result (CowSlice ℕ Global) CodecError → Type 0
 PacksNow settings sizes type fill held result = EncodesInPlace settings (form_of sizes type fill) held result
 
@@ -94,21 +94,22 @@ PacksNow settings sizes type fill held result = EncodesInPlace settings (form_of
 abbrev pub Keeps : PackBitsSettings → List ℕ → ElementType → List ℕ → Held → Result (CowSlice ℕ Global) CodecError → Type 0
 Keeps settings sizes type fill held result = KeepsAllBytes settings (form_of sizes type fill) → IsGiven held result
 
--- a value that is answered stands for a chunk: it is decoded again
-abbrev pub UnpacksAgain : PackBitsSettings → List ℕ → ElementType → List ℕ → Result (CowSlice ℕ Global) CodecError → Type 0
-UnpacksAgain settings sizes type fill result = DecodesAgain (packbits_chunk settings) (form_of sizes type fill) result
+-- a value that is answered is decoded again, to the normal form of the chunk that the container holds
+abbrev pub UnpacksAgain : PackBitsSettings → List ℕ → ElementType → List ℕ → Held → Result (CowSlice ℕ Global) CodecError → Type 0
+UnpacksAgain settings sizes type fill held result =
+    DecodesAgain (packbits_chunk settings) (normal_chunk settings) (form_of sizes type fill) held result
 
--- a container of the chunk that a value stands for is answered, or the first refusal
+-- a container of the chunk that a value stands for is answered, or the first error
 abbrev pub Unpacks : PackBitsSettings → List ℕ → ElementType → List ℕ → CowSlice ℕ Global → Result Held CodecError → Type 0
 Unpacks settings sizes type fill given result =
     DecodesBy (packbits_chunk settings) (form_of sizes type fill) (items_of given) result
 
--- the same, and no want of memory comes in its place
+-- the same, and `OutOfMemory` never comes in its place
 abbrev pub UnpacksWhole : PackBitsSettings → List ℕ → ElementType → List ℕ → CowSlice ℕ Global → Result Held CodecError → Type 0
 UnpacksWhole settings sizes type fill given result =
     DecodesNow (packbits_chunk settings) (form_of sizes type fill) (items_of given) result
 
--- where all bits of whole bytes are kept, the container is answered in no new memory, or the first refusal
+-- where all bits of whole bytes are kept, the container is answered in no new memory, or the first error
 abbrev pub UnpacksNow : PackBitsSettings → List ℕ → ElementType → List ℕ → CowSlice ℕ Global → Result Held CodecError → Type 0
 UnpacksNow settings sizes type fill given result = DecodesInPlace settings (form_of sizes type fill) given result
 
@@ -116,3 +117,13 @@ UnpacksNow settings sizes type fill given result = DecodesInPlace settings (form
 abbrev pub KeepsIn : PackBitsSettings → List ℕ → ElementType → List ℕ → CowSlice ℕ Global → Result Held CodecError → Type 0
 KeepsIn settings sizes type fill given result =
     KeepsAllBytes settings (form_of sizes type fill) → HoldsGiven given result
+
+-- no value of fewer bytes is answered, or the first error is
+abbrev pub CompactsPacked : PackBitsSettings → List ℕ → ElementType → List ℕ → CowSlice ℕ Global → Result (Option (CowSlice ℕ Global)) CodecError → Type 0
+CompactsPacked settings sizes type fill given result =
+    CompactsNone (λ form _. seen (λ _. tt) (packbits_length settings form)) (form_of sizes type fill) (items_of given) result
+
+-- the same; `OutOfMemory` never comes in its place
+abbrev pub CompactsNow : PackBitsSettings → List ℕ → ElementType → List ℕ → Result (Option (CowSlice ℕ Global)) CodecError → Type 0
+CompactsNow settings sizes type fill result =
+    result ≡ seen (λ _. None) (packbits_length settings (form_of sizes type fill))

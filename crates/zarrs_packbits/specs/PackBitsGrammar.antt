@@ -1,4 +1,4 @@
--- What the codec `packbits` says of chunks.
+-- What the codec `packbits` states of chunks.
 use Rattle.zarrs_codec.specs.CodersOverHandles.{PartialReads}
 use Rattle.zarrs_codec.specs.Grammar.{Grammar}
 use Rattle.zarrs_packbits.specs.PackBitsCodec.{PackBitsStands, PackBitsWritten, packbits_value, packbits_chunk}

@@ -1,10 +1,9 @@
--- Which bits a codec `packbits` keeps, and how it packs the chunks that it takes.
+-- Which bits a codec `packbits` keeps, and how it packs the chunks that it accepts.
 use Rattle.std.specs.Prelude.{◌≡◌, ℕ, ◌+◌, ◌-◌, ◌*◌, ◌==◌, ◌&&◌, nat_le, nat_lt, Bool, true, false, not, Option, Some, None, List, Result, Ok, Err, is_ok, if◌then◌else◌}
 use Rattle.zarrs_chunk.specs.Answer.{◌>>=◌, Gives, demand, checked_u64, seen}
 use Rattle.zarrs_chunk.specs.ChunkShape.{product}
 use Rattle.zarrs_chunk.specs.declared.codec_error.CodecError.{CodecError}
 use Rattle.zarrs_chunk.specs.declared.codec_error.CodecError.TheVariants.{UnsupportedDataType, InvalidFillValue, BitRange, Overflow}
-use Rattle.zarrs_chunk.specs.declared.codec_error.CodecName.TheVariants as codec
 use Rattle.zarrs_data_type.specs.ElementType.{ElementType, fixed, text, bytes, optional, component_bytes}
 use Rattle.zarrs_data_type.specs.FillValue.{fill_fits}
 use Rattle.zarrs_metadata.specs.declared.codec.packbits.PackBitsPaddingEncoding.{PackBitsPaddingEncoding}
@@ -18,6 +17,7 @@ use Rattle.zarrs_codec.specs.declared.bytes_representation.BytesRepresentation.T
 use Rattle.zarrs_packbits.specs.declared.layout.PackedLayout.{PackedLayout}
 use Rattle.zarrs_packbits.specs.PackedLayout.{is_in_reach, is_whole}
 use Rattle.zarrs_packbits.specs.PaddingByte.{value_len}
+use Rattle.zarrs_packbits.specs.declared.packbits_codec.TheConstants.{PACKBITS}
 
 -- where the padding byte stands, and the first and the last bit of a component that are kept, where they are given
 pub record PackBitsSettings : Type 0 where
@@ -40,7 +40,7 @@ is_reversed (Some first) (Some last) = nat_lt last first
 is_reversed (Some first) None = false
 is_reversed None last = false
 
--- a codec's settings, or why there are none
+-- a codec's settings, or the error
 abbrev pub packbits_settings : PackBitsPaddingEncoding → Option ℕ → Option ℕ → Result PackBitsSettings PluginCreateError
 packbits_settings padding first last = do
   _ ← demand (not (is_reversed first last)) BitOrder
@@ -80,7 +80,7 @@ layout_for settings elements width components sign =
       padding = padding_for settings first above;
     }
 
--- How a chunk is packed, or the first cause why the codec doesn't take such chunks. An element has a component at least.
+-- How a chunk is packed, or the first error. An element has a component at least.
 abbrev pub packed_layout : PackBitsSettings → Form → Result PackedLayout CodecError
 packed_layout settings form = elim form.type [
   | fixed width components sign ↦ do
@@ -89,33 +89,33 @@ packed_layout settings form = elim form.type [
     count ← checked_u64 (product form.sizes)
     _ ← demand (is_in_reach (layout_for settings count width components sign)) Overflow
     Ok (layout_for settings count width components sign)
-  | text ↦ Err (UnsupportedDataType codec.PackBits)
-  | bytes ↦ Err (UnsupportedDataType codec.PackBits)
-  | optional type ↦ Err (UnsupportedDataType codec.PackBits)
+  | text ↦ Err (UnsupportedDataType PACKBITS)
+  | bytes ↦ Err (UnsupportedDataType PACKBITS)
+  | optional type ↦ Err (UnsupportedDataType PACKBITS)
 ]
 
--- how many bytes the value of such a chunk has, or the first cause why the codec doesn't take such chunks
+-- how many bytes the value of such a chunk has, or the first error
 abbrev pub packbits_length : PackBitsSettings → Form → Result ℕ CodecError
 packbits_length settings form = seen value_len (packed_layout settings form)
 
--- the representation of the value of such a chunk, or the first cause why the codec doesn't take such chunks
+-- the representation of the value of such a chunk, or the first error
 abbrev pub packbits_represented : PackBitsSettings → Form → Result BytesRepresentation CodecError
 packbits_represented settings form = seen FixedSize (packbits_length settings form)
 
--- that representation is answered of chunks of these sizes, this type and this fill value, or the first cause why not
+-- that representation is answered of chunks of these sizes, this type and this fill value, or the first error
 abbrev pub Represents : PackBitsSettings → List ℕ → ElementType → List ℕ → Result BytesRepresentation CodecError → Type 0
 Represents settings sizes type fill result =
     RepresentsBy (packbits_represented settings) (form_of sizes type fill) result
 
--- the same, and no want of memory comes in its place
+-- the same, and `OutOfMemory` never comes in its place
 abbrev pub RepresentsNow : PackBitsSettings → List ℕ → ElementType → List ℕ → Result BytesRepresentation CodecError → Type 0
 RepresentsNow settings sizes type fill result = result ≡ packbits_represented settings (form_of sizes type fill)
 
--- how chunks of these sizes, this type and this fill value are packed is answered, or the first cause why the codec doesn't take them
+-- how chunks of these sizes, this type and this fill value are packed is answered, or the first error
 abbrev pub LaysOut : PackBitsSettings → List ℕ → ElementType → List ℕ → Result PackedLayout CodecError → Type 0
 LaysOut settings sizes type fill result = result ≡ packed_layout settings (form_of sizes type fill)
 
--- the codec takes such chunks
+-- the codec accepts such chunks
 abbrev pub PackBitsTakes : PackBitsSettings → Form → Type 0
 PackBitsTakes settings form = is_ok (packed_layout settings form) ≡ true
 
@@ -123,7 +123,7 @@ PackBitsTakes settings form = is_ok (packed_layout settings form) ≡ true
 abbrev pub IsLayoutFor : PackBitsSettings → Form → PackedLayout → Type 0
 IsLayoutFor settings form layout = packed_layout settings form ≡ Ok layout
 
--- what such a chunk is made of is given, where the codec takes such chunks, or the first refusal
+-- what such a chunk is made of is given, where the codec accepts such chunks, or the first error
 abbrev pub Copies : PackBitsSettings → Form → Result (List ℕ × ElementType × List ℕ) CodecError → Type 0
 Copies settings form result =
     Gives (λ parts. parts) result (seen (λ _. (form.sizes, form.type, form.fill)) (packed_layout settings form))
@@ -133,6 +133,6 @@ abbrev pub keeps_all_bytes : Result PackedLayout CodecError → Bool
 keeps_all_bytes (Ok l) = is_whole l
 keeps_all_bytes (Err e) = false
 
--- the codec takes such chunks, and keeps all bits of whole bytes of them
+-- the codec accepts such chunks, and keeps all bits of whole bytes of them
 abbrev pub KeepsAllBytes : PackBitsSettings → Form → Type 0
 KeepsAllBytes settings form = keeps_all_bytes (packed_layout settings form) ≡ true

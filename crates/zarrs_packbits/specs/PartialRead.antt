@@ -1,5 +1,5 @@
 -- What a read in part answers, by the bits of the places that are asked for alone.
-use Rattle.std.specs.Prelude.{◌≡◌, ℕ, ◌+◌, ◌-◌, ◌*◌, ◌/◌, Bool, nat_lt, Option, Some, None, List, length, map, Result, Ok, Err, IfOk, Vec, if◌then◌else◌}
+use Rattle.std.specs.Prelude.{ℕ, ◌+◌, ◌-◌, ◌*◌, ◌/◌, Bool, nat_lt, Option, Some, None, List, length, map, Result, Ok, Err, IfOk, Vec, if◌then◌else◌}
 use Rattle.std.proofs.Common.{Global}
 use Rattle.std.specs.List.{flat_map, list_all, range_with_len}
 use Rattle.zarrs_chunk.specs.Answer.{◌>>=◌, AnswersBy, AnswersItems, demand, memory_or_fault}
@@ -14,8 +14,10 @@ use Rattle.zarrs_array_bytes.specs.Held.{Held}
 use Rattle.zarrs_array_bytes.specs.Validity.{Holds}
 use Rattle.zarrs_codec.specs.StorageState.{StorageState, are_sure}
 use Rattle.zarrs_codec.specs.HandleCalls.{NeverFailsIf}
+use Rattle.zarrs_bytes.specs.PartialRead.{place_size}
+use Rattle.zarrs_bytes.specs.ReadingCalls.{calls_for_runs}
 use Rattle.zarrs_packbits.specs.BitStream.{element_bits, packed_element}
-use Rattle.zarrs_packbits.specs.PackBitsSettings.{PackBitsSettings, packed_layout}
+use Rattle.zarrs_packbits.specs.PackBitsSettings.{PackBitsSettings, keeps_all_bytes, packed_layout}
 use Rattle.zarrs_packbits.specs.declared.layout.PackedLayout.{PackedLayout}
 use Rattle.zarrs_packbits.specs.PackedLayout.{element_bits_len}
 use Rattle.zarrs_packbits.specs.PaddingByte.{lead}
@@ -51,14 +53,10 @@ read_packed_bytes l None fill places = Ok (flat_map (λ _. fill) places)
 read_packed_bytes l (Some value) fill places =
     if all_below (length value) (packed_places_bytes l places) then Ok (packing (flat_map (element_bits l value) places)) else Err InvalidByteRange
 
--- those bytes are answered of what is seen of a handle, for the places of these runs; only a want of memory or a failure of the handle may come in their place
+-- those bytes are answered of what is seen of a handle, for the places of these runs; only `OutOfMemory` or a failure of the handle may come in their place
 abbrev pub ReadsPacked : PackedLayout → StorageState → List ℕ → List (ℕ × ℕ) → Result (Vec ℕ Global) CodecError → Type 0
 ReadsPacked l before fill runs result =
     AnswersItems memory_or_fault result (read_packed_bytes l before.value fill (joined_runs runs))
-
--- the fill element for each place of these runs is answered
-abbrev pub FillsRuns : {E : Type 0} → List ℕ → List (ℕ × ℕ) → Result (Vec ℕ Global) E → Type 0
-FillsRuns fill runs result = IfOk result (λ bytes. bytes.items ≡ flat_map (λ _. fill) (joined_runs runs))
 
 -- the elements at these places: those of the stored value, where it has all their bytes; the fill element at each, where nothing is stored
 abbrev pub read_packed_places : PackedLayout → ElementType → List ℕ → Option (List ℕ) → List ℕ → Result Chunk CodecError
@@ -67,18 +65,18 @@ read_packed_places l type fill (Some value) places = do
   _ ← demand (all_below (length value) (packed_places_bytes l places)) InvalidByteRange
   Ok (map (packed_element l value) places)
 
--- the same by the settings, or the first cause why the codec doesn't take such chunks
+-- the same by the settings, or the first error
 abbrev pub read_places_of : PackBitsSettings → Form → Option (List ℕ) → List ℕ → Result Chunk CodecError
 read_places_of settings form stored places = do
   l ← packed_layout settings form
   read_packed_places l form.type form.fill stored places
 
--- The answer is a container of the elements at the places of these runs, each a start and a length: those of the stored value, where it has all their bytes; the fill element at each, where nothing is stored. Only a want of memory or a failure of the handle may come in its place.
+-- The answer is a container of the elements at the places of these runs, each a start and a length: those of the stored value, where it has all their bytes; the fill element at each, where nothing is stored. Only `OutOfMemory` or a failure of the handle may come in its place.
 abbrev pub ReadsRuns : PackBitsSettings → Form → StorageState → List (ℕ × ℕ) → Result Held CodecError → Type 0
 ReadsRuns settings form before runs result =
     AnswersBy memory_or_fault (Holds form.type) result (read_places_of settings form before.value (joined_runs runs))
 
--- the elements that a selection means, of what is stored, or the first refusal
+-- the selected elements, of what is stored, or the first error
 abbrev pub packbits_read : PackBitsSettings → Form → Option (List ℕ) → Selection → Result Chunk CodecError
 packbits_read settings form stored selection = do
   places ← places_of selection form.sizes
@@ -95,13 +93,18 @@ abbrev pub ReadsRunsSurely : {T : Type 0} → PackBitsSettings → Form → Stor
 ReadsRunsSurely settings form before runs result =
     IfOk (bytes_of_places settings form (joined_runs runs)) (λ numbers. NeverFailsIf (are_sure before.sure numbers) result)
 
--- the numbers of the bytes that such a read rests on, or the first refusal
+-- how many reading calls a read of these runs makes of what is stored: one; where all bits of whole bytes are kept, as many as of the codec `bytes`
+abbrev pub reading_calls_of : PackBitsSettings → Form → Option (List ℕ) → List (ℕ × ℕ) → ℕ
+reading_calls_of settings form stored runs =
+    if keeps_all_bytes (packed_layout settings form) then calls_for_runs (place_size form.type) stored runs else 1
+
+-- the numbers of the bytes that such a read rests on, or the first error
 abbrev pub packbits_plan : PackBitsSettings → Form → Selection → Result (List ℕ) CodecError
 packbits_plan settings form selection = do
   places ← places_of selection form.sizes
   bytes_of_places settings form places
 
--- the places that a selection means, and how their chunk is packed, or the first refusal
+-- the selected places, and how their chunk is packed, or the first error
 abbrev pub packbits_places : PackBitsSettings → Form → Selection → Result (List ℕ × PackedLayout) CodecError
 packbits_places settings form selection = do
   places ← places_of selection form.sizes

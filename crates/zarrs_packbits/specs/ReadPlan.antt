@@ -1,11 +1,11 @@
 -- The bytes of runs of places that follow one another, and the plan of a read.
-use Rattle.std.specs.Prelude.{◌≡◌, ℕ, ◌+◌, ◌-◌, ◌*◌, ◌/◌, ◌%◌, ◌<◌, List, [], ◌∷◌, ◌++◌, map, length, take, drop, Bool, true, Vec}
+use Rattle.std.specs.Prelude.{◌≡◌, ℕ, ◌+◌, ◌-◌, ◌*◌, ◌/◌, ◌%◌, List, [], ◌∷◌, ◌++◌, map, length, take, drop, Bool, true, Vec}
 use Rattle.std.proofs.Common.{Global}
-use Rattle.std.specs.List.{All, list_all}
-use Rattle.zarrs_chunk.specs.Runs.{joined_runs}
+use Rattle.std.specs.List.{list_all}
+use Rattle.zarrs_chunk.specs.Runs.{joined_runs, AreApart, AreFilled}
 use Rattle.zarrs_codec.specs.ByteRanges.{range_indices}
 use Rattle.zarrs_codec.specs.ByteSpan.{ByteSpan}
-use Rattle.zarrs_bytes.specs.PlannedRanges.{ranges_len}
+use Rattle.zarrs_bytes.specs.PlannedRanges.{ranges_len, spans}
 use Rattle.zarrs_packbits.specs.Bits.{bits_of}
 use Rattle.zarrs_packbits.specs.BitStream.{components_from}
 use Rattle.zarrs_packbits.specs.declared.layout.PackedLayout.{PackedLayout}
@@ -25,26 +25,29 @@ run_end l run = lead l + ((run.0 + run.1) * element_bits_len l + 7) / 8
 abbrev pub run_span : PackedLayout → ℕ × ℕ → ℕ × ℕ
 run_span l run = (run_start l run, run_end l run)
 
--- where ranges start and end
-abbrev pub spans : List ByteSpan → List (ℕ × ℕ)
-spans ranges = map (λ range. (range.start, range.end)) ranges
-
 -- both lists have the same numbers: a test that all of the one pass, all of the other pass, and the other way round
 abbrev pub SameNumbers : List ℕ → List ℕ → Type 0
 SameNumbers numbers others = (test : ℕ → Bool) → list_all test numbers ≡ list_all test others
 
--- The ranges are a plan of a read of these places: the places are cut, in order, into runs of consecutive places, none of them empty, and each range is the bytes of one run. Joined they are the places' bytes and no others. Where all bits of whole bytes are kept, they have as many bytes as the elements.
+-- The ranges are the plan of a read of these runs: each is the bytes of one run, in order. Joined they are the places' bytes and no others. Where all bits of whole bytes are kept, they have as many bytes as the elements.
+pub record IsPlanOfRuns (l : PackedLayout) (runs : List (ℕ × ℕ)) (ranges : List ByteSpan) : Type 0 where
+  pub each : spans ranges ≡ map (run_span l) runs
+  pub bytes : SameNumbers (range_indices ranges) (packed_places_bytes l (joined_runs runs))
+  pub sum : is_whole l ≡ true → ranges_len ranges ≡ length (joined_runs runs) * (l.group * l.size)
+
+-- The ranges are the plan of a read of these places: the places are joined, in order, to runs of consecutive places, none of them empty, and none beginning where the one before it ends; each range is the bytes of one run. Joined they are the places' bytes and no others. Where all bits of whole bytes are kept, they have as many bytes as the elements.
 pub record IsPlan (l : PackedLayout) (places : List ℕ) (ranges : List ByteSpan) : Type 0 where
   pub runs : List (ℕ × ℕ)
-  pub filled : All (λ run. 0 < run.1) runs
+  pub filled : AreFilled runs
+  pub apart : AreApart runs
   pub joined : joined_runs runs ≡ places
   pub each : spans ranges ≡ map (run_span l) runs
   pub bytes : SameNumbers (range_indices ranges) (packed_places_bytes l places)
   pub sum : is_whole l ≡ true → ranges_len ranges ≡ length places * (l.group * l.size)
 
--- the ranges are a plan of a read of the places of these runs
+-- the ranges are the plan of a read of these runs
 abbrev pub IsPlanOf : List (ℕ × ℕ) → Vec ByteSpan Global → PackedLayout → Type 0
-IsPlanOf runs ranges layout = IsPlan layout (joined_runs runs) ranges.items
+IsPlanOf runs ranges layout = IsPlanOfRuns layout runs ranges.items
 
 -- the components of the elements of these runs, made of the runs' bytes joined
 abbrev pub run_bits : PackedLayout → List ℕ → List (ℕ × ℕ) → List ℕ

@@ -10,11 +10,11 @@ use Rattle.zarrs_metadata.specs.declared.plugin_create_error.PluginCreateError.{
 use Rattle.zarrs_codec.specs.MadeAgain.{MadeAgain}
 use Rattle.zarrs_packbits.specs.PackBitsSettings.{PackBitsSettings, packbits_settings, is_reversed}
 
--- the settings of a configuration's fields, or why there are none: a padding byte that isn't said is none
+-- the settings of a configuration's fields, or the error: a padding byte that isn't given is none
 abbrev pub settings_of : PackBitsCodecConfigurationV1 → Result PackBitsSettings PluginCreateError
 settings_of fields = packbits_settings (padding_or_none fields.padding_encoding) fields.first_bit fields.last_bit
 
--- the settings of a configuration, or the first cause why there are none
+-- the settings of a configuration, or the first error
 abbrev pub read_settings : Members → Result PackBitsSettings PluginCreateError
 read_settings configuration = do
   fields ← read_packbits configuration

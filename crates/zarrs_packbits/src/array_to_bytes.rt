@@ -9,9 +9,10 @@ use zarrs_data_type::{DataType, FillValue};
 impl ArrayToBytesCodecTraits for PackBitsCodec {
     ghost use Rattle.std.specs.Prelude.{IfOk};
     ghost use Rattle.zarrs_chunk.specs.Answer.{seen};
-    ghost use Rattle.zarrs_array_bytes.specs.Blank.{AbsentAreBlank};
+    ghost use Rattle.zarrs_array_bytes.specs.Tight.{IsTight};
     ghost use Rattle.zarrs_codec.specs.ChunkCodec.{GivesValid};
-    ghost use Rattle.zarrs_packbits.specs.PackBitsCodec.{packbits_value, packbits_chunk, Keeps, KeepsIn, Packs, PacksNow, Unpacks, UnpacksAgain, UnpacksNow};
+    ghost use Rattle.zarrs_packbits.specs.NormalForm.{normal_chunk};
+    ghost use Rattle.zarrs_packbits.specs.PackBitsCodec.{packbits_value, packbits_chunk, CompactsNow, CompactsPacked, Keeps, KeepsIn, Packs, PacksNow, Unpacks, UnpacksAgain, UnpacksNow};
     ghost use Rattle.zarrs_packbits.specs.PackBitsSettings.{packbits_length, packbits_represented, Represents, RepresentsNow};
 
     ghost represented = { λ settings form. packbits_represented settings form };
@@ -19,6 +20,8 @@ impl ArrayToBytesCodecTraits for PackBitsCodec {
     ghost encoded = { λ settings form held. packbits_value settings form held };
 
     ghost decoded = { λ settings form value. packbits_chunk settings form value };
+
+    ghost normal = { λ settings type chunk. normal_chunk settings type chunk };
 
     ghost opened = { λ settings form _. seen (λ _. tt) (packbits_length settings form) };
 
@@ -51,12 +54,14 @@ impl ArrayToBytesCodecTraits for PackBitsCodec {
         ensures answer { Packs self.now shape.now data_type.now fill.now given.entry result }
         ensures in_place { PacksNow self.now shape.now data_type.now fill.now given.entry result }
         ensures kept { Keeps self.now shape.now data_type.now fill.now given.entry result }
-        ensures decoded_again { UnpacksAgain self.now shape.now data_type.now fill.now result }
+        // Wide: the three parameters of a form, the elements and the answer.
+        ensures decoded_again { UnpacksAgain self.now
+            shape.now data_type.now fill.now given.entry result }
     {
         PackBitsCodec::encode(self, alloc, given, shape, data_type, fill)
     }
 
-    #[tactic(auto, using(crate::proofs::Counted::found_valid, crate::proofs::Counted::found_blank))]
+    #[tactic(auto, using(crate::proofs::Counted::found_valid, crate::proofs::Counted::found_tight))]
     fn decode<'a>(
         &self,
         alloc: Global,
@@ -69,19 +74,26 @@ impl ArrayToBytesCodecTraits for PackBitsCodec {
         ensures valid { GivesValid data_type.now shape.now result }
         ensures in_place { UnpacksNow self.now shape.now data_type.now fill.now value.entry result }
         ensures kept { KeepsIn self.now shape.now data_type.now fill.now value.entry result }
-        ensures blank { IfOk result (AbsentAreBlank data_type.now) }
+        ensures tight { IfOk result (IsTight data_type.now) }
     {
         PackBitsCodec::decode(self, alloc, value, shape, data_type, fill)
     }
 
+    /// A value of fewer bytes for the same chunk: `None`, since there is none. It takes no memory.
+    /// Errors: those of `encoded_representation`.
     fn compact<'a>(
         &self,
         _alloc: Global,
-        _value: ArrayBytesRaw<'a>,
+        value: ArrayBytesRaw<'a>,
         shape: &ChunkShape,
         data_type: &DataType,
         fill_value: &FillValue,
-    ) -> Result<Option<ArrayBytesRaw<'a>>, CodecError> {
+    ) -> Result<Option<ArrayBytesRaw<'a>>, CodecError>
+        // Wide: the three parameters of a form, the value and the answer.
+        ensures answer { CompactsPacked self.now
+            shape.now data_type.now fill_value.now value.entry result }
+        ensures in_place { CompactsNow self.now shape.now data_type.now fill_value.now result }
+    {
         self.layout(shape, data_type, fill_value)?;
         Ok(None)
     }

@@ -5,10 +5,7 @@ ghost use Rattle.zarrs_packbits.specs.BlockBits.{stream_of_blocks};
 ghost use Rattle.zarrs_packbits.specs.PackedLayout.{IsOneTwoOrFour, IsPackedLayout, ReachWords, parts_of};
 ghost use Rattle.zarrs_packbits.specs.WrittenBits.{written_bits, AppendsBits, AppendsComponents, IsPartlyFilled, LeavesBits, LeavesFirst, LeavesUpTo, Flushes, LeavesParts, LeavesRest};
 
-use crate::blocks::{
-    append_bits_spread, append_halves_joined, append_halves_spread, append_quarters_joined,
-    append_quarters_spread,
-};
+use crate::blocks::{append_blocks, append_cut};
 use crate::lanes::{append_joined_lanes, append_spread_lanes};
 use crate::layout::PackedLayout;
 use crate::words::{append_bits, component_word, read_bits, read_within};
@@ -259,14 +256,14 @@ fn append_joined(out: &mut Vec<u8>, layout: &PackedLayout, bytes: &[u8]) -> Resu
     ensures appended { AppendsBits out.old out.new result (stream_of_blocks layout.now bytes.now) }
 {
     if layout.count == 4 {
-        append_halves_joined(out, bytes, layout.first)
+        append_cut(out, bytes, layout.first, 4)
     } else {
-        append_quarters_joined(out, bytes, layout.first)
+        append_cut(out, bytes, layout.first, 2)
     }
 }
 
-/// Appends the kept bits of the first components of a chunk, as many as go several in a word, and says
-/// how many went.
+/// Appends the kept bits of the first components of a chunk, as many as go several in a word, and
+/// returns how many went.
 fn append_words(
     out: &mut Vec<u8>,
     word: u64,
@@ -290,7 +287,7 @@ fn append_words(
 }
 
 /// Appends the kept bits of the first components of a chunk, as many as go by blocks or by words, and
-/// says how many went.
+/// returns how many went.
 pub(crate) fn append_first(
     out: &mut Vec<u8>,
     word: u64,
@@ -329,12 +326,10 @@ fn append_spread(
     requires inside { parts * layout.now.count ≤ 8 * length bytes.now }
     ensures appended { AppendsComponents layout.now parts bytes.now out.old out.new result }
 {
-    if layout.count == 1 {
-        append_bits_spread(out, layout, bytes, parts)
-    } else if layout.count == 2 {
-        append_quarters_spread(out, layout, bytes, parts)
-    } else {
-        append_halves_spread(out, layout, bytes, parts)
+    match layout.count {
+        1 => append_blocks(out, layout, bytes, parts, 1, 64, 8),
+        2 => append_blocks(out, layout, bytes, parts, 2, 64, 16),
+        _ => append_blocks(out, layout, bytes, parts, 4, 128, 64),
     }
 }
 

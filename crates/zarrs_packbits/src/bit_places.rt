@@ -1,3 +1,4 @@
+//! Where the bits of components stand in memory.
 ghost use Rattle.std.specs.Prelude.{◌≡◌, ◌+◌, ◌*◌, ◌/◌, ◌%◌, ◌^◌, ◌<◌};
 ghost use Rattle.zarrs_packbits.specs.DivRem8Bit.{padded_bit};
 

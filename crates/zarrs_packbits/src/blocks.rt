@@ -2,7 +2,9 @@
 ghost use Rattle.std.specs.Prelude.{◌≡◌, ◌+◌, ◌*◌, ◌^◌, ◌<◌, ◌≤◌, All, length, map};
 ghost use Rattle.std.specs.List.{flat_map};
 ghost use Rattle.zarrs_packbits.specs.Bits.{bits_of, low_bits};
-ghost use Rattle.zarrs_packbits.specs.BlockBits.{cut_byte, fields_of, lifted_byte, block_fields};
+ghost use Rattle.zarrs_packbits.specs.BlockBits.{block_fields, block_len, cut_byte, fields_of, lifted_byte};
+ghost use Rattle.zarrs_packbits.specs.KeptBits.{sign_weight};
+ghost use Rattle.zarrs_packbits.specs.PackedLayout.{IsOneTwoOrFour};
 ghost use Rattle.zarrs_packbits.specs.WrittenBits.{AppendsBits, AppendsComponents};
 
 use crate::layout::PackedLayout;
@@ -51,25 +53,12 @@ fn spread_quarters(from: &[u8; 16]) -> [u8; 64]
 
 /// The bytes whose kept bits are these, from bit `first` on.
 #[inline(always)]
-fn lifted(kept: &[u8; 64], first: u64, weight: u8) -> [u8; 64]
+fn lifted<const N: usize>(kept: &[u8; N], first: u64, weight: u8) -> [u8; N]
     requires bit { first < 8 }
     ensures value { result ≡ map (lifted_byte first weight) kept.now }
 {
-    let mut to = [0u8; 64];
-    for place in 0..64usize {
-        to[place] = (kept[place] ^ weight).wrapping_sub(weight) << first;
-    }
-    to
-}
-
-/// The same of 128 bytes.
-#[inline(always)]
-fn lifted_wide(kept: &[u8; 128], first: u64, weight: u8) -> [u8; 128]
-    requires bit { first < 8 }
-    ensures value { result ≡ map (lifted_byte first weight) kept.now }
-{
-    let mut to = [0u8; 128];
-    for place in 0..128usize {
+    let mut to = [0u8; N];
+    for place in 0..N {
         to[place] = (kept[place] ^ weight).wrapping_sub(weight) << first;
     }
     to
@@ -95,126 +84,119 @@ fn half_block(from: &[u8; 64], first: u64, weight: u8) -> [u8; 128]
     if first == 0 && weight == 0 {
         return kept;
     }
-    lifted_wide(&kept, first, weight)
+    lifted(&kept, first, weight)
 }
 
-/// Appends fewer than 64 components of one kept bit each.
-fn append_last_bits(
-    out: &mut Vec<u8>,
-    layout: &PackedLayout,
-    bytes: &[u8],
-    parts: usize,
-) -> Result<(), AllocError>
-    requires count { layout.now.count ≡ 1 }
-    requires size { layout.now.first + layout.now.count + layout.now.above ≡ 8 }
-    requires few { parts ≤ 64 }
-    requires inside { parts * layout.now.count ≤ 8 * length bytes.now }
-    ensures appended { AppendsComponents layout.now parts bytes.now out.old out.new result }
-{
-    let left = (parts + 7) / 8;
-    let mut from = [0u8; 8];
-    from[..left].copy_from_slice(&bytes[..left]);
-    let weight = weight_of_sign(layout.count, layout.sign) as u8;
-    out.extend_from_slice(&bit_block(&from, layout.first, weight)[..parts])?;
-    Ok(())
-}
-
-/// Appends so many components of one byte and one kept bit each. The kept bits stand in the bytes
-/// from the first one on.
-pub(crate) fn append_bits_spread(
-    out: &mut Vec<u8>,
-    layout: &PackedLayout,
-    bytes: &[u8],
-    parts: u64,
-) -> Result<(), AllocError>
-    requires count { layout.now.count ≡ 1 }
-    requires size { layout.now.first + layout.now.count + layout.now.above ≡ 8 }
-    requires inside { parts * layout.now.count ≤ 8 * length bytes.now }
-    ensures appended { AppendsComponents layout.now parts bytes.now out.old out.new result }
-{
-    let PackedLayout {
-        first,
-        count,
-        sign,
-        ..
-    } = *layout;
-    let weight = weight_of_sign(count, sign) as u8;
-    let whole = (parts / 64) as usize;
-    for block in 0..whole {
-        let mut from = [0u8; 8];
-        from.copy_from_slice(&bytes[8 * block..8 * block + 8]);
-        out.extend_from_slice(&bit_block(&from, first, weight))?;
-    }
-    if parts % 64 == 0 {
-        return Ok(());
-    }
-    append_last_bits(out, layout, &bytes[8 * whole..], (parts % 64) as usize)?;
-    Ok(())
-}
-
-/// Appends fewer than 128 components of four kept bits each.
-fn append_last_halves(
-    out: &mut Vec<u8>,
-    layout: &PackedLayout,
-    bytes: &[u8],
-    parts: usize,
-) -> Result<(), AllocError>
-    requires count { layout.now.count ≡ 4 }
-    requires size { layout.now.first + layout.now.count + layout.now.above ≡ 8 }
-    requires few { parts ≤ 128 }
-    requires inside { parts * layout.now.count ≤ 8 * length bytes.now }
-    ensures appended { AppendsComponents layout.now parts bytes.now out.old out.new result }
-{
-    let left = (parts + 1) / 2;
-    let mut from = [0u8; 64];
-    from[..left].copy_from_slice(&bytes[..left]);
-    let weight = weight_of_sign(layout.count, layout.sign) as u8;
-    out.extend_from_slice(&half_block(&from, layout.first, weight)[..parts])?;
-    Ok(())
-}
-
-/// Appends so many components of one byte and four kept bits each. The kept bits stand in the bytes
-/// from the first one on.
-pub(crate) fn append_halves_spread(
-    out: &mut Vec<u8>,
-    layout: &PackedLayout,
-    bytes: &[u8],
-    parts: u64,
-) -> Result<(), AllocError>
-    requires count { layout.now.count ≡ 4 }
-    requires size { layout.now.first + layout.now.count + layout.now.above ≡ 8 }
-    requires inside { parts * layout.now.count ≤ 8 * length bytes.now }
-    ensures appended { AppendsComponents layout.now parts bytes.now out.old out.new result }
-{
-    let PackedLayout {
-        first,
-        count,
-        sign,
-        ..
-    } = *layout;
-    let weight = weight_of_sign(count, sign) as u8;
-    let whole = (parts / 128) as usize;
-    for block in 0..whole {
-        let mut from = [0u8; 64];
-        from.copy_from_slice(&bytes[64 * block..64 * block + 64]);
-        out.extend_from_slice(&half_block(&from, first, weight))?;
-    }
-    if parts % 128 == 0 {
-        return Ok(());
-    }
-    append_last_halves(out, layout, &bytes[64 * whole..], (parts % 128) as usize)?;
-    Ok(())
-}
-
-/// Four bits of each of 64 bytes, each in a byte.
+/// The components, from bit `first` on, whose kept bits, two each, stand in 16 bytes.
 #[inline(always)]
-fn cut_halves(from: &[u8; 64], first: u64) -> [u8; 64]
+fn quarter_block(from: &[u8; 16], first: u64, weight: u8) -> [u8; 64]
     requires bit { first < 8 }
-    ensures value { result ≡ map (cut_byte first 4) from.now }
+    ensures value { result ≡ map (lifted_byte first weight) (flat_map (fields_of 2 4) from.now) }
 {
+    lifted(&spread_quarters(from), first, weight)
+}
+
+/// Appends so many components of one byte, as many as a block has or fewer, whose kept bits, one,
+/// two or four each, stand in the bytes from the first one on.
+#[inline(always)]
+fn append_block(
+    out: &mut Vec<u8>,
+    layout: &PackedLayout,
+    bytes: &[u8],
+    parts: usize,
+    count: u64,
+    weight: u8,
+) -> Result<(), AllocError>
+    requires count { layout.now.count ≡ count }
+    requires kept { IsOneTwoOrFour count }
+    requires size { layout.now.first + layout.now.count + layout.now.above ≡ 8 }
+    requires weight { weight ≡ sign_weight layout.now.sign count }
+    requires few { parts * count ≤ 8 * block_len count }
+    requires inside { parts * count ≤ 8 * length bytes.now }
+    ensures appended { AppendsComponents layout.now parts bytes.now out.old out.new result }
+{
+    let first = layout.first;
+    let left = (parts * count as usize + 7) / 8;
+    match count {
+        1 => {
+            let mut from = [0u8; 8];
+            from[..left].copy_from_slice(&bytes[..left]);
+            out.extend_from_slice(&bit_block(&from, first, weight)[..parts])?;
+            Ok(())
+        }
+        2 => {
+            let mut from = [0u8; 16];
+            from[..left].copy_from_slice(&bytes[..left]);
+            out.extend_from_slice(&quarter_block(&from, first, weight)[..parts])?;
+            Ok(())
+        }
+        _ => {
+            let mut from = [0u8; 64];
+            from[..left].copy_from_slice(&bytes[..left]);
+            out.extend_from_slice(&half_block(&from, first, weight)[..parts])?;
+            Ok(())
+        }
+    }
+}
+
+/// Appends so many components of one byte, a block of `room` of them at a time, out of `len` bytes.
+/// Their kept bits, one, two or four each, stand in the bytes from the first one on.
+#[inline(always)]
+pub(crate) fn append_blocks(
+    out: &mut Vec<u8>,
+    layout: &PackedLayout,
+    bytes: &[u8],
+    parts: u64,
+    count: u64,
+    room: u64,
+    len: usize,
+) -> Result<(), AllocError>
+    requires count { layout.now.count ≡ count }
+    requires kept { IsOneTwoOrFour count }
+    requires some { 0 < room }
+    requires room { room * count ≡ 8 * len }
+    requires len { len ≡ block_len count }
+    requires size { layout.now.first + layout.now.count + layout.now.above ≡ 8 }
+    requires inside { parts * count ≤ 8 * length bytes.now }
+    ensures appended { AppendsComponents layout.now parts bytes.now out.old out.new result }
+{
+    let weight = weight_of_sign(count, layout.sign) as u8;
+    let whole = (parts / room) as usize;
+    for block in 0..whole {
+        append_block(
+            out,
+            layout,
+            &bytes[len * block..],
+            room as usize,
+            count,
+            weight,
+        )?;
+    }
+    if parts % room == 0 {
+        return Ok(());
+    }
+    append_block(
+        out,
+        layout,
+        &bytes[len * whole..],
+        (parts % room) as usize,
+        count,
+        weight,
+    )?;
+    Ok(())
+}
+
+/// So many bits of each of 64 bytes, each in a byte.
+#[inline(always)]
+fn cut(from: &[u8; 64], first: u64, count: u64) -> [u8; 64]
+    requires bit { first < 8 }
+    requires count { count < 8 }
+    ensures value { result ≡ map (cut_byte first count) from.now }
+{
+    let mask = (1u8 << count) - 1;
     let mut to = [0u8; 64];
     for place in 0..64usize {
-        to[place] = (from[place] >> first) & 15;
+        to[place] = (from[place] >> first) & mask;
     }
     to
 }
@@ -228,100 +210,6 @@ fn join_halves(from: &[u8; 64]) -> [u8; 32]
     let mut to = [0u8; 32];
     for place in 0..32usize {
         to[place] = from[2 * place] | (from[2 * place + 1] << 4);
-    }
-    to
-}
-
-/// Appends four bits of each of these bytes, as many as make blocks of 64.
-pub(crate) fn append_halves_joined(
-    out: &mut Vec<u8>,
-    bytes: &[u8],
-    first: u64,
-) -> Result<(), AllocError>
-    requires within { first + 4 ≤ 8 }
-    ensures appended { AppendsBits out.old out.new result (block_fields first 4 bytes.now) }
-{
-    let whole = bytes.len() / 64;
-    for block in 0..whole {
-        let mut from = [0u8; 64];
-        from.copy_from_slice(&bytes[64 * block..64 * block + 64]);
-        out.extend_from_slice(&join_halves(&cut_halves(&from, first)))?;
-    }
-    Ok(())
-}
-
-/// The components, from bit `first` on, whose kept bits, two each, stand in 16 bytes.
-#[inline(always)]
-fn quarter_block(from: &[u8; 16], first: u64, weight: u8) -> [u8; 64]
-    requires bit { first < 8 }
-    ensures value { result ≡ map (lifted_byte first weight) (flat_map (fields_of 2 4) from.now) }
-{
-    lifted(&spread_quarters(from), first, weight)
-}
-
-/// Appends fewer than 64 components of two kept bits each.
-fn append_last_quarters(
-    out: &mut Vec<u8>,
-    layout: &PackedLayout,
-    bytes: &[u8],
-    parts: usize,
-) -> Result<(), AllocError>
-    requires count { layout.now.count ≡ 2 }
-    requires size { layout.now.first + layout.now.count + layout.now.above ≡ 8 }
-    requires few { parts ≤ 64 }
-    requires inside { parts * layout.now.count ≤ 8 * length bytes.now }
-    ensures appended { AppendsComponents layout.now parts bytes.now out.old out.new result }
-{
-    let left = (parts + 3) / 4;
-    let mut from = [0u8; 16];
-    from[..left].copy_from_slice(&bytes[..left]);
-    let weight = weight_of_sign(layout.count, layout.sign) as u8;
-    out.extend_from_slice(&quarter_block(&from, layout.first, weight)[..parts])?;
-    Ok(())
-}
-
-/// Appends so many components of one byte and two kept bits each. The kept bits stand in the bytes
-/// from the first one on.
-pub(crate) fn append_quarters_spread(
-    out: &mut Vec<u8>,
-    layout: &PackedLayout,
-    bytes: &[u8],
-    parts: u64,
-) -> Result<(), AllocError>
-    requires count { layout.now.count ≡ 2 }
-    requires size { layout.now.first + layout.now.count + layout.now.above ≡ 8 }
-    requires inside { parts * layout.now.count ≤ 8 * length bytes.now }
-    ensures appended { AppendsComponents layout.now parts bytes.now out.old out.new result }
-{
-    let PackedLayout {
-        first,
-        count,
-        sign,
-        ..
-    } = *layout;
-    let weight = weight_of_sign(count, sign) as u8;
-    let whole = (parts / 64) as usize;
-    for block in 0..whole {
-        let mut from = [0u8; 16];
-        from.copy_from_slice(&bytes[16 * block..16 * block + 16]);
-        out.extend_from_slice(&quarter_block(&from, first, weight))?;
-    }
-    if parts % 64 == 0 {
-        return Ok(());
-    }
-    append_last_quarters(out, layout, &bytes[16 * whole..], (parts % 64) as usize)?;
-    Ok(())
-}
-
-/// Two bits of each of 64 bytes, each in a byte.
-#[inline(always)]
-fn cut_quarters(from: &[u8; 64], first: u64) -> [u8; 64]
-    requires bit { first < 8 }
-    ensures value { result ≡ map (cut_byte first 2) from.now }
-{
-    let mut to = [0u8; 64];
-    for place in 0..64usize {
-        to[place] = (from[place] >> first) & 3;
     }
     to
 }
@@ -342,20 +230,37 @@ fn join_quarters(from: &[u8; 64]) -> [u8; 16]
     to
 }
 
-/// Appends two bits of each of these bytes, as many as make blocks of 64.
-pub(crate) fn append_quarters_joined(
+/// Appends 64 numbers of two or four bits.
+#[inline(always)]
+fn append_numbers(out: &mut Vec<u8>, from: &[u8; 64], count: u64) -> Result<(), AllocError>
+    requires count { (count ≡ 4 → ⊥) → count ≡ 2 }
+    requires bits_fit { All (λ number. number < 2 ^ count) from.now }
+    ensures appended { AppendsBits out.old out.new result (flat_map (low_bits count) from.now) }
+{
+    if count == 4 {
+        out.extend_from_slice(&join_halves(from))
+    } else {
+        out.extend_from_slice(&join_quarters(from))
+    }
+}
+
+/// Appends two or four bits of each of these bytes, as many as make blocks of 64.
+#[inline(always)]
+pub(crate) fn append_cut(
     out: &mut Vec<u8>,
     bytes: &[u8],
     first: u64,
+    count: u64,
 ) -> Result<(), AllocError>
-    requires within { first + 2 ≤ 8 }
-    ensures appended { AppendsBits out.old out.new result (block_fields first 2 bytes.now) }
+    requires count { (count ≡ 4 → ⊥) → count ≡ 2 }
+    requires within { first + count ≤ 8 }
+    ensures appended { AppendsBits out.old out.new result (block_fields first count bytes.now) }
 {
     let whole = bytes.len() / 64;
     for block in 0..whole {
         let mut from = [0u8; 64];
         from.copy_from_slice(&bytes[64 * block..64 * block + 64]);
-        out.extend_from_slice(&join_quarters(&cut_quarters(&from, first)))?;
+        append_numbers(out, &cut(&from, first, count), count)?;
     }
     Ok(())
 }

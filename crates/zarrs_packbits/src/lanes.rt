@@ -45,8 +45,8 @@ fn spread_word(kept: u64, layout: PackedLayout, lanes: u64, width: u64) -> u64
     word << layout.first
 }
 
-/// Appends the kept bits of the first components of a chunk, as many as fill words, and says how many
-/// those are.
+/// Appends the kept bits of the first components of a chunk, as many as fill words, and returns how
+/// many those are.
 #[inline(always)]
 pub(crate) fn append_joined_lanes(
     out: &mut Vec<u8>,

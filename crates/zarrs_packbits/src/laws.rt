@@ -48,7 +48,7 @@ pub fn written_as_bytes()
     ensures law { WrittenAsBytes }
 {}
 
-/// A written value has the length that the representation says.
+/// A written value has the length that the representation declares.
 pub fn has_represented_length()
     ensures law { HasRepresentedLength }
 {}

@@ -1,3 +1,4 @@
+//! How the components of a chunk are packed.
 ghost use Rattle.std.specs.Prelude.{IsTrue, ◌<◌, ◌≤◌, ◌+◌, ◌≡◌, length};
 ghost use Rattle.zarrs_packbits.specs.PackedLayout.{IsOneTwoOrFour, IsPackedLayout, is_whole, is_in_reach, spare_of};
 ghost use Rattle.zarrs_packbits.specs.PaddingByte.{lead, trail, value_len, padding_holds};

@@ -1,5 +1,5 @@
-//! The array codec `packbits`: some bits of each component of a chunk's elements, packed one behind
-//! another (zarr-extensions codec `packbits`).
+//! The array-to-bytes codec `packbits`: some bits of each component of a chunk's elements, packed
+//! one behind another (zarr-extensions codec `packbits`).
 //!
 //! [`PackBitsCodec`] encodes and decodes whole chunks, [`PackBitsPartialDecoder`] reads a chunk in
 //! part, over a storage handle.
@@ -21,5 +21,5 @@ mod runs;
 mod words;
 
 pub use bit_places::div_rem_8bit;
-pub use packbits_codec::PackBitsCodec;
+pub use packbits_codec::{PACKBITS, PackBitsCodec};
 pub use packbits_partial_decoder::PackBitsPartialDecoder;

@@ -19,7 +19,7 @@ fn said(padding: Option<PackBitsPaddingEncoding>) -> PackBitsPaddingEncoding
 }
 
 impl PackBitsCodec {
-    /// The codec of a configuration; a padding byte that isn't said is none. Refusals: `BitOrder`
+    /// The codec of a configuration; a padding byte that isn't given is none. Errors: `BitOrder`
     /// where both bits are given and the last is below the first.
     pub fn new_with_configuration(
         configuration: &PackBitsCodecConfiguration,
@@ -35,7 +35,7 @@ impl PackBitsCodec {
     }
 
     /// The codec of a metadata, whose name is `packbits` (zarr-extensions codec `packbits`). A
-    /// missing configuration is read as one without members. Refusals, the first that holds:
+    /// missing configuration is read as one without members. Errors, the first that holds:
     /// `UnknownName` for another name; those of `PackBitsCodecConfiguration::from_configuration`.
     pub fn create(metadata: &MetadataV3) -> Result<PackBitsCodec, PluginCreateError>
         ensures answer { result ≡ settings_made (metadata_seen metadata.now) }

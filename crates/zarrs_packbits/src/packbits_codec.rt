@@ -1,3 +1,4 @@
+//! The codec `packbits` over whole chunks.
 ghost use Rattle.zarrs_data_type.specs.Form.{form_of};
 ghost use Rattle.zarrs_array_bytes.specs.Held.{items_of};
 ghost use Rattle.zarrs_codec.specs.Grammar.{Encodes, Decodes};
@@ -32,9 +33,14 @@ use zarrs_metadata::{
     PackBitsPaddingEncoding, PluginCreateError,
 };
 
-/// The array codec `packbits`: of each component of a chunk's elements some bits are kept, and these
-/// are packed one behind another, the lowest first (zarr-extensions codec `packbits`). It takes
-/// every fixed data type.
+/// The name of `packbits` in errors.
+pub const PACKBITS: CodecName = CodecName {
+    letters: *b"packbits\0\0\0\0\0\0\0\0",
+};
+
+/// The array-to-bytes codec `packbits`: of each component of a chunk's elements some bits are kept,
+/// and these are packed one behind another, the lowest first (zarr-extensions codec `packbits`). It
+/// accepts every fixed data type.
 ///
 /// Where all bits of whole bytes are kept, a value is the elements' bytes, as of the codec `bytes` in
 /// little order, and there is no padding byte.
@@ -65,7 +71,7 @@ pub(crate) fn bytes_are(_bytes: &[u8])
 
 impl PackBitsCodec {
     /// The codec that keeps the bits `first_bit` to `last_bit` of each component, by default all of
-    /// them. Refusals: `BitOrder` where both are given and the last is below the first.
+    /// them. Errors: `BitOrder` where both are given and the last is below the first.
     pub fn new(
         padding_encoding: PackBitsPaddingEncoding,
         first_bit: Option<u64>,
@@ -122,7 +128,7 @@ impl PackBitsCodec {
         }
     }
 
-    /// How a chunk of this form is packed. Refusals are those of `encoded_representation`.
+    /// How a chunk of this form is packed. Errors are those of `encoded_representation`.
     pub(crate) fn layout(
         &self,
         shape: &ChunkShape,
@@ -136,7 +142,7 @@ impl PackBitsCodec {
         ensures no_fault { is_fault result ≡ false }
     {
         let Some(components) = HasComponents::components(data_type) else {
-            return Err(CodecError::UnsupportedDataType(CodecName::PackBits));
+            return Err(CodecError::UnsupportedDataType(PACKBITS));
         };
         if !fill_value.fits(data_type) {
             return Err(CodecError::InvalidFillValue);
@@ -166,7 +172,7 @@ impl PackBitsCodec {
         }
     }
 
-    /// How many bytes the value of such a chunk has. Refusals, the first that holds:
+    /// How many bytes the value of such a chunk has. Errors, the first that holds:
     /// `UnsupportedDataType` for a type that isn't fixed; `InvalidFillValue`; `BitRange` where a
     /// component doesn't have the bits that are kept, or the last is below the first; `Overflow`
     /// where 64 bits don't count the elements' bytes or, but where all bits of whole bytes are kept,
@@ -222,7 +228,7 @@ impl PackBitsCodec {
         BytesCodec::little().decode(alloc, value, shape, data_type, fill)
     }
 
-    /// The value that is written for the chunk that `elements` hold. Refusals, the first that
+    /// The value that is written for the chunk that `elements` hold. Errors, the first that
     /// holds: those of `encoded_representation`, those of `ArrayBytes::validate`; `OutOfMemory`.
     ///
     /// Where all bits of whole bytes are kept, the answer is what was given, and takes no memory.
@@ -251,7 +257,7 @@ impl PackBitsCodec {
         packed_raw(alloc, &layout, raw)
     }
 
-    /// The chunk that a value stands for. Refusals, the first that holds: those of
+    /// The chunk that a value stands for. Errors, the first that holds: those of
     /// `encoded_representation`; `InvalidBytesLength` where the value has another length;
     /// `PaddingByte` where its padding byte isn't the number of spare bits; `OutOfMemory`.
     ///
@@ -320,7 +326,7 @@ impl CodecTraits for PackBitsCodec {
     }
 
     /// The codec's configuration, always by its three keys. With its name it makes an equal
-    /// codec. Refusals: `OutOfMemory`.
+    /// codec. Errors: `OutOfMemory`.
     #[tactic(auto, using(crate::proofs::MadeAgain::settings_made_again))]
     fn configuration(&self, alloc: Global) -> Result<Option<Configuration>, PluginCreateError>
         ensures answer { MakesConfiguration result (Ok (Some (write_settings self.now))) }

@@ -1,12 +1,16 @@
+//! The codec `packbits` over parts of chunks.
 ghost use Rattle.zarrs_data_type.specs.Form.{form_of};
 ghost use Rattle.std.specs.Prelude.{◌≡◌, ◌<◌, ◌≤◌, ◌+◌, IfOk, IfErr, All, is_some};
-ghost use Rattle.zarrs_array_bytes.specs.Blank.{AbsentAreBlank};
+ghost use Rattle.zarrs_array_bytes.specs.Tight.{IsTight};
+ghost use Rattle.zarrs_codec.specs.Calls.{MakesReads};
 ghost use Rattle.zarrs_codec.specs.StorageState.{after_reading};
 ghost use Rattle.zarrs_codec.specs.HandleCalls.{NeverFailsIf, Tells};
+ghost use Rattle.zarrs_bytes.specs.PartialRead.{place_size};
 ghost use Rattle.zarrs_bytes.specs.PlannedRanges.{NoneIsEmpty};
+ghost use Rattle.zarrs_bytes.specs.ReadingCalls.{calls_for_runs};
 ghost use Rattle.zarrs_packbits.specs.PackBitsCodec.{HoldsBytes};
 ghost use Rattle.zarrs_packbits.specs.PackBitsSettings.{Copies, IsLayoutFor, KeepsAllBytes, PackBitsTakes};
-ghost use Rattle.zarrs_packbits.specs.PartialRead.{ReadsRuns, ReadsRunsSurely};
+ghost use Rattle.zarrs_packbits.specs.PartialRead.{reading_calls_of, ReadsRuns, ReadsRunsSurely};
 ghost use Rattle.zarrs_packbits.specs.PackedLayout.{IsPackedLayout};
 ghost use Rattle.zarrs_chunk.specs.ChunkShape.{product};
 
@@ -46,7 +50,7 @@ fn elements_are_bytes(elements: &ArrayBytes<'_>)
 impl PackBitsCodec {
     ghost use Rattle.zarrs_packbits.specs.PackBitsPartialDecoder.{packbits_handle_of, HasForm, MakesDecoder, PlansRuns};
 
-    /// How a chunk is packed that the codec takes.
+    /// How a chunk is packed that the codec accepts.
     fn taken_layout(
         &self,
         shape: &ChunkShape,
@@ -84,7 +88,11 @@ impl PackBitsCodec {
         // Wide: the three parameters of a form have the Rust crate's names.
         ensures sure { ReadsRunsSurely self.now (form_of shape.now data_type.now fill_value.now)
             (H.state handle.old) runs.now result }
-        ensures blank { IfOk result (AbsentAreBlank data_type.now) }
+        ensures tight { IfOk result (IsTight data_type.now) }
+        // Wide: the names of its parameters fill the row.
+        ensures counted { MakesReads H.calls
+            (calls_for_runs (place_size data_type.now) (H.state handle.old).value runs.now)
+            handle.old handle.new result }
         ensures left { H.state handle.new ≡ after_reading result (H.state handle.old) }
         ensures same_reference { H.lent handle.new ≡ H.lent handle.old }
     {
@@ -95,11 +103,11 @@ impl PackBitsCodec {
 
     /// The elements at the places of these runs, each a start and a length, in order, over a handle
     /// that keeps a chunk's value: those of the stored value by the places' bits alone, and the fill
-    /// value at each place where nothing is stored. The codec takes such chunks, no run is empty, and
-    /// each ends inside the chunk. Refusals: `InvalidByteRange` where a place's bytes lie past the
+    /// value at each place where nothing is stored. The codec accepts such chunks, no run is empty, and
+    /// each ends inside the chunk. Errors: `InvalidByteRange` where a place's bytes lie past the
     /// value's end; `OutOfMemory` and `Storage`, which may come before. `Storage` never comes where
     /// all bytes of the places are sure.
-    #[tactic(auto, using(crate::proofs::Counted::taken_blank))]
+    #[tactic(auto, using(crate::proofs::Counted::read_tight))]
     pub fn read_runs<H: BytesPartialDecoderTraits>(
         &self,
         alloc: Global,
@@ -118,7 +126,12 @@ impl PackBitsCodec {
         // Wide: the three parameters of a form have the Rust crate's names.
         ensures sure { ReadsRunsSurely self.now (form_of shape.now data_type.now fill_value.now)
             (H.state handle.old) runs.now result }
-        ensures blank { IfOk result (AbsentAreBlank data_type.now) }
+        ensures tight { IfOk result (IsTight data_type.now) }
+        // Wide: the three parameters of a form have the Rust crate's names.
+        ensures counted { MakesReads H.calls
+            (reading_calls_of self.now (form_of shape.now data_type.now fill_value.now)
+            (H.state handle.old).value runs.now)
+            handle.old handle.new result }
         ensures left { H.state handle.new ≡ after_reading result (H.state handle.old) }
         ensures same_reference { H.lent handle.new ≡ H.lent handle.old }
     {
@@ -133,8 +146,8 @@ impl PackBitsCodec {
 
     /// The ranges of bytes that `read_runs` asks for of these runs, one for each: the bytes that hold
     /// bits of their places, and no others. None is empty. Where all bits of whole bytes are kept,
-    /// their lengths sum to the elements' bytes. The codec takes such chunks, no run is empty, and
-    /// each ends inside the chunk. Refusals: `OutOfMemory`.
+    /// their lengths sum to the elements' bytes. The codec accepts such chunks, no run is empty, and
+    /// each ends inside the chunk. Errors: `OutOfMemory`.
     pub fn planned_runs(
         &self,
         alloc: Global,
@@ -154,7 +167,7 @@ impl PackBitsCodec {
         Ok(planned)
     }
 
-    /// What a partial decoder keeps of a chunk that the codec takes.
+    /// What a partial decoder keeps of a chunk that the codec accepts.
     fn parts_of_decoder(
         &self,
         shape: &ChunkShape,
@@ -171,8 +184,8 @@ impl PackBitsCodec {
         Ok((shape, data_type, fill_value))
     }
 
-    /// A decoder of a chunk in part, over a handle. Refusals: those of `encoded_representation`;
-    /// `OutOfMemory`. A refusal hands the handle back as it was.
+    /// A decoder of a chunk in part, over a handle. Errors: those of `encoded_representation`;
+    /// `OutOfMemory`. An error hands the handle back as it was.
     pub fn partial_decoder<H: BytesPartialDecoderTraits>(
         &self,
         alloc: Global,
@@ -200,7 +213,7 @@ impl PackBitsCodec {
 }
 
 impl<H: BytesPartialDecoderTraits> PackBitsPartialDecoder<H> {
-    ghost use Rattle.zarrs_packbits.specs.PackBitsPartialDecoder.{packbits_form_of, packbits_handle_of, decoder_state, stored_in, Reads, Plans, Leaves};
+    ghost use Rattle.zarrs_packbits.specs.PackBitsPartialDecoder.{packbits_form_of, packbits_handle_of, decoder_state, stored_in, AsksOnce, CountsReads, Reads, Plans, Leaves};
 
     /// The type of the elements.
     pub fn data_type(&self) -> &DataType
@@ -209,10 +222,10 @@ impl<H: BytesPartialDecoderTraits> PackBitsPartialDecoder<H> {
         &self.data_type
     }
 
-    /// The elements that the indexer means, in its order: those of the stored value by the places'
-    /// bits alone, and the fill value at each place where nothing is stored. Refusals, the first
+    /// The elements that the indexer selects, in its order: those of the stored value by the places'
+    /// bits alone, and the fill value at each place where nothing is stored. Errors, the first
     /// that holds: those of `Indexer::places`; `InvalidByteRange` where a place's bytes lie past the
-    /// value's end; `OutOfMemory` and `Storage`. `Storage` comes after the refusals of the indexer,
+    /// value's end; `OutOfMemory` and `Storage`. `Storage` comes after the errors of the indexer,
     /// and never where all bytes of the places are sure.
     pub fn partial_decode(
         &mut self,
@@ -220,7 +233,8 @@ impl<H: BytesPartialDecoderTraits> PackBitsPartialDecoder<H> {
         indexer: &Indexer,
     ) -> Result<ArrayBytes<'static>, CodecError>
         ensures reads { Reads H.state self.old indexer.now result }
-        ensures blank { IfOk result (AbsentAreBlank (packbits_form_of self.old).type) }
+        ensures counted { CountsReads H.state H.calls self.old self.new indexer.now result }
+        ensures tight { IfOk result (IsTight (packbits_form_of self.old).type) }
         ensures left { Leaves H.state H.lent self.old self.new result }
     {
         let runs = indexer.runs(alloc, &self.shape)?;
@@ -234,10 +248,10 @@ impl<H: BytesPartialDecoderTraits> PackBitsPartialDecoder<H> {
         )
     }
 
-    /// The ranges of bytes that such a read asks for, one for each run of consecutive places: the
-    /// bytes that hold bits of the places, and no others. None is empty. Where all bits of whole
-    /// bytes are kept, their lengths sum to the elements' bytes. Refusals, the first that holds:
-    /// those of `Indexer::places`; `OutOfMemory`.
+    /// The ranges of bytes that such a read asks for, one for each of the indexer's runs, none of
+    /// which begins where the one before it ends: the bytes that hold bits of the places, and no
+    /// others. None is empty. Where all bits of whole bytes are kept, their lengths sum to the
+    /// elements' bytes. Errors, the first that holds: those of `Indexer::places`; `OutOfMemory`.
     pub fn planned_ranges(
         &self,
         alloc: Global,
@@ -247,17 +261,20 @@ impl<H: BytesPartialDecoderTraits> PackBitsPartialDecoder<H> {
         ensures filled { IfOk result (λ ranges. NoneIsEmpty ranges.items) }
     {
         let asked = indexer.runs(alloc, &self.shape)?;
-        let layout = self
-            .codec
-            .taken_layout(&self.shape, &self.data_type, &self.fill_value);
-        let ranges = run_ranges(alloc, &layout, asked.as_slice())?;
-        Ok(ranges)
+        self.codec.planned_runs(
+            alloc,
+            &self.shape,
+            &self.data_type,
+            &self.fill_value,
+            asked.as_slice(),
+        )
     }
 
-    /// Whether a value is stored. Refusals: `Storage`, but never where the handle has sure bytes.
+    /// Whether a value is stored. Errors: `Storage`, but never where the handle has sure bytes.
     pub fn exists(&mut self) -> Result<bool, CodecError>
         ensures answer { Tells result (is_some (stored_in H.state self.old)) }
         ensures sure { NeverFailsIf (is_some (decoder_state H.state self.old).sure) result }
+        ensures counted { AsksOnce H.calls self.old self.new result }
         ensures left { Leaves H.state H.lent self.old self.new result }
     {
         self.handle.exists()
@@ -279,9 +296,9 @@ impl<H: BytesPartialDecoderTraits> PackBitsPartialDecoder<H> {
 }
 
 impl<H: BytesPartialDecoderTraits> ArrayPartialDecoderTraits for PackBitsPartialDecoder<H> {
-    ghost use Rattle.zarrs_packbits.specs.PackBitsPartialDecoder.{packbits_form_of, packbits_handle_of, packbits_reader};
+    ghost use Rattle.zarrs_packbits.specs.PackBitsPartialDecoder.{packbits_form_of, packbits_handle_of, reader_of};
 
-    ghost reader = { λ decoder. packbits_reader (packbits_form_of decoder) (H.state (packbits_handle_of decoder)).value H.reads_ranges };
+    ghost reader = { λ decoder. reader_of (packbits_form_of decoder) (H.state (packbits_handle_of decoder)) H.reads_ranges };
 
     ghost state = { λ decoder. H.state (packbits_handle_of decoder) };
 
@@ -291,7 +308,7 @@ impl<H: BytesPartialDecoderTraits> ArrayPartialDecoderTraits for PackBitsPartial
 
     ghost use Rattle.zarrs_packbits.specs.CountLaws.{packbits_counts};
 
-    ghost counts = { λ decoder. packbits_counts (packbits_form_of decoder) (H.state (packbits_handle_of decoder)).value H.reads_ranges };
+    ghost counts = { λ decoder. packbits_counts (packbits_form_of decoder) (H.state (packbits_handle_of decoder)).value (H.state (packbits_handle_of decoder)).sure H.reads_ranges };
 
     fn data_type(&self) -> &DataType {
         PackBitsPartialDecoder::data_type(self)

@@ -1,20 +1,20 @@
 //! Reading runs of places.
-ghost use Rattle.std.specs.Prelude.{◌≡◌, ◌+◌, ◌-◌, ◌^◌, ◌<◌, ◌≤◌, false, All, IfOk, length, map, min};
-ghost use Rattle.zarrs_chunk.specs.Runs.{joined_runs};
+ghost use Rattle.std.specs.Prelude.{◌≡◌, ◌+◌, ◌<◌, ◌≤◌, false, All, IfOk, length, map};
+ghost use Rattle.zarrs_codec.specs.Calls.{MakesReads};
 ghost use Rattle.zarrs_codec.specs.StorageState.{after_reading};
 ghost use Rattle.zarrs_codec.specs.HandleCalls.{NeverFailsIf};
-ghost use Rattle.zarrs_bytes.specs.PlannedRanges.{NoneIsEmpty};
+ghost use Rattle.zarrs_bytes.specs.PlannedRanges.{NoneIsEmpty, spans};
 ghost use Rattle.zarrs_packbits.specs.PackedLayout.{IsPackedLayout, is_whole};
 ghost use Rattle.zarrs_packbits.specs.Packing.{packing};
-ghost use Rattle.zarrs_packbits.specs.PartialRead.{runs_are_sure, FillsRuns, ReadsPacked};
-ghost use Rattle.zarrs_packbits.specs.ReadPlan.{run_span, run_bits, runs_len, spans};
+ghost use Rattle.zarrs_packbits.specs.PartialRead.{runs_are_sure, ReadsPacked};
+ghost use Rattle.zarrs_packbits.specs.ReadPlan.{run_span, run_bits, runs_len};
 ghost use Rattle.zarrs_packbits.specs.WrittenBits.{Puts};
 
 use crate::bit_writer::BitWriter;
 use crate::layout::PackedLayout;
 use std::alloc::{AllocError, Global};
-use zarrs_array_bytes::append_copies;
-use zarrs_chunk::CodecError;
+use zarrs_bytes::fill_runs;
+use zarrs_chunk::{CodecError, count_places};
 use zarrs_codec::{ByteRange, BytesPartialDecoderTraits};
 
 /// One range of bytes for each run of places.
@@ -65,17 +65,6 @@ fn put_runs(
     Ok(())
 }
 
-/// How many places the runs have, or `u64::MAX` where they have more.
-fn count_of(runs: &[(u64, u64)]) -> u64
-    ensures count { result ≡ min (length (joined_runs runs.now)) (2 ^ 64 - 1) }
-{
-    let mut count: u64 = 0;
-    for (_, len) in runs {
-        count = count.saturating_add(*len);
-    }
-    count
-}
-
 /// The elements of the runs, of the runs' bytes joined.
 fn unpack_runs(
     alloc: Global,
@@ -91,23 +80,10 @@ fn unpack_runs(
     ensures value { IfOk result (λ v. v.items ≡ packing (run_bits layout.now bytes.now runs.now)) }
 {
     let element = layout.group.saturating_mul(layout.size);
-    let room = count_of(runs).saturating_mul(element);
+    let room = count_places(runs).saturating_mul(element);
     let mut writer = BitWriter::with_capacity(alloc, room as usize)?;
     put_runs(&mut writer, layout, bytes, runs)?;
     writer.finish()
-}
-
-/// The fill element for each place of the runs. It is the same for each, so the places are counted,
-/// and nothing is made run by run. No memory has room for `u64::MAX` of them.
-fn fill_runs(alloc: Global, fill: &[u8], runs: &[(u64, u64)]) -> Result<Vec<u8>, AllocError>
-    requires fill_some { 0 < length fill.now }
-    ensures value { FillsRuns fill.now runs.now result }
-{
-    let count = count_of(runs);
-    let room = fill.len().saturating_mul(count as usize);
-    let mut bytes = Vec::with_capacity(alloc, room)?;
-    append_copies(&mut bytes, fill, count)?;
-    Ok(bytes)
 }
 
 /// The elements at the places of these runs of what a handle keeps, joined; the fill element at
@@ -127,6 +103,7 @@ pub(crate) fn read_runs<H: BytesPartialDecoderTraits>(
     ensures answer { ReadsPacked layout.now (H.state handle.old) fill.now runs.now result }
     ensures sure { NeverFailsIf (runs_are_sure layout.now (H.state handle.old) runs.now) result }
     ensures left { H.state handle.new ≡ after_reading result (H.state handle.old) }
+    ensures counted { MakesReads H.calls 1 handle.old handle.new result }
     ensures same_reference { H.lent handle.new ≡ H.lent handle.old }
 {
     let ranges = run_ranges(alloc, layout, runs)?;

@@ -1,5 +1,6 @@
 -- Pieces in order, and the bytes that they have.
-use Rattle.std.proofs.Common.{◌≡◌, ℕ, zero, suc, ◌+◌, ◌-◌, ◌<◌, ◌≤◌, Bool, true, Some, None, List, [], ◌∷◌, length, take, drop, get_or, refl, sym, ap, ◌∙◌, arith}
+use Rattle.std.proofs.Common.{◌≡◌, ℕ, zero, suc, ◌+◌, ◌-◌, ◌<◌, ◌≤◌, Bool, true, is_some, Some, None, List, [], ◌∷◌, length, take, drop, get_or, refl, sym, ap, ◌∙◌, arith}
+use Rattle.std.specs.Cmp.Derive.{both_true}
 use Rattle.std.specs.List.{between, list_all, range_with_len}
 use Rattle.std.proofs.lemmas.Bool.Decides.{nat_tests}
 use Rattle.std.proofs.lemmas.List.{ext_get_or}
@@ -7,7 +8,7 @@ use Rattle.std.proofs.Math.Seq.{take-length}
 use Rattle.std.proofs.lemmas.List.Edits.{get_or-between, length-between}
 use Rattle.std.proofs.lemmas.List.FromFn.{get_or-map-range_with_len, length-map-range_with_len}
 use Rattle.zarrs_pieces.specs.declared.piece.Piece.{Piece}
-use Rattle.zarrs_pieces.specs.Pieces.{PlainPiece, piece_seen, pieces_seen, piece_with, are_apart, byte_at, value_with}
+use Rattle.zarrs_pieces.specs.Pieces.{PlainPiece, piece_seen, pieces_seen, piece_with, are_apart, byte_at, is_at_hand, value_with}
 
 -- no piece has a byte before the first one
 none_below : (len free n : ℕ) (ps : List PlainPiece) → are_apart len free ps ≡ true → n < free → piece_with ps n ≡ None
@@ -95,3 +96,12 @@ seen_at (suc k) (p ∷ ps) d = seen_at k ps d
 pub seen_length : (ps : List Piece) → length (pieces_seen ps) ≡ length ps
 seen_length [] = refl
 seen_length (p ∷ ps) = ap suc (seen_length ps)
+
+each_passes : (test : ℕ → Bool) (a n : ℕ) → ((k : ℕ) → a ≤ k → k < a + n → test k ≡ true) → list_all test (range_with_len a n) ≡ true
+each_passes test a zero each = refl
+each_passes test a (suc n) each = both_true (each a (omega arith) (omega arith)) (each_passes test (a + 1) n (λ k above below. each k (omega (arith, above)) (omega (arith, below))))
+
+-- the bytes of a range are at hand that ends within the piece that has its first one
+pub range_at_hand : (len s e : ℕ) (ps : List PlainPiece) (p : PlainPiece) → are_apart len 0 ps ≡ true → piece_with ps s ≡ Some p → e ≤ p.start + length p.bytes → list_all (is_at_hand ps) (range_with_len s (e - s)) ≡ true
+range_at_hand len s e ps p apart is held =
+    each_passes (is_at_hand ps) s (e - s) (λ n above below. ap is_some (same_piece len 0 s n ps p apart is above (omega (arith, held, above, below))))

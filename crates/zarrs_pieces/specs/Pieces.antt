@@ -1,5 +1,5 @@
 -- Pieces of a value: which bytes they have, and the values that have them.
-use Rattle.std.specs.Prelude.{ℕ, ◌+◌, ◌-◌, ◌<◌, ◌≤◌, Bool, true, ◌&&◌, ◌≡◌, nat_le, nat_lt, Option, Some, None, is_some, List, [], ◌∷◌, Vec, Result, length, map, if◌then◌else◌, get_or}
+use Rattle.std.specs.Prelude.{ℕ, ◌+◌, ◌-◌, ◌<◌, ◌≤◌, Bool, true, ◌&&◌, ◌≡◌, nat_le, nat_lt, Option, Some, None, is_some, List, [], ◌∷◌, Vec, Result, IfOk, length, map, if◌then◌else◌, get_or}
 use Rattle.std.specs.List.{list_all, range_with_len}
 use Rattle.std.proofs.Common.{Global}
 use Rattle.zarrs_chunk.specs.Answer.{AnswersItems, Excused, fault, memory_or_fault}
@@ -57,6 +57,10 @@ numbers_of range = range_with_len range.start (range.end - range.start)
 -- where all bytes with these numbers are at hand, a read doesn't fail, but for want of memory
 abbrev pub SureIfAtHand : {T : Type 0} → List Piece → List ℕ → Result T CodecError → Type 0
 SureIfAtHand pieces numbers result = NeverFailsIf (are_at_hand (pieces_seen pieces) numbers) result
+
+-- what is read are bytes at hand: all with these numbers are
+abbrev pub OnlyAtHand : {T E : Type 0} → List Piece → List ℕ → Result T E → Type 0
+OnlyAtHand pieces numbers result = IfOk result (λ _. are_at_hand (pieces_seen pieces) numbers ≡ true)
 
 -- ---- values that have the pieces
 

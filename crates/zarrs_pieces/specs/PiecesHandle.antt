@@ -1,9 +1,9 @@
 -- What a handle over pieces of a value is seen as.
-use Rattle.std.specs.Prelude.{ℕ, List, Some, None, Result, Ok}
+use Rattle.std.specs.Prelude.{◌≡◌, ℕ, true, List, Some, None, Result, Ok, OnOk}
 use Rattle.zarrs_chunk.specs.Answer.{◌>>=◌, demand}
 use Rattle.zarrs_chunk.specs.declared.codec_error.CodecError.{CodecError}
 use Rattle.zarrs_chunk.specs.declared.codec_error.CodecError.TheVariants.{InvalidByteRange}
-use Rattle.zarrs_codec.specs.StorageState.{StorageState}
+use Rattle.zarrs_codec.specs.StorageState.{StorageState, are_sure}
 use Rattle.zarrs_pieces.specs.Pieces.{PlainPiece, pieces_seen, value_with, is_at_hand, are_apart}
 use Rattle.zarrs_pieces.specs.declared.piece.Piece.{Piece}
 use Rattle.zarrs_pieces.specs.declared.pieces_handle.PiecesHandle.{PiecesHandle}
@@ -36,3 +36,7 @@ made_state len pieces = do
 -- the same over pieces as they are given
 abbrev pub made_over : ℕ → List Piece → Result StorageState CodecError
 made_over len pieces = made_state len (pieces_seen pieces)
+
+-- what is read of the handle are sure bytes: all with these numbers are
+abbrev pub ReadsSure : {T : Type 0} → PiecesHandle → List ℕ → Result T CodecError → Type 0
+ReadsSure handle numbers result = OnOk result (are_sure (pieces_state handle).sure numbers ≡ true)

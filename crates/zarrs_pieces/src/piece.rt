@@ -4,12 +4,11 @@ ghost use Rattle.std.specs.Option.{option_map};
 ghost use Rattle.zarrs_chunk.specs.Answer.{AnswersItems, memory_or_fault};
 ghost use Rattle.zarrs_codec.specs.ByteRanges.{range_indices, IsPieceOf};
 ghost use Rattle.zarrs_codec.specs.StorageState.{value_indices};
-ghost use Rattle.zarrs_pieces.specs.Pieces.{has_byte as is_inside, piece_with as first_with, are_apart as stand_apart, numbers_of, piece_seen, pieces_seen, value_of, Gathers, IsInPiece, IsOutside, SureIfAtHand};
+ghost use Rattle.zarrs_pieces.specs.Pieces.{has_byte as is_inside, piece_with as first_with, are_apart as stand_apart, numbers_of, piece_seen, pieces_seen, value_of, Gathers, IsInPiece, IsOutside, OnlyAtHand, SureIfAtHand};
 
-use crate::lent_handle::{append_piece, room_for};
 use std::alloc::Global;
 use zarrs_chunk::{CodecError, StorageError};
-use zarrs_codec::ByteRange;
+use zarrs_codec::{ByteRange, append_piece, room_for};
 
 /// Bytes of a value, one after another, from the one with the number `start` on.
 #[derive(Clone, Copy)]
@@ -78,6 +77,7 @@ fn part_of<'a>(len: u64, pieces: &[Piece<'a>], range: &ByteRange) -> Result<&'a 
     ensures inside { IfOk result (λ part. IsPieceOf (value_of len pieces.now) range.now part.now) }
     ensures outside { IfErr result (IsOutside (value_of len pieces.now) range.now) }
     ensures sure { SureIfAtHand pieces.now (numbers_of range.now) result }
+    ensures at_hand { OnlyAtHand pieces.now (numbers_of range.now) result }
 {
     let start = range.start();
     let end = range.end();
@@ -108,6 +108,7 @@ pub(crate) fn gather(
     requires apart { stand_apart len 0 (pieces_seen pieces.now) ≡ true }
     ensures answer { Gathers len pieces.now ranges.now result }
     ensures sure { SureIfAtHand pieces.now (range_indices ranges.now) result }
+    ensures at_hand { OnlyAtHand pieces.now (range_indices ranges.now) result }
 {
     let mut bytes = Vec::with_capacity(alloc, room_for(len, ranges))?;
     for range in ranges {
@@ -122,6 +123,7 @@ pub(crate) fn whole(alloc: Global, len: u64, pieces: &[Piece<'_>]) -> Result<Vec
     requires apart { stand_apart len 0 (pieces_seen pieces.now) ≡ true }
     ensures answer { AnswersItems memory_or_fault result (Ok (value_of len pieces.now)) }
     ensures sure { SureIfAtHand pieces.now (value_indices (Some (value_of len pieces.now))) result }
+    ensures at_hand { OnlyAtHand pieces.now (value_indices (Some (value_of len pieces.now))) result }
 {
     let Some(range) = ByteRange::new(0..len) else {
         return Err(CodecError::InvalidByteRange);

@@ -1,7 +1,9 @@
 //! A handle over pieces of a value.
-ghost use Rattle.std.specs.Prelude.{◌≡◌, Some, true};
+ghost use Rattle.std.specs.Prelude.{◌≡◌, Ok, Some, true};
 ghost use Rattle.zarrs_chunk.specs.Answer.{seen};
-ghost use Rattle.zarrs_codec.specs.StorageState.{after_reading};
+ghost use Rattle.zarrs_codec.specs.ByteRanges.{range_indices, ranges_are_sure, read_ranges};
+ghost use Rattle.zarrs_codec.specs.HandleCalls.{NeverFailsIf, ReadsBytes};
+ghost use Rattle.zarrs_codec.specs.StorageState.{after_reading, value_indices, value_is_sure};
 ghost use Rattle.zarrs_pieces.specs.Pieces.{are_apart as stand_apart, pieces_seen};
 
 use crate::piece::{Piece, are_apart, gather, whole};
@@ -65,12 +67,12 @@ impl<'a> PiecesHandle<'a> {
 }
 
 impl<'a> BytesPartialDecoderTraits for PiecesHandle<'a> {
-    ghost use Rattle.std.specs.Prelude.{true, None};
-    ghost use Rattle.zarrs_pieces.specs.PiecesHandle.{pieces_state};
+    ghost use Rattle.std.specs.Prelude.{true, []};
+    ghost use Rattle.zarrs_pieces.specs.PiecesHandle.{pieces_state, ReadsSure};
 
     ghost state = { pieces_state };
 
-    ghost lent = { λ _. None };
+    ghost lent = { λ _. [] };
 
     ghost held = { λ handle. 0 };
 
@@ -90,16 +92,29 @@ impl<'a> BytesPartialDecoderTraits for PiecesHandle<'a> {
         0
     }
 
+    /// The ranges' bytes, joined in order. A byte that isn't at hand is never among them: a read that asks
+    /// for one fails.
     fn partial_decode_many(
         &mut self,
         alloc: Global,
         ranges: &[ByteRange],
-    ) -> Result<Option<Vec<u8>>, CodecError> {
+    ) -> Result<Option<Vec<u8>>, CodecError>
+        ensures answer { ReadsBytes result (read_ranges (pieces_state self.old).value ranges.now) }
+        ensures sure { NeverFailsIf (ranges_are_sure (pieces_state self.old) ranges.now) result }
+        ensures at_hand { ReadsSure self.old (range_indices ranges.now) result }
+        ensures left { pieces_state self.new ≡ after_reading result (pieces_state self.old) }
+    {
         let answer = gather(alloc, self.len, self.pieces.as_slice(), ranges);
         self.counted(answer)
     }
 
-    fn decode(&mut self, alloc: Global) -> Result<Option<Vec<u8>>, CodecError> {
+    /// The whole value, where all of its bytes are at hand.
+    fn decode(&mut self, alloc: Global) -> Result<Option<Vec<u8>>, CodecError>
+        ensures answer { ReadsBytes result (Ok (pieces_state self.old).value) }
+        ensures sure { NeverFailsIf (value_is_sure (pieces_state self.old)) result }
+        ensures at_hand { ReadsSure self.old (value_indices (pieces_state self.old).value) result }
+        ensures left { pieces_state self.new ≡ after_reading result (pieces_state self.old) }
+    {
         let answer = whole(alloc, self.len, self.pieces.as_slice());
         self.counted(answer)
     }

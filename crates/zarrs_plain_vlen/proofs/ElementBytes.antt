@@ -1,5 +1,5 @@
 -- The bytes of elements whose offsets are known, by their numbers.
-use Rattle.std.proofs.Common.{◌≡◌, ℕ, zero, suc, ◌+◌, ◌-◌, ◌<◌, ◌≤◌, ◌^◌, ◌&&◌, ◌||◌, Bool, true, false, nat_lt, nat_le, List, [], ◌∷◌, ◌++◌, length, take, drop, map, get_or, slice_index, Ok, replicate, arith, refl, ap, ap₂, sym, ◌∙◌, add-one, zero-add, length-append}
+use Rattle.std.proofs.Common.{◌≡◌, ℕ, zero, suc, ◌+◌, ◌-◌, ◌<◌, ◌≤◌, ◌^◌, ◌==◌, ◌&&◌, ◌||◌, Bool, true, false, nat_lt, nat_le, List, [], ◌∷◌, ◌++◌, length, take, drop, map, get_or, slice_index, Ok, replicate, arith, refl, ap, ap₂, sym, ◌∙◌, add-one, zero-add, length-append, eq-eqb}
 use Rattle.std.specs.List.{between, concat, flat_map, list_all, range_with_len}
 use Rattle.std.proofs.lemmas.Bool.{and_parts}
 use Rattle.std.proofs.lemmas.Bool.Decides.{nat_tests}
@@ -8,6 +8,7 @@ use Rattle.std.proofs.lemmas.List.Concat.{flat_map-append}
 use Rattle.std.proofs.lemmas.List.Folds.{list_all-append}
 use Rattle.std.proofs.lemmas.List.FromFn.{fill_by_all}
 use Rattle.zarrs_chunk.proofs.Consecutive.{range-append}
+use Rattle.zarrs_chunk.proofs.CountedRuns.{joined_runs-take_more}
 use Rattle.zarrs_chunk.specs.Runs.{joined_runs}
 use Rattle.zarrs_chunk.specs.declared.codec_error.CodecError.TheVariants.{InvalidBytesLength}
 use Rattle.zarrs_data_type.specs.Element.{plain, absent, Chunk}
@@ -16,10 +17,11 @@ use Rattle.zarrs_array_bytes.specs.Elements.{cut, element_at}
 use Rattle.zarrs_array_bytes.specs.Held.{Raw, vlen, owned_bytes}
 use Rattle.zarrs_array_bytes.specs.Offsets.{is_offsets, last_of}
 use Rattle.zarrs_array_bytes.specs.Pieces.{ends}
+use Rattle.zarrs_array_bytes.specs.Tight.{are_flush}
 use Rattle.zarrs_array_bytes.specs.Validity.{Holds, validity}
 use Rattle.zarrs_array_bytes.proofs.ElementLemmas.{cut_at, length_ends}
 use Rattle.zarrs_array_bytes.proofs.OffsetLemmas.{rising_steps, rising_last, ends_rise, offsets_end, ends-append, flat_map-concat}
-use Rattle.zarrs_array_bytes.proofs.RunLemmas.{rising_between, ends_of_run, flat_map-take_runs, joined_runs-take_more}
+use Rattle.zarrs_array_bytes.proofs.RunLemmas.{rising_between, ends_of_run, flat_map-take_runs}
 use Rattle.zarrs_array_bytes.proofs.ValidLemmas.{length_due}
 use Rattle.zarrs_array_bytes.proofs.Pieces.{take-drop-take}
 use Rattle.zarrs_plain_vlen.specs.Elements.{blank_element}
@@ -324,3 +326,10 @@ gathered_rises f places offsets ended = rw ended (ends_rise 0 (map f places))
 pub gathered_ends : (f : ℕ → List ℕ) (places items offsets : List ℕ) → length items ≡ length (flat_map f places) → offsets ≡ 0 ∷ ends 0 (map f places) → last_of offsets ≡ length items
 gathered_ends f places items offsets long ended =
     ap last_of ended ∙ offsets_end f places ∙ sym long
+
+-- offsets that are counted from nothing are flush
+pub gathered_flush : (f : ℕ → List ℕ) (places items offsets : List ℕ) → length items ≡ length (flat_map f places) → offsets ≡ 0 ∷ ends 0 (map f places) → are_flush offsets items ≡ true
+gathered_flush f places items offsets long ended =
+    let first : (slice_index offsets 0 == 0) ≡ true = rw ended refl in
+    let last : (last_of offsets == length items) ≡ true = eq-eqb (last_of offsets) (length items) (gathered_ends f places items offsets long ended) in
+    rw (gathered_rises f places offsets ended, first, last) refl

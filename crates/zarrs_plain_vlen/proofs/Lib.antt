@@ -8,4 +8,3 @@ pub mod Alike
 pub mod ElementReads
 pub mod IndexOrder
 pub mod OffsetBytes
-pub mod VariableBlank

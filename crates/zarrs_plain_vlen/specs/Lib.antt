@@ -8,6 +8,7 @@ pub mod VlenRead
 pub mod PlainRead
 pub mod Laws
 pub use Rattle.zarrs_chunk.specs.Answer
+pub use Rattle.zarrs_array_bytes.specs.Tight
 pub use Rattle.zarrs_array_bytes.specs.Validity
 pub use Rattle.zarrs_codec.specs.StorageState
 pub use Rattle.zarrs_chain_laws.specs.vlen.PlainVlen

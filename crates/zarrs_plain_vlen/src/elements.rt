@@ -1,9 +1,9 @@
 //! The elements at runs of places, of which the offsets are known.
-ghost use Rattle.std.specs.Prelude.{◌≡◌, ◌≤◌, ◌<◌, ◌+◌, ◌-◌, ◌^◌, true, All, Ok, IfOk, OnOk, is_some, length, min};
+ghost use Rattle.std.specs.Prelude.{◌≡◌, ◌≤◌, ◌<◌, ◌+◌, ◌-◌, ◌^◌, true, All, Ok, IfOk, OnOk, is_some, length};
 ghost use Rattle.std.specs.List.{list_all, range_with_len};
 ghost use Rattle.zarrs_chunk.specs.Runs.{joined_runs};
 ghost use Rattle.zarrs_data_type.specs.ElementType.{is_variable};
-ghost use Rattle.zarrs_array_bytes.specs.Blank.{AbsentAreBlank};
+ghost use Rattle.zarrs_array_bytes.specs.Tight.{IsTight};
 ghost use Rattle.zarrs_array_bytes.specs.Held.{vlen, owned_bytes};
 ghost use Rattle.zarrs_array_bytes.specs.Offsets.{is_offsets, last_of};
 ghost use Rattle.zarrs_codec.specs.StorageState.{after_reading};
@@ -19,7 +19,7 @@ use crate::offsets::Offsets;
 use std::alloc::{AllocError, Global};
 use std::borrow::CowSlice;
 use zarrs_array_bytes::{ArrayBytes, ArrayBytesOffsets};
-use zarrs_chunk::CodecError;
+use zarrs_chunk::{CodecError, count_places};
 use zarrs_codec::{ByteRange, BytesPartialDecoderTraits};
 use zarrs_data_type::DataType;
 
@@ -141,17 +141,6 @@ fn append_ends(
     offsets.append_moved(ends, first + 1, first + count + 1, from, start)
 }
 
-/// How many places the runs have, or `u64::MAX` where they have more.
-fn count_places(runs: &[(u64, u64)]) -> u64
-    ensures value { result ≡ min (length (joined_runs runs.now)) (2 ^ 64 - 1) }
-{
-    let mut count: u64 = 0;
-    for (_, len) in runs {
-        count = count.saturating_add(*len);
-    }
-    count
-}
-
 /// The offsets of the elements at the runs, one behind another.
 fn ends_of_runs(
     alloc: Global,
@@ -216,7 +205,6 @@ fn variable(bytes: Vec<u8>, offsets: Vec<usize>) -> Result<ArrayBytes<'static>, 
 
 /// The elements at the runs, in their order, of data that stand there in the stored value. Refusals:
 /// `InvalidByteRange`.
-#[tactic(auto, using(crate::proofs::VariableBlank::variable_blank))]
 pub(crate) fn read_elements<H: BytesPartialDecoderTraits>(
     alloc: Global,
     handle: &mut H,
@@ -231,7 +219,7 @@ pub(crate) fn read_elements<H: BytesPartialDecoderTraits>(
     requires known { All (λ run. run.0 + run.1 < length offsets.now) runs.now }
     requires variable { is_variable data_type.now ≡ true }
     ensures answer { ReadsSpan data_type.now offsets.now span (H.state handle.old) runs.now result }
-    ensures blank { IfOk result (AbsentAreBlank data_type.now) }
+    ensures tight { IfOk result (IsTight data_type.now) }
     ensures sure { SureAt (H.state handle.old) (data_numbers offsets.now span runs.now) result }
     ensures left { H.state handle.new ≡ after_reading result (H.state handle.old) }
     ensures same_reference { H.lent handle.new ≡ H.lent handle.old }

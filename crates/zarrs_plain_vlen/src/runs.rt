@@ -1,7 +1,7 @@
 //! A read of elements by runs of places.
 ghost use Rattle.std.specs.Prelude.{◌≡◌, ◌≤◌, ◌+◌, true, All, IfOk, IfSome, is_some, length};
 ghost use Rattle.zarrs_data_type.specs.ElementType.{is_variable};
-ghost use Rattle.zarrs_array_bytes.specs.Blank.{AbsentAreBlank};
+ghost use Rattle.zarrs_array_bytes.specs.Tight.{IsTight};
 ghost use Rattle.zarrs_codec.specs.StorageState.{after_reading};
 ghost use Rattle.zarrs_plain_vlen.specs.StoredBytes.{stored_bytes};
 ghost use Rattle.zarrs_plain_vlen.specs.StoredElements.{ReadsRuns, ReadsValue, SureRuns, SureValue};
@@ -32,7 +32,7 @@ fn read_stored<H: BytesPartialDecoderTraits>(
     requires variable { is_variable data_type.now ≡ true }
     requires inside { All (λ run. run.0 + run.1 ≤ count) runs.now }
     ensures answer { ReadsValue codec count data_type.now (H.state handle.old) runs.now result }
-    ensures blank { IfOk result (AbsentAreBlank data_type.now) }
+    ensures tight { IfOk result (IsTight data_type.now) }
     ensures sure { SureValue codec count (H.state handle.old) runs.now result }
     ensures left { H.state handle.new ≡ after_reading result (H.state handle.old) }
     ensures same_reference { H.lent handle.new ≡ H.lent handle.old }
@@ -46,12 +46,13 @@ fn read_stored<H: BytesPartialDecoderTraits>(
 /// of `count` elements; `None` where nothing is stored.
 ///
 /// Of the stored value the length of the index is read, the index, and of the data the bytes of
-/// these elements alone, by one call. Refusals, the first that holds, also where there are no runs:
-/// `InvalidBytesLength` where the value is shorter than the length of an index; `IndexLength`;
-/// `Overflow` where 64 bits don't count the offsets, or their bytes; `InvalidBytesLength` where the
-/// index has another length; `InvalidOffsets`; `InvalidByteRange` where an element that isn't empty
-/// ends behind the data. `OutOfMemory` and `Storage` may come at any time, `Storage` never where
-/// all bytes that are named above are sure.
+/// these elements alone, by one call. The container's offsets begin at 0, and it has no other bytes.
+/// Refusals, the first that holds, also where there are no runs: `InvalidBytesLength` where the
+/// value is shorter than the length of an index; `IndexLength`; `Overflow` where 64 bits don't
+/// count the offsets, or their bytes; `InvalidBytesLength` where the index has another length;
+/// `InvalidOffsets`; `InvalidByteRange` where an element that isn't empty ends behind the data.
+/// `OutOfMemory` and `Storage` may come at any time, `Storage` never where all bytes that are named
+/// above are sure.
 pub fn read_runs<H: BytesPartialDecoderTraits>(
     codec: PlainVlen,
     alloc: Global,
@@ -63,7 +64,7 @@ pub fn read_runs<H: BytesPartialDecoderTraits>(
     requires variable { is_variable data_type.now ≡ true }
     requires inside { All (λ run. run.0 + run.1 ≤ count) runs.now }
     ensures answer { ReadsRuns codec count data_type.now (H.state handle.old) runs.now result }
-    ensures blank { IfOk result (λ elements. IfSome elements (AbsentAreBlank data_type.now)) }
+    ensures tight { IfOk result (λ elements. IfSome elements (IsTight data_type.now)) }
     ensures sure { SureRuns codec count (H.state handle.old) runs.now result }
     ensures left { H.state handle.new ≡ after_reading result (H.state handle.old) }
     ensures same_reference { H.lent handle.new ≡ H.lent handle.old }

@@ -1,3 +1,4 @@
+//! The codec `squeeze` in part.
 ghost use Rattle.std.specs.Prelude.{◌≡◌, IfOk, IfErr};
 ghost use Rattle.zarrs_array_to_array.specs.ArrayToArrayCodecPartial.{input_of};
 ghost use Rattle.zarrs_array_to_array.specs.Stages.{MakesSqueezerParts, MakesSqueezer, IsStageOf};
@@ -11,12 +12,12 @@ use zarrs_codec::{
 };
 use zarrs_data_type::{DataType, FillValue};
 
-/// Reads a chunk of [`SqueezeCodec`] in part, over the reader of its encoded chunk, and writes it over
+/// Reads a chunk of [`SqueezeCodec`] in part, over the reader of its moved chunk, and writes it over
 /// a writer.
 pub type SqueezeCodecPartial<I> = ArrayToArrayCodecPartial<SqueezeCodec, I>;
 
 impl SqueezeCodec {
-    /// What a reader keeps of a chunk that the codec takes.
+    /// What a reader keeps of a chunk that the codec accepts.
     fn parts_of_decoder(
         &self,
         alloc: Global,
@@ -32,8 +33,8 @@ impl SqueezeCodec {
         Ok((codec, shape))
     }
 
-    /// A reader of a chunk in part, over the reader of the encoded chunk. Refusals: those of
-    /// `encoded_representation`; `OutOfMemory`. A refusal hands the input back as it was.
+    /// A reader of a chunk in part, over the reader of the moved chunk. Errors: those of
+    /// `encoded_representation`; `OutOfMemory`. An error hands the input back as it was.
     pub fn partial_decoder<I: ArrayPartialDecoderTraits>(
         &self,
         alloc: Global,
@@ -52,8 +53,8 @@ impl SqueezeCodec {
             input,
         )
     }
-    /// A reader of a chunk in part that writes too, over the writer of the encoded chunk. Refusals:
-    /// those of `encoded_representation`; `OutOfMemory`. A refusal hands the input back as it was.
+    /// A reader of a chunk in part that writes too, over the writer of the moved chunk. Errors:
+    /// those of `encoded_representation`; `OutOfMemory`. An error hands the input back as it was.
     pub fn partial_encoder<I: ArrayPartialEncoderTraits>(
         &self,
         alloc: Global,

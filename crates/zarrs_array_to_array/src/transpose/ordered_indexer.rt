@@ -8,7 +8,7 @@ ghost use Rattle.zarrs_array_to_array.specs.Boxes.{tuples_in, ordered_tuples as 
 ghost use Rattle.zarrs_array_to_array.specs.EncodedSelection.{GivesOrdered};
 
 use crate::boxes::ordered_box;
-use crate::strides::permuted;
+use crate::transpose::strides::permuted;
 use std::alloc::{AllocError, Global};
 use zarrs_chunk::{ArrayIndices, CodecError, Indexer};
 
@@ -29,7 +29,7 @@ fn ordered_tuples(
     Ok(ordered)
 }
 
-/// What is asked for of the encoded chunk.
+/// What is asked for of the moved chunk.
 pub(crate) fn ordered_indexer(
     alloc: Global,
     order: &[usize],

@@ -1,3 +1,4 @@
+//! The elements of a transposed chunk, where all have one size.
 ghost use Rattle.std.specs.Prelude.{◌≡◌, ◌<◌, ◌*◌, ◌^◌, true, length, All};
 ghost use Rattle.zarrs_chunk.specs.ChunkShape.{product};
 ghost use Rattle.zarrs_metadata.specs.Orders.{is_order};
@@ -5,8 +6,8 @@ ghost use Rattle.zarrs_array_to_array.specs.Transpose.{transposed_bytes};
 ghost use Rattle.zarrs_array_to_array.specs.TransposeCodec.{GivesFixed};
 ghost use Rattle.zarrs_array_to_array.specs.Vectors.{ItemsAre};
 
-use crate::axis::ordered_axes;
-use crate::planes::gather_axes;
+use crate::transpose::axis::ordered_axes;
+use crate::transpose::planes::gather_axes;
 use std::alloc::{AllocError, Global};
 use std::borrow::CowSlice;
 use zarrs_array_bytes::ArrayBytes;

@@ -9,13 +9,13 @@ use crate::array_to_array::stages::{Input, Made, input, reads};
 use std::alloc::Global;
 use std::process::Abort;
 use std::test::Fail;
-use zarrs_array_to_array::TransposeCodec;
-use zarrs_chunk::{CodecError, CodecName};
+use zarrs_array_to_array::{TRANSPOSE, TransposeCodec};
+use zarrs_chunk::CodecError;
 use zarrs_codec::Refused;
 
 const SIX: &'static [u8] = &[0, 1, 2, 3, 4, 5];
 
-const UNSUPPORTED: CodecError = CodecError::UnsupportedDataType(CodecName::Transpose);
+const UNSUPPORTED: CodecError = CodecError::UnsupportedDataType(TRANSPOSE);
 
 const AXES: CodecError = CodecError::IncompatibleDimensionality;
 

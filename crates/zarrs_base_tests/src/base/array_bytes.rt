@@ -7,7 +7,7 @@ use CodecError::{DataMismatch, InvalidBytesLength};
 use std::alloc::Global;
 use std::borrow::CowSlice;
 use std::process::Abort;
-use zarrs_array_bytes::{ArrayBytes, ArrayBytesOffsets, append_copies};
+use zarrs_array_bytes::{ArrayBytes, ArrayBytesOffsets, ArrayBytesRaw, append_copies};
 use zarrs_chunk::CodecError;
 use zarrs_data_type::{DataType, FillValue};
 
@@ -154,6 +154,26 @@ fn gives_masked(rt: &impl Abort, made: ArrayBytes<'static>) -> Result<(), CodecE
 fn lends_and_gives_back_its_parts(rt: HostRuntime) -> Result<(), CodecError> {
     gives_texts(&rt, container(rt.alloc(), &TEXTS)?)?;
     gives_masked(&rt, container(rt.alloc(), &MASKED)?)
+}
+
+/// The texts without the byte in front of the first one, their offsets counted from it.
+fn is_flush(rt: &impl Abort, name: &str, made: &ArrayBytes<'static>) -> Result<(), CodecError> {
+    let (bytes, offsets) = made.as_variable()?;
+    are(rt, name, bytes, b"abc");
+    are(rt, name, offsets.as_slice(), &[0, 1, 3]);
+    Ok(())
+}
+
+fn flush(alloc: Global, bytes: ArrayBytesRaw<'static>) -> Elements {
+    ArrayBytes::new_flush(bytes, offsets(alloc, &[1, 2, 4])?)
+}
+
+#[test]
+fn begins_at_the_first_text(rt: HostRuntime) -> Result<(), CodecError> {
+    let texts = b"xabc".as_slice();
+    is_flush(&rt, "lent", &flush(rt.alloc(), CowSlice::Borrowed(texts))?)?;
+    let owned = texts.to_vec(rt.alloc())?;
+    is_flush(&rt, "owned", &flush(rt.alloc(), CowSlice::Owned(owned))?)
 }
 
 /// Three bytes are so many elements, and no more.

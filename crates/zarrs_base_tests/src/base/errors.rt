@@ -3,8 +3,15 @@ use std::alloc::{AllocError, AllocFailed, Global};
 use std::fmt::Display;
 use std::process::Abort;
 use std::test::Fail;
+use zarrs_array_to_array::{RESHAPE, SQUEEZE, TRANSPOSE};
+use zarrs_bytes::BYTES;
 use zarrs_chunk::{CodecError, CodecName, StorageError};
 use zarrs_metadata::PluginCreateError;
+
+/// A name of sixteen letters, which leaves no zeros behind it.
+const SHARDING: CodecName = CodecName {
+    letters: *b"sharding_indexed",
+};
 
 /// An error and its text, which begins with its name.
 struct Row<E: 'static> {
@@ -26,32 +33,24 @@ const REFUSALS: &'static [Row<CodecError>] = &[
         text: "Storage: code 17",
     },
     Row {
-        error: CodecError::UnsupportedDataType(CodecName::Transpose),
+        error: CodecError::UnsupportedDataType(TRANSPOSE),
         text: "UnsupportedDataType: the codec transpose",
     },
     Row {
-        error: CodecError::UnsupportedDataType(CodecName::Reshape),
+        error: CodecError::UnsupportedDataType(RESHAPE),
         text: "UnsupportedDataType: the codec reshape",
     },
     Row {
-        error: CodecError::UnsupportedDataType(CodecName::Squeeze),
+        error: CodecError::UnsupportedDataType(SQUEEZE),
         text: "UnsupportedDataType: the codec squeeze",
     },
     Row {
-        error: CodecError::UnsupportedDataType(CodecName::Bytes),
+        error: CodecError::UnsupportedDataType(BYTES),
         text: "UnsupportedDataType: the codec bytes",
     },
     Row {
-        error: CodecError::UnsupportedDataType(CodecName::PackBits),
-        text: "UnsupportedDataType: the codec packbits",
-    },
-    Row {
-        error: CodecError::UnsupportedDataType(CodecName::Vlen),
-        text: "UnsupportedDataType: the codec vlen",
-    },
-    Row {
-        error: CodecError::UnsupportedDataType(CodecName::Optional),
-        text: "UnsupportedDataType: the codec optional",
+        error: CodecError::UnsupportedDataType(SHARDING),
+        text: "UnsupportedDataType: the codec sharding_indexed",
     },
     Row {
         error: CodecError::EndiannessMissing,
@@ -158,6 +157,18 @@ const REFUSALS: &'static [Row<CodecError>] = &[
     Row {
         error: CodecError::ReversedRange,
         text: "ReversedRange",
+    },
+    Row {
+        error: CodecError::ElementCount,
+        text: "ElementCount",
+    },
+    Row {
+        error: CodecError::IndivisibleShape,
+        text: "IndivisibleShape",
+    },
+    Row {
+        error: CodecError::IndexNotFixed,
+        text: "IndexNotFixed",
     },
 ];
 

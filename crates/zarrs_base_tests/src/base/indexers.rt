@@ -5,7 +5,7 @@ use crate::base::chunks::is_unravelled;
 use Asked::{Ranges, Tuples};
 use std::alloc::Global;
 use std::process::Abort;
-use zarrs_chunk::{ArraySubset, ChunkShape, CodecError, Indexer, ravel_indices};
+use zarrs_chunk::{ArraySubset, ChunkShape, CodecError, Indexer, count_places, ravel_indices};
 
 /// What an indexer means in a chunk of these sizes: its places, and its runs, each a start and a
 /// length. A run covers one row of the last axis that a box doesn't cover whole, with all axes behind
@@ -146,4 +146,16 @@ fn have_many_axes(rt: HostRuntime) -> Result<(), CodecError> {
     let chunk = ones(rt.alloc(), 500_000)?;
     is_first(&rt, rt.alloc(), &chunk)?;
     is_one_element(&rt, rt.alloc(), &chunk)
+}
+
+#[test]
+fn runs_have_so_many_places(rt: HostRuntime) {
+    is(&rt, "some", &count_places(&[(2, 4), (9, 1), (2, 4)]), &9);
+    is(&rt, "none", &count_places(&[]), &0);
+    is(
+        &rt,
+        "most",
+        &count_places(&[(0, u64::MAX), (0, 2)]),
+        &u64::MAX,
+    );
 }

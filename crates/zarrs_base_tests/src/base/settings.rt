@@ -7,7 +7,7 @@ use std::process::Abort;
 use zarrs_data_type::Endianness;
 use zarrs_metadata::{
     PluginCreateError, ReshapeDim, ReshapeShape, TransposeOrder, VlenIndexDataType,
-    VlenIndexLocation,
+    VlenIndexLocation, count_autos,
 };
 
 fn is_order(rt: &impl Abort, made: &TransposeOrder) -> Result<(), PluginCreateError> {
@@ -35,6 +35,7 @@ fn is_reshaped(rt: &impl Abort, made: &ReshapeShape) -> Result<(), PluginCreateE
         return Err(PluginCreateError::InvalidConfiguration);
     };
     gives(rt, "copy", axes.clone(), axes)?;
+    is(rt, "automatic sizes", &count_autos(made.as_slice()), &1);
     if let ReshapeDim::InputDims(axes) = axes {
         are(rt, "axes", axes.as_slice(), &[0, 1]);
     }

@@ -4,7 +4,6 @@ use Rattle.std.specs.List.{list_all}
 use Rattle.zarrs_chunk.specs.Answer.{◌>>=◌, GivesBy}
 use Rattle.zarrs_chunk.specs.declared.codec_error.CodecError.{CodecError}
 use Rattle.zarrs_chunk.specs.declared.codec_error.CodecError.TheVariants.{UnsupportedDataType}
-use Rattle.zarrs_chunk.specs.declared.codec_error.CodecName.TheVariants as codec
 use Rattle.zarrs_data_type.specs.ElementType.{ElementType, fixed, text, bytes, optional}
 use Rattle.zarrs_data_type.specs.Element.{Chunk}
 use Rattle.zarrs_array_bytes.specs.Elements.{elements}
@@ -19,12 +18,13 @@ use Rattle.zarrs_array_bytes.specs.Validity.{Holds}
 use Rattle.zarrs_codec.specs.BytesToBytesCodec.{BytesCodecs}
 use Rattle.zarrs_chain_laws.specs.PlainChain.{PlainCodec, PlainChain}
 use Rattle.zarrs_chain_laws.specs.Encode.{byte_elements, chain_value, codec_value}
+use Rattle.zarrs_chain_laws.specs.declared.codec_name.TheConstants.{OPTIONAL}
 
 -- the type inside, or the refusal of a type that isn't optional
 abbrev pub optional_inner : ElementType → Result ElementType CodecError
-optional_inner (fixed width components sign) = Err (UnsupportedDataType codec.Optional)
-optional_inner text = Err (UnsupportedDataType codec.Optional)
-optional_inner bytes = Err (UnsupportedDataType codec.Optional)
+optional_inner (fixed width components sign) = Err (UnsupportedDataType OPTIONAL)
+optional_inner text = Err (UnsupportedDataType OPTIONAL)
+optional_inner bytes = Err (UnsupportedDataType OPTIONAL)
 optional_inner (optional type) = Ok type
 
 -- the elements of a container that are present under mask bytes

@@ -9,6 +9,7 @@ use Rattle.zarrs_data_type.specs.Element.{Chunk}
 use Rattle.zarrs_array_bytes.specs.Held.{Held, Raw, flen}
 use Rattle.zarrs_array_bytes.specs.Offsets.{rises, last_of}
 use Rattle.zarrs_array_bytes.specs.Pieces.{pieces}
+use Rattle.zarrs_array_bytes.specs.Tight.{from_first}
 use Rattle.zarrs_codec.specs.BytesToBytesCodec.{BytesCodecs}
 use Rattle.zarrs_packbits.specs.PackBitsSettings.{packed_layout, PackBitsSettings}
 use Rattle.zarrs_chain_laws.specs.PlainChain.{PlainCodec, bytes_codec, packbits_codec, vlen_codec, optional_codec, PlainChain}
@@ -47,10 +48,6 @@ offset_size wide = if wide then 8 else 4
 -- the bytes of offsets, each counted from `first`
 abbrev pub bytes_from : Bool → ℕ → List ℕ → List ℕ
 bytes_from wide first offsets = flat_map (λ offset. offset_bytes wide (offset - first)) offsets
-
--- offsets counted from the first of them
-abbrev pub from_first : List ℕ → List ℕ
-from_first offsets = map (λ offset. offset - slice_index offsets 0) offsets
 
 -- the type has the last offset, counted from the first
 abbrev pub offsets_fit : Bool → List ℕ → Bool

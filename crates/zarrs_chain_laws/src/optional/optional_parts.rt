@@ -11,11 +11,12 @@ ghost use Rattle.zarrs_chain_laws.specs.Encode.{optional_layout};
 ghost use Rattle.zarrs_chain_laws.specs.optional.OptionalParts.{optional_inner, joined_size, both_lent, both_items, AreFlags};
 ghost use Rattle.zarrs_chain_laws.specs.Representation.{blank_fill as blank_fill_of, both_representations as both_representations_of};
 
+use crate::codec_name::OPTIONAL;
 use crate::vlen::length_fields::read_length;
 use std::alloc::Global;
 use std::borrow::CowSlice;
 use zarrs_array_bytes::{ArrayBytes, ArrayBytesRaw, count_present};
-use zarrs_chunk::{CodecError, CodecName};
+use zarrs_chunk::CodecError;
 use zarrs_codec::BytesRepresentation;
 use zarrs_data_type::{DataType, FillValue};
 
@@ -29,7 +30,7 @@ pub fn inner_type(data_type: &DataType) -> Result<&DataType, CodecError>
 {
     match data_type.as_optional() {
         Some(inner) => Ok(inner),
-        None => Err(CodecError::UnsupportedDataType(CodecName::Optional)),
+        None => Err(CodecError::UnsupportedDataType(OPTIONAL)),
     }
 }
 

@@ -31,7 +31,7 @@ use Rattle.zarrs_chain_whole.specs.declared.vlen.vlen_codec.VlenCodec.{out-VlenC
 use Rattle.zarrs_chain_laws.specs.Encode.{byte_elements}
 use Rattle.zarrs_chain_whole.specs.declared.optional.optional_codec.OptionalCodec.{out-OptionalCodec}
 use Rattle.zarrs_chain_whole.proofs.OptionalRoom.{mask_long}
-use Rattle.zarrs_chain_whole.proofs.TakenBlank.{vlen_blank}
+use Rattle.zarrs_chain_whole.proofs.TakenTight.{vlen_tight}
 use Rattle.zarrs_chain_whole.proofs.+decode.Goals as goal
 
 pub decode::chain_decode-returns : goal.decode::chain_decode-returns
@@ -50,7 +50,7 @@ decode::chain_decode-returns g t c =
             chunk_back f chain.array_to_array chain.array_to_bytes chain.bytes_to_bytes sizes type fill (taken.shape, taken.representation) (raw_of c.args.value).items (raw_of c.in_ok-below.below).items c.in_ok-chunk.chunk c.decode_arrays.result c.in_ok-taken.ensures.map c.in_ok-taken.ensures.answer.is opened c.in_ok-chunk.ensures.answer.is found;
         no_fault = search rules;
       };
-      blank = c.decode_arrays.ensures.blank c.in_ok-chunk.ensures.blank;
+      tight = c.decode_arrays.ensures.tight c.in_ok-chunk.ensures.tight;
     }
 
 pub decode::chain_decode-bytes_decode-requires : goal.decode::chain_decode-bytes_decode-requires
@@ -84,7 +84,7 @@ decode::part_decode-returns g t c =
             chunk_of_none c.new_fill_value.result (chain_chunk g.B.BytesToBytesCodecTraits.functions (plain_chain c.args.chain.now)) c.args.count c.args.kind.now c.args.fill.now (raw_of c.args.part).items (subst (λ row. ok (row_sizes c.args.count) ≡ ok row) c.in-None.is c.in_ok-row.ensures.answer.is) c.requires.filling c.new_fill_value.ensures.exact.is;
         no_fault = search rules;
       };
-      blank = c.new_fill_value.ensures.blank;
+      tight = c.new_fill_value.ensures.tight;
     }
 
 pub vlen::vlen_decode::content_decode-returns-clause-answer : goal.vlen::vlen_decode::content_decode-returns-clause-answer
@@ -122,7 +122,7 @@ optional::optional_codec::present_decode-returns-in_err-count g t c =
             rw (p.1, p.2) (λ ne. mask_refused decode c.args.data_type.now (raw_of c.args.mask).items (raw_of c.args.part).items c.in_err-count.field-0.0 e);
         no_fault = search rules;
       };
-      blank = search rules;
+      tight = search rules;
     }
 
 pub optional::optional_codec::present_decode-returns-in_err-present : goal.optional::optional_codec::present_decode-returns-in_err-present
@@ -140,7 +140,7 @@ optional::optional_codec::present_decode-returns-in_err-present g t c =
             part_refused decode type (raw_of c.args.mask).items c.in_ok-count.count part c.in_err-present.field-0.0 e h);
         no_fault = search rules;
       };
-      blank = search rules;
+      tight = search rules;
     }
 
 pub optional::optional_codec::present_decode-returns : goal.optional::optional_codec::present_decode-returns
@@ -160,7 +160,7 @@ optional::optional_codec::present_decode-returns g t c =
             part_expanded c.expand_present.result f chain type c.in_ok-present.present mask c.in_ok-count.count part e fits read c.expand_present.ensures.answer.is;
         no_fault = search rules;
       };
-      blank = c.expand_present.ensures.blank c.in_ok-present.ensures.blank;
+      tight = c.expand_present.ensures.tight c.in_ok-present.ensures.tight;
     }
 
 pub vlen::vlen_decode::vlen_decode-returns-in_err-offsets : goal.vlen::vlen_decode::vlen_decode-returns-in_err-offsets
@@ -190,7 +190,7 @@ vlen::vlen_decode::vlen_decode-returns-in_err-offsets g t c =
             index_refused_by f codec sizes type fill value i d count c.in_err-offsets.field-0.0 parts counted h);
         no_fault = search rules;
       };
-      blank = search rules;
+      tight = search rules;
     }
 
 pub vlen::vlen_decode::vlen_decode-returns-in_err-bytes : goal.vlen::vlen_decode::vlen_decode-returns-in_err-bytes
@@ -222,7 +222,7 @@ vlen::vlen_decode::vlen_decode-returns-in_err-bytes g t c =
             content_refused_by f codec sizes type fill value i d offsets count c.in_err-bytes.field-0.0 parts counted first h);
         no_fault = search rules;
       };
-      blank = search rules;
+      tight = search rules;
     }
 
 pub vlen::vlen_decode::vlen_decode-returns : goal.vlen::vlen_decode::vlen_decode-returns
@@ -251,10 +251,10 @@ vlen::vlen_decode::vlen_decode-returns g t c =
             let first : index_offsets f index wide count i ≡ Ok offsets = search rules in
             let second : content_bytes f content (last_of offsets) (data_part at_end (length i) value) ≡ Ok raw.items = search rules in
             let long : length raw.items ≡ last_of offsets = search rules in
-            vlen_answered f codec sizes type fill value c.new_vlen.result i d offsets raw count c.requires.taken parts counted first second long c.new_vlen.ensures.answer;
+            vlen_answered f codec sizes type fill value c.new_flush.result i d offsets raw count c.requires.taken parts counted first second long c.new_flush.ensures.answer c.new_flush.ensures.same;
         no_fault = search rules;
       };
-      blank = vlen_blank g.B.BytesToBytesCodecTraits.functions c.args.codec.now c.args.shape.now c.args.kind.now c.args.fill.now c.new_vlen.result c.requires.taken;
+      tight = vlen_tight g.B.BytesToBytesCodecTraits.functions c.args.codec.now c.args.shape.now c.args.kind.now c.args.fill.now c.new_flush.result c.requires.taken c.new_flush.ensures.flush;
     }
 
 pub optional::optional_codec::optional_decode-has_room-requires-clause-len : goal.optional::optional_codec::optional_decode-has_room-requires-clause-len

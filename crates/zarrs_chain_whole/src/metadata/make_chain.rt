@@ -14,14 +14,13 @@ use crate::vlen::vlen_codec::VlenCodec;
 use std::alloc::Global;
 use zarrs_array_to_array::ArrayToArrayCodec;
 use zarrs_bytes::BytesCodec;
-use zarrs_chain_laws::codec_name::codec_named;
+use zarrs_chain_laws::codec_name::{KnownCodec, codec_named};
 use zarrs_chain_laws::optional::configuration::{
     mask_codecs, optional_configuration, present_codecs,
 };
 use zarrs_chain_laws::vlen::configuration::{
     data_codecs, index_codecs, index_data_type, index_location, vlen_configuration,
 };
-use zarrs_chunk::CodecName;
 use zarrs_codec::BytesCodecMaker;
 use zarrs_metadata::{
     MetadataV3, OptionalCodecConfiguration, PluginCreateError, VlenCodecConfiguration,
@@ -147,22 +146,22 @@ fn codec_from<B: Drop, M: BytesCodecMaker<B>>(
     ensures answer { MakesCodec (M.makes maker.now) metadata.now result }
 {
     match codec_named(metadata.name()) {
-        Some(CodecName::Transpose | CodecName::Reshape | CodecName::Squeeze) => {
+        Some(KnownCodec::Transpose | KnownCodec::Reshape | KnownCodec::Squeeze) => {
             Ok(MadeCodec::Array(ArrayToArrayCodec::create(alloc, metadata)?))
         }
-        Some(CodecName::Bytes) => {
+        Some(KnownCodec::Bytes) => {
             let codec = BytesCodec::create(metadata)?;
             Ok(MadeCodec::ToBytes(ArrayToBytesCodec::Bytes(codec)))
         }
-        Some(CodecName::PackBits) => {
+        Some(KnownCodec::PackBits) => {
             let codec = PackBitsCodec::create(metadata)?;
             Ok(MadeCodec::ToBytes(ArrayToBytesCodec::PackBits(codec)))
         }
-        Some(CodecName::Vlen) => {
+        Some(KnownCodec::Vlen) => {
             let codec = vlen_create(alloc, metadata, maker)?;
             Ok(MadeCodec::ToBytes(ArrayToBytesCodec::Vlen(codec)))
         }
-        Some(CodecName::Optional) => {
+        Some(KnownCodec::Optional) => {
             let codec = optional_create(alloc, metadata, maker)?;
             Ok(MadeCodec::ToBytes(ArrayToBytesCodec::Optional(codec)))
         }

@@ -1,5 +1,5 @@
 ghost use Rattle.zarrs_chunk.specs.Answer.{checked_u64};
-ghost use Rattle.zarrs_array_bytes.specs.Blank.{AbsentAreBlank};
+ghost use Rattle.zarrs_array_bytes.specs.Tight.{IsTight};
 ghost use Rattle.zarrs_array_bytes.specs.Held.{items_of};
 ghost use Rattle.std.specs.Prelude.{◌≡◌, length, Ok, IfOk};
 ghost use Rattle.zarrs_chunk.specs.ChunkShape.{product};
@@ -244,7 +244,7 @@ fn present_decode<'a, B: BytesToBytesCodecTraits>(
 ) -> Result<ArrayBytes<'a>, CodecError>
     requires room { HasRoom data_type.now mask }
     ensures answer { ReadsPresent B.functions chain.now data_type.now mask.entry part.entry result }
-    ensures blank { IfOk result (AbsentAreBlank (optional data_type.now)) }
+    ensures tight { IfOk result (IsTight (optional data_type.now)) }
 {
     let count = count_present(lent(&mask))?;
     let blank = blank_fill(alloc, data_type)?;
@@ -274,7 +274,7 @@ fn has_room<B: BytesToBytesCodecTraits>(
 /// The chunk that a value stands for, where the codec takes such chunks. Refusals: those of
 /// `OptionalCodec::decode` behind those of `encoded_representation`.
 #[cycle(decode)]
-#[tactic(auto, using(crate::proofs::OptionalAt::chunk_opened_at, crate::proofs::OptionalAt::chunk_at, crate::proofs::OptionalAt::blank_at))]
+#[tactic(auto, using(crate::proofs::OptionalAt::chunk_opened_at, crate::proofs::OptionalAt::chunk_at, crate::proofs::OptionalAt::tight_at))]
 pub(crate) fn optional_decode<'a, B: BytesToBytesCodecTraits>(
     alloc: Global,
     codec: &OptionalCodec<B>,
@@ -285,7 +285,7 @@ pub(crate) fn optional_decode<'a, B: BytesToBytesCodecTraits>(
 ) -> Result<ArrayBytes<'a>, CodecError>
     requires taken { Takes B.functions codec.now shape.now kind.now fill.now }
     ensures answer { Reads B.functions codec.now shape.now kind.now fill.now value.entry result }
-    ensures blank { IfOk result (AbsentAreBlank kind.now) }
+    ensures tight { IfOk result (IsTight kind.now) }
 {
     let inner = inner_type(kind)?;
     let (mask_part, data_part) = split_value(alloc, value)?;
@@ -305,7 +305,7 @@ fn optional_taken_decode<'a, B: BytesToBytesCodecTraits>(
     fill: &FillValue,
 ) -> Result<ArrayBytes<'a>, CodecError>
     ensures exact { ReadsAny B.functions codec.now shape.now kind.now fill.now value.entry result }
-    ensures blank { IfOk result (AbsentAreBlank kind.now) }
+    ensures tight { IfOk result (IsTight kind.now) }
 {
     optional_representation(alloc, codec, shape, kind, fill)?;
     optional_decode(alloc, codec, value, shape, kind, fill)
@@ -355,7 +355,8 @@ impl<B: BytesToBytesCodecTraits> OptionalCodec<B> {
     /// where there are more bytes, or fewer; those of the mask chain; `MaskValue` where a mask byte
     /// isn't 0 or 1; those of the data chain at the row of present elements.
     ///
-    /// Absent elements stand over blank ones, at every depth, and mask bytes are 0 or 1.
+    /// At every depth, absent elements stand over blank ones, mask bytes are 0 or 1, and offsets
+    /// begin at 0.
     pub fn decode<'a>(
         &self,
         alloc: Global,
@@ -367,7 +368,7 @@ impl<B: BytesToBytesCodecTraits> OptionalCodec<B> {
         // Wide: the form of a chunk is three parameters, as in the Rust crate.
         ensures decodes { Decodes (codec_grammar B.functions (plain_optional self.now))
             (form_of shape.now data_type.now fill_value.now) (items_of value.entry) result }
-        ensures blank { IfOk result (AbsentAreBlank data_type.now) }
+        ensures tight { IfOk result (IsTight data_type.now) }
     {
         optional_is_sound(self);
         shape.as_slice();

@@ -15,6 +15,7 @@ impl<B: BytesToBytesCodecTraits> ArrayToBytesCodecTraits for OptionalCodec<B> {
     ghost use Rattle.zarrs_chain_laws.specs.Chain.{codec_held_value, taken_chunk};
     ghost use Rattle.zarrs_chain_whole.specs.ChainView.{plain_optional};
     ghost use Rattle.zarrs_chain_whole.specs.Compact.{codec_opened};
+    ghost use Rattle.zarrs_chain_laws.specs.NormalForm.{normal_form};
     ghost use Rattle.zarrs_chain_laws.specs.Representation.{codec_representation};
 
     ghost represented = { λ codec form. codec_representation B.functions (plain_optional codec) form.sizes form.type form.fill };
@@ -22,6 +23,8 @@ impl<B: BytesToBytesCodecTraits> ArrayToBytesCodecTraits for OptionalCodec<B> {
     ghost encoded = { λ codec form held. codec_held_value B.functions (plain_optional codec) form.sizes form.type form.fill held };
 
     ghost decoded = { λ codec form value. taken_chunk B.functions (plain_optional codec) form.sizes form.type form.fill value };
+
+    ghost normal = { λ codec type chunk. normal_form (plain_optional codec) type chunk };
 
     ghost opened = { λ codec form _. codec_opened B.functions (plain_optional codec) form.sizes form.type form.fill };
 

@@ -1,5 +1,5 @@
 ghost use Rattle.zarrs_chunk.specs.Answer.{Answers, memory, is_fault};
-ghost use Rattle.zarrs_array_bytes.specs.Blank.{AbsentAreBlank};
+ghost use Rattle.zarrs_array_bytes.specs.Tight.{IsTight};
 ghost use Rattle.zarrs_array_bytes.specs.Held.{items_of};
 ghost use Rattle.std.specs.Prelude.{◌≡◌, [], Ok, IfOk, false, option_map};
 ghost use Rattle.zarrs_metadata.specs.MetadataV3.{Writes};
@@ -24,9 +24,10 @@ use crate::vlen::vlen_encode::vlen_encode;
 use std::alloc::Global;
 use zarrs_array_bytes::{ArrayBytes, ArrayBytesRaw};
 use zarrs_bytes::BytesCodec;
+use zarrs_chain_laws::codec_name::VLEN;
 use zarrs_chain_laws::vlen::configuration::vlen_members;
 use zarrs_chain_laws::vlen::plain_vlen::PlainVlen;
-use zarrs_chunk::{ChunkShape, CodecError, CodecName};
+use zarrs_chunk::{ChunkShape, CodecError};
 use zarrs_codec::{BytesRepresentation, BytesToBytesCodecTraits};
 use zarrs_data_type::{DataType, FillValue};
 use zarrs_metadata::{Configuration, PluginCreateError, VlenIndexDataType, VlenIndexLocation};
@@ -174,7 +175,7 @@ pub(crate) fn vlen_representation(
     ensures no_fault { is_fault result ≡ false }
 {
     if data_type.is_optional() || data_type.fixed_size().is_some() {
-        return Err(CodecError::UnsupportedDataType(CodecName::Vlen));
+        return Err(CodecError::UnsupportedDataType(VLEN));
     }
     shape.num_elements()?;
     Ok(BytesRepresentation::UnboundedSize)
@@ -205,7 +206,7 @@ fn vlen_taken_decode<'a, B: BytesToBytesCodecTraits>(
     fill: &FillValue,
 ) -> Result<ArrayBytes<'a>, CodecError>
     ensures exact { ReadsAny B.functions codec.now shape.now kind.now fill.now value.entry result }
-    ensures blank { IfOk result (AbsentAreBlank kind.now) }
+    ensures tight { IfOk result (IsTight kind.now) }
 {
     vlen_measure(codec, shape, kind, fill)?;
     vlen_decode(alloc, codec, value, shape, kind, fill)
@@ -254,6 +255,9 @@ impl<B: BytesToBytesCodecTraits> VlenCodec<B> {
     /// `IndexLength` where the index is longer than what is left; `Overflow` where 64 bits don't count
     /// the offsets; those of the index chain; `InvalidOffsets` where an offset is less than the one
     /// before; those of the data chain at a row of as many bytes as the last offset says.
+    ///
+    /// The container's offsets begin at 0, wherever those of the value begin, and its bytes are those
+    /// of the elements alone.
     pub fn decode<'a>(
         &self,
         alloc: Global,
@@ -265,7 +269,7 @@ impl<B: BytesToBytesCodecTraits> VlenCodec<B> {
         // Wide: the form of a chunk is three parameters, as in the Rust crate.
         ensures decodes { Decodes (codec_grammar B.functions (plain_vlen self.now))
             (form_of shape.now data_type.now fill_value.now) (items_of value.entry) result }
-        ensures blank { IfOk result (AbsentAreBlank data_type.now) }
+        ensures tight { IfOk result (IsTight data_type.now) }
     {
         vlen_is_sound(self);
         shape.as_slice();

@@ -1,6 +1,6 @@
 //! The chunk of a value through `vlen`: its offsets, then the elements' bytes.
 ghost use Rattle.zarrs_chunk.specs.Answer.{is_fault, checked_u64};
-ghost use Rattle.zarrs_array_bytes.specs.Blank.{AbsentAreBlank};
+ghost use Rattle.zarrs_array_bytes.specs.Tight.{IsTight};
 ghost use Rattle.zarrs_array_bytes.specs.Held.{items_of};
 ghost use Rattle.std.specs.Prelude.{◌≡◌, ◌<◌, ◌+◌, IfOk, false, length};
 ghost use Rattle.zarrs_chunk.specs.ChunkShape.{product};
@@ -64,10 +64,11 @@ fn content_decode<'a, B: BytesToBytesCodecTraits>(
     bytes.into_fixed()
 }
 
-/// The chunk that a value stands for, where the codec takes such chunks. Refusals: those of
-/// `VlenCodec::decode` behind those of `encoded_representation`.
+/// The chunk that a value stands for, where the codec takes such chunks. Where the stored offsets
+/// begin above 0, no element has the bytes in front: they are left out, and the offsets are counted
+/// from the first. Refusals: those of `VlenCodec::decode` behind those of `encoded_representation`.
 #[cycle(decode)]
-#[tactic(auto, using(crate::proofs::VlenDecode::vlen_read_at, crate::proofs::VlenDecode::index_inside, crate::proofs::TakenBlank::vlen_blank))]
+#[tactic(auto, using(crate::proofs::VlenDecode::vlen_read_at, crate::proofs::VlenDecode::index_inside, crate::proofs::TakenTight::vlen_tight))]
 pub fn vlen_decode<'a, B: BytesToBytesCodecTraits>(
     alloc: Global,
     codec: &VlenCodec<B>,
@@ -78,7 +79,7 @@ pub fn vlen_decode<'a, B: BytesToBytesCodecTraits>(
 ) -> Result<ArrayBytes<'a>, CodecError>
     requires taken { Takes B.functions codec.now shape.now kind.now fill.now }
     ensures answer { Reads B.functions codec.now shape.now kind.now fill.now value.entry result }
-    ensures blank { IfOk result (AbsentAreBlank kind.now) }
+    ensures tight { IfOk result (IsTight kind.now) }
 {
     let (index, _) = split(value.as_slice(), codec.index_location)?;
     let size = index.len();
@@ -93,7 +94,7 @@ pub fn vlen_decode<'a, B: BytesToBytesCodecTraits>(
     let last = last_offset(&offsets);
     let part = data_part(value, size, codec.index_location);
     let bytes = content_decode(alloc, &codec.data_codecs, part, last)?;
-    ArrayBytes::new_vlen(bytes, offsets)
+    ArrayBytes::new_flush(bytes, offsets)
 }
 
 /// How many offsets there are, one more than elements. Refusals: `Overflow`.

@@ -48,7 +48,7 @@ impl FailingCall {
         }
     }
 
-    /// Counts a failure, and makes the refusal of it.
+    /// Counts a failure, and makes the error of it.
     pub(crate) fn fail(&mut self, failure: StorageError) -> CodecError
         ensures refusal { result ≡ CodecError.Storage failure }
         ensures counted { self.new ≡ one_failed failure self.old }
@@ -72,7 +72,7 @@ impl FailingCall {
         self.accepted_writes = self.accepted_writes.wrapping_add(1);
     }
 
-    /// Counts a call, and refuses it where it is its turn to fail.
+    /// Counts a call, which fails where it is its turn.
     pub(crate) fn pass(&mut self) -> Result<(), CodecError>
         ensures answer { Tells result tt }
         ensures in_turn { FailsInTurn result (turn_of self.old) (turn_of self.new) }

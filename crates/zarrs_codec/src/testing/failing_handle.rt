@@ -32,6 +32,7 @@ impl FailingHandle {
         ensures value { (failing_state result).value ≡ option_map (λ bytes. bytes.items) value }
         ensures nothing_sure { (failing_state result).sure ≡ None }
         ensures no_faults { (failing_state result).faults ≡ 0 }
+        ensures no_failure { (failing_state result).failure ≡ None }
         ensures no_writes { (failing_state result).writes ≡ 0 }
         ensures none_accepted { (failing_state result).accepted_writes ≡ 0 }
         ensures turn { failing_turn result ≡ record { left = n; code = n } }
@@ -60,7 +61,7 @@ impl FailingHandle {
         self.calls.faults
     }
 
-    /// How many writing calls there were, those that were refused among them, modulo 2^64.
+    /// How many writing calls there were, those that failed among them, modulo 2^64.
     pub fn write_calls(&self) -> u64
         ensures value { result ≡ (failing_state self.now).writes }
     {
@@ -76,12 +77,12 @@ impl FailingHandle {
 }
 
 impl BytesPartialDecoderTraits for FailingHandle {
-    ghost use Rattle.std.specs.Prelude.{true};
+    ghost use Rattle.std.specs.Prelude.{true, []};
     ghost use Rattle.zarrs_codec.specs.StorageState.{held_bytes};
 
     ghost state = { failing_state };
 
-    ghost lent = { λ _. None };
+    ghost lent = { λ _. [] };
 
     ghost held = { λ handle. held_bytes (failing_state handle).value };
 

@@ -69,6 +69,7 @@ impl FencedHandle {
         ensures value { (fenced_state result).value ≡ Some value.items }
         ensures fenced { (fenced_state result).sure ≡ Some (is_fenced ranges.items) }
         ensures no_faults { (fenced_state result).faults ≡ 0 }
+        ensures no_failure { (fenced_state result).failure ≡ None }
     {
         FencedHandle {
             memory: MemoryHandle::with_value(value),
@@ -119,11 +120,12 @@ impl FencedHandle {
 }
 
 impl BytesPartialDecoderTraits for FencedHandle {
+    ghost use Rattle.std.specs.Prelude.{[]};
     ghost use Rattle.zarrs_codec.specs.StorageState.{held_bytes};
 
     ghost state = { fenced_state };
 
-    ghost lent = { λ _. None };
+    ghost lent = { λ _. [] };
 
     ghost held = { λ handle. held_bytes (fenced_state handle).value };
 

@@ -57,6 +57,7 @@ impl TornHandle {
         ensures value { (torn_state result).value ≡ option_map (λ bytes. bytes.items) value }
         ensures nothing_sure { (torn_state result).sure ≡ None }
         ensures no_faults { (torn_state result).faults ≡ 0 }
+        ensures no_failure { (torn_state result).failure ≡ None }
         ensures no_writes { (torn_state result).writes ≡ 0 }
         ensures none_accepted { (torn_state result).accepted_writes ≡ 0 }
         ensures turn { torn_turn result ≡ record { left = n; code = n } }
@@ -85,7 +86,7 @@ impl TornHandle {
         self.calls.faults
     }
 
-    /// How many writing calls there were, those that were refused among them, modulo 2^64.
+    /// How many writing calls there were, those that failed among them, modulo 2^64.
     pub fn write_calls(&self) -> u64
         ensures value { result ≡ (torn_state self.now).writes }
     {
@@ -101,12 +102,12 @@ impl TornHandle {
 }
 
 impl BytesPartialDecoderTraits for TornHandle {
-    ghost use Rattle.std.specs.Prelude.{true};
+    ghost use Rattle.std.specs.Prelude.{true, []};
     ghost use Rattle.zarrs_codec.specs.StorageState.{held_bytes};
 
     ghost state = { torn_state };
 
-    ghost lent = { λ _. None };
+    ghost lent = { λ _. [] };
 
     ghost held = { λ handle. held_bytes (torn_state handle).value };
 

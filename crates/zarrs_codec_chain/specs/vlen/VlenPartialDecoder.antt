@@ -1,5 +1,5 @@
 -- What a partial decoder of `vlen` is made of, and what it reads of a chunk.
-use Rattle.std.specs.Prelude.{◌≡◌, ℕ, Bool, true, Option, is_some, IfOk, List, Result, false, Some, None, map, Err, IfErr}
+use Rattle.std.specs.Prelude.{◌≡◌, ℕ, ◌&&◌, Bool, true, Option, is_some, IfOk, List, Result, Ok, false, Some, None, map, Err, IfErr}
 use Rattle.zarrs_chunk.specs.Answer.{◌>>=◌, AnswersBy, GivesValue, is_fault, memory, memory_or_fault, seen}
 use Rattle.zarrs_chunk.specs.Selection.{Selection, places_of, bounds_of}
 use Rattle.zarrs_chunk.specs.declared.codec_error.CodecError.{CodecError}
@@ -56,13 +56,24 @@ abbrev pub CodecWhereSure : {B : Type 0} → CodecForm B → StorageState → Se
 CodecWhereSure form before selection P =
     (codec_reads form.codec).partial_decode ≡ true → IfOk (codec_selection_rests_on form before.value selection) (λ numbers. are_sure before.sure numbers ≡ true → P)
 
--- the reader of a chunk of this form, where this value or none is stored: it answers of a selection what `codec_stored_read` says
-abbrev pub codec_reader : {B : Type 0} → BytesCodecs B → CodecForm B → Option (List ℕ) → Bool → ArrayReader
-codec_reader f form stored in_part = record {
+-- these bytes are sure
+abbrev pub are_given_sure : Option (ℕ → Bool) → Result (List ℕ) CodecError → Bool
+are_given_sure sure (Ok numbers) = are_sure sure numbers
+are_given_sure sure (Err error) = false
+
+-- a read of the selection never meets a failure of the handle that has this value and these sure bytes: it asks for a part of the value alone, and the bytes are sure that it rests on
+abbrev pub codec_reads_surely : {B : Type 0} → CodecForm B → Option (List ℕ) → Option (ℕ → Bool) → Selection → Bool
+codec_reads_surely form stored sure selection =
+    (codec_reads form.codec).partial_decode && are_given_sure sure (codec_selection_rests_on form stored selection)
+
+-- the reader of a chunk of this form, where these bytes are sure and this value or none is stored: it answers of a selection what `codec_stored_read` says
+abbrev pub codec_reader : {B : Type 0} → BytesCodecs B → CodecForm B → Option (ℕ → Bool) → Option (List ℕ) → Bool → ArrayReader
+codec_reader f form sure stored in_part = record {
   sizes = form.sizes;
   type = form.type;
   is_stored = is_some stored;
   answer = codec_stored_read f form stored;
+  sure = codec_reads_surely form stored sure;
   in_part = in_part;
 }
 

@@ -1,7 +1,7 @@
 ghost use Rattle.zarrs_codec_chain.specs.ChunkCoder.{IsFilledFrom, coder_form, coder_is_cached, reader_source};
 ghost use Rattle.std.specs.Prelude.{◌≡◌, ◌&&◌, Ok, IfOk, is_some, true, false};
 ghost use Rattle.std.proofs.Props.{props};
-ghost use Rattle.zarrs_array_bytes.specs.Blank.{AbsentAreBlank};
+ghost use Rattle.zarrs_array_bytes.specs.Tight.{IsTight};
 ghost use Rattle.zarrs_codec.specs.HandleCalls.{NeverFailsIf, Tells};
 ghost use Rattle.zarrs_chain_laws.specs.Chain.{chain_reads};
 ghost use Rattle.zarrs_codec_chain.specs.ChunkSource.{source_made};
@@ -38,7 +38,7 @@ pub struct ArrayPartialDecoder<'a, H: BytesPartialDecoderTraits, B: BytesToBytes
 }
 
 impl<'a, H: BytesPartialDecoderTraits, B: BytesToBytesCodecTraits> ArrayPartialDecoder<'a, H, B> {
-    ghost use Rattle.zarrs_codec_chain.specs.PartialDecoder.{decoder_held, form_of, handle_of, is_cached, DecoderLeaves, DecoderPlans, DecoderReads, KeepsCache, decoder_reads_parts};
+    ghost use Rattle.zarrs_codec_chain.specs.PartialDecoder.{decoder_held, form_of, handle_of, is_cached, DecoderAsksOnce, DecoderLeaves, DecoderLeavesAlone, DecoderPlans, DecoderReads, KeepsCache, decoder_reads_parts};
 
     /// The type of the elements.
     pub fn data_type(&self) -> &DataType
@@ -50,7 +50,8 @@ impl<'a, H: BytesPartialDecoderTraits, B: BytesToBytesCodecTraits> ArrayPartialD
     /// The elements that the indexer means, in its order: those of the chunk that the stored value
     /// stands for, and the fill value at each place where nothing is stored. Without bytes codecs, over
     /// `bytes` and `packbits`, the answer rests on the places' bytes alone, and over a plain `vlen` on
-    /// the value's length, the offsets and the elements' bytes, whatever else is stored. Absent elements
+    /// the value's length, the offsets and the elements' bytes, whatever else is stored. In what is given
+    /// offsets begin at 0 and end at the length of the bytes, mask bytes are 0 and 1, and absent elements
     /// stand over blank ones.
     ///
     /// Refusals, the first that holds, `OutOfMemory` aside: those of `Indexer::check`; `Storage`,
@@ -74,8 +75,10 @@ impl<'a, H: BytesPartialDecoderTraits, B: BytesToBytesCodecTraits> ArrayPartialD
         indexer: &Indexer,
     ) -> Result<ArrayBytes<'static>, CodecError>
         ensures reads { DecoderReads H.state self.old indexer.now result }
-        ensures blank { IfOk result (AbsentAreBlank (form_of self.old).type) }
+        ensures tight { IfOk result (IsTight (form_of self.old).type) }
         ensures no_fault_if_cached { NeverFailsIf (is_cached self.old) result }
+        ensures alone { DecoderLeavesAlone self.old self.new }
+        ensures counted { DecoderAsksOnce H.calls self.old self.new result }
         ensures left { DecoderLeaves H.state H.lent self.old self.new result }
     {
         self.coder.read_chunk(alloc, &mut self.handle, indexer)
@@ -88,6 +91,7 @@ impl<'a, H: BytesPartialDecoderTraits, B: BytesToBytesCodecTraits> ArrayPartialD
         ensures answer { Tells result (is_some (H.state (handle_of self.old)).value) }
         ensures sure { NeverFailsIf (is_some (H.state (handle_of self.old)).sure) result }
         ensures no_fault_if_cached { NeverFailsIf (is_cached self.old) result }
+        ensures alone { DecoderLeavesAlone self.old self.new }
         ensures left { DecoderLeaves H.state H.lent self.old self.new result }
     {
         self.coder.exists(&mut self.handle)
@@ -137,9 +141,9 @@ impl<'a, H: BytesPartialDecoderTraits, B: BytesToBytesCodecTraits> ArrayPartialD
 
 impl<'a, H: BytesPartialDecoderTraits, B: BytesToBytesCodecTraits> ArrayPartialDecoderTraits
     for ArrayPartialDecoder<'a, H, B> {
-    ghost use Rattle.zarrs_codec_chain.specs.PartialDecoder.{chunk_reader, decoder_held, form_of, handle_of};
+    ghost use Rattle.zarrs_codec_chain.specs.PartialDecoder.{chunk_reader, decoder_held, form_of, handle_of, is_cached};
 
-    ghost reader = { λ decoder. chunk_reader B.functions (form_of decoder) (H.state (handle_of decoder)).value ((chain_reads B.reads_in_part (form_of decoder).chain).partial_decode && H.reads_ranges) };
+    ghost reader = { λ decoder. chunk_reader B.functions (form_of decoder) (is_cached decoder) (H.state (handle_of decoder)).sure (H.state (handle_of decoder)).value ((chain_reads B.reads_in_part (form_of decoder).chain).partial_decode && H.reads_ranges) };
 
     ghost state = { λ decoder. H.state (handle_of decoder) };
 
@@ -149,7 +153,7 @@ impl<'a, H: BytesPartialDecoderTraits, B: BytesToBytesCodecTraits> ArrayPartialD
 
     ghost use Rattle.zarrs_codec_chain.specs.CountLaws.{chunk_counts};
 
-    ghost counts = { λ decoder. chunk_counts B.functions (form_of decoder) (H.state (handle_of decoder)).value ((chain_reads B.reads_in_part (form_of decoder).chain).partial_decode && H.reads_ranges) };
+    ghost counts = { λ decoder. chunk_counts B.functions (form_of decoder) (is_cached decoder) (H.state (handle_of decoder)).sure (H.state (handle_of decoder)).value ((chain_reads B.reads_in_part (form_of decoder).chain).partial_decode && H.reads_ranges) };
 
     fn data_type(&self) -> &DataType {
         ArrayPartialDecoder::data_type(self)

@@ -1,7 +1,7 @@
 //! The ranges of bytes that a read asks for, where it asks for the bytes of its places alone.
 ghost use Rattle.std.specs.Prelude.{◌≡◌, ◌<◌, All, IfOk, IfSome, option_map, true};
 ghost use Rattle.zarrs_chunk.specs.Answer.{Gives};
-ghost use Rattle.zarrs_chunk.specs.Runs.{places_in};
+ghost use Rattle.zarrs_chunk.specs.Runs.{AreApart, places_in};
 ghost use Rattle.zarrs_chunk.specs.Tuples.{is_box_inside};
 ghost use Rattle.zarrs_chain_whole.specs.ChainView.{plain_chain};
 ghost use Rattle.zarrs_codec_chain.specs.ChunkRead.{chain_reads_places};
@@ -29,6 +29,7 @@ impl<'a, B: BytesToBytesCodecTraits> ChunkCoder<'a, B> {
         ensures places { GivesStanding self.now region.now result }
         ensures filled { IfOk result (λ runs. All (λ run. 0 < run.1) runs.items) }
         ensures inside { IfOk result (λ runs. AreInside self.now runs.items) }
+        ensures apart { IfOk result (λ runs. AreApart runs.items) }
     {
         self.is_sound();
         let codecs = self.chain.array_to_array_codecs();
@@ -54,6 +55,7 @@ impl<'a, B: BytesToBytesCodecTraits> ChunkCoder<'a, B> {
         ensures answer { Gives places_in result (reader_ordered self.now indexer.now) }
         ensures filled { IfOk result (λ runs. All (λ run. 0 < run.1) runs.items) }
         ensures inside { IfOk result (λ runs. AreInside self.now runs.items) }
+        ensures apart { IfOk result (λ runs. AreApart runs.items) }
     {
         self.is_sound();
         match self.planned_region(indexer) {

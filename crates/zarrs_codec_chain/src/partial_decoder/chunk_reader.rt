@@ -4,7 +4,7 @@ ghost use Rattle.zarrs_chunk.specs.Answer.{Gives, GivesItems};
 ghost use Rattle.zarrs_chunk.specs.ChunkShape.{product};
 ghost use Rattle.zarrs_chunk.specs.Runs.{joined_runs, AreApart, places_in};
 ghost use Rattle.zarrs_chunk.specs.Tuples.{is_box_inside};
-ghost use Rattle.zarrs_array_bytes.specs.Blank.{AbsentAreBlank};
+ghost use Rattle.zarrs_array_bytes.specs.Tight.{IsTight};
 ghost use Rattle.zarrs_codec.specs.HandleCalls.{NeverFailsIf, Tells};
 ghost use Rattle.zarrs_codec.specs.StorageState.{after_reading};
 ghost use Rattle.zarrs_codec_chain.specs.ChunkRead.{form_decodes_parts};
@@ -23,7 +23,7 @@ use zarrs_chunk::{ArraySubset, CodecError, Indexer};
 use zarrs_codec::{BytesPartialDecoderTraits, BytesToBytesCodecTraits, CodecTraits};
 
 impl<'a, B: BytesToBytesCodecTraits> ChunkCoder<'a, B> {
-    ghost use Rattle.zarrs_codec_chain.specs.ChunkCoder.{IsFilledFrom, coder_form, coder_is_cached, IsKeptRegion, reader_region, AreInside, ReaderReads, ReadsIndexer, ReadsRegion, RefusedAtIndexer, SureIndexer, SureRegion, IsInPlace, coder_keeps_regions, reader_places, reader_stores};
+    ghost use Rattle.zarrs_codec_chain.specs.ChunkCoder.{IsFilledFrom, coder_form, coder_is_cached, IsKeptRegion, reader_region, AreInside, AsksOnce, LeavesAlone, ReaderReads, ReadsIndexer, ReadsRegion, RefusedAtIndexer, SureIndexer, SureRegion, IsInPlace, coder_keeps_regions, reader_places, reader_stores};
 
     /// Whether all codecs of the chain decode a part.
     pub(crate) fn decodes_parts(&self) -> bool
@@ -91,8 +91,10 @@ impl<'a, B: BytesToBytesCodecTraits> ChunkCoder<'a, B> {
         requires filled { 0 < product region.now.lengths }
         requires region_kept { coder_keeps_regions self.now ≡ true }
         ensures answer { ReadsRegion B.functions self.now (H.state handle.old) region.now result }
-        ensures blank { IfOk result (AbsentAreBlank self.now.data_type) }
+        ensures tight { IfOk result (IsTight self.now.data_type) }
         ensures sure { SureRegion B.functions self.now (H.state handle.old) region.now result }
+        ensures alone { LeavesAlone self.now handle.old handle.new }
+        ensures counted { AsksOnce H.calls self.now handle.old handle.new result }
         ensures left { H.state handle.new ≡ after_reading result (H.state handle.old) }
         ensures same_reference { H.lent handle.new ≡ H.lent handle.old }
         ensures no_fault_if_cached { NeverFailsIf (is_kept self.now.cache) result }
@@ -138,9 +140,10 @@ impl<'a, B: BytesToBytesCodecTraits> ChunkCoder<'a, B> {
         requires writes_in_place { IsInPlace self.now codec.now }
         requires uncached { self.now.cache ≡ Cache.Handle }
         ensures answer { ReadsIndexer B.functions self.now (H.state handle.old) indexer.now result }
-        ensures blank { IfOk result (AbsentAreBlank self.now.data_type) }
+        ensures tight { IfOk result (IsTight self.now.data_type) }
         ensures indexer_first { RefusedAtIndexer self.now indexer.now result }
         ensures sure { SureIndexer B.functions self.now (H.state handle.old) indexer.now result }
+        ensures counted { AsksOnce H.calls self.now handle.old handle.new result }
         ensures left { H.state handle.new ≡ after_reading result (H.state handle.old) }
         ensures same_reference { H.lent handle.new ≡ H.lent handle.old }
     {
@@ -159,9 +162,11 @@ impl<'a, B: BytesToBytesCodecTraits> ChunkCoder<'a, B> {
         indexer: &Indexer,
     ) -> Result<ArrayBytes<'static>, CodecError>
         ensures answer { ReadsIndexer B.functions self.now (H.state handle.old) indexer.now result }
-        ensures blank { IfOk result (AbsentAreBlank self.now.data_type) }
+        ensures tight { IfOk result (IsTight self.now.data_type) }
         ensures indexer_first { RefusedAtIndexer self.now indexer.now result }
         ensures sure { SureIndexer B.functions self.now (H.state handle.old) indexer.now result }
+        ensures alone { LeavesAlone self.now handle.old handle.new }
+        ensures counted { AsksOnce H.calls self.now handle.old handle.new result }
         ensures left { H.state handle.new ≡ after_reading result (H.state handle.old) }
         ensures same_reference { H.lent handle.new ≡ H.lent handle.old }
         ensures no_fault_if_cached { NeverFailsIf (is_kept self.now.cache) result }
@@ -187,8 +192,10 @@ impl<'a, B: BytesToBytesCodecTraits> ChunkCoder<'a, B> {
     ) -> Result<ArrayBytes<'static>, CodecError>
         requires cache_filled { IsFilledFrom B.functions self.now (H.state handle.old).value }
         ensures reads { ReaderReads B.functions self.now (H.state handle.old) indexer.now result }
-        ensures blank { IfOk result (AbsentAreBlank self.now.data_type) }
+        ensures tight { IfOk result (IsTight self.now.data_type) }
         ensures no_fault_if_cached { NeverFailsIf (coder_is_cached self.now) result }
+        ensures alone { LeavesAlone self.now handle.old handle.new }
+        ensures counted { AsksOnce H.calls self.now handle.old handle.new result }
         ensures left { H.state handle.new ≡ after_reading result (H.state handle.old) }
         ensures same_reference { H.lent handle.new ≡ H.lent handle.old }
     {
@@ -203,6 +210,7 @@ impl<'a, B: BytesToBytesCodecTraits> ChunkCoder<'a, B> {
     ) -> Result<bool, CodecError>
         ensures answer { Tells result (reader_stores self.now (H.state handle.old).value) }
         ensures sure { NeverFailsIf (is_some (H.state handle.old).sure) result }
+        ensures alone { LeavesAlone self.now handle.old handle.new }
         ensures left { H.state handle.new ≡ after_reading result (H.state handle.old) }
         ensures same_reference { H.lent handle.new ≡ H.lent handle.old }
         ensures no_fault_if_cached { NeverFailsIf (is_kept self.now.cache) result }

@@ -2,8 +2,8 @@
 ghost use Rattle.zarrs_data_type.specs.Form.{form_of};
 ghost use Rattle.std.specs.Prelude.{◌≡◌, ◌<◌, ◌≤◌, ◌+◌, ◌^◌, IfOk, All, length, option_map, true};
 ghost use Rattle.zarrs_chunk.specs.ChunkShape.{product};
-ghost use Rattle.zarrs_chunk.specs.Runs.{joined_runs};
-ghost use Rattle.zarrs_array_bytes.specs.Blank.{AbsentAreBlank};
+ghost use Rattle.zarrs_chunk.specs.Runs.{joined_runs, AreApart};
+ghost use Rattle.zarrs_array_bytes.specs.Tight.{IsTight};
 ghost use Rattle.zarrs_codec.specs.StorageState.{after_reading};
 ghost use Rattle.zarrs_chain_laws.specs.Chain.{codec_reads as codec_reads_of};
 ghost use Rattle.zarrs_chain_whole.specs.ChainView.{plain_chain, plain_codec};
@@ -41,7 +41,7 @@ pub(crate) fn read_runs<H: BytesPartialDecoderTraits, B: BytesToBytesCodecTraits
     // Wide: three parameters of a form, beside the codec, the handle and the runs.
     ensures answer { ReadsRuns B.functions (plain_codec codec.now)
         (form_of shape.now kind.now fill.now) (H.state handle.old) runs.now result }
-    ensures blank { IfOk result (AbsentAreBlank kind.now) }
+    ensures tight { IfOk result (IsTight kind.now) }
     ensures sure { SureRead codec.now shape.now kind.now fill.now (H.state handle.old) runs.now result }
     ensures left { H.state handle.new ≡ after_reading result (H.state handle.old) }
     ensures same_reference { H.lent handle.new ≡ H.lent handle.old }
@@ -77,7 +77,7 @@ pub(crate) fn read_runs_of_bytes<B: BytesToBytesCodecTraits>(
     ensures answer { GivesRuns B.functions (plain_codec codec.now)
         (form_of shape.now data_type.now fill_value.now)
         (option_map (λ items. items.now) bytes.entry) runs.now result }
-    ensures blank { IfOk result (AbsentAreBlank data_type.now) }
+    ensures tight { IfOk result (IsTight data_type.now) }
 {
     let mut lent = LentHandle::new(bytes);
     read_runs::<LentHandle<'_>, B>(alloc, codec, &mut lent, shape, data_type, fill_value, runs)
@@ -132,6 +132,7 @@ pub(crate) fn planned_runs<B: BytesToBytesCodecTraits>(
     requires plans { codec_plans (plain_codec codec.now) ≡ true }
     requires filled { All (λ run. 0 < run.1) runs.now }
     requires below { All (λ run. run.0 + run.1 ≤ product shape.now) runs.now }
+    requires apart { AreApart runs.now }
     ensures plan { PlansRuns codec.now shape.now data_type.now fill_value.now runs.now result }
     ensures filled { IfOk result (λ ranges. All (λ range. range.start < range.end) ranges.items) }
 {

@@ -3,12 +3,12 @@ ghost use Rattle.zarrs_data_type.specs.Form.{form_of};
 ghost use Rattle.std.specs.Prelude.{◌≡◌, ◌≤◌, ℕ, IfOk, Ok, Some, length, map, true, false};
 ghost use Rattle.zarrs_chunk.specs.Answer.{is_fault, GivesItems};
 ghost use Rattle.zarrs_array_bytes.specs.Held.{items_of};
-ghost use Rattle.zarrs_array_bytes.specs.Blank.{AbsentAreBlank};
+ghost use Rattle.zarrs_array_bytes.specs.Tight.{IsTight};
 ghost use Rattle.zarrs_codec.specs.StorageState.{after_reading};
 ghost use Rattle.zarrs_chain_laws.specs.Chain.{codec_reads as codec_reads_of};
 ghost use Rattle.zarrs_chain_whole.specs.ChainView.{plain_chain};
-ghost use Rattle.zarrs_codec_chain.specs.ChunkSource.{bytes_left, cache_stage as cache_stage_of, has_cache, is_kept, kept_stage, stage_by, is_stage_of, OpensChunk, FillsCache, GivesCacheOf, OpensBytes};
-ghost use Rattle.zarrs_codec_chain.specs.CacheBlank.{CacheIsBlank};
+ghost use Rattle.zarrs_codec_chain.specs.ChunkSource.{bytes_left, cache_stage as cache_stage_of, has_cache, is_kept, kept_stage, stage_by, is_stage_of, OpensChunk, FillsByReads, FillsCache, GivesCacheOf, OpensBytes};
+ghost use Rattle.zarrs_codec_chain.specs.CacheTight.{CacheIsTight};
 ghost use Rattle.zarrs_codec_chain.specs.CodecRead.{CodecTakes};
 
 use crate::partial_decoder::cache::{Cache, CacheStage};
@@ -124,7 +124,7 @@ pub(crate) fn chunk_below<B: BytesToBytesCodecTraits>(
     // Wide: three parameters of a form, beside the chain, its representation and the value.
     ensures answer { OpensChunk B.functions (plain_chain chain.now)
         (form_of encoded.now data_type.now fill_value.now) representation.now value.items result }
-    ensures blank { IfOk result (AbsentAreBlank data_type.now) }
+    ensures tight { IfOk result (IsTight data_type.now) }
 {
     let bytes = decode_bytes(
         alloc,
@@ -161,10 +161,11 @@ pub(crate) fn make_cache<H: BytesPartialDecoderTraits, B: BytesToBytesCodecTrait
     ensures answer { FillsCache B.functions (plain_chain chain.now) representation stage
         (form_of encoded.now data_type.now fill_value.now) (H.state handle.old).value result }
     ensures fits { GivesCacheOf chain.now encoded.now data_type.now result }
-    ensures blank { IfOk result (CacheIsBlank data_type.now) }
+    ensures tight { IfOk result (CacheIsTight data_type.now) }
     ensures stage { IfOk result (λ cache. kept_stage cache ≡ stage) }
     ensures left { H.state handle.new ≡ after_reading result (H.state handle.old) }
     ensures same_reference { H.lent handle.new ≡ H.lent handle.old }
+    ensures counted { FillsByReads H.calls handle.old handle.new result }
     ensures cached { IfOk result (λ cache. is_kept cache ≡ has_cache stage) }
     ensures no_fault_if_uncached { stage ≡ CacheStage.Nowhere → is_fault result ≡ false }
 {

@@ -1,8 +1,9 @@
 //! Where the answer to a read in part comes from: the handle, bytes that are kept, or a chunk that is.
 ghost use Rattle.std.specs.Prelude.{◌≡◌, ◌<◌, ◌≤◌, ◌^◌, All, IfOk, length, option_map, true, false};
 ghost use Rattle.zarrs_chunk.specs.Runs.{joined_runs};
-ghost use Rattle.zarrs_array_bytes.specs.Blank.{AbsentAreBlank};
+ghost use Rattle.zarrs_array_bytes.specs.Tight.{IsTight};
 ghost use Rattle.zarrs_array_bytes.specs.Held.{items_of};
+ghost use Rattle.zarrs_codec.specs.Calls.{MakesReads};
 ghost use Rattle.zarrs_codec.specs.HandleCalls.{NeverFailsIf};
 ghost use Rattle.zarrs_codec.specs.StorageState.{after_reading};
 ghost use Rattle.zarrs_chain_whole.specs.ChainView.{plain_chain};
@@ -22,7 +23,7 @@ use zarrs_chunk::CodecError;
 use zarrs_codec::{BytesPartialDecoderTraits, BytesToBytesCodecTraits};
 
 impl<'a, B: BytesToBytesCodecTraits> ChunkCoder<'a, B> {
-    ghost use Rattle.zarrs_codec_chain.specs.ChunkCoder.{reader_reads_parts, GivesOpened, SureSource, is_coder_cache, AreInside, BlankAsKept, GivesAbove, GivesKept, ReadsCached, ReadsStored};
+    ghost use Rattle.zarrs_codec_chain.specs.ChunkCoder.{reader_reads_parts, AsksOnce, AsksStoredOnce, GivesOpened, SureSource, is_coder_cache, AreInside, TightAsKept, LeavesAlone, GivesAbove, GivesKept, ReadsCached, ReadsStored};
 
     /// The elements at the places of these runs, by the bytes above so many of the first bytes
     /// codecs, or by none. Refusals, the first that holds, `OutOfMemory` aside: `BytesCodec` of the
@@ -41,7 +42,7 @@ impl<'a, B: BytesToBytesCodecTraits> ChunkCoder<'a, B> {
         requires inside { AreInside self.now runs.now }
         requires count { length (joined_runs runs.now) < 2 ^ 64 }
         ensures answer { GivesAbove B.functions self.now below value.entry runs.now result }
-        ensures blank { IfOk result (AbsentAreBlank self.now.data_type) }
+        ensures tight { IfOk result (IsTight self.now.data_type) }
     {
         match value {
             None => read_runs_of_bytes::<B>(
@@ -82,8 +83,9 @@ impl<'a, B: BytesToBytesCodecTraits> ChunkCoder<'a, B> {
         requires inside { AreInside self.now runs.now }
         requires count { length (joined_runs runs.now) < 2 ^ 64 }
         ensures answer { ReadsStored B.functions self.now (H.state handle.old) runs.now result }
-        ensures blank { IfOk result (AbsentAreBlank self.now.data_type) }
+        ensures tight { IfOk result (IsTight self.now.data_type) }
         ensures sure { SureSource self.now (H.state handle.old) runs.now result }
+        ensures counted { AsksStoredOnce H.calls self.now handle.old handle.new result }
         ensures left { H.state handle.new ≡ after_reading result (H.state handle.old) }
         ensures same_reference { H.lent handle.new ≡ H.lent handle.old }
     {
@@ -117,7 +119,8 @@ impl<'a, B: BytesToBytesCodecTraits> ChunkCoder<'a, B> {
         requires inside { AreInside self.now runs.now }
         requires count { length (joined_runs runs.now) < 2 ^ 64 }
         ensures answer { ReadsStored B.functions self.now (H.state handle.old) runs.now result }
-        ensures blank { IfOk result (AbsentAreBlank self.now.data_type) }
+        ensures tight { IfOk result (IsTight self.now.data_type) }
+        ensures counted { MakesReads H.calls 1 handle.old handle.new result }
         ensures left { H.state handle.new ≡ after_reading result (H.state handle.old) }
         ensures same_reference { H.lent handle.new ≡ H.lent handle.old }
     {
@@ -136,7 +139,7 @@ impl<'a, B: BytesToBytesCodecTraits> ChunkCoder<'a, B> {
     ) -> Result<ArrayBytes<'static>, CodecError>
         requires inside { AreInside self.now runs.now }
         ensures answer { GivesOpened B.functions self.now value.items runs.now result }
-        ensures blank { IfOk result (AbsentAreBlank self.now.data_type) }
+        ensures tight { IfOk result (IsTight self.now.data_type) }
     {
         let held = chunk_of_value(
             alloc,
@@ -162,7 +165,7 @@ impl<'a, B: BytesToBytesCodecTraits> ChunkCoder<'a, B> {
         requires inside { AreInside self.now runs.now }
         requires count { length (joined_runs runs.now) < 2 ^ 64 }
         ensures answer { GivesKept B.functions self.now chunk.now runs.now result }
-        ensures blank { BlankAsKept self.now chunk.now result }
+        ensures tight { TightAsKept self.now chunk.now result }
     {
         match chunk {
             None => fill_runs(alloc, &self.data_type, &self.fill_value, runs),
@@ -184,8 +187,10 @@ impl<'a, B: BytesToBytesCodecTraits> ChunkCoder<'a, B> {
         requires inside { AreInside self.now runs.now }
         requires count { length (joined_runs runs.now) < 2 ^ 64 }
         ensures answer { ReadsCached B.functions self.now (H.state handle.old) runs.now result }
-        ensures blank { IfOk result (AbsentAreBlank self.now.data_type) }
+        ensures tight { IfOk result (IsTight self.now.data_type) }
         ensures sure { SureSource self.now (H.state handle.old) runs.now result }
+        ensures alone { LeavesAlone self.now handle.old handle.new }
+        ensures counted { AsksOnce H.calls self.now handle.old handle.new result }
         ensures left { H.state handle.new ≡ after_reading result (H.state handle.old) }
         ensures same_reference { H.lent handle.new ≡ H.lent handle.old }
         ensures no_fault_if_cached { NeverFailsIf (is_kept self.now.cache) result }

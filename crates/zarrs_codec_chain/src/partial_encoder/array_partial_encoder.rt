@@ -1,7 +1,7 @@
 ghost use Rattle.zarrs_codec_chain.specs.ChunkCoder.{coder_is_cached};
 ghost use Rattle.std.specs.Prelude.{◌≡◌, ◌<◌, ◌&&◌, All, Ok, IfOk, None, is_some, false};
 ghost use Rattle.zarrs_chunk.specs.Answer.{Answers, fault};
-ghost use Rattle.zarrs_array_bytes.specs.Blank.{AbsentAreBlank};
+ghost use Rattle.zarrs_array_bytes.specs.Tight.{IsTight};
 ghost use Rattle.zarrs_codec.specs.BytesToBytesCodec.{AreBytes};
 ghost use Rattle.zarrs_codec.specs.HandleCalls.{NeverFailsIf, Tells};
 ghost use Rattle.zarrs_chain_laws.specs.Chain.{chain_reads, chain_writes};
@@ -36,7 +36,7 @@ pub struct ArrayPartialEncoder<'a, H: BytesPartialEncoderTraits, B: BytesToBytes
 
 impl<'a, H: BytesPartialEncoderTraits, B: BytesToBytesCodecTraits> ArrayPartialEncoder<'a, H, B> {
     ghost use Rattle.zarrs_codec_chain.specs.PartialDecoder.{form_of, handle_of, is_cached};
-    ghost use Rattle.zarrs_codec_chain.specs.PartialEncoder.{encoder_form, encoder_handle, encoder_value, EncoderReads, EncoderWrites, EncoderWritesOnce, EncoderGives, EncoderLeaves, EncoderPlans, decodes_in_part, encodes_in_part};
+    ghost use Rattle.zarrs_codec_chain.specs.PartialEncoder.{encoder_form, encoder_handle, encoder_value, EncoderReads, EncoderWrites, EncoderWritesOnce, EncoderGives, EncoderLeaves, EncoderAsksOnce, EncoderCounts, EncoderPlans, EncoderReadsNothing, decodes_in_part, encodes_in_part};
 
     /// What the chain, the shape and the fill value are made of holds.
     pub(crate) fn is_sound(&self)
@@ -58,7 +58,8 @@ impl<'a, H: BytesPartialEncoderTraits, B: BytesToBytesCodecTraits> ArrayPartialE
     /// The elements that the indexer means, in its order: those of the chunk that the stored value
     /// stands for, and the fill value at each place where nothing is stored. Without bytes codecs, over
     /// `bytes` and `packbits`, the answer rests on the places' bytes alone, and over a plain `vlen` on
-    /// the value's length, the offsets and the elements' bytes, whatever else is stored. Absent elements
+    /// the value's length, the offsets and the elements' bytes, whatever else is stored. In what is given
+    /// offsets begin at 0 and end at the length of the bytes, mask bytes are 0 and 1, and absent elements
     /// stand over blank ones.
     ///
     /// Refusals, the first that holds, `OutOfMemory` aside: those of `Indexer::check`; `Storage`, but
@@ -78,7 +79,8 @@ impl<'a, H: BytesPartialEncoderTraits, B: BytesToBytesCodecTraits> ArrayPartialE
         indexer: &Indexer,
     ) -> Result<ArrayBytes<'static>, CodecError>
         ensures reads { EncoderGives H.state self.old indexer.now result }
-        ensures blank { IfOk result (AbsentAreBlank (encoder_form self.old).type) }
+        ensures tight { IfOk result (IsTight (encoder_form self.old).type) }
+        ensures counted { EncoderAsksOnce H.calls self.old self.new result }
         ensures left { EncoderReads H.state H.lent self.old self.new result }
     {
         self.coder.read_chunk(alloc, &mut self.handle, indexer)
@@ -128,8 +130,8 @@ impl<'a, H: BytesPartialEncoderTraits, B: BytesToBytesCodecTraits> ArrayPartialE
     /// twice, the last one stands. The value afterwards is the one that is written for the chunk with
     /// these elements, which begins as the chunk that the stored value stands for, or as fill values
     /// where nothing is stored; that one is written whole, for an indexer without places too. Over
-    /// `bytes` without bytes codecs every stored value is accepted: the places' bytes alone are
-    /// replaced, and it grows with zeros up to the furthest place.
+    /// `bytes` without bytes codecs every stored value is accepted and none of it is read: the places'
+    /// bytes alone are replaced, and it grows with zeros up to the furthest place.
     ///
     /// Refusals, the first that holds, `OutOfMemory` aside: those of `Indexer::check`; level by
     /// level `ArrayBytesKind` or `DataMismatch` of the new elements; then, once the handle is
@@ -147,9 +149,9 @@ impl<'a, H: BytesPartialEncoderTraits, B: BytesToBytesCodecTraits> ArrayPartialE
     ///   `vlen` `OffsetTooLarge`, those of the index chain, `OffsetNotKept`, those of the data
     ///   chain; of `optional` those of the mask chain, those of the data chain.
     ///
-    /// One that is accepted makes exactly one writing call of the handle. One that is refused makes
-    /// none, or the one that refused it, and leaves the value as it was, but where that call is refused
-    /// and the handle isn't atomic.
+    /// One that is accepted makes exactly one reading and one writing call of the handle. One that is
+    /// refused makes no writing call, or the one that refused it, and leaves the value as it was, but
+    /// where that call is refused and the handle isn't atomic.
     pub fn partial_encode(
         &mut self,
         alloc: Global,
@@ -157,6 +159,8 @@ impl<'a, H: BytesPartialEncoderTraits, B: BytesToBytesCodecTraits> ArrayPartialE
         elements: &ArrayBytes<'_>,
     ) -> Result<(), CodecError>
         ensures edits { EncoderLeaves H.state self.old self.new indexer.now elements.now result }
+        ensures unread { EncoderReadsNothing H.state self.old self.new result }
+        ensures counted { EncoderCounts H.calls H.state self.old self.new indexer.now result }
         ensures left { EncoderWrites H.state H.lent H.atomic self.old self.new result }
     {
         self.coder.is_sound();
@@ -205,9 +209,9 @@ impl<'a, H: BytesPartialEncoderTraits, B: BytesToBytesCodecTraits> ArrayPartialD
     ghost use Rattle.zarrs_codec_chain.specs.PartialDecoder.{chunk_reader};
     ghost use Rattle.zarrs_codec_chain.specs.PartialEncoder.{encoder_form, encoder_handle};
 
-    ghost reader = { λ encoder. chunk_reader B.functions (encoder_form encoder) (H.state (encoder_handle encoder)).value ((chain_reads B.reads_in_part (encoder_form encoder).chain).partial_decode && H.reads_ranges) };
+    ghost reader = { λ encoder. chunk_reader B.functions (encoder_form encoder) false (H.state (encoder_handle encoder)).sure (H.state (encoder_handle encoder)).value ((chain_reads B.reads_in_part (encoder_form encoder).chain).partial_decode && H.reads_ranges) };
 
-    ghost writer = { λ encoder. chunk_writer B.functions (encoder_form encoder) ((chain_reads B.reads_in_part (encoder_form encoder).chain).partial_decode && H.reads_ranges) };
+    ghost writer = { λ encoder. chunk_writer B.functions (encoder_form encoder) (H.state (encoder_handle encoder)).sure ((chain_reads B.reads_in_part (encoder_form encoder).chain).partial_decode && H.reads_ranges) };
 
     ghost state = { λ encoder. H.state (encoder_handle encoder) };
 
@@ -217,7 +221,7 @@ impl<'a, H: BytesPartialEncoderTraits, B: BytesToBytesCodecTraits> ArrayPartialD
 
     ghost use Rattle.zarrs_codec_chain.specs.CountLaws.{chunk_counts};
 
-    ghost counts = { λ encoder. chunk_counts B.functions (encoder_form encoder) (H.state (encoder_handle encoder)).value ((chain_reads B.reads_in_part (encoder_form encoder).chain).partial_decode && H.reads_ranges) };
+    ghost counts = { λ encoder. chunk_counts B.functions (encoder_form encoder) false (H.state (encoder_handle encoder)).sure (H.state (encoder_handle encoder)).value ((chain_reads B.reads_in_part (encoder_form encoder).chain).partial_decode && H.reads_ranges) };
 
     fn data_type(&self) -> &DataType {
         ArrayPartialEncoder::data_type(self)
@@ -259,7 +263,7 @@ impl<'a, H: BytesPartialEncoderTraits, B: BytesToBytesCodecTraits> ArrayPartialE
     ghost use Rattle.zarrs_codec_chain.specs.ChunkWrite.{stored_written};
     ghost use Rattle.zarrs_codec_chain.specs.PartialDecoder.{chunk_reader};
 
-    ghost checks_data = { λ encoder. checks_of_data (chunk_reader B.functions (encoder_form encoder) (H.state (encoder_handle encoder)).value ((chain_reads B.reads_in_part (encoder_form encoder).chain).partial_decode && H.reads_ranges)) (λ stored. chunk_reader B.functions (encoder_form encoder) stored ((chain_reads B.reads_in_part (encoder_form encoder).chain).partial_decode && H.reads_ranges)) (stored_written B.functions (encoder_form encoder)) };
+    ghost checks_data = { λ encoder. checks_of_data (chunk_reader B.functions (encoder_form encoder) false (H.state (encoder_handle encoder)).sure (H.state (encoder_handle encoder)).value ((chain_reads B.reads_in_part (encoder_form encoder).chain).partial_decode && H.reads_ranges)) (λ stored. chunk_reader B.functions (encoder_form encoder) false (H.state (encoder_handle encoder)).sure stored ((chain_reads B.reads_in_part (encoder_form encoder).chain).partial_decode && H.reads_ranges)) (stored_written B.functions (encoder_form encoder)) };
 
     fn partial_encode(
         &mut self,

@@ -12,7 +12,7 @@ use zarrs_codec::{BytesPartialEncoderTraits, BytesToBytesCodecTraits, CodecTrait
 
 impl<'a, B: BytesToBytesCodecTraits> ChunkCoder<'a, B> {
     ghost use Rattle.zarrs_codec_chain.specs.ChunkCoder.{coder_form};
-    ghost use Rattle.zarrs_codec_chain.specs.ChunkWriter.{Writes};
+    ghost use Rattle.zarrs_codec_chain.specs.ChunkWriter.{CountsWriting, ReadsNothing, Writes};
 
     /// Writes new elements at the places that the indexer means. Refusals: those of
     /// `ArrayPartialEncoder::partial_encode`.
@@ -24,6 +24,10 @@ impl<'a, B: BytesToBytesCodecTraits> ChunkCoder<'a, B> {
         new: &ArrayBytes<'_>,
     ) -> Result<(), CodecError>
         ensures writes { Writes H.state self.now handle.old handle.new indexer.now new.now result }
+        ensures unread { ReadsNothing H.state self.now handle.old handle.new result }
+        // Wide: the record and the state of the handle before and after.
+        ensures counted { CountsWriting H.calls H.state self.now indexer.now
+            handle.old handle.new result }
         ensures left { HandleWrites H.state H.lent H.atomic handle.old handle.new result }
     {
         match codec_in_place(self.chain) {

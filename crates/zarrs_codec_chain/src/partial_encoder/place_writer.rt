@@ -3,12 +3,15 @@ ghost use Rattle.std.specs.Prelude.{◌≡◌, ◌<◌, IfOk, All, Some, true, f
 ghost use Rattle.zarrs_chunk.specs.Answer.{is_fault, seen, Gives};
 ghost use Rattle.zarrs_chunk.specs.ChunkShape.{product};
 ghost use Rattle.zarrs_chunk.specs.Indexer.{selection_of};
-ghost use Rattle.zarrs_chunk.specs.Runs.{EndWithin};
+ghost use Rattle.zarrs_chunk.specs.Runs.{AreApart, EndWithin};
 ghost use Rattle.zarrs_chunk.specs.Selection.{subset as subset_of};
 ghost use Rattle.zarrs_chunk.specs.Tuples.{is_box_inside};
 ghost use Rattle.zarrs_codec.specs.CodersOverHandles.{HandleWrites};
 ghost use Rattle.zarrs_codec_chain.specs.ChunkWrite.{FitsPlacesIn, FitsRuns, LendsData};
-ghost use Rattle.zarrs_codec_chain.specs.ChunkRead.{form_in_place};
+ghost use Rattle.zarrs_bytes.specs.PartialWrite.{FailsByWriting};
+ghost use Rattle.zarrs_chain_whole.specs.ChainView.{plain_chain};
+ghost use Rattle.zarrs_codec_chain.specs.ChunkCalls.{ReplacesPlaces, ReplacesSelected};
+ghost use Rattle.zarrs_codec_chain.specs.ChunkRead.{form_in_place, standing_places};
 
 use crate::chunk_coder::ChunkCoder;
 use crate::partial_encoder::whole_writer::check_data;
@@ -22,7 +25,7 @@ use zarrs_codec::{BytesPartialEncoderTraits, BytesToBytesCodecTraits};
 
 impl<'a, B: BytesToBytesCodecTraits> ChunkCoder<'a, B> {
     ghost use Rattle.zarrs_codec_chain.specs.ChunkCoder.{coder_form, coder_keeps_regions};
-    ghost use Rattle.zarrs_codec_chain.specs.ChunkWriter.{ChecksElements, GivesWrittenPlaces, region_check, SameEdit, WritesInPlace};
+    ghost use Rattle.zarrs_codec_chain.specs.ChunkWriter.{ArePlaced, ChecksElements, GivesWrittenPlaces, region_check, SameEdit, StandThere, WritesInPlace};
 
     /// Where new elements go in the chunk that the codec to bytes gets, as runs, where there is one for
     /// each place that the indexer means. Refusals, the first that holds, `OutOfMemory` aside: those of
@@ -37,6 +40,8 @@ impl<'a, B: BytesToBytesCodecTraits> ChunkCoder<'a, B> {
         ensures checked { ChecksElements self.now indexer.now elements.now result }
         ensures filled { IfOk result (λ runs. All (λ run. 0 < run.1) runs.items) }
         ensures inside { IfOk result (λ runs. EndWithin (product self.now.encoded) runs.items) }
+        ensures apart { IfOk result (λ runs. AreApart runs.items) }
+        ensures places { IfOk result (ArePlaced self.now indexer.now) }
         ensures fit { IfOk result (FitsPlacesIn (coder_form self.now).type elements.now) }
     {
         let runs = self.runs(alloc, indexer)?;
@@ -83,6 +88,8 @@ impl<'a, B: BytesToBytesCodecTraits> ChunkCoder<'a, B> {
         ensures checked { Gives (λ _. tt) result (region_check self.now region.now elements.now) }
         ensures filled { IfOk result (λ there. All (λ run. 0 < run.1) there.0.items) }
         ensures inside { IfOk result (λ there. EndWithin (product self.now.encoded) there.0.items) }
+        ensures apart { IfOk result (λ there. AreApart there.0.items) }
+        ensures places { IfOk result (StandThere self.now region.now) }
         ensures fit { IfOk result
             (λ there. FitsRuns (coder_form self.now) there.0.items there.1) }
     {
@@ -118,6 +125,12 @@ impl<'a, B: BytesToBytesCodecTraits> ChunkCoder<'a, B> {
         // Wide: the handle before and after, the byte order, the region and the elements each count.
         ensures writes { WritesInPlace H.state self.now codec.now handle.old handle.new
             (subset_of region.now) elements.now result }
+        ensures unread { FailsByWriting H.state handle.old handle.new result }
+        // Wide: the record and the state of the handle before and after, and the places.
+        ensures counted { ReplacesPlaces H.calls H.state self.now.data_type
+            (standing_places (plain_chain self.now.chain.now).array_to_array
+            self.now.shape region.now)
+            handle.old handle.new result }
         ensures left { HandleWrites H.state H.lent H.atomic handle.old handle.new result }
     {
         let (runs, encoded) = self.encoded_region(alloc, codec, region, elements)?;
@@ -147,12 +160,16 @@ impl<'a, B: BytesToBytesCodecTraits> ChunkCoder<'a, B> {
         // Wide: the handle before and after, the byte order, the places and the elements each count.
         ensures writes { WritesInPlace H.state self.now codec.now handle.old handle.new
             (selection_of indexer.now) elements.now result }
+        ensures unread { FailsByWriting H.state handle.old handle.new result }
+        // Wide: the record and the state of the handle before and after.
+        ensures counted { ReplacesSelected H.calls H.state (coder_form self.now)
+            (selection_of indexer.now) handle.old handle.new result }
         ensures left { HandleWrites H.state H.lent H.atomic handle.old handle.new result }
     {
+        self.is_sound();
         if let Some(region) = self.kept_region(indexer) {
             return self.write_region(alloc, codec, handle, region, elements);
         }
-        self.is_sound();
         let runs = self.placed_runs(alloc, indexer, elements)?;
         codec.write_runs(
             alloc,

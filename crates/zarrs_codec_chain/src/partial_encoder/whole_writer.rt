@@ -1,19 +1,20 @@
 //! Writing a chunk in part by its whole value.
-ghost use Rattle.std.specs.Prelude.{◌≡◌, ◌<◌, ◌^◌, IfOk, false, length};
+ghost use Rattle.std.specs.Prelude.{◌≡◌, ◌<◌, ◌^◌, IfOk, OnErr, OnOk, false, length};
 ghost use Rattle.zarrs_chunk.specs.Answer.{is_fault};
 ghost use Rattle.zarrs_chunk.specs.ChunkShape.{product};
 ghost use Rattle.zarrs_chunk.specs.Runs.{joined_runs, EndWithin};
 ghost use Rattle.zarrs_array_bytes.specs.Validity.{data_fit};
+ghost use Rattle.zarrs_codec.specs.ArrayWriter.{LeftByRefusal};
+ghost use Rattle.zarrs_codec.specs.Calls.{MakesReads};
 ghost use Rattle.zarrs_codec.specs.CodersOverHandles.{HandleWrites};
-ghost use Rattle.zarrs_codec.specs.StorageState.{after_reading};
+ghost use Rattle.zarrs_codec.specs.StorageState.{after_reading, KeptIfAtomic, LeftByWriting};
 ghost use Rattle.zarrs_codec_chain.specs.ChunkWrite.{IsWhole, RunsInside, FitsRuns, FitsPlacesIn, GivesDataPlaces};
 
 use crate::chunk_coder::ChunkCoder;
-use crate::partial_decoder::fill_runs::count_places;
 use std::alloc::Global;
 use std::borrow::CowSlice;
 use zarrs_array_bytes::{ArrayBytes, ArrayBytesRaw, update_runs};
-use zarrs_chunk::{ChunkShape, CodecError, Indexer};
+use zarrs_chunk::{ChunkShape, CodecError, Indexer, count_places};
 use zarrs_codec::{BytesPartialDecoderTraits, BytesPartialEncoderTraits, BytesToBytesCodecTraits};
 use zarrs_data_type::DataType;
 
@@ -52,7 +53,7 @@ fn checked_runs(
 
 impl<'a, B: BytesToBytesCodecTraits> ChunkCoder<'a, B> {
     ghost use Rattle.zarrs_codec_chain.specs.ChunkCoder.{coder_form};
-    ghost use Rattle.zarrs_codec_chain.specs.ChunkWriter.{GivesEdited, ReadsNewValue, ReadsStart, Renews, WritesRuns};
+    ghost use Rattle.zarrs_codec_chain.specs.ChunkWriter.{CountsRenewal, GivesEdited, LeavesUnharmed, ReadsNewValue, ReadsStart, Renews, WritesRuns};
 
     /// The chunk that an edit starts from: the one that the stored value stands for, or one of fill
     /// values. Refusals: `Storage`; those of `CodecChain::decode`; `Overflow` where 64 bits don't count
@@ -63,6 +64,7 @@ impl<'a, B: BytesToBytesCodecTraits> ChunkCoder<'a, B> {
         handle: &mut H,
     ) -> Result<ArrayBytes<'static>, CodecError>
         ensures answer { ReadsStart H.state self.now handle.old result }
+        ensures counted { MakesReads H.calls 1 handle.old handle.new result }
         ensures left { H.state handle.new ≡ after_reading result (H.state handle.old) }
         ensures same_reference { H.lent handle.new ≡ H.lent handle.old }
     {
@@ -118,6 +120,7 @@ impl<'a, B: BytesToBytesCodecTraits> ChunkCoder<'a, B> {
         requires below { RunsInside (coder_form self.now) runs.now }
         requires fit { FitsRuns (coder_form self.now) runs.now elements.now }
         ensures answer { ReadsNewValue H.state self.now handle.old runs.now elements.now result }
+        ensures counted { MakesReads H.calls 1 handle.old handle.new result }
         ensures left { H.state handle.new ≡ after_reading result (H.state handle.old) }
         ensures same_reference { H.lent handle.new ≡ H.lent handle.old }
     {
@@ -137,7 +140,12 @@ impl<'a, B: BytesToBytesCodecTraits> ChunkCoder<'a, B> {
         requires below { RunsInside (coder_form self.now) runs.now }
         requires fit { FitsRuns (coder_form self.now) runs.now new.now }
         ensures answer { WritesRuns H.state self.now handle.old handle.new runs.now new.now result }
-        ensures left { HandleWrites H.state H.lent H.atomic handle.old handle.new result }
+        ensures counted { CountsRenewal H.calls H.state handle.old handle.new result }
+        ensures one_write { OnOk result (LeftByWriting H.state handle.old handle.new result) }
+        ensures refused { OnErr result (LeftByRefusal H.state handle.old handle.new result) }
+        ensures kept_if_atomic { KeptIfAtomic H.atomic H.state handle.old handle.new result }
+        ensures unharmed { LeavesUnharmed H.state handle.old handle.new result }
+        ensures same_reference { H.lent handle.new ≡ H.lent handle.old }
     {
         let value = self.new_value(alloc, handle, runs, new)?;
         handle.replace(alloc, value.as_slice())
@@ -153,6 +161,7 @@ impl<'a, B: BytesToBytesCodecTraits> ChunkCoder<'a, B> {
         new: &ArrayBytes<'_>,
     ) -> Result<(), CodecError>
         ensures writes { Renews H.state self.now handle.old handle.new indexer.now new.now result }
+        ensures counted { CountsRenewal H.calls H.state handle.old handle.new result }
         ensures left { HandleWrites H.state H.lent H.atomic handle.old handle.new result }
     {
         let runs = checked_runs(alloc, indexer, &self.shape, &self.data_type, new)?;

@@ -3,7 +3,7 @@ ghost use Rattle.std.specs.Prelude.{◌≡◌, ◌<◌, ◌^◌, ◌&&◌, IfOk,
 ghost use Rattle.zarrs_chunk.specs.ChunkShape.{product};
 ghost use Rattle.zarrs_chunk.specs.Indexer.{selection_of};
 ghost use Rattle.zarrs_data_type.specs.FillValue.{fill_fits};
-ghost use Rattle.zarrs_array_bytes.specs.Blank.{AbsentAreBlank};
+ghost use Rattle.zarrs_array_bytes.specs.Tight.{IsTight};
 ghost use Rattle.zarrs_codec.specs.HandleCalls.{NeverFailsIf, Tells};
 ghost use Rattle.zarrs_chain_laws.specs.Chain.{codec_reads};
 ghost use Rattle.zarrs_chain_whole.specs.ChainView.{plain_vlen};
@@ -120,7 +120,7 @@ impl<'a, H: BytesPartialDecoderTraits, B: BytesToBytesCodecTraits> VlenPartialDe
     fn read(&mut self, alloc: Global, indexer: &Indexer) -> Result<ArrayBytes<'static>, CodecError>
         ensures answer { VlenReads H.state B.functions self.old
             (selection_of indexer.now) result }
-        ensures blank { IfOk result (AbsentAreBlank (vlen_form_of self.old).type) }
+        ensures tight { IfOk result (IsTight (vlen_form_of self.old).type) }
         ensures indexer_first { VlenRefusedAtSelection self.old (selection_of indexer.now) result }
         ensures sure { SureVlen H.state self.old (selection_of indexer.now) result }
         ensures left { VlenLeaves H.state H.lent self.old self.new result }
@@ -151,7 +151,7 @@ impl<'a, H: BytesPartialDecoderTraits, B: BytesToBytesCodecTraits> VlenPartialDe
         indexer: &Indexer,
     ) -> Result<ArrayBytes<'static>, CodecError>
         ensures reads { VlenGives H.state B.functions self.old (selection_of indexer.now) result }
-        ensures blank { IfOk result (AbsentAreBlank (vlen_form_of self.old).type) }
+        ensures tight { IfOk result (IsTight (vlen_form_of self.old).type) }
         ensures left { VlenLeaves H.state H.lent self.old self.new result }
     {
         vlen_is_sound(self.codec);
@@ -203,7 +203,7 @@ impl<'a, H: BytesPartialDecoderTraits, B: BytesToBytesCodecTraits> ArrayPartialD
     for VlenPartialDecoder<'a, H, B> {
     ghost use Rattle.zarrs_codec_chain.specs.vlen.VlenPartialDecoder.{codec_reader, vlen_form_of, vlen_handle_of};
 
-    ghost reader = { λ decoder. codec_reader B.functions (vlen_form_of decoder) (H.state (vlen_handle_of decoder)).value ((codec_reads (vlen_form_of decoder).codec).partial_decode && H.reads_ranges) };
+    ghost reader = { λ decoder. codec_reader B.functions (vlen_form_of decoder) (H.state (vlen_handle_of decoder)).sure (H.state (vlen_handle_of decoder)).value ((codec_reads (vlen_form_of decoder).codec).partial_decode && H.reads_ranges) };
 
     ghost state = { λ decoder. H.state (vlen_handle_of decoder) };
 
@@ -213,7 +213,7 @@ impl<'a, H: BytesPartialDecoderTraits, B: BytesToBytesCodecTraits> ArrayPartialD
 
     ghost use Rattle.zarrs_codec_chain.specs.CountLaws.{codec_counts};
 
-    ghost counts = { λ decoder. codec_counts B.functions (vlen_form_of decoder) (H.state (vlen_handle_of decoder)).value ((codec_reads (vlen_form_of decoder).codec).partial_decode && H.reads_ranges) };
+    ghost counts = { λ decoder. codec_counts B.functions (vlen_form_of decoder) (H.state (vlen_handle_of decoder)).sure (H.state (vlen_handle_of decoder)).value ((codec_reads (vlen_form_of decoder).codec).partial_decode && H.reads_ranges) };
 
     fn data_type(&self) -> &DataType {
         VlenPartialDecoder::data_type(self)

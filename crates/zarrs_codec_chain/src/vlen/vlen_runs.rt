@@ -5,7 +5,7 @@ ghost use Rattle.zarrs_chunk.specs.ChunkShape.{product};
 ghost use Rattle.zarrs_chunk.specs.Runs.{joined_runs};
 ghost use Rattle.zarrs_data_type.specs.ElementType.{is_variable};
 ghost use Rattle.zarrs_data_type.specs.FillValue.{fill_fits};
-ghost use Rattle.zarrs_array_bytes.specs.Blank.{AbsentAreBlank};
+ghost use Rattle.zarrs_array_bytes.specs.Tight.{IsTight};
 ghost use Rattle.zarrs_array_bytes.specs.Validity.{validity};
 ghost use Rattle.zarrs_codec.specs.StorageState.{after_reading};
 ghost use Rattle.zarrs_codec_chain.specs.vlen.VlenRuns.{VlenTakes, GivesVlen, Picks, ReadsWhole, ReadsPlain, Fetches, SurePlain, ReadsVlenRuns, IsSure};
@@ -33,7 +33,7 @@ fn decoded<B: BytesToBytesCodecTraits>(
 ) -> Result<ArrayBytes<'static>, CodecError>
     requires taken { VlenTakes B.functions codec.now shape.now kind.now fill.now }
     ensures answer { GivesVlen B.functions codec.now value shape.now kind.now fill.now result }
-    ensures blank { IfOk result (AbsentAreBlank kind.now) }
+    ensures tight { IfOk result (IsTight kind.now) }
     ensures valid { IfOk result (λ held. validity kind.now (product shape.now) held ≡ Ok tt) }
 {
     vlen_decode(alloc, codec, CowSlice::Owned(value), shape, kind, fill)
@@ -56,7 +56,7 @@ fn runs_of_value<B: BytesToBytesCodecTraits>(
     requires inside { All (λ run. run.0 + run.1 ≤ product shape.now) runs.now }
     requires count { length (joined_runs runs.now) < 2 ^ 64 }
     ensures answer { Picks B.functions codec.now value shape.now kind.now fill.now runs.now result }
-    ensures blank { IfOk result (AbsentAreBlank kind.now) }
+    ensures tight { IfOk result (IsTight kind.now) }
 {
     match value {
         None => fill_runs(alloc, kind, fill, runs),
@@ -71,7 +71,6 @@ fn runs_of_value<B: BytesToBytesCodecTraits>(
 /// The elements at the places of these runs of a chunk of `count` elements of a plain `vlen`: those of
 /// the stored value, and the fill value at each place where nothing is stored. Refusals: those of
 /// `zarrs_plain_vlen::read_runs`.
-#[tactic(auto, using(zarrs_plain_vlen::proofs::VariableBlank::variable_blank))]
 fn read_or_fill<H: BytesPartialDecoderTraits>(
     alloc: Global,
     codec: PlainVlen,
@@ -86,7 +85,7 @@ fn read_or_fill<H: BytesPartialDecoderTraits>(
     requires inside { All (λ run. run.0 + run.1 ≤ count) runs.now }
     requires count { length (joined_runs runs.now) < 2 ^ 64 }
     ensures answer { ReadsPlain H.state codec handle.old count kind.now fill.now runs.now result }
-    ensures blank { IfOk result (AbsentAreBlank kind.now) }
+    ensures tight { IfOk result (IsTight kind.now) }
     ensures sure { SurePlain H.state codec handle.old count runs.now result }
     ensures left { H.state handle.new ≡ after_reading result (H.state handle.old) }
     ensures same_reference { H.lent handle.new ≡ H.lent handle.old }
@@ -113,7 +112,7 @@ fn plain_runs<H: BytesPartialDecoderTraits>(
     requires inside { All (λ run. run.0 + run.1 ≤ product shape.now) runs.now }
     requires count { length (joined_runs runs.now) < 2 ^ 64 }
     ensures answer { Fetches H.state codec handle.old shape.now kind.now fill.now runs.now result }
-    ensures blank { IfOk result (AbsentAreBlank kind.now) }
+    ensures tight { IfOk result (IsTight kind.now) }
     ensures sure { SurePlain H.state codec handle.old (product shape.now) runs.now result }
     ensures left { H.state handle.new ≡ after_reading result (H.state handle.old) }
     ensures same_reference { H.lent handle.new ≡ H.lent handle.old }
@@ -141,7 +140,7 @@ fn whole_runs<H: BytesPartialDecoderTraits, B: BytesToBytesCodecTraits>(
     // Wide: the codec, the handle, the chunk's sizes, type and fill value, the runs: each counts.
     ensures answer { ReadsWhole H.state B.functions codec.now handle.old
         shape.now kind.now fill.now runs.now result }
-    ensures blank { IfOk result (AbsentAreBlank kind.now) }
+    ensures tight { IfOk result (IsTight kind.now) }
     ensures left { H.state handle.new ≡ after_reading result (H.state handle.old) }
     ensures same_reference { H.lent handle.new ≡ H.lent handle.old }
 {
@@ -168,7 +167,7 @@ pub(crate) fn vlen_runs<H: BytesPartialDecoderTraits, B: BytesToBytesCodecTraits
     // Wide: the codec, the handle, the chunk's sizes, type and fill value, the runs: each counts.
     ensures answer { ReadsVlenRuns H.state B.functions codec.now handle.old
         shape.now kind.now fill.now runs.now result }
-    ensures blank { IfOk result (AbsentAreBlank kind.now) }
+    ensures tight { IfOk result (IsTight kind.now) }
     ensures sure { IsSure H.state codec.now handle.old shape.now kind.now fill.now runs.now result }
     ensures left { H.state handle.new ≡ after_reading result (H.state handle.old) }
     ensures same_reference { H.lent handle.new ≡ H.lent handle.old }

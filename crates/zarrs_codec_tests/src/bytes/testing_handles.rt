@@ -6,7 +6,7 @@ use crate::bytes::memory_reads::answers_value;
 use crate::bytes::parts::reads_part;
 use std::alloc::Global;
 use std::process::Abort;
-use zarrs_codec::testing::{FailingHandle, FencedHandle, TornHandle};
+use zarrs_codec::testing::{FailingHandle, FencedHandle, RecordingHandle, TornHandle};
 use zarrs_codec::{
     ByteRange, BytesPartialDecoderTraits, BytesPartialEncoderTraits, CodecError, StorageError,
 };
@@ -305,4 +305,44 @@ fn a_read_in_part_asks_for_the_bytes_of_its_places(rt: HostRuntime) -> Result<()
     )?;
     let asked = Asked::Ranges(&[1..3]);
     reads_part(&rt, "the last too", rt.alloc(), &mut decoder, asked, FENCED)
+}
+
+/// So many reading calls have succeeded, and these runs of bytes were replaced.
+fn has_record(
+    rt: &impl Abort,
+    name: &str,
+    handle: &RecordingHandle,
+    reads: u64,
+    replaced: &[(u64, u64)],
+) {
+    is(rt, name, &handle.reads(), &reads);
+    is(rt, name, &handle.replaced(), &replaced);
+}
+
+fn keeps_record(
+    rt: &impl Abort,
+    alloc: Global,
+    handle: &mut RecordingHandle,
+) -> Result<(), CodecError> {
+    has_record(rt, "new", handle, 0, &[]);
+    handle.partial_encode_many(alloc, &[(1, 2), (4, 1)], &[9, 8, 7])?;
+    has_record(rt, "pieces", handle, 0, &[(1, 2), (4, 1)]);
+    is(rt, "exists", &handle.exists()?, &true);
+    is(rt, "size", &handle.size()?, &Some(5));
+    has_record(rt, "two reads", handle, 2, &[(1, 2), (4, 1)]);
+    handle.replace(alloc, &[6, 6])?;
+    has_record(rt, "replaced", handle, 2, &[(1, 2), (4, 1), (0, 2)]);
+    is(rt, "value", &handle.value(), &Some([6, 6].as_slice()));
+    handle.erase()?;
+    has_record(rt, "erased", handle, 2, &[(1, 2), (4, 1), (0, 2)]);
+    is(rt, "writing calls", &handle.write_calls(), &3);
+    is(rt, "accepted", &handle.accepted_writes(), &3);
+    is(rt, "no value", &handle.value(), &None);
+    Ok(())
+}
+
+#[test]
+fn a_recording_handle_keeps_a_record(rt: HostRuntime) -> Result<(), CodecError> {
+    let mut handle = RecordingHandle::new(rt.alloc(), Some(FIVE.to_vec(rt.alloc())?));
+    keeps_record(&rt, rt.alloc(), &mut handle)
 }

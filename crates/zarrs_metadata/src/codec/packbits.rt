@@ -1,7 +1,8 @@
+//! Settings of the codec `packbits`.
 ghost use Rattle.std.specs.Prelude.{◌≡◌};
 
 /// Where the padding byte of codec `packbits` stands (zarr-extensions, its key `padding_encoding`).
-/// The byte says how many bits of the last packed byte hold nothing.
+/// The byte is how many bits of the last packed byte hold nothing.
 #[derive(Clone, Copy, Debug, PartialEq, Eq)]
 pub enum PackBitsPaddingEncoding {
     /// There is none.

@@ -1,9 +1,10 @@
-ghost use Rattle.std.specs.Prelude.{◌≡◌, true, map};
+//! The sizes that the codec `reshape` has.
+ghost use Rattle.std.specs.Prelude.{◌≡◌, true, false, map, Ok};
 ghost use Rattle.std.specs.Cmp.{partial_equiv_from_equiv};
 ghost use Rattle.std.specs.Cmp.Lexicographic.{pointwise};
 ghost use Rattle.std.specs.Ordering.{on};
 ghost use Rattle.std.proofs.lemmas.Cmp.{lists_equiv, on_equiv};
-ghost use Rattle.zarrs_metadata.specs.Dims.{is_nonzero as nonzero_dim, is_auto as auto_dim, autos, has_no_zero, is_reshape};
+ghost use Rattle.zarrs_metadata.specs.Dims.{is_nonzero as nonzero_dim, is_auto as auto_dim, names_axes, autos, has_no_zero, is_reshape};
 ghost use Rattle.zarrs_metadata.specs.PluginCreateError.{Makes};
 ghost use Rattle.zarrs_metadata.specs.ReshapeShape.{dim_of, reshape_shape_of};
 ghost use Rattle.zarrs_metadata.specs.SameDim.{is_same_dim};
@@ -26,9 +27,10 @@ pub enum ReshapeDim {
 }
 
 impl ReshapeDim {
-    /// An equal size. Refusals: `OutOfMemory`.
+    /// An equal size. Errors: `OutOfMemory`, of named axes alone.
     pub fn clone(&self) -> Result<ReshapeDim, PluginCreateError>
         ensures copy { Makes dim_of result (Ok (dim_of self.now)) }
+        ensures in_place { names_axes (dim_of self.now) ≡ false → result ≡ Ok self.now }
     {
         match self {
             ReshapeDim::Size(size) => Ok(ReshapeDim::Size(*size)),
@@ -102,7 +104,7 @@ fn is_auto(dim: &ReshapeDim) -> bool
 }
 
 /// How many sizes are automatic.
-fn count_autos(dims: &[ReshapeDim]) -> usize
+pub fn count_autos(dims: &[ReshapeDim]) -> usize
     ensures count { result ≡ autos (map dim_of dims.now) }
 {
     let mut count = 0;
@@ -125,7 +127,7 @@ fn cloned(alloc: Global, dims: &[ReshapeDim]) -> Result<Vec<ReshapeDim>, PluginC
 }
 
 impl ReshapeShape {
-    /// The shape of these sizes. Refusals, the first that holds: `ZeroSize` where a number is zero;
+    /// The shape of these sizes. Errors, the first that holds: `ZeroSize` where a number is zero;
     /// `MultipleAuto` where more than one size is automatic.
     pub fn new(dims: Vec<ReshapeDim>) -> Result<ReshapeShape, PluginCreateError>
         ensures answer { result ≡ reshape_shape_of (map dim_of dims.items) }
@@ -147,7 +149,7 @@ impl ReshapeShape {
         self.dims.as_slice()
     }
 
-    /// An equal shape. Refusals: `OutOfMemory`.
+    /// An equal shape. Errors: `OutOfMemory`.
     pub fn clone(&self) -> Result<ReshapeShape, PluginCreateError>
         ensures copy { Makes (λ copy. copy) result (Ok self.now) }
     {

@@ -1,3 +1,4 @@
+//! Orders of axes, which the codec `transpose` has.
 ghost use Rattle.std.specs.Prelude.{◌≡◌, true, IfOk};
 ghost use Rattle.std.specs.Bool.{nat_eq};
 ghost use Rattle.std.specs.Cmp.Lexicographic.{pointwise};
@@ -13,7 +14,7 @@ use std::marker::Model;
 
 /// An order of axes, which names each axis once (Zarr v3 codec `transpose`, its key `order`).
 ///
-/// Axis `i` of the encoded chunk is axis `order[i]` of the decoded one.
+/// Axis `i` of the moved chunk is axis `order[i]` of the decoded one.
 #[derive(Debug, Drop)]
 pub struct TransposeOrder {
     axes: Vec<usize>,
@@ -45,7 +46,7 @@ fn names_each_once(alloc: Global, axes: &[usize]) -> Result<bool, AllocError>
 }
 
 impl TransposeOrder {
-    /// The order of these axes, counted from 0. Refusals: `OutOfMemory`; `NotAPermutation` where an
+    /// The order of these axes, counted from 0. Errors: `OutOfMemory`; `NotAPermutation` where an
     /// axis comes twice, or isn't one of as many as the list is long.
     pub fn new(alloc: Global, axes: &[usize]) -> Result<TransposeOrder, PluginCreateError>
         ensures answer { Makes (λ order. order) result (transpose_order_of axes.now) }
@@ -65,7 +66,7 @@ impl TransposeOrder {
         self.axes.as_slice()
     }
 
-    /// An equal order. Refusals: `OutOfMemory`.
+    /// An equal order. Errors: `OutOfMemory`.
     pub fn clone(&self) -> Result<TransposeOrder, PluginCreateError>
         ensures copy { Makes (λ copy. copy) result (Ok self.now) }
     {

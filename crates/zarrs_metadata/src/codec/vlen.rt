@@ -1,3 +1,4 @@
+//! Settings of the codec `vlen`.
 ghost use Rattle.std.specs.Prelude.{◌≡◌};
 
 /// Which type the offsets of codec `vlen` are stored as (codec.zarrs.dev, its key

@@ -1,3 +1,4 @@
+//! The configuration of the codec `bytes`.
 ghost use Rattle.zarrs_metadata.specs.MetadataV3.{read_by, Writes};
 ghost use Rattle.std.specs.Prelude.{◌≡◌, Ok};
 ghost use Rattle.zarrs_chunk.specs.Answer.{seen};
@@ -60,7 +61,7 @@ fn name_of(endian: Endianness) -> &'static str
 
 impl BytesCodecConfiguration {
     /// The configuration of these members: `endian`, "little" or "big"; none where it is missing or
-    /// null. Refusals: `InvalidConfiguration` where a number is a float, or the key is anything
+    /// null. Errors: `InvalidConfiguration` where a number is a float, or the key is anything
     /// else.
     pub fn from_configuration(
         configuration: &Configuration,
@@ -74,7 +75,7 @@ impl BytesCodecConfiguration {
         Ok(BytesCodecConfiguration::V1(BytesCodecConfigurationV1 { endian }))
     }
 
-    /// The members: `endian`, where there is one. Refusals: `OutOfMemory`.
+    /// The members: `endian`, where there is one. Errors: `OutOfMemory`.
     pub fn to_configuration(&self, alloc: Global) -> Result<Configuration, PluginCreateError>
         ensures answer { Writes result (write_bytes (bytes_seen self.now)) }
     {

@@ -21,7 +21,7 @@ fn among(alloc: Global, items: &Vec<Value>) -> Result<Vec<MetadataV3>, PluginCre
     Ok(list)
 }
 
-/// The list of metadata at a key of a configuration without floats. Refusals: `InvalidConfiguration`
+/// The list of metadata at a key of a configuration without floats. Errors: `InvalidConfiguration`
 /// where the key is missing or anything else; `OutOfMemory`.
 pub(crate) fn codecs_at(
     alloc: Global,
@@ -36,7 +36,7 @@ pub(crate) fn codecs_at(
     among(alloc, items)
 }
 
-/// The list of metadata, written. Refusals: `OutOfMemory`.
+/// The list of metadata, written. Errors: `OutOfMemory`.
 pub(crate) fn tree_of_codecs(alloc: Global, list: &[MetadataV3]) -> Result<Value, PluginCreateError>
     ensures answer { Makes view result (Ok (metadata_list_tree (metadatas_seen list.now))) }
 {

@@ -1,3 +1,4 @@
+//! The configuration of the codec `optional`.
 ghost use Rattle.zarrs_metadata.specs.MetadataV3.{read_by, Writes};
 ghost use Rattle.std.specs.Prelude.{◌≡◌, Ok};
 ghost use Rattle.zarrs_metadata.specs.OptionalConfiguration.{optional_seen, read_optional, write_optional};
@@ -28,7 +29,7 @@ pub struct OptionalCodecConfigurationV1 {
 
 impl OptionalCodecConfiguration {
     /// The configuration of these members: `mask_codecs` and `data_codecs`, lists of metadata.
-    /// Refusals: `InvalidConfiguration` where a number is a float, or a key is missing or anything
+    /// Errors: `InvalidConfiguration` where a number is a float, or a key is missing or anything
     /// else; `OutOfMemory`.
     pub fn from_configuration(
         alloc: Global,
@@ -47,7 +48,7 @@ impl OptionalCodecConfiguration {
         }))
     }
 
-    /// The members: `mask_codecs` and `data_codecs`. Refusals: `OutOfMemory`.
+    /// The members: `mask_codecs` and `data_codecs`. Errors: `OutOfMemory`.
     pub fn to_configuration(&self, alloc: Global) -> Result<Configuration, PluginCreateError>
         ensures answer { Writes result (write_optional (optional_seen self.now)) }
     {

@@ -1,3 +1,4 @@
+//! The configuration of the codec `packbits`.
 ghost use Rattle.zarrs_metadata.specs.MetadataV3.{read_by, Writes};
 ghost use Rattle.std.specs.Prelude.{◌≡◌, Ok};
 ghost use Rattle.serde_json.specs.View.{view};
@@ -108,7 +109,7 @@ fn tree_of_bit(bit: Option<u64>) -> Value
 
 impl PackBitsCodecConfiguration {
     /// The configuration of these members: `padding_encoding`, "none", "first_byte" or "last_byte";
-    /// `first_bit` and `last_bit`, whole numbers. A key that is missing or null is none. Refusals,
+    /// `first_bit` and `last_bit`, whole numbers. A key that is missing or null is none. Errors,
     /// the first that holds: `InvalidConfiguration` where a number is a float or a key is anything
     /// else; `BitOrder` where both bits are given and the last is below the first.
     pub fn from_configuration(
@@ -133,7 +134,7 @@ impl PackBitsCodecConfiguration {
     }
 
     /// The members: always all three keys, "none" for no padding byte and null for a bit by
-    /// default. Refusals: `OutOfMemory`.
+    /// default. Errors: `OutOfMemory`.
     pub fn to_configuration(&self, alloc: Global) -> Result<Configuration, PluginCreateError>
         ensures answer { Writes result (write_packbits (packbits_seen self.now)) }
     {

@@ -1,3 +1,4 @@
+//! The configuration of the codec `reshape`.
 ghost use Rattle.zarrs_metadata.specs.MetadataV3.{read_by, Writes};
 ghost use Rattle.std.specs.Prelude.{◌≡◌, Ok, map, IfOk};
 ghost use Rattle.serde_json.specs.View.{view, items_view, number_view};
@@ -24,7 +25,7 @@ pub enum ReshapeCodecConfiguration {
 /// The configuration of codec `reshape`, version 1.
 #[derive(Debug, Drop)]
 pub struct ReshapeCodecConfigurationV1 {
-    /// The sizes of the encoded chunk.
+    /// The sizes of the moved chunk.
     pub shape: ReshapeShape,
 }
 
@@ -84,7 +85,7 @@ fn tree_of_dims(alloc: Global, dims: &[ReshapeDim]) -> Result<Value, AllocError>
 
 impl ReshapeCodecConfiguration {
     /// The configuration of these members: `shape`, a list of whole numbers, -1 (automatic) and
-    /// lists of axes. Refusals, the first that holds: `InvalidConfiguration` where a number is a
+    /// lists of axes. Errors, the first that holds: `InvalidConfiguration` where a number is a
     /// float, or the key is missing or anything else; `ZeroSize`; `MultipleAuto`; `OutOfMemory`.
     pub fn from_configuration(
         alloc: Global,
@@ -103,7 +104,7 @@ impl ReshapeCodecConfiguration {
         Ok(ReshapeCodecConfiguration::V1(ReshapeCodecConfigurationV1 { shape }))
     }
 
-    /// The members: `shape`. Refusals: `OutOfMemory`.
+    /// The members: `shape`. Errors: `OutOfMemory`.
     pub fn to_configuration(&self, alloc: Global) -> Result<Configuration, PluginCreateError>
         ensures answer { Writes result (write_reshape (reshape_seen self.now)) }
     {

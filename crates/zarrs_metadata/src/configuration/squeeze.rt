@@ -1,3 +1,4 @@
+//! The configuration of the codec `squeeze`.
 ghost use Rattle.zarrs_metadata.specs.MetadataV3.{read_by};
 ghost use Rattle.std.specs.Prelude.{◌≡◌};
 ghost use Rattle.serde_json.specs.View.{members_view};
@@ -22,7 +23,7 @@ pub enum SqueezeCodecConfiguration {
 pub struct SqueezeCodecConfigurationV0 {}
 
 impl SqueezeCodecConfiguration {
-    /// The configuration of these members, of which none counts. Refusals: `InvalidConfiguration`
+    /// The configuration of these members, of which none counts. Errors: `InvalidConfiguration`
     /// where a number is a float.
     pub fn from_configuration(
         configuration: &Configuration,

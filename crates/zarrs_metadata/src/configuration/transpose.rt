@@ -1,3 +1,4 @@
+//! The configuration of the codec `transpose`.
 ghost use Rattle.zarrs_metadata.specs.MetadataV3.{read_by, Writes};
 ghost use Rattle.std.specs.Prelude.{◌≡◌, Ok, IfOk};
 ghost use Rattle.serde_json.specs.View.{view};
@@ -55,7 +56,7 @@ fn axes_tree(alloc: Global, axes: &[usize]) -> Result<Value, AllocError>
 }
 
 impl TransposeCodecConfiguration {
-    /// The configuration of these members: `order`, a list of whole numbers. Refusals, the first
+    /// The configuration of these members: `order`, a list of whole numbers. Errors, the first
     /// that holds: `InvalidConfiguration` where a number is a float, or the key is missing or
     /// anything else; `NotAPermutation`; `OutOfMemory`.
     pub fn from_configuration(
@@ -75,7 +76,7 @@ impl TransposeCodecConfiguration {
         Ok(TransposeCodecConfiguration::V1(TransposeCodecConfigurationV1 { order }))
     }
 
-    /// The members: `order`. Refusals: `OutOfMemory`.
+    /// The members: `order`. Errors: `OutOfMemory`.
     pub fn to_configuration(&self, alloc: Global) -> Result<Configuration, PluginCreateError>
         ensures answer { Writes result (write_transpose (transpose_seen self.now)) }
     {

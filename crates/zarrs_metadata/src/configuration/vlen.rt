@@ -1,3 +1,4 @@
+//! The configuration of the codec `vlen`.
 ghost use Rattle.std.specs.Prelude.{◌≡◌, Ok};
 ghost use Rattle.zarrs_metadata.specs.MetadataV3.{read_by, Writes};
 ghost use Rattle.zarrs_metadata.specs.PluginCreateError.{Makes};
@@ -15,7 +16,7 @@ use std::alloc::Global;
 /// The configuration of codec `vlen` (codec.zarrs.dev), by its version.
 #[derive(Debug, Drop)]
 pub enum VlenCodecConfiguration {
-    /// Version 0, which doesn't say where the offsets stand.
+    /// Version 0, without the place of the offsets.
     V0(VlenCodecConfigurationV0),
     /// Version 0.1.
     V0_1(VlenCodecConfigurationV0_1),
@@ -107,7 +108,7 @@ fn name_of_location(index_location: VlenIndexLocation) -> &'static str
     }
 }
 
-/// Version 0.1 where the place of the offsets is said, else version 0.
+/// Version 0.1 where the place of the offsets is given, else version 0.
 fn of_parts(
     index: Vec<MetadataV3>,
     content: Vec<MetadataV3>,
@@ -157,7 +158,7 @@ fn members_of(
 impl VlenCodecConfiguration {
     /// The configuration of these members: `index_codecs` and `data_codecs`, lists of metadata;
     /// `index_data_type`, "uint32" or "uint64"; and in version 0.1 `index_location`, "start" or
-    /// "end". Refusals: `InvalidConfiguration` where a number is a float, or a key is anything else,
+    /// "end". Errors: `InvalidConfiguration` where a number is a float, or a key is anything else,
     /// or missing, but for `index_location`; `OutOfMemory`.
     pub fn from_configuration(
         alloc: Global,
@@ -176,7 +177,7 @@ impl VlenCodecConfiguration {
     }
 
     /// The members: `index_codecs`, `data_codecs` and `index_data_type`, and in version 0.1
-    /// `index_location`. Refusals: `OutOfMemory`.
+    /// `index_location`. Errors: `OutOfMemory`.
     pub fn to_configuration(&self, alloc: Global) -> Result<Configuration, PluginCreateError>
         ensures answer { Writes result (write_vlen (vlen_seen self.now)) }
     {

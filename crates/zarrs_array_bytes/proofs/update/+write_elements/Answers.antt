@@ -41,6 +41,7 @@ returns-in-Fixed t c =
         is = subst (λ (h : Held). Answers memory (λ (a : Held). a) c.write_fixed.result (Ok h)) (ap (λ b. flen (owned_bytes (with_runs c.unwrap-size.result (raw_of b).items runs (bytes_in new)))) c.in-Fixed.old-is ∙ are) c.write_fixed.ensures.exact.is;
         no_fault = c.write_fixed.ensures.exact.no_fault;
       };
+      flush = c.write_fixed.ensures.flush;
     }
 
 pub returns-in-Variable : goal.returns-in-Variable
@@ -59,4 +60,5 @@ returns-in-Variable t c =
             (ap₂ (λ b os. variable_of (cuts_update os (raw_of b).items (offsets_in new) (bytes_in new) places)) c.in-Variable.old-is c.in-Variable.offsets-is ∙ are) c.write_variable.ensures.exact.is;
         no_fault = c.write_variable.ensures.exact.no_fault;
       };
+      flush = c.write_variable.ensures.flush;
     }

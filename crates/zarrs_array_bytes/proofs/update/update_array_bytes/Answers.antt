@@ -33,4 +33,4 @@ returns c =
     subst (λ rs. AnswersBy memory (Holds type) c.update_runs.result (update_at_places type c.in_ok-count.count (joined_runs rs) old new)) c.as_slice.ensures.value c.update_runs.ensures.answer.is in
     let gives : AnswersBy memory (Holds type) c.update_runs.result (update_at_places type total (joined_runs runs) old new) =
     subst (λ n. AnswersBy memory (Holds type) c.update_runs.result (update_at_places type n (joined_runs runs) old new)) (sym count) listed in
-    record { exact = record { is = update_answers type c.args.shape.now (selection_of c.args.indexer.now) old new (joined_runs runs) c.update_runs.result places gives; no_fault = search rules }; blank = c.update_runs.ensures.blank }
+    record { exact = record { is = update_answers type c.args.shape.now (selection_of c.args.indexer.now) old new (joined_runs runs) c.update_runs.result places gives; no_fault = search rules }; flush = c.update_runs.ensures.flush; tight = c.update_runs.ensures.tight }

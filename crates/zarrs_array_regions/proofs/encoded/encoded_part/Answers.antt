@@ -23,13 +23,16 @@ transposed-requires-clause-count c = ap product c.shape.ensures.value ∙ sym (c
 pub transposed-requires-clause-valid : goal.transposed-requires-clause-valid
 transposed-requires-clause-valid c = subst (λ count. validity c.args.data_type.now count c.args.held ≡ Ok tt) (sym (count_is (product c.args.part.now.lengths) c.in_ok-count-in-Transpose.count c.requires.counted (c.in_ok-count-in-Transpose.ensures {u = tt}).product)) c.requires.valid
 
-pub returns-in-Transpose : goal.returns-in-Transpose
-returns-in-Transpose c =
+pub returns-in-Transpose-clause-encoded : goal.returns-in-Transpose-clause-encoded
+returns-in-Transpose-clause-encoded c =
     let count = count_is (product c.args.part.now.lengths) c.in_ok-count-in-Transpose.count c.requires.counted (c.in_ok-count-in-Transpose.ensures {u = tt}).product in
-    rw c.in-Transpose.is (record { encoded = transposed_part _ c.args.data_type.now c.args.part.now c.args.held c.shape.result.now c.order.result.now c.in_ok-count-in-Transpose.count c.transposed.result c.order.ensures.value c.shape.ensures.value count c.transposed.ensures.exact })
+    rw c.in-Transpose.is (transposed_part _ c.args.data_type.now c.args.part.now c.args.held c.shape.result.now c.order.result.now c.in_ok-count-in-Transpose.count c.transposed.result c.order.ensures.value c.shape.ensures.value count c.transposed.ensures.exact)
 
-pub returns-in-Reshape : goal.returns-in-Reshape
-returns-in-Reshape c = rw c.in-Reshape.is (record { encoded = record { is = holds_elements c.args.data_type.now (product c.args.part.now.lengths) c.args.held c.requires.valid; no_fault = search rules } })
+pub returns-in-Transpose-clause-tight : goal.returns-in-Transpose-clause-tight
+returns-in-Transpose-clause-tight c = λ tight. c.transposed.ensures.tight tight.blank
 
-pub returns : goal.returns
-returns c = rw c.in-Squeeze.is (record { encoded = record { is = holds_elements c.args.data_type.now (product c.args.part.now.lengths) c.args.held c.requires.valid; no_fault = search rules } })
+pub returns-in-Reshape-clause-encoded : goal.returns-in-Reshape-clause-encoded
+returns-in-Reshape-clause-encoded c = rw c.in-Reshape.is (record { is = holds_elements c.args.data_type.now (product c.args.part.now.lengths) c.args.held c.requires.valid; no_fault = search rules })
+
+pub returns-clause-encoded : goal.returns-clause-encoded
+returns-clause-encoded c = rw c.in-Squeeze.is (record { is = holds_elements c.args.data_type.now (product c.args.part.now.lengths) c.args.held c.requires.valid; no_fault = search rules })

@@ -1,8 +1,10 @@
 use Rattle.std.proofs.Common.{◌≡◌, ◌<◌, ◌+◌, ◌*◌, ◌^◌, true, length}
 use Rattle.std.specs.List.{All}
 use Rattle.zarrs_chunk.specs.Runs.{joined_runs}
+use Rattle.zarrs_codec.specs.Calls.{after_reads}
 use Rattle.zarrs_codec.specs.StorageState.{are_sure}
 use Rattle.zarrs_bytes.specs.PartialRead.{place_bytes}
+use Rattle.zarrs_bytes.specs.ReadingCalls.{batch_count}
 use Rattle.zarrs_bytes.proofs.BytesAt.{left}
 use Rattle.zarrs_bytes.proofs.batches.append_batches.Given as goal
 
@@ -14,6 +16,7 @@ invariant-loop-rest g l = record {
   sure : are_sure (g.H.BytesPartialDecoderTraits.state l.fn.handle).sure (place_bytes l.size (joined_runs l.runs)) ≡ true → are_sure (g.H.BytesPartialDecoderTraits.state l.fn.handle).sure (place_bytes l.size (joined_runs l.rest)) ≡ true;
   state : g.H.BytesPartialDecoderTraits.state l.handle ≡ g.H.BytesPartialDecoderTraits.state l.fn.handle;
   lent : g.H.BytesPartialDecoderTraits.lent l.handle ≡ g.H.BytesPartialDecoderTraits.lent l.fn.handle;
+  calls : after_reads (batch_count (length l.rest)) (g.H.BytesPartialDecoderTraits.calls l.handle) ≡ after_reads (batch_count (length l.runs)) (g.H.BytesPartialDecoderTraits.calls l.fn.handle);
 }
 
 abbrev pub decreases-loop-rest : goal.decreases-loop-rest

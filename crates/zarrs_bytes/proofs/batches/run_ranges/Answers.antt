@@ -2,7 +2,7 @@ use Rattle.std.proofs.Common.{◌≡◌, ◌+◌, ◌*◌, ◌<◌, ◌≤◌, g
 use Rattle.std.proofs.Math.Nat.{mul-le-mul_left}
 use Rattle.std.proofs.lemmas.List.Elements.{All-push}
 use Rattle.zarrs_codec.specs.ByteSpan.{ByteSpan}
-use Rattle.zarrs_bytes.proofs.Ranges.{ranges_more}
+use Rattle.zarrs_bytes.proofs.Ranges.{ranges_more, spans_more}
 use Rattle.zarrs_bytes.proofs.batches.run_ranges.Goals as goal
 
 pub loop-start-preserved : goal.loop-start-preserved
@@ -17,4 +17,5 @@ loop-start-preserved c =
     rw c.in_ok-push-in-Some.ensures.items (record {
       bytes = ranges_more c.args.size c.args.runs.now c.loop-start.start-index (0, 0) c.loop-start.ranges.items range (omega arith) c.loop-start.invariant.bytes start end;
       filled = All-push (λ (range : ByteSpan). range.start < range.end) c.loop-start.ranges.items range c.loop-start.invariant.filled (omega (arith, start, end, grows, positive));
+      each = spans_more c.args.size c.args.runs.now c.loop-start.start-index (0, 0) c.loop-start.ranges.items range (omega arith) c.loop-start.invariant.each start end;
     })

@@ -10,10 +10,10 @@ pub returns : goal.returns
 returns c =
     let fill = c.args.fill.now in
     let places = joined_runs c.args.runs.now in
-    let count = c.count_of-count.result in
+    let count = c.count_places-count.result in
     let bytes = c.append_copies.new.out in
     let is : bytes.items ≡ copies fill count = c.in_ok-append_copies.ensures.appended ∙ ap (λ xs. xs ++ copies fill count) c.in_ok-bytes.ensures.items in
     let one : 1 ≤ length fill = omega arith in
     let more : count * 1 ≤ count * length fill = mul-le-mul_left count one in
-    let exact : count ≡ length places = omega (arith, more, ap length is, length-copies fill count, bytes.ok, bytes.small, c.count_of-count.ensures.count) in
+    let exact : count ≡ length places = omega (arith, more, ap length is, length-copies fill count, bytes.ok, bytes.small, c.count_places-count.ensures.count) in
     record { value = is ∙ ap (copies fill) exact ∙ copies_of_places fill places }

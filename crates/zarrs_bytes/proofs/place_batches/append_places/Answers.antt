@@ -1,4 +1,4 @@
-use Rattle.std.proofs.Common.{◌≡◌, ◌∙◌, ℕ, ◌<◌, ◌+◌, ◌*◌, ◌^◌, Err, arith, refl, ap, length}
+use Rattle.std.proofs.Common.{◌≡◌, ◌∙◌, ℕ, ◌<◌, ◌+◌, ◌*◌, ◌^◌, ◌-◌, min, Err, arith, refl, ap, length}
 use Rattle.std.proofs.lemmas.Bool.Decides.{nat_tests}
 use Rattle.std.specs.List.{All}
 use Rattle.std.proofs.lemmas.List.Elements.{All-take, All-drop}
@@ -9,6 +9,7 @@ use Rattle.zarrs_codec.specs.StorageState.{StorageState, after_reading, are_sure
 use Rattle.zarrs_bytes.specs.PartialRead.{place_bytes}
 use Rattle.zarrs_bytes.proofs.Exact.{bytes_are}
 use Rattle.zarrs_bytes.proofs.PlaceBatches.{limit_of, runs_end, places_read, places_refused, places_end, sure_places}
+use Rattle.zarrs_bytes.proofs.CallCounts.{batch_counted, batches_done}
 use Rattle.zarrs_bytes.proofs.Reading.{Excused-weaker}
 use Rattle.zarrs_bytes.proofs.place_batches.append_places.Goals as goal
 
@@ -19,6 +20,7 @@ loop-rest-init g c = record {
   sure = λ h. h;
   state = refl;
   lent = refl;
+  calls = refl;
 }
 
 pub append_batch-requires-clause-ends : goal.append_batch-requires-clause-ends
@@ -76,6 +78,7 @@ loop-rest-preserved g c =
       sure = λ h. (sure_places c.args.size (D.state c.args.handle.now).sure c.loop-rest.rest.now c.split_at.result.0.now c.split_at.result.1.now parts (inv.sure h)).1;
       state = c.in_ok-append_batch.ensures.left ∙ inv.state;
       lent = c.in_ok-append_batch.ensures.same_reference ∙ inv.lent;
+      calls = batch_counted (length c.loop-rest.rest.now) (length c.split_at.result.1.now) (D.calls c.loop-rest.handle) (D.calls c.append_batch.new.handle) _ c.in_ok-append_batch.ensures.counted (let some : 0 < length c.loop-rest.rest.now = grind (arith, nat_tests) in some) (let left : length c.split_at.result.1.now ≡ length c.loop-rest.rest.now - min 1024 (length c.loop-rest.rest.now) = omega (arith, c.split_at.ensures.back_len, c.min.ensures) in left) inv.calls;
     }
 
 pub returns-clause-answer : goal.returns-clause-answer
@@ -89,3 +92,9 @@ returns-clause-left g c = c.loop-rest.invariant.state
 
 pub returns-clause-same_reference : goal.returns-clause-same_reference
 returns-clause-same_reference g c = c.loop-rest.invariant.lent
+
+pub returns-clause-counted : goal.returns-clause-counted
+returns-clause-counted g c =
+    let D = g.H.BytesPartialDecoderTraits in
+    let empty : length c.loop-rest.rest.now ≡ 0 = grind (arith, nat_tests) in
+    batches_done (length c.loop-rest.rest.now) (D.calls c.loop-rest.handle) _ empty c.loop-rest.invariant.calls

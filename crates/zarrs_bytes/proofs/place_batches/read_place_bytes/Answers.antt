@@ -1,10 +1,12 @@
-use Rattle.std.proofs.Common.{◌∙◌, ℕ, ◌<◌, ◌+◌, ◌*◌, ◌^◌, ap, sym}
+use Rattle.std.proofs.Common.{◌≡◌, ◌∙◌, ℕ, ◌<◌, ◌≤◌, ◌+◌, ◌-◌, ◌*◌, ◌^◌, length, arith, ap, sym}
 use Rattle.std.specs.List.{All}
 use Rattle.std.proofs.lemmas.List.Elements.{All-take, All-drop}
 use Rattle.std.proofs.lemmas.Result.{err_from_is_err_and}
 use Rattle.zarrs_chunk.specs.Answer.{memory_or_fault}
-use Rattle.zarrs_chunk.specs.Runs.{joined_runs}
+use Rattle.zarrs_chunk.specs.Runs.{joined_runs, AreFilled}
+use Rattle.zarrs_codec.specs.Calls.{after_reads}
 use Rattle.zarrs_codec.specs.StorageState.{StorageState}
+use Rattle.zarrs_bytes.proofs.CallCounts.{none_by_batches, one_batch, some_by_batches, stored_where_found}
 use Rattle.zarrs_bytes.proofs.Exact.{bytes_are}
 use Rattle.zarrs_bytes.proofs.PlaceBatches.{limit_of, runs_end, first_refused, first_then_rest}
 use Rattle.zarrs_bytes.proofs.Reading.{Excused-weaker}
@@ -36,3 +38,38 @@ returns-clause-answer g c =
     let is = ap joined_runs c.as_slice.ensures.value ∙ bytes_are _ _ c.in_ok-runs.ensures.places.is in
     let all = first_then_rest c.args.size (D.state c.args.handle.now).value (D.state c.read_bytes.new.handle).value c.in-Some.bytes.items c.reserve_exact.new.self.items c.args.places.now c.split_at.result.0.now c.split_at.result.1.now (joined_runs c.as_slice.result.now) c.split_at.ensures.by_index.0 is read c.in_ok-reserve_exact-in-Some.ensures.items (ap (λ (s : StorageState). s.value) c.in_ok-read_bytes.ensures.left) in
     sym all ∙ c.in_ok-append_places-in-Some.ensures.answer
+
+pub returns-in_err-append_places-in-Some-clause-answer : goal.returns-in_err-append_places-in-Some-clause-answer
+returns-in_err-append_places-in-Some-clause-answer g c =
+    let p = err_from_is_err_and c.from_residual-in_err-append_places-in-Some.result c.from_residual-in_err-append_places-in-Some.ensures.1 in
+    let e = c.in_err-append_places-in-Some.field-0.0 in
+    let D = g.H.BytesPartialDecoderTraits in
+    let read = rw c.in-Some.is at c.in_ok-read_bytes.ensures.answer in
+    let is = ap joined_runs c.as_slice.ensures.value ∙ bytes_are _ _ c.in_ok-runs.ensures.places.is in
+    let all = first_then_rest c.args.size (D.state c.args.handle.now).value (D.state c.read_bytes.new.handle).value c.in-Some.bytes.items c.reserve_exact.new.self.items c.args.places.now c.split_at.result.0.now c.split_at.result.1.now (joined_runs c.as_slice.result.now) c.split_at.ensures.by_index.0 is read c.in_ok-reserve_exact-in-Some.ensures.items (ap (λ (s : StorageState). s.value) c.in_ok-read_bytes.ensures.left) in
+    rw (p.1, p.2) (Excused-weaker (memory_or_fault e) (λ h. sym all ∙ h) c.in_err-append_places-in-Some.ensures.answer)
+
+pub returns-in-None-clause-counted : goal.returns-in-None-clause-counted
+returns-in-None-clause-counted g c =
+    let D = g.H.BytesPartialDecoderTraits in
+    let stored = (D.state c.args.handle.now).value in
+    let first = c.split_at.result.0.now in
+    let filled : AreFilled c.as_slice.result.now = rw c.as_slice.ensures.value c.in_ok-runs.ensures.filled in
+    let is : joined_runs c.as_slice.result.now ≡ first = ap joined_runs c.as_slice.ensures.value ∙ bytes_are _ _ c.in_ok-runs.ensures.places.is in
+    let few : length first ≤ 1024 = omega (arith, c.split_at.ensures.front_len, c.min.ensures) in
+    let one = one_batch c.args.size stored c.as_slice.result.now first filled is few in
+    let read = rw c.in-None.is at c.in_ok-read_bytes.ensures.answer in
+    none_by_batches c.args.size stored (joined_runs c.as_slice.result.now) c.args.places.now (D.calls c.args.handle.now) (D.calls c.read_bytes.new.handle) read (c.in_ok-read_bytes.ensures.counted ∙ ap (λ (n : ℕ). after_reads n (D.calls c.args.handle.now)) one)
+
+pub returns-clause-counted : goal.returns-clause-counted
+returns-clause-counted g c =
+    let D = g.H.BytesPartialDecoderTraits in
+    let stored = (D.state c.args.handle.now).value in
+    let first = c.split_at.result.0.now in
+    let filled : AreFilled c.as_slice.result.now = rw c.as_slice.ensures.value c.in_ok-runs.ensures.filled in
+    let is : joined_runs c.as_slice.result.now ≡ first = ap joined_runs c.as_slice.ensures.value ∙ bytes_are _ _ c.in_ok-runs.ensures.places.is in
+    let few : length first ≤ 1024 = omega (arith, c.split_at.ensures.front_len, c.min.ensures) in
+    let one = one_batch c.args.size stored c.as_slice.result.now first filled is few in
+    let read = rw c.in-Some.is at c.in_ok-read_bytes.ensures.answer in
+    let rest : length c.split_at.result.1.now ≡ length c.args.places.now - 1024 = omega (arith, c.split_at.ensures.back_len, c.min.ensures) in
+    some_by_batches stored c.args.places.now c.split_at.result.1.now (D.calls c.args.handle.now) (D.calls c.read_bytes.new.handle) (D.calls c.append_places.new.handle) (stored_where_found c.args.size stored (joined_runs c.as_slice.result.now) c.in-Some.bytes.items read) rest (c.in_ok-read_bytes.ensures.counted ∙ ap (λ (n : ℕ). after_reads n (D.calls c.args.handle.now)) one) c.in_ok-append_places-in-Some.ensures.counted

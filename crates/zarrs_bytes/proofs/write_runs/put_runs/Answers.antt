@@ -4,9 +4,11 @@ use Rattle.std.proofs.lemmas.List.{take_at}
 use Rattle.zarrs_chunk.specs.Answer.{Answers, memory_or_fault}
 use Rattle.zarrs_chunk.specs.declared.codec_error.CodecError.{CodecError}
 use Rattle.zarrs_codec.specs.BytePieces.{pieces_fit, with_pieces}
+use Rattle.zarrs_chunk.specs.Runs.{joined_runs}
+use Rattle.zarrs_codec.specs.Calls.{after_write}
 use Rattle.zarrs_codec.specs.StorageState.{value_or_empty}
 use Rattle.zarrs_bytes.specs.PartialWrite.{byte_runs}
-use Rattle.zarrs_bytes.proofs.ByteRuns.{length-byte_runs, byte_runs-ready, byte_runs-written}
+use Rattle.zarrs_bytes.proofs.ByteRuns.{length-byte_runs, byte_runs-numbers, byte_runs-ready, byte_runs-written}
 use Rattle.zarrs_bytes.proofs.write_runs.put_runs.Given.{Over}
 use Rattle.zarrs_bytes.proofs.write_runs.put_runs.Goals as goal
 
@@ -29,3 +31,9 @@ returns-clause-written g c =
     let value = value_or_empty (g.H.BytesPartialDecoderTraits.state c.args.handle.now).value in
     let written = byte_runs-written c.args.size c.args.runs.items value bytes c.requires.sized c.requires.filled in
     subst (λ (left : List ℕ). OnOk c.partial_encode_many.result ((g.H.BytesPartialDecoderTraits.state c.partial_encode_many.new.self).value ≡ Some left)) (ap (λ pieces. with_pieces value pieces bytes) (pieces_are g c) ∙ written) c.partial_encode_many.ensures.written
+
+pub returns-clause-counted : goal.returns-clause-counted
+returns-clause-counted g c =
+    let H = g.H.BytesPartialDecoderTraits in
+    let numbers = ap joined_runs (pieces_are g c) ∙ byte_runs-numbers c.args.size c.args.runs.items in
+    subst (λ (ns : List ℕ). H.calls c.partial_encode_many.new.self ≡ after_write c.partial_encode_many.result ns (H.calls c.args.handle.now)) numbers c.partial_encode_many.ensures.counted

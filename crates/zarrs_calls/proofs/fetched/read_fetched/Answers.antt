@@ -12,13 +12,13 @@ pub returns-clause-answer : goal.returns-clause-answer
 returns-clause-answer c =
     let f = c.args.fetched.now in
     pieces_due c.args.text.now f.len f.ranges.now f.bytes.now c.args.tuples c.args.numbers.now (header_seen c.in_ok-form.form) c.in_ok-form.ensures.answer (selection_of c.in_ok-indexer.indexer) (pieces_seen c.in_ok-pieces.pieces.items) c.in_ok-indexer.ensures.answer c.in_ok-pieces.ensures.answer
-    (pieces_state c.in_ok-handle.handle) c.in_ok-handle.ensures.answer c.in_ok-elements.elements c.in_ok-elements.ensures.answer
+    (pieces_state c.in_ok-handle.handle) c.in_ok-handle.ensures.answer c.in_ok-elements.elements c.in_ok-elements.ensures.answer c.in_ok-elements.ensures.tight
 
 pub returns-clause-alike : goal.returns-clause-alike
 returns-clause-alike c = λ value has.
     let f = c.args.fetched.now in
     alike_due c.args.text.now f.len f.ranges.now f.bytes.now c.args.tuples c.args.numbers.now (header_seen c.in_ok-form.form) c.in_ok-form.ensures.answer (selection_of c.in_ok-indexer.indexer) (pieces_seen c.in_ok-pieces.pieces.items) c.in_ok-indexer.ensures.answer c.in_ok-pieces.ensures.answer
-    (pieces_state c.in_ok-handle.handle) c.in_ok-handle.ensures.answer value c.in_ok-elements.elements has c.in_ok-elements.ensures.answer
+    (pieces_state c.in_ok-handle.handle) c.in_ok-handle.ensures.answer value c.in_ok-elements.elements has c.in_ok-elements.ensures.answer c.in_ok-elements.ensures.tight
 
 pub returns-in_err-elements-clause-alike : goal.returns-in_err-elements-clause-alike
 returns-in_err-elements-clause-alike c = λ value has.

@@ -1,9 +1,11 @@
-use Rattle.std.proofs.Common.{◌≡◌, ap}
+use Rattle.std.proofs.Common.{◌≡◌, IfOk, ap, subst}
 use Rattle.zarrs_chunk.specs.Indexer.{selection_of}
+use Rattle.zarrs_array_bytes.specs.Tight.{IsTight}
 use Rattle.zarrs_chain_header.specs.HeaderRead.{header_seen}
 use Rattle.zarrs_codec_chain.specs.PartialDecoder.{form_of, handle_of, decoder_source}
 use Rattle.zarrs_pieces.specs.PiecesHandle.{pieces_state}
 use Rattle.zarrs_chain_lines.specs.Commands.{form_of as header_form}
+use Rattle.zarrs_chain_lines.proofs.WriteLemmas.{Form}
 use Rattle.zarrs_calls.proofs.FetchedLemmas.{part_answered, part_stopped, planned_quiet, planned_quietly_made}
 use Rattle.zarrs_calls.proofs.fetched.read_pieces_part.Goals as goal
 
@@ -30,3 +32,7 @@ returns-in-Ok-clause-sure c = λ planned are hand.
     let chunk = header_form (header_seen c.args.form.now) in
     planned_quiet chunk (form_of c.in-Ok.decoder) (pieces_state c.args.handle) (pieces_state (handle_of c.in-Ok.decoder)) (selection_of c.args.indexer.now) planned c.partial_decode.result c.in-Ok.ensures.form c.in-Ok.ensures.over_state are hand
     c.partial_decode.ensures.reads.sure
+
+pub returns-in-Ok-clause-tight : goal.returns-in-Ok-clause-tight
+returns-in-Ok-clause-tight c =
+    subst (λ (form : Form). IfOk c.partial_decode.result (IsTight form.type)) c.in-Ok.ensures.form c.partial_decode.ensures.tight

@@ -8,4 +8,4 @@ use Rattle.zarrs_calls.proofs.part_reads.read.Goals as goal
 pub returns : goal.returns
 returns c =
     let stored = stored_bytes c.args.stored in
-    record { answer = read_due c.args.text.now stored (lent_value c.new.result) c.args.tuples c.args.numbers.now (header_seen c.in_ok-form.form) (selection_of c.in_ok-indexer.indexer) c.in_ok-form.ensures.answer c.in_ok-indexer.ensures.answer c.new.ensures.made c.in_ok-elements.elements c.in_ok-elements.ensures.answer }
+    record { answer = read_due c.args.text.now stored (lent_value c.new.result) c.args.tuples c.args.numbers.now (header_seen c.in_ok-form.form) (selection_of c.in_ok-indexer.indexer) c.in_ok-form.ensures.answer c.in_ok-indexer.ensures.answer c.new.ensures.made c.in_ok-elements.elements c.in_ok-elements.ensures.answer c.in_ok-elements.ensures.tight }

@@ -1,9 +1,11 @@
-use Rattle.std.proofs.Common.{◌≡◌, ap}
+use Rattle.std.proofs.Common.{◌≡◌, IfOk, ap, subst}
 use Rattle.zarrs_chunk.specs.Answer.{is_fault, fault}
 use Rattle.zarrs_chunk.specs.Indexer.{selection_of}
+use Rattle.zarrs_array_bytes.specs.Tight.{IsTight}
 use Rattle.zarrs_chain_header.specs.HeaderRead.{header_seen}
 use Rattle.zarrs_codec_chain.specs.PartialDecoder.{form_of, handle_of, decoder_source}
 use Rattle.zarrs_chain_lines.proofs.ReadLemmas.{no_fault, part_read, part_refused}
+use Rattle.zarrs_chain_lines.proofs.WriteLemmas.{Form}
 use Rattle.zarrs_pieces.specs.LentHandle.{lent_value}
 use Rattle.zarrs_chain_lines.specs.Commands.{form_of as header_form}
 use Rattle.zarrs_calls.proofs.part_reads.read_part.Goals as goal
@@ -14,6 +16,7 @@ returns-in-Err c =
     record {
       answer = part_refused chunk (lent_value c.args.handle) (selection_of c.args.indexer.now) c.in-Err.refused.error
           (no_fault (fault c.in-Err.refused.error) (ap (λ s. s.faults) c.in-Err.ensures.handed_left)) c.in-Err.ensures.answer;
+      tight = tt;
     }
 
 pub returns-in-Ok : goal.returns-in-Ok
@@ -24,4 +27,5 @@ returns-in-Ok c =
     record {
       answer = part_read chunk (form_of c.in-Ok.decoder) value (lent_value (handle_of c.in-Ok.decoder)) (selection_of c.args.indexer.now) c.partial_decode.result (decoder_source c.in-Ok.decoder value) c.in-Ok.ensures.form over c.in-Ok.ensures.answer
           (no_fault (is_fault c.partial_decode.result) (ap (λ s. s.faults) c.partial_decode.ensures.left.left)) c.partial_decode.ensures.reads.exact;
+      tight = subst (λ (form : Form). IfOk c.partial_decode.result (IsTight form.type)) c.in-Ok.ensures.form c.partial_decode.ensures.tight;
     }

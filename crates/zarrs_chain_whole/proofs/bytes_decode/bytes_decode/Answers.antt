@@ -5,7 +5,7 @@ use Rattle.zarrs_data_type.specs.declared.endianness.Endianness.{Endianness}
 use Rattle.zarrs_chunk.specs.Answer.{AnswersBy, GivesBy, memory, seen}
 use Rattle.zarrs_array_bytes.specs.Held.{raw_of}
 use Rattle.zarrs_array_bytes.specs.Validity.{Holds}
-use Rattle.zarrs_array_bytes.proofs.BlankLemmas.{sized_blank}
+use Rattle.zarrs_array_bytes.proofs.TightLemmas.{sized_given_tight}
 use Rattle.zarrs_array_to_array.specs.Mapping.{mapping_of}
 use Rattle.zarrs_bytes.specs.BytesCodec.{bytes_chunk}
 use Rattle.zarrs_bytes.proofs.Taken.{taken_fixed}
@@ -33,5 +33,5 @@ returns c =
                 turned_answers order arrays sizes m positive (at_ok (arrays_map type arrays sizes) (λ (m : CoordinateMap). IsCoordinateMap sizes m) m e c.in_ok-moved.ensures.map) type fill value c.in_ok-stored.stored c.in_ok-moved.moved (raw_of c.in_ok-raw.raw) c.decode-2.result c.requires.taken e read c.in_ok-moved.ensures.moved (sym c.in_ok-raw.ensures.answer) c.decode-2.ensures.decodes.exact;
             no_fault = c.decode-2.ensures.decodes.no_fault;
           });
-      blank = sized_blank type c.decode-2.result (taken_fixed order sizes type fill c.requires.taken);
+      tight = sized_given_tight type c.decode-2.result (bytes_chunk order (form_of sizes type fill) (raw_of c.in_ok-raw.raw).items) (taken_fixed order sizes type fill c.requires.taken) c.decode-2.ensures.decodes.exact;
     }

@@ -5,26 +5,26 @@ use Rattle.zarrs_packbits.proofs.blocks.lifted.Goals as goal
 use Rattle.zarrs_packbits.proofs.BlockLemmas.{map_more}
 
 pub loop-place-preserved : goal.loop-place-preserved
-loop-place-preserved c =
+loop-place-preserved g c =
     let kept = c.args.kept.now in
     let p = c.loop-place.place in
     let to = c.loop-place.to in
     let f = lifted_byte c.args.first c.args.weight in
-    let long : length kept ≡ 64 = search rules in
+    let long : length kept ≡ g.row.N = search rules in
     record {
       made = map_more f to kept p (omega (arith, c.loop-place.invariant.long)) (omega arith) c.loop-place.invariant.made;
       long = length-set to p (f (get_or kept p 0)) ∙ c.loop-place.invariant.long;
     }
 
 pub returns : goal.returns
-returns c =
+returns g c =
     let kept = c.args.kept.now in
     let to = c.loop-place.to in
-    let long : length kept ≡ 64 = search rules in
-    let end : c.loop-place.place ≡ 64 = omega arith in
+    let long : length kept ≡ g.row.N = search rules in
+    let end : c.loop-place.place ≡ g.row.N = omega arith in
     record {
       value =
-          sym (take_all 64 to (omega (arith, c.loop-place.invariant.long)))
+          sym (take_all g.row.N to (omega (arith, c.loop-place.invariant.long)))
           ∙ (rw end at c.loop-place.invariant.made)
-          ∙ ap (map (lifted_byte c.args.first c.args.weight)) (take_all 64 kept (omega arith));
+          ∙ ap (map (lifted_byte c.args.first c.args.weight)) (take_all g.row.N kept (omega arith));
     }

@@ -3,7 +3,7 @@ use Rattle.zarrs_packbits.specs.BlockBits.{lifted_byte}
 use Rattle.zarrs_packbits.proofs.blocks.lifted.Given as goal
 
 abbrev pub invariant-loop-place : goal.invariant-loop-place
-invariant-loop-place l = record {
+invariant-loop-place g l = record {
   made : take l.place l.to ≡ map (lifted_byte l.first l.weight) (take l.place l.kept);
-  long : length l.to ≡ 64;
+  long : length l.to ≡ g.row.N;
 }

@@ -1,6 +1,7 @@
 use Rattle.std.proofs.Common.{◌≡◌, ◌++◌, ◌<◌, drop, map}
 use Rattle.std.specs.List.{All}
-use Rattle.zarrs_packbits.specs.ReadPlan.{run_span, spans}
+use Rattle.zarrs_bytes.specs.PlannedRanges.{spans}
+use Rattle.zarrs_packbits.specs.ReadPlan.{run_span}
 use Rattle.zarrs_packbits.proofs.runs.run_ranges.Given as goal
 
 abbrev pub invariant-loop-start : goal.invariant-loop-start

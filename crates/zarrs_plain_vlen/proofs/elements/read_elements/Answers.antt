@@ -1,4 +1,9 @@
-use Rattle.std.proofs.Common.{sym, subst}
+use Rattle.std.proofs.Common.{Result, sym, subst}
+use Rattle.std.specs.Prelude.{IfOk}
+use Rattle.zarrs_chunk.specs.declared.codec_error.CodecError.{CodecError}
+use Rattle.zarrs_array_bytes.specs.Held.{Held, owned_bytes}
+use Rattle.zarrs_array_bytes.specs.Tight.{IsTight}
+use Rattle.zarrs_array_bytes.proofs.TightLemmas.{vlen_tight}
 use Rattle.zarrs_chunk.specs.Answer.{AnswersBy, memory_or_fault}
 use Rattle.zarrs_chunk.specs.Runs.{joined_runs}
 use Rattle.zarrs_array_bytes.specs.Validity.{Holds}
@@ -6,7 +11,7 @@ use Rattle.zarrs_codec.specs.StorageState.{value_or_empty}
 use Rattle.zarrs_plain_vlen.specs.Elements.{blank_element}
 use Rattle.zarrs_plain_vlen.specs.VlenLayout.{span_bytes}
 use Rattle.zarrs_plain_vlen.specs.VlenRead.{elements_read}
-use Rattle.zarrs_plain_vlen.proofs.ElementBytes.{gathered_rises, gathered_ends}
+use Rattle.zarrs_plain_vlen.proofs.ElementBytes.{gathered_rises, gathered_ends, gathered_flush}
 use Rattle.zarrs_plain_vlen.proofs.ElementReads.{elements_held}
 use Rattle.zarrs_plain_vlen.proofs.elements.read_elements.Goals as goal
 
@@ -24,3 +29,11 @@ returns-clause-answer g c =
     let type = c.args.data_type.now in
     subst (λ r. AnswersBy memory_or_fault (Holds type) r (elements_read c.args.offsets.now content (joined_runs c.args.runs.now))) (sym c.variable.ensures.made)
     (elements_held type c.args.offsets.now content (joined_runs c.args.runs.now) c.in_ok-bytes.bytes.items c.in_ok-ends.ends.items c.requires.variable c.in_ok-bytes.ensures.answer c.in_ok-ends.ensures.ends c.in_ok-ends.ensures.small)
+
+pub returns-clause-tight : goal.returns-clause-tight
+returns-clause-tight g c =
+    let type = c.args.data_type.now in
+    let items = c.in_ok-bytes.bytes.items in
+    let offsets = c.in_ok-ends.ends.items in
+    let flush = gathered_flush (blank_element c.args.offsets.now) (joined_runs c.args.runs.now) items offsets c.in_ok-bytes.ensures.lengths c.in_ok-ends.ensures.ends in
+    subst (λ (r : Result Held CodecError). IfOk r (IsTight type)) (sym c.variable.ensures.made) (vlen_tight type (owned_bytes items) offsets flush)

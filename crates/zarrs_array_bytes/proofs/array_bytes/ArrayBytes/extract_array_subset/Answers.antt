@@ -24,5 +24,6 @@ returns c =
             (subst (λ n. AnswersBy memory (Holds type) c.extract_runs.result (chunk_at type n places c.args.self.now)) (sym count) at);
         no_fault = search rules;
       };
-      blank = c.extract_runs.ensures.blank;
+      flush = c.extract_runs.ensures.flush;
+      tight = c.extract_runs.ensures.tight;
     }

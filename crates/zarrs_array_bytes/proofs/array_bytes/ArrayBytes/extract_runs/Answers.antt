@@ -4,6 +4,7 @@ use Rattle.zarrs_array_bytes.specs.Validity.{validity}
 use Rattle.zarrs_array_bytes.proofs.RunLemmas.{places_below}
 use Rattle.zarrs_array_bytes.proofs.AnswerLemmas.{at_answers}
 use Rattle.zarrs_array_bytes.proofs.BlankLemmas.{chosen_blank}
+use Rattle.zarrs_array_bytes.proofs.TightLemmas.{both_tight}
 use Rattle.zarrs_array_bytes.proofs.array_bytes.ArrayBytes.extract_runs.Goals as goal
 
 pub returns : goal.returns
@@ -14,5 +15,6 @@ returns c =
     let inside : All (λ place. place < c.args.count) (joined_runs runs) = places_below c.args.count runs c.requires.inside in
     record {
       answer = record { is = at_answers type c.args.count c.args.self.now (joined_runs runs) c.at_runs.result valid inside c.at_runs.ensures.small c.at_runs.ensures.exact.is; no_fault = search rules };
-      blank = chosen_blank type c.args.count c.args.self.now (joined_runs runs) c.at_runs.result valid inside c.at_runs.ensures.exact.is;
+      flush = c.at_runs.ensures.flush;
+      tight = λ b. both_tight type c.at_runs.result c.at_runs.ensures.flush (chosen_blank type c.args.count c.args.self.now (joined_runs runs) c.at_runs.result valid inside c.at_runs.ensures.exact.is b);
     }

@@ -5,7 +5,7 @@ use Rattle.zarrs_array_bytes.specs.Held.{Held}
 use Rattle.zarrs_array_bytes.specs.Validity.{sizes_fit}
 use Rattle.zarrs_array_bytes.specs.Filled.{container_fill}
 use Rattle.zarrs_array_bytes.proofs.AnswerLemmas.{fill_answers, held_is}
-use Rattle.zarrs_array_bytes.proofs.BlankLemmas.{fill_blank, blank_is}
+use Rattle.zarrs_array_bytes.proofs.TightLemmas.{fill_tight, tight_is}
 use Rattle.zarrs_array_bytes.proofs.array_bytes.ArrayBytes.new_fill_value.Goals as goal
 
 pub returns-clause-exact : goal.returns-clause-exact
@@ -20,7 +20,7 @@ returns-clause-held c =
     let gives : Answers memory (λ (a : Held). a) c.fill_elements.result (Ok (container_fill c.args.data_type.now c.args.count c.args.fill_value.now)) = rw c.as_ne_bytes.ensures.value at c.fill_elements.ensures.exact.is in
     held_is _ c.fill_elements.result gives
 
-pub returns-clause-blank : goal.returns-clause-blank
-returns-clause-blank c =
+pub returns-clause-tight : goal.returns-clause-tight
+returns-clause-tight c =
     let gives : Answers memory (λ (a : Held). a) c.fill_elements.result (Ok (container_fill c.args.data_type.now c.args.count c.args.fill_value.now)) = rw c.as_ne_bytes.ensures.value at c.fill_elements.ensures.exact.is in
-    blank_is c.args.data_type.now _ c.fill_elements.result gives (fill_blank c.args.data_type.now c.args.count c.args.fill_value.now)
+    tight_is c.args.data_type.now _ c.fill_elements.result gives (fill_tight c.args.data_type.now c.args.count c.args.fill_value.now)

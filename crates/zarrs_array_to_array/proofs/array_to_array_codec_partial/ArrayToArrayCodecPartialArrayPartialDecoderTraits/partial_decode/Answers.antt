@@ -6,7 +6,7 @@ use Rattle.zarrs_chunk.specs.Answer.{AnswersBy, memory}
 use Rattle.zarrs_codec.specs.ArrayReader.{mapped_reader}
 use Rattle.zarrs_codec.specs.ArrayWriter.{mapped_writer}
 use Rattle.zarrs_codec.specs.MappedSelection.{image_of}
-use Rattle.zarrs_array_to_array.proofs.Stages.{refused_answer, passed_answer, refused_first, passed_first, left_alone}
+use Rattle.zarrs_array_to_array.proofs.Stages.{refused_answer, passed_answer, refused_first, passed_first, passed_sure, left_alone}
 use Rattle.zarrs_array_to_array.proofs.array_to_array_codec_partial.ArrayToArrayCodecPartialArrayPartialDecoderTraits.partial_decode.Goals as goal
 
 pub returns-in-Ok-clause-answer : goal.returns-in-Ok-clause-answer
@@ -70,3 +70,15 @@ returns-in-Ok-clause-writer_kept g c =
     let coordinates = g.C.ArrayToArrayCodecTraits.coordinates stage.codec stage.shape in
     let asked = g.C.ArrayToArrayCodecTraits.asked stage.codec stage.shape in
     ap (mapped_writer coordinates asked (g.C.CodecTraits.reads_in_part stage.codec).partial_decode stage.shape) c.partial_decode.ensures.writer_kept
+
+pub returns-in-Ok-clause-sure : goal.returns-in-Ok-clause-sure
+returns-in-Ok-clause-sure g c =
+    let stage = c.args.self.now in
+    let coordinates = g.C.ArrayToArrayCodecTraits.coordinates stage.codec stage.shape in
+    let asked = g.C.ArrayToArrayCodecTraits.asked stage.codec stage.shape in
+    let reader = g.I.ArrayPartialDecoderTraits.reader stage.input in
+    let selection = selection_of c.args.indexer.now in
+    passed_sure reader.sure c.partial_decode.result (image_of coordinates asked stage.shape selection) (selection_of c.in-Ok.encoded) c.in-Ok.ensures.answer.is c.partial_decode.ensures.sure
+
+pub returns-in-Err-clause-sure : goal.returns-in-Err-clause-sure
+returns-in-Err-clause-sure g c = λ _. c.in-Err.ensures.answer.no_fault

@@ -105,6 +105,7 @@ returns-in-Err-clause-left g c =
       one_write = search rules;
       refused = alone c.in-Err.refusal state c.in-Err.ensures.answer.no_fault;
       kept_if_atomic = search rules;
+      unharmed = search rules;
       same_reference = search rules;
       form_kept = search rules;
     }
@@ -123,6 +124,7 @@ returns-in-Ok-clause-left g c =
       one_write = c.partial_encode.ensures.left.one_write;
       refused = c.partial_encode.ensures.left.refused;
       kept_if_atomic = c.partial_encode.ensures.left.kept_if_atomic;
+      unharmed = c.partial_encode.ensures.left.unharmed;
       same_reference = c.partial_encode.ensures.left.same_reference;
       form_kept = ap (mapped_writer coordinates asked (g.C.CodecTraits.reads_in_part stage.codec).partial_decode stage.shape) c.partial_encode.ensures.left.form_kept;
     }

@@ -1,10 +1,12 @@
 use Rattle.std.proofs.Common.{rules, ◌≡◌, ◌<◌, Ok, length, subst, ap, sym, ◌∙◌}
+use Rattle.std.specs.Prelude.{is_some}
 use Rattle.std.specs.List.{All, flat_map}
 use Rattle.zarrs_chunk.specs.Answer.{AnswersBy, memory}
 use Rattle.zarrs_chunk.specs.Runs.{joined_runs}
 use Rattle.zarrs_array_bytes.specs.Elements.{piece, elements, select}
 use Rattle.zarrs_array_bytes.specs.Held.{flen, owned_bytes}
 use Rattle.zarrs_array_bytes.specs.Validity.{Holds}
+use Rattle.zarrs_array_bytes.proofs.TightLemmas.{sized_given_tight, gives_flush}
 use Rattle.zarrs_codec.specs.CoordinateMap.{CoordinateMap, IsCoordinateMap, moved_chunk, origins}
 use Rattle.zarrs_metadata.proofs.Orders.{order_parts}
 use Rattle.zarrs_array_to_array.specs.Transpose.{transposition}
@@ -13,16 +15,16 @@ use Rattle.zarrs_array_to_array.proofs.FixedChunks.{origins_below, fixed_holds, 
 use Rattle.zarrs_array_to_array.proofs.Transposition.{transposition_map}
 use Rattle.zarrs_array_to_array.proofs.transpose.transpose_codec.transposed.Goals as goal
 
-pub returns : goal.returns
-returns c =
+pub returns-clause-exact : goal.returns-clause-exact
+returns-clause-exact c =
     let type = c.args.data_type.now in
     let held = c.args.bytes.now in
     let from = rw (c.requires.valid) at c.extract_runs.ensures.answer.is in
     let places = (c.in_ok-runs.ensures {u = tt}).places in
-    record { exact = record { is = subst (λ ps. AnswersBy memory (Holds type) c.extract_runs.result (Ok (select (elements type c.args.count held) ps))) (ap joined_runs c.as_slice.ensures.value ∙ places) from; no_fault = search rules } }
+    record { is = subst (λ ps. AnswersBy memory (Holds type) c.extract_runs.result (Ok (select (elements type c.args.count held) ps))) (ap joined_runs c.as_slice.ensures.value ∙ places) from; no_fault = search rules }
 
-pub returns-in-Some-Ok : goal.returns-in-Some-Ok
-returns-in-Some-Ok c =
+pub returns-in-Some-Ok-clause-exact : goal.returns-in-Some-Ok-clause-exact
+returns-in-Some-Ok-clause-exact c =
     let type = c.args.data_type.now in
     let held = c.args.bytes.now in
     let order = c.args.order.now in
@@ -34,4 +36,14 @@ returns-in-Some-Ok c =
     let count : length (origins m) ≡ c.args.count = length-origins m ∙ map.count ∙ c.requires.count in
     let inside : All (λ place. place < c.args.count) (origins m) = rw c.requires.count at (origins_below sizes m map) in
     let holds = fixed_holds type c.args.count held (origins m) size items c.requires.valid (sym c.in-Some-Ok.ensures.value) c.in-Some-Ok.ensures'.answer count inside in
-    record { exact = record { is = held_answers type (flen (owned_bytes (flat_map (piece size items) (origins m)))) (moved_chunk m (elements type c.args.count held)) c.transposed_fixed.result holds c.transposed_fixed.ensures.exact.is; no_fault = search rules } }
+    record { is = held_answers type (flen (owned_bytes (flat_map (piece size items) (origins m)))) (moved_chunk m (elements type c.args.count held)) c.transposed_fixed.result holds c.transposed_fixed.ensures.exact.is; no_fault = search rules }
+
+pub returns-in-Some-Ok-clause-tight : goal.returns-in-Some-Ok-clause-tight
+returns-in-Some-Ok-clause-tight c =
+    let type = c.args.data_type.now in
+    λ _. sized_given_tight type c.transposed_fixed.result _ (ap is_some (sym c.in-Some-Ok.ensures.value)) (returns-in-Some-Ok-clause-exact c).is
+
+pub returns-in-Some-Ok-clause-flush : goal.returns-in-Some-Ok-clause-flush
+returns-in-Some-Ok-clause-flush c =
+    let type = c.args.data_type.now in
+    gives_flush type c.transposed_fixed.result (sized_given_tight type c.transposed_fixed.result _ (ap is_some (sym c.in-Some-Ok.ensures.value)) (returns-in-Some-Ok-clause-exact c).is)

@@ -5,7 +5,7 @@ use Rattle.zarrs_array_bytes.specs.Elements.{piece}
 use Rattle.zarrs_chunk.specs.ChunkShape.{product}
 use Rattle.zarrs_codec.specs.CoordinateMap.{origins}
 use Rattle.zarrs_metadata.proofs.Orders.{order_parts}
-use Rattle.zarrs_array_to_array.specs.declared.axis.Axis.{Axis}
+use Rattle.zarrs_array_to_array.specs.declared.transpose.axis.Axis.{Axis}
 use Rattle.zarrs_array_to_array.specs.Axes.{behind, reach}
 use Rattle.zarrs_array_to_array.specs.Transpose.{transposition}
 use Rattle.zarrs_array_to_array.proofs.Steps.{origins-stepped, permuted_room}

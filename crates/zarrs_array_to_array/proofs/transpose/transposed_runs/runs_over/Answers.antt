@@ -2,7 +2,7 @@ use Rattle.std.proofs.Common.{◌≡◌, ◌≤◌, ◌+◌, ◌-◌, ◌∷◌,
 use Rattle.std.specs.List.{All}
 use Rattle.std.proofs.lemmas.Result.{IfOk-weaker}
 use Rattle.zarrs_chunk.specs.Runs.{joined_runs}
-use Rattle.zarrs_array_to_array.specs.declared.axis.Axis.{Axis}
+use Rattle.zarrs_array_to_array.specs.declared.transpose.axis.Axis.{Axis}
 use Rattle.zarrs_array_to_array.specs.Axes.{behind, reach}
 use Rattle.zarrs_array_to_array.specs.Strides.{wide_runs}
 use Rattle.zarrs_array_to_array.proofs.TransposedRuns.{one_each, runs_of_last, reach_of_last, wide_below, last_below}

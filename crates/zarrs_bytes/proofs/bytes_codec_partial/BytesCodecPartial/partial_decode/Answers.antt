@@ -1,11 +1,17 @@
-use Rattle.std.proofs.Common.{subst, refl, rules}
+use Rattle.std.proofs.Common.{◌≡◌, ◌∙◌, ℕ, List, Result, subst, sym, refl, rules}
+use Rattle.std.specs.Prelude.{IfOk, OnOk}
 use Rattle.zarrs_chunk.specs.Answer.{AnswersBy, memory_or_fault}
+use Rattle.zarrs_chunk.specs.declared.codec_error.CodecError.{CodecError}
 use Rattle.zarrs_chunk.specs.ChunkShape.{product}
 use Rattle.zarrs_chunk.specs.Indexer.{selection_of}
+use Rattle.zarrs_chunk.specs.Runs.{joined_runs}
 use Rattle.zarrs_chunk.specs.Selection.{places_of}
 use Rattle.zarrs_array_bytes.specs.Validity.{Holds}
+use Rattle.zarrs_codec.specs.Calls.{after_reads}
 use Rattle.zarrs_bytes.specs.BytesCodecPartial.{bytes_handle_of}
 use Rattle.zarrs_bytes.specs.PartialRead.{place_size}
+use Rattle.zarrs_bytes.specs.ReadingCalls.{calls_for_runs, consecutive_runs}
+use Rattle.zarrs_bytes.proofs.ConsecutiveRuns.{runs_of_places}
 use Rattle.zarrs_bytes.proofs.Ranges.{runs_fit}
 use Rattle.zarrs_bytes.proofs.Taken.{taken_small}
 use Rattle.zarrs_bytes.proofs.PartReads.{runs_select, runs_filled}
@@ -35,3 +41,15 @@ returns-clause-reads g c =
       no_fault_if_refused = search rules;
       sure = search rules;
     }
+
+pub returns-clause-counted : goal.returns-clause-counted
+returns-clause-counted g c =
+    let D = g.H.BytesPartialDecoderTraits in
+    let form = c.args.self.now in
+    let size = place_size form.data_type in
+    let stored = (D.state (bytes_handle_of form)).value in
+    let runs = c.in_ok-runs.runs.items in
+    let places = joined_runs runs in
+    let is = c.as_slice.ensures.value ∙ runs_of_places places runs c.in_ok-runs.ensures.filled c.in_ok-runs.ensures.apart refl in
+    let counted = subst (λ (rs : List (ℕ × ℕ)). OnOk c.read_runs.result (D.calls c.read_runs.new.handle ≡ after_reads (calls_for_runs size stored rs) (D.calls (bytes_handle_of form)))) is c.read_runs.ensures.counted in
+    subst (λ (r : Result (List ℕ) CodecError). IfOk r (λ (ps : List ℕ). OnOk c.read_runs.result (D.calls c.read_runs.new.handle ≡ after_reads (calls_for_runs size stored (consecutive_runs ps)) (D.calls (bytes_handle_of form))))) (sym c.in_ok-runs.ensures.places.is) counted

@@ -15,5 +15,5 @@ returns g c = record {
     exact = c.chain_decode.ensures.exact.is;
     no_fault = c.chain_decode.ensures.exact.no_fault;
   };
-  blank = c.chain_decode.ensures.blank;
+  tight = c.chain_decode.ensures.tight;
 }

@@ -4,6 +4,7 @@ use Rattle.zarrs_chunk.specs.Runs.{joined_runs}
 use Rattle.zarrs_array_bytes.specs.Validity.{Holds}
 use Rattle.zarrs_array_to_array.specs.Mapping.{mapping_of}
 use Rattle.zarrs_array_regions.specs.Windows.{TakesRegion, TakeType, window_of, window_elements, encoded_elements}
+use Rattle.zarrs_chain_laws.proofs.ArraySteps.{ok_is}
 use Rattle.zarrs_codec_chain.specs.ChunkCoder.{coder_form}
 use Rattle.zarrs_codec_chain.proofs.PartialReads.{is_readable}
 use Rattle.zarrs_codec_chain.proofs.RegionReads.{takes_region, takes_type, runs_at, window_ok}
@@ -74,3 +75,11 @@ returns-clause-fit g c =
     let at = runs_at form.chain.array_to_array (map mapping_of c.array_to_array_codecs-codecs.result.now) window c.in_ok-window.window c.in_ok-runs.runs.items c.in_ok-runs.runs.items c.array_to_array_codecs-codecs.ensures.value (window_ok _ _ there.0) ((c.in_ok-runs.ensures {u = tt}).places.is) refl in
     let holds = subst (λ cs. Holds form.type c.in_ok-window.encoded (encoded_elements cs window (window_elements form.type window c.in_ok-lent.lent))) c.array_to_array_codecs-codecs.ensures.value there.1 in
     region_fits f form k.encoded k.representation h are positive k.counted_whole region c.requires.inside c.args.codec.now c.requires.writes_in_place c.requires.region_kept new c.in_ok-lent.lent c.in_ok-window.encoded ((c.in_ok-lent.ensures {u = tt}).lent) (joined_runs c.in_ok-runs.runs.items) at holds
+
+pub returns-clause-places : goal.returns-clause-places
+returns-clause-places g c =
+    let form = coder_form c.args.self.now in
+    let window = window_of form.sizes c.args.region.now in
+    let there = (c.in_ok-window.ensures {u = tt}).encoded.is in
+    let at = runs_at form.chain.array_to_array (map mapping_of c.array_to_array_codecs-codecs.result.now) window c.in_ok-window.window c.in_ok-runs.runs.items c.in_ok-runs.runs.items c.array_to_array_codecs-codecs.ensures.value (window_ok _ _ there.0) ((c.in_ok-runs.ensures {u = tt}).places.is) refl in
+    sym (ok_is _ _ at)

@@ -18,7 +18,7 @@ invariant_of-result g c =
       counted = k.counted;
       counted_whole = k.counted_whole;
       fits = c.in_ok-cache.ensures.fits;
-      blank = c.in_ok-cache.ensures.blank;
+      tight = c.in_ok-cache.ensures.tight;
     }
 
 pub returns-clause-cache_filled : goal.returns-clause-cache_filled

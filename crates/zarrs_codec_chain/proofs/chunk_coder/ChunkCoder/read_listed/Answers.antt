@@ -7,6 +7,7 @@ use Rattle.zarrs_array_bytes.specs.Validity.{Holds}
 use Rattle.zarrs_bytes.specs.PartialRead.{place_size}
 use Rattle.zarrs_bytes.proofs.Taken.{taken_fixed, taken_small}
 use Rattle.zarrs_codec_chain.specs.ChunkCoder.{coder_form, reader_source}
+use Rattle.zarrs_codec_chain.proofs.Counting.{asked_in_part}
 use Rattle.zarrs_codec_chain.proofs.ListedReads.{listed_is, places_end, sure_alone}
 use Rattle.zarrs_codec_chain.proofs.PlaceWrites.{in_place_taken}
 use Rattle.zarrs_codec_chain.proofs.SureReads.{in_bounds, out_of_bounds, sure_anyway, where_sure}
@@ -59,3 +60,8 @@ returns-clause-sure g c =
     let at = (c.in_ok-places.ensures {u = tt}).answer.is in
     where_sure g.B.BytesToBytesCodecTraits.functions form before (selection_of c.args.indexer.now) _ k.encoded k.representation c.in_ok-places.places.items at k.taken
     (λ asks. sure_alone g.B.BytesToBytesCodecTraits.functions form k.encoded k.representation c.args.codec.now c.requires.writes_in_place before c.in_ok-places.places.items _ c.read_places.ensures.sure)
+
+pub returns-clause-counted : goal.returns-clause-counted
+returns-clause-counted g c = λ uncached whole.
+    let form = coder_form c.args.self.now in
+    absurd (asked_in_part form.chain.bytes_to_bytes form.chain.array_to_bytes c.args.codec.now c.requires.writes_in_place whole)

@@ -13,4 +13,4 @@ returns g c =
     let k = c.args.self.now in
     let chain = plain_chain k.chain.now in
     let h = held_after f chain.array_to_bytes k.encoded k.data_type k.fill_value c.in_ok-held.held (outer_bytes f chain.bytes_to_bytes k.representation c.args.value.items) c.in_ok-held.ensures.answer.is in
-    record { answer = record { is = chunk_at_runs f chain k.encoded k.data_type k.fill_value k.representation c.args.value.items c.in_ok-held.held (joined_runs c.args.runs.now) c.in_ok-count.count c.extract_runs.result h.0 h.1 (count_so (product k.encoded) c.in_ok-count.count c.in_ok-count.ensures.answer) c.extract_runs.ensures.answer.is; no_fault = search rules }; blank = c.extract_runs.ensures.blank c.in_ok-held.ensures.blank }
+    record { answer = record { is = chunk_at_runs f chain k.encoded k.data_type k.fill_value k.representation c.args.value.items c.in_ok-held.held (joined_runs c.args.runs.now) c.in_ok-count.count c.extract_runs.result h.0 h.1 (count_so (product k.encoded) c.in_ok-count.count c.in_ok-count.ensures.answer) c.extract_runs.ensures.answer.is; no_fault = search rules }; tight = c.extract_runs.ensures.tight c.in_ok-held.ensures.tight.blank }

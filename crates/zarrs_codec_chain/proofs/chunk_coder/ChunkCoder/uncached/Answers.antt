@@ -14,5 +14,5 @@ invariant_of-result g c =
       counted = k.counted;
       counted_whole = k.counted_whole;
       fits = refl;
-      blank = tt;
+      tight = tt;
     }

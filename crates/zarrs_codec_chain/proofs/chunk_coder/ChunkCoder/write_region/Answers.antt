@@ -1,11 +1,15 @@
-use Rattle.std.proofs.Common.{ap, rules}
+use Rattle.std.proofs.Common.{ap, refl, rules}
 use Rattle.std.specs.Prelude.{Some}
 use Rattle.std.proofs.lemmas.Result.{err_from_is_err_and}
 use Rattle.zarrs_chunk.specs.Answer.{seen}
+use Rattle.zarrs_chunk.specs.Runs.{joined_runs}
 use Rattle.zarrs_chunk.specs.Selection.{subset as subset_of}
+use Rattle.zarrs_data_type.specs.Form.{form_of}
 use Rattle.zarrs_codec_chain.specs.ChunkCoder.{coder_form}
+use Rattle.zarrs_codec_chain.proofs.Counting.{replaced_so}
 use Rattle.zarrs_codec_chain.proofs.PlaceWrites.{answer_by, in_place_taken, left_unchecked, memory_too}
 use Rattle.zarrs_codec_chain.proofs.RegionReads.{inside_bounds}
+use Rattle.zarrs_codec_chain.proofs.Unharmed.{accepted_unharmed}
 use Rattle.zarrs_codec_chain.proofs.chunk_coder.ChunkCoder.write_region.Goals as goal
 
 pub returns-in_err-runs-clause-writes : goal.returns-in_err-runs-clause-writes
@@ -35,3 +39,19 @@ returns-clause-writes g c =
       checked_first = search rules;
       untouched = search rules;
     }
+
+pub returns-clause-left : goal.returns-clause-left
+returns-clause-left g c = record {
+  one_write = c.write_given_runs.ensures.one_write;
+  refused = c.write_given_runs.ensures.refused;
+  kept_if_atomic = c.write_given_runs.ensures.kept_if_atomic;
+  unharmed = accepted_unharmed _ c.write_given_runs.result _ _ c.write_given_runs.ensures.answer;
+  same_reference = c.write_given_runs.ensures.same_reference;
+  form_kept = refl;
+}
+
+pub returns-clause-counted : goal.returns-clause-counted
+returns-clause-counted g c =
+    let D = g.H.BytesPartialDecoderTraits in
+    let k = c.args.self.now in
+    replaced_so c.write_given_runs.result c.args.codec.now (form_of k.encoded k.data_type k.fill_value) (D.state c.args.handle.now).value (D.state c.write_given_runs.new.handle).value (joined_runs c.in_ok-runs.runs.items) _ c.in_ok-runs.encoded _ _ c.write_given_runs.ensures.answer ((c.in_ok-runs.ensures {u = tt}).places) c.write_given_runs.ensures.counted

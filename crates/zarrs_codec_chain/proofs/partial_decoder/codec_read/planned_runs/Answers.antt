@@ -26,9 +26,9 @@ planned_runs-requires-in-PackBits-clause-taken g c =
 
 pub returns-in-Bytes-clause-plan : goal.returns-in-Bytes-clause-plan
 returns-in-Bytes-clause-plan g c =
-    record { is = bytes_planned _ (λ v. v.items) c.planned_runs.result c.args.codec.now c.in-Bytes.codec c.args.shape.now c.args.data_type.now c.args.fill_value.now (joined_runs c.args.runs.now) c.in-Bytes.is c.planned_runs.ensures.bytes.is c.planned_runs.ensures.sum; no_fault = search rules }
+    record { is = bytes_planned _ (λ v. v.items) c.planned_runs.result c.args.codec.now c.in-Bytes.codec c.args.shape.now c.args.data_type.now c.args.fill_value.now (joined_runs c.args.runs.now) c.in-Bytes.is c.planned_runs.ensures.bytes.is (c.planned_runs.ensures.plan c.requires.apart); no_fault = search rules }
 
 pub returns-in-PackBits-clause-plan : goal.returns-in-PackBits-clause-plan
 returns-in-PackBits-clause-plan g c =
     let taken = packed_taken g.B.BytesToBytesCodecTraits.functions c.args.codec.now c.in-PackBits.codec c.args.shape.now c.args.data_type.now c.args.fill_value.now c.in-PackBits.is c.requires.taken in
-    record { is = packed_planned _ (λ v. v.items) c.planned_runs-in-PackBits.result c.args.codec.now c.in-PackBits.codec c.args.shape.now c.args.data_type.now c.args.fill_value.now (joined_runs c.args.runs.now) c.in-PackBits.is taken c.planned_runs-in-PackBits.ensures.plan.is; no_fault = search rules }
+    record { is = packed_planned _ (λ v. v.items) c.planned_runs-in-PackBits.result c.args.codec.now c.in-PackBits.codec c.args.shape.now c.args.data_type.now c.args.fill_value.now c.args.runs.now c.in-PackBits.is c.requires.filled c.requires.apart taken c.planned_runs-in-PackBits.ensures.plan.is; no_fault = search rules }

@@ -1,6 +1,7 @@
-use Rattle.std.proofs.Common.{refl}
+use Rattle.std.proofs.Common.{refl, sym}
 use Rattle.zarrs_chain_laws.specs.BytesStages.{outer_bytes}
 use Rattle.zarrs_chain_whole.specs.ChainView.{plain_chain}
+use Rattle.zarrs_codec.proofs.CallLemmas.{after_reads-none}
 use Rattle.zarrs_codec_chain.proofs.PartialCalls.{held_after, is_valid, same_stored}
 use Rattle.zarrs_codec_chain.proofs.partial_decoder.make_cache.make_cache.Goals as goal
 
@@ -18,3 +19,6 @@ returns-in_ok-held-in-Some-2-clause-fits g c =
     let chain = plain_chain c.args.chain.now in
     let h = held_after f chain.array_to_bytes c.args.encoded.now c.args.data_type.now c.args.fill_value.now c.in_ok-held-in-Some-2.held (outer_bytes f chain.bytes_to_bytes c.args.representation c.in-Some-2.value.items) c.in_ok-held-in-Some-2.ensures.answer.is in
     is_valid _ h.1
+
+pub returns-in-Nowhere-clause-counted : goal.returns-in-Nowhere-clause-counted
+returns-in-Nowhere-clause-counted g c = sym (after_reads-none (g.H.BytesPartialDecoderTraits.calls c.args.handle.now))

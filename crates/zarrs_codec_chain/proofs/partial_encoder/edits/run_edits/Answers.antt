@@ -68,7 +68,7 @@ returns-in-Err-clause-edits g c =
       refused = λ m start here there.
           more_refused f form k.encoded k.representation h sound.mappings sound.positive k.filling lawful sound.fill_bytes edits n edit old.value stored start e lt is here inv.bytes there inv.ran (refusal m);
       cause = λ m. edits_more f form edits n edit old.value stored (Err e) lt is inv.ran (refusal m);
-      left = rw inv.ran (refused_left n old (D.state (encoder_handle c.loop-edit.encoder)) last e inv.left gone.left.refused);
+      left = rw inv.ran (refused_left n old (D.state (encoder_handle c.loop-edit.encoder)) last e inv.left gone.left.refused, λ m. gone.left.unharmed m ∙ inv.left);
       kept_if_atomic = λ atomic. unwritten (gone.left.kept_if_atomic atomic);
     }
 

@@ -12,4 +12,4 @@ returns-in_ok-count-in-Some g c =
     let sizes = c.args.shape.now in
     let count = count_is (product sizes) c.in_ok-count-in-Some.count c.in_ok-count-in-Some.ensures.answer in
     let same = vlen_chosen g.B.BytesToBytesCodecTraits.functions c.args.codec.now sizes type c.args.fill.now c.in-Some.value.items (joined_runs c.args.runs.now) c.in_ok-chunk-in-Some.chunk c.in_ok-count-in-Some.count count c.in_ok-chunk-in-Some.ensures.answer.is c.in_ok-chunk-in-Some.ensures.valid in
-    record { answer = record { is = rw c.in-Some.is (subst (λ e. AnswersBy memory (Holds type) c.extract_runs.result e) same c.extract_runs.ensures.answer.is); no_fault = search rules }; blank = c.extract_runs.ensures.blank c.in_ok-chunk-in-Some.ensures.blank }
+    record { answer = record { is = rw c.in-Some.is (subst (λ e. AnswersBy memory (Holds type) c.extract_runs.result e) same c.extract_runs.ensures.answer.is); no_fault = search rules }; tight = c.extract_runs.ensures.tight c.in_ok-chunk-in-Some.ensures.tight.blank }

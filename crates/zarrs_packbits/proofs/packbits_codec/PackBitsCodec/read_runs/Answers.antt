@@ -7,7 +7,7 @@ use Rattle.zarrs_bytes.proofs.Reading.{Excused-weaker}
 use Rattle.zarrs_packbits.specs.PackBitsSettings.{keeps_all_bytes, packed_layout}
 use Rattle.zarrs_packbits.specs.PartialRead.{read_packed_places}
 use Rattle.zarrs_packbits.proofs.CodecLaws.{read_at}
-use Rattle.zarrs_packbits.proofs.DecoderReads.{taken_fill}
+use Rattle.zarrs_packbits.proofs.DecoderReads.{one_call, taken_fill}
 use Rattle.zarrs_packbits.proofs.PartReads.{places_refused, places_found}
 use Rattle.zarrs_packbits.proofs.packbits_codec.PackBitsCodec.read_runs.Goals as goal
 
@@ -51,3 +51,9 @@ returns-clause-answer g c =
 
 pub read_whole_runs-requires-clause-whole : goal.read_whole_runs-requires-clause-whole
 read_whole_runs-requires-clause-whole g c = ap keeps_all_bytes c.taken_layout-layout.ensures.is ∙ sym c.if-is_whole.ensures.value
+
+pub returns-clause-counted : goal.returns-clause-counted
+returns-clause-counted g c =
+    let form = form_of c.args.shape.now c.args.data_type.now c.args.fill_value.now in
+    let stored = (g.H.BytesPartialDecoderTraits.state c.args.handle.now).value in
+    rw (one_call c.args.self.now form stored c.args.runs.now c.taken_layout-layout.result c.taken_layout-layout.ensures.is (sym c.if-is_whole.ensures.value)) c.in_ok-bytes.ensures.counted

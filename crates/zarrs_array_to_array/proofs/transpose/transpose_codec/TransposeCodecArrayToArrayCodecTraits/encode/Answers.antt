@@ -1,18 +1,19 @@
-use Rattle.std.proofs.Common.{rules, subst, ◌≡◌, true, sym, ◌∙◌}
+use Rattle.std.proofs.Common.{rules, Err, refl, subst, ◌≡◌, true, sym, ◌∙◌}
+use Rattle.std.proofs.lemmas.Result.{err_from_is_err_and}
 use Rattle.zarrs_chunk.specs.Answer.{memory, AnswersBy}
 use Rattle.zarrs_codec.specs.MappedChunk.{encoded_chunk}
 use Rattle.zarrs_array_to_array.specs.ArrayToArrayCodec.{coordinates, transpose}
 use Rattle.zarrs_array_to_array.specs.CodecAnswers.{type_taken}
-use Rattle.zarrs_array_to_array.proofs.MappedChunks.{where_expected, transpose_encoded-chunk, encoded_refused}
+use Rattle.zarrs_array_to_array.proofs.MappedChunks.{where_expected, transpose_encoded-chunk, encoded_refused, encoded_unfit}
 use Rattle.zarrs_array_to_array.proofs.AnswerSteps.{found_by}
 use Rattle.zarrs_array_bytes.specs.Elements.{elements}
 use Rattle.zarrs_array_bytes.specs.Validity.{Holds}
 use Rattle.zarrs_array_to_array.specs.Transpose.{IsTransposed}
-use Rattle.zarrs_array_to_array.specs.TransposeCodec.{transpose_encoded}
+use Rattle.zarrs_array_to_array.specs.TransposeCodec.{transpose_takes, transpose_encoded}
 use Rattle.zarrs_chunk.specs.ChunkShape.{product}
 use Rattle.zarrs_metadata.specs.Orders.{is_order}
 use Rattle.zarrs_array_to_array.proofs.CodecAnswers.{encoded_answers, encoded_found}
-use Rattle.zarrs_array_to_array.proofs.TransposedBlank.{transposed_blank}
+use Rattle.zarrs_array_to_array.proofs.NeverAbsent.{never_absent}
 use Rattle.zarrs_array_to_array.proofs.transpose.transpose_codec.TransposeCodecArrayToArrayCodecTraits.encode.Goals as goal
 
 pub returns-clause-exact : goal.returns-clause-exact
@@ -39,6 +40,16 @@ pub returns-in_err-count-clause-moved : goal.returns-in_err-count-clause-moved
 returns-in_err-count-clause-moved c =
     encoded_refused c.args.self.now c.args.shape.now c.args.data_type.now c.args.bytes c.in_err-count.field-0.0 _ (sym (c.in_err-count.ensures {u = tt}).exact)
 
-pub returns-clause-blank : goal.returns-clause-blank
-returns-clause-blank c =
-    transposed_blank c.args.data_type.now c.args.bytes c.transposed.result (c.in_ok-count.ensures {u = tt}).never_absent
+pub returns-clause-unfit : goal.returns-clause-unfit
+returns-clause-unfit c =
+    encoded_unfit c.args.self.now c.args.shape.now c.args.data_type.now c.args.bytes c.transposed.result (returns-clause-exact c).is
+
+pub returns-in_err-count-clause-unfit : goal.returns-in_err-count-clause-unfit
+returns-in_err-count-clause-unfit c =
+    let takes : transpose_takes c.args.self.now c.args.data_type.now c.args.shape.now c.args.bytes ≡ Err c.in_err-count.field-0.0 = sym (c.in_err-count.ensures {u = tt}).exact in
+    let p = err_from_is_err_and c.from_residual.result c.from_residual.ensures.1 in
+    rw (p.1, p.2) (encoded_unfit c.args.self.now c.args.shape.now c.args.data_type.now c.args.bytes (Err c.in_err-count.field-0.0) (λ _. rw takes refl))
+
+pub returns-clause-tight : goal.returns-clause-tight
+returns-clause-tight c =
+    c.transposed.ensures.tight (never_absent c.args.data_type.now c.args.bytes (c.in_ok-count.ensures {u = tt}).never_absent)

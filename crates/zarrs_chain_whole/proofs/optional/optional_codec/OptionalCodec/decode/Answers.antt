@@ -9,4 +9,4 @@ use Rattle.zarrs_chain_whole.proofs.optional.optional_codec.OptionalCodec.decode
 pub returns : goal.returns
 returns g c =
     let form = form_of c.args.shape.now c.args.data_type.now c.args.fill_value.now in
-    record { decodes = codec_decodes g.B.BytesToBytesCodecTraits.functions (plain_optional c.args.self.now) form (items_of c.args.value) c.optional_taken_decode.result c.optional_is_sound.ensures.mappings (subst (All (λ size. 0 < size)) c.as_slice.ensures.value c.as_slice.ensures.positive) c.optional_taken_decode.ensures.exact; blank = c.optional_taken_decode.ensures.blank }
+    record { decodes = codec_decodes g.B.BytesToBytesCodecTraits.functions (plain_optional c.args.self.now) form (items_of c.args.value) c.optional_taken_decode.result c.optional_is_sound.ensures.mappings (subst (All (λ size. 0 < size)) c.as_slice.ensures.value c.as_slice.ensures.positive) c.optional_taken_decode.ensures.exact; tight = c.optional_taken_decode.ensures.tight }

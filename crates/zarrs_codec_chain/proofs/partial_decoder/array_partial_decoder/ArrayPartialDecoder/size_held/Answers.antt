@@ -13,6 +13,6 @@ returns-clause-cache g c e =
     let k = d.coder in
     let chain = plain_chain k.chain.now in
     let stored = (g.H.BytesPartialDecoderTraits.state d.handle).value in
-    let size = size_kept (codec_reads chain.array_to_bytes) k.data_type (product k.encoded) (length chain.bytes_to_bytes) (g.H.BytesPartialDecoderTraits.held d.handle) stored k.cache k.fits e in
+    let size = size_kept (codec_reads chain.array_to_bytes) k.data_type (product k.encoded) (length chain.bytes_to_bytes) (g.H.BytesPartialDecoderTraits.held d.handle) stored k.cache k.fits k.tight e in
     answered _ (reader_source k stored) (λ source. IsSizeOf k.data_type source c.size_held.result) (d.wanted e)
     (subst (IsSizeOf k.data_type (reader_source k stored)) (sym c.size_held.ensures.value) size)

@@ -1,0 +1,34 @@
+use Rattle.std.proofs.Common.{◌≡◌, ◌≤◌, ◌+◌, ◌-◌, ◌*◌, ◌++◌, List, ℕ, ap, sym, ◌∙◌, arith}
+use Rattle.std.specs.List.{flat_map}
+use Rattle.std.proofs.lemmas.Result.{on_ok_weaker}
+use Rattle.zarrs_array_bytes.specs.Elements.{piece}
+use Rattle.zarrs_array_to_array.specs.Strides.{row, next_rows}
+use Rattle.std.proofs.Math.Nat.{add-mul}
+use Rattle.zarrs_array_to_array.proofs.PlaneRows.{stretches_are_runs, steps_below, bytes_below}
+use Rattle.zarrs_array_to_array.proofs.transpose.planes.append_plane.Goals as goal
+
+pub append_row-requires-clause-inside : goal.append_row-requires-clause-inside
+append_row-requires-clause-inside c = λ k l.
+    let rows = c.args.rows in
+    let columns = c.args.columns in
+    let at : ℕ = c.args.front + k * rows.step in
+    let end : ℕ = c.args.front + (rows.size - 1) * rows.step + (columns.size - 1) * columns.step + 1 in
+    let one : (columns.size - 1) * columns.step ≡ columns.size - 1 = ap (λ (n : ℕ). (columns.size - 1) * n) c.if-columns-eq1.true ∙ omega arith in
+    let below : at + columns.size ≤ end = omega (arith, steps_below k rows.size rows.step l, one) in
+    omega (arith, bytes_below (at + columns.size) end c.args.size _ below c.requires.inside, add-mul at columns.size c.args.size)
+
+pub returns-then-columns-eq1 : goal.returns-then-columns-eq1
+returns-then-columns-eq1 c =
+    let rows = c.args.rows in
+    let columns = c.args.columns in
+    let f : ℕ → List ℕ = piece c.args.size c.args.bytes.now in
+    let fronts : List ℕ = row c.args.front rows.step rows.size in
+    record {
+      appended =
+          on_ok_weaker c.append_row.result
+          (λ e.
+          e
+          ∙ ap (λ (xs : List ℕ). c.args.out.now.items ++ xs)
+          (stretches_are_runs c.args.size columns.size c.args.bytes.now fronts ∙ ap (λ (step : ℕ). flat_map f (next_rows step columns.size fronts)) (sym c.if-columns-eq1.true)))
+          c.append_row.ensures.appended;
+    }

@@ -1,0 +1,64 @@
+//! Ranges of a value in memory, copied behind one another.
+ghost use Rattle.std.specs.Prelude.{◌≡◌, ◌++◌, IfOk, IfErr, OnOk};
+ghost use Rattle.zarrs_chunk.specs.Answer.{Gives};
+ghost use Rattle.zarrs_codec.specs.ByteRanges.{read_value, room_of, IsPieceOf, EndsOutside};
+
+use crate::byte_range::ByteRange;
+use std::alloc::{AllocError, Global};
+use zarrs_chunk::CodecError;
+
+/// How many bytes to reserve for the ranges of a value of `len` bytes, so that the answer never
+/// grows: as many as the ranges have, or `u64::MAX` where they have more. None where one of them ends
+/// past the value, as then nothing is read.
+pub fn room_for(len: u64, ranges: &[ByteRange]) -> usize
+    ensures room { result ≡ room_of len ranges.now }
+{
+    let mut room: u64 = 0;
+    for range in ranges {
+        if range.end() > len {
+            return 0;
+        }
+        room = room.saturating_add(range.end() - range.start());
+    }
+    room as usize
+}
+
+/// Appends a piece. The sizes of most elements are constants here, so that each of these is a
+/// single move and no call to copy.
+#[inline(always)]
+pub fn append_piece(bytes: &mut Vec<u8>, piece: &[u8]) -> Result<(), AllocError>
+    ensures appended { OnOk result (bytes.new.items ≡ bytes.old.items ++ piece.now) }
+{
+    match piece.len() {
+        1 => bytes.extend_from_slice(&piece[..1]),
+        2 => bytes.extend_from_slice(&piece[..2]),
+        4 => bytes.extend_from_slice(&piece[..4]),
+        8 => bytes.extend_from_slice(&piece[..8]),
+        _ => bytes.extend_from_slice(piece),
+    }
+}
+
+/// A range's bytes of a value.
+#[inline(always)]
+fn piece_of<'a>(value: &'a [u8], range: &ByteRange) -> Result<&'a [u8], CodecError>
+    ensures inside { IfOk result (λ piece. IsPieceOf value.now range.now piece.now) }
+    ensures outside { IfErr result (EndsOutside value.now range.now) }
+{
+    let start = range.start() as usize;
+    let end = range.end() as usize;
+    if value.len() < end {
+        return Err(CodecError::InvalidByteRange);
+    }
+    Ok(&value[start..end])
+}
+
+/// The ranges' bytes of a value, joined in order.
+pub fn gather(alloc: Global, value: &[u8], ranges: &[ByteRange]) -> Result<Vec<u8>, CodecError>
+    ensures answer { Gives (λ bytes. bytes.items) result (read_value value.now ranges.now) }
+{
+    let mut bytes = Vec::with_capacity(alloc, room_for(value.len() as u64, ranges))?;
+    for range in ranges {
+        append_piece(&mut bytes, piece_of(value, range)?)?;
+    }
+    Ok(bytes)
+}

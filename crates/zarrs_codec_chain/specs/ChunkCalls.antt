@@ -1,0 +1,44 @@
+-- Which bytes an edit through a chain replaces, and how often reads and edits ask their handle: `calls` says what the record of a handle is, `state` what it keeps.
+use Rattle.std.specs.Prelude.{◌≡◌, ℕ, Bool, true, false, Option, Some, None, List, Result, IfOk}
+use Rattle.zarrs_chunk.specs.Selection.{Selection}
+use Rattle.zarrs_data_type.specs.ElementType.{ElementType}
+use Rattle.zarrs_data_type.specs.declared.endianness.Endianness.{Endianness}
+use Rattle.zarrs_codec.specs.Calls.{Calls, MakesReads, MakesWrite}
+use Rattle.zarrs_codec.specs.StorageState.{StorageState, value_indices}
+use Rattle.zarrs_bytes.specs.PartialRead.{place_bytes, place_size}
+use Rattle.zarrs_chain_laws.specs.PlainChain.{PlainCodec}
+use Rattle.zarrs_codec_chain.specs.ChunkRead.{ChunkForm, asks_in_part, ordered_places}
+
+-- the numbers of the bytes that an accepted write in place replaces: those of these places, in order; all of the new value, where none was stored
+abbrev pub replaced_in_place : ElementType → Option (List ℕ) → Option (List ℕ) → List ℕ → List ℕ
+replaced_in_place type None after places = value_indices after
+replaced_in_place type (Some value) after places = place_bytes (place_size type) places
+
+-- an accepted write in place has asked once whether a value is stored, and replaced these bytes and no others
+abbrev pub ReplacesPlaces : {H E T : Type 0} → (H → Option Calls) → (H → StorageState) → ElementType → List ℕ → (before after : H) → Result T E → Type 0
+ReplacesPlaces calls state type places before after result =
+    MakesWrite calls 1 (replaced_in_place type (state before).value (state after).value places) before after result
+
+-- the same of the places that a selection means, in the order in which they stand or, where they don't stand as a region, in their own
+abbrev pub ReplacesSelected : {H E T B : Type 0} → (H → Option Calls) → (H → StorageState) → ChunkForm B → Selection → (before after : H) → Result T E → Type 0
+ReplacesSelected calls state form selection before after result =
+    IfOk (ordered_places form selection) (λ places. ReplacesPlaces calls state form.type places before after result)
+
+-- An accepted edit makes one reading call and one writing call. Where the chain writes in place, with this byte order, the reading call asks whether a value is stored, and the writing call replaces the bytes of the selected places and no others, or all of a first value. Through any other chain the value is read, and all of it replaced.
+abbrev pub CountsEdit : {H E T B : Type 0} → (H → Option Calls) → (H → StorageState) → ChunkForm B → Option (Option Endianness) → Selection → (before after : H) → Result T E → Type 0
+CountsEdit calls state form None selection before after result =
+    MakesWrite calls 1 (value_indices (state after).value) before after result
+CountsEdit calls state form (Some order) selection before after result =
+    ReplacesSelected calls state form selection before after result
+
+-- with a cache, or where this holds, the handle is left alone: it is the one that it was
+abbrev pub LeftAloneIf : {H : Type 0} → Bool → (before after : H) → Type 0
+LeftAloneIf cached before after = cached ≡ true → after ≡ before
+
+-- where a read through such codecs asks for the whole value, an accepted one asks once
+abbrev pub AsksOnceForAll : {H E T B : Type 0} → (H → Option Calls) → List B → PlainCodec B → (before after : H) → Result T E → Type 0
+AsksOnceForAll calls outer codec before after result = asks_in_part outer codec ≡ false → MakesReads calls 1 before after result
+
+-- the same of a read without a cache
+abbrev pub AsksOnceUncached : {H E T B : Type 0} → (H → Option Calls) → Bool → List B → PlainCodec B → (before after : H) → Result T E → Type 0
+AsksOnceUncached calls cached outer codec before after result = cached ≡ false → AsksOnceForAll calls outer codec before after result
