@@ -1,4 +1,4 @@
-/* The array codecs of Zarr v3, proved: encode, decode and re-encode chunks, and read and write parts of
+/* Codecs of Zarr v3, proved: encode, decode and re-encode chunks, and read and write parts of
  * them.
  *
  * Every call begins with a header: the JSON text of a chunk's shape, the type of its elements, its
@@ -10,10 +10,22 @@
  * Types are bool, int2 to int64, uint2 to uint64, string, bytes, {"optional":TYPE} and
  * {"components":{"bits":32,"count":2,"signed":true}}; a float is an unsigned integer of its size.
  *
+ * A fill value is in hex, two digits a byte:
+ *
+ *   type                      fill value
+ *   bool                      00 or 01
+ *   int2, int4, uint2, uint4  one byte: -1 is ff
+ *   int8 to uint64            the bytes of the number, the lowest one first: 1 of uint16 is 0100
+ *   a float                   its bits, as the unsigned integer of its size: 1.0 of 32 bits is 0000803f
+ *   {"components":..}         each component's bytes, one component behind another
+ *   string, bytes             the bytes, which may be none: the text ab is 6162
+ *   {"optional":TYPE}         absent 00; else the value of TYPE, and 01 behind it: 1 of an optional uint16 is
+ *                             010001, an empty text 01; an absent one within one that is there is 0001
+ *
  * A call answers ZARRS_DONE; ZARRS_SHORT where a buffer is too short for the answer; or the code of the
- * first cause of a refusal, whose name zarrs_error_name tells. Where it answers ZARRS_SHORT it has
- * written how many items are needed, and nothing else; where it refuses, nothing at all. Want of memory
- * (ZARRS_OUT_OF_MEMORY) may come in place of any other answer.
+ * first cause of a refusal, one of enum zarrs_code, whose name zarrs_error_name tells. Where it answers
+ * ZARRS_SHORT it has written how many items are needed, and nothing else; where it refuses, nothing at
+ * all. Want of memory (ZARRS_OUT_OF_MEMORY) may come in place of any other answer.
  *
  * Elements cross in three buffers, whatever their type:
  *
@@ -26,9 +38,12 @@
  *                   the outermost first:
  *                   1 present, 0 absent
  *
- * What stands under an absent element doesn't matter. An answer's parts stand in front of the buffers,
- * and what is behind them stays as it was. The sizes that a fixed type needs follow from the header, so
- * that one call is enough; of a string or bytes call once with buffers of no length, or with a guess.
+ * What a call writes is fixed by the elements: offsets begin at 0, masks are 0 and 1, and under an absent
+ * element there are zeros, or no bytes. What it is given may be looser: the first offset may be above 0,
+ * and what stands under an absent element doesn't matter. An answer's parts stand in front of the
+ * buffers, and what is behind them stays as it was. The sizes that a fixed type needs follow from the
+ * header, so that one call is enough; of a string or bytes call once with buffers of no length, or with a
+ * guess.
  *
  * A selection is a count and numbers. Where tuples is ZARRS_BOX it is a box of the chunk: first where each
  * axis starts, then how long it is there. Else it is so many index tuples, one after another, a number an
@@ -51,14 +66,49 @@
 extern "C" {
 #endif
 
-/* The codes that are no refusal of the library's own, and want of memory. */
-enum {
+/* All codes, and why a call refuses. A code keeps its number in all versions; later ones may have more. */
+enum zarrs_code {
     ZARRS_DONE = 0,
-    ZARRS_SHORT = 1,
-    ZARRS_SYNTAX = 2,
-    ZARRS_ARGUMENT = 3,
-    ZARRS_OUT_OF_MEMORY = 10,
-    ZARRS_STORAGE = 11
+    ZARRS_SHORT = 1, /* a buffer is too short for the answer */
+    ZARRS_SYNTAX = 2, /* the header, or a list of codecs, isn't of its form */
+    ZARRS_ARGUMENT = 3, /* masks of several lengths, numbers that are no selection, other pieces */
+    ZARRS_OUT_OF_MEMORY = 10, /* memory was refused: may come in place of any other */
+    ZARRS_STORAGE = 11, /* a byte is needed that isn't among the pieces */
+    ZARRS_UNSUPPORTED_DATA_TYPE = 12, /* a codec doesn't take this type */
+    ZARRS_ENDIANNESS_MISSING = 13, /* no byte order, and components of several bytes */
+    ZARRS_ARRAY_BYTES_KIND = 14, /* fixed, variable or optional elements, where the type says another */
+    ZARRS_INVALID_BYTES_LENGTH = 15, /* a length or count isn't the one that is due */
+    ZARRS_INCOMPATIBLE_DIMENSIONALITY = 16, /* axes of a selection or an order differ from the shape's */
+    ZARRS_OUT_OF_BOUNDS = 17, /* a selection outside the shape */
+    ZARRS_OVERFLOW = 18, /* a product or sum passes 2^64 - 1 */
+    ZARRS_INVALID_FILL_VALUE = 19, /* the fill value doesn't fit the type */
+    ZARRS_RESHAPE_DIMENSION = 20, /* an input axis that isn't there */
+    ZARRS_RESHAPE_ELEMENTS = 21, /* the number of elements changes */
+    ZARRS_BIT_RANGE = 22, /* bits outside the component, or none */
+    ZARRS_PADDING_BYTE = 23, /* not the number of spare bits */
+    ZARRS_INDEX_LENGTH = 24, /* longer than the value */
+    ZARRS_INVALID_OFFSETS = 25, /* offsets are missing, fall, or end elsewhere */
+    ZARRS_OFFSET_TOO_LARGE = 26, /* doesn't fit 32 bits */
+    ZARRS_OFFSET_NOT_KEPT = 27, /* the index codecs change an offset */
+    ZARRS_MASK_VALUE = 28, /* neither 0 nor 1 */
+    ZARRS_HEADER_OVERFLOW = 29, /* two lengths pass 2^64 - 1 */
+    ZARRS_INVALID_BYTE_RANGE = 30, /* a range ends past the bytes: a value is too short */
+    ZARRS_BYTES_CODEC = 31, /* a bytes-to-bytes codec refused */
+    ZARRS_DATA_MISMATCH = 32, /* not one element for each place */
+    ZARRS_UNSUPPORTED_TARGET = 33, /* elements of variable length */
+    ZARRS_TARGET_MISMATCH = 34, /* levels, counts or sizes differ */
+    ZARRS_REVERSED_RANGE = 35, /* ends before it starts */
+    ZARRS_ELEMENT_COUNT = 36, /* a value's count of elements isn't the chunk's */
+    ZARRS_INDIVISIBLE_SHAPE = 37, /* an inner chunk's size doesn't divide the chunk's */
+    ZARRS_INDEX_NOT_FIXED = 38, /* the encoded index isn't of a fixed size */
+    ZARRS_UNKNOWN_NAME = 50, /* no codec has this name */
+    ZARRS_INVALID_CONFIGURATION = 51, /* a key is missing, or its value of another kind */
+    ZARRS_MISSING_ARRAY_TO_BYTES = 52, /* no codec from arrays to bytes */
+    ZARRS_MULTIPLE_ARRAY_TO_BYTES = 53, /* more than one from arrays to bytes */
+    ZARRS_BIT_ORDER = 54, /* a bit range ends before it starts */
+    ZARRS_MULTIPLE_AUTO = 55, /* several automatic sizes */
+    ZARRS_ZERO_SIZE = 56, /* a size of a reshape is zero */
+    ZARRS_NOT_A_PERMUTATION = 57 /* an order that doesn't name each axis once */
 };
 
 /* As a count of tuples: the numbers are those of a box. */
@@ -71,11 +121,25 @@ typedef struct zarrs_sizes {
     size_t bytes;
 } zarrs_sizes;
 
+/* The library's version, as 0.1.0; of one that was made without a proof, with the word unproved behind it. */
+extern const char zarrs_version[];
+
 /* Whether a header reads and its codecs take such chunks. */
 uint32_t zarrs_check(const uint8_t *header, size_t header_len);
 
 /* The name of a code in ASCII, without a zero behind it; no byte for a number that no call answers. */
 uint32_t zarrs_error_name(uint32_t code, uint8_t *name, size_t name_len, size_t *needed);
+
+/* The same with a zero behind it, in text, which has ZARRS_NAME_SIZE bytes. */
+#define ZARRS_NAME_SIZE 64
+static inline const char *zarrs_name(uint32_t code, char *text)
+{
+    size_t len = 0;
+    if (zarrs_error_name(code, (uint8_t *)text, ZARRS_NAME_SIZE - 1, &len) != ZARRS_DONE)
+        len = 0;
+    text[len] = '\0';
+    return text;
+}
 
 /* How many bytes a chunk's value has: just size where kind is 0, at most size where it is 1, any number
  * where it is 2. */

@@ -12,12 +12,10 @@ static const char *const HEADER =
 /* Ends the program with a refusal's name. */
 static void accepted(uint32_t code)
 {
-    uint8_t name[64];
-    size_t length = 0;
+    char name[ZARRS_NAME_SIZE];
     if (code == ZARRS_DONE)
         return;
-    zarrs_error_name(code, name, sizeof name, &length);
-    fprintf(stderr, "refused: %.*s\n", (int)length, (char *)name);
+    fprintf(stderr, "refused: %s\n", zarrs_name(code, name));
     exit(1);
 }
 

@@ -36,6 +36,16 @@ def optional(data, mask="packbits"):
     return {"name": "optional", "configuration": {"mask_codecs": [mask], "data_codecs": [data]}}
 
 
+def loose_values(offsets, data):
+    """A codec of each form of `vlen`, and the value of it that has these offsets and data, made by hand."""
+    for data_type, size in (("uint32", 4), ("uint64", 8)):
+        index = b"".join(offset.to_bytes(size, "little") for offset in offsets)
+        length = len(index).to_bytes(8, "little")
+        for place, value in (("start", length + index + data), ("end", data + index + length)):
+            form = {"index_data_type": data_type, "index_location": place}
+            yield {**VLEN, "configuration": {**VLEN["configuration"], **form}}, value
+
+
 def some_shape(rng, axes=None):
     axes = int(rng.integers(0, 5)) if axes is None else axes
     return tuple(int(size) for size in rng.integers(1, 7, axes))

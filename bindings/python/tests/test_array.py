@@ -1,7 +1,9 @@
 """Arrays in folders, beside numpy."""
 
 import json
+import os
 import pickle
+from functools import partial
 
 import numpy as np
 import pytest
@@ -16,11 +18,14 @@ from samples import (
     some,
     some_index,
     some_region,
+    some_shape,
     some_texts,
     transpose,
 )
 
-from zarrs_codecs import Array, UnknownName, _files
+from test_refusals import spoilt
+
+from zarrs_codecs import Array, InvalidBytesLength, InvalidMetadata, Refused, UnknownName, _files
 
 GZIP = {"name": "gzip", "configuration": {"level": 1}}
 KEYS = {
@@ -224,11 +229,43 @@ def changed(tmp_path, **changes):
         {"unknown": 5},
         {"unknown": {"must_understand": True}},
         {"codecs": ["sharding_indexed"]},
+        {"codecs": {"bytes": 1}},
+        {"codecs": "bytes"},
+        {"codecs": [None]},
+        {"chunk_grid": {"name": "regular"}},
+        {"chunk_grid": {"name": "regular", "configuration": [2, 2]}},
+        {"chunk_grid": ["regular"]},
+        {"chunk_key_encoding": {"name": "default", "configuration": "."}},
+        {"chunk_key_encoding": 5},
+        {"data_type": 5},
+        {"data_type": ["uint8"]},
+        {"data_type": {"name": "uint8", "configuration": 5}},
+        {"fill_value": "a"},
+        {"fill_value": [0]},
+        {"data_type": "r16", "fill_value": 2},
+        {"data_type": "bytes", "fill_value": 3, "codecs": [VLEN]},
+        {"data_type": "float32", "codecs": [LITTLE], "fill_value": 10**400},
     ],
 )
 def test_folders_that_are_not_read(changes, tmp_path):
     with pytest.raises(ValueError):
         Array(changed(tmp_path, **changes))
+
+
+@pytest.mark.parametrize("text", ["[]", '"x"', "null", "5", "[" * 5000 + "]" * 5000, "{"])
+def test_texts_that_are_no_metadata(text, tmp_path):
+    (tmp_path / "zarr.json").write_text(text)
+    with pytest.raises(ValueError):
+        Array(tmp_path)
+
+
+@pytest.mark.parametrize("key", ["codecs", "shape", "chunk_grid", "data_type", "chunk_key_encoding"])
+def test_keys_that_are_null(key, tmp_path):
+    folder = changed(tmp_path)
+    metadata = json.loads((folder / "zarr.json").read_text())
+    (folder / "zarr.json").write_text(json.dumps({**metadata, key: None}))
+    with pytest.raises(ValueError):
+        Array(folder)
 
 
 @pytest.mark.parametrize(
@@ -240,8 +277,24 @@ def test_keys_that_are_missing(key, tmp_path):
 
 
 def test_codecs_that_are_unknown(tmp_path):
-    with pytest.raises(UnknownName):
+    with pytest.raises(UnknownName, match="by codec 1, 'crc32c'") as told:
         Array(changed(tmp_path, codecs=["bytes", "crc32c"]))
+    assert told.value.codec == (1, "crc32c")
+
+
+@pytest.mark.parametrize(
+    "codecs, place",
+    [
+        ([{"name": "transpose", "configuration": {}}, "bytes"], 0),
+        ([transpose([0, 1]), transpose([0, 0]), "bytes"], 1),
+        ([transpose([0, 1]), {"name": "packbits", "configuration": {"first_bit": 3, "last_bit": 2}}], 1),
+        (["bytes", {"name": "gzip", "configuration": {"level": 10}}], 1),
+    ],
+)
+def test_codecs_that_cannot_be_made_are_named(codecs, place, tmp_path):
+    with pytest.raises(ValueError) as told:
+        Array(changed(tmp_path, codecs=codecs))
+    assert told.value.codec == (place, codecs[place]["name"])
 
 
 def test_keys_that_need_not_be_understood(tmp_path):
@@ -249,6 +302,7 @@ def test_keys_that_need_not_be_understood(tmp_path):
         tmp_path,
         more={"must_understand": False},
         dimension_names=["y", "x"],
+        consolidated_metadata={},
         storage_transformers=[],
     )
     assert Array(folder)[...].shape == (4, 4)
@@ -264,5 +318,236 @@ def test_indices_outside(tmp_path):
     for index in (4, (0, -5), (0, 0, 0)):
         with pytest.raises(IndexError):
             array[index]
-    with pytest.raises(TypeError):
-        array[[0, 1]]
+    for index in ("a", 1.5, (0, {}), ([0], [0]), [4], [-5], [0.5], [[0]], [True]):
+        with pytest.raises(IndexError):
+            array[index]
+        with pytest.raises(IndexError):
+            array[index] = 0
+    for index in ((0,), (0, 4), ([0, 1], [0, 1, 2]), (0, "a"), (0, slice(None))):
+        with pytest.raises(IndexError):
+            array.vindex[index]
+
+
+def test_numpys_functions_take_an_array(tmp_path):
+    array = make_array(tmp_path / "a", (3, 4), (2, 2), "int32", [LITTLE], 5)
+    array[1] = np.arange(4)
+    same(np.asarray(array), array[...])
+    same(np.asarray(array, "f8"), array[...].astype("f8"))
+    assert np.sum(array) == array[...].sum()
+    with pytest.raises(ValueError):
+        array.__array__(copy=False)
+    point = make_array(tmp_path / "point", (), (), "int16", [LITTLE], 3)
+    same(np.asarray(point), np.array(3, "<i2"))
+    none = make_array(tmp_path / "none", (0, 3), (1, 1), "int16", [LITTLE], 3)
+    same(np.asarray(none), np.empty((0, 3), "<i2"))
+    texts = make_array(tmp_path / "texts", (2,), (1,), "string", [VLEN], "a")
+    same(np.asarray(texts), np.array(["a", "a"], object))
+    kind = {"name": "zarrs.optional", "configuration": {"name": "int32"}}
+    masked = make_array(tmp_path / "masked", (2,), (1,), kind, [optional(LITTLE)], None)
+    masked[0] = 7
+    same(np.asarray(masked), np.array([7, 0], "<i4"))
+
+
+@pytest.mark.parametrize("name, codec", [("int32", LITTLE), ("string", VLEN)])
+def test_blanks_stand_under_absent_elements(name, codec, tmp_path):
+    kind = {"name": "zarrs.optional", "configuration": {"name": name}}
+    array = make_array(tmp_path / "a", (4,), (2,), kind, [optional(codec)], None)
+    array[0] = np.ma.masked
+    for found in (array[...], array[1:]):
+        assert np.ma.getmaskarray(found).all()
+        assert found.data.tolist() == [0 if name == "int32" else ""] * len(found)
+
+
+def test_the_folder_is_that_of_the_moment_when_it_is_opened(tmp_path, monkeypatch):
+    make_array(tmp_path / "a", (2,), (2,), "uint8", ["bytes"], 9)
+    monkeypatch.chdir(tmp_path)
+    array = Array("a")
+    array[0] = 1
+    monkeypatch.chdir("/")
+    assert array[...].tolist() == [1, 9]
+    array[1] = 2
+    assert (tmp_path / "a" / "c" / "0").read_bytes() == b"\1\2"
+
+
+def test_a_folder_that_is_gone(tmp_path):
+    array = make_array(tmp_path / "a", (2,), (2,), "uint8", ["bytes"], 9)
+    (tmp_path / "a").rename(tmp_path / "b")
+    with pytest.raises(FileNotFoundError):
+        array[...]
+    with pytest.raises(FileNotFoundError):
+        array[...] = 1
+    assert not (tmp_path / "a").exists()
+
+
+def test_chunks_of_another_length(tmp_path):
+    array = make_array(tmp_path / "a", (4,), (4,), "uint8", ["bytes"], 9)
+    array[...] = 1
+    path = tmp_path / "a" / "c" / "0"
+    for wrong in (b"", b"123", b"12345"):
+        path.write_bytes(wrong)
+        for call in (lambda: array[0], lambda: array.__setitem__(0, 5)):
+            with pytest.raises(InvalidBytesLength, match="4 are due, in .*/a/c/0$") as told:
+                call()
+            assert told.value.path == path
+        assert path.read_bytes() == wrong
+    array[...] = 2
+    assert path.read_bytes() == bytes([2] * 4)
+
+
+def test_modes_and_links_are_kept(tmp_path):
+    array = make_array(tmp_path / "a", (4,), (2,), "uint8", ["bytes"], 9)
+    array[...] = 1
+    first, second = tmp_path / "a" / "c" / "0", tmp_path / "a" / "c" / "1"
+    first.chmod(0o640)
+    second.rename(tmp_path / "elsewhere")
+    second.symlink_to(tmp_path / "elsewhere")
+    array[1:3] = 2
+    assert first.stat().st_mode & 0o777 == 0o640
+    assert second.is_symlink() and (tmp_path / "elsewhere").read_bytes() == b"\2\1"
+    assert array[...].tolist() == [1, 2, 2, 1]
+
+
+def some_list(rng, size):
+    """A list of places or a mask of an axis."""
+    if rng.integers(2):
+        return rng.integers(0, 2, size).astype(bool)
+    places = rng.integers(-size, size, rng.integers(0, 6))
+    return places.tolist() if len(places) and rng.integers(2) else places
+
+
+def some_outer(rng, shape):
+    """A basic index with lists in place of some entries."""
+    entries = []
+    for size in shape:
+        entry = (some_index(rng, (size,)) or (slice(None),))[0]
+        entry = slice(None) if entry is None or entry is Ellipsis else entry
+        entries.append(some_list(rng, size) if rng.integers(2) else entry)
+    return tuple(entries)
+
+
+def one_list(entries):
+    """The same with one list alone."""
+    kept = []
+    for entry in entries:
+        is_list = isinstance(entry, (list, np.ndarray))
+        kept.append(slice(None) if is_list and any(map(_is_list, kept)) else entry)
+    return tuple(kept)
+
+
+def _is_list(entry):
+    return isinstance(entry, (list, np.ndarray))
+
+
+def as_numpy_has_it(entries, shape):
+    """An index of numpy that takes each list with each."""
+    places = []
+    for entry, size in zip(entries, shape):
+        if isinstance(entry, slice):
+            places.append(np.arange(size)[entry])
+        elif _is_list(entry):
+            places.append(np.arange(size)[np.asarray(entry, None if len(entry) else int)])
+        else:
+            places.append(np.array([entry]))
+    dropped = tuple(axis for axis, entry in enumerate(entries) if isinstance(entry, int))
+    return np.ix_(*places), dropped
+
+
+def test_a_thousand_indices_beside_numpy(tmp_path):
+    seed = int(np.random.SeedSequence().entropy % 2**32)
+    rng = np.random.default_rng(seed)
+    for number in range(20):
+        shape = some_shape(rng, int(rng.integers(1, 4)))
+        chunks = some_shape(rng, len(shape))
+        codecs = [transpose(rng.permutation(len(shape))), BIG]
+        array = make_array(tmp_path / str(number), shape, chunks, "int16", codecs, 7)
+        expected = np.full(shape, 7, "<i2")
+        for _ in range(50):
+            kind, new = rng.integers(5), int(rng.integers(-99, 99))
+            outer = some_outer(rng, shape)
+            what = f"seed {seed}, array {number}, kind {kind}, {shape} by {chunks}, {outer}"
+            if kind == 0:
+                index = some_index(rng, shape)
+            elif kind == 1:
+                index = one_list(outer)
+            elif kind == 2:
+                index = rng.integers(0, 2, shape).astype(bool)
+            elif kind == 3:
+                index = tuple(rng.integers(-size, size, (2, 3)) for size in shape)
+                assert (array.vindex[index] == expected[index]).all(), what
+                values = rng.integers(-99, 99, (2, 3))
+                array.vindex[index] = expected[index] = values
+                # of points that come twice the last value stands
+                for place, value in zip(zip(*(one.ravel() for one in index)), values.ravel()):
+                    expected[place] = value
+                assert (array[...] == expected).all(), what
+                continue
+            else:
+                index, dropped = as_numpy_has_it(outer, shape)
+                found = array.oindex[outer]
+                assert np.array_equal(found, expected[index].squeeze(dropped)), what
+                array.oindex[outer] = expected[index] = new
+                assert (array[...] == expected).all(), what
+                continue
+            found = array[index]
+            assert np.shape(found) == np.shape(expected[index]), what
+            assert np.array_equal(found, expected[index]), what
+            values = rng.integers(-99, 99, np.shape(found)) if rng.integers(2) else new
+            if kind != 1:
+                array[index] = values
+                expected[index] = values
+            else:
+                array[index] = expected[index] = new
+            assert (array[...] == expected).all(), what
+
+
+class Calls:
+    """How often the system was asked by these names."""
+
+    def __init__(self, monkeypatch, *names):
+        self.counts = dict.fromkeys(names, 0)
+        for name in names:
+            monkeypatch.setattr(os, name, partial(self._count, name, getattr(os, name)))
+
+    def _count(self, name, call, *arguments, **more):
+        self.counts[name] += 1
+        return call(*arguments, **more)
+
+
+def test_what_a_chunk_asks_of_the_system(tmp_path, monkeypatch):
+    """One look at `zarr.json` for a chunk that isn't there, one wait for the disk for one that is written."""
+    array = make_array(tmp_path / "a", (10,), (1,), "int32", [LITTLE], 0)
+    calls = Calls(monkeypatch, "stat", "lstat", "fstat", "open", "fsync", "replace", "makedirs")
+    assert not array[...].any()
+    assert calls.counts == dict.fromkeys(calls.counts, 0) | {"stat": 10, "open": 10}
+    array[...] = 1
+    calls = Calls(monkeypatch, *calls.counts)
+    array[3:5] = 2
+    due = {"stat": 2, "lstat": 2, "fstat": 0, "open": 2, "fsync": 2, "replace": 2, "makedirs": 0}
+    assert calls.counts == due
+    assert array[...].tolist() == [1, 1, 1, 2, 2, 1, 1, 1, 1, 1]
+
+
+def test_any_spoilt_metadata_raises_a_refusal_or_opens(tmp_path):
+    seed = int(np.random.SeedSequence().entropy % 2**32)
+    rng = np.random.default_rng(seed)
+    more = {"attributes": {"a": [1]}, "dimension_names": ["y", None], "consolidated_metadata": None}
+    array = make_array(tmp_path / "a", (4, 4), (2, 2), "int16", [transpose([1, 0]), LITTLE], 0, **more)
+    for _ in range(500):
+        said = array.metadata
+        for _ in range(rng.integers(1, 3)):
+            said = spoilt(rng, said)
+        (tmp_path / "a" / "zarr.json").write_text(json.dumps(said))
+        try:
+            Array(tmp_path / "a")
+        except Refused as error:
+            assert error.path == tmp_path / "a" / "zarr.json", (seed, said)
+        except Exception as error:
+            raise AssertionError(f"seed {seed}: {said!r:.1000}") from error
+
+
+@pytest.mark.parametrize("text", [b"\xff", b"", b'{"shape": ' + b"1" * 5000 + b"}", b"[" * 5000])
+def test_a_text_that_is_no_metadata_is_named(text, tmp_path):
+    (tmp_path / "zarr.json").write_bytes(text)
+    with pytest.raises(InvalidMetadata, match="zarr.json$") as told:
+        Array(tmp_path)
+    assert told.value.path == tmp_path / "zarr.json"

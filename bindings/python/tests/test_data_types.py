@@ -93,10 +93,13 @@ def test_fill_values_out_of_their_type(name, fill):
         ("string", 0),
         ("complex64", [1]),
         ("bytes", "!"),
+        ("bytes", 3),
+        ("r16", 2),
+        ("float64", 10**400),
     ],
 )
 def test_fill_values_of_another_kind(name, fill):
-    with pytest.raises((TypeError, ValueError)):
+    with pytest.raises(InvalidFillValue):
         filled(name, fill, VLEN if name in ("string", "bytes") else LITTLE)
 
 

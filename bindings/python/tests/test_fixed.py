@@ -119,11 +119,59 @@ def test_reencoding(rng):
 def test_lists_and_other_types_are_converted():
     chain = Chain([LITTLE], (2, 2), "int32")
     assert chain.encode([[1, 2], [3, 4]]).tobytes() == np.arange(1, 5, dtype="<i4").tobytes()
-    assert chain.encode(np.ones((2, 2), ">f8")).tobytes() == np.ones(4, "<i4").tobytes()
+    assert chain.encode(np.ones((2, 2), ">i8")).tobytes() == np.ones(4, "<i4").tobytes()
+    assert chain.encode(np.ones((2, 2), bool)).tobytes() == np.ones(4, "<i4").tobytes()
+    floats = Chain([LITTLE], (2, 2), "float32")
+    assert floats.encode(np.ones((2, 2), ">f8")).tobytes() == np.ones(4, "<f4").tobytes()
+    assert floats.encode([[1, 2], [3, 4]]).tobytes() == np.arange(1, 5, dtype="<f4").tobytes()
     assert (
         chain.encode(np.arange(4).reshape(2, 2).T).tobytes()
         == np.array([0, 2, 1, 3], "<i4").tobytes()
     )
+
+
+@pytest.mark.parametrize(
+    "name, wrong",
+    [
+        ("int2", 2),
+        ("int2", -3),
+        ("uint2", 4),
+        ("int4", 8),
+        ("uint4", 16),
+        ("bool", 2),
+        ("uint8", 300),
+        ("uint8", -1),
+        ("int8", 128),
+        ("int64", 2**63),
+        ("uint64", 2**64),
+        ("uint64", 10**400),
+    ],
+)
+def test_numbers_that_a_type_cannot_hold(name, wrong):
+    chain = Chain([LITTLE], (2,), name)
+    value = chain.encode([0, 1])
+    for call in (lambda: chain.encode([0, wrong]), lambda: chain.write(value, 1, wrong)):
+        with pytest.raises(ValueError, match="isn't of"):
+            call()
+
+
+@pytest.mark.parametrize("name", ["int2", "uint2", "int4", "uint4", "bool", "int8", "int64", "uint64"])
+def test_the_least_and_the_greatest_number(name):
+    chain = Chain([LITTLE], (2,), name)
+    kind, bits = ("u", 1) if name == "bool" else (name[0], int(name.strip("uint")))
+    ends = [0, 2**bits - 1] if kind == "u" else [-(2 ** (bits - 1)), 2 ** (bits - 1) - 1]
+    assert chain.decode(chain.encode(ends)).tolist() == ends
+
+
+@pytest.mark.parametrize(
+    "name, wrong", [("uint8", 0.5), ("int32", np.nan), ("bool", 1.0), ("float32", 1j), ("uint8", "1")]
+)
+def test_elements_of_another_kind(name, wrong):
+    chain = Chain([LITTLE], (2,), name)
+    with pytest.raises(TypeError):
+        chain.encode(np.array([wrong, wrong]))
+    with pytest.raises(TypeError):
+        chain.write(None, 0, wrong)
 
 
 def test_a_scalar_is_written_everywhere():

@@ -7,11 +7,13 @@ import re
 import subprocess
 import sys
 from ctypes import byref
+from functools import partial
 from pathlib import Path
 
 import pytest
-from samples import LITTLE, VLEN, optional
+from samples import LITTLE, VLEN, loose_values, optional
 
+import zarrs_codecs
 from zarrs_codecs._library import BOX, SHORT, Sizes, library
 
 
@@ -264,3 +266,27 @@ def test_a_library_that_is_not_there():
         text=True,
     )
     assert run.returncode != 0 and "bindings/build" in run.stderr
+
+
+@pytest.mark.parametrize("offsets, data, due", [([2, 3, 4], b"xxab", b"ab"), ([1, 1, 2, 2], b"xa", b"a")])
+def test_offsets_begin_at_zero(offsets, data, due):
+    """Whatever offsets are stored, a call gives those of the elements that it gives."""
+    expected = [offset - offsets[0] for offset in offsets]
+    for codec, value in loose_values(offsets, data):
+        text = header([len(offsets) - 1], "bytes", "", [codec])
+        everything = (ctypes.c_uint64 * 2)(0, len(offsets) - 1)
+        arguments = (text, len(text)), (value, len(value))
+        for call in (
+            partial(library.zarrs_decode, *arguments[0], *arguments[1]),
+            partial(library.zarrs_read, *arguments[0], True, *arguments[1], BOX, everything, 2),
+        ):
+            found, whole, sizes = (ctypes.c_uint64 * len(offsets))(), ctypes.create_string_buffer(8), Sizes()
+            assert call(*NO_BUFFER, found, len(offsets), whole, 8, byref(sizes)) == 0
+            assert list(found) == expected
+            assert (sizes.masks, sizes.offsets, sizes.bytes) == (0, len(offsets), len(due))
+            assert whole.raw == due + bytes(8 - len(due))
+
+
+def test_a_library_without_a_proof_says_so():
+    has_word = b"zarrs_unproved" in Path(library._name).read_bytes()
+    assert zarrs_codecs.proved is not has_word

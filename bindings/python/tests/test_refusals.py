@@ -34,7 +34,9 @@ def test_every_class_is_a_refusal_of_the_library():
         for name, value in vars(z).items()
         if isinstance(value, type) and issubclass(value, z.Refused)
     }
-    assert classes == {"Refused", *NAMES}
+    pythons = {"Refused", "InvalidMetadata", "InvalidText"}
+    later = {"ElementCount", "IndivisibleShape", "IndexNotFixed"}
+    assert classes | later == {*pythons, *NAMES, *later}
 
 
 def test_kinds_of_refusals():
@@ -176,3 +178,227 @@ def test_reencoding_into_other_codecs_that_do_not_fit():
         chain.reencode(bytes(15), [BIG])
     with pytest.raises(z.UnknownName):
         chain.reencode(bytes(16), ["crc32c"])
+
+
+def masks(mask, data=LITTLE):
+    return {"name": "zarrs.optional", "configuration": {"mask_codecs": mask, "data_codecs": [data]}}
+
+
+def texts(**changes):
+    return {**VLEN, "configuration": {**VLEN["configuration"], **changes}}
+
+
+def without(codec, key):
+    configuration = {name: value for name, value in codec["configuration"].items() if name != key}
+    return {**codec, "configuration": configuration}
+
+
+GZIP = {"name": "gzip", "configuration": {"level": 10}}
+MIDDLE = {"name": "bytes", "configuration": {"endian": "middle"}}
+INT, TEXT, MASKED = "int32", "string", {"optional": "int32"}
+
+
+@pytest.mark.parametrize(
+    "codecs, shape, data_type, name, codec, inner, key",
+    [
+        ([LITTLE, "crc32c"], (4,), INT, "UnknownName", (1, "crc32c"), (), None),
+        ([LITTLE, GZIP], (4,), INT, "InvalidConfiguration", (1, "gzip"), (), "level"),
+        ([LITTLE, "gzip"], (4,), INT, "InvalidConfiguration", (1, "gzip"), (), "level"),
+        (["bytes"], (4,), INT, "EndiannessMissing", (0, "bytes"), (), "endian"),
+        ([MIDDLE], (4,), INT, "InvalidConfiguration", (0, "bytes"), (), "endian"),
+        ([LITTLE], (4,), TEXT, "UnsupportedDataType", (0, "bytes"), (), None),
+        ([VLEN], (4,), INT, "UnsupportedDataType", (0, "zarrs.vlen"), (), None),
+        ([transpose([0, 1]), transpose([0, 0]), LITTLE], (2, 2), INT, "NotAPermutation", (1, "transpose"), (), "order"),
+        ([transpose([0]), transpose([1, 0]), LITTLE], (4,), INT, "IncompatibleDimensionality", (1, "transpose"), (), "order"),
+        ([{"name": "transpose"}, LITTLE], (4,), INT, "InvalidConfiguration", (0, "transpose"), (), "order"),
+        ([reshape(3), LITTLE], (4,), INT, "ReshapeElements", (0, "reshape"), (), "shape"),
+        ([LITTLE, "packbits"], (4,), INT, "MultipleArrayToBytes", (1, "packbits"), (), None),
+        ([transpose([0])], (4,), INT, "MissingArrayToBytes", None, (), None),
+        ([packed(first_bit=0, last_bit=32)], (4,), INT, "BitRange", (0, "packbits"), (), "last_bit"),
+        ([packed(padding_encoding="first")], (4,), INT, "InvalidConfiguration", (0, "packbits"), (), "padding_encoding"),
+        ([texts(index_codecs=["crc32c"])], (4,), TEXT, "UnknownName", (0, "zarrs.vlen"), (("index_codecs", 0, "crc32c"),), None),
+        ([texts(data_codecs=["bytes", "crc32c"])], (4,), TEXT, "UnknownName", (0, "zarrs.vlen"), (("data_codecs", 1, "crc32c"),), None),
+        ([texts(index_codecs=[])], (4,), TEXT, "MissingArrayToBytes", (0, "zarrs.vlen"), (), "index_codecs"),
+        ([texts(index_location="middle")], (4,), TEXT, "InvalidConfiguration", (0, "zarrs.vlen"), (), "index_location"),
+        ([without(VLEN, "index_data_type")], (4,), TEXT, "InvalidConfiguration", (0, "zarrs.vlen"), (), "index_data_type"),
+        ([texts(data_codecs=[MIDDLE])], (4,), TEXT, "InvalidConfiguration", (0, "zarrs.vlen"), (("data_codecs", 0, "bytes"),), "endian"),
+        ([masks(["packbits"], "bytes")], (4,), MASKED, "EndiannessMissing", (0, "zarrs.optional"), (("data_codecs", 0, "bytes"),), "endian"),
+        ([masks([transpose([1, 0]), "packbits"])], (4,), MASKED, "IncompatibleDimensionality", (0, "zarrs.optional"), (("mask_codecs", 0, "transpose"),), "order"),
+        (
+            [masks(["packbits"], texts(index_codecs=[transpose([0, 0]), LITTLE]))],
+            (4,),
+            {"optional": "string"},
+            "NotAPermutation",
+            (0, "zarrs.optional"),
+            (("data_codecs", 0, "zarrs.vlen"), ("index_codecs", 0, "transpose")),
+            "order",
+        ),
+        ([LITTLE], (2**40, 2**40), INT, "Overflow", None, (), None),
+    ],
+)
+def test_a_refusal_says_where(codecs, shape, data_type, name, codec, inner, key):
+    with pytest.raises(getattr(z, name)) as told:
+        Chain(codecs, shape, data_type)
+    assert (told.value.codec, told.value.inner, told.value.key) == (codec, inner, key)
+
+
+def test_what_a_refusal_prints():
+    with pytest.raises(z.InvalidConfiguration) as told:
+        Chain([texts(data_codecs=[transpose([0]), MIDDLE])], (4,), "string")
+    expected = "InvalidConfiguration, by codec 0, 'zarrs.vlen', in its data_codecs[1], 'bytes', for its key 'endian'"
+    assert str(told.value) == expected
+
+
+def test_refusals_that_come_when_a_chunk_is_encoded():
+    """What the codecs inside others are given, the library sees then."""
+    chain = Chain([texts(index_codecs=["bytes"])], (2,), "string", "")
+    for call in (
+        lambda: chain.encode(np.array(["a", "b"], object)),
+        lambda: chain.write(None, 0, "a"),
+        lambda: chain.reencode(Chain([VLEN], (2,), "string", "").encode(np.array(["", ""], object)), [VLEN]),
+    ):
+        with pytest.raises(z.EndiannessMissing) as told:
+            call()
+        assert told.value.codec == (0, "zarrs.vlen")
+        assert told.value.inner == (("index_codecs", 0, "bytes"),) and told.value.key == "endian"
+    other = Chain([VLEN], (2,), "string", "")
+    with pytest.raises(z.EndiannessMissing) as told:
+        other.reencode(other.encode(np.array(["a", "b"], object)), chain.codecs)
+    assert told.value.inner == (("index_codecs", 0, "bytes"),)
+
+
+@pytest.mark.parametrize(
+    "codecs, hint",
+    [
+        (["squeeze", LITTLE], "'zarrs.squeeze'"),
+        (["vlen"], "'zarrs.vlen'"),
+        ([{"name": "gzip", "configuration": {"level": 1}}, LITTLE], "Python runs gzip at the end"),
+    ],
+)
+def test_what_could_help(codecs, hint):
+    with pytest.raises(z.UnknownName, match=hint):
+        Chain(codecs, (4,), "int32")
+
+
+def nested(depth):
+    value = 5
+    for _ in range(depth):
+        value = [value]
+    return value
+
+
+DEEP_TYPE = "int32"
+for _ in range(5000):
+    DEEP_TYPE = {"optional": DEEP_TYPE}
+
+
+@pytest.mark.parametrize(
+    "codecs, data_type, fill",
+    [
+        ([nested(5000)], "int32", 0),
+        ([{"name": "transpose", "configuration": {"order": nested(400)}}, LITTLE], "int32", 0),
+        ([{1, 2}], "int32", 0),
+        ([LITTLE, object()], "int32", 0),
+        ([{"name": "bytes", "configuration": {"endian": float("nan")}}], "int32", 0),
+        ([LITTLE], DEEP_TYPE, 0),
+        ([LITTLE], "int33", 0),
+        ([LITTLE], 5, 0),
+        ([LITTLE], ["int32"], 0),
+        ([LITTLE], {"name": "int32", "configuration": [1]}, 0),
+        ([LITTLE], "float32", 10**400),
+        ([LITTLE], "float32", "0x7fc0"),
+        ([LITTLE], "float32", "0xzz"),
+        ([LITTLE], "float32", "1_0"),
+        ([LITTLE], "float32", [0]),
+        ([LITTLE], "complex64", [1, 2, 3]),
+        ([LITTLE], "complex64", 10**400),
+        ([LITTLE], "int32", 2**31),
+        ([LITTLE], "int32", 1.5),
+        ([LITTLE], "int32", nested(5000)),
+        (["bytes"], "bool", "true"),
+        (["bytes"], "r16", {1: 2, 3: 4}),
+        (["bytes"], "r16", [1, 2, 3]),
+        (["bytes"], "r16", [300, 0]),
+        (["bytes"], "r16", "AAA"),
+        ([VLEN], "string", "\ud800"),
+        ([VLEN], "string", 5),
+        ([VLEN], "bytes", "=="),
+    ],
+)
+def test_bad_metadata_raises_refusals_alone(codecs, data_type, fill):
+    with pytest.raises(z.Refused):
+        Chain(codecs, (4,), data_type, fill)
+
+
+def test_bytes_that_are_no_text():
+    chain = Chain([VLEN], (2,), "string", "")
+    value = Chain([VLEN], (2,), "bytes", b"").encode(np.array([b"a", b"\xff"], object))
+    for call in (lambda: chain.decode(value), lambda: chain.read(value, 1)):
+        with pytest.raises(z.InvalidText):
+            call()
+    assert chain.read(value, 0) == "a"
+    with pytest.raises(z.InvalidText):
+        chain.encode(np.array(["a", "\ud800"], object))
+
+
+def test_arguments_of_another_kind():
+    chain = Chain([LITTLE], (4,), "int32")
+    for call in (
+        lambda: chain.read(bytes(16), np.s_[::2], out=[0, 0]),
+        lambda: chain.decode(bytes(16), out=[0] * 4),
+        lambda: chain.read_from(object(), 0),
+        lambda: chain.decode("text"),
+    ):
+        with pytest.raises(TypeError):
+            call()
+    with pytest.raises(ValueError, match="float32"):
+        Chain([LITTLE], (1,), "float32").encode([10**400])
+    single = Chain([LITTLE], (1,), "float32")
+    assert single.decode(single.encode([10**30])) == np.float32(1e30)
+    with pytest.raises(TypeError):
+        single.encode(np.array(["1"], object))
+
+
+JUNK = [
+    *(None, True, 0, -1, 1, 2**70, 10**400, 1.5, float("nan"), "", "x", "bytes", "int32", "NaN"),
+    *([], [0], [1, 1], [[]], {}, {"name": "bytes"}, {"name": 5}, {"optional": "int8"}, nested(60)),
+]
+
+
+def spoilt(rng, tree):
+    """The tree with junk at a random place, or without what is there."""
+    if rng.integers(4) == 0 or not isinstance(tree, (dict, list)) or not tree:
+        return JUNK[rng.integers(len(JUNK))]
+    tree = tree.copy()
+    keys = list(tree) if isinstance(tree, dict) else range(len(tree))
+    key = keys[rng.integers(len(keys))]
+    if rng.integers(6) == 0:
+        del tree[key]
+    else:
+        tree[key] = spoilt(rng, tree[key])
+    return tree
+
+
+def test_any_spoilt_chain_raises_a_refusal_or_is_made():
+    seed = int(np.random.SeedSequence().entropy % 2**32)
+    rng = np.random.default_rng(seed)
+    whole = [
+        ([transpose([1, 0]), reshape(6), LITTLE, {"name": "gzip", "configuration": {"level": 1}}], "int32", 0),
+        ([texts(data_codecs=[transpose([0]), LITTLE])], "string", "a"),
+        ([masks([packed(first_bit=0)], texts())], {"name": "zarrs.optional", "configuration": {"name": "string"}}, ["a"]),
+        ([packed(padding_encoding="last_byte", last_bit=1)], "uint4", 3),
+        ([LITTLE], "complex64", [0, "NaN"]),
+    ]
+    for number in range(1500):
+        said = list(whole[rng.integers(len(whole))])
+        for _ in range(rng.integers(1, 3)):
+            said = spoilt(rng, said)
+        if not isinstance(said, list) or len(said) != 3:
+            continue
+        try:
+            chain = Chain(said[0] if isinstance(said[0], list) else [said[0]], (2, 3), *said[1:])
+            chain.decode(chain.write(None, (), chain.read(None, ())))
+        except z.Refused as error:
+            assert str(error)
+        except Exception as error:
+            raise AssertionError(f"seed {seed}, number {number}: {said!r:.1000}") from error

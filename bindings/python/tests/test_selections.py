@@ -33,10 +33,15 @@ def test_no_index(index):
         CHAIN.read(VALUE, index)
 
 
-@pytest.mark.parametrize("index", ["a", 1.5, (slice(0, 1.5),), {}])
+@pytest.mark.parametrize("index", ["a", 1.5, {}, (0, "a")])
 def test_no_index_at_all(index):
-    with pytest.raises(TypeError):
+    with pytest.raises(IndexError, match="an index is an integer"):
         CHAIN.read(VALUE, index)
+
+
+def test_ends_of_slices_are_integers():
+    with pytest.raises(TypeError):
+        CHAIN.read(VALUE, np.s_[0:1.5])
 
 
 @pytest.mark.parametrize(

@@ -2,9 +2,19 @@
 
 import numpy as np
 import pytest
-from samples import VLEN, same, some_index, some_rows, some_shape, some_texts, transpose
+from samples import (
+    VLEN,
+    loose_values,
+    optional,
+    same,
+    some_index,
+    some_rows,
+    some_shape,
+    some_texts,
+    transpose,
+)
 
-from zarrs_codecs import Chain, _texts
+from zarrs_codecs import Chain, InvalidText, _texts
 
 BYTES_OF_ALL = b"".join(bytes([byte]) for byte in range(256))
 
@@ -83,9 +93,9 @@ def test_elements_that_are_no_texts():
     for wrong in ([1, 2], [b"a", b"b"], [None, "a"]):
         with pytest.raises(TypeError):
             chain.encode(np.array(wrong, object))
-    with pytest.raises(UnicodeEncodeError):
+    with pytest.raises(InvalidText):
         chain.encode(np.array(["\ud800", ""], object))
-    with pytest.raises(UnicodeDecodeError):
+    with pytest.raises(InvalidText):
         chain.decode(Chain([VLEN], (2,), "bytes", b"").encode(np.array([b"\xff", b""], object)))
 
 
@@ -93,7 +103,7 @@ def test_texts_cut_within_a_character():
     """Bytes that are a text together but not apart aren't read as one."""
     byte_strings = Chain([VLEN], (2,), "bytes", b"")
     value = byte_strings.encode(np.array([b"\xc3", b"\xa9"], object))
-    with pytest.raises(UnicodeDecodeError):
+    with pytest.raises(InvalidText):
         Chain([VLEN], (2,), "string", "").decode(value)
     same(byte_strings.decode(value), np.array([b"\xc3", b"\xa9"], object))
 
@@ -119,3 +129,28 @@ def test_values_longer_than_the_other_one(rng):
     value = narrow.reencode(narrow.encode(array), wide.codecs)
     assert value.size > narrow.encode(array).size + 1000
     same(wide.decode(value), array)
+
+
+@pytest.mark.parametrize("offsets, data, texts", [([2, 3, 4], "xxab", ["a", "b"]), ([1, 1, 2, 2], "xa", ["", "a", ""])])
+def test_stored_offsets_that_begin_above_zero(offsets, data, texts):
+    """Other writers store slices of longer lists so: their elements are the bytes between the offsets."""
+    for codec, value in loose_values(offsets, data.encode()):
+        chain = Chain([codec], (len(texts),), "string", "")
+        expected = np.array(texts, object)
+        same(chain.decode(value), expected)
+        same(chain.read(value, ...), expected)
+        same(chain.read(value, np.s_[1:]), expected[1:])
+        same(chain.decode(chain.write(value, 0, "new")), np.array(["new", *texts[1:]], object))
+        same(chain.reencode(value, [codec]), chain.encode(expected))
+        byte_strings = Chain([codec], (len(texts),), "bytes", b"")
+        assert byte_strings.decode(value).tolist() == [text.encode() for text in texts]
+
+
+def test_stored_offsets_that_begin_above_zero_under_a_mask():
+    for codec, inner in loose_values([2, 3, 4], b"xxab"):
+        mask = bytes([0b101])
+        value = len(mask).to_bytes(8, "little") + len(inner).to_bytes(8, "little") + mask + inner
+        chain = Chain([optional(codec)], (3,), {"optional": "string"})
+        for found in (chain.decode(value), chain.read(value, ...)):
+            assert found.tolist() == ["a", None, "b"]
+            assert found.data.tolist() == ["a", "", "b"]

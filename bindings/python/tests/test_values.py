@@ -92,7 +92,31 @@ def test_arrays_of_another_shape():
         with pytest.raises(ValueError, match="shape"):
             CHAIN.encode(array)
     with pytest.raises(ValueError):
-        CHAIN.write(VALUE, 0, np.zeros(2))
+        CHAIN.write(VALUE, 0, np.zeros(2, int))
+    with pytest.raises(TypeError, match="list"):
+        CHAIN.decode(VALUE, [[0] * 3] * 2)
+
+
+def test_leading_axes_of_one_element_are_passed_over():
+    expected = ARRAY.copy()
+    expected[1:] = new = np.arange(3).reshape(1, 1, 1, 3)
+    same(CHAIN.decode(CHAIN.write(VALUE, np.s_[1:], new)), expected)
+
+
+def test_a_list_of_codecs_is_the_callers_own():
+    codecs = [transpose([1, 0]), {"name": "bytes", "configuration": {"endian": "little"}}]
+    chain = Chain(codecs, (2, 3), "int32")
+    codecs[1]["configuration"]["endian"] = "big"
+    chain.codecs.append("gzip")
+    chain.codecs[0]["configuration"]["order"].reverse()
+    assert chain.codecs == [transpose([1, 0]), LITTLE]
+    same(pickle.loads(pickle.dumps(chain)).encode(ARRAY), chain.encode(ARRAY))
+
+
+@pytest.mark.parametrize("codecs", ["bytes", b"bytes", {"bytes": 1}])
+def test_codecs_that_are_no_list(codecs):
+    with pytest.raises(ValueError, match="list"):
+        Chain(codecs, (2, 3), "int32")
 
 
 def test_chains_are_pickled():

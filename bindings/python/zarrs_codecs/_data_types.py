@@ -1,18 +1,15 @@
-"""Data types and fill values: Zarr's names, the header's, and what numpy holds elements in."""
+"""Data types: Zarr's names, the header's, and what numpy holds elements in."""
 
-import base64
-import operator
 import re
+import reprlib
+from collections.abc import Callable
 from dataclasses import dataclass
-from functools import cached_property
+from functools import cached_property, partial
 from typing import Any
 
 import numpy as np
 
-from .refusals import InvalidFillValue
-
-_ABSENT = "00"
-_PRESENT = "01"
+from .refusals import UnsupportedDataType
 
 
 @dataclass(frozen=True)
@@ -20,7 +17,7 @@ class DataType:
     """A type of elements: of one size where `dtype` isn't `object`, and else texts or byte strings."""
 
     header: Any
-    dtype: np.dtype
+    dtype: np.dtype[Any]
     bits: int = 0
     is_text: bool = False
     is_optional: bool = False
@@ -31,12 +28,41 @@ class DataType:
         return self.dtype == object
 
     @cached_property
+    def bounds(self) -> tuple[int, int] | None:
+        """The lowest and the highest whole number of an integer type; of `bool` 0 and 1; None of others."""
+        if self.dtype.kind == "b":
+            return 0, 1
+        if self.dtype.kind not in "iu":
+            return None
+        if self.dtype.kind == "u":
+            return 0, (1 << self.bits) - 1
+        return -(1 << (self.bits - 1)), (1 << (self.bits - 1)) - 1
+
+    @property
+    def limits(self) -> tuple[int, int]:
+        """The bounds of a type that has some."""
+        assert self.bounds is not None
+        return self.bounds
+
+    @cached_property
+    def has_all(self) -> bool:
+        """Whether each element of numpy's type is one of this type."""
+        return self.dtype.kind not in "iu" or self.bits == 8 * self.dtype.itemsize
+
+    @cached_property
+    def name(self) -> str:
+        """The type as a message names it."""
+        named = {"f": f"float{self.bits}", "c": f"complex{self.bits}", "V": f"r{self.bits}"}
+        header = self.header["optional"] if self.is_optional else self.header
+        return named.get(self.dtype.kind, self.dtype.str if self.dtype.kind in "mMUS" else str(header))
+
+    @cached_property
     def is_plain(self) -> bool:
         """Whether elements are of one size, and all are there."""
         return not self.is_variable and not self.is_optional
 
 
-def _components(bits: int, count: int, signed: bool = False) -> dict:
+def _components(bits: int, count: int, signed: bool = False) -> dict[str, Any]:
     return {"components": {"bits": bits, "count": count, "signed": signed}}
 
 
@@ -65,86 +91,75 @@ def _named(name: str) -> DataType:
         return DataType("bytes", np.dtype(object))
     found = _numeric(name)
     if found is None:
-        raise ValueError(f"no data type is named {name!r}")
+        raise UnsupportedDataType(f"no data type is named {name!r}")
     return found
+
+
+_UNITS = ("Y", "M", "W", "D", "h", "m", "s", "ms", "us", "ns", "ps", "fs", "as", "generic")
+
+
+def _moments(letter: str, configuration: dict[str, Any]) -> DataType:
+    """Moments or lengths of time, as whole numbers of a unit."""
+    unit, factor = configuration["unit"], configuration["scale_factor"]
+    unit = "us" if unit in ("μs", "\u00b5s") else unit
+    if unit not in _UNITS or type(factor) is not int or not 1 <= factor < 1 << 31:
+        raise UnsupportedDataType(f"no data type has {reprlib.repr(configuration)}")
+    each = "" if unit == "generic" else f"[{factor}{unit}]"
+    return DataType("int64", np.dtype(f"<{letter}8{each}"), 64)
+
+
+def _sized(letter: str, configuration: dict[str, Any]) -> DataType:
+    """Texts, byte strings and bytes of one length."""
+    size, each = configuration["length_bytes"], 4 if letter == "U" else 1
+    if type(size) is not int or not 0 < size < 1 << 31 or size % each:
+        raise UnsupportedDataType(f"no data type has {reprlib.repr(configuration)}")
+    return DataType(_components(8 * each, size // each), np.dtype(f"<{letter}{size // each}"), 8 * size)
+
+
+# Types of zarr-python's that have a configuration.
+_CONFIGURED: dict[str, Callable[[dict[str, Any]], DataType]] = {
+    "numpy.datetime64": partial(_moments, "M"),
+    "numpy.timedelta64": partial(_moments, "m"),
+    "fixed_length_utf32": partial(_sized, "U"),
+    "null_terminated_bytes": partial(_sized, "S"),
+    "raw_bytes": partial(_sized, "V"),
+}
+
+
+def _configured(name: str, configuration: dict[str, Any]) -> DataType:
+    try:
+        return _CONFIGURED[name](configuration)
+    except KeyError as error:
+        raise UnsupportedDataType(f"the data type {name} has no key {error}") from error
 
 
 def _optional(inner: DataType) -> DataType:
     if inner.is_optional:
-        raise ValueError("an optional type of an optional type has no masked arrays")
+        raise UnsupportedDataType("an optional type of an optional type has no masked arrays")
     return DataType({"optional": inner.header}, inner.dtype, inner.bits, inner.is_text, True)
 
 
 def data_type(said: Any) -> DataType:
     """The type of a Zarr name, or of an object with a name; `{"optional": TYPE}` is a type too.
 
-    Raises `ValueError` where there is no such type.
+    Raises `UnsupportedDataType` where there is no such type.
     """
+    try:
+        return _data_type(said)
+    except RecursionError as error:
+        raise UnsupportedDataType("a data type is nested too deeply") from error
+
+
+def _data_type(said: Any) -> DataType:
     match said:
         case str(name):
             return _named(name)
         case {"optional": inner, **rest} if not rest:
-            return _optional(data_type(inner))
+            return _optional(_data_type(inner))
         case {"name": "optional" | "zarrs.optional", "configuration": dict(inner)}:
-            return _optional(data_type(inner))
+            return _optional(_data_type(inner))
+        case {"name": str(name), "configuration": dict(configuration)} if name in _CONFIGURED:
+            return _configured(name, configuration)
         case {"name": str(name), **rest} if not rest.get("configuration"):
             return _named(name)
-    raise ValueError(f"no data type is {said!r}")
-
-
-def _integer_bytes(kind: DataType, fill: Any) -> bytes:
-    value, signed = operator.index(fill), kind.dtype.kind == "i"
-    low, high = (-(1 << (kind.bits - 1)), 1 << (kind.bits - 1)) if signed else (0, 1 << kind.bits)
-    if not low <= value < high:
-        raise InvalidFillValue(f"{value} isn't of {kind.header}")
-    return value.to_bytes(kind.dtype.itemsize, "little", signed=signed)
-
-
-def _float_bytes(size: int, fill: Any) -> bytes:
-    if isinstance(fill, str) and fill.startswith("0x"):
-        return bytes.fromhex(fill[2:])[::-1]
-    return np.array(float(fill), f"<f{size}").tobytes()
-
-
-def _fixed_bytes(kind: DataType, fill: Any) -> bytes:
-    size = kind.dtype.itemsize
-    match kind.dtype.kind:
-        case "b":
-            if fill not in (False, True):
-                raise InvalidFillValue(f"{fill!r} isn't of bool")
-            return bytes([bool(fill)])
-        case "f":
-            return _float_bytes(size, fill)
-        case "c":
-            if not isinstance(fill, (list, tuple)):
-                fill = complex(fill).real, complex(fill).imag
-            return b"".join(_float_bytes(size // 2, part) for part in fill)
-        case "V":
-            return bytes(fill)
-    return _integer_bytes(kind, fill)
-
-
-def _variable_bytes(kind: DataType, fill: Any) -> bytes:
-    if kind.is_text:
-        return str.encode(fill)
-    return base64.b64decode(fill, validate=True) if isinstance(fill, str) else bytes(fill)
-
-
-def fill_hex(kind: DataType, fill: Any) -> str:
-    """The header's text of a fill value, which is as `zarr.json` has it or as Python does.
-
-    None is absent of an optional type, and of others zero or empty. Of an optional type, a list of one
-    value is this value. Raises `InvalidFillValue`, `ValueError` or `TypeError` where it isn't of the type.
-    """
-    end = ""
-    if kind.is_optional:
-        if fill is None:
-            return _ABSENT
-        end = _PRESENT
-        if isinstance(fill, list) and len(fill) == 1:
-            fill = fill[0]
-    if fill is None:
-        return bytes(kind.dtype.itemsize if not kind.is_variable else 0).hex() + end
-    if kind.is_variable:
-        return _variable_bytes(kind, fill).hex() + end
-    return _fixed_bytes(kind, fill).hex() + end
+    raise UnsupportedDataType(f"no data type is {reprlib.repr(said)}")

@@ -1,6 +1,9 @@
 """Arrays of elements, as they cross: three buffers of masks, offsets and bytes."""
 
 import math
+import numbers
+import operator
+import reprlib
 from collections.abc import Callable
 from ctypes import byref
 from typing import Any
@@ -11,36 +14,121 @@ from ._buffers import lent, start
 from ._data_types import DataType
 from ._library import SHORT, Sizes, checked
 from ._texts import joined, parted
+from ._types import AnyArray
 
-_NONE = (None, 0)
+_ma: Any = np.ma  # numpy says no types of it
+_NONE: tuple[Any, int] = (None, 0)
+# Python's numbers that floats and complex numbers are made of.
+_NUMBERS: dict[str, type] = {"f": numbers.Real, "c": numbers.Complex}
+
+
+def masked(data: AnyArray, absent: Any) -> AnyArray:
+    """An array whose elements are absent where this is true."""
+    array: AnyArray = _ma.MaskedArray(data, absent)
+    return array
+
+
+def mask_of(array: AnyArray) -> AnyArray:
+    """Which elements are absent."""
+    mask: AnyArray = _ma.getmaskarray(array)
+    return mask
 
 
 def _all_there(array: Any) -> Any:
     """The same, where no element is absent."""
-    if np.ma.is_masked(array):
+    if _ma.is_masked(array):
         raise ValueError("an element is absent, and the data type isn't an optional one")
     return array
 
 
-def given(kind: DataType, array: Any) -> tuple:
-    """What C is given of an array's elements: masks, offsets and bytes, and how many each are."""
+def _blank(kind: DataType, dtype: np.dtype[Any]) -> Any:
+    """What stands under an absent element, as numpy holds it in this type."""
+    if dtype == object and kind.is_variable:
+        return "" if kind.is_text else b""
+    return np.zeros((), dtype)[()]
+
+
+def _whole_numbers(kind: DataType, array: AnyArray) -> AnyArray:
+    """Whole numbers as the type holds them. Raises `ValueError` where it can't hold one."""
+    low, high = kind.limits
+    if array.size:
+        least, most = int(array.min()), int(array.max())
+        if least < low or most > high:
+            wrong = least if least < low else most
+            raise ValueError(f"{reprlib.repr(wrong)} isn't of {kind.name}, which has {low} to {high}")
+    return array.astype(kind.dtype)
+
+
+def _held(kind: DataType, array: AnyArray) -> AnyArray:
+    """Elements as the type holds them, where none is absent."""
+    if kind.is_variable:
+        return np.asarray(array, object)
+    if array.dtype == kind.dtype and kind.has_all:
+        return array
+    if array.size == 0:
+        return np.empty(array.shape, kind.dtype)
+    if kind.bounds is not None:
+        if array.dtype == object:
+            array = np.asarray(np.frompyfunc(operator.index, 1, 1)(array), object)
+        if array.dtype.kind in "biuO":
+            if kind.has_all and np.can_cast(array.dtype, kind.dtype):
+                return array.astype(kind.dtype)
+            return _whole_numbers(kind, array)
+    if kind.dtype.kind in "US" and array.dtype.itemsize > kind.dtype.itemsize:
+        longest = int(np.char.str_len(array).max()) if array.dtype.kind in "US" else 0
+        if longest > kind.dtype.itemsize // (4 if kind.dtype.kind == "U" else 1):
+            raise ValueError(f"an element of length {longest} isn't of {kind.name}")
+    numbers_of = _NUMBERS.get(kind.dtype.kind)
+    is_numbers = array.dtype == object and numbers_of and all(isinstance(one, numbers_of) for one in array.flat)
+    try:
+        return array.astype(kind.dtype, casting="unsafe" if is_numbers else "same_kind")
+    except OverflowError as error:
+        raise ValueError(f"an element isn't of {kind.name}: {error}") from error
+
+
+def _as_array(kind: DataType, array: Any) -> AnyArray:
+    """Elements as numpy has them: of Python's whole numbers, which have no bounds, it would make floats of some."""
+    made = np.asarray(array)
+    if kind.bounds is None or made is array or made.dtype.kind in "biu":
+        return made
+    return made if isinstance(array, (np.ndarray, np.generic)) else np.asarray(array, object)
+
+
+def held(kind: DataType, array: Any) -> AnyArray:
+    """Elements as the type holds them; whatever stands under absent ones, it is of the type.
+
+    Whole numbers are of the type where it can hold them; else numpy's casting within a kind is allowed. Raises
+    `ValueError` where the type can't hold a number or an element is absent, and `TypeError` where the kinds
+    differ.
+    """
+    if not kind.is_optional:
+        return _held(kind, _as_array(kind, _all_there(array)))
+    array = _ma.asarray(array)
+    absent = mask_of(array)
+    data = array.data
+    if data.dtype == kind.dtype and kind.has_all and not kind.is_variable:
+        return masked(data, absent)
+    if absent.all():
+        data = np.full(array.shape, _blank(kind, kind.dtype), kind.dtype)
+    elif absent.any():
+        data = data.copy()
+        data[absent] = _blank(kind, data.dtype)
+    return masked(_held(kind, data), absent)
+
+
+def given(kind: DataType, array: AnyArray) -> tuple[Any, ...]:
+    """What C is given of elements that the type holds: masks, offsets and bytes, and how many each are."""
     masks = _NONE
     if kind.is_optional:
-        array = np.ma.asarray(array)
-        absent = np.ma.getmaskarray(array)
-        masks = lent(np.ascontiguousarray(~absent))
-        array = array.data
-        if kind.is_variable:
-            array = np.where(absent, "" if kind.is_text else b"", array)
-    else:
-        array = _all_there(array)
+        masks = lent(np.ascontiguousarray(~mask_of(array)))
+        array = np.asarray(array.data)
     if not kind.is_variable:
-        return *masks, *_NONE, *lent(np.ascontiguousarray(array, kind.dtype))
-    offsets, whole = joined(np.asarray(array, object).ravel().tolist(), kind.is_text)
+        return *masks, *_NONE, *lent(np.ascontiguousarray(array))
+    offsets, whole = joined(array.ravel().tolist(), kind.is_text)
     return *masks, start(offsets), offsets.size, *lent(whole)
 
 
-def _told_texts(kind: DataType, call: Callable, masks: tuple, count: int, room: int) -> np.ndarray:
+def _told_texts(kind: DataType, call: Callable[..., Any], masks: tuple[Any, ...], count: int, room: int) -> AnyArray:
     """The texts that a call tells, whose bytes are as many as `room` or not."""
     offsets, whole, sizes = np.empty(count + 1, np.uint64), np.empty(room, np.uint8), Sizes()
     code = call(*masks, start(offsets), offsets.size, start(whole), whole.size, byref(sizes))
@@ -51,12 +139,12 @@ def _told_texts(kind: DataType, call: Callable, masks: tuple, count: int, room: 
     return parted(offsets, whole[: sizes.bytes].tobytes(), kind.is_text)
 
 
-def told_into(array: np.ndarray, call: Callable) -> None:
+def told_into(array: AnyArray, call: Callable[..., Any]) -> None:
     """Writes the elements that a call tells, of one size and all there, into an array in one piece."""
     checked(call(None, 0, None, 0, start(array), array.nbytes, byref(Sizes())))
 
 
-def told(kind: DataType, call: Callable, shape: tuple[int, ...], room: int = 0) -> np.ndarray:
+def told(kind: DataType, call: Callable[..., Any], shape: tuple[int, ...], room: int = 0) -> AnyArray:
     """The elements that a call tells, which takes three buffers and their sizes last."""
     if kind.is_plain:
         array = np.empty(shape, kind.dtype)
@@ -72,26 +160,34 @@ def told(kind: DataType, call: Callable, shape: tuple[int, ...], room: int = 0) 
         checked(call(*masks, None, 0, start(array), array.nbytes, byref(Sizes())))
     if not kind.is_optional:
         return array
-    return np.ma.MaskedArray(array, np.logical_not(present, out=present).reshape(shape))
+    return masked(array, np.logical_not(present, out=present).reshape(shape))
 
 
-def empty(kind: DataType, shape: tuple[int, ...]) -> np.ndarray:
-    """An array of such elements, whose values are still to be written."""
-    return np.ma.masked_all(shape, kind.dtype) if kind.is_optional else np.empty(shape, kind.dtype)
+def empty(kind: DataType, shape: tuple[int, ...]) -> AnyArray:
+    """An array of such elements, whose values are still to be written; absent ones, over blanks, where the
+    type is an optional one."""
+    if not kind.is_optional:
+        return np.empty(shape, kind.dtype)
+    return masked(np.full(shape, _blank(kind, kind.dtype), kind.dtype), True)
 
 
-def takes(kind: DataType, out: np.ndarray, shape: tuple[int, ...]) -> bool:
-    """Whether C can write elements into an array as it stands."""
+def takes(kind: DataType, out: AnyArray, shape: tuple[int, ...]) -> bool:
+    """Whether C can write elements into an array as it stands. Raises `TypeError` where it is none."""
+    if not isinstance(out, np.ndarray):
+        raise TypeError(f"out is a {type(out).__name__}, where an array is due")
     return kind.is_plain and out.dtype == kind.dtype and out.shape == shape and out.flags.carray
 
 
-def put(elements: Any, out: np.ndarray | None) -> np.ndarray:
+def put(elements: Any, out: AnyArray | None) -> AnyArray:
     """The elements; in `out` where it is given, an array of their shape."""
     if out is None:
-        return elements
+        answer: AnyArray = elements
+        return answer
+    if not isinstance(out, np.ndarray):
+        raise TypeError(f"out is a {type(out).__name__}, where an array is due")
     if out.shape != np.shape(elements):
         raise ValueError(f"out of shape {out.shape}, where {np.shape(elements)} is due")
-    if not isinstance(out, np.ma.MaskedArray):
+    if not isinstance(out, _ma.MaskedArray):
         elements = _all_there(elements)
     out[...] = elements
     return out
@@ -99,17 +195,21 @@ def put(elements: Any, out: np.ndarray | None) -> np.ndarray:
 
 def spread(
     kind: DataType,
-    array: Any,
+    array: AnyArray,
     shape: tuple[int, ...],
-    after: tuple | None,
-    whole: np.ndarray | None = None,
-) -> np.ndarray:
+    after: tuple[Any, ...] | None,
+    whole: AnyArray | None = None,
+) -> AnyArray:
     """An array of this shape whose elements at numpy's index `after`, all where it is None, are the given
-    ones, broadcast; the others are those of `whole`, which is changed."""
-    array = array if kind.is_optional else _all_there(array)
+    ones, which the type holds, broadcast; the others are those of `whole`, which is changed."""
+    if after is None and array.shape == shape:
+        return array
     if after is None and not kind.is_optional:
-        array = np.asarray(array, kind.dtype)
-        return array if array.shape == shape else np.broadcast_to(array, shape)
+        # numpy passes over leading axes of one element
+        while array.ndim > len(shape) and array.shape[0] == 1:
+            array = array[0]
+        return np.broadcast_to(array, shape)
     whole = empty(kind, shape) if whole is None else whole
-    whole[... if after is None else after] = array
+    # an array without axes that holds a text is no text
+    whole[... if after is None else after] = array if array.ndim else array[()]
     return whole

@@ -35,8 +35,9 @@ class Sizes(ctypes.Structure):
 
 
 def _loaded() -> ctypes.CDLL:
-    made = Path(__file__).parents[2] / "out" / "libzarrs_codecs.so"
-    path = os.environ.get("ZARRS_CODECS_LIBRARY") or str(made)
+    name = "libzarrs_codecs.so"
+    installed, built = Path(__file__).with_name(name), Path(__file__).parents[2] / "out" / name
+    path = os.environ.get("ZARRS_CODECS_LIBRARY") or str(installed if installed.is_file() else built)
     try:
         library = ctypes.CDLL(path)
     except OSError as error:
@@ -51,6 +52,26 @@ def _loaded() -> ctypes.CDLL:
 
 
 library = _loaded()
+
+
+def _is_proved() -> bool:
+    """Whether the library is one that was proved: one that wasn't has a word that says so."""
+    try:
+        ctypes.c_int8.in_dll(library, "zarrs_unproved")
+    except ValueError:
+        return True
+    return False
+
+
+proved = _is_proved()
+
+
+def version() -> str | None:
+    """What the library says of its version; None of one that says nothing."""
+    try:
+        return ctypes.string_at(ctypes.addressof(ctypes.c_char.in_dll(library, "zarrs_version"))).decode()
+    except ValueError:
+        return None
 
 
 def name_of(code: int) -> str:

@@ -10,8 +10,7 @@ import numpy as np
 
 from ._buffers import lent, start
 from ._library import BOX
-
-Shape = tuple[int, ...]
+from ._types import AnyArray, Shape
 
 # Boxes of fewer elements than these that are apart from each other are read as rows, so many at a time.
 _FEW_TOGETHER = 256
@@ -25,7 +24,7 @@ Arguments = tuple[int, Any, int]
 class Rows:
     """Elements' indices, a row for each."""
 
-    rows: np.ndarray
+    rows: AnyArray
     after: None = None
     has_gaps: bool = False
 
@@ -54,7 +53,7 @@ class Box:
     they are the answer. C is given no gaps, so they have to be closed, or the parts to be taken."""
 
     on_axes: list[range]
-    after: tuple | None
+    after: tuple[Any, ...] | None
 
     @property
     def shape(self) -> Shape:
@@ -112,14 +111,15 @@ class Box:
             on_axes[axis] = _rising(one[first : first + step])
             yield from Box(on_axes, None).parts(limit)
 
-    def _rows(self) -> np.ndarray:
+    def _rows(self) -> AnyArray:
         """The elements' indices."""
         places = [np.arange(one.start, one.stop, one.step, np.uint64) for one in self.on_axes]
         grid = np.meshgrid(*places, indexing="ij")
-        return np.stack(grid, axis=-1).reshape(-1, len(places))
+        rows: AnyArray = np.stack(grid, axis=-1).reshape(-1, len(places))
+        return rows
 
 
-def _stepped(after: tuple | None, steps: list[int]) -> tuple:
+def _stepped(after: tuple[Any, ...] | None, steps: list[int]) -> tuple[Any, ...]:
     """An index over axes with so many places for each one before."""
     if after is None:
         return tuple(slice(None, None, step) for step in steps)
@@ -134,7 +134,7 @@ def _stepped(after: tuple | None, steps: list[int]) -> tuple:
     return tuple(stepped)
 
 
-def _entries(selection: Any, axes: int) -> tuple[list, bool]:
+def entries_of(selection: Any, axes: int) -> tuple[list[Any], bool]:
     """An entry for each axis, None for each new one, and whether there was an ellipsis."""
     entries = list(selection) if isinstance(selection, tuple) else [selection]
     ellipses = [place for place, one in enumerate(entries) if one is Ellipsis]
@@ -149,7 +149,12 @@ def _entries(selection: Any, axes: int) -> tuple[list, bool]:
 def _place(index: Any, axis: int, size: int) -> int:
     if isinstance(index, (bool, np.bool_)):
         raise IndexError("a truth value is no index here")
-    place = operator.index(index)
+    try:
+        place = operator.index(index)
+    except TypeError as error:
+        raise IndexError(
+            f"an index is an integer, a slice, `...` or None here, and not {type(index).__name__}"
+        ) from error
     if not -size <= place < size:
         raise IndexError(f"index {place} is out of bounds for axis {axis} with size {size}")
     return place % size
@@ -163,8 +168,9 @@ def _rising(places: range) -> range:
 
 
 def box(selection: Any, shape: Shape) -> Box:
-    """The places that a basic index means. Raises `IndexError` or `TypeError` where it is none."""
-    entries, has_ellipsis = _entries(selection, len(shape))
+    """The places that a basic index means. Raises `IndexError` where it is none, and `TypeError`
+    where a slice has other ends than integers."""
+    entries, has_ellipsis = entries_of(selection, len(shape))
     on_axes: list[range] = []
     after: list[Any] = []
     is_answer = bool(shape) or has_ellipsis

@@ -1,8 +1,12 @@
 """Texts and byte strings as numpy's object arrays, and as C's offsets with joined bytes."""
 
 from itertools import pairwise
+from typing import Any
 
 import numpy as np
+
+from ._types import AnyArray
+from .refusals import InvalidText
 
 
 def _unused_byte(whole: bytes, is_text: bool) -> int | None:
@@ -10,18 +14,27 @@ def _unused_byte(whole: bytes, is_text: bool) -> int | None:
     return next((byte for byte in range(128 if is_text else 256) if byte not in whole), None)
 
 
-def _text_lengths(elements: list, whole: bytes) -> np.ndarray:
+def _text_lengths(elements: list[Any], whole: bytes) -> AnyArray:
     """How many bytes each text has."""
     byte = _unused_byte(whole, True)
     if byte is None or not elements:
         return np.fromiter(map(len, map(str.encode, elements)), np.int64, len(elements))
     separated = chr(byte).join(elements).encode()
     ends = np.flatnonzero(np.frombuffer(separated, np.uint8) == byte)
-    return np.diff(ends, prepend=-1, append=len(separated)) - 1
+    lengths: AnyArray = np.diff(ends, prepend=-1, append=len(separated)) - 1
+    return lengths
 
 
-def joined(elements: list, is_text: bool) -> tuple[np.ndarray, bytes]:
-    """The offsets of the elements' bytes, and these bytes, joined."""
+def joined(elements: list[Any], is_text: bool) -> tuple[AnyArray, bytes]:
+    """The offsets of the elements' bytes, and these bytes, joined. Raises `InvalidText` where a text has none,
+    and `TypeError` where an element is no text or no byte string."""
+    try:
+        return _joined(elements, is_text)
+    except UnicodeEncodeError as error:
+        raise InvalidText(f"an element is no text: {error}") from error
+
+
+def _joined(elements: list[Any], is_text: bool) -> tuple[AnyArray, bytes]:
     if is_text:
         whole = "".join(elements).encode()
         lengths = _text_lengths(elements, whole)
@@ -33,7 +46,7 @@ def joined(elements: list, is_text: bool) -> tuple[np.ndarray, bytes]:
     return offsets.view(np.uint64), whole
 
 
-def _separated(offsets: np.ndarray, whole: bytes, byte: int) -> bytes:
+def _separated(offsets: AnyArray, whole: bytes, byte: int) -> bytes:
     """The elements' bytes with one byte between each and the next."""
     count = len(offsets) - 1
     is_element = np.ones(len(whole) + count - 1, bool)
@@ -43,8 +56,15 @@ def _separated(offsets: np.ndarray, whole: bytes, byte: int) -> bytes:
     return separated.tobytes()
 
 
-def parted(offsets: np.ndarray, whole: bytes, is_text: bool) -> np.ndarray:
-    """The elements whose joined bytes begin at these offsets. Bytes that are no text raise `UnicodeError`."""
+def parted(offsets: AnyArray, whole: bytes, is_text: bool) -> AnyArray:
+    """The elements whose joined bytes begin at these offsets. Raises `InvalidText` where bytes are no text."""
+    try:
+        return _parted(offsets, whole, is_text)
+    except UnicodeDecodeError as error:
+        raise InvalidText(f"an element's bytes are no text: {error}") from error
+
+
+def _parted(offsets: AnyArray, whole: bytes, is_text: bool) -> AnyArray:
     elements = np.empty(len(offsets) - 1, object)
     if len(elements) == 0:
         return elements

@@ -1,83 +1,28 @@
 """A Zarr v3 array in a folder."""
 
-import contextlib
 import itertools
-import json
 import math
+import operator
 import os
-import secrets
-from collections.abc import Iterator
+from collections.abc import Iterator, Sequence
 from pathlib import Path
 from typing import Any
 
 import numpy as np
+from numpy.typing import ArrayLike, DTypeLike
 
-from ._data_types import data_type
-from ._elements import empty, spread
+from ._attributes import Attributes, bytes_of
+from ._chunks import Chunks
+from ._data_types import data_type as data_type_of
+from ._elements import empty, held, spread
+from ._files import replace
+from ._fill_values import fill_json
+from ._indexing import Outer, Points, is_list
+from ._metadata import made, metadata_of, parsed, usual_codecs
 from ._selections import box
+from ._types import AnyArray, Shape
 from .chain import Chain
-
-_NEEDED = {"shape", "data_type", "chunk_grid", "chunk_key_encoding", "fill_value", "codecs"}
-_KNOWN = _NEEDED | {
-    "attributes",
-    "dimension_names",
-    "node_type",
-    "storage_transformers",
-    "zarr_format",
-}
-
-
-def _named(said: Any) -> tuple[str, dict]:
-    """The name and the configuration of an extension point, which may be its name alone."""
-    match said:
-        case str(name):
-            return name, {}
-        case {"name": str(name), **rest}:
-            return name, rest.get("configuration") or {}
-    raise ValueError(f"zarr.json has no name in {said!r}")
-
-
-def _sizes(said: Any) -> tuple[int, ...]:
-    """The sizes of a shape."""
-    if not isinstance(said, list) or any(type(size) is not int or size < 0 for size in said):
-        raise ValueError(f"zarr.json has the shape {said!r}")
-    return tuple(said)
-
-
-def _checked(metadata: dict) -> dict:
-    """A `zarr.json` of an array that is read here; `ValueError` says why not."""
-    if (metadata.get("zarr_format"), metadata.get("node_type")) != (3, "array"):
-        raise ValueError("zarr.json isn't of an array of Zarr v3")
-    for key in sorted(metadata.keys() - _KNOWN):
-        value = metadata[key]
-        if not isinstance(value, dict) or value.get("must_understand") is not False:
-            raise ValueError(f"zarr.json has the unknown key {key!r}")
-    for key in sorted(_NEEDED - metadata.keys()):
-        raise ValueError(f"zarr.json has no key {key!r}")
-    if metadata.get("storage_transformers"):
-        raise ValueError("storage transformers aren't read")
-    return metadata
-
-
-class _Keys:
-    """Where chunks are: the encoding of their numbers in names."""
-
-    def __init__(self, said: Any) -> None:
-        name, configuration = _named(said)
-        if name not in ("default", "v2"):
-            raise ValueError(f"no encoding of chunk keys is named {name!r}")
-        self._is_v2 = name == "v2"
-        self._separator = configuration.get("separator", "." if self._is_v2 else "/")
-        if self._separator not in (".", "/"):
-            raise ValueError(f"chunk keys separated by {self._separator!r}")
-
-    def key(self, chunk: tuple[int, ...]) -> str:
-        """The key of the chunk of these numbers."""
-        numbers = map(str, chunk)
-        if self._is_v2:
-            return self._separator.join(numbers) or "0"
-        return self._separator.join(["c", *numbers])
-
+from .refusals import Refused
 
 # A chunk's numbers, the places in it, and those in the answer.
 Part = tuple[tuple[int, ...], tuple[slice, ...], tuple[slice, ...]]
@@ -98,51 +43,206 @@ def _on_axis(on_axis: range, size: int) -> list[tuple[int, slice, slice]]:
     return found
 
 
+class Info(dict[str, Any]):
+    """What an array is, by names; printed a line each."""
+
+    def __repr__(self) -> str:
+        width = max(map(len, self))
+        return "\n".join(f"{name:{width}}  {value}" for name, value in self.items())
+
+
 class Array:
     """A Zarr v3 array in a folder: `zarr.json`, a regular grid, and a file for each chunk.
 
-    Basic indices of numpy read and write. Reading touches the chunks that have elements of the answer, and
-    of each, where its chain plans its reads, the bytes that these elements need; a chunk that isn't there has
-    fill values. Writing replaces whole files, each by a rename, so a reader sees a chunk as it was or as it
-    is; two writers of one chunk must take turns. Raises `ValueError` where the folder is no such array, and
-    the refusals of `Chain`.
+    Basic indices of numpy read and write, and so do lists of places and masks, as numpy's do, for one axis or
+    as a mask of all; `oindex` takes several, each with each, `vindex` points. An answer has numpy's shape of the
+    index; texts and byte strings are in object arrays, elements that may be absent in masked ones. What is
+    written is broadcast as numpy does.
+
+    Reading touches the chunks that have elements of the answer, and of each, where its chain plans its reads,
+    the bytes that these elements need; a chunk that isn't there has fill values. Values that are needed whole
+    are kept, `cache` bytes at most, behind the codecs that Python runs, for as long as the file is the same.
+    Writing replaces whole files, each by a rename of one that is on the disk as a whole, with the mode that the
+    file had, so a reader sees a chunk as it was or as it is; two writers of one chunk must take turns. `threads`
+    chunks are read or written at a time.
+
+    The folder is that of the moment when it is opened, whatever folder is the current one later;
+    `FileNotFoundError` is raised where it isn't there or has no `zarr.json` any more. Raises `InvalidMetadata`
+    where its `zarr.json` is of no such array, the refusals of `Chain`, `InvalidBytesLength` for a chunk of
+    another length than its codecs always write, `IndexError` for an index that is none, `ValueError` for
+    elements that don't broadcast or aren't of the type, and `TypeError` for those of another kind.
+
+    >>> import tempfile
+    >>> folder = tempfile.TemporaryDirectory()
+    >>> array = Array.create(folder.name, (4, 6), (2, 3), "float32", fill_value=0.5)
+    >>> array[1, :3] = [1, 2, 3]
+    >>> Array(folder.name)[:2, 1:4]
+    array([[0.5, 0.5, 0.5],
+           [2. , 3. , 0.5]], dtype=float32)
+    >>> array[[1, 3], 0]
+    array([1. , 0.5], dtype=float32)
+    >>> array.shape, array.chunks, array.ndim, array.size, array.nbytes
+    ((4, 6), (2, 3), 2, 24, 96)
     """
 
-    def __init__(self, folder: str | os.PathLike) -> None:
-        self.folder = Path(folder)
-        said = json.loads((self.folder / "zarr.json").read_text("utf-8"))
-        self.metadata: dict[str, Any] = _checked(said)
-        name, grid = _named(said["chunk_grid"])
-        if name != "regular":
-            raise ValueError(f"a chunk grid that is {name!r}, where regular ones are read")
-        self.shape = _sizes(said["shape"])
-        self.chunks = _sizes(grid.get("chunk_shape"))
-        if len(self.shape) != len(self.chunks):
-            raise ValueError(
-                f"chunks of {len(self.chunks)} axes, where the array has {len(self.shape)}"
-            )
-        self._keys = _Keys(said["chunk_key_encoding"])
-        self.chain = Chain(said["codecs"], self.chunks, said["data_type"], said["fill_value"])
-        self._type = data_type(said["data_type"])
+    def __init__(self, folder: str | os.PathLike[str], *, cache: int = 1 << 25, threads: int = 1) -> None:
+        self.folder = Path(os.path.abspath(folder))
+        self._settings = {"cache": operator.index(cache), "threads": operator.index(threads)}
+        path = self.folder / "zarr.json"
+        try:
+            found = metadata_of(path)
+            said, self.shape, self.chunks = found.said, found.shape, found.chunks
+            self.chain = Chain(said["codecs"], self.chunks, said["data_type"], said["fill_value"])
+        except Refused as error:
+            error.path = path
+            raise
+        self.metadata: dict[str, Any] = said
+        self.dimension_names = found.names
+        self._attributes = Attributes(path, said)
+        self._type = data_type_of(said["data_type"])
         self.dtype = self._type.dtype
         self.ndim = len(self.shape)
         self.size = math.prod(self.shape)
-        self._fill = self.chain.read(None, (0,) * self.ndim)
+        self._fill: Any = self.chain.read(None, (0,) * self.ndim)
+        self._chunks = Chunks(str(self.folder), found.keys, self.chain, self._type, **self._settings)
+
+    @classmethod
+    def create(
+        cls,
+        folder: str | os.PathLike[str],
+        shape: Sequence[int],
+        chunks: Sequence[int],
+        data_type: Any,
+        *,
+        fill_value: Any = None,
+        codecs: Sequence[Any] | None = None,
+        attributes: dict[str, Any] | None = None,
+        dimension_names: Sequence[str | None] | None = None,
+        cache: int = 1 << 25,
+        threads: int = 1,
+    ) -> "Array":
+        """A new array, in a folder that isn't there or is empty: else `FileExistsError` is raised, and the
+        refusals of opening such an array where there is none.
+
+        `data_type` is as `zarr.json` has it, `fill_value` so or as Python does; None is zero, empty or absent.
+        Without `codecs` the elements are stored as they are, the lowest byte first.
+
+        >>> import tempfile
+        >>> with tempfile.TemporaryDirectory() as folder:
+        ...     array = Array.create(folder, [3], [2], "string", fill_value="?", dimension_names=["x"])
+        ...     array[0] = "a text"
+        ...     array[...], array.dimension_names
+        (array(['a text', '?', '?'], dtype=object), ('x',))
+        """
+        shape, chunks = tuple(map(operator.index, shape)), tuple(map(operator.index, chunks))
+        kind = data_type_of(data_type)
+        codecs = usual_codecs(kind) if codecs is None else list(codecs)
+        first: Any = Chain(codecs, chunks, data_type, fill_value).read(None, (0,) * len(chunks))
+        metadata = made(shape, chunks, data_type, fill_json(kind, first), codecs)
+        if attributes is not None:
+            metadata["attributes"] = attributes
+        if dimension_names is not None:
+            metadata["dimension_names"] = list(dimension_names)
+        whole = bytes_of(metadata)
+        parsed(metadata)
+        os.makedirs(folder, exist_ok=True)
+        if any(os.scandir(folder)):
+            raise FileExistsError(f"{os.fspath(folder)} isn't empty")
+        replace(os.path.join(os.path.abspath(folder), "zarr.json"), whole)
+        return cls(folder, cache=cache, threads=threads)
+
+    @property
+    def attrs(self) -> Attributes:
+        """The attributes, by their names. One that is set or deleted is so in `zarr.json` at once.
+
+        >>> import tempfile
+        >>> with tempfile.TemporaryDirectory() as folder:
+        ...     Array.create(folder, [3], [2], "int8", attributes={"unit": "m"}).attrs["by"] = "hand"
+        ...     Array(folder).attrs
+        {'unit': 'm', 'by': 'hand'}
+        """
+        return self._attributes
+
+    @property
+    def fill_value(self) -> Any:
+        """The element that is everywhere where nothing is stored, as numpy holds it; None where it is absent.
+
+        >>> import tempfile
+        >>> with tempfile.TemporaryDirectory() as folder:
+        ...     Array.create(folder, [3], [2], "float32", fill_value="NaN").fill_value
+        nan
+        """
+        return None if self._fill is np.ma.masked else self._fill
+
+    @property
+    def nbytes(self) -> int:
+        """How many bytes all elements have in numpy's array of them, without those of texts themselves.
+
+        >>> import tempfile
+        >>> with tempfile.TemporaryDirectory() as folder:
+        ...     Array.create(folder, [3], [2], "float32").nbytes
+        12
+        """
+        return self.size * self.dtype.itemsize
+
+    @property
+    def info(self) -> Info:
+        """What the array is, a dict by names, which prints a line each.
+
+        >>> import tempfile
+        >>> with tempfile.TemporaryDirectory() as folder:
+        ...     print(Array.create(folder, [3], [2], "int8").info)  # doctest: +ELLIPSIS
+        folder           ...
+        shape            (3,)
+        chunks           (2,)
+        data type        int8
+        fill value       0
+        codecs           ['bytes']
+        Python's codecs  []
+        bytes            3
+        """
+        names = [codec if isinstance(codec, str) else codec["name"] for codec in self.chain.codecs]
+        count = len(names) - len(self.chain.unproved)
+        return Info(
+            {
+                "folder": os.fspath(self.folder),
+                "shape": self.shape,
+                "chunks": self.chunks,
+                "data type": self.metadata["data_type"],
+                "fill value": self.metadata["fill_value"],
+                "codecs": names[:count],
+                "Python's codecs": names[count:],
+                "bytes": self.nbytes,
+            }
+        )
 
     def __repr__(self) -> str:
         return f"Array({os.fspath(self.folder)!r})"
 
-    def __reduce__(self) -> tuple:
-        return Array, (self.folder,)
+    def __reduce__(self) -> tuple[Any, ...]:
+        return _opened, (self.folder, self._settings)
 
     def __len__(self) -> int:
         if not self.shape:
             raise TypeError("len() of an array without axes")
         return self.shape[0]
 
-    def chunk_path(self, chunk: tuple[int, ...]) -> Path:
-        """The file of the chunk of these numbers, which may not be there."""
-        return self.folder / self._keys.key(chunk)
+    def __array__(self, dtype: DTypeLike = None, copy: bool | None = None) -> AnyArray:
+        """All elements, as numpy's functions ask for them; absent ones, which numpy's own arrays don't have,
+        come out blank. A read makes a new array, so `copy=False` raises `ValueError`."""
+        if copy is False:
+            raise ValueError("an array is read from its files, and so always copied")
+        return np.asarray(self[...], dtype)
+
+    def chunk_path(self, chunk: Shape) -> Path:
+        """The file of the chunk of these numbers, which may not be there.
+
+        >>> import tempfile
+        >>> with tempfile.TemporaryDirectory() as folder:
+        ...     str(Array.create(folder, [9], [3], "int8").chunk_path((2,)).relative_to(folder))
+        'c/2'
+        """
+        return Path(self._chunks.path(chunk))
 
     def _parts(self, on_axes: list[range]) -> Iterator[Part]:
         touched = [_on_axis(on_axis, size) for on_axis, size in zip(on_axes, self.chunks)]
@@ -150,47 +250,144 @@ class Array:
             numbers, inside, there = zip(*each) if each else ((), (), ())
             yield numbers, inside, there
 
+    @property
+    def oindex(self) -> "OuterIndex":
+        """`array.oindex[..]` takes a list of places or a mask for each axis that has one, each with each. The
+        answer has an axis for each list and slice, in their order.
+
+        >>> import tempfile
+        >>> with tempfile.TemporaryDirectory() as folder:
+        ...     array = Array.create(folder, [3, 4], [2, 2], "int8")
+        ...     array[...] = np.arange(12).reshape(3, 4)
+        ...     array.oindex[[2, 0], [True, False, False, True]]
+        array([[ 8, 11],
+               [ 0,  3]], dtype=int8)
+        """
+        return OuterIndex(self)
+
+    @property
+    def vindex(self) -> "PointIndex":
+        """`array.vindex[..]` takes points: an index for each axis, which are broadcast and have the shape of the
+        answer; or a mask of all.
+
+        >>> import tempfile
+        >>> with tempfile.TemporaryDirectory() as folder:
+        ...     array = Array.create(folder, [3, 4], [2, 2], "int8")
+        ...     array.vindex[[0, 2], [1, -1]] = [5, 6]
+        ...     array[...].tolist()
+        [[0, 5, 0, 0], [0, 0, 0, 0], [0, 0, 0, 6]]
+        """
+        return PointIndex(self)
+
     def __getitem__(self, selection: Any) -> Any:
+        if _is_mask(selection, self.shape):
+            return self.vindex[selection]
+        if _has_list(selection):
+            return self._read_outer(*self._numpys(selection))
         chosen = box(selection, self.shape)
         answer = empty(self._type, chosen.shape)
-        for chunk, inside, there in self._parts(chosen.on_axes):
-            self._read_chunk(chunk, inside, answer, (*there, ...))
+        parts = self._parts(chosen.on_axes)
+        fill = self._fill
+        self._chunks.each(
+            self._chunks.read_into,
+            ((chunk, (*inside, ...), answer, (*there, ...), fill) for chunk, inside, there in parts),
+        )
         return answer if chosen.after is None else answer[chosen.after]
 
-    def _read_chunk(self, chunk: tuple, inside: tuple, answer: np.ndarray, there: tuple) -> None:
-        try:
-            file = open(self.chunk_path(chunk), "rb", buffering=0)
-        except FileNotFoundError:
-            answer[there] = self._fill
+    def _numpys(self, selection: Any) -> tuple[Outer, int | None]:
+        """An outer index with one list, which is numpy's too, and the axis that numpy puts first."""
+        chosen = Outer(selection, self.shape)
+        if chosen.lists > 1:
+            raise IndexError("several lists of places: oindex takes each with each, vindex points")
+        return chosen, chosen.front
+
+    def _read_outer(self, chosen: Outer, front: int | None = None) -> AnyArray:
+        answer = empty(self._type, chosen.shape)
+        for step in chosen.steps(self.chunks):
+            answer[step.there] = self[(*step.place, ...)][step.inside]
+        return answer if front is None else np.moveaxis(answer, front, 0)
+
+    def _write_outer(self, array: ArrayLike, chosen: Outer, front: int | None = None) -> None:
+        shape = list(chosen.shape)
+        if front is not None:
+            shape.insert(0, shape.pop(front))
+        new = spread(self._type, held(self._type, array), tuple(shape), None)
+        if front is not None:
+            new = np.moveaxis(new, 0, front)
+        for step in chosen.steps(self.chunks):
+            elements = self[(*step.place, ...)]
+            elements[step.inside] = new[step.there]
+            self[(*step.place, ...)] = elements
+
+    def _read_points(self, points: Points) -> Any:
+        answer = empty(self._type, points.shape)
+        each = answer.reshape(-1)
+        parts = points.by_chunk(self.chunks)
+        self._chunks.each(
+            self._chunks.read_into,
+            ((chunk, rows, each, numbers, self._fill) for chunk, rows, numbers in parts),
+        )
+        return answer[()]
+
+    def _write_points(self, array: ArrayLike, points: Points) -> None:
+        new = spread(self._type, held(self._type, array), points.shape, None).reshape(-1)
+        parts = points.by_chunk(self.chunks)
+        self._chunks.each(self._chunks.write, ((chunk, rows, new[numbers]) for chunk, rows, numbers in parts))
+
+    def __setitem__(self, selection: Any, array: ArrayLike) -> None:
+        if _is_mask(selection, self.shape):
+            self.vindex[selection] = array
             return
-        with file:
-            if self._type.is_plain:
-                self.chain.read_from(file, (*inside, ...), answer[there])
-            else:
-                answer[there] = self.chain.read_from(file, (*inside, ...))
-
-    def __setitem__(self, selection: Any, array: Any) -> None:
+        if _has_list(selection):
+            self._write_outer(array, *self._numpys(selection))
+            return
         chosen = box(selection, self.shape)
-        new = spread(self._type, array, chosen.shape, chosen.after)
-        for chunk, inside, there in self._parts(chosen.on_axes):
-            self._write_chunk(chunk, inside, new[(*there, ...)])
-
-    def _write_chunk(self, chunk: tuple, inside: tuple, new: np.ndarray) -> None:
-        path = self.chunk_path(chunk)
-        value = None
-        if new.shape != self.chunks:
-            with contextlib.suppress(FileNotFoundError):
-                value = path.read_bytes()
-        _replace(path, self.chain.write(value, (*inside, ...), new))
+        new = spread(self._type, held(self._type, array), chosen.shape, chosen.after)
+        parts = self._parts(chosen.on_axes)
+        whole: Any = new
+        self._chunks.each(
+            self._chunks.write,
+            ((chunk, (*inside, ...), whole[(*there, ...)]) for chunk, inside, there in parts),
+        )
 
 
-def _replace(path: Path, value: np.ndarray) -> None:
-    """Makes a file of a value, which is there as a whole or not at all."""
-    path.parent.mkdir(parents=True, exist_ok=True)
-    made = path.with_name(f"{path.name}.{secrets.token_hex(8)}.tmp")
-    try:
-        with open(made, "xb") as file:
-            file.write(value.data)
-        os.replace(made, path)
-    finally:
-        made.unlink(missing_ok=True)
+class OuterIndex:
+    """Reads and writes an array by outer indices: a list of places or a mask for each axis that has one."""
+
+    def __init__(self, array: Array) -> None:
+        self._array = array
+
+    def __getitem__(self, selection: Any) -> AnyArray:
+        return self._array._read_outer(Outer(selection, self._array.shape))
+
+    def __setitem__(self, selection: Any, array: ArrayLike) -> None:
+        self._array._write_outer(array, Outer(selection, self._array.shape))
+
+
+class PointIndex:
+    """Reads and writes an array by points: an index for each axis, or a mask of all."""
+
+    def __init__(self, array: Array) -> None:
+        self._array = array
+
+    def __getitem__(self, selection: Any) -> Any:
+        return self._array._read_points(Points(selection, self._array.shape))
+
+    def __setitem__(self, selection: Any, array: ArrayLike) -> None:
+        self._array._write_points(array, Points(selection, self._array.shape))
+
+
+def _has_list(selection: Any) -> bool:
+    """Whether a list of places or a mask is in an index."""
+    return any(map(is_list, selection if isinstance(selection, tuple) else (selection,)))
+
+
+def _is_mask(selection: Any, shape: tuple[int, ...]) -> bool:
+    """Whether an index is a mask of all elements, of an array with several axes."""
+    mask = isinstance(selection, np.ndarray) and selection.dtype == bool
+    return mask and selection.ndim > 1 and selection.shape == shape
+
+
+def _opened(folder: Path, settings: dict[str, int]) -> Array:
+    """An array that was pickled."""
+    return Array(folder, **settings)

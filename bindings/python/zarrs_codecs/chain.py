@@ -1,23 +1,28 @@
 """A chunk's codecs, as the library runs them."""
 
 import ctypes
-import json
 import math
 import operator
+import reprlib
 from collections.abc import Callable, Sequence
-from functools import cached_property, partial
-from typing import Any, NamedTuple
+from functools import cached_property, partial, wraps
+from typing import Any, Concatenate, NamedTuple, ParamSpec, TypeVar
 
 import numpy as np
+import numpy.typing as npt
+from numpy.typing import ArrayLike
 
 from ._buffers import lent, overlaps, start
-from ._bytes_codecs import split
+from ._bytes_codecs import hint, split
 from ._data_types import data_type as data_type_of
-from ._data_types import fill_hex
-from ._elements import given, put, spread, takes, told, told_into
+from ._elements import given, held, put, spread, takes, told, told_into
 from ._files import Source
+from ._header import Header, copied, json_of
 from ._library import SHORT, checked, library
-from ._selections import Selection, Shape, select
+from ._locating import OF_CODECS, locate
+from ._selections import Selection, select
+from ._types import AnyArray, Bytes, Shape
+from .refusals import InvalidConfiguration, Refused, UnknownName
 
 # How many bytes of an answer are read from a file at a time: a quarter of it, between these. Some three
 # times as many are held beside it.
@@ -32,10 +37,32 @@ _REPRESENTATIONS = ("fixed", "bounded", "unbounded")
 
 class Representation(NamedTuple):
     """How many bytes a value has: just `size` where `kind` is "fixed", at most `size` where it is "bounded",
-    and any number where it is "unbounded"; `size` is None then."""
+    and any number where it is "unbounded"; `size` is None then.
+
+    >>> Representation("fixed", 2).size
+    2
+    """
 
     kind: str
     size: int | None
+
+
+_P = ParamSpec("_P")
+_R = TypeVar("_R")
+
+
+def _naming(method: Callable[Concatenate["Chain", _P], _R]) -> Callable[Concatenate["Chain", _P], _R]:
+    """The method; what it refuses says which codec refuses."""
+
+    @wraps(method)
+    def named(chain: "Chain", /, *arguments: _P.args, **more: _P.kwargs) -> _R:
+        try:
+            return method(chain, *arguments, **more)
+        except Refused as error:
+            chain._locate(error)
+            raise
+
+    return named
 
 
 class Chain:
@@ -51,42 +78,72 @@ class Chain:
     numpy, or a list or an array of elements' indices, a row for each. Each refusal is an exception of the
     library's name, below `Refused`; `OutOfMemory` may come in place of any answer. A chain has no state,
     so threads may use one together.
+
+    >>> chain = Chain([{"name": "bytes", "configuration": {"endian": "big"}}], (2,), "int16", -1)
+    >>> chain.shape, chain.dtype, chain.encode([1, 2])
+    ((2,), dtype('int16'), array([0, 1, 0, 2], dtype=uint8))
+    >>> Chain(["bytes", "crc32c"], (2,), "uint8")
+    Traceback (most recent call last):
+    zarrs_codecs.refusals.UnknownName: UnknownName, by codec 1, 'crc32c'
     """
 
     def __init__(
         self, codecs: Sequence[Any], shape: Sequence[int], data_type: Any, fill_value: Any = None
     ) -> None:
-        self.codecs = list(codecs)
+        if isinstance(codecs, (str, bytes, dict)):
+            raise InvalidConfiguration(f"codecs are a list, and not {reprlib.repr(codecs)}")
+        self._text = json_of(list(codecs))
         self.shape = tuple(map(operator.index, shape))
         self.data_type = data_type
         self.fill_value = fill_value
         self._type = data_type_of(data_type)
         self.dtype = self._type.dtype
-        inner, self._outer = split(self.codecs)
-        self._inner_codecs = json.dumps(inner).encode()
-        header = {
-            "shape": self.shape,
-            "data_type": self._type.header,
-            "fill_value": fill_hex(self._type, fill_value),
-            "codecs": inner,
-        }
-        self._header = json.dumps(header).encode()
+        self._inner_list, self._outer = split(self.codecs)
+        self._said = Header(self.shape, self._type, fill_value)
+        inner = json_of(self._inner_list)
+        self._inner_codecs = inner.encode()
+        self._header = self._said.text(inner)
         self._length = len(self._header)
         self.check()
+
+    @property
+    def codecs(self) -> list[Any]:
+        """The codecs, as `zarr.json` has them, in a list of its own: what is made of it changes nothing here."""
+        return copied(self._text)
+
+    def _locate(self, error: Refused) -> None:
+        """Puts into a refusal which codec it is of, and which key, where that can be found."""
+        if error.codec is not None or type(error).__name__ not in OF_CODECS:
+            return
+        is_checked = self._said.checked(self._inner_list) == type(error).__name__
+        ask = self._said.checked if is_checked else self._said.written
+        locate(error, ask, self._inner_list)
+        if type(error) is UnknownName and error.codec is not None and error.hint is None:
+            last = error.inner[-1][2] if error.inner else error.codec[1]
+            error.hint = hint(last)
 
     def __repr__(self) -> str:
         return f"Chain({self.codecs!r}, {self.shape}, {self.data_type!r}, {self.fill_value!r})"
 
-    def __reduce__(self) -> tuple:
+    def __reduce__(self) -> tuple[Any, ...]:
         return Chain, (self.codecs, self.shape, self.data_type, self.fill_value)
 
+    @_naming
     def check(self) -> None:
-        """Raises the refusal of these codecs for such chunks, if there is one; so does making a chain."""
+        """Raises the refusal of these codecs for such chunks, if there is one; so does making a chain.
+
+        >>> Chain(["packbits"], (9,), "bool").check()
+        """
         checked(library.zarrs_check(self._header, self._length))
 
     @cached_property
+    @_naming
     def representation(self) -> Representation:
-        """How many bytes a value has, before the codecs that Python runs."""
+        """How many bytes a value has, before the codecs that Python runs.
+
+        >>> Chain(["packbits"], (9,), "bool").representation
+        Representation(kind='fixed', size=2)
+        """
         kind, size = ctypes.c_uint32(), ctypes.c_uint64()
         at = ctypes.byref
         checked(library.zarrs_representation(self._header, self._length, at(kind), at(size)))
@@ -94,7 +151,11 @@ class Chain:
 
     @property
     def unproved(self) -> tuple[str, ...]:
-        """The names of the codecs that Python runs behind those of the library, the first one first."""
+        """The names of the codecs that Python runs behind those of the library, the first one first.
+
+        >>> Chain(["bytes", {"name": "gzip", "configuration": {"level": 1}}], (4,), "uint8").unproved
+        ('gzip',)
+        """
         return tuple(codec.name for codec in self._outer)
 
     # -- values in and out
@@ -103,39 +164,63 @@ class Chain:
         """The library's value of what is stored, and None of None."""
         if stored is None or not self._outer:
             return stored
-        for codec in reversed(self._outer):
-            stored = codec.decode(stored)
+        for number in reversed(range(len(self._outer))):
+            stored = self._run(number, "decode", stored)
         return stored
 
-    def _told_value(self, call: Callable, guess: int) -> np.ndarray:
+    def _run(self, number: int, way: str, value: Any) -> Bytes:
+        """What one of the codecs that Python runs makes of a value; a refusal says that it is this one's."""
+        codec = self._outer[number]
+        try:
+            return codec.decode(value) if way == "decode" else codec.encode(value)
+        except Refused as error:
+            error.codec = len(self._inner_list) + number, codec.name
+            raise
+
+    def _told_value(self, call: Callable[..., Any], guess: int) -> Bytes:
         """What is stored for the value that a call tells, which takes a buffer and its size last."""
         needed = ctypes.c_size_t()
         size = self.representation.size
-        value = np.empty(guess if size is None else size, np.uint8)
+        value: Bytes = np.empty(guess if size is None else size, np.uint8)
         code = call(start(value), value.size, ctypes.byref(needed))
         if code == SHORT:
             value = np.empty(needed.value, np.uint8)
             code = call(start(value), value.size, ctypes.byref(needed))
         checked(code)
         value = value[: needed.value]
-        for codec in self._outer:
-            value = codec.encode(value)
+        for number in range(len(self._outer)):
+            value = self._run(number, "encode", value)
         return value
 
     # -- whole chunks
 
-    def encode(self, array: Any) -> np.ndarray:
-        """The value of a chunk, an array of this shape."""
+    @_naming
+    def encode(self, array: ArrayLike) -> Bytes:
+        """The value of a chunk, an array of this shape: an array of bytes. Raises `ValueError` where the shape is
+        another one or an element isn't of the type, and `TypeError` where it is of another kind.
+
+        >>> Chain(["packbits"], (9,), "bool").encode([True] * 9)
+        array([255,   1], dtype=uint8)
+        """
         if np.shape(array) != self.shape:
             raise ValueError(f"an array of shape {np.shape(array)}, where {self.shape} is due")
-        parts = given(self._type, array)
+        return self._encode(held(self._type, array))
+
+    @_naming
+    def _encode(self, elements: AnyArray) -> Bytes:
+        """The same of elements that the type holds, of this shape."""
+        parts = given(self._type, elements)
         call = partial(library.zarrs_encode, self._header, self._length, *parts)
         return self._told_value(call, 2 * parts[-1] + 16 * parts[3] + parts[1] + 64)
 
-    def decode(self, value: Any, out: np.ndarray | None = None) -> np.ndarray:
-        """The chunk that a value stands for; in `out` where it is given, an array of this shape.
+    @_naming
+    def decode(self, value: Any, out: AnyArray | None = None) -> AnyArray:
+        """The chunk that a value stands for, an array of this shape; in `out` where it is given, such an array.
+        Elements of one size are written straight into it where it is in one piece and of this type. Raises a
+        refusal where the value is damaged or of another length.
 
-        Elements of one size are written straight into `out` where it is in one piece and of this type.
+        >>> Chain(["packbits"], (9,), "bool").decode(b"\\xff\\x00").sum()
+        8
         """
         inner = self._inner(value)
         at, length = lent(inner)
@@ -143,27 +228,37 @@ class Chain:
         return self._told(call, self.shape, inner, length, out)
 
     def _told(
-        self, call: Callable, shape: Shape, value: Any, length: int, out: np.ndarray | None
-    ) -> np.ndarray:
+        self, call: Callable[..., Any], shape: Shape, value: Any, length: int, out: AnyArray | None
+    ) -> AnyArray:
         """The elements that a call tells, which reads a value of this length; in `out` where it is given."""
         if out is not None and takes(self._type, out, shape) and not overlaps(out, value):
             told_into(out, call)
             return out
         return put(told(self._type, call, shape, length + 64), out)
 
-    def reencode(self, value: Any, codecs: Sequence[Any]) -> np.ndarray:
-        """The value that other codecs write for the chunk that a value stands for."""
+    def reencode(self, value: Any, codecs: Sequence[Any]) -> Bytes:
+        """The value, an array of bytes, that other codecs write for the chunk that a value stands for. Raises a
+        refusal where the value is damaged, or the other codecs don't take such chunks.
+
+        >>> Chain(["bytes"], (3,), "bool").reencode(b"\\1\\0\\1", ["packbits"])
+        array([5], dtype=uint8)
+        """
         other = Chain(codecs, self.shape, self.data_type, self.fill_value)
-        at, length = lent(self._inner(value))
-        inner = other._inner_codecs
-        call = partial(
-            library.zarrs_reencode, self._header, self._length, at, length, inner, len(inner)
-        )
-        return other._told_value(call, length + 64)
+        try:
+            at, length = lent(self._inner(value))
+            inner = other._inner_codecs
+            call = partial(
+                library.zarrs_reencode, self._header, self._length, at, length, inner, len(inner)
+            )
+            return other._told_value(call, length + 64)
+        except Refused as error:
+            self._locate(error)
+            other._locate(error)
+            raise
 
     # -- parts of chunks
 
-    def _read(self, inner: Any, chosen: Selection, out: np.ndarray | None = None) -> np.ndarray:
+    def _read(self, inner: Any, chosen: Selection, out: AnyArray | None = None) -> AnyArray:
         """C's answer of a selection, of the library's value or of None."""
         value = b"" if inner is None else inner
         at, length = lent(value)
@@ -171,29 +266,57 @@ class Chain:
         call = partial(library.zarrs_read, self._header, self._length, *arguments)
         return self._told(call, chosen.shape, value, length, out)
 
-    def read(self, value: Any, selection: Any, out: np.ndarray | None = None) -> np.ndarray:
-        """The elements that a selection means; fill values where the value is None, nothing stored. They are
-        in `out` where it is given, an array of their shape."""
+    @_naming
+    def read(self, value: Any, selection: Any, out: AnyArray | None = None) -> AnyArray:
+        """The elements that a selection means, in numpy's shape of it, or one in a row for a list of indices;
+        fill values where the value is None, nothing stored. They are in `out` where it is given, an array of
+        their shape. Raises `IndexError` or `TypeError` where the selection is none, `OutOfBounds` where a list
+        has an index outside, and refusals where the value is too short or damaged there.
+
+        >>> chain = Chain(["bytes"], (2, 3), "uint8", 9)
+        >>> value = chain.encode([[1, 2, 3], [4, 5, 6]])
+        >>> chain.read(value, (0, slice(None, None, -1)))
+        array([3, 2, 1], dtype=uint8)
+        >>> chain.read(value, [[1, 0], [0, 2]])
+        array([4, 3], dtype=uint8)
+        >>> chain.read(None, (..., 0))
+        array([9, 9], dtype=uint8)
+        """
+        return self._read_inner(self._inner(value), selection, out)
+
+    def _read_inner(self, inner: Any, selection: Any, out: AnyArray | None = None) -> AnyArray:
+        """The same of the library's value."""
         chosen = select(selection, self.shape).closed()
-        inner = self._inner(value)
         if chosen.after is None:
             return self._read(inner, chosen, out)
         return put(self._read(inner, chosen)[chosen.after], out)
 
-    def write(self, value: Any, selection: Any, array: Any) -> np.ndarray:
-        """The value that is left of a value, or of None, where an array's elements are written, in numpy's
-        way, at the places that a selection means."""
-        inner = self._inner(value)
-        meant = select(selection, self.shape)
+    @_naming
+    def write(self, value: Any, selection: Any, array: ArrayLike) -> Bytes:
+        """The value, an array of bytes, that is left of a value, or of None, where an array's elements are
+        written at the places that a selection means, broadcast to its shape in numpy's way. The old value stays
+        as it is. Raises what `read` and `encode` do, and `ValueError` where the elements don't broadcast.
+
+        >>> chain = Chain(["bytes"], (2, 3), "uint8", 9)
+        >>> chain.decode(chain.write(None, (slice(None), 1), [7, 8]))
+        array([[9, 7, 9],
+               [9, 8, 9]], dtype=uint8)
+        """
+        elements = held(self._type, array)
+        return self._write(self._inner(value), select(selection, self.shape), elements)
+
+    @_naming
+    def _write(self, inner: Any, meant: Selection, elements: AnyArray) -> Bytes:
+        """The same of the library's value, and of elements that the type holds."""
         chosen = meant.closed()
         new = self._read(inner, chosen) if meant.has_gaps else None
-        parts = given(self._type, spread(self._type, array, chosen.shape, chosen.after, new))
+        parts = given(self._type, spread(self._type, elements, chosen.shape, chosen.after, new))
         at, length = lent(b"" if inner is None else inner)
         arguments = (inner is not None, at, length, *chosen.arguments(), *parts)
         call = partial(library.zarrs_write, self._header, self._length, *arguments)
         return self._told_value(call, length + 2 * parts[-1] + 64)
 
-    def _planned(self, chosen: Selection) -> np.ndarray | None:
+    def _planned(self, chosen: Selection) -> npt.NDArray[np.uint64] | None:
         ranges = np.empty(min(2 * math.prod(chosen.shape), _PLAN_NUMBERS), np.uint64)
         is_planned, needed = ctypes.c_bool(), ctypes.c_size_t()
         call = partial(
@@ -207,14 +330,21 @@ class Chain:
         checked(code)
         return ranges[: needed.value].reshape(-1, 2) if is_planned.value else None
 
-    def planned_ranges(self, selection: Any) -> np.ndarray | None:
+    @_naming
+    def planned_ranges(self, selection: Any) -> npt.NDArray[np.uint64] | None:
         """The ranges of a value's bytes that a read of a selection needs, rows of a start and an end, in
         order and none touching the next; None where it needs the whole value. What a slice with a step
-        leaves out is among them."""
+        leaves out is among them.
+
+        >>> Chain(["bytes"], (4, 4), "uint8").planned_ranges((slice(1, 3), slice(2)))
+        array([[ 4,  6],
+               [ 8, 10]], dtype=uint64)
+        """
         chosen = select(selection, self.shape).closed()
         return None if self._outer else self._planned(chosen)
 
-    def read_from(self, file: Any, selection: Any, out: np.ndarray | None = None) -> np.ndarray:
+    @_naming
+    def read_from(self, file: Any, selection: Any, out: AnyArray | None = None) -> AnyArray:
         """The elements that a selection means of the value that a file has: an open one, its number, or an
         object with `seek` and `readinto`.
 
@@ -222,22 +352,25 @@ class Chain:
         has are held beside it, and at most some 3 MiB; where the plan is None, for the whole value. Of a
         slice with a step it leaves out what is between two places where that's 16 KiB or more. Raises
         `EOFError` where the file is cut meanwhile.
+
+        >>> import io
+        >>> Chain(["bytes"], (4,), "uint8").read_from(io.BytesIO(b"abcd"), slice(1, 3))
+        array([98, 99], dtype=uint8)
         """
         source = Source(file)
         chosen = select(selection, self.shape).closed(self.dtype.itemsize, _GAP_BYTES)
         if self._outer or not self._type.is_plain:
             return self.read(source.whole(), selection, out)
-        is_direct = (
-            out is not None and chosen.after is None and takes(self._type, out, chosen.shape)
-        )
-        elements = out if is_direct else np.empty(chosen.shape, self.dtype)
+        if out is not None and chosen.after is None and takes(self._type, out, chosen.shape):
+            if self._read_parts(source, chosen, out.reshape(-1)):
+                return out
+            return self.read(source.whole(), selection, out)
+        elements: AnyArray = np.empty(chosen.shape, self.dtype)
         if not self._read_parts(source, chosen, elements.reshape(-1)):
             return self.read(source.whole(), selection, out)
-        if is_direct:
-            return elements
         return put(elements if chosen.after is None else elements[chosen.after], out)
 
-    def _read_parts(self, source: Source, chosen: Selection, elements: np.ndarray) -> bool:
+    def _read_parts(self, source: Source, chosen: Selection, elements: AnyArray) -> bool:
         """Reads a selection part by part; false where it needs the whole value, and nothing is read then."""
         length, at = source.length(), 0
         part_bytes = min(max(elements.nbytes // 4, _LEAST_PART_BYTES), _PART_BYTES)

@@ -1,8 +1,87 @@
 """The library's refusals, as exceptions of the same names."""
 
+import os
+
+__all__ = [
+    "Argument",
+    "ArrayBytesKind",
+    "BitOrder",
+    "BitRange",
+    "BytesCodec",
+    "DataMismatch",
+    "ElementCount",
+    "EndiannessMissing",
+    "HeaderOverflow",
+    "IncompatibleDimensionality",
+    "IndexLength",
+    "IndexNotFixed",
+    "IndivisibleShape",
+    "InvalidByteRange",
+    "InvalidBytesLength",
+    "InvalidConfiguration",
+    "InvalidFillValue",
+    "InvalidMetadata",
+    "InvalidOffsets",
+    "InvalidText",
+    "MaskValue",
+    "MissingArrayToBytes",
+    "MultipleArrayToBytes",
+    "MultipleAuto",
+    "NotAPermutation",
+    "OffsetNotKept",
+    "OffsetTooLarge",
+    "OutOfBounds",
+    "OutOfMemory",
+    "Overflow",
+    "PaddingByte",
+    "Refused",
+    "ReshapeDimension",
+    "ReshapeElements",
+    "ReversedRange",
+    "Storage",
+    "Syntax",
+    "TargetMismatch",
+    "UnknownName",
+    "UnsupportedDataType",
+    "UnsupportedTarget",
+    "ZeroSize",
+]
+
 
 class Refused(Exception):
-    """A call was refused. Each refusal is a class below this one; the call has changed nothing."""
+    """A call was refused. Each refusal is a class below this one; the call has changed nothing.
+
+    Where they are known, the message and these attributes say what was refused: `codec`, the place in the list
+    of codecs, from 0, and the codec's name; `inner`, where the codec has lists of codecs and the refusal is of
+    one in them, for each level the list's key, the place in it and the name there; `key`, the key of the last
+    one's configuration; `path`, the chunk's file or `zarr.json`; `hint`, what could help.
+
+    >>> from zarrs_codecs import Chain
+    >>> try:
+    ...     Chain(["bytes"], (2,), "int16")
+    ... except Refused as refused:
+    ...     type(refused).__name__, refused.codec, refused.key
+    ('EndiannessMissing', (0, 'bytes'), 'endian')
+    """
+
+    codec: tuple[int, str] | None = None
+    inner: tuple[tuple[str, int, str], ...] = ()
+    key: str | None = None
+    path: str | os.PathLike[str] | None = None
+    hint: str | None = None
+
+    def __str__(self) -> str:
+        text = super().__str__()
+        if self.codec is not None:
+            text += f", by codec {self.codec[0]}, {self.codec[1]!r}"
+        text += "".join(f", in its {key}[{place}], {name!r}" for key, place, name in self.inner)
+        if self.key is not None:
+            text += f", for its key {self.key!r}"
+        if self.hint is not None:
+            text += f"; {self.hint}"
+        if self.path is not None:
+            text += f", in {os.fspath(self.path)}"
+        return text
 
 
 class _Wrong(Refused, ValueError):
@@ -15,6 +94,14 @@ class Syntax(_Wrong):
 
 class Argument(_Wrong):
     """Masks aren't of one length, numbers are no selection, or pieces have other bytes than were fetched."""
+
+
+class InvalidMetadata(_Wrong):
+    """A `zarr.json` isn't one of an array that is read here. Python's own refusal, not the library's."""
+
+
+class InvalidText(_Wrong, UnicodeError):
+    """Bytes are no UTF-8, or a text has no bytes in it. Python's own refusal, not the library's."""
 
 
 class OutOfMemory(Refused, MemoryError):
@@ -119,6 +206,18 @@ class TargetMismatch(_Wrong):
 
 class ReversedRange(_Wrong):
     """A range ends before it starts."""
+
+
+class ElementCount(_Wrong):
+    """A value's count of elements isn't the chunk's."""
+
+
+class IndivisibleShape(_Wrong):
+    """An inner chunk's size doesn't divide the chunk's."""
+
+
+class IndexNotFixed(_Wrong):
+    """The encoded index isn't of a fixed size."""
 
 
 class UnknownName(_Wrong):

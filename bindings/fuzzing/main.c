@@ -1,0 +1,75 @@
+/* Calls of the library with what is right and with what is spoilt, by several threads: fuzz SECONDS THREADS SEED [loose].
+ *
+ * Each buffer ends where no memory is, and is preceded by bytes that nothing may change. Looked at is
+ * - that a call changes nothing where it refuses, only what is needed where a buffer is short, and nothing behind its answer;
+ * - that what it is given stays, and that it answers the same the second time;
+ * - that an allocation that is refused gives ZARRS_OUT_OF_MEMORY, and no other change;
+ * - that a header which zarrs_check refuses is refused by each call;
+ * - that offsets begin at 0 and end at the bytes' end, and mask bytes are 0 or 1 (not looked at with `loose`);
+ * - that decode, encode, read, write, reencode and reads by pieces agree with each other.
+ * It prints how many calls there were of each kind, and ends the process at the first fault, whose seed it prints.
+ */
+#define _GNU_SOURCE
+#include "fuzzing.h"
+#include <pthread.h>
+#include <stdio.h>
+#include <stdlib.h>
+#include <time.h>
+
+static const char *const KIND_NAMES[] = {"check", "representation", "encode", "decode", "read", "write",
+                                         "reencode", "planned_ranges", "read_pieces", "error_name"};
+static double limit;
+
+static double now(void)
+{
+    struct timespec t;
+    clock_gettime(CLOCK_MONOTONIC, &t);
+    return (double)t.tv_sec + 1e-9 * (double)t.tv_nsec;
+}
+
+static void *run(void *of)
+{
+    fuzzer *f = of;
+    room *rooms = &f->header;
+    for (int i = 0; i < 14; i++)
+        rooms[i] = made_room();
+    while (now() < limit) {
+        f->begun = f->seed++;
+        f->random = f->begun * 0x9E3779B97F4A7C15u | 1;
+        turn(f);
+    }
+    return NULL;
+}
+
+int main(int count, char **words)
+{
+    enum { MOST = 64 };
+    static fuzzer fuzzers[MOST];
+    pthread_t threads[MOST];
+    int many = count > 2 ? atoi(words[2]) : 0;
+    uint64_t turns = 0, memory = 0;
+    if (count < 4 || many < 1 || many > MOST) {
+        fprintf(stderr, "fuzz SECONDS THREADS SEED [loose]\n");
+        return 2;
+    }
+    limit = now() + atof(words[1]);
+    for (int i = 0; i < many; i++) {
+        fuzzers[i].seed = strtoull(words[3], NULL, 10) + (uint64_t)i * 1000000000u;
+        fuzzers[i].is_loose = count > 4;
+        if (pthread_create(&threads[i], NULL, run, &fuzzers[i]))
+            return 1;
+    }
+    for (int i = 0; i < many; i++) {
+        pthread_join(threads[i], NULL);
+        turns += fuzzers[i].seed - strtoull(words[3], NULL, 10) - (uint64_t)i * 1000000000u;
+        memory += fuzzers[i].refused_memory;
+    }
+    for (int kind = 0; kind < KINDS; kind++) {
+        uint64_t calls = 0, done = 0;
+        for (int i = 0; i < many; i++)
+            calls += fuzzers[i].calls[kind], done += fuzzers[i].done[kind];
+        printf("%-16s %10llu calls, %10llu done\n", KIND_NAMES[kind], (unsigned long long)calls, (unsigned long long)done);
+    }
+    printf("%llu turns, %llu calls whose memory was refused, no fault\n", (unsigned long long)turns, (unsigned long long)memory);
+    return 0;
+}

@@ -1,0 +1,170 @@
+"""The package as it is installed: a wheel with the library in it, its types, and the header for C."""
+
+import importlib.util
+import os
+import re
+import shutil
+import subprocess
+import sys
+import zipfile
+from pathlib import Path
+
+import pytest
+
+import zarrs_codecs
+from zarrs_codecs import _library
+
+TOP = Path(__file__).parents[3]
+PACKAGE = TOP / "bindings" / "python"
+HEADER = TOP / "include" / "zarrs_codecs.h"
+NAMES = TOP / "crates" / "zarrs_calls" / "src" / "names.rt"
+
+
+def needs(*names):
+    missing = [name for name in names if importlib.util.find_spec(name) is None]
+    return pytest.mark.skipif(bool(missing), reason=f"{', '.join(missing)} isn't installed")
+
+
+@needs("pip", "setuptools", "wheel")
+def test_a_wheel_has_the_library_in_it(tmp_path):
+    """It is made with no network, and works from where it is unpacked."""
+    source = tmp_path / "bindings" / "python"
+    left_out = shutil.ignore_patterns("tests", "build", "*.egg-info", "__pycache__")
+    shutil.copytree(PACKAGE, source, ignore=left_out)
+    (tmp_path / "bindings" / "out").mkdir()
+    shutil.copy(_library.library._name, tmp_path / "bindings" / "out" / "libzarrs_codecs.so")
+    environment = {name: value for name, value in os.environ.items() if name != "ZARRS_CODECS_LIBRARY"}
+    words = ["wheel", "--no-build-isolation", "--no-index", "--no-deps", "-w", tmp_path]
+    subprocess.run([sys.executable, "-m", "pip", *words, source], env=environment, check=True)
+    (wheel,) = tmp_path.glob("*.whl")
+    assert re.fullmatch(rf"zarrs_codecs-{zarrs_codecs.__version__}-py3-none-linux_\w+\.whl", wheel.name)
+    zipfile.ZipFile(wheel).extractall(tmp_path / "installed")
+    assert (tmp_path / "installed/zarrs_codecs/py.typed").is_file()
+    assert list(tmp_path.glob("installed/*/METADATA"))
+    code = "import zarrs_codecs as z; print(z.__file__, z._library.library._name, z.Chain(['bytes'], (3,), 'uint8').encode([1, 2, 3]))"
+    environment["PYTHONPATH"] = str(tmp_path / "installed")
+    run = subprocess.run([sys.executable, "-c", code], env=environment, capture_output=True, text=True, check=True)
+    folder = tmp_path / "installed/zarrs_codecs"
+    assert run.stdout == f"{folder}/__init__.py {folder}/libzarrs_codecs.so [1 2 3]\n"
+
+
+@needs("pip", "setuptools", "wheel")
+def test_no_wheel_without_a_library(tmp_path):
+    left_out = shutil.ignore_patterns("tests", "build", "*.egg-info", "__pycache__")
+    shutil.copytree(PACKAGE, tmp_path / "source", ignore=left_out)
+    environment = {**os.environ, "ZARRS_CODECS_LIBRARY": "/nowhere/libzarrs_codecs.so"}
+    words = ["wheel", "--no-build-isolation", "--no-index", "--no-deps", "-w", tmp_path]
+    run = subprocess.run(
+        [sys.executable, "-m", "pip", *words, tmp_path / "source"], env=environment, capture_output=True, text=True
+    )
+    assert run.returncode != 0 and "bindings/build" in run.stdout + run.stderr
+
+
+PROGRAM = """
+import io
+from pathlib import Path
+import numpy as np
+import numpy.typing as npt
+import zarrs_codecs as z
+
+chain = z.Chain(["bytes"], (2, 3), "uint8", 0)
+value: npt.NDArray[np.uint8] = chain.encode([[1, 2, 3], [4, 5, 6]])
+chunk: npt.NDArray[np.generic] = chain.decode(value)
+part = chain.read(value, np.s_[0, :2])
+plan = chain.planned_ranges(0)
+if plan is not None:
+    print(plan.shape)
+print(chain.read_from(io.BytesIO(value.tobytes()), (0, slice(2))) == part, chain.representation.size)
+try:
+    array = z.Array(Path("a"))
+    array[0, 1:] = 5
+    array.vindex[[0, 1], [2, 2]] = [1, 2]
+    print(array[...].mean(), array.attrs, array.shape[0])
+except (z.UnknownName, z.InvalidMetadata) as refused:
+    if refused.codec is not None:
+        print(refused.codec[1].upper(), refused.key, refused.path)
+"""
+
+
+@needs("mypy")
+def test_types(tmp_path):
+    """Those of the package, and of a program over it."""
+    (tmp_path / "program.py").write_text(PROGRAM)
+    environment = {**os.environ, "MYPYPATH": str(PACKAGE)}
+    words = [sys.executable, "-m", "mypy", "--strict", "--cache-dir", tmp_path / "cache", tmp_path / "program.py"]
+    run = subprocess.run(words, env=environment, cwd=PACKAGE, capture_output=True, text=True)
+    assert run.returncode == 0, run.stdout
+
+
+def test_the_librarys_version():
+    """A library that was built before it had one says nothing."""
+    due = zarrs_codecs.__version__ + ("" if zarrs_codecs.proved else " unproved")
+    assert _library.version() in (None, due)
+
+
+def test_every_public_name_has_a_docstring():
+    for name in zarrs_codecs.__all__:
+        thing = getattr(zarrs_codecs, name)
+        if isinstance(thing, type):
+            assert thing.__doc__, name
+            for part, value in vars(thing).items():
+                if not part.startswith("_") and callable(value):
+                    assert value.__doc__, f"{name}.{part}"
+
+
+C_PROGRAM = """
+#include "zarrs_codecs.h"
+#include <stdio.h>
+int main(void)
+{
+    char text[ZARRS_NAME_SIZE];
+    for (uint32_t code = 0; code < 60; code++)
+        printf("%s\\n", zarrs_name(code, text));
+    return ZARRS_NOT_A_PERMUTATION != 57;
+}
+"""
+
+
+@pytest.mark.skipif(shutil.which("cc") is None, reason="no C compiler is installed")
+@pytest.mark.parametrize("words", [["-std=c99", "-pedantic"], ["-std=c17"], ["-x", "c++"]])
+def test_the_header_in_c(words, tmp_path):
+    if "c++" in words and shutil.which("c++") is None:
+        pytest.skip("no C++ compiler is installed")
+    (tmp_path / "names.c").write_text(C_PROGRAM)
+    library = Path(_library.library._name).resolve()
+    make = ["cc", *words, "-Wall", "-Wextra", "-Werror", f"-I{HEADER.parent}", tmp_path / "names.c", "-o", tmp_path / "names"]
+    link = ["-x", "none", library, f"-Wl,-rpath,{library.parent}", f"-Wl,-rpath,{tmp_path}"]
+    subprocess.run([*make, *link], check=True)
+    (tmp_path / "libzarrs_codecs.so.0").symlink_to(library)
+    names = subprocess.run([tmp_path / "names"], capture_output=True, text=True, check=True).stdout.split("\n")
+    assert names[:-1] == [_library.name_of(code) for code in range(60)]
+
+
+@pytest.mark.skipif(shutil.which("cc") is None, reason="no C compiler is installed")
+def test_calls_of_all_kinds_and_offsets_above_zero(tmp_path):
+    """Two seconds of the fuzzer."""
+    words = ["2", "2", "1"]
+    environment = {**os.environ, "ZARRS_CODECS_LIBRARY": str(Path(_library.library._name).resolve())}
+    run = subprocess.run([TOP / "bindings/fuzz", *words], env=environment, capture_output=True, text=True)
+    assert run.returncode == 0, run.stderr
+    assert "no fault" in run.stdout
+
+
+def constants():
+    """The header's codes by their numbers."""
+    text = re.search(r"enum zarrs_code \{(.*?)\};", HEADER.read_text(), re.DOTALL)[1]
+    return {int(number): name for name, number in re.findall(r"^ +ZARRS_(\w+) = (\d+)", text, re.MULTILINE)}
+
+
+def test_codes_of_the_header_are_the_librarys():
+    codes = constants()
+    named = re.findall(r'(\d+) => "(\w+)"', NAMES.read_text())
+    assert len(named) >= 38
+    for number, name in named:
+        assert codes[int(number)].replace("_", "") == name.upper()
+    for number in range(256):
+        name = _library.name_of(number)
+        assert not name or codes[number].replace("_", "") == name.upper()
+    classes = {name.upper() for name in zarrs_codecs.refusals.__all__}
+    theirs = {name.replace("_", "") for number, name in codes.items() if number > 1}
+    assert classes == theirs | {"REFUSED", "INVALIDMETADATA", "INVALIDTEXT"}

@@ -1,0 +1,75 @@
+"""An array's attributes, which are kept in its `zarr.json`."""
+
+import copy
+import json
+from collections.abc import Iterator, MutableMapping
+from pathlib import Path
+from typing import Any
+
+import numpy as np
+
+from ._files import replace
+from ._metadata import metadata_of
+from .refusals import InvalidMetadata
+
+
+def bytes_of(metadata: dict[str, Any]) -> np.ndarray[Any, np.dtype[np.uint8]]:
+    """The bytes of a `zarr.json`. Raises `InvalidMetadata` where there is no JSON of it."""
+    try:
+        text = json.dumps(metadata, indent=2, allow_nan=False)
+    except (TypeError, ValueError, RecursionError) as error:
+        raise InvalidMetadata(f"what zarr.json would say has no JSON: {error}") from error
+    return np.frombuffer(text.encode(), np.uint8)
+
+
+class Attributes(MutableMapping[str, Any]):
+    """Attributes by their names, in the `zarr.json` of an array.
+
+    What is read is what the file said when it was read last. A name that is set or deleted is so in the file at
+    once, beside what others have written there meanwhile. A value that is changed itself isn't: values come out
+    as copies. Raises `InvalidMetadata` where a value has no JSON.
+    """
+
+    def __init__(self, path: Path, metadata: dict[str, Any]) -> None:
+        self._path = path
+        self._metadata = metadata
+
+    @property
+    def _said(self) -> dict[str, Any]:
+        found: dict[str, Any] = self._metadata.get("attributes", {})
+        return found
+
+    def __getitem__(self, name: str) -> Any:
+        return copy.deepcopy(self._said[name])
+
+    def __iter__(self) -> Iterator[str]:
+        return iter(self._said)
+
+    def __len__(self) -> int:
+        return len(self._said)
+
+    def __repr__(self) -> str:
+        return repr(self._said)
+
+    def update(self, *others: Any, **more: Any) -> None:
+        """Sets several, in one write."""
+        self._replace(set_all=dict(*others, **more))
+
+    def __setitem__(self, name: str, value: Any) -> None:
+        self._replace(set_all={name: value})
+
+    def __delitem__(self, name: str) -> None:
+        if name not in self._said:
+            raise KeyError(name)
+        self._replace(without=name)
+
+    def _replace(self, set_all: dict[str, Any] | None = None, without: str | None = None) -> None:
+        metadata = metadata_of(self._path).said
+        attributes = {**metadata.get("attributes", {}), **(set_all or {})}
+        attributes.pop(without, None)
+        for name in attributes:
+            if not isinstance(name, str):
+                raise InvalidMetadata(f"an attribute is named by {name!r}, which is no text")
+        whole = bytes_of({**metadata, "attributes": attributes})
+        replace(str(self._path), whole)
+        self._metadata["attributes"] = json.loads(whole.tobytes())["attributes"]

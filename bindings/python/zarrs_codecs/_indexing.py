@@ -1,0 +1,160 @@
+"""Lists of places: outer indices, with a list or a mask for some axes, and points, with an index for each axis."""
+
+import itertools
+from collections.abc import Iterator
+from dataclasses import dataclass
+from typing import Any, NamedTuple
+
+import numpy as np
+
+from ._selections import entries_of
+from ._types import AnyArray, Shape
+
+
+class Step(NamedTuple):
+    """A basic index, the elements in what it reads, and where these are in the answer."""
+
+    place: tuple[Any, ...]
+    inside: tuple[AnyArray, ...]
+    there: tuple[AnyArray, ...]
+
+
+def is_list(entry: Any) -> bool:
+    """Whether an entry of an index is a list of places or a mask."""
+    return isinstance(entry, list) or (isinstance(entry, np.ndarray) and entry.ndim > 0)
+
+
+def counted(said: Any, axis: int, size: int) -> AnyArray:
+    """Places on an axis, counted from its begin. Raises `IndexError` where they are none."""
+    places = np.asarray(said)
+    if places.size == 0:
+        return places.astype(np.int64)
+    if places.dtype.kind not in "iu":
+        raise IndexError(f"places are integers, and not {places.dtype}")
+    outside = (places >= size) | (places < -size if places.dtype.kind == "i" else False)
+    if outside.any():
+        wrong = places[outside][0]
+        raise IndexError(f"index {wrong} is out of bounds for axis {axis} with size {size}")
+    places = places.astype(np.int64)
+    counted_on: AnyArray = np.where(places < 0, places + size, places)
+    return counted_on
+
+
+def _places(entry: Any, axis: int, size: int) -> AnyArray:
+    """The places on an axis that a list or a mask selects."""
+    places = np.asarray(entry)
+    if places.ndim != 1:
+        raise IndexError(f"a list of places has one axis, and not {places.ndim}; vindex takes points")
+    if places.dtype != bool:
+        return counted(places, axis, size)
+    if len(places) != size:
+        raise IndexError(f"a mask of {len(places)} for axis {axis} with size {size}")
+    return np.flatnonzero(places)
+
+
+def _stretches(places: AnyArray, size: int) -> Iterator[tuple[slice, AnyArray, AnyArray]]:
+    """For each chunk of an axis with places of a list: the stretch from the first to the last of these, the
+    places in it, and their numbers in the list."""
+    chunk_of = places // size
+    for chunk in np.unique(chunk_of):
+        numbers = np.flatnonzero(chunk_of == chunk)
+        inside = places[numbers]
+        first, last = int(inside.min()), int(inside.max())
+        yield slice(first, last + 1), inside - first, numbers
+
+
+@dataclass(slots=True)
+class _Axis:
+    """An entry of an outer index: its axis of the array, None of a new one; and the places of a list."""
+
+    entry: Any
+    number: int | None
+    places: AnyArray | None = None
+
+    @property
+    def is_dropped(self) -> bool:
+        """Whether the answer has no such axis."""
+        return self.places is None and self.number is not None and not isinstance(self.entry, slice)
+
+    def length(self, shape: Shape) -> int:
+        """How long the answer's axis is."""
+        if self.places is not None:
+            return len(self.places)
+        return 1 if self.number is None else len(range(*self.entry.indices(shape[self.number])))
+
+
+class Outer:
+    """An outer index: an integer, a slice, a list of places or a mask for each axis, and new axes.
+
+    The answer has an axis for each slice, list and new axis, in their order; `front` is the one that numpy
+    puts first, if it does.
+    """
+
+    def __init__(self, selection: Any, shape: Shape) -> None:
+        self._axes: list[_Axis] = []
+        number = 0
+        for entry in entries_of(selection, len(shape))[0]:
+            if entry is None:
+                self._axes.append(_Axis(entry, None))
+                continue
+            places = _places(entry, number, shape[number]) if is_list(entry) else None
+            self._axes.append(_Axis(entry, number, places))
+            number += 1
+        self._kept = [axis for axis in self._axes if not axis.is_dropped]
+        self.shape = tuple(axis.length(shape) for axis in self._kept)
+
+    @property
+    def lists(self) -> int:
+        """How many axes have lists or masks."""
+        return sum(axis.places is not None for axis in self._axes)
+
+    @property
+    def front(self) -> int | None:
+        """The answer's axis that numpy puts first: that of a list, where a slice stands between it and an
+        integer."""
+        advanced = [n for n, axis in enumerate(self._axes) if axis.is_dropped or axis.places is not None]
+        if len(advanced) == advanced[-1] - advanced[0] + 1:
+            return None
+        return next(n for n, axis in enumerate(self._kept) if axis.places is not None)
+
+    def steps(self, chunks: Shape) -> Iterator[Step]:
+        """Reads or writes of no chunk without places of the index."""
+        stretches = [
+            [(axis.entry, np.arange(length), np.arange(length))]
+            if axis.places is None
+            else list(_stretches(axis.places, chunks[axis.number or 0]))
+            for axis, length in zip(self._kept, self.shape)
+        ]
+        for each in itertools.product(*stretches):
+            entries = iter([one[0] for one in each])
+            index = tuple(axis.entry if axis.is_dropped else next(entries) for axis in self._axes)
+            yield Step(index, np.ix_(*(one[1] for one in each)), np.ix_(*(one[2] for one in each)))
+
+
+class Points:
+    """Points: an index for each axis, or one mask of all. The answer has the shape of these, broadcast."""
+
+    def __init__(self, selection: Any, shape: Shape) -> None:
+        entries = selection if isinstance(selection, tuple) else (selection,)
+        masks = [np.asarray(entry) for entry in entries]
+        if len(masks) == 1 and masks[0].dtype == bool and masks[0].shape == shape and shape:
+            entries = np.nonzero(masks[0])
+        if len(entries) != len(shape):
+            raise IndexError(f"points have an index for each of {len(shape)} axes, and not {len(entries)}")
+        each = [counted(entry, axis, size) for axis, (entry, size) in enumerate(zip(entries, shape))]
+        try:
+            together = np.broadcast_arrays(*each) if each else [np.zeros((), np.int64)]
+        except ValueError as error:
+            raise IndexError(f"the indices of points don't broadcast: {error}") from error
+        self.shape = together[0].shape
+        self._rows = np.stack([one.ravel() for one in together], axis=1) if each else None
+
+    def by_chunk(self, chunks: Shape) -> Iterator[tuple[tuple[Any, ...], AnyArray, AnyArray]]:
+        """For each chunk with points: its numbers, the points in it, and which ones of the answer they are."""
+        if self._rows is None:
+            yield (), np.zeros((1, 0), np.uint64), np.zeros(1, np.int64)
+            return
+        chunk_of, which = np.unique(self._rows // chunks, axis=0, return_inverse=True)
+        for number, chunk in enumerate(chunk_of.tolist()):
+            numbers = np.flatnonzero(which.ravel() == number)
+            yield tuple(chunk), self._rows[numbers] - np.multiply(chunk, chunks), numbers

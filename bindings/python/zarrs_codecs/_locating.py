@@ -1,0 +1,185 @@
+"""Which codec refuses, and for which key: found by asking the library about lists that differ from the refused one."""
+
+import itertools
+import reprlib
+from collections.abc import Callable, Iterator
+from typing import Any
+
+from .refusals import Refused
+
+# What the library says of a list of codecs, or of one codec: the name of a refusal, or "Done".
+Ask = Callable[[Any], str]
+# The refusals that rest on codecs and on what they are given, and not on what is stored.
+OF_CODECS = {
+    "UnknownName",
+    "InvalidConfiguration",
+    "MissingArrayToBytes",
+    "MultipleArrayToBytes",
+    "BitOrder",
+    "MultipleAuto",
+    "ZeroSize",
+    "NotAPermutation",
+    "UnsupportedDataType",
+    "EndiannessMissing",
+    "IncompatibleDimensionality",
+    "Overflow",
+    "ReshapeDimension",
+    "ReshapeElements",
+    "BitRange",
+    "ElementCount",
+    "IndivisibleShape",
+    "IndexNotFixed",
+}
+
+_LITTLE = {"name": "bytes", "configuration": {"endian": "little"}}
+_VLEN = {
+    "index_codecs": [_LITTLE],
+    "data_codecs": ["bytes"],
+    "index_data_type": "uint64",
+    "index_location": "start",
+}
+_TEXTS = {"name": "zarrs.vlen", "configuration": _VLEN}
+# Codecs that take what they are given, to be put in the place of others.
+_WILLING = [
+    _LITTLE,
+    _TEXTS,
+    *(
+        {"name": "zarrs.optional", "configuration": {"mask_codecs": ["bytes"], "data_codecs": [data]}}
+        for data in (_LITTLE, _TEXTS)
+    ),
+]
+# Values of keys that are right by themselves.
+_RIGHT: dict[str, list[Any]] = {
+    "endian": ["little"],
+    "order": [list(range(axes)) for axes in range(17)],
+    "shape": [[-1]],
+    "mask_codecs": [["bytes"]],
+    "data_codecs": [[codec] for codec in _WILLING],
+    **{key: [value] for key, value in _VLEN.items() if key != "data_codecs"},
+}
+
+
+def name_of(codec: Any) -> str:
+    """A codec's name, as far as it has one."""
+    name = codec.get("name") if isinstance(codec, dict) else codec
+    return name if isinstance(name, str) else reprlib.repr(name)
+
+
+def _willing(ask: Ask) -> Any:
+    """A codec that takes what a list is given; None where none does."""
+    return next((codec for codec in _WILLING if ask([codec]) == "Done"), None)
+
+
+def _place(ask: Ask, codecs: list[Any], refusal: str, willing: Any) -> int | None:
+    """The place of the first codec with which the refusal comes, whatever follows it."""
+    for place in range(len(codecs)):
+        begin = codecs[: place + 1]
+        answers = {ask(begin)}
+        if refusal != "MultipleArrayToBytes":
+            answers.add(ask([*begin, willing]))
+        if refusal in answers and "Done" not in answers:
+            return place
+    return None
+
+
+def _lists_of(configuration: Any) -> dict[str, list[Any]]:
+    """The lists of codecs in a codec's configuration."""
+    if not isinstance(configuration, dict):
+        return {}
+    return {
+        key: value
+        for key, value in configuration.items()
+        if key in _RIGHT and key.endswith("_codecs") and isinstance(value, list)
+    }
+
+
+def _refused_list(ask: Ask, codec: Any, refusal: str) -> tuple[str, list[Any], Ask] | None:
+    """The list of codecs in a codec that the refusal is of: its key, itself, and how to ask about others."""
+    configuration = codec.get("configuration") if isinstance(codec, dict) else None
+    lists = _lists_of(configuration)
+    if not isinstance(configuration, dict) or not lists:
+        return None
+    for right in itertools.product(*(_RIGHT[key] for key in lists)):
+        all_right = {**configuration, **dict(zip(lists, right))}
+        if ask({**codec, "configuration": all_right}) != "Done":
+            continue
+        for key, codecs in lists.items():
+
+            def ask_list(other: Any, key: str = key) -> str:
+                return ask({**codec, "configuration": {**all_right, key: other}})
+
+            if ask_list(codecs) == refusal:
+                return key, codecs, ask_list
+    return None
+
+
+def _without(members: dict[str, Any], key: str) -> dict[str, Any]:
+    return {name: value for name, value in members.items() if name != key}
+
+
+def _other_configurations(configuration: dict[str, Any]) -> Iterator[tuple[str, dict[str, Any]]]:
+    """A key, and the configuration with another value of it, or without it."""
+    for key in configuration:
+        yield from ((key, {**configuration, key: value}) for value in _RIGHT.get(key, ()))
+        yield key, _without(configuration, key)
+    for key, values in _RIGHT.items():
+        if key not in configuration:
+            yield from ((key, {**configuration, key: value}) for value in values)
+
+
+def _key(ask: Ask, codec: Any, refusal: str) -> str | None:
+    """The key of a codec that the refusal is of: with another value of it, or without it, it doesn't come."""
+    codec = codec if isinstance(codec, dict) else {"name": codec}
+    configuration = codec.get("configuration", {})
+    if not isinstance(configuration, dict):
+        return "configuration" if refusal == "InvalidConfiguration" else None
+    found = (
+        key
+        for key, other in _other_configurations(configuration)
+        if ask({**codec, "configuration": other}) not in (refusal, "InvalidConfiguration")
+    )
+    return next(found, None) or _first_key(ask, codec, configuration, refusal)
+
+
+def _first_key(ask: Ask, codec: dict[str, Any], configuration: dict[str, Any], refusal: str) -> str | None:
+    """The first of several keys that are wrong or missing: it is refused where all others are right."""
+    for right in itertools.product(*_RIGHT.values()):
+        others = dict(zip(_RIGHT, right))
+        if ask({**codec, "configuration": others}) != refusal:
+            break
+    else:
+        return None
+    for key, value in configuration.items():
+        if ask({**codec, "configuration": {**others, key: value}}) == refusal:
+            return key
+    for key in others:
+        if ask({**codec, "configuration": _without(others, key)}) == refusal:
+            return key
+    return None
+
+
+def locate(error: Refused, ask: Ask, codecs: list[Any]) -> None:
+    """Puts into a refusal which of these codecs it is of, and which key, where that is found."""
+    refusal = type(error).__name__
+    inner: list[tuple[str, int, str]] = []
+    key: str | None = None
+    while (willing := _willing(ask)) is not None:
+        place = _place(ask, codecs, refusal, willing)
+        if place is None:
+            break
+        codec, begin = codecs[place], codecs[:place]
+        if error.codec is None:
+            error.codec = place, name_of(codec)
+        else:
+            inner.append((str(key), place, name_of(codec)))
+
+        def ask_one(other: Any, ask: Ask = ask, begin: list[Any] = begin, willing: Any = willing) -> str:
+            answer = ask([*begin, other])
+            return ask([*begin, other, willing]) if answer == "MissingArrayToBytes" else answer
+
+        found = _refused_list(ask_one, codec, refusal)
+        if found is None:
+            key = None if refusal == "UnknownName" else _key(ask_one, codec, refusal)
+            break
+        key, codecs, ask = found
+    error.inner, error.key = tuple(inner), key

@@ -1,0 +1,192 @@
+"""`zarr.json` of an array: what of it is read here, and where chunks are."""
+
+import json
+import reprlib
+from dataclasses import dataclass
+from pathlib import Path
+from typing import Any
+
+from ._data_types import DataType
+from ._types import Shape
+from .refusals import InvalidMetadata
+
+_NEEDED = {"shape", "data_type", "chunk_grid", "chunk_key_encoding", "fill_value", "codecs"}
+_KNOWN = _NEEDED | {
+    "attributes",
+    "consolidated_metadata",
+    "dimension_names",
+    "node_type",
+    "storage_transformers",
+    "zarr_format",
+}
+
+
+def _named(said: Any) -> tuple[str, dict[str, Any]]:
+    """The name and the configuration of an extension point, which may be its name alone."""
+    match said:
+        case str(name):
+            return name, {}
+        case {"name": str(name), **rest}:
+            configuration = rest.get("configuration")
+            if configuration is None:
+                return name, {}
+            if isinstance(configuration, dict):
+                return name, configuration
+    raise InvalidMetadata(f"zarr.json has no name in {reprlib.repr(said)}")
+
+
+def _sizes(said: Any) -> tuple[int, ...]:
+    """The sizes of a shape."""
+    if not isinstance(said, list) or any(type(size) is not int or size < 0 for size in said):
+        raise InvalidMetadata(f"zarr.json has the shape {reprlib.repr(said)}")
+    return tuple(said)
+
+
+def _checked(metadata: Any) -> dict[str, Any]:
+    """A `zarr.json` of an array that is read here; `InvalidMetadata` says why not."""
+    if not isinstance(metadata, dict):
+        raise InvalidMetadata("zarr.json is no object")
+    if metadata.get("zarr_format") != 3:
+        raise InvalidMetadata(f"zarr.json has the format {reprlib.repr(metadata.get('zarr_format'))}, where 3 is read")
+    if metadata.get("node_type") == "group":
+        raise InvalidMetadata("zarr.json is of a group: each array in it is opened by its own folder")
+    if metadata.get("node_type") != "array":
+        raise InvalidMetadata(f"zarr.json is of a node {reprlib.repr(metadata.get('node_type'))}, and not of an array")
+    for key in sorted(metadata.keys() - _KNOWN):
+        value = metadata[key]
+        if not isinstance(value, dict) or value.get("must_understand") is not False:
+            raise InvalidMetadata(f"zarr.json has the unknown key {reprlib.repr(key)}")
+    for key in sorted(_NEEDED - metadata.keys()):
+        raise InvalidMetadata(f"zarr.json has no key {reprlib.repr(key)}")
+    if metadata.get("storage_transformers"):
+        raise InvalidMetadata("storage transformers aren't read")
+    if not isinstance(metadata.get("attributes", {}), dict):
+        raise InvalidMetadata(f"zarr.json has the attributes {reprlib.repr(metadata['attributes'])}")
+    if not isinstance(metadata["codecs"], list):
+        raise InvalidMetadata(f"zarr.json has the codecs {reprlib.repr(metadata['codecs'])}, which are no list")
+    return metadata
+
+
+class Keys:
+    """Where chunks are: the encoding of their numbers in names."""
+
+    def __init__(self, said: Any) -> None:
+        name, configuration = _named(said)
+        if name not in ("default", "v2"):
+            raise InvalidMetadata(f"no encoding of chunk keys is named {reprlib.repr(name)}")
+        self._is_v2 = name == "v2"
+        self._separator: str = configuration.get("separator", "." if self._is_v2 else "/")
+        if self._separator not in (".", "/"):
+            raise InvalidMetadata(f"chunk keys separated by {reprlib.repr(self._separator)}")
+
+    def key(self, chunk: tuple[int, ...]) -> str:
+        """The key of the chunk of these numbers."""
+        numbers = map(str, chunk)
+        if self._is_v2:
+            return self._separator.join(numbers) or "0"
+        return self._separator.join(["c", *numbers])
+
+
+def _chunks(said: Any, axes: int) -> tuple[int, ...]:
+    """The shape of chunks that a grid has."""
+    name, configuration = _named(said)
+    if name != "regular":
+        raise InvalidMetadata(f"a chunk grid that is {reprlib.repr(name)}, where regular ones are read")
+    chunks = _sizes(configuration.get("chunk_shape"))
+    if len(chunks) != axes:
+        raise InvalidMetadata(f"chunks of {len(chunks)} axes, where the array has {axes}")
+    return chunks
+
+
+def _names(said: Any, axes: int) -> tuple[str | None, ...] | None:
+    """The names of the axes; None where none are given."""
+    if said is None:
+        return None
+    if (
+        not isinstance(said, list)
+        or len(said) != axes
+        or not all(name is None or isinstance(name, str) for name in said)
+    ):
+        raise InvalidMetadata(f"zarr.json has the dimension names {reprlib.repr(said)}")
+    return tuple(said)
+
+
+@dataclass(frozen=True)
+class ArrayMetadata:
+    """What the `zarr.json` of an array says: itself, and what follows from it."""
+
+    said: dict[str, Any]
+    shape: tuple[int, ...]
+    chunks: tuple[int, ...]
+    keys: Keys
+    names: tuple[str | None, ...] | None
+
+
+def parsed(said: Any) -> ArrayMetadata:
+    """What a `zarr.json` says. Raises `InvalidMetadata` where it isn't one of an array that is read here."""
+    said = _checked(said)
+    shape = _sizes(said["shape"])
+    return ArrayMetadata(
+        said,
+        shape,
+        _chunks(said["chunk_grid"], len(shape)),
+        Keys(said["chunk_key_encoding"]),
+        _names(said.get("dimension_names"), len(shape)),
+    )
+
+
+def metadata_of(path: Path) -> ArrayMetadata:
+    """What a file `zarr.json` says. Raises `InvalidMetadata` where it isn't one of an array that is read here."""
+    try:
+        whole = path.read_bytes()
+    except FileNotFoundError:
+        if (path.parent / ".zarray").exists():
+            raise InvalidMetadata("the folder has an array of Zarr v2, where v3 is read") from None
+        raise
+    try:
+        said = json.loads(whole.decode())
+    except RecursionError as error:
+        raise InvalidMetadata("zarr.json is nested too deeply") from error
+    except ValueError as error:
+        raise InvalidMetadata(f"zarr.json is no JSON: {error}") from error
+    return parsed(said)
+
+
+_LITTLE = {"name": "bytes", "configuration": {"endian": "little"}}
+
+
+def usual_codecs(kind: DataType) -> list[Any]:
+    """Codecs for a data type that leave its elements as they are."""
+    codec: dict[str, Any] = _LITTLE
+    if kind.is_variable:
+        inside = {"index_codecs": [_LITTLE], "data_codecs": ["bytes"]}
+        how = {"index_data_type": "uint64", "index_location": "start"}
+        codec = {"name": "zarrs.vlen", "configuration": {**inside, **how}}
+    if kind.is_optional:
+        inside = {"mask_codecs": ["packbits"], "data_codecs": [codec]}
+        codec = {"name": "zarrs.optional", "configuration": inside}
+    return [codec]
+
+
+def _named_type(said: Any) -> Any:
+    """A data type in the form of `zarr.json`, where `{"optional": TYPE}` has none."""
+    match said:
+        case {"optional": str(name), **rest} if not rest:
+            return {"name": "zarrs.optional", "configuration": {"name": name}}
+        case {"optional": dict(inner), **rest} if not rest:
+            return {"name": "zarrs.optional", "configuration": inner}
+    return said
+
+
+def made(shape: Shape, chunks: Shape, data_type: Any, fill: Any, codecs: list[Any]) -> dict[str, Any]:
+    """The `zarr.json` of an array, whose fill value is in the form of it."""
+    return {
+        "zarr_format": 3,
+        "node_type": "array",
+        "shape": list(shape),
+        "data_type": _named_type(data_type),
+        "chunk_grid": {"name": "regular", "configuration": {"chunk_shape": list(chunks)}},
+        "chunk_key_encoding": {"name": "default", "configuration": {"separator": "/"}},
+        "fill_value": fill,
+        "codecs": codecs,
+    }
