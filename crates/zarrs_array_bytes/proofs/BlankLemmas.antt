@@ -1,6 +1,5 @@
 -- What is under absent elements is blank in containers that are made, and stays so.
 use Rattle.std.proofs.Common.{◌≡◌, ◌≢◌, ℕ, zero, suc, ◌+◌, ◌-◌, ◌*◌, ◌<◌, ◌≤◌, Bool, true, false, if◌then◌else◌, nat_lt, List, [], ◌∷◌, length, map, set, take, replicate, get_or, slice_index, Result, Ok, Err, IfOk, None, refl, sym, ap, ◌∙◌, subst, arith, eqb-true, ltb-true}
-use Rattle.std.specs.Prelude.{is_some}
 use Rattle.std.specs.List.{All, list_all, between, range_with_len}
 use Rattle.std.proofs.Math.Seq.{take-nil, drop-nil}
 use Rattle.std.proofs.lemmas.List.{length-set, get_or-map, length-map, get_or-replicate, length-replicate, drop-replicate, take-replicate}
@@ -10,7 +9,7 @@ use Rattle.std.proofs.Math.Nat.{mul-le-mul_right}
 use Rattle.zarrs_chunk.specs.Answer.{Answers, memory, ◌>>=◌}
 use Rattle.zarrs_chunk.specs.declared.codec_error.CodecError.{CodecError}
 use Rattle.zarrs_chunk.specs.declared.codec_error.CodecError.TheVariants.{InvalidBytesLength}
-use Rattle.zarrs_data_type.specs.ElementType.{ElementType, fixed, text, bytes, optional, element_size, fixed_size_of, inner_of}
+use Rattle.zarrs_data_type.specs.ElementType.{ElementType, fixed, text, bytes, optional, element_size, inner_of}
 use Rattle.zarrs_data_type.specs.FillValue.{is_null, front_of}
 use Rattle.zarrs_data_type.specs.Element.{Element, absent, plain, Chunk}
 use Rattle.zarrs_array_bytes.specs.Held.{Raw, Held, flen, vlen, masked, owned_bytes}
@@ -274,13 +273,3 @@ simple_blank (fixed w c s) h e = tt
 simple_blank text h e = tt
 simple_blank bytes h e = tt
 simple_blank (optional t) h e = cc
-
-pub simple_results : {E : Type 0} (t : ElementType) (r : Result Held E) → inner_of t ≡ None → IfOk r (AbsentAreBlank t)
-simple_results t (Ok h) e = simple_blank t h e
-simple_results t (Err c) e = tt
-
-pub sized_blank : {E : Type 0} (t : ElementType) (r : Result Held E) → is_some (fixed_size_of t) ≡ true → IfOk r (AbsentAreBlank t)
-sized_blank (fixed w c s) r e = simple_results (fixed w c s) r refl
-sized_blank text r e = cc
-sized_blank bytes r e = cc
-sized_blank (optional t) r e = cc

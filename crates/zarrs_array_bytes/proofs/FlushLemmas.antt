@@ -58,16 +58,8 @@ pub some : (os : List ℕ) → is_offsets os ≡ true → 0 < length os
 some [] h = cc
 some (o ∷ os) h = omega arith
 
-pub first_moved : (os : List ℕ) → is_offsets os ≡ true → slice_index (from_first os) 0 ≡ 0
-first_moved os h = let at = moved_at os 0 (some os h) in omega (arith, at)
-
 pub length-from_first : (os : List ℕ) → length (from_first os) ≡ length os
 length-from_first os = length-map os (λ o. o - slice_index os 0)
-
-pub last_moved : (os : List ℕ) → is_offsets os ≡ true → last_of (from_first os) ≡ last_of os - slice_index os 0
-last_moved os h =
-    let l : length os - 1 < length os = omega (arith, some os h) in
-    ap (λ n. slice_index (from_first os) (n - 1)) (length-from_first os) ∙ moved_at os (length os - 1) l
 
 -- offsets from 0 stay
 map_same : (f : ℕ) (os : List ℕ) → f ≡ 0 → map (λ o. o - f) os ≡ os

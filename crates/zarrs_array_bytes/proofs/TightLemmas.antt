@@ -9,11 +9,11 @@ use Rattle.zarrs_data_type.specs.ElementType.{ElementType, fixed, text, bytes, o
 use Rattle.zarrs_data_type.specs.Element.{Chunk}
 use Rattle.zarrs_data_type.specs.FillValue.{is_null, front_of}
 use Rattle.zarrs_array_bytes.specs.Held.{Raw, Held, flen, vlen, masked, owned_bytes}
-use Rattle.zarrs_array_bytes.specs.Blank.{IsOverBlanks, AbsentAreBlank}
+use Rattle.zarrs_array_bytes.specs.Blank.{AbsentAreBlank}
 use Rattle.zarrs_array_bytes.specs.Filled.{blank_elements, container_fill}
 use Rattle.zarrs_array_bytes.specs.Tight.{is_flush, GivesFlush, IsTight}
 use Rattle.zarrs_array_bytes.specs.Validity.{levels_fit, sizes_fit, Holds}
-use Rattle.zarrs_array_bytes.proofs.BlankLemmas.{simple_blank, fill_blank, blank_blank}
+use Rattle.zarrs_array_bytes.proofs.BlankLemmas.{simple_blank, fill_blank}
 use Rattle.zarrs_array_bytes.proofs.FillLemmas.{mask_of_same, zeros_are_offsets, last_of_zeros, zeros_begin}
 use Rattle.zarrs_array_bytes.proofs.FlushLemmas.{flush_from, gathered_flush}
 use Rattle.zarrs_array_bytes.specs.SameBytesLaws.{both_true}
@@ -41,10 +41,6 @@ flen_tight t raw = record { flush = refl; blank = flen_blank t raw }
 pub vlen_tight : (t : ElementType) (raw : Raw) (os : List ℕ) → is_flush (vlen raw os) ≡ true → IsTight t (vlen raw os)
 vlen_tight t raw os flush = record { flush = flush; blank = vlen_blank t raw os }
 
--- elements under a mask that is over blanks
-pub masked_tight : (t : ElementType) (h : Held) (mask : Raw) → IsOverBlanks mask.items t h → IsTight t h → IsTight (optional t) (masked h mask)
-masked_tight t h mask over tight = record { flush = and_from _ _ over.flags tight.flush; blank = (over, tight.blank) }
-
 -- what is under a mask
 pub under_tight : (t : ElementType) (h : Held) (mask : Raw) → is_flush (masked h mask) ≡ true → AbsentAreBlank (optional t) (masked h mask) → IsTight t h
 under_tight t h mask flush blank = record { flush = (both_true _ _ flush).1; blank = blank.1 }
@@ -70,10 +66,6 @@ pub sized_tight : (t : ElementType) (h : Held) (chunk : Chunk) → is_some (fixe
 sized_tight t h chunk e holds =
     sized_fits_tight t (length chunk) h e (both_ok (sizes_fit t (length chunk)) (levels_fit InvalidBytesLength t (length chunk) h) holds.valid).1
 
-pub sized_found_tight : {E : Type 0} (t : ElementType) (r : Result Held E) → is_some (fixed_size_of t) ≡ true → IfOk r (λ h. (chunk : Chunk) × Holds t h chunk) → IfOk r (IsTight t)
-sized_found_tight t (Ok h) e found = sized_tight t h found.0 e found.1
-sized_found_tight t (Err c) e found = tt
-
 pub sized_given_tight : (t : ElementType) (r : Result Held CodecError) (due : Result Chunk CodecError) → is_some (fixed_size_of t) ≡ true → AnswersBy memory (Holds t) r due → IfOk r (IsTight t)
 sized_given_tight t (Ok h) (Ok chunk) e gives = sized_tight t h chunk e gives
 sized_given_tight t (Ok h) (Err c) e gives = absurd gives
@@ -88,10 +80,6 @@ both_tight t (Err c) flush blank = tt
 pub gives_flush : {E : Type 0} (t : ElementType) (r : Result Held E) → IfOk r (IsTight t) → GivesFlush r
 gives_flush t (Ok h) tight = tight.flush
 gives_flush t (Err c) tight = tt
-
-pub gives_blank : {E : Type 0} (t : ElementType) (r : Result Held E) → IfOk r (IsTight t) → IfOk r (AbsentAreBlank t)
-gives_blank t (Ok h) tight = tight.blank
-gives_blank t (Err c) tight = tt
 
 -- what is put under a mask is flush where it was
 pub under_flush : {E : Type 0} (given inner : Held) (r : Result Held E) → (is_flush given ≡ true → is_flush inner ≡ true) → IfOk r (λ a. is_flush inner ≡ true → is_flush a ≡ true) → is_flush given ≡ true → GivesFlush r
@@ -120,9 +108,6 @@ fill_flush (fixed w c s) n bs = refl
 fill_flush text n bs = gathered_flush (λ part. part) (replicate n bs)
 fill_flush bytes n bs = gathered_flush (λ part. part) (replicate n bs)
 fill_flush (optional t) n bs = either_flush t n (is_null bs) (container_fill t n (front_of bs)) (fill_flush t n (front_of bs))
-
-pub blank_tight : (t : ElementType) (n : ℕ) → IsTight t (blank_elements t n)
-blank_tight t n = record { flush = blank_flush t n; blank = blank_blank t n }
 
 pub fill_tight : (t : ElementType) (n : ℕ) (bs : List ℕ) → IsTight t (container_fill t n bs)
 fill_tight t n bs = record { flush = fill_flush t n bs; blank = fill_blank t n bs }

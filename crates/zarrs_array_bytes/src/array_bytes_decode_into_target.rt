@@ -41,7 +41,7 @@ impl<'a> ArrayBytesDecodeIntoTarget<'a> {
         if !has_count(shape, count) {
             return Err(CodecError::TargetMismatch);
         }
-        if !levels_taken(&self.masks, &self.values, count, data_type) {
+        if !match_levels(&self.masks, &self.values, count, data_type) {
             return Err(CodecError::TargetMismatch);
         }
         Ok(())
@@ -82,7 +82,7 @@ fn has_count(shape: &ChunkShape, count: u64) -> bool
 }
 
 /// Whether there is a view for each level of the type, of so many elements.
-fn levels_taken(
+fn match_levels(
     masks: &[ArrayBytesFixedView<'_>],
     values: &ArrayBytesFixedView<'_>,
     count: u64,
@@ -96,7 +96,7 @@ fn levels_taken(
             None => false,
         },
         ([mask, rest @ ..], Some(inner)) => {
-            mask.takes(1, count) && levels_taken(rest, values, count, inner)
+            mask.takes(1, count) && match_levels(rest, values, count, inner)
         }
         _ => false,
     }

@@ -182,12 +182,12 @@ impl<'a> ArrayBytes<'a> {
         ensures blank { ExpandsBlanks data_type.now self.entry result }
         ensures tight { ExpandsTight data_type.now self.entry result }
     {
-        let inner = self.expanded(alloc, mask.as_slice(), data_type)?;
+        let inner = self.expand_elements(alloc, mask.as_slice(), data_type)?;
         inner.under_mask(alloc, mask)
     }
 
     /// The elements under the mask.
-    fn expanded(
+    fn expand_elements(
         self,
         alloc: Global,
         mask: &[u8],

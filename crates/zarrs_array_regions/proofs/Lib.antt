@@ -9,3 +9,5 @@ pub mod PlaceWrites
 pub mod WindowCalls
 pub mod DecodedWindows
 pub mod EncodedWindows
+pub mod OrderedRows
+pub mod RegionRuns

@@ -2,6 +2,7 @@ pub mod Windows
 pub mod KeptRegions
 pub mod PlaceReaders
 pub mod Parts
+pub mod OrderedRuns
 pub mod WindowLaws
 pub use Rattle.zarrs_chunk.specs.Answer
 pub use Rattle.zarrs_chunk.specs.Indexer

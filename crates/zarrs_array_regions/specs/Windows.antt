@@ -1,8 +1,10 @@
 -- Regions of chunks, and where array-to-array codecs take them.
-use Rattle.std.specs.Prelude.{◌≡◌, ℕ, ◌<◌, ◌^◌, true, List, [], ◌∷◌, map, get_or, is_ok, All, Option, Some, None, Result, Ok}
+use Rattle.std.specs.Prelude.{◌≡◌, ℕ, ◌<◌, ◌^◌, true, List, [], ◌∷◌, map, get_or, is_ok, All, Option, Some, None, Vec, Result, Ok}
+use Rattle.std.specs.declared.alloc.Global.{Global}
 use Rattle.zarrs_chunk.specs.Answer.{Gives, GivesBy}
 use Rattle.zarrs_chunk.specs.ChunkShape.{product}
 use Rattle.zarrs_chunk.specs.Region.{Region}
+use Rattle.zarrs_chunk.specs.Runs.{places_in}
 use Rattle.zarrs_chunk.specs.Tuples.{row_major, box_tuples, is_box_inside}
 use Rattle.zarrs_chunk.specs.declared.codec_error.CodecError.{CodecError}
 use Rattle.zarrs_data_type.specs.Element.{Chunk}
@@ -145,6 +147,14 @@ IsEncodedWindow type answer expected = (answer.0 ≡ expected.0) × Holds type a
 abbrev pub EncodesWindow : List ArrayMapping → ElementType → Window → Held → Result (Window × Held) CodecError → Type 0
 EncodesWindow codecs type window held result = GivesBy (IsEncodedWindow type) result (Ok (encoded_of codecs type window held))
 
+-- what is given are runs of the places of the window that codecs take a region to
+abbrev pub GivesRegionRuns : List ArrayMapping → List ℕ → Region → Result (Vec (ℕ × ℕ) Global) CodecError → Type 0
+GivesRegionRuns codecs sizes region result = Gives places_in result (Ok (window_places (last_window codecs (window_of sizes region))))
+
+-- runs and a container have the places of this window, and hold these elements
+abbrev pub IsEncodedRegion : ElementType → Vec (ℕ × ℕ) Global × Held → Window × Chunk → Type 0
+IsEncodedRegion type answer expected = (places_in answer.0 ≡ window_places expected.0) × Holds type answer.1 expected.1
+
 -- ---- the same of codecs and of a region of a chunk of these sizes
 
 -- what is given is the window that the codecs take the region to
@@ -163,3 +173,8 @@ EncodesThrough codecs type window held result = EncodesWindow (map mapping_of co
 -- what is given is the region's last window and a container of its elements
 abbrev pub GivesEncoded : List ArrayToArrayCodec → ElementType → List ℕ → Region → Held → Result (Window × Held) CodecError → Type 0
 GivesEncoded codecs type sizes region held result = EncodesThrough codecs type (window_of sizes region) held result
+
+-- what is given are runs of the places of the region's last window, and a container of its elements
+abbrev pub EncodesRegion : List ArrayToArrayCodec → ElementType → List ℕ → Region → Held → Result (Vec (ℕ × ℕ) Global × Held) CodecError → Type 0
+EncodesRegion codecs type sizes region held result =
+    GivesBy (IsEncodedRegion type) result (Ok (encoded_of (map mapping_of codecs) type (window_of sizes region) held))

@@ -4,6 +4,7 @@ ghost use Rattle.zarrs_chunk.specs.Answer.{seen};
 ghost use Rattle.zarrs_chunk.specs.ChunkShape.{product};
 ghost use Rattle.zarrs_array_bytes.specs.Tight.{KeepsTight};
 ghost use Rattle.zarrs_array_bytes.specs.Validity.{validity};
+ghost use Rattle.zarrs_array_to_array.specs.ArrayToArrayCodec.{transpose};
 ghost use Rattle.zarrs_array_to_array.specs.CodecAnswers.{type_taken};
 ghost use Rattle.zarrs_array_to_array.specs.Mapping.{mapping_of};
 ghost use Rattle.zarrs_array_regions.specs.Windows.{IsWindow, TakesRegion, TakeType, IsRegionMap, EncodesThrough, GivesEncoded};
@@ -13,9 +14,28 @@ use crate::next::next_window;
 use crate::window::Window;
 use std::alloc::Global;
 use zarrs_array_bytes::ArrayBytes;
-use zarrs_array_to_array::{ArrayToArrayCodec, transposed};
+use zarrs_array_to_array::{ArrayToArrayCodec, TransposeCodec, transpose_elements};
 use zarrs_chunk::{ArraySubset, ChunkShape, CodecError};
 use zarrs_data_type::DataType;
+
+/// The elements of a part with the axes of both in the codec's order, at the part's own lengths.
+pub(crate) fn transposed_part<'b>(
+    alloc: Global,
+    codec: &TransposeCodec,
+    part: &ArraySubset,
+    held: &ArrayBytes<'_>,
+    data_type: &DataType,
+) -> Result<ArrayBytes<'b>, CodecError>
+    requires axes { FitsRegion (transpose codec.now) part.now }
+    requires filled { 0 < product part.now.lengths }
+    requires counted { product part.now.lengths < 2 ^ 64 }
+    requires valid { validity data_type.now (product part.now.lengths) held.now ≡ Ok tt }
+    ensures encoded { EncodesPart (transpose codec.now) data_type.now part.now held.now result }
+    ensures tight { KeepsTight data_type.now held.now result }
+{
+    let count = part.num_elements()?;
+    transpose_elements(alloc, held, codec.order(), part.shape(), count, data_type)
+}
 
 /// The elements of the window behind one codec, encoded at a part's own lengths from those of the
 /// part.
@@ -36,8 +56,7 @@ fn encoded_part<'a>(
 {
     match codec {
         ArrayToArrayCodec::Transpose(codec) => {
-            let count = part.num_elements()?;
-            transposed(alloc, &held, codec.order(), part.shape(), count, data_type)
+            transposed_part(alloc, codec, part, &held, data_type)
         }
         ArrayToArrayCodec::Reshape(_) => Ok(held),
         ArrayToArrayCodec::Squeeze(_) => Ok(held),
@@ -76,13 +95,11 @@ fn encoded_through<'a>(
     }
 }
 
-/// The window that the codecs take a region to, of a chunk of this shape, as [`last_window`] returns
+/// The window that the codecs take a region to, of a chunk of this shape, as `last_window` returns
 /// it, and its elements, encoded from those of the region codec by codec, each at the region's lengths
 /// before it. The codecs accept the chunk and its type, the region has elements, and there is one in
 /// `held` for each. Where `held` is fixed by its elements, so is what is made. Errors: `OutOfMemory`.
-///
-/// [`last_window`]: crate::last_window
-pub fn encoded_window<'a>(
+pub(crate) fn encoded_window<'a>(
     alloc: Global,
     codecs: &[ArrayToArrayCodec],
     shape: &ChunkShape,

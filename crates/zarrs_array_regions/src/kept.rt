@@ -41,7 +41,7 @@ fn keeps_regions(codecs: &[ArrayToArrayCodec]) -> bool
 }
 
 /// Whether no length of the box is zero.
-fn is_filled(region: &ArraySubset) -> bool
+pub(crate) fn is_filled(region: &ArraySubset) -> bool
     ensures value { result ≡ is_filled_of region.now }
 {
     !region.shape().contains(&0)

@@ -37,7 +37,7 @@ fn window_through(
 /// behind it leave it. Where the codecs keep regions ([`kept_region`](crate::kept_region)), the moved
 /// chunk has the region's elements there, in the order in which the codecs move them. Errors:
 /// `OutOfMemory`.
-pub fn last_window(
+pub(crate) fn last_window(
     alloc: Global,
     codecs: &[ArrayToArrayCodec],
     shape: &ChunkShape,

@@ -6,9 +6,11 @@
 //! encoded at these lengths and written in the window. What is answered and what is written is what
 //! each place by itself would give: [`laws`].
 //!
-//! [`kept_region`] returns where a region goes so. [`last_window`] is its window in the moved chunk,
-//! [`decoded_window`] the elements of the region from those of the window, and [`encoded_window`] the
-//! window with its elements from those of the region.
+//! [`kept_region`] returns where a region goes so. [`region_runs`] is where it stands in the moved
+//! chunk, [`decoded_window`] the elements of the region from those that stand there, and
+//! [`encode_region`] both the runs and the elements there, from those of the region. Through one
+//! transposition of few axes the runs come straight from the region's own ranges. A [`Window`] is what
+//! the laws speak of.
 #![tactic(auto)]
 
 mod decoded;
@@ -17,10 +19,11 @@ mod kept;
 mod last;
 pub mod laws;
 mod next;
+mod ordered_runs;
+mod runs;
 mod window;
 
 pub use decoded::decoded_window;
-pub use encoded::encoded_window;
 pub use kept::kept_region;
-pub use last::last_window;
+pub use runs::{encode_region, region_runs};
 pub use window::Window;

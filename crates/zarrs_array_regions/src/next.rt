@@ -10,7 +10,7 @@ ghost use Rattle.zarrs_array_regions.specs.Windows.{window_of, permuted_region, 
 use crate::window::Window;
 use std::alloc::Global;
 use zarrs_array_to_array::{
-    ArrayToArrayCodec, SqueezeCodec, TransposeCodec, permuted, squeezed_subset,
+    ArrayToArrayCodec, SqueezeCodec, TransposeCodec, permute, squeezed_subset,
 };
 use zarrs_chunk::{ArraySubset, ChunkShape, CodecError};
 use zarrs_codec::ArrayToArrayCodecTraits;
@@ -26,8 +26,8 @@ fn permuted_subset(
     ensures answer { GivesValue result (Ok (permuted_region order.now subset.now)) }
 {
     let lengths = subset.shape();
-    let starts = permuted(alloc, order, subset.start())?;
-    let lengths = permuted(alloc, order, lengths)?;
+    let starts = permute(alloc, order, subset.start())?;
+    let lengths = permute(alloc, order, lengths)?;
     ArraySubset::new_with_start_shape(starts, lengths)
 }
 

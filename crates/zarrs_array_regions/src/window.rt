@@ -32,7 +32,7 @@ impl Window {
     /// The places of the window's elements in row-major order, as runs of a start and a length: none
     /// is empty, and none starts where the one before it ends. The region lies inside the sizes, of
     /// which 64 bits count the elements. Errors: `OutOfMemory`.
-    pub fn into_runs(self, alloc: Global) -> Result<Vec<(u64, u64)>, CodecError>
+    pub(crate) fn into_runs(self, alloc: Global) -> Result<Vec<(u64, u64)>, CodecError>
         requires inside { IsWindow (product self.sizes) self }
         requires counted { product self.sizes < 2 ^ 64 }
         ensures places { Gives places_in result (Ok (window_places self)) }

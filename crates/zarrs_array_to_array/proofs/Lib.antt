@@ -22,6 +22,7 @@ pub mod Stages
 pub mod CheckedTuples
 pub mod PlaneRows
 pub mod RowGroups
+pub mod ElementWords
 pub mod AxisRows
 pub mod FixedChunks
 pub mod Readers

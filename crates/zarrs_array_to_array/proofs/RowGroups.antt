@@ -1,5 +1,5 @@
 -- The elements of a row, group by group.
-use Rattle.std.proofs.Common.{◌≡◌, ℕ, zero, suc, ◌+◌, ◌-◌, ◌*◌, ◌<◌, ◌≤◌, List, ◌∷◌, ◌++◌, length, take, drop, map, arith, refl, ap, ap₂, ◌∙◌, sym, append_assoc, length-append, drop-drop, length-take-le}
+use Rattle.std.proofs.Common.{◌≡◌, ℕ, zero, suc, ◌+◌, ◌-◌, ◌*◌, ◌<◌, ◌≤◌, List, [], ◌∷◌, ◌++◌, length, take, drop, map, arith, refl, ap, ap₂, ◌∙◌, sym, append_assoc, length-append, drop-drop, length-take-le}
 use Rattle.std.specs.List.{flat_map, range_with_len}
 use Rattle.std.proofs.lemmas.List.{take_at, drop_at, length-drop}
 use Rattle.std.proofs.lemmas.List.Concat.{flat_map-append}
@@ -70,3 +70,7 @@ group_inside front step size len at k =
   where
     add-mul : (a b c : ℕ) → (a + b) * c ≡ a * c + b * c
     add-mul a b c = omega arith
+
+-- a row is its first half and the other behind it
+pub halves : (f : ℕ → List ℕ) (front step n : ℕ) → flat_map f (row front step n) ++ flat_map f (row (front + n * step) step n) ≡ flat_map f (row front step (n + n))
+halves f front step n = group_more [] f front step n n (n + n) refl

@@ -80,10 +80,10 @@ abbrev pub AppendsRow : {E : Type 0} → ℕ → ℕ → ℕ → ℕ → ℕ →
 AppendsRow len size front step count bytes old new result =
     Appends old new result (stretches_at len size bytes (row front step count))
 
--- the same of a row of whole groups, of 16 elements each
+-- the same of a row of whole groups, of eight elements each
 abbrev pub AppendsGroups : {E : Type 0} → ℕ → ℕ → ℕ → ℕ → ℕ → List ℕ → Vec ℕ Global → Vec ℕ Global → Result (Unit {0}) E → Type 0
 AppendsGroups len size front step groups bytes old new result =
-    AppendsRow len size front step (groups * 16) bytes old new result
+    AppendsRow len size front step (groups * 8) bytes old new result
 
 -- the same of the row along an axis
 abbrev pub AppendsAlong : {E : Type 0} → ℕ → ℕ → ℕ → Axis → List ℕ → Vec ℕ Global → Vec ℕ Global → Result (Unit {0}) E → Type 0

@@ -20,6 +20,6 @@ pub use reshape::reshape_codec::{RESHAPE, ReshapeCodec};
 pub use reshape::reshape_codec_partial::ReshapeCodecPartial;
 pub use squeeze::squeeze_codec::{SQUEEZE, SqueezeCodec, squeezed_subset};
 pub use squeeze::squeeze_codec_partial::SqueezeCodecPartial;
-pub use transpose::strides::permuted;
-pub use transpose::transpose_codec::{TRANSPOSE, TransposeCodec, transposed};
+pub use transpose::strides::permute;
+pub use transpose::transpose_codec::{TRANSPOSE, TransposeCodec, transpose_elements};
 pub use transpose::transpose_codec_partial::TransposeCodecPartial;

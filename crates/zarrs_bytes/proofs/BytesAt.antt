@@ -121,15 +121,9 @@ sure_runs size sure all xs ys e h =
 
 -- ---- at the calls
 
--- what a batch of ranges reads, behind what was read before
-pub batch_appended : (size : ℕ) (stored : Option (List ℕ)) (now bytes next places : List ℕ) (ranges slice : List ByteSpan) → slice ≡ ranges → 0 < size → range_indices ranges ≡ place_bytes size places → All (λ range. range.start < range.end) ranges → read_ranges stored slice ≡ Ok (Some bytes) → next ≡ now ++ bytes → seen (grown now) (bytes_at size stored places) ≡ Ok (Some next)
-batch_appended size stored now bytes next places ranges slice same positive numbers filled read is =
-    ap (seen (grown now)) (sym (ranges_read size stored places ranges positive numbers filled) ∙ sym (ap (read_ranges stored) same) ∙ read)
-    ∙ ap (λ (l : List ℕ). ok (Some l)) (sym is)
-
-pub batch_refused : (size : ℕ) (stored : Option (List ℕ)) (now places : List ℕ) (ranges slice : List ByteSpan) (e : CodecError) → slice ≡ ranges → 0 < size → range_indices ranges ≡ place_bytes size places → All (λ range. range.start < range.end) ranges → read_ranges stored slice ≡ Err e → seen (grown now) (bytes_at size stored places) ≡ Err e
-batch_refused size stored now places ranges slice e same positive numbers filled read =
-    ap (seen (grown now)) (sym (ranges_read size stored places ranges positive numbers filled) ∙ sym (ap (read_ranges stored) same) ∙ read)
+-- what a batch reads, behind what was read before
+pub batch_appended : (size : ℕ) (stored : Option (List ℕ)) (now bytes next places : List ℕ) → bytes_at size stored places ≡ Ok (Some bytes) → next ≡ now ++ bytes → seen (grown now) (bytes_at size stored places) ≡ Ok (Some next)
+batch_appended size stored now bytes next places read is = ap (seen (grown now)) read ∙ ap (λ (l : List ℕ). ok (Some l)) (sym is)
 
 -- What is left to be read, behind what was read so far, is all that is to be read, behind what was there first: `left` stays true from batch to batch.
 module _ (size : ℕ) (stored : Option (List ℕ)) (first : List ℕ) (all : List (ℕ × ℕ)) where
@@ -158,18 +152,17 @@ module _ (size : ℕ) (stored : Option (List ℕ)) (first : List ℕ) (all : Lis
       ∙ read_end size stored now h
 
 -- where the first batch fails, all fail so
-pub first_refused : (size : ℕ) (stored : Option (List ℕ)) (all xs ys : List (ℕ × ℕ)) (ranges slice : List ByteSpan) (cause : CodecError) → all ≡ xs ++ ys → slice ≡ ranges → 0 < size → range_indices ranges ≡ place_bytes size (joined_runs xs) → All (λ range. range.start < range.end) ranges → read_ranges stored slice ≡ Err cause → bytes_at size stored (joined_runs all) ≡ Err cause
-first_refused size stored all xs ys ranges slice cause e same positive numbers filled read =
+pub first_refused : (size : ℕ) (stored : Option (List ℕ)) (all xs ys : List (ℕ × ℕ)) (cause : CodecError) → all ≡ xs ++ ys → bytes_at size stored (joined_runs xs) ≡ Err cause → bytes_at size stored (joined_runs all) ≡ Err cause
+first_refused size stored all xs ys cause e read =
     ap (λ (runs : List (ℕ × ℕ)). bytes_at size stored (joined_runs runs)) e
     ∙ ap (bytes_at size stored) (joined_runs-append xs ys)
-    ∙ read_refused size stored (joined_runs xs) (joined_runs ys) cause
-    (sym (ranges_read size stored (joined_runs xs) ranges positive numbers filled) ∙ sym (ap (read_ranges stored) same) ∙ read)
+    ∙ read_refused size stored (joined_runs xs) (joined_runs ys) cause read
 
 -- behind what the first batch read, the others are read
-pub first_then_rest : (size : ℕ) (stored here : Option (List ℕ)) (now next : List ℕ) (all xs ys : List (ℕ × ℕ)) (ranges slice : List ByteSpan) → all ≡ xs ++ ys → slice ≡ ranges → 0 < size → range_indices ranges ≡ place_bytes size (joined_runs xs) → All (λ range. range.start < range.end) ranges → read_ranges stored slice ≡ Ok (Some now) → next ≡ now → here ≡ stored → seen (grown next) (bytes_at size here (joined_runs ys)) ≡ bytes_at size stored (joined_runs all)
-first_then_rest size stored here now next all xs ys ranges slice e same positive numbers filled read is state =
+pub first_then_rest : (size : ℕ) (stored here : Option (List ℕ)) (now next : List ℕ) (all xs ys : List (ℕ × ℕ)) → all ≡ xs ++ ys → bytes_at size stored (joined_runs xs) ≡ Ok (Some now) → next ≡ now → here ≡ stored → seen (grown next) (bytes_at size here (joined_runs ys)) ≡ bytes_at size stored (joined_runs all)
+first_then_rest size stored here now next all xs ys e read is state =
     ap (λ (l : List ℕ). seen (grown l) (bytes_at size here (joined_runs ys))) is
     ∙ ap (λ (s : Option (List ℕ)). seen (grown now) (bytes_at size s (joined_runs ys))) state
-    ∙ read_rest size stored now (joined_runs xs) (joined_runs ys) (sym (ranges_read size stored (joined_runs xs) ranges positive numbers filled) ∙ sym (ap (read_ranges stored) same) ∙ read)
+    ∙ read_rest size stored now (joined_runs xs) (joined_runs ys) read
     ∙ ap (bytes_at size stored) (sym (joined_runs-append xs ys))
     ∙ ap (λ (runs : List (ℕ × ℕ)). bytes_at size stored (joined_runs runs)) (sym e)

@@ -1,21 +1,16 @@
 -- How many calls a read or a write in part has made, call by call.
-use Rattle.std.proofs.Common.{◌≡◌, ◌∙◌, ℕ, suc, ◌+◌, ◌-◌, ◌*◌, ◌<◌, ◌≤◌, min, nat_lt, Bool, true, false, if◌then◌else◌, Option, Some, None, Result, Ok, Err, List, [], ◌∷◌, length, map, arith, refl, sym, ap}
+use Rattle.std.proofs.Common.{◌≡◌, ◌∙◌, ℕ, suc, ◌+◌, ◌-◌, ◌*◌, ◌<◌, min, nat_lt, Bool, true, false, if◌then◌else◌, Option, Some, None, Result, Ok, Err, List, length, map, arith, refl, sym, ap}
 use Rattle.std.specs.Prelude.{OnOk, is_some}
-use Rattle.std.specs.List.{concat, range_with_len}
+use Rattle.std.specs.List.{concat}
 use Rattle.std.proofs.lemmas.Bool.{and_parts}
 use Rattle.std.proofs.lemmas.Bool.Decides.{nat_tests}
-use Rattle.std.proofs.lemmas.List.{length-append}
-use Rattle.std.proofs.lemmas.List.Elements.{All-tail}
-use Rattle.std.proofs.lemmas.List.FromFn.{length-range_with_len}
-use Rattle.zarrs_chunk.specs.Runs.{joined_runs, AreFilled}
+use Rattle.zarrs_chunk.specs.Runs.{joined_runs}
 use Rattle.zarrs_chunk.specs.declared.codec_error.CodecError.{CodecError}
 use Rattle.zarrs_data_type.specs.Form.{Form}
 use Rattle.zarrs_data_type.specs.declared.endianness.Endianness.{Endianness}
 use Rattle.zarrs_array_bytes.specs.Elements.{piece}
 use Rattle.zarrs_array_bytes.specs.Held.{Held}
-use Rattle.zarrs_codec.specs.ByteRanges.{read_ranges}
-use Rattle.zarrs_codec.specs.ByteSpan.{ByteSpan}
-use Rattle.zarrs_codec.specs.Calls.{Calls, after_reads, after_replacing, after_write}
+use Rattle.zarrs_codec.specs.Calls.{Calls, after_reads, after_replacing, after_write, ok_count}
 use Rattle.zarrs_codec.specs.StorageState.{value_indices}
 use Rattle.zarrs_codec.proofs.CallLemmas.{after_reads-none, after_reads-more}
 use Rattle.zarrs_bytes.specs.PartialRead.{bytes_at, place_bytes, place_size}
@@ -23,6 +18,11 @@ use Rattle.zarrs_bytes.proofs.BytesAt.{has_all, none_if}
 use Rattle.zarrs_bytes.proofs.Coding.{ok}
 use Rattle.zarrs_bytes.specs.PartialWrite.{bytes_left, bytes_replaced}
 use Rattle.zarrs_bytes.specs.ReadingCalls.{are_many_short, are_scattered, batch_count, calls_by_batches, calls_for_places, calls_for_runs, consecutive_runs, first_count, reading_calls}
+
+-- a reading call is one, where it is accepted
+pub one_read : {T : Type 0} (r : Result T CodecError) (before after : Option Calls) → after ≡ after_reads (ok_count r) before → OnOk r (after ≡ after_reads 1 before)
+one_read (Ok x) before after is = is
+one_read (Err e) before after is = tt
 
 -- ---- batches
 
@@ -67,10 +67,6 @@ pub none_counted : (size : ℕ) (stored : Option (List ℕ)) (places : List ℕ)
 none_counted size None places runs before after read one = one
 none_counted size (Some value) places runs before after read one = none_if (has_all size value places) (concat (map (piece size value) places)) _ read
 
-pub stored_where_read : (stored : Option (List ℕ)) (ranges : List ByteSpan) (bytes : List ℕ) → read_ranges stored ranges ≡ ok (Some bytes) → is_some stored ≡ true
-stored_where_read None ranges bytes read = cc
-stored_where_read (Some value) ranges bytes read = refl
-
 pub stored_where_found : (size : ℕ) (stored : Option (List ℕ)) (places bytes : List ℕ) → bytes_at size stored places ≡ ok (Some bytes) → is_some stored ≡ true
 stored_where_found size None places bytes read = cc
 stored_where_found size (Some value) places bytes read = refl
@@ -86,26 +82,6 @@ some_counted size (Some value) runs rest before mid after there is one more =
     ∙ ap (after_reads (batch_count (length rest))) one
     ∙ after_reads-more 1 (batch_count (length rest)) before
     ∙ ap (λ (n : ℕ). after_reads n before) all
-
-few_runs : (size : ℕ) (runs : List (ℕ × ℕ)) → length runs ≤ 1024 → are_many_short size runs ≡ false
-few_runs size runs few = let test : nat_lt 1024 (length runs) ≡ false = grind (arith, nat_tests) in rw test refl
-
-pub few_counted : (size : ℕ) (stored : Option (List ℕ)) (runs : List (ℕ × ℕ)) → length runs ≤ 1024 → calls_for_runs size stored runs ≡ 1
-few_counted size None runs few = refl
-few_counted size (Some value) runs few = rw (few_runs size runs few) refl
-
--- runs that aren't empty are no more than their places
-pub filled_few : (runs : List (ℕ × ℕ)) → AreFilled runs → length runs ≤ length (joined_runs runs)
-filled_few [] filled = omega arith
-filled_few (run ∷ runs) filled =
-    let some : 0 < run.1 = filled 0 run (omega arith) in
-    let rest = filled_few runs (All-tail (λ (r : ℕ × ℕ). 0 < r.1) run runs filled) in
-    omega (arith, some, rest, length-append (range_with_len run.0 run.1) (joined_runs runs), length-range_with_len run.0 run.1)
-
--- so those of a batch of places are read by one call
-pub one_batch : (size : ℕ) (stored : Option (List ℕ)) (runs : List (ℕ × ℕ)) (places : List ℕ) → AreFilled runs → joined_runs runs ≡ places → length places ≤ 1024 → calls_for_runs size stored runs ≡ 1
-one_batch size stored runs places filled joined few =
-    few_counted size stored runs (omega (arith, filled_few runs filled, ap length joined, few))
 
 -- ---- places
 

@@ -6,9 +6,6 @@ use Rattle.std.proofs.lemmas.List.Elements.{All-tail}
 use Rattle.zarrs_chunk.specs.Runs.{joined_runs, AreApart, AreFilled}
 use Rattle.zarrs_bytes.specs.ReadingCalls.{consecutive_runs, with_place_before}
 
-apart_tail : (run : ℕ × ℕ) (runs : List (ℕ × ℕ)) → AreApart (run ∷ runs) → AreApart runs
-apart_tail run runs apart = λ k d h. let e : suc k + 1 ≡ suc (k + 1) = omega arith in rw e at (apart (suc k) d (omega arith))
-
 -- the runs behind a place don't begin with the next one
 abbrev BeginsElsewhere : ℕ → List (ℕ × ℕ) → Type 0
 BeginsElsewhere end [] = Unit {0}
@@ -38,8 +35,9 @@ one_run start (suc (suc len)) runs some ends rest =
 pub runs_are_consecutive : (runs : List (ℕ × ℕ)) → AreFilled runs → AreApart runs → consecutive_runs (joined_runs runs) ≡ runs
 runs_are_consecutive [] filled apart = refl
 runs_are_consecutive (run ∷ runs) filled apart =
+    let behind : AreApart runs = λ k d h. let next : suc k + 1 ≡ suc (k + 1) = omega arith in rw next at (apart (suc k) d (omega arith)) in
     one_run run.0 run.1 runs (filled 0 run (omega arith)) (begins_elsewhere run runs apart)
-    (runs_are_consecutive runs (All-tail (λ (r : ℕ × ℕ). 0 < r.1) run runs filled) (apart_tail run runs apart))
+    (runs_are_consecutive runs (All-tail (λ (r : ℕ × ℕ). 0 < r.1) run runs filled) behind)
 
 -- so of runs of these places
 pub runs_of_places : (places : List ℕ) (runs : List (ℕ × ℕ)) → AreFilled runs → AreApart runs → joined_runs runs ≡ places → runs ≡ consecutive_runs places

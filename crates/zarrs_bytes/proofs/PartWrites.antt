@@ -284,6 +284,19 @@ stored_left order sizes type fill (Some value) here after size places new (Ok x)
 stored_left order sizes type fill (Some value) here after size places new (Err e) t fit there same sized answer written =
     λ m. absurd (let bad : ◌≡◌ {A = Result (Unit {0}) CodecError} (Ok tt) (Err e) = answer m in cc)
 
+-- the value of a whole chunk that is written where nothing is stored is what is left
+pub new_left : (order : Option Endianness) (sizes : List ℕ) (type : ElementType) (fill : List ℕ) (stored after : Option (List ℕ)) (places : List ℕ) (new : Held) (value : List ℕ) (result : Result (Unit {0}) CodecError)
+    → is_some stored ≡ false → value ≡ bytes_left order (form_of sizes type fill) None places new → Answers memory_or_fault (λ done. done) result (Ok tt) → OnOk result (after ≡ Some value)
+    → Answers memory_or_fault (λ _. after) result (some_bytes (bytes_left order (form_of sizes type fill) stored places new))
+new_left order sizes type fill (Some old) after places new value result none same answer written = absurd cc
+new_left order sizes type fill None after places new value (Ok x) none same answer written =
+    ap (λ (left : List ℕ). some_bytes left) (sym same) ∙ stored_is value after written
+  where
+    stored_is : (value : List ℕ) (after : Option (List ℕ)) → after ≡ Some value → some_bytes value ≡ Ok after
+    stored_is value after e = cc
+new_left order sizes type fill None after places new value (Err e) none same answer written =
+    λ m. absurd (let bad : ◌≡◌ {A = Result (Unit {0}) CodecError} (Ok tt) (Err e) = answer m in cc)
+
 -- a value is stored where that is answered
 pub there_is : (stored : Option (List ℕ)) (there : Bool) → ◌≡◌ {A = Result Bool CodecError} (Ok (is_some stored)) (Ok there) → there ≡ true → is_some stored ≡ true
 there_is stored there e h = cc

@@ -60,6 +60,27 @@ fn first_batch(size: u64, runs: &[(u64, u64)]) -> usize
     }
 }
 
+/// The bytes of these runs of elements of `size` bytes, by one call of the handle, or `None` where
+/// nothing is stored.
+pub(crate) fn read_batch<H: BytesPartialDecoderTraits>(
+    alloc: Global,
+    handle: &mut H,
+    size: u64,
+    runs: &[(u64, u64)],
+) -> Result<Option<Vec<u8>>, CodecError>
+    requires filled { All (λ run. 0 < run.1) runs.now }
+    requires ends { All (λ run. (run.0 + run.1) * size < 2 ^ 64) runs.now }
+    requires sized { 0 < size }
+    ensures answer { ReadsBytes result (bytes_at_runs size (H.state handle.old) runs.now) }
+    ensures sure { NeverFailsIf (runs_are_sure size (H.state handle.old) runs.now) result }
+    ensures left { H.state handle.new ≡ after_reading result (H.state handle.old) }
+    ensures same_reference { H.lent handle.new ≡ H.lent handle.old }
+    ensures counted { MakesReads H.calls 1 handle.old handle.new result }
+{
+    let ranges = run_ranges(alloc, size, runs)?;
+    handle.partial_decode_many(alloc, ranges.as_slice())
+}
+
 /// Appends the bytes of these runs, by one call of the handle.
 pub(crate) fn append_batch<H: BytesPartialDecoderTraits>(
     elements: &mut Vec<u8>,
@@ -78,8 +99,7 @@ pub(crate) fn append_batch<H: BytesPartialDecoderTraits>(
     ensures same_reference { H.lent handle.new ≡ H.lent handle.old }
     ensures counted { MakesReads H.calls 1 handle.old handle.new result }
 {
-    let ranges = run_ranges(alloc, size, runs)?;
-    match handle.partial_decode_many(alloc, ranges.as_slice())? {
+    match read_batch(alloc, handle, size, runs)? {
         None => unreachable!(),
         Some(bytes) => elements.extend_from_slice(bytes.as_slice())?,
     }
@@ -132,8 +152,7 @@ pub fn read_bytes<H: BytesPartialDecoderTraits>(
     ensures counted { CountsRuns size H.state H.calls handle.old handle.new runs.now result }
 {
     let (first, rest) = runs.split_at(first_batch(size, runs));
-    let ranges = run_ranges(alloc, size, first)?;
-    match handle.partial_decode_many(alloc, ranges.as_slice())? {
+    match read_batch(alloc, handle, size, first)? {
         None => Ok(None),
         Some(mut bytes) => {
             bytes.reserve_exact(count_places(rest).saturating_mul(size) as usize)?;

@@ -4,12 +4,12 @@
 //! swaps are all constants, which compile to one shuffle of a register.
 ghost use Rattle.std.specs.Prelude.{◌≡◌, ◌<◌, ◌*◌, ◌/◌, length, IfOk, Ok, Some, None, IsOk, reverse, true};
 ghost use Rattle.zarrs_chunk.specs.Answer.{Appends, Gives, seen};
-ghost use Rattle.zarrs_array_bytes.specs.Held.{items_of, raw_of};
+ghost use Rattle.zarrs_array_bytes.specs.Held.{flen, items_of, owned_bytes, raw_of};
 ghost use Rattle.zarrs_bytes.specs.ByteOrder.{turned_bytes};
 
 use std::alloc::{AllocError, Global};
 use std::borrow::CowSlice;
-use zarrs_array_bytes::ArrayBytesRaw;
+use zarrs_array_bytes::{ArrayBytes, ArrayBytesRaw};
 use zarrs_chunk::CodecError;
 
 /// How many bytes a group has: as many as a register.
@@ -193,4 +193,16 @@ pub fn turn<'a>(
             Ok(CowSlice::Owned(copy))
         }
     }
+}
+
+/// Elements of one size that own these bytes, with each component of `size` bytes turned round in
+/// place, or as they are where no size is given.
+pub(crate) fn hold_turned(mut bytes: Vec<u8>, size: Option<usize>) -> ArrayBytes<'static>
+    requires positive { size ≡ Some 0 → ⊥ }
+    ensures held { result ≡ flen (owned_bytes (turned_bytes size bytes.items)) }
+{
+    if let Some(size) = size {
+        reverse_each(&mut bytes, size);
+    }
+    ArrayBytes::new_flen(CowSlice::Owned(bytes))
 }

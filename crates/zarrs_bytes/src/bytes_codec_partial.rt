@@ -17,7 +17,7 @@ ghost use Rattle.zarrs_bytes.specs.PlannedRanges.{NoneIsEmpty};
 ghost use Rattle.zarrs_bytes.specs.ReadingCalls.{CountsRunsOf};
 
 use crate::batches::{read_bytes, run_ranges};
-use crate::byte_order::turn;
+use crate::byte_order::hold_turned;
 use crate::bytes_codec::BytesCodec;
 use std::alloc::{AllocError, Global};
 use std::borrow::CowSlice;
@@ -106,11 +106,7 @@ impl BytesCodec {
                 let bytes = fill_runs(alloc, fill_value.as_ne_bytes(), runs)?;
                 Ok(ArrayBytes::new_flen(CowSlice::Owned(bytes)))
             }
-            Some(bytes) => {
-                let turn_size = self.turn_size(data_type);
-                let elements = turn(alloc, CowSlice::Owned(bytes), turn_size)?;
-                Ok(ArrayBytes::new_flen(elements))
-            }
+            Some(bytes) => Ok(hold_turned(bytes, self.turn_size(data_type))),
         }
     }
 

@@ -13,8 +13,8 @@ ghost use Rattle.zarrs_codec.specs.HandleCalls.{NeverFailsIf, ReadsBytes};
 ghost use Rattle.zarrs_bytes.specs.PartialRead.{bytes_at_places, place_size, places_are_sure, AddsAt, AreCounted, ReadsPlaces, ReadsPlacesSurely, RepeatsFill};
 ghost use Rattle.zarrs_bytes.specs.ReadingCalls.{are_scattered, follows_count, CountsBatches, CountsAt, MakesBatches};
 
-use crate::batches::{BATCH, append_batch, read_bytes};
-use crate::byte_order::turn;
+use crate::batches::{BATCH, append_batch, read_batch};
+use crate::byte_order::hold_turned;
 use crate::bytes_codec::BytesCodec;
 use crate::bytes_codec_partial::element_size;
 use std::alloc::{AllocError, Global};
@@ -93,7 +93,7 @@ fn read_place_bytes<H: BytesPartialDecoderTraits>(
 {
     let (first, rest) = places.split_at(BATCH.min(places.len()));
     let runs = runs_of_places(alloc, first)?;
-    match read_bytes(alloc, handle, size, runs.as_slice())? {
+    match read_batch(alloc, handle, size, runs.as_slice())? {
         None => Ok(None),
         Some(mut bytes) => {
             bytes.reserve_exact((rest.len() as u64).saturating_mul(size) as usize)?;
@@ -150,11 +150,7 @@ impl BytesCodec {
                 let bytes = fill_places(alloc, fill_value.as_ne_bytes(), places)?;
                 Ok(ArrayBytes::new_flen(CowSlice::Owned(bytes)))
             }
-            Some(bytes) => {
-                let turn_size = self.turn_size(data_type);
-                let elements = turn(alloc, CowSlice::Owned(bytes), turn_size)?;
-                Ok(ArrayBytes::new_flen(elements))
-            }
+            Some(bytes) => Ok(hold_turned(bytes, self.turn_size(data_type))),
         }
     }
 

@@ -59,7 +59,7 @@ fn put_runs<H: BytesPartialEncoderTraits>(
 }
 
 /// Elements of one size, lent.
-fn lent<'b>(elements: &'b ArrayBytes<'_>) -> Result<ArrayBytes<'b>, CodecError>
+fn lend<'b>(elements: &'b ArrayBytes<'_>) -> Result<ArrayBytes<'b>, CodecError>
     requires kind { IsOk (fixed_part elements.now) }
     ensures items { seen fixed_items result ≡ Ok (fixed_items elements.now) }
 {
@@ -70,7 +70,7 @@ fn lent<'b>(elements: &'b ArrayBytes<'_>) -> Result<ArrayBytes<'b>, CodecError>
 impl BytesCodec {
     /// The bytes of elements of a fixed type as they stand in a value. Errors: `ArrayBytesKind` for
     /// any other elements; `OutOfMemory`.
-    fn spelled<'b>(
+    fn spell<'b>(
         &self,
         alloc: Global,
         elements: ArrayBytes<'b>,
@@ -112,7 +112,7 @@ impl BytesCodec {
         ensures counted { CountsWrite H.calls
             handle.old handle.new (run_bytes size runs.items) result }
     {
-        let bytes = self.spelled(alloc, elements, data_type)?;
+        let bytes = self.spell(alloc, elements, data_type)?;
         put_runs(alloc, handle, size, runs, bytes.as_slice())
     }
 
@@ -135,6 +135,24 @@ impl BytesCodec {
         let filled = ArrayBytes::new_fill_value(alloc, data_type, count, fill)?;
         let edited = update_runs(alloc, filled, count, runs, new, data_type)?;
         self.encode(alloc, edited, shape, data_type, fill)
+    }
+
+    /// The same of runs and elements that are let go.
+    fn into_value(
+        &self,
+        alloc: Global,
+        shape: &ChunkShape,
+        data_type: &DataType,
+        fill: &FillValue,
+        runs: Vec<(u64, u64)>,
+        new: ArrayBytes<'_>,
+    ) -> Result<ArrayBytesRaw<'static>, CodecError>
+        requires taken { BytesTakes self.now (form_of shape.now data_type.now fill.now) }
+        requires below { EndWithin (product shape.now) runs.items }
+        requires fit { FitRuns data_type.now runs.items new }
+        ensures answer { FillsUp self.now shape.now data_type.now fill.now runs.items new.entry result }
+    {
+        self.value_from_fill(alloc, shape, data_type, fill, runs.as_slice(), &new)
     }
 
     /// Writes new elements at the places of these runs, each a start and a length, in order, over a
@@ -178,14 +196,7 @@ impl BytesCodec {
             let size = element_size(data_type, fill_value) as u64;
             self.write_over(alloc, handle, data_type, size, runs, elements)
         } else {
-            let value = self.value_from_fill(
-                alloc,
-                shape,
-                data_type,
-                fill_value,
-                runs.as_slice(),
-                &elements,
-            )?;
+            let value = self.into_value(alloc, shape, data_type, fill_value, runs, elements)?;
             handle.replace(alloc, value.as_slice())
         }
     }
@@ -218,7 +229,7 @@ impl BytesCodec {
             (form_of shape.now data_type.now fill_value.now) runs.items elements.now
             H.calls H.state handle.old handle.new result }
     {
-        let elements = lent(elements)?;
+        let elements = lend(elements)?;
         self.write_given_runs(alloc, handle, shape, data_type, fill_value, runs, elements)
     }
 }

@@ -4,10 +4,12 @@
 
 mod check;
 mod decode;
+mod edit;
 mod encode;
 mod error_name;
 mod planned_ranges;
 mod read;
+mod read_many;
 mod read_pieces;
 mod reencode;
 mod representation;
@@ -15,10 +17,12 @@ mod write;
 
 pub use check::zarrs_check;
 pub use decode::zarrs_decode;
+pub use edit::zarrs_edit;
 pub use encode::zarrs_encode;
 pub use error_name::zarrs_error_name;
 pub use planned_ranges::zarrs_planned_ranges;
 pub use read::zarrs_read;
+pub use read_many::zarrs_read_many;
 pub use read_pieces::zarrs_read_pieces;
 pub use reencode::zarrs_reencode;
 pub use representation::zarrs_representation;

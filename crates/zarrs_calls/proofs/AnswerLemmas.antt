@@ -10,7 +10,7 @@ use Rattle.zarrs_array_bytes.specs.Tight.{IsTight}
 use Rattle.zarrs_array_bytes.specs.Validity.{Holds}
 use Rattle.zarrs_chain_json.specs.declared.refusal.Refusal.TheVariants.{Codec}
 use Rattle.zarrs_chain_header.specs.Header.{Header}
-use Rattle.zarrs_codec.specs.SampleBytesCodec.{sample_codecs}
+use Rattle.zarrs_chain_header.specs.KnownBytesCodec.{known_codecs}
 use Rattle.zarrs_chain_laws.specs.Decode.{chain_chunk}
 use Rattle.zarrs_calls.specs.Calls.{decoded, header_given}
 use Rattle.zarrs_calls.specs.Codes.{codec_answer}
@@ -63,12 +63,12 @@ module _ (text : List ℕ) (stored value : Option (List ℕ)) (tuples : ℕ) (nu
 
 -- ---- a whole chunk
 
-decoded_by : (text value : List ℕ) (header : Header) → header_given text ≡ Ok header → decoded text value ≡ (codec_answer (chain_chunk sample_codecs header.chain header.sizes header.data_type header.fill value) >>= typed header.data_type)
+decoded_by : (text value : List ℕ) (header : Header) → header_given text ≡ Ok header → decoded text value ≡ (codec_answer (chain_chunk known_codecs header.chain header.sizes header.data_type header.fill value) >>= typed header.data_type)
 decoded_by text value header e = rw e refl
 
 -- a tight container that holds the chunk of a value holds what is due
-pub decoded_due : (text value : List ℕ) (header : Header) (held : Held) → header_given text ≡ Ok header → IsOkAnd (chain_chunk sample_codecs header.chain header.sizes header.data_type header.fill value) (Holds header.data_type held) → IsTight header.data_type held
+pub decoded_due : (text value : List ℕ) (header : Header) (held : Held) → header_given text ≡ Ok header → IsOkAnd (chain_chunk known_codecs header.chain header.sizes header.data_type header.fill value) (Holds header.data_type held) → IsTight header.data_type held
     → IsOkAnd (decoded text value) (HoldsThese held)
 decoded_due text value header held reads h tight =
     subst (λ (x : Result Elements Cause). IsOkAnd x (HoldsThese held)) (sym (decoded_by text value header reads))
-    (elements_due header.data_type held (chain_chunk sample_codecs header.chain header.sizes header.data_type header.fill value) h tight)
+    (elements_due header.data_type held (chain_chunk known_codecs header.chain header.sizes header.data_type header.fill value) h tight)

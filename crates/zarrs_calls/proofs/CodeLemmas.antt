@@ -6,11 +6,12 @@ use Rattle.zarrs_metadata.specs.declared.plugin_create_error.PluginCreateError.T
 use Rattle.zarrs_chain_json.specs.declared.refusal.Refusal.TheVariants.{Syntax, Making, Codec}
 use Rattle.zarrs_calls.specs.Codes.{cause_code, cause_memory, answer_code, IsCode, IsRefusal}
 use Rattle.zarrs_calls.specs.declared.cause.Cause.{Cause}
-use Rattle.zarrs_calls.specs.declared.cause.Cause.TheVariants.{Argument, Refused}
+use Rattle.zarrs_calls.specs.declared.cause.Cause.TheVariants.{Argument, NotInPlace, Refused}
 
 -- a cause that says that memory is wanting has the number 10
 wanting : (cause : Cause) → cause_memory cause ≡ true → cause_code cause ≡ 10
 wanting Argument e = cc
+wanting NotInPlace e = cc
 wanting (Refused Syntax) e = cc
 wanting (Refused (Codec OutOfMemory)) e = refl
 wanting (Refused (Codec (Storage a))) e = cc

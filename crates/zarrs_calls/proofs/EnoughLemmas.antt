@@ -16,9 +16,9 @@ use Rattle.zarrs_data_type.specs.Form.{form_of}
 use Rattle.zarrs_data_type.specs.declared.endianness.Endianness.{Endianness}
 use Rattle.zarrs_codec.specs.ByteRanges.{range_indices}
 use Rattle.zarrs_codec.specs.ByteSpan.{ByteSpan}
-use Rattle.zarrs_codec.specs.SampleBytesCodec.{sample_codecs}
+use Rattle.zarrs_chain_header.specs.KnownBytesCodec.{known_codecs}
 use Rattle.zarrs_codec.specs.declared.bytes_representation.BytesRepresentation.{BytesRepresentation}
-use Rattle.zarrs_codec.specs.declared.sample_bytes_codec.SampleBytesCodec.{SampleBytesCodec}
+use Rattle.zarrs_chain_header.specs.declared.known_bytes_codec.KnownBytesCodec.{KnownBytesCodec}
 use Rattle.zarrs_array_to_array.specs.ArrayToArrayCodec.{IsMapping}
 use Rattle.zarrs_bytes.specs.PartialRead.{place_bytes, place_size}
 use Rattle.zarrs_packbits.specs.PackBitsSettings.{packed_layout}
@@ -102,7 +102,7 @@ module _ (made : List ByteSpan) (test : ℕ → Bool) (all : (n : ℕ) → have_
   packed_passes bytes_of Plan same (Ok l) plan = (bytes_of l, refl, sym (same l plan test) ∙ passes test made all)
   packed_passes bytes_of Plan same (Err e) plan = absurd plan
 
-  codec_passes : (codec : PlainCodec SampleBytesCodec) (sizes : List ℕ) (type : ElementType) (fill places : List ℕ) → IsCodecPlan codec sizes type fill places made → Passing (codec_rests_on codec sizes type fill None places)
+  codec_passes : (codec : PlainCodec KnownBytesCodec) (sizes : List ℕ) (type : ElementType) (fill places : List ℕ) → IsCodecPlan codec sizes type fill places made → Passing (codec_rests_on codec sizes type fill None places)
   codec_passes (bytes_codec order) sizes type fill places plan =
       (place_bytes (place_size type) places, refl, subst (λ (ns : List ℕ). list_all test ns ≡ true) plan.bytes (passes test made all))
   codec_passes (packbits_codec settings) sizes type fill places plan =
@@ -111,7 +111,7 @@ module _ (made : List ByteSpan) (test : ℕ → Bool) (all : (n : ℕ) → have_
   codec_passes (optional_codec ma mx mb da dx db) sizes type fill places plan = absurd plan
 
   -- over `bytes` in whatever order the places are planned
-  moved_passes : (order : Option Endianness) (sizes : List ℕ) (type : ElementType) (fill places planned : List ℕ) → IsPermutation places planned → IsCodecPlan {B = SampleBytesCodec} (bytes_codec order) sizes type fill planned made → Passing (codec_rests_on {B = SampleBytesCodec} (bytes_codec order) sizes type fill None places)
+  moved_passes : (order : Option Endianness) (sizes : List ℕ) (type : ElementType) (fill places planned : List ℕ) → IsPermutation places planned → IsCodecPlan {B = KnownBytesCodec} (bytes_codec order) sizes type fill planned made → Passing (codec_rests_on {B = KnownBytesCodec} (bytes_codec order) sizes type fill None places)
   moved_passes order sizes type fill places planned same plan =
       let all_planned : list_all test (place_bytes (place_size type) planned) ≡ true = subst (λ (ns : List ℕ). list_all test ns ≡ true) plan.bytes (passes test made all) in
       (place_bytes (place_size type) places, refl, same_bytes test (place_size type) places planned same ∙ all_planned)
@@ -125,7 +125,7 @@ module _ (made : List ByteSpan) (test : ℕ → Bool) (all : (n : ℕ) → have_
   was_planned true found places e = (refl, cc)
   was_planned false found places e = absurd (cc)
 
-  chain_passes : (b : Bool) (arrange : List ℕ → List ℕ) (codec : PlainCodec SampleBytesCodec) (type : ElementType) (fill : List ℕ) (p : Result (List ℕ) CodecError) (t : Result (List ℕ × BytesRepresentation) CodecError) (places : List ℕ)
+  chain_passes : (b : Bool) (arrange : List ℕ → List ℕ) (codec : PlainCodec KnownBytesCodec) (type : ElementType) (fill : List ℕ) (p : Result (List ℕ) CodecError) (t : Result (List ℕ × BytesRepresentation) CodecError) (places : List ℕ)
       → ((sizes meant : List ℕ) → p ≡ Ok meant → IsCodecPlan codec sizes type fill (arrange meant) made → Passing (codec_rests_on codec sizes type fill None meant))
       → seen (some_if b) (seen arrange p) ≡ Ok (Some places) → IsOkAnd t (λ taken. IsCodecPlan codec taken.0 type fill places made)
       → (numbers : List ℕ) × ((p >>= λ found. t >>= λ taken. codec_rests_on codec taken.0 type fill None found >>= λ bytes. ok (some_if b bytes)) ≡ Ok (Some numbers)) × (list_all test numbers ≡ true)
@@ -140,7 +140,7 @@ module _ (made : List ByteSpan) (test : ℕ → Bool) (all : (n : ℕ) → have_
         found_numbers.2,
       )
 
-  module _ (form : ChunkForm SampleBytesCodec) (selection : Selection) (are : All IsMapping form.chain.array_to_array) (positive : All (λ size. 0 < size) form.sizes) where
+  module _ (form : ChunkForm KnownBytesCodec) (selection : Selection) (are : All IsMapping form.chain.array_to_array) (positive : All (λ size. 0 < size) form.sizes) where
     -- the places that are meant, where these are planned in their order
     ordered_passes : (planned : Option Region) → planned_region form selection ≡ planned → (sizes meant : List ℕ) → encoded_places form.type form.chain.array_to_array form.sizes selection ≡ Ok meant
         → IsCodecPlan form.chain.array_to_bytes sizes form.type form.fill (places_in_order form.chain.array_to_array form.sizes planned meant) made → Passing (codec_rests_on form.chain.array_to_bytes sizes form.type form.fill None meant)
@@ -148,16 +148,16 @@ module _ (made : List ByteSpan) (test : ℕ → Bool) (all : (n : ℕ) → have_
     ordered_passes (Some region) p sizes meant e plan =
         let own = in_place (form_in_place form) _ region p in
         let codec_is : form.chain.array_to_bytes ≡ bytes_codec own.0 = (bytes_alone form.chain.bytes_to_bytes form.chain.array_to_bytes own.0 own.1).1 in
-        let chain_is : IsChainOfMappings form.chain = record { mappings = are; inner_mappings = subst (λ (c : PlainCodec SampleBytesCodec). HasMappings c) (sym codec_is) tt } in
+        let chain_is : IsChainOfMappings form.chain = record { mappings = are; inner_mappings = subst (λ (c : PlainCodec KnownBytesCodec). HasMappings c) (sym codec_is) tt } in
         let standing : List ℕ = standing_places form.chain.array_to_array form.sizes region in
-        let order = planned_are_meant SampleBytesCodec form selection meant standing chain_is positive e (standing_is form selection region meant p e) in
-        subst (λ (c : PlainCodec SampleBytesCodec). Passing (codec_rests_on c sizes form.type form.fill None meant)) (sym codec_is)
-        (moved_passes own.0 sizes form.type form.fill meant standing order.same (subst (λ (c : PlainCodec SampleBytesCodec). IsCodecPlan c sizes form.type form.fill standing made) codec_is plan))
+        let order = planned_are_meant KnownBytesCodec form selection meant standing chain_is positive e (standing_is form selection region meant p e) in
+        subst (λ (c : PlainCodec KnownBytesCodec). Passing (codec_rests_on c sizes form.type form.fill None meant)) (sym codec_is)
+        (moved_passes own.0 sizes form.type form.fill meant standing order.same (subst (λ (c : PlainCodec KnownBytesCodec). IsCodecPlan c sizes form.type form.fill standing made) codec_is plan))
 
-    form_passes : (places : List ℕ) → planned_places form selection ≡ Ok (Some places) → IsReadPlan sample_codecs form (Some made) (Some places)
-        → (numbers : List ℕ) × ArePlanned sample_codecs form selection numbers × (list_all test numbers ≡ true)
+    form_passes : (places : List ℕ) → planned_places form selection ≡ Ok (Some places) → IsReadPlan known_codecs form (Some made) (Some places)
+        → (numbers : List ℕ) × ArePlanned known_codecs form selection numbers × (list_all test numbers ≡ true)
     form_passes places is plan =
-        chain_passes (reads_places form.chain.bytes_to_bytes form.chain.array_to_bytes) (places_in_order form.chain.array_to_array form.sizes (planned_region form selection)) form.chain.array_to_bytes form.type form.fill (encoded_places form.type form.chain.array_to_array form.sizes selection) (taken_form sample_codecs form.chain form.sizes form.type form.fill) places
+        chain_passes (reads_places form.chain.bytes_to_bytes form.chain.array_to_bytes) (places_in_order form.chain.array_to_array form.sizes (planned_region form selection)) form.chain.array_to_bytes form.type form.fill (encoded_places form.type form.chain.array_to_array form.sizes selection) (taken_form known_codecs form.chain form.sizes form.type form.fill) places
         (ordered_passes (planned_region form selection) refl) is plan
 
 -- ---- of a header
@@ -174,7 +174,7 @@ plan_is_enough text tuples numbers header selection plan ranges pieces reads mea
     let places : List ℕ = told.0 in
     let made : List ByteSpan = told.1 in
     let p = planned_is header (places_planned form selection) plan (sym (plan_by text tuples numbers header selection reads means) ∙ is) in
-    let b = bind_ok (chain_representation sample_codecs form.chain form.sizes form.type form.fill) (λ _. planned_places form selection) (Some places) (p.0 ∙ ap ok told.2) in
-    let own : IsReadPlan sample_codecs form (Some made) (Some places) = subst (λ (h : Header). IsReadPlan sample_codecs (header_form h) (Some made) (Some places)) (sym p.1) told.3 in
+    let b = bind_ok (chain_representation known_codecs form.chain form.sizes form.type form.fill) (λ _. planned_places form selection) (Some places) (p.0 ∙ ap ok told.2) in
+    let own : IsReadPlan known_codecs form (Some made) (Some places) = subst (λ (h : Header). IsReadPlan known_codecs (header_form h) (Some made) (Some places)) (sym p.1) told.3 in
     let sound = header_sound text header reads in
     form_passes made (is_at_hand pieces) (λ n e. all n (told.4.same n ∙ e)) form selection sound.mappings sound.positive places b.2 own

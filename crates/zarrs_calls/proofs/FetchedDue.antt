@@ -8,7 +8,7 @@ use Rattle.zarrs_data_type.specs.Element.{Chunk}
 use Rattle.zarrs_array_bytes.specs.Held.{Held}
 use Rattle.zarrs_array_bytes.specs.Tight.{IsTight}
 use Rattle.zarrs_array_bytes.specs.Validity.{Holds}
-use Rattle.zarrs_codec.specs.SampleBytesCodec.{sample_codecs}
+use Rattle.zarrs_chain_header.specs.KnownBytesCodec.{known_codecs}
 use Rattle.zarrs_codec.specs.StorageState.{StorageState, are_sure}
 use Rattle.zarrs_chain_json.specs.declared.refusal.Refusal.TheVariants.{Syntax, Making, Codec}
 use Rattle.zarrs_chain_header.specs.Header.{Header}
@@ -25,7 +25,7 @@ use Rattle.zarrs_calls.specs.Reads.{form_read, part_read}
 use Rattle.zarrs_calls.specs.Selections.{selection_given}
 use Rattle.zarrs_calls.specs.Told.{Elements, HoldsThese, ToldParts}
 use Rattle.zarrs_calls.specs.declared.cause.Cause.{Cause}
-use Rattle.zarrs_calls.specs.declared.cause.Cause.TheVariants.{Argument, Refused}
+use Rattle.zarrs_calls.specs.declared.cause.Cause.TheVariants.{Argument, NotInPlace, Refused}
 use Rattle.zarrs_calls.specs.declared.sizes.Sizes.{Sizes}
 use Rattle.zarrs_calls.proofs.AnswerLemmas.{elements_due, of_codec, read_due, read_refused, typed}
 use Rattle.zarrs_calls.proofs.CodeLemmas.{refused}
@@ -43,7 +43,7 @@ ok_same r a b e f = (let g = sym e ∙ f in cc)
 -- what is planned of a selection is at hand, in pieces that a value has
 record PlannedHere (header : Header) (selection : Selection) (pieces : List PlainPiece) (len : ℕ) (value : List ℕ) : Type 0 where
   planned : List ℕ
-  planned_are : ArePlanned sample_codecs (form_of header) selection planned
+  planned_are : ArePlanned known_codecs (form_of header) selection planned
   at_hand : are_at_hand pieces planned ≡ true
   has : HasPieces len pieces value
 
@@ -87,7 +87,7 @@ module _ (text : List ℕ) (len : ℕ) (ranges fetched : List ℕ) (tuples : ℕ
           ∙ parts_alike (form_of header) len pieces value here.planned selection here.planned_are here.has here.at_hand
 
       -- and what holds where the planned bytes are sure does
-      pub where_sure : (P : Type 0) (value : List ℕ) → HasPlannedPieces text len ranges fetched tuples numbers value → ((planned : List ℕ) → ArePlanned sample_codecs (form_of header) selection planned → are_sure state.sure planned ≡ true → P) → P
+      pub where_sure : (P : Type 0) (value : List ℕ) → HasPlannedPieces text len ranges fetched tuples numbers value → ((planned : List ℕ) → ArePlanned known_codecs (form_of header) selection planned → are_sure state.sure planned ≡ true → P) → P
       where_sure P value h sure =
           let here = planned_here value h in
           let is = made_is len pieces state made in
@@ -110,6 +110,7 @@ module _ (text : List ℕ) (len : ℕ) (ranges fetched : List ℕ) (tuples : ℕ
 -- a cause that says that a byte isn't at hand has the number 11
 lacking : (cause : Cause) → cause_lacks cause ≡ true → cause_code cause ≡ 11
 lacking Argument e = absurd (cc)
+lacking NotInPlace e = absurd (cc)
 lacking (Refused Syntax) e = absurd (cc)
 lacking (Refused (Making error)) e = absurd (cc)
 lacking (Refused (Codec OutOfMemory)) e = absurd (cc)

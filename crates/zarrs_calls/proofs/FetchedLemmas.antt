@@ -9,7 +9,7 @@ use Rattle.zarrs_chunk.specs.declared.codec_error.CodecError.{CodecError}
 use Rattle.zarrs_data_type.specs.Element.{Chunk}
 use Rattle.zarrs_array_bytes.specs.Held.{Held}
 use Rattle.zarrs_array_bytes.specs.Validity.{Holds}
-use Rattle.zarrs_codec.specs.SampleBytesCodec.{sample_codecs}
+use Rattle.zarrs_chain_header.specs.KnownBytesCodec.{known_codecs}
 use Rattle.zarrs_codec.specs.StorageState.{StorageState, are_sure}
 use Rattle.zarrs_codec.specs.declared.bytes_representation.BytesRepresentation.{BytesRepresentation}
 use Rattle.zarrs_chain_laws.specs.Chain.{taken_form}
@@ -21,7 +21,7 @@ use Rattle.zarrs_pieces.specs.PiecesHandle.{made_state}
 use Rattle.zarrs_pieces.specs.Pieces.{PlainPiece, HasPieces, are_apart, are_at_hand, byte_at, is_at_hand, value_with}
 use Rattle.zarrs_planned_reads.specs.PlannedReads.{ArePlanned}
 use Rattle.zarrs_planned_reads.proofs.Alike.{planned_is_asked, sized_alike, passes_at}
-use Rattle.zarrs_chain_lines.specs.Commands.{sample_reads}
+use Rattle.zarrs_chain_lines.specs.Commands.{known_reads}
 use Rattle.zarrs_calls.specs.Reads.{form_read}
 use Rattle.zarrs_chain_lines.proofs.WriteLemmas.{Form}
 use Rattle.zarrs_chain_lines.proofs.ReadLemmas.{passes, stops}
@@ -57,51 +57,51 @@ by_taken f stored x (Err e) = refl
 
 -- without a cache the making refuses only what the chain doesn't take
 uncached : (f : Form) (stored : Option (List ℕ)) (x : Result Chunk CodecError) → asks_in_part f.chain.bytes_to_bytes f.chain.array_to_bytes ≡ true
-    → (source_made sample_codecs sample_reads f stored >>= λ _. x) ≡ (taken_form sample_codecs f.chain f.sizes f.type f.fill >>= λ _. x)
+    → (source_made known_codecs known_reads f stored >>= λ _. x) ≡ (taken_form known_codecs f.chain f.sizes f.type f.fill >>= λ _. x)
 uncached f stored x asks =
-    ap (λ s. source_made_at sample_codecs f s stored >>= λ _. x) (no_stage sample_reads f.chain (no_place sample_reads f.chain asks))
-    ∙ by_taken f stored x (taken_form sample_codecs f.chain f.sizes f.type f.fill)
+    ap (λ s. source_made_at known_codecs f s stored >>= λ _. x) (no_stage known_reads f.chain (no_place known_reads f.chain asks))
+    ∙ by_taken f stored x (taken_form known_codecs f.chain f.sizes f.type f.fill)
 
 -- a value that has the pieces is read as the one with zeros elsewhere, where the planned bytes are at hand
-pub parts_alike : (f : Form) (len : ℕ) (ps : List PlainPiece) (value planned : List ℕ) (selection : Selection) → ArePlanned sample_codecs f selection planned → HasPieces len ps value → are_at_hand ps planned ≡ true
+pub parts_alike : (f : Form) (len : ℕ) (ps : List PlainPiece) (value planned : List ℕ) (selection : Selection) → ArePlanned known_codecs f selection planned → HasPieces len ps value → are_at_hand ps planned ≡ true
     → form_read f (Some (value_with len ps)) selection ≡ form_read f (Some value) selection
 parts_alike f len ps value planned selection are has hand =
-    let asks = planned_is_asked sample_codecs f (Some value) selection planned are in
+    let asks = planned_is_asked known_codecs f (Some value) selection planned are in
     let zeros : List ℕ = value_with len ps in
     let long : length value ≡ length zeros = omega (arith, has.length_is, length-map-range_with_len (byte_at ps) 0 len) in
-    let same = sized_alike sample_codecs f value zeros selection planned are long (agree len ps value planned has hand) in
-    uncached f (Some zeros) (stored_read sample_codecs f (Some zeros) selection) asks.in_part
-    ∙ ap (λ (x : Result Chunk CodecError). taken_form sample_codecs f.chain f.sizes f.type f.fill >>= λ _. x) (sym same)
-    ∙ sym (uncached f (Some value) (stored_read sample_codecs f (Some value) selection) asks.in_part)
+    let same = sized_alike known_codecs f value zeros selection planned are long (agree len ps value planned has hand) in
+    uncached f (Some zeros) (stored_read known_codecs f (Some zeros) selection) asks.in_part
+    ∙ ap (λ (x : Result Chunk CodecError). taken_form known_codecs f.chain f.sizes f.type f.fill >>= λ _. x) (sym same)
+    ∙ sym (uncached f (Some value) (stored_read known_codecs f (Some value) selection) asks.in_part)
 
 -- ---- a decoder over pieces
 
 -- what it answers
-pub part_answered : (chunk form : Form) (stored value : Option (List ℕ)) (selection : Selection) (r : Result Held CodecError) (source : Source) → form ≡ chunk → value ≡ stored → source_made sample_codecs sample_reads chunk stored ≡ Ok source
-    → AnswersBy memory_or_fault (Holds form.type) r (stored_read sample_codecs form value selection) → AnswersBy memory_or_fault (Holds chunk.type) r (form_read chunk stored selection)
+pub part_answered : (chunk form : Form) (stored value : Option (List ℕ)) (selection : Selection) (r : Result Held CodecError) (source : Source) → form ≡ chunk → value ≡ stored → source_made known_codecs known_reads chunk stored ≡ Ok source
+    → AnswersBy memory_or_fault (Holds form.type) r (stored_read known_codecs form value selection) → AnswersBy memory_or_fault (Holds chunk.type) r (form_read chunk stored selection)
 part_answered chunk form stored value selection r source same_form same_value made h =
-    let of_chunk : AnswersBy memory_or_fault (Holds chunk.type) r (stored_read sample_codecs chunk stored selection) =
-    subst (λ (v : Option (List ℕ)). AnswersBy memory_or_fault (Holds chunk.type) r (stored_read sample_codecs chunk v selection)) same_value
-    (subst (λ (f : Form). AnswersBy memory_or_fault (Holds f.type) r (stored_read sample_codecs f value selection)) same_form h) in
+    let of_chunk : AnswersBy memory_or_fault (Holds chunk.type) r (stored_read known_codecs chunk stored selection) =
+    subst (λ (v : Option (List ℕ)). AnswersBy memory_or_fault (Holds chunk.type) r (stored_read known_codecs chunk v selection)) same_value
+    (subst (λ (f : Form). AnswersBy memory_or_fault (Holds f.type) r (stored_read known_codecs f value selection)) same_form h) in
     subst (λ (y : Result Chunk CodecError). AnswersBy memory_or_fault (Holds chunk.type) r y)
-    (sym (passes (source_made sample_codecs sample_reads chunk stored) source (stored_read sample_codecs chunk stored selection) made)) of_chunk
+    (sym (passes (source_made known_codecs known_reads chunk stored) source (stored_read known_codecs chunk stored selection) made)) of_chunk
 
 -- where none is made
-pub part_stopped : (chunk : Form) (stored : Option (List ℕ)) (selection : Selection) (e : CodecError) → Excused (memory_or_fault e) (source_made sample_codecs sample_reads chunk stored ≡ Err e)
+pub part_stopped : (chunk : Form) (stored : Option (List ℕ)) (selection : Selection) (e : CodecError) → Excused (memory_or_fault e) (source_made known_codecs known_reads chunk stored ≡ Err e)
     → Excused (memory_or_fault e) (form_read chunk stored selection ≡ Err e)
-part_stopped chunk stored selection e h = λ wants. stops (source_made sample_codecs sample_reads chunk stored) (stored_read sample_codecs chunk stored selection) e (h wants)
+part_stopped chunk stored selection e h = λ wants. stops (source_made known_codecs known_reads chunk stored) (stored_read known_codecs chunk stored selection) e (h wants)
 
-pub planned_quietly_made : (chunk : Form) (selection : Selection) (planned : List ℕ) → ArePlanned sample_codecs chunk selection planned → asks_in_part chunk.chain.bytes_to_bytes chunk.chain.array_to_bytes ≡ true
-planned_quietly_made chunk selection planned are = (planned_is_asked sample_codecs chunk None selection planned are).in_part
+pub planned_quietly_made : (chunk : Form) (selection : Selection) (planned : List ℕ) → ArePlanned known_codecs chunk selection planned → asks_in_part chunk.chain.bytes_to_bytes chunk.chain.array_to_bytes ≡ true
+planned_quietly_made chunk selection planned are = (planned_is_asked known_codecs chunk None selection planned are).in_part
 
 -- it never lacks a byte where the planned ones are at hand
-pub planned_quiet : (chunk form : Form) (before state : StorageState) (selection : Selection) (planned : List ℕ) (r : Result Held CodecError) → form ≡ chunk → state ≡ before → ArePlanned sample_codecs chunk selection planned
-    → are_sure before.sure planned ≡ true → WhereSure sample_codecs form state selection (is_fault r ≡ false) → is_fault r ≡ false
+pub planned_quiet : (chunk form : Form) (before state : StorageState) (selection : Selection) (planned : List ℕ) (r : Result Held CodecError) → form ≡ chunk → state ≡ before → ArePlanned known_codecs chunk selection planned
+    → are_sure before.sure planned ≡ true → WhereSure known_codecs form state selection (is_fault r ≡ false) → is_fault r ≡ false
 planned_quiet chunk form before state selection planned r same_form same_state are hand sure =
-    let of_chunk : WhereSure sample_codecs chunk before selection (is_fault r ≡ false) =
-    subst (λ (s : StorageState). WhereSure sample_codecs chunk s selection (is_fault r ≡ false)) same_state
-    (subst (λ (f : Form). WhereSure sample_codecs f state selection (is_fault r ≡ false)) same_form sure) in
-    let asked = (planned_is_asked sample_codecs chunk before.value selection planned are).asked in
+    let of_chunk : WhereSure known_codecs chunk before selection (is_fault r ≡ false) =
+    subst (λ (s : StorageState). WhereSure known_codecs chunk s selection (is_fault r ≡ false)) same_state
+    (subst (λ (f : Form). WhereSure known_codecs f state selection (is_fault r ≡ false)) same_form sure) in
+    let asked = (planned_is_asked known_codecs chunk before.value selection planned are).asked in
     let here : IfOk (ok (Some planned)) (λ asked. IfSome asked (λ numbers. are_sure before.sure numbers ≡ true → is_fault r ≡ false)) =
     subst (λ (x : Result (Option (List ℕ)) CodecError). IfOk x (λ asked. IfSome asked (λ numbers. are_sure before.sure numbers ≡ true → is_fault r ≡ false))) asked of_chunk in
     here hand

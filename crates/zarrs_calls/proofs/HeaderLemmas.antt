@@ -8,8 +8,8 @@ use Rattle.zarrs_chunk.proofs.Products.{All-positive}
 use Rattle.zarrs_metadata.specs.declared.plugin_create_error.PluginCreateError.{PluginCreateError}
 use Rattle.zarrs_array_to_array.specs.ArrayToArrayCodec.{IsMapping}
 use Rattle.zarrs_array_to_array.proofs.AnswerSteps.{step_ok}
-use Rattle.zarrs_codec.specs.SampleBytesCodec.{sample_codecs}
-use Rattle.zarrs_codec.specs.SampleMetadata.{sample_made}
+use Rattle.zarrs_chain_header.specs.KnownBytesCodec.{known_codecs}
+use Rattle.zarrs_chain_header.specs.KnownMaker.{known_made}
 use Rattle.zarrs_chain_laws.specs.MadeChain.{chain_made}
 use Rattle.zarrs_chain_laws.specs.Representation.{chain_representation}
 use Rattle.zarrs_chain_laws.proofs.MadeMappings.{same_value, chain_mappings}
@@ -21,6 +21,7 @@ use Rattle.zarrs_chain_header.specs.Codecs.{metadata_in, chain_in}
 use Rattle.zarrs_chain_header.specs.Header.{Header, shape_at, data_type_at, fill_value_at, codecs_at, header_in, line_header}
 use Rattle.zarrs_calls.specs.Calls.{header_given}
 use Rattle.zarrs_calls.specs.Codes.{refusal_answer}
+use Rattle.zarrs_chain_header.specs.declared.known_maker.KnownMaker.TheVariants.{Shipped}
 
 -- ---- steps
 
@@ -50,24 +51,24 @@ sizes_are (Some tree) sizes e =
     let s = shaped (list_any (λ size. size == 0) a.0) a.0 sizes a.2 in
     subst (λ (xs : List ℕ). All (λ size. 0 < size) xs) s.1 (All-positive a.0 s.0)
 
-codecs_are : (tree : Option Data) (chain : _) → codecs_at tree ≡ Ok chain → All IsMapping chain.array_to_array
+codecs_are : (tree : Option Data) (chain : _) → codecs_at Shipped tree ≡ Ok chain → All IsMapping chain.array_to_array
 codecs_are tree chain e =
     let a = step_ok (ok_or (option_and_then as_array tree) Syntax) _ chain e in
-    let b = step_ok (metadata_in a.0) (chain_made sample_made) chain (making_ok (chain_in a.0) chain a.2) in
-    chain_mappings sample_made b.0 chain b.2
+    let b = step_ok (metadata_in a.0) (chain_made (known_made Shipped)) chain (making_ok (chain_in Shipped a.0) chain a.2) in
+    chain_mappings (known_made Shipped) b.0 chain b.2
 
-members_sound : (members : Members) (header : Header) → header_in members ≡ Ok header → IsSound header
+members_sound : (members : Members) (header : Header) → header_in Shipped members ≡ Ok header → IsSound header
 members_sound members header e =
     let a = step_ok (shape_at (get_member (codes "shape") members)) _ header e in
     let b = step_ok (data_type_at (get_member (codes "data_type") members)) _ header a.2 in
     let c = step_ok (fill_value_at (get_member (codes "fill_value") members)) _ header b.2 in
-    let d = step_ok (codecs_at (get_member (codes "codecs") members)) _ header c.2 in
-    let f = step_ok (codec_answer (chain_representation sample_codecs d.0 a.0 b.0 c.0)) _ header d.2 in
+    let d = step_ok (codecs_at Shipped (get_member (codes "codecs") members)) _ header c.2 in
+    let f = step_ok (codec_answer (chain_representation known_codecs d.0 a.0 b.0 c.0)) _ header d.2 in
     subst (λ (h : Header). IsSound h) (same_value _ header f.2)
     (record { mappings = codecs_are (get_member (codes "codecs") members) d.0 d.1; positive = sizes_are (get_member (codes "shape") members) a.0 a.1 })
 
 pub header_sound : (text : List ℕ) (header : Header) → header_given text ≡ Ok header → IsSound header
 header_sound text header e =
-    let b = step_ok (json.tree_of text) _ header (refusal_ok (line_header text) header e) in
-    let c = step_ok (ok_or (as_object b.0) Syntax) header_in header b.2 in
+    let b = step_ok (json.tree_of text) _ header (refusal_ok (line_header Shipped text) header e) in
+    let c = step_ok (ok_or (as_object b.0) Syntax) (header_in Shipped) header b.2 in
     members_sound c.0 header c.2

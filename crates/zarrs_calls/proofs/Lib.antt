@@ -5,8 +5,11 @@ pub mod EnoughLemmas
 pub mod FetchedDue
 pub mod FetchedLemmas
 pub mod GivenPieces
+pub mod EditLemmas
 pub mod HeaderLemmas
+pub mod JoinedLemmas
 pub mod ListLemmas
+pub mod ManyLemmas
 pub mod PlanLemmas
 pub mod SelectionLemmas
 pub mod TellLemmas

@@ -4,7 +4,7 @@ use Rattle.zarrs_chunk.specs.Answer.{AnswersBy, Excused, memory, seen, ◌>>=◌
 use Rattle.zarrs_chunk.specs.Selection.{Selection}
 use Rattle.zarrs_chunk.specs.declared.codec_error.CodecError.{CodecError}
 use Rattle.zarrs_codec.specs.ByteSpan.{ByteSpan}
-use Rattle.zarrs_codec.specs.SampleBytesCodec.{sample_codecs}
+use Rattle.zarrs_chain_header.specs.KnownBytesCodec.{known_codecs}
 use Rattle.zarrs_chain_laws.specs.Representation.{chain_representation}
 use Rattle.zarrs_codec_chain.specs.ChunkRead.{planned_places}
 use Rattle.zarrs_chain_header.specs.Header.{Header}
@@ -25,17 +25,17 @@ stops : {A B : Type 0} (r : Result A CodecError) (x : Result B CodecError) (e : 
 stops (Ok a) x e h = absurd (cc)
 stops (Err f) x e h = cc
 
-pub plan_refused : (chunk : Form) (selection : Selection) (e : CodecError) → Excused (memory e) (seen (λ _. tt {0}) (chain_representation sample_codecs chunk.chain chunk.sizes chunk.type chunk.fill) ≡ Err e)
+pub plan_refused : (chunk : Form) (selection : Selection) (e : CodecError) → Excused (memory e) (seen (λ _. tt {0}) (chain_representation known_codecs chunk.chain chunk.sizes chunk.type chunk.fill) ≡ Err e)
     → Excused (memory e) (places_planned chunk selection ≡ Err e)
 plan_refused chunk selection e h = λ wants.
-    stops (chain_representation sample_codecs chunk.chain chunk.sizes chunk.type chunk.fill) (planned_places chunk selection) e (h wants)
+    stops (chain_representation known_codecs chunk.chain chunk.sizes chunk.type chunk.fill) (planned_places chunk selection) e (h wants)
 
-pub plan_made : (chunk form : Form) (selection : Selection) (r : Result (Option (Vec ByteSpan Global)) CodecError) → form ≡ chunk → seen (λ _. tt {0}) (chain_representation sample_codecs chunk.chain chunk.sizes chunk.type chunk.fill) ≡ Ok tt
+pub plan_made : (chunk form : Form) (selection : Selection) (r : Result (Option (Vec ByteSpan Global)) CodecError) → form ≡ chunk → seen (λ _. tt {0}) (chain_representation known_codecs chunk.chain chunk.sizes chunk.type chunk.fill) ≡ Ok tt
     → AnswersBy memory (IsPlanOf form) r (planned_places form selection) → AnswersBy memory (IsPlanOf chunk) r (places_planned chunk selection)
 plan_made chunk form selection r same made h =
     let of_chunk : AnswersBy memory (IsPlanOf chunk) r (planned_places chunk selection) = subst (λ (f : Form). AnswersBy memory (IsPlanOf f) r (planned_places f selection)) same h in
     subst (λ (y : Result (Option (List ℕ)) CodecError). AnswersBy memory (IsPlanOf chunk) r y)
-    (sym (fits (chain_representation sample_codecs chunk.chain chunk.sizes chunk.type chunk.fill) (planned_places chunk selection) made)) of_chunk
+    (sym (fits (chain_representation known_codecs chunk.chain chunk.sizes chunk.type chunk.fill) (planned_places chunk selection) made)) of_chunk
 
 -- ---- joined
 

@@ -5,8 +5,8 @@ use Rattle.zarrs_chunk.specs.Selection.{Selection}
 use Rattle.zarrs_chunk.specs.declared.codec_error.CodecError.{CodecError}
 use Rattle.zarrs_array_bytes.specs.Held.{Held}
 use Rattle.zarrs_codec.specs.ChunkEdits.{data_places}
-use Rattle.zarrs_codec.specs.SampleBytesCodec.{sample_codecs}
-use Rattle.zarrs_codec.specs.declared.sample_bytes_codec.SampleBytesCodec.{SampleBytesCodec}
+use Rattle.zarrs_chain_header.specs.KnownBytesCodec.{known_codecs}
+use Rattle.zarrs_chain_header.specs.declared.known_bytes_codec.KnownBytesCodec.{KnownBytesCodec}
 use Rattle.zarrs_chain_laws.specs.PlainChain.{PlainCodec, bytes_codec, packbits_codec, vlen_codec, optional_codec}
 use Rattle.zarrs_chain_laws.specs.Representation.{chain_representation}
 use Rattle.zarrs_codec_chain.specs.ChunkRead.{order_in_place}
@@ -25,14 +25,14 @@ use Rattle.zarrs_chain_lines.proofs.WriteLemmas.{Form}
 
 -- ---- what an encoder leaves
 
-of_stored : (form : Form) (outer : List SampleBytesCodec) (codec : PlainCodec SampleBytesCodec) (value places : List ℕ) (new : Held) → left_of_value form outer codec value places new ≡ value_left sample_codecs form (order_in_place outer codec) (Some value) places new
+of_stored : (form : Form) (outer : List KnownBytesCodec) (codec : PlainCodec KnownBytesCodec) (value places : List ℕ) (new : Held) → left_of_value form outer codec value places new ≡ value_left known_codecs form (order_in_place outer codec) (Some value) places new
 of_stored form [] (bytes_codec order) value places new = refl
 of_stored form [] (packbits_codec settings) value places new = refl
 of_stored form [] (vlen_codec ia ix ib da dx db wide at_end) value places new = refl
 of_stored form [] (optional_codec ma mx mb da dx db) value places new = refl
 of_stored form (first ∷ rest) codec value places new = refl
 
-at_places : (form : Form) (stored : Option (List ℕ)) (places : List ℕ) (new : Held) → places_written form stored places new ≡ value_left sample_codecs form (order_in_place form.chain.bytes_to_bytes form.chain.array_to_bytes) stored places new
+at_places : (form : Form) (stored : Option (List ℕ)) (places : List ℕ) (new : Held) → places_written form stored places new ≡ value_left known_codecs form (order_in_place form.chain.bytes_to_bytes form.chain.array_to_bytes) stored places new
 at_places form None places new = refl
 at_places form (Some value) places new = of_stored form form.chain.bytes_to_bytes form.chain.array_to_bytes value places new
 
@@ -42,10 +42,10 @@ at_each (Err error) g h e = refl
 
 -- what is due is what an encoder of such chunks leaves, where one is made
 pub written_is : (form : Form) (stored : Option (List ℕ)) (selection : Selection) (new : Held)
-    → form_written form stored selection new ≡ (chain_representation sample_codecs form.chain form.sizes form.type form.fill >>= λ _. stored_written sample_codecs form stored selection new)
+    → form_written form stored selection new ≡ (chain_representation known_codecs form.chain form.sizes form.type form.fill >>= λ _. stored_written known_codecs form stored selection new)
 written_is form stored selection new =
-    ap (λ (x : Result (List ℕ) CodecError). chain_representation sample_codecs form.chain form.sizes form.type form.fill >>= λ _. x)
-    (at_each (data_places form.sizes form.type selection new) (λ places. places_written form stored places new) (λ places. value_left sample_codecs form (order_in_place form.chain.bytes_to_bytes form.chain.array_to_bytes) stored places new) (λ places. at_places form stored places new))
+    ap (λ (x : Result (List ℕ) CodecError). chain_representation known_codecs form.chain form.sizes form.type form.fill >>= λ _. x)
+    (at_each (data_places form.sizes form.type selection new) (λ places. places_written form stored places new) (λ places. value_left known_codecs form (order_in_place form.chain.bytes_to_bytes form.chain.array_to_bytes) stored places new) (λ places. at_places form stored places new))
 
 -- so what such an encoder leaves is due
 pub by_encoder : {T : Type 0} (form : Form) (before after : Option (List ℕ)) (selection : Selection) (new : Held) (r : Result T CodecError)

@@ -8,13 +8,14 @@ use Rattle.zarrs_chain_json.specs.Refusal.{wants_memory}
 use Rattle.zarrs_chain_json.specs.declared.refusal.Refusal.{Refusal}
 use Rattle.zarrs_chain_json.specs.declared.refusal.Refusal.TheVariants.{Syntax, Making, Codec}
 use Rattle.zarrs_calls.specs.declared.cause.Cause.{Cause}
-use Rattle.zarrs_calls.specs.declared.cause.Cause.TheVariants.{Argument, Refused}
+use Rattle.zarrs_calls.specs.declared.cause.Cause.TheVariants.{Argument, NotInPlace, Refused}
 
 -- ---- causes
 
 -- a growth was refused
 abbrev pub cause_memory : Cause → Bool
 cause_memory Argument = false
+cause_memory NotInPlace = false
 cause_memory (Refused refusal) = wants_memory refusal
 
 -- the answer of a reading of a header or a list of codecs
@@ -82,6 +83,7 @@ refusal_code (Codec error) = codec_code error
 -- of a cause
 abbrev pub cause_code : Cause → ℕ
 cause_code Argument = 3
+cause_code NotInPlace = 4
 cause_code (Refused refusal) = refusal_code refusal
 
 -- of an answer: 0 where there is one

@@ -2,7 +2,7 @@
 use Rattle.std.specs.Prelude.{◌≡◌, ℕ, true, Some, List, length, Ok}
 use Rattle.zarrs_chunk.specs.Selection.{Selection}
 use Rattle.zarrs_codec.specs.ByteSpan.{ByteSpan}
-use Rattle.zarrs_codec.specs.SampleBytesCodec.{sample_codecs}
+use Rattle.zarrs_chain_header.specs.KnownBytesCodec.{known_codecs}
 use Rattle.zarrs_chain_header.specs.Header.{Header}
 use Rattle.zarrs_pieces.specs.Joined.{have_number}
 use Rattle.zarrs_pieces.specs.Pieces.{PlainPiece, are_at_hand, is_at_hand}
@@ -14,7 +14,7 @@ use Rattle.zarrs_calls.specs.Selections.{selection_given}
 
 -- all bytes that a read of the selection plans to ask for are among the pieces
 abbrev pub HavePlanned : Header → Selection → List PlainPiece → Type 0
-HavePlanned header selection pieces = (numbers : List ℕ) × ArePlanned sample_codecs (form_of header) selection numbers × (are_at_hand pieces numbers ≡ true)
+HavePlanned header selection pieces = (numbers : List ℕ) × ArePlanned known_codecs (form_of header) selection numbers × (are_at_hand pieces numbers ≡ true)
 
 -- Where ranges are told for a plan, pieces that have all bytes of these ranges have all that are planned.
 abbrev pub PlanIsEnough : Type 0

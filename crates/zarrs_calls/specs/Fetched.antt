@@ -10,7 +10,7 @@ use Rattle.zarrs_chunk.specs.declared.indexer.Indexer.{Indexer}
 use Rattle.zarrs_array_bytes.specs.Held.{Held}
 use Rattle.zarrs_array_bytes.specs.Validity.{Holds}
 use Rattle.zarrs_codec.specs.HandleCalls.{NeverFailsIf}
-use Rattle.zarrs_codec.specs.SampleBytesCodec.{sample_codecs}
+use Rattle.zarrs_chain_header.specs.KnownBytesCodec.{known_codecs}
 use Rattle.zarrs_codec.specs.StorageState.{are_sure}
 use Rattle.zarrs_chain_json.specs.declared.refusal.Refusal.TheVariants.{Syntax, Making, Codec}
 use Rattle.zarrs_chain_header.specs.Header.{Header}
@@ -29,7 +29,7 @@ use Rattle.zarrs_calls.specs.Reads.{form_read, form_seen, part_read}
 use Rattle.zarrs_calls.specs.Selections.{selection_given}
 use Rattle.zarrs_calls.specs.Told.{Elements, HoldsThese, ToldParts, TellsElements}
 use Rattle.zarrs_calls.specs.declared.cause.Cause.{Cause}
-use Rattle.zarrs_calls.specs.declared.cause.Cause.TheVariants.{Argument, Refused}
+use Rattle.zarrs_calls.specs.declared.cause.Cause.TheVariants.{Argument, NotInPlace, Refused}
 use Rattle.zarrs_calls.specs.declared.fetched.Fetched.{Fetched}
 
 -- the bytes of a range, at the front of those that are left
@@ -68,13 +68,14 @@ pub record HasPlannedPieces (text : List ℕ) (len : ℕ) (ranges fetched : List
   pub selection_is : selection_given (length header.sizes) tuples numbers ≡ Ok selection
   pub pieces_are : pieces_given ranges fetched ≡ Ok pieces
   pub stand_apart : are_apart len 0 pieces ≡ true
-  pub planned_are : ArePlanned sample_codecs (form_of header) selection planned
+  pub planned_are : ArePlanned known_codecs (form_of header) selection planned
   pub at_hand : are_at_hand pieces planned ≡ true
   pub has : HasPieces len pieces value
 
 -- a byte isn't at hand
 abbrev pub cause_lacks : Cause → Bool
 cause_lacks Argument = false
+cause_lacks NotInPlace = false
 cause_lacks (Refused Syntax) = false
 cause_lacks (Refused (Making error)) = false
 cause_lacks (Refused (Codec error)) = fault error
@@ -113,7 +114,7 @@ GivesPiecesRead form handle indexer result =
 -- where all bytes that such a read plans to ask for are at hand, none is lacking
 abbrev pub NoFaultIfPlanned : ChunkHeader → PiecesHandle → Indexer → Result Held CodecError → Type 0
 NoFaultIfPlanned form handle indexer result =
-    (planned : List ℕ) → ArePlanned sample_codecs (form_seen form) (selection_of indexer) planned → NeverFailsIf (are_sure (pieces_state handle).sure planned) result
+    (planned : List ℕ) → ArePlanned known_codecs (form_seen form) (selection_of indexer) planned → NeverFailsIf (are_sure (pieces_state handle).sure planned) result
 
 -- the elements that are due to a read of what was fetched are answered
 abbrev pub GivesFetchedRead : List ℕ → Fetched → ℕ → List ℕ → Result Held Cause → Type 0

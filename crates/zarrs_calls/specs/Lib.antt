@@ -6,7 +6,13 @@ pub mod Told
 pub mod Calls
 pub mod Selections
 pub mod Reads
+pub mod JoinedParts
+pub mod ManyReads
+pub mod EachRead
 pub mod Writes
+pub mod BufferHandle
+pub mod Edits
+pub mod EditRuns
 pub mod Plans
 pub mod PlanSeen
 pub mod Fetched

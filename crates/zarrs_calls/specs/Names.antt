@@ -8,6 +8,7 @@ call_name code =
     if code == 1 then codes "Short" else
     if code == 2 then codes "Syntax" else
     if code == 3 then codes "Argument" else
+    if code == 4 then codes "NotInPlace" else
     []
 
 -- refusals of codecs: of memory, handles, types, selections and shapes

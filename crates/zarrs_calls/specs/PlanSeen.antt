@@ -6,8 +6,8 @@ use Rattle.zarrs_chunk.specs.Answer.{AnswersBy, memory}
 use Rattle.zarrs_chunk.specs.Selection.{Selection}
 use Rattle.zarrs_chunk.specs.declared.codec_error.CodecError.{CodecError}
 use Rattle.zarrs_codec.specs.ByteSpan.{ByteSpan}
-use Rattle.zarrs_codec.specs.SampleBytesCodec.{sample_codecs}
-use Rattle.zarrs_codec.specs.declared.sample_bytes_codec.SampleBytesCodec.{SampleBytesCodec}
+use Rattle.zarrs_chain_header.specs.KnownBytesCodec.{known_codecs}
+use Rattle.zarrs_chain_header.specs.declared.known_bytes_codec.KnownBytesCodec.{KnownBytesCodec}
 use Rattle.zarrs_codec_chain.specs.ChunkRead.{ChunkForm, IsReadPlan}
 use Rattle.zarrs_pieces.specs.Joined.{Joins}
 use Rattle.zarrs_calls.specs.Codes.{cause_memory}
@@ -15,11 +15,11 @@ use Rattle.zarrs_calls.specs.Plans.{Planned, AreForPlan, places_planned, range_n
 use Rattle.zarrs_calls.specs.declared.cause.Cause.{Cause}
 
 -- these ranges are a plan of these places
-abbrev pub IsPlanOf : ChunkForm SampleBytesCodec → Option (Vec ByteSpan Global) → Option (List ℕ) → Type 0
-IsPlanOf form ranges places = IsReadPlan sample_codecs form (option_map (λ v. v.items) ranges) places
+abbrev pub IsPlanOf : ChunkForm KnownBytesCodec → Option (Vec ByteSpan Global) → Option (List ℕ) → Type 0
+IsPlanOf form ranges places = IsReadPlan known_codecs form (option_map (λ v. v.items) ranges) places
 
 -- a plan of a read of a selection, or the first refusal
-abbrev pub PlansPart : ChunkForm SampleBytesCodec → Selection → Result (Option (Vec ByteSpan Global)) CodecError → Type 0
+abbrev pub PlansPart : ChunkForm KnownBytesCodec → Selection → Result (Option (Vec ByteSpan Global)) CodecError → Type 0
 PlansPart form selection result = AnswersBy memory (IsPlanOf form) result (places_planned form selection)
 
 -- the numbers are those of the ranges, in order and joined

@@ -5,8 +5,8 @@ use Rattle.zarrs_chunk.specs.Answer.{◌>>=◌}
 use Rattle.zarrs_chunk.specs.Selection.{Selection}
 use Rattle.zarrs_chunk.specs.declared.codec_error.CodecError.{CodecError}
 use Rattle.zarrs_codec.specs.ByteSpan.{ByteSpan}
-use Rattle.zarrs_codec.specs.SampleBytesCodec.{sample_codecs}
-use Rattle.zarrs_codec.specs.declared.sample_bytes_codec.SampleBytesCodec.{SampleBytesCodec}
+use Rattle.zarrs_chain_header.specs.KnownBytesCodec.{known_codecs}
+use Rattle.zarrs_chain_header.specs.declared.known_bytes_codec.KnownBytesCodec.{KnownBytesCodec}
 use Rattle.zarrs_chain_laws.specs.Representation.{chain_representation}
 use Rattle.zarrs_codec_chain.specs.ChunkRead.{ChunkForm, IsReadPlan, planned_places}
 use Rattle.zarrs_chain_header.specs.Header.{Header}
@@ -23,9 +23,9 @@ abbrev pub Planned : Type 0
 Planned = Header × Option (List ℕ)
 
 -- the places that are planned by a coder that is made for it: what refuses the making comes first
-abbrev pub places_planned : ChunkForm SampleBytesCodec → Selection → Result (Option (List ℕ)) CodecError
+abbrev pub places_planned : ChunkForm KnownBytesCodec → Selection → Result (Option (List ℕ)) CodecError
 places_planned form selection = do
-  _ ← chain_representation sample_codecs form.chain form.sizes form.type form.fill
+  _ ← chain_representation known_codecs form.chain form.sizes form.type form.fill
   planned_places form selection
 
 -- the plan of a read of a selection
@@ -40,7 +40,7 @@ planned text tuples numbers = do
 abbrev pub AreForPlan : Option (List ByteSpan) → Planned → Type 0
 AreForPlan None plan = plan.1 ≡ None
 AreForPlan (Some ranges) plan =
-    (places : List ℕ) × (made : List ByteSpan) × (plan.1 ≡ Some places) × IsReadPlan sample_codecs (form_of plan.0) (Some made) (Some places) × Joins made ranges
+    (places : List ℕ) × (made : List ByteSpan) × (plan.1 ≡ Some places) × IsReadPlan known_codecs (form_of plan.0) (Some made) (Some places) × Joins made ranges
 
 -- ranges as numbers, each a start and an end
 abbrev pub range_numbers : List ByteSpan → List ℕ

@@ -10,12 +10,13 @@ use Rattle.zarrs_chunk.specs.declared.indexer.Indexer.{Indexer}
 use Rattle.zarrs_data_type.specs.Element.{Chunk}
 use Rattle.zarrs_array_bytes.specs.Held.{Held}
 use Rattle.zarrs_array_bytes.specs.Validity.{Holds}
-use Rattle.zarrs_codec.specs.SampleBytesCodec.{sample_codecs}
-use Rattle.zarrs_codec.specs.declared.sample_bytes_codec.SampleBytesCodec.{SampleBytesCodec}
+use Rattle.zarrs_chain_header.specs.KnownBytesCodec.{known_codecs}
+use Rattle.zarrs_chain_header.specs.declared.known_bytes_codec.KnownBytesCodec.{KnownBytesCodec}
 use Rattle.zarrs_codec_chain.specs.ChunkRead.{ChunkForm, stored_read}
 use Rattle.zarrs_codec_chain.specs.ChunkSource.{source_made}
 use Rattle.zarrs_pieces.specs.LentHandle.{lent_value}
 use Rattle.zarrs_pieces.specs.declared.lent_handle.LentHandle.{LentHandle}
+use Rattle.zarrs_chain_header.specs.Header.{Header}
 use Rattle.zarrs_chain_header.specs.HeaderRead.{header_seen}
 use Rattle.zarrs_chain_header.specs.declared.header.ChunkHeader.{ChunkHeader}
 use Rattle.zarrs_calls.specs.Calls.{header_given}
@@ -23,7 +24,7 @@ use Rattle.zarrs_calls.specs.Codes.{cause_memory, codec_answer}
 use Rattle.zarrs_calls.specs.Selections.{selection_given}
 use Rattle.zarrs_calls.specs.Told.{Elements, HoldsThese}
 use Rattle.zarrs_calls.specs.declared.cause.Cause.{Cause}
-use Rattle.zarrs_chain_lines.specs.Commands.{form_of, sample_reads}
+use Rattle.zarrs_chain_lines.specs.Commands.{form_of, known_reads}
 
 -- what is stored: these bytes, or nothing
 abbrev pub stored_value : Bool → List ℕ → Option (List ℕ)
@@ -34,22 +35,27 @@ abbrev pub stored_bytes : Option (Bor (List ℕ)) → Option (List ℕ)
 stored_bytes stored = option_map (λ value. value.now) stored
 
 -- the form of the chunks of a header that was read
-abbrev pub form_seen : ChunkHeader → ChunkForm SampleBytesCodec
+abbrev pub form_seen : ChunkHeader → ChunkForm KnownBytesCodec
 form_seen form = form_of (header_seen form)
 
 -- the elements that a selection means of what is stored, by a decoder that is made for it: what refuses the making comes first
-abbrev pub form_read : ChunkForm SampleBytesCodec → Option (List ℕ) → Selection → Result Chunk CodecError
+abbrev pub form_read : ChunkForm KnownBytesCodec → Option (List ℕ) → Selection → Result Chunk CodecError
 form_read form stored selection = do
-  _ ← source_made sample_codecs sample_reads form stored
-  stored_read sample_codecs form stored selection
+  _ ← source_made known_codecs known_reads form stored
+  stored_read known_codecs form stored selection
 
--- those of the chunk of a header
-abbrev pub part_read : List ℕ → Option (List ℕ) → ℕ → List ℕ → Result Elements Cause
-part_read text stored tuples numbers = do
-  header ← header_given text
+-- those of the chunk of a header that was read
+abbrev pub header_read : Header → Option (List ℕ) → ℕ → List ℕ → Result Elements Cause
+header_read header stored tuples numbers = do
   selection ← selection_given (length header.sizes) tuples numbers
   chunk ← codec_answer (form_read (form_of header) stored selection)
   Ok (header.data_type, chunk)
+
+-- and of the chunk of a header
+abbrev pub part_read : List ℕ → Option (List ℕ) → ℕ → List ℕ → Result Elements Cause
+part_read text stored tuples numbers = do
+  header ← header_given text
+  header_read header stored tuples numbers
 
 -- a read of what is lent answers the elements that are due
 abbrev pub GivesFormRead : ChunkHeader → LentHandle → Indexer → Result Held CodecError → Type 0

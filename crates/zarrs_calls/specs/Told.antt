@@ -1,5 +1,5 @@
 -- What a call leaves in the caller's buffers.
-use Rattle.std.specs.Prelude.{◌≡◌, ◌⊎◌, ℕ, nat_le, if◌then◌else◌, List, length, Result, Ok}
+use Rattle.std.specs.Prelude.{◌≡◌, ◌⊎◌, ℕ, nat_le, nat_lt, if◌then◌else◌, List, [], ◌∷◌, ◌++◌, length, Result, Ok}
 use Rattle.zarrs_data_type.specs.Element.{Chunk}
 use Rattle.zarrs_data_type.specs.ElementType.{ElementType}
 use Rattle.zarrs_array_bytes.specs.Held.{Held}
@@ -20,6 +20,16 @@ pub record ToldBytes (bytes : List ℕ) (code : ℕ) (old new : List ℕ) (neede
   pub code_is : code ≡ (if nat_le (length bytes) (length old) then 0 else 1)
   pub buffer_is : new ≡ (if nat_le (length bytes) (length old) then with_items_at old 0 bytes else old)
   pub needed_is : needed ≡ length bytes
+
+-- a name, with a zero behind it where a buffer of so many bytes has room for one
+abbrev pub ended : List ℕ → ℕ → List ℕ
+ended name room = if nat_lt (length name) room then name ++ 0 ∷ [] else name
+
+-- The caller is told a name: it stands in front of the buffer, with a zero behind it where there is room, and the code is 0; or the buffer is too short for the name and left as it was, and the code is 1. How many bytes the name has is told in either case.
+pub record ToldName (name : List ℕ) (code : ℕ) (old new : List ℕ) (needed : ℕ) : Type 0 where
+  pub code_is : code ≡ (if nat_le (length name) (length old) then 0 else 1)
+  pub buffer_is : new ≡ (if nat_le (length name) (length old) then with_items_at old 0 (ended name (length old)) else old)
+  pub needed_is : needed ≡ length name
 
 -- The caller is told the bytes that are due; or the call is refused, and leaves the buffer and the count as they were.
 abbrev pub TellsBytes : Result (List ℕ) Cause → ℕ → List ℕ → List ℕ → ℕ → ℕ → Type 0

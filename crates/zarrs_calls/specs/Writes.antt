@@ -11,9 +11,9 @@ use Rattle.zarrs_array_bytes.specs.Elements.{elements}
 use Rattle.zarrs_array_bytes.specs.Held.{Held}
 use Rattle.zarrs_codec.specs.ChunkEdits.{data_places, with_elements}
 use Rattle.zarrs_codec.specs.MemoryHandle.{handle_value}
-use Rattle.zarrs_codec.specs.SampleBytesCodec.{sample_codecs}
+use Rattle.zarrs_chain_header.specs.KnownBytesCodec.{known_codecs}
 use Rattle.zarrs_codec.specs.declared.memory_handle.MemoryHandle.{MemoryHandle}
-use Rattle.zarrs_codec.specs.declared.sample_bytes_codec.SampleBytesCodec.{SampleBytesCodec}
+use Rattle.zarrs_chain_header.specs.declared.known_bytes_codec.KnownBytesCodec.{KnownBytesCodec}
 use Rattle.zarrs_bytes.specs.BytesCodec.{spelling}
 use Rattle.zarrs_bytes.specs.PartialRead.{place_size}
 use Rattle.zarrs_bytes.specs.PartialWrite.{filled_chunk, with_place_bytes}
@@ -23,6 +23,7 @@ use Rattle.zarrs_chain_laws.specs.Encode.{chain_value}
 use Rattle.zarrs_chain_laws.specs.PlainChain.{PlainCodec, bytes_codec, packbits_codec, vlen_codec, optional_codec}
 use Rattle.zarrs_chain_laws.specs.Representation.{chain_representation}
 use Rattle.zarrs_codec_chain.specs.ChunkRead.{ChunkForm}
+use Rattle.zarrs_chain_header.specs.Header.{Header}
 use Rattle.zarrs_chain_header.specs.declared.header.ChunkHeader.{ChunkHeader}
 use Rattle.zarrs_calls.specs.Buffers.{Buffers, buffers}
 use Rattle.zarrs_calls.specs.Calls.{header_given}
@@ -35,18 +36,18 @@ use Rattle.zarrs_calls.specs.declared.cause.Cause.{Cause}
 use Rattle.zarrs_calls.specs.declared.part_writes.Edit.{Edit}
 
 -- the value that is written for a chunk with new elements at these places
-abbrev pub chunk_written : ChunkForm SampleBytesCodec → Chunk → List ℕ → Held → Result (List ℕ) CodecError
+abbrev pub chunk_written : ChunkForm KnownBytesCodec → Chunk → List ℕ → Held → Result (List ℕ) CodecError
 chunk_written form chunk places new =
-    chain_value sample_codecs form.chain form.sizes form.type form.fill (with_elements form.type chunk places new)
+    chain_value known_codecs form.chain form.sizes form.type form.fill (with_elements form.type chunk places new)
 
 -- the same of the chunk that a stored value stands for
-abbrev pub whole_written : ChunkForm SampleBytesCodec → List ℕ → List ℕ → Held → Result (List ℕ) CodecError
+abbrev pub whole_written : ChunkForm KnownBytesCodec → List ℕ → List ℕ → Held → Result (List ℕ) CodecError
 whole_written form value places new = do
-  chunk ← chain_chunk sample_codecs form.chain form.sizes form.type form.fill value
+  chunk ← chain_chunk known_codecs form.chain form.sizes form.type form.fill value
   chunk_written form chunk places new
 
 -- The value that new elements at these places leave of a stored one: over `bytes` without bytes codecs it is this value with the bytes of the places, as they go through the array codecs, replaced; else that of the chunk that it stands for, with the new elements.
-abbrev pub left_of_value : ChunkForm SampleBytesCodec → List SampleBytesCodec → PlainCodec SampleBytesCodec → List ℕ → List ℕ → Held → Result (List ℕ) CodecError
+abbrev pub left_of_value : ChunkForm KnownBytesCodec → List KnownBytesCodec → PlainCodec KnownBytesCodec → List ℕ → List ℕ → Held → Result (List ℕ) CodecError
 left_of_value form [] (bytes_codec order) value places new = do
   m ← arrays_map form.type form.chain.array_to_array form.sizes
   Ok (with_place_bytes (place_size form.type) value (map m.to places) (spelling order form.type (elements form.type (length places) new)))
@@ -56,27 +57,32 @@ left_of_value form [] (optional_codec ma mx mb da dx db) value places new = whol
 left_of_value form (first ∷ rest) codec value places new = whole_written form value places new
 
 -- the value that they leave of what is stored; where nothing is, that of the chunk of fill elements with the new ones
-abbrev pub places_written : ChunkForm SampleBytesCodec → Option (List ℕ) → List ℕ → Held → Result (List ℕ) CodecError
+abbrev pub places_written : ChunkForm KnownBytesCodec → Option (List ℕ) → List ℕ → Held → Result (List ℕ) CodecError
 places_written form None places new = chunk_written form (filled_chunk form.sizes form.type form.fill) places new
 places_written form (Some value) places new = left_of_value form form.chain.bytes_to_bytes form.chain.array_to_bytes value places new
 
 -- the value that new elements at a selection leave of what is stored, by an encoder that is made for it: what refuses the making comes first, then the selection's refusals, then those of the new elements
-abbrev pub form_written : ChunkForm SampleBytesCodec → Option (List ℕ) → Selection → Held → Result (List ℕ) CodecError
+abbrev pub form_written : ChunkForm KnownBytesCodec → Option (List ℕ) → Selection → Held → Result (List ℕ) CodecError
 form_written form stored selection new = do
-  _ ← chain_representation sample_codecs form.chain form.sizes form.type form.fill
+  _ ← chain_representation known_codecs form.chain form.sizes form.type form.fill
   places ← data_places form.sizes form.type selection new
   places_written form stored places new
 
--- what they leave of the chunk of a header
-abbrev pub part_written : List ℕ → Option (List ℕ) → ℕ → List ℕ → Buffers → Result (List ℕ) Cause
-part_written text stored tuples numbers elements = do
-  header ← header_given text
+-- what the new elements that cross leave of the chunk of a header that was read
+abbrev pub header_written : Header → Option (List ℕ) → ℕ → List ℕ → Buffers → Result (List ℕ) Cause
+header_written header stored tuples numbers elements = do
   selection ← selection_given (length header.sizes) tuples numbers
   new ← elements_given header.data_type elements
   codec_answer (form_written (form_of header) stored selection new)
 
+-- and of the chunk of a header
+abbrev pub part_written : List ℕ → Option (List ℕ) → ℕ → List ℕ → Buffers → Result (List ℕ) Cause
+part_written text stored tuples numbers elements = do
+  header ← header_given text
+  header_written header stored tuples numbers elements
+
 -- the value with the new elements is stored afterwards, or the first refusal is answered
-abbrev pub StoresPart : ChunkForm SampleBytesCodec → (before after : Option (List ℕ)) → Selection → Held → Result (Unit {0}) CodecError → Type 0
+abbrev pub StoresPart : ChunkForm KnownBytesCodec → (before after : Option (List ℕ)) → Selection → Held → Result (Unit {0}) CodecError → Type 0
 StoresPart form before after selection new result =
     Answers memory (λ _. after) result (seen (λ value. Some value) (form_written form before selection new))
 

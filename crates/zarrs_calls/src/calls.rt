@@ -11,7 +11,7 @@ use crate::given::elements_given;
 use std::alloc::Global;
 use std::borrow::CowSlice;
 use zarrs_array_bytes::{ArrayBytes, ArrayBytesRaw};
-use zarrs_chain_header::{ChunkHeader, read_codecs, read_header};
+use zarrs_chain_header::{ChunkHeader, KnownMaker, read_codecs, read_header};
 use zarrs_chain_whole::reencode::reencode;
 use zarrs_codec::BytesRepresentation;
 
@@ -19,7 +19,7 @@ use zarrs_codec::BytesRepresentation;
 pub(crate) fn form_given(alloc: Global, text: &[u8]) -> Result<ChunkHeader, Cause>
     ensures answer { Answers cause_memory header_seen result (header_given text.now) }
 {
-    Ok(read_header(alloc, text)?)
+    Ok(read_header(alloc, &KnownMaker::Shipped, text)?)
 }
 
 /// How many bytes the value of a header's chunk has.
@@ -84,7 +84,7 @@ pub(crate) fn reencode_value(
     ensures answer { AnswersItems cause_memory result (reencoded text.now value.now codecs.now) }
 {
     let form = form_given(alloc, text)?;
-    let to = read_codecs(alloc, codecs)?;
+    let to = read_codecs(alloc, &KnownMaker::Shipped, codecs)?;
     let other = reencode(
         alloc,
         &form.chain,

@@ -16,6 +16,8 @@ pub enum Cause {
     /// An argument is out of its form: masks that aren't of one length, or numbers that are no
     /// selection.
     Argument,
+    /// Edits aren't written where the value stands.
+    NotInPlace,
     /// The library refuses.
     Refused(Refusal),
 }
@@ -123,6 +125,7 @@ pub(crate) fn cause_code(cause: &Cause) -> u32
 {
     match cause {
         Cause::Argument => 3,
+        Cause::NotInPlace => 4,
         Cause::Refused(refusal) => refusal_code(refusal),
     }
 }

@@ -11,6 +11,7 @@ fn call_name(code: u32) -> &'static str
         1 => "Short",
         2 => "Syntax",
         3 => "Argument",
+        4 => "NotInPlace",
         _ => "",
     }
 }

@@ -244,8 +244,8 @@ fn planned_ranges_are_joined(rt: HostRuntime) {
     is(&rt, "needed", &needed, &4);
 }
 
-const TURNED: &'static str =
-    r#"{"shape":[2,2],"data_type":"uint8","fill_value":"09","codecs":["bytes","sample.reverse"]}"#;
+const SUMMED: &'static str =
+    r#"{"shape":[2,2],"data_type":"uint8","fill_value":"09","codecs":["bytes","crc32c"]}"#;
 
 #[test]
 fn nothing_is_planned_under_bytes_codecs(rt: HostRuntime) {
@@ -254,7 +254,7 @@ fn nothing_is_planned_under_bytes_codecs(rt: HostRuntime) {
     let mut needed = 7;
     let code = zarrs_planned_ranges(
         rt.alloc(),
-        TURNED.as_bytes(),
+        SUMMED.as_bytes(),
         BOX,
         &[0, 0, 1, 1],
         &mut ranges,

@@ -2,20 +2,20 @@
 ghost use Rattle.std.specs.Prelude.{◌≡◌, ◌+◌, ◌≤◌, length, min};
 ghost use Rattle.zarrs_array_bytes.specs.Update.{with_items_at};
 ghost use Rattle.zarrs_calls.specs.Buffers.{buffers, crossed, sizes_fit};
-ghost use Rattle.zarrs_calls.specs.Told.{ToldBytes, ToldParts, kind_of, size_of};
+ghost use Rattle.zarrs_calls.specs.Told.{ToldBytes, ToldName, ToldParts, kind_of, size_of};
 
 use crate::sizes::Sizes;
 use zarrs_array_bytes::ArrayBytes;
 use zarrs_codec::BytesRepresentation;
 
 /// All is done.
-const DONE: u32 = 0;
+pub(crate) const DONE: u32 = 0;
 
 /// A buffer is too short: how many items are needed is told, and nothing else.
-const SHORT: u32 = 1;
+pub(crate) const SHORT: u32 = 1;
 
 /// Writes bytes from here on.
-fn write(out: &mut [u8], at: usize, new: &[u8])
+pub(crate) fn write(out: &mut [u8], at: usize, new: &[u8])
     requires inside { at + length new.now ≤ length out.old }
     ensures written { out.new ≡ with_items_at out.old at new.now }
 {
@@ -33,6 +33,18 @@ pub(crate) fn tell_bytes(value: &[u8], out: &mut [u8], needed: &mut usize) -> u3
     }
     write(out, 0, value);
     DONE
+}
+
+/// Writes a name in front of the buffer, and behind it a zero, where there is room for one, and tells how
+/// many bytes the name has; where the buffer is too short for the name, that alone.
+pub(crate) fn tell_name(name: &[u8], out: &mut [u8], needed: &mut usize) -> u32
+    ensures told { ToldName name.now result out.old out.new needed.new }
+{
+    let code = tell_bytes(name, out, needed);
+    if name.len() < out.len() {
+        write(out, name.len(), &[0]);
+    }
+    code
 }
 
 /// Writes numbers in front of the buffer.
@@ -83,7 +95,7 @@ pub(crate) fn tell_representation(
 
 /// How many mask bytes a container has, those of all its masks.
 #[tactic(auto, using(crate::proofs::CrossedLemmas::crossed_masked, crate::proofs::CrossedLemmas::crossed_unmasked))]
-fn mask_count(elements: &ArrayBytes<'_>) -> usize
+pub(crate) fn mask_count(elements: &ArrayBytes<'_>) -> usize
     ensures value { result ≡ min (length (crossed elements.now).masks) usize.MAX }
 {
     match elements.as_optional() {
@@ -94,7 +106,7 @@ fn mask_count(elements: &ArrayBytes<'_>) -> usize
 
 /// The bytes of a container's elements, under all masks.
 #[tactic(auto, using(crate::proofs::CrossedLemmas::crossed_masked, crate::proofs::CrossedLemmas::crossed_variable, crate::proofs::CrossedLemmas::crossed_fixed, crate::proofs::CrossedLemmas::crossed_some))]
-fn inner_bytes<'b>(elements: &'b ArrayBytes<'_>) -> &'b [u8]
+pub(crate) fn inner_bytes<'b>(elements: &'b ArrayBytes<'_>) -> &'b [u8]
     ensures value { result.now ≡ (crossed elements.now).bytes }
 {
     if let Ok((inner, _)) = elements.as_optional() {
@@ -111,7 +123,7 @@ fn inner_bytes<'b>(elements: &'b ArrayBytes<'_>) -> &'b [u8]
 
 /// Their offsets; none of elements of one size.
 #[tactic(auto, using(crate::proofs::CrossedLemmas::crossed_masked, crate::proofs::CrossedLemmas::crossed_variable, crate::proofs::CrossedLemmas::crossed_unvaried))]
-fn inner_offsets<'b>(elements: &'b ArrayBytes<'_>) -> &'b [usize]
+pub(crate) fn inner_offsets<'b>(elements: &'b ArrayBytes<'_>) -> &'b [usize]
     ensures value { result.now ≡ (crossed elements.now).offsets }
 {
     if let Ok((inner, _)) = elements.as_optional() {
@@ -124,7 +136,7 @@ fn inner_offsets<'b>(elements: &'b ArrayBytes<'_>) -> &'b [usize]
 }
 
 /// Writes the masks from here on, the outermost first.
-fn write_masks(elements: &ArrayBytes<'_>, out: &mut [u8], at: usize)
+pub(crate) fn write_masks(elements: &ArrayBytes<'_>, out: &mut [u8], at: usize)
     requires inside { at + length (crossed elements.now).masks ≤ length out.old }
     ensures written { out.new ≡ with_items_at out.old at (crossed elements.now).masks }
 {
@@ -134,7 +146,7 @@ fn write_masks(elements: &ArrayBytes<'_>, out: &mut [u8], at: usize)
     }
 }
 
-fn write_offsets(starts: &[usize], out: &mut [u64])
+pub(crate) fn write_offsets(starts: &[usize], out: &mut [u64])
     requires inside { length starts.now ≤ length out.old }
     ensures written { out.new ≡ with_items_at out.old 0 starts.now }
 {
@@ -144,7 +156,7 @@ fn write_offsets(starts: &[usize], out: &mut [u64])
 }
 
 /// Whether so many items fit into buffers of so many.
-fn fit(sizes: &Sizes, masks: usize, offsets: usize, bytes: usize) -> bool
+pub(crate) fn fit(sizes: &Sizes, masks: usize, offsets: usize, bytes: usize) -> bool
     ensures value { result ≡ sizes_fit sizes.now masks offsets bytes }
 {
     sizes.masks <= masks && sizes.offsets <= offsets && sizes.bytes <= bytes

@@ -253,9 +253,9 @@ fn a_value_has_so_many_bytes(rt: HostRuntime) {
 
 #[test]
 fn a_value_is_reencoded(rt: HostRuntime) {
-    let mut out = [0u8; 4];
+    let mut out = [0u8; 8];
     let mut needed = 0;
-    let codecs = b"[\"bytes\",\"sample.reverse\"]";
+    let codecs = b"[\"bytes\",\"crc32c\"]";
     let code = zarrs_reencode(
         rt.alloc(),
         FOUR.as_bytes(),
@@ -265,5 +265,5 @@ fn a_value_is_reencoded(rt: HostRuntime) {
         &mut needed,
     );
     is(&rt, "done", &code, &0);
-    is(&rt, "bytes", &out, &[4, 3, 2, 1]);
+    is(&rt, "bytes", &out, &[1, 2, 3, 4, 0xf4, 0x8c, 0x30, 0x29]);
 }

@@ -5,8 +5,8 @@ use Rattle.serde_json.specs.Find.{as_array, as_object, get_member}
 use Rattle.zarrs_chunk.specs.Answer.{◌>>=◌}
 use Rattle.zarrs_chunk.specs.ChunkShape.{shape_of}
 use Rattle.zarrs_data_type.specs.ElementType.{ElementType}
-use Rattle.zarrs_codec.specs.SampleBytesCodec.{sample_codecs}
-use Rattle.zarrs_codec.specs.declared.sample_bytes_codec.SampleBytesCodec.{SampleBytesCodec}
+use Rattle.zarrs_chain_header.specs.KnownBytesCodec.{known_codecs}
+use Rattle.zarrs_chain_header.specs.declared.known_bytes_codec.KnownBytesCodec.{KnownBytesCodec}
 use Rattle.zarrs_chain_laws.specs.PlainChain.{PlainChain}
 use Rattle.zarrs_chain_laws.specs.Representation.{chain_representation}
 use Rattle.zarrs_chain_json.specs.declared.refusal.Refusal.{Refusal}
@@ -15,13 +15,14 @@ use Rattle.zarrs_chain_json.specs.Refusal.{codec_answer, making_answer}
 use Rattle.zarrs_chain_json.specs.Json.{tree_of, number_list, hex_of}
 use Rattle.zarrs_chain_json.specs.DataType.{type_in}
 use Rattle.zarrs_chain_header.specs.Codecs.{chain_in}
+use Rattle.zarrs_chain_header.specs.declared.known_maker.KnownMaker.{KnownMaker}
 
 -- a chunk's shape, type and fill value, and the chain that it is encoded by
 pub record Header : Type 0 where
   pub sizes : List ℕ
   pub data_type : ElementType
   pub fill : List ℕ
-  pub chain : PlainChain SampleBytesCodec
+  pub chain : PlainChain KnownBytesCodec
 
 -- ---- its keys
 
@@ -42,32 +43,32 @@ abbrev pub fill_value_at : Option Data → Result (List ℕ) Refusal
 fill_value_at tree = ok_or (option_and_then hex_of tree) Syntax
 
 -- the chain of these codecs
-abbrev pub codecs_at : Option Data → Result (PlainChain SampleBytesCodec) Refusal
-codecs_at tree = do
+abbrev pub codecs_at : KnownMaker → Option Data → Result (PlainChain KnownBytesCodec) Refusal
+codecs_at maker tree = do
   codecs ← ok_or (option_and_then as_array tree) Syntax
-  making_answer (chain_in codecs)
+  making_answer (chain_in maker codecs)
 
 -- ---- the header
 
 -- The keys in this order, and then whether the chain takes such chunks. The first fault answers.
-abbrev pub header_in : Members → Result Header Refusal
-header_in members = do
+abbrev pub header_in : KnownMaker → Members → Result Header Refusal
+header_in maker members = do
   sizes ← shape_at (get_member (codes "shape") members)
   data_type ← data_type_at (get_member (codes "data_type") members)
   fill ← fill_value_at (get_member (codes "fill_value") members)
-  chain ← codecs_at (get_member (codes "codecs") members)
-  _ ← codec_answer (chain_representation sample_codecs chain sizes data_type fill)
+  chain ← codecs_at maker (get_member (codes "codecs") members)
+  _ ← codec_answer (chain_representation known_codecs chain sizes data_type fill)
   Ok (record { sizes = sizes; data_type = data_type; fill = fill; chain = chain })
 
 -- the header that a line is, a JSON object; keys that it doesn't need are passed over
-abbrev pub line_header : List ℕ → Result Header Refusal
-line_header line = do
+abbrev pub line_header : KnownMaker → List ℕ → Result Header Refusal
+line_header maker line = do
   tree ← tree_of line
   members ← ok_or (as_object tree) Syntax
-  header_in members
+  header_in maker members
 
 -- the chain that a text lists, a JSON list of metadata
-abbrev pub line_codecs : List ℕ → Result (PlainChain SampleBytesCodec) Refusal
-line_codecs text = do
+abbrev pub line_codecs : KnownMaker → List ℕ → Result (PlainChain KnownBytesCodec) Refusal
+line_codecs maker text = do
   tree ← tree_of text
-  codecs_at (Some tree)
+  codecs_at maker (Some tree)

@@ -5,10 +5,11 @@ ghost use Rattle.zarrs_metadata.specs.PluginCreateError.{Makes};
 ghost use Rattle.zarrs_chain_whole.specs.ChainView.{plain_chain};
 ghost use Rattle.zarrs_chain_header.specs.Codecs.{metadata_in as metadata_among, chain_in};
 
+use crate::known_bytes_codec::KnownBytesCodec;
+use crate::known_maker::KnownMaker;
 use serde_json::Value;
 use std::alloc::Global;
 use zarrs_chain_whole::CodecChain;
-use zarrs_codec::{SampleBytesCodec, SampleMaker};
 use zarrs_metadata::{MetadataV3, PluginCreateError};
 
 fn metadata_in(alloc: Global, items: &Vec<Value>) -> Result<Vec<MetadataV3>, PluginCreateError>
@@ -21,15 +22,16 @@ fn metadata_in(alloc: Global, items: &Vec<Value>) -> Result<Vec<MetadataV3>, Plu
     Ok(list)
 }
 
-/// The chain of a list of metadata, its bytes codecs made by `SampleMaker`. Refusals, the first that
+/// The chain of a list of metadata, its bytes-to-bytes codecs made by `maker`. Refusals, the first that
 /// holds, `OutOfMemory` aside: `InvalidConfiguration` where an entry is no metadata, wherever it
 /// stands; those of `CodecChain::from_metadata`.
 pub fn chain(
     alloc: Global,
+    maker: &KnownMaker,
     items: &Vec<Value>,
-) -> Result<CodecChain<SampleBytesCodec>, PluginCreateError>
-    ensures answer { Makes plain_chain result (chain_in (items_view items.now.items)) }
+) -> Result<CodecChain<KnownBytesCodec>, PluginCreateError>
+    ensures answer { Makes plain_chain result (chain_in maker.now (items_view items.now.items)) }
 {
     let list = metadata_in(alloc, items)?;
-    CodecChain::from_metadata(alloc, list.as_slice(), &SampleMaker)
+    CodecChain::from_metadata(alloc, list.as_slice(), maker)
 }

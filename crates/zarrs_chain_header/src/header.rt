@@ -7,19 +7,20 @@ ghost use Rattle.zarrs_chain_header.specs.Header.{shape_at, data_type_at, fill_v
 ghost use Rattle.zarrs_chain_header.specs.HeaderRead.{header_seen};
 
 use crate::codecs::chain;
+use crate::known_bytes_codec::KnownBytesCodec;
+use crate::known_maker::KnownMaker;
 use serde_json::Value;
 use std::alloc::Global;
 use zarrs_chain_json::{Members, Refusal, data_type, hex_bytes, member, numbers, object, tree};
 use zarrs_chain_whole::CodecChain;
 use zarrs_chunk::ChunkShape;
-use zarrs_codec::SampleBytesCodec;
 use zarrs_data_type::{DataType, FillValue};
 
 /// A chunk's shape, the type of its elements and its fill value, and the chain of codecs that it goes
 /// through, which takes such chunks where [`read_header`] made this.
 #[derive(Drop)]
 pub struct ChunkHeader {
-    pub chain: CodecChain<SampleBytesCodec>,
+    pub chain: CodecChain<KnownBytesCodec>,
     pub shape: ChunkShape,
     pub data_type: DataType,
     pub fill_value: FillValue,
@@ -54,22 +55,27 @@ fn fill_value(alloc: Global, tree: Option<&Value>) -> Result<FillValue, Refusal>
     Ok(FillValue::new(bytes))
 }
 
-fn codecs(alloc: Global, tree: Option<&Value>) -> Result<CodecChain<SampleBytesCodec>, Refusal>
-    ensures answer { ReadsAs plain_chain result (codecs_at (lent_tree tree.entry)) }
+fn codecs(
+    alloc: Global,
+    maker: &KnownMaker,
+    tree: Option<&Value>,
+) -> Result<CodecChain<KnownBytesCodec>, Refusal>
+    ensures answer { ReadsAs plain_chain result (codecs_at maker.now (lent_tree tree.entry)) }
 {
     match tree {
-        Some(Value::Array(items)) => Ok(chain(alloc, items)?),
+        Some(Value::Array(items)) => Ok(chain(alloc, maker, items)?),
         _ => Err(Refusal::Syntax),
     }
 }
 
-fn header_among(alloc: Global, members: &Members) -> Result<ChunkHeader, Refusal>
-    ensures answer { ReadsAs header_seen result (header_in (members_view members.now.entries)) }
+fn header_among(alloc: Global, maker: &KnownMaker, keys: &Members) -> Result<ChunkHeader, Refusal>
+    ensures answer { ReadsAs header_seen result
+        (header_in maker.now (members_view keys.now.entries)) }
 {
-    let shape = shape(alloc, member(members, "shape"))?;
-    let data_type = named_type(alloc, member(members, "data_type"))?;
-    let fill_value = fill_value(alloc, member(members, "fill_value"))?;
-    let chain = codecs(alloc, member(members, "codecs"))?;
+    let shape = shape(alloc, member(keys, "shape"))?;
+    let data_type = named_type(alloc, member(keys, "data_type"))?;
+    let fill_value = fill_value(alloc, member(keys, "fill_value"))?;
+    let chain = codecs(alloc, maker, member(keys, "codecs"))?;
     chain.encoded_representation(alloc, &shape, &data_type, &fill_value)?;
     Ok(ChunkHeader {
         chain,
@@ -80,25 +86,29 @@ fn header_among(alloc: Global, members: &Members) -> Result<ChunkHeader, Refusal
 }
 
 /// The header that a text is: a JSON object with the chunk's `shape`, a list of sizes none of which is
-/// zero, its `data_type`, its `fill_value`, in hex, and `codecs`, a list of metadata whose bytes codecs
-/// are the sample ones. Other keys are passed over.
+/// zero, its `data_type`, its `fill_value`, in hex, and `codecs`, a list of metadata whose
+/// bytes-to-bytes codecs `maker` makes. Other keys are passed over.
 ///
 /// Refusals, the first that holds: `Syntax` where the text is no JSON object, or its `shape`,
 /// `data_type`, `fill_value` or `codecs` don't read, in this order and each with its own refusals; then
 /// those of the chain's representation; `OutOfMemory`.
-pub fn read_header(alloc: Global, text: &[u8]) -> Result<ChunkHeader, Refusal>
-    ensures answer { ReadsAs header_seen result (line_header text.now) }
+pub fn read_header(alloc: Global, maker: &KnownMaker, text: &[u8]) -> Result<ChunkHeader, Refusal>
+    ensures answer { ReadsAs header_seen result (line_header maker.now text.now) }
 {
     let tree = tree(alloc, text)?;
     let members = object(&tree)?;
-    header_among(alloc, members)
+    header_among(alloc, maker, members)
 }
 
 /// The chain that a text lists: a JSON list of metadata, as the `codecs` of a header. Refusals: `Syntax`
 /// where the text is no JSON list; those of the chain's making; `OutOfMemory`.
-pub fn read_codecs(alloc: Global, text: &[u8]) -> Result<CodecChain<SampleBytesCodec>, Refusal>
-    ensures answer { ReadsAs plain_chain result (line_codecs text.now) }
+pub fn read_codecs(
+    alloc: Global,
+    maker: &KnownMaker,
+    text: &[u8],
+) -> Result<CodecChain<KnownBytesCodec>, Refusal>
+    ensures answer { ReadsAs plain_chain result (line_codecs maker.now text.now) }
 {
     let tree = tree(alloc, text)?;
-    codecs(alloc, Some(&tree))
+    codecs(alloc, maker, Some(&tree))
 }

@@ -1,4 +1,4 @@
--- What is answered where nothing is refused.
+-- What is answered where nothing is rejected.
 use Rattle.std.proofs.Common.{◌≡◌, true, Result, Ok, Err, refl}
 use Rattle.std.specs.Prelude.{is_ok}
 use Rattle.zarrs_chunk.specs.declared.codec_error.CodecError.{CodecError}

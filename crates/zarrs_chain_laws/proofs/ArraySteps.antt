@@ -1,4 +1,4 @@
--- One array codec after another.
+-- One array-to-array codec after another.
 use Rattle.std.proofs.Common.{◌≡◌, ℕ, ◌<◌, ◌^◌, nat_lt, if◌then◌else◌, Bool, true, List, [], ◌∷◌, length, Result, Ok, Err, IfOk, false, refl, ap, sym, subst, ◌∙◌}
 use Rattle.std.specs.List.{All}
 use Rattle.zarrs_chunk.specs.Answer.{◌>>=◌, seen, checked_u64, Answers, AnswersBy, memory}
@@ -245,7 +245,7 @@ decode_none type sizes held =
     let stays : chunk ≡ elements type (product sizes) held = p.1 ∙ ap (λ m. moved_chunk (inverse_map sizes m) (elements type (product sizes) held)) is ∙ kept_places sizes (elements type (product sizes) held) (length-elements type (product sizes) held) in
     subst (Holds type held) (sym stays) (holds_elements type (product sizes) held p.0.valid))
 
--- a container of the encoded chunk is one that the codecs behind the first take
+-- a container of the moved chunk is one that the codecs behind the first take
 taken_below : (type : ElementType) (sizes next : List ℕ) (codecs : List ArrayMapping) (rest : CoordinateMap) (held : Held)
     → product next ≡ product sizes → arrays_map type codecs next ≡ Ok rest → checked_u64 (product sizes) ≡ Ok (product sizes) → validity type (product sizes) held ≡ Ok tt
     → TakenChunk (Ok tt) (arrays_map type codecs next) type next held

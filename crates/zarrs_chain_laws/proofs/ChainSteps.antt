@@ -40,7 +40,7 @@ use Rattle.zarrs_chain_laws.specs.declared.codec_name.TheConstants.{VLEN}
 
 -- ---- what a chain takes
 
--- a chain that takes a chunk: what its array codecs do, and what its codec to bytes makes of it
+-- a chain that takes a chunk: what its array-to-array codecs do, and what its array-to-bytes codec makes of it
 pub record IsTaken {B : Type 0} (f : BytesCodecs B) (chain : PlainChain B) (sizes : List ℕ) (type : ElementType) (fill encoded : List ℕ) (r : BytesRepresentation) : Type 0 where
   pub map_is : CoordinateMap
   pub mapped : arrays_map type chain.array_to_array sizes ≡ Ok map_is
@@ -64,7 +64,7 @@ is_taken f chain sizes type fill form e =
       measured = ap (λ s. codec_representation f chain.array_to_bytes s type fill) m.2 ∙ c.1 ∙ ap (λ (p : List ℕ × BytesRepresentation). ok p.1) is;
     }
 
--- ---- refusals of the form
+-- ---- errors of the form
 
 abbrev form_ok : List ℕ → BytesRepresentation → Result (List ℕ × BytesRepresentation) CodecError
 form_ok sizes r = Ok (sizes, r)
@@ -114,7 +114,7 @@ counted_packed settings sizes text fill len e = absurd cc
 counted_packed settings sizes bytes fill len e = absurd cc
 counted_packed settings sizes (optional type) fill len e = absurd cc
 
--- 64 bits count the elements of a chunk that a codec to bytes takes
+-- 64 bits count the elements of a chunk that an array-to-bytes codec takes
 codec_counted : {B : Type 0} (f : BytesCodecs B) (codec : PlainCodec B) (sizes : List ℕ) (type : ElementType) (fill : List ℕ) (r : BytesRepresentation) → codec_representation f codec sizes type fill ≡ Ok r → checked_u64 (product sizes) ≡ Ok (product sizes)
 unfolding codec_representation
 codec_counted f (bytes_codec order) sizes type fill r e =
@@ -143,7 +143,7 @@ chain_counted f arrays codec outer sizes type fill form maps e =
     let m = at_ok (arrays_map type arrays sizes) (λ (m : CoordinateMap). IsCoordinateMap sizes m) t.map_is t.mapped maps in
     subst (λ (k : ℕ). checked_u64 k ≡ Ok k) m.count (codec_counted f codec t.map_is.encoded type fill form.1 t.measured)
 
--- the same, by the sizes that the array codecs make
+-- the same, by the sizes that the array-to-array codecs make
 pub form_counted : {B : Type 0} (f : BytesCodecs B) (arrays : List ArrayMapping) (codec : PlainCodec B) (sizes : List ℕ) (type : ElementType) (fill encoded : List ℕ) (r : BytesRepresentation)
     → IsMapWhere type arrays sizes → seen (λ (m : CoordinateMap). m.encoded) (arrays_map type arrays sizes) ≡ Ok encoded → codec_representation f codec encoded type fill ≡ Ok r → checked_u64 (product sizes) ≡ Ok (product sizes)
 form_counted f arrays codec sizes type fill encoded r maps e measured =
@@ -166,13 +166,13 @@ encoded_so f chain sizes type fill held encoded r t valid =
     let fits = validity_fits type (product sizes) held valid in
     rw (t.mapped, t.measured, valid, fits) refl
 
--- the container that the array codecs make holds the moved chunk
+-- the container that the array-to-array codecs make holds the moved chunk
 moved_held : {B : Type 0} (f : BytesCodecs B) (chain : PlainChain B) (sizes : List ℕ) (type : ElementType) (fill : List ℕ) (held : Held) (encoded : List ℕ) (r : BytesRepresentation) (t : IsTaken f chain sizes type fill encoded r)
     → checked_u64 (product sizes) ≡ Ok (product sizes) → validity type (product sizes) held ≡ Ok tt
     → encoded_chunk (Ok tt) (arrays_map type chain.array_to_array sizes) type sizes held ≡ Ok (moved_chunk t.map_is (elements type (product sizes) held))
 moved_held f chain sizes type fill held encoded r t counted valid = rw (t.mapped, counted, valid) refl
 
--- the value is what the codec to bytes answers of that container, through the bytes codecs
+-- the value is what the array-to-bytes codec answers of that container, through the bytes-to-bytes codecs
 pub value_through : {B : Type 0} (f : BytesCodecs B) (chain : PlainChain B) (sizes : List ℕ) (type : ElementType) (fill : List ℕ) (form : List ℕ × BytesRepresentation) (held made : Held)
     → IsMapWhere type chain.array_to_array sizes → taken_form f chain sizes type fill ≡ Ok form → checked_u64 (product sizes) ≡ Ok (product sizes) → validity type (product sizes) held ≡ Ok tt
     → IfOk (encoded_chunk (Ok tt) (arrays_map type chain.array_to_array sizes) type sizes held) (λ chunk. Holds type made chunk)
@@ -214,7 +214,7 @@ value_refused f chain sizes type fill form held made error maps e counted valid 
 
 -- ---- decoding
 
--- the chunk is what the array codecs make of what the codec to bytes reads
+-- the chunk is what the array-to-array codecs make of what the array-to-bytes codec reads
 pub chunk_through : {B : Type 0} (f : BytesCodecs B) (chain : PlainChain B) (sizes : List ℕ) (type : ElementType) (fill : List ℕ) (form : List ℕ × BytesRepresentation) (value : List ℕ)
     → (e : taken_form f chain sizes type fill ≡ Ok form)
     → chain_chunk f chain sizes type fill value ≡ outer_bytes f chain.bytes_to_bytes form.1 value >>= (λ below. codec_chunk f chain.array_to_bytes form.0 type fill below >>= (λ chunk. Ok (moved_chunk (inverse_map sizes (is_taken f chain sizes type fill form e).map_is) chunk)))
@@ -257,7 +257,7 @@ optional_long mask content sizes type value chunk long e =
     let items = bind_ok (part_chunk content type (blank_fill type) (count_set bits.0) parts.0.1) _ chunk bits.2 in
     ap length (sym (ok_is (under_flags bits.0 items.0) chunk items.2)) ∙ length_under bits.0 items.0 ∙ flags_long flags.0 bits.0 bits.1 ∙ long parts.0.0 flags.0 flags.1
 
--- a chunk that a codec to bytes reads has as many elements as were asked for
+-- a chunk that an array-to-bytes codec reads has as many elements as were asked for
 pub chunk_count : {B : Type 0} (f : BytesCodecs B) (codec : PlainCodec B) (sizes : List ℕ) (type : ElementType) (fill value : List ℕ) (chunk : Chunk) → codec_chunk f codec sizes type fill value ≡ Ok chunk → length chunk ≡ product sizes
 unfolding codec_chunk
 chunk_count f (bytes_codec order) sizes type fill value chunk e = (decoded_found order sizes type fill value chunk e).elements.count_is
@@ -270,7 +270,7 @@ chunk_count f (optional_codec ma mx mb da dx db) sizes (fixed width components s
 chunk_count f (optional_codec ma mx mb da dx db) sizes text fill value chunk e = absurd cc
 chunk_count f (optional_codec ma mx mb da dx db) sizes bytes fill value chunk e = absurd cc
 
--- the container of the chunk that the codec to bytes reads is one that the array codecs move back
+-- the container of the chunk that the array-to-bytes codec reads is one that the array-to-array codecs move back
 moved_back_held : {B : Type 0} (f : BytesCodecs B) (chain : PlainChain B) (sizes : List ℕ) (type : ElementType) (fill : List ℕ) (held : Held) (chunk : Chunk) (encoded : List ℕ) (r : BytesRepresentation) (t : IsTaken f chain sizes type fill encoded r)
     → checked_u64 (product sizes) ≡ Ok (product sizes) → length chunk ≡ product sizes → Holds type held chunk
     → decoded_chunk (Ok tt) (arrays_map type chain.array_to_array sizes) type sizes held ≡ Ok (moved_chunk (inverse_map sizes t.map_is) chunk)

@@ -37,7 +37,7 @@ is_ok : {A E : Type 0} → Result A E → Bool
 is_ok (Ok a) = true
 is_ok (Err e) = false
 
--- what is read has no float, where a float is refused
+-- what is read has no float, where a float is rejected
 clean : {A : Type 0} (floats : Bool) (r : Result A PluginCreateError) (a : A) → (floats ≡ true → r ≡ Err InvalidConfiguration) → r ≡ Ok a → not floats ≡ true
 unfolding is_ok
 clean true r a refused h = absurd (false≢true (ap is_ok (sym (refused refl) ∙ h)))

@@ -1,4 +1,4 @@
--- What holds of the chain that is made of metadata: its array codecs are what their types hold to.
+-- What holds of the chain that is made of metadata: its array-to-array codecs are what their types hold to.
 use Rattle.std.proofs.Common.{◌≡◌, ℕ, nat_le, Bool, true, false, not, if◌then◌else◌, Option, Some, None, List, [], ◌∷◌, Result, Ok, Err, refl, subst}
 use Rattle.std.specs.Prelude.{codes, is_some, ok_or}
 use Rattle.std.specs.List.{All}
@@ -37,7 +37,7 @@ demand_ok : {E : Type 0} (test : Bool) (cause : E) (u : Unit {0}) → demand tes
 demand_ok true cause u e = refl
 demand_ok false cause u e = absurd (cc)
 
--- ---- an array codec
+-- ---- an array-to-array codec
 
 order_is : (members : Members) (order : List ℕ) → read_transpose members ≡ Ok order → is_order order ≡ true
 order_is members order e =
@@ -76,7 +76,7 @@ made_is metadata codec e =
     (λ dims d. let r = step_ok (demand (is_reshape_name metadata.name) UnknownName) (λ _. read_reshape members) dims d in dims_are members dims r.2)
     e
 
--- ---- the array codecs of a chain
+-- ---- the array-to-array codecs of a chain
 
 abbrev MakesMapping : {B : Type 0} → CodecMade B → Type 0
 MakesMapping (array_made codec) = IsMapping codec
@@ -130,7 +130,7 @@ module _ {B : Type 0} (inside : List Metadata → Result (PlainChain B) PluginCr
       let s = step_ok (joined (codec_made inside makes metadata) metadata.must_understand so_far) (gathered inside makes metadatas) all e in
       with_all metadatas s.0 all (with_next (codec_made inside makes metadata) metadata.must_understand so_far s.0 (λ made m. named_is metadata made (codec_named metadata.name) m) are s.1) s.2
 
--- the array codecs of a chain that is made are mappings
+-- the array-to-array codecs of a chain that is made are mappings
 pub chain_mappings : {B : Type 0} (makes : Metadata → Result (Option B) PluginCreateError) (metadatas : List Metadata) (chain : PlainChain B) → chain_made makes metadatas ≡ Ok chain → All IsMapping chain.array_to_array
 unfolding chain_made
 chain_mappings {B} makes metadatas chain e =

@@ -1,4 +1,4 @@
--- What stands is what codecs to bytes answer, with chains inside too.
+-- What stands is what array-to-bytes codecs answer, with chains inside too.
 use Rattle.std.proofs.Common.{◌≡◌, ℕ, suc, ◌+◌, ◌-◌, ◌<◌, ◌^◌, nat_eq, nat_lt, nat_le, Bool, true, false, List, [], ◌∷◌, ◌++◌, length, take, drop, map, Ok, arith, refl, ap, sym, subst, ◌∙◌}
 use Rattle.std.specs.List.{All}
 use Rattle.std.proofs.lemmas.Bool.{eq-eqb, le-leb}
@@ -151,7 +151,7 @@ through_only f arrays measure stand decode outer mappings law sizes type fill va
     let h : IsCoordinateMap sizes s.map_is = arrays_are_map arrays sizes type s.map_is mappings positive s.mapped in
     through_steps f arrays measure stand decode outer law sizes type fill value chunk s (h.positive positive) ∙ ap (λ (c : Chunk). ok c) (moved_back sizes s.map_is chunk h s.elements.count_is)
 
--- the chunk that a value stands for is what the codec to bytes answers
+-- the chunk that a value stands for is what the array-to-bytes codec answers
 pub chunk_only : {B : Type 0} (f : BytesCodecs B) (codec : PlainCodec B) → HasMappings codec → Decodes (CodecStands f codec) (codec_chunk f codec)
 unfolding codec_chunk CodecStands
 chunk_only f (bytes_codec order) has sizes type fill value chunk positive s = decoded_only order sizes type fill value chunk s

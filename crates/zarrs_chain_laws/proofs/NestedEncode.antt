@@ -1,4 +1,4 @@
--- What codecs to bytes answer is what is written, with chains inside too.
+-- What array-to-bytes codecs answer is what is written, with chains inside too.
 use Rattle.std.proofs.Common.{◌≡◌, ℕ, ◌<◌, ◌^◌, nat_lt, Bool, true, List, [], ◌∷◌, length, map, Ok, arith, refl, ap, sym, subst, ◌∙◌}
 use Rattle.std.proofs.lemmas.Bool.Decides.{nat_tests}
 use Rattle.zarrs_data_type.specs.ElementType.{ElementType, fixed, text, bytes, optional}
@@ -82,7 +82,7 @@ through_only : {B : Type 0} (f : BytesCodecs B) (arrays : List ArrayMapping) (me
 through_only f arrays measure write encode outer law sizes type fill value chunk w =
     rw (w.mapped, w.measured, w.countable, law w.map_is.encoded type fill w.below (moved_chunk w.map_is chunk) w.written) (outer_only f outer w.below value w.around)
 
--- what is written of a chunk is what the codec to bytes answers
+-- what is written of a chunk is what the array-to-bytes codec answers
 pub value_only : {B : Type 0} (f : BytesCodecs B) (codec : PlainCodec B) → Encodes (CodecWritten f codec) (codec_value f codec)
 unfolding CodecWritten codec_value
 value_only f (bytes_codec order) sizes type fill value chunk w = ap ok (sym w.value_is)

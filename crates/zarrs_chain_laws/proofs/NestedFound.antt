@@ -1,4 +1,4 @@
--- What codecs to bytes answer of chunks that they take is written, with chains inside too.
+-- What array-to-bytes codecs answer of chunks that they take is written, with chains inside too.
 use Rattle.zarrs_data_type.specs.Form.{form_of}
 use Rattle.std.proofs.Common.{◌≡◌, ℕ, suc, ◌<◌, ◌^◌, nat_eq, nat_lt, if◌then◌else◌, Bool, true, false, List, [], ◌∷◌, length, map, Ok, arith, refl, ap, sym, subst, ◌∙◌}
 use Rattle.std.specs.Cmp.Lexicographic.{pointwise}
@@ -47,7 +47,7 @@ Founds write encode =
     (sizes : List ℕ) (type : ElementType) (fill value : List ℕ) (chunk : Chunk)
     → All (λ size. 0 < size) sizes → IsChunk type (product sizes) chunk → encode sizes type fill chunk ≡ Ok value → write sizes type fill value chunk
 
--- what a codec to bytes answers of chunks that it takes
+-- what an array-to-bytes codec answers of chunks that it takes
 abbrev pub FoundsTaken : Standing → Encoder → Measure → Type 0
 FoundsTaken write encode measure =
     (sizes : List ℕ) (type : ElementType) (fill value : List ℕ) (chunk : Chunk) (r : BytesRepresentation)
@@ -208,7 +208,7 @@ through_found f arrays measure write encode outer mappings law sizes type fill v
       around = around;
     }
 
--- what a codec to bytes answers of a chunk that it takes is written
+-- what an array-to-bytes codec answers of a chunk that it takes is written
 pub value_found : {B : Type 0} (f : BytesCodecs B) (codec : PlainCodec B) → HasMappings codec → FoundsTaken (CodecWritten f codec) (codec_value f codec) (codec_representation f codec)
 unfolding codec_representation codec_value CodecWritten
 value_found f (bytes_codec order) has sizes type fill value chunk r positive is e small h =

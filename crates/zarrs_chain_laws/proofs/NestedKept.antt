@@ -1,4 +1,4 @@
--- Written values are bytes, as many as was said, by chains with chains inside too.
+-- Written values are bytes, as many as was declared, by chains with chains inside too.
 use Rattle.zarrs_data_type.specs.Form.{form_of}
 use Rattle.std.proofs.Common.{◌≡◌, ℕ, suc, ◌+◌, ◌<◌, ◌≤◌, ◌^◌, nat_lt, if◌then◌else◌, Bool, true, false, List, [], ◌∷◌, ◌++◌, length, map, Result, Ok, Err, arith, refl, ap, sym, subst, ◌∙◌}
 use Rattle.std.specs.List.{All}
@@ -36,18 +36,18 @@ use Rattle.zarrs_chain_laws.proofs.NestedStages.{all_selected, spelling_bytes, e
 use Rattle.zarrs_chain_laws.proofs.PackedElements.{packed_bytes}
 use Rattle.zarrs_codec.specs.SampleLaws.{low_first_are_bytes}
 
--- bytes, as many as was said
+-- bytes, as many as was declared
 pub record AreKept (r : BytesRepresentation) (value : List ℕ) : Type 0 where
   pub each : AreBytes value
   pub keeps : KeepsTo r value
 
--- what a codec to bytes writes
+-- what an array-to-bytes codec writes
 abbrev pub KeepsSize : Standing → Measure → Type 0
 KeepsSize write measure =
     (sizes : List ℕ) (type : ElementType) (fill value : List ℕ) (chunk : Chunk) (r : BytesRepresentation)
     → All (λ size. 0 < size) sizes → length chunk ≡ product sizes → All HasBytes chunk → write sizes type fill value chunk → measure sizes type fill ≡ Ok r → AreKept r value
 
--- bytes, as many as is said of such a chunk
+-- bytes, as many as is declared of such a chunk
 pub record IsMeasured (measure : Measure) (sizes : List ℕ) (type : ElementType) (fill value : List ℕ) : Type 0 where
   pub size : BytesRepresentation
   pub measured : measure sizes type fill ≡ Ok size
@@ -111,7 +111,7 @@ part_are write measure law type fill part [] each w = subst AreBytes (sym w) (Al
 part_are write measure law type fill part (x ∷ chunk) each w =
     (law (length (x ∷ chunk) ∷ []) type fill part (x ∷ chunk) (row_positive (suc (length chunk)) (omega arith)) each w).kept.each
 
--- the bytes are no more than was said
+-- the bytes are no more than was declared
 abbrev pub IsWithin : BytesRepresentation → List ℕ → Type 0
 IsWithin (FixedSize size) value = length value ≤ size
 IsWithin (BoundedSize size) value = length value ≤ size

@@ -1,4 +1,4 @@
--- What codecs to bytes answer of values stands, with chains inside too.
+-- What array-to-bytes codecs answer of values stands, with chains inside too.
 use Rattle.std.proofs.Common.{◌≡◌, ℕ, zero, suc, ◌+◌, ◌<◌, Bool, true, List, [], ◌∷◌, length, map, Ok, arith, refl, ap, sym, subst, ◌∙◌}
 use Rattle.std.specs.List.{All, range_with_len}
 use Rattle.std.proofs.lemmas.List.{length-map}
@@ -40,7 +40,7 @@ Reads stand decode =
     (sizes : List ℕ) (type : ElementType) (fill value : List ℕ) (chunk : Chunk)
     → All (λ size. 0 < size) sizes → decode sizes type fill value ≡ Ok chunk → stand sizes type fill value chunk × IsChunk type (product sizes) chunk
 
--- what a codec to bytes answers of values of chunks that it takes
+-- what an array-to-bytes codec answers of values of chunks that it takes
 abbrev pub ReadsTaken : Standing → Decoder → Measure → Type 0
 ReadsTaken stand decode measure =
     (sizes : List ℕ) (type : ElementType) (fill value : List ℕ) (chunk : Chunk) (r : BytesRepresentation)
@@ -176,7 +176,7 @@ through_read f arrays measure stand decode outer mappings law sizes type fill va
       is,
     )
 
--- what a codec to bytes answers of a value stands, where it takes such chunks
+-- what an array-to-bytes codec answers of a value stands, where it takes such chunks
 pub chunk_read : {B : Type 0} (f : BytesCodecs B) (codec : PlainCodec B) → HasMappings codec → ReadsTaken (CodecStands f codec) (codec_chunk f codec) (codec_representation f codec)
 unfolding codec_representation codec_chunk CodecStands
 chunk_read f (bytes_codec order) has sizes type fill value chunk r positive t e =

@@ -1,4 +1,4 @@
--- What the stages of a chain round its codec to bytes do, and the bytes of elements.
+-- What the stages of a chain round its array-to-bytes codec do, and the bytes of elements.
 use Rattle.std.proofs.Common.{◌≡◌, ℕ, zero, suc, ◌+◌, ◌*◌, ◌-◌, ◌<◌, ◌^◌, Option, Some, None, List, [], ◌∷◌, length, take, drop, get_or, reverse, map, Ok, ap, sym, subst, ◌∙◌}
 use Rattle.std.specs.List.{All, concat, range_with_len}
 use Rattle.std.proofs.lemmas.List.Elements.{All-append, All-nil, All-cons, All-head, All-tail}
@@ -73,13 +73,13 @@ pub all_selected : (chunk : Chunk) (places : List ℕ) → All HasBytes chunk �
 all_selected chunk [] h = All-nil HasBytes
 all_selected chunk (place ∷ places) h = All-cons HasBytes (get_or chunk place absent) (select chunk places) (at_place chunk place h) (all_selected chunk places h)
 
--- ---- bytes codecs
+-- ---- bytes-to-bytes codecs
 
 pub outer_small : {B : Type 0} (f : BytesCodecs B) (codecs : List B) (below value : List ℕ) → OuterWritten f codecs below value → length below < 2 ^ 64
 outer_small f [] below value h = h.0
 outer_small f (codec ∷ codecs) below value h = h.0
 
--- what was written is opened again, and is as many bytes as was said
+-- what was written is opened again, and is as many bytes as was declared
 pub outer_opened : {B : Type 0} (f : BytesCodecs B) (codecs : List B) (r : BytesRepresentation) (below value : List ℕ) → IsLawful f → AreBytes below → KeepsTo r below → OuterWritten f codecs below value
     → (outer_bytes f codecs r value ≡ Ok below) × KeepsTo (outer_representation f codecs r) value
 outer_opened f [] r below value lawful each keeps h = (ap ok h.1, subst (KeepsTo r) (sym h.1) keeps)
@@ -94,7 +94,7 @@ pub outer_once : {B : Type 0} (f : BytesCodecs B) (codecs : List B) (below value
 outer_once f [] below value other h g = h.1 ∙ sym g.1
 outer_once f (codec ∷ codecs) below value other h g = outer_once f codecs (f.encoded_bytes codec below) value other h.1 g.1
 
--- ---- array codecs
+-- ---- array-to-array codecs
 
 chained_more : (codec : ArrayMapping) (codecs : List ArrayMapping) (sizes : List ℕ) (first rest : CoordinateMap) → coordinates codec sizes ≡ Ok first → chained codecs first.encoded ≡ Ok rest → chained (codec ∷ codecs) sizes ≡ Ok (composition first rest)
 chained_more codec codecs sizes first rest a b = next_answer (coordinates codec sizes) first (λ m. chained codecs m.encoded >>= (λ n. ok (composition m n))) a ∙ next_answer (chained codecs first.encoded) rest (λ n. ok (composition first n)) b

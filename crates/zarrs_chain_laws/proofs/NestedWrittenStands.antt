@@ -45,7 +45,7 @@ StandsKept write stand keep =
     (sizes : List ℕ) (type : ElementType) (fill value : List ℕ) (chunk : Chunk)
     → All (λ size. 0 < size) sizes → All HasBytes chunk → write sizes type fill value chunk → stand sizes type fill value (map (keep type) chunk)
 
--- what a codec to bytes writes of a chunk that it takes
+-- what an array-to-bytes codec writes of a chunk that it takes
 abbrev pub StandsTaken : Standing → Standing → Measure → Keeping → Type 0
 StandsTaken write stand measure keep =
     (sizes : List ℕ) (type : ElementType) (fill value : List ℕ) (chunk : Chunk) (r : BytesRepresentation)

@@ -36,7 +36,7 @@ set_in (suc byte ∷ mask) = true ∷ set_in mask
 abbrev is_flag : ℕ → Bool
 is_flag byte = nat_lt byte 2
 
--- these flags, or the refusal of another byte
+-- these flags, or the error of another byte
 abbrev pub flags_or_refusal : Bool → List Bool → Result (List Bool) CodecError
 flags_or_refusal passed flags = demand passed MaskValue >>= (λ _. ok flags)
 

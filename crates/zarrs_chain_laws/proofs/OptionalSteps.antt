@@ -175,7 +175,7 @@ value_by_mask me ce sizes type held inner mask is flags valid =
     ap (λ (h : Held). optional_value me ce sizes (optional type) (elements (optional type) (product sizes) h)) is
     ∙ value_of_masked me ce sizes type inner mask flags (subst (λ (h : Held). validity (optional type) (product sizes) h ≡ Ok tt) is valid)
 
--- the steps of encoding, each refusal and the value
+-- the steps of encoding, each error and the value
 
 pub present_taken : (held inner : Held) (mask : Raw) (type : ElementType) (count : ℕ) (cause : CodecError) → held ≡ masked inner mask → validity (optional type) count held ≡ Ok tt → present_chunk type inner mask.items ≡ Err cause → ⊥
 present_taken held inner mask type count cause is valid e =
@@ -250,7 +250,7 @@ refused_so : (passed : Bool) (flags : List Bool) (n : ℕ) (cause : CodecError) 
 refused_so true flags n cause g e = absurd cc
 refused_so false flags n cause g e = cc e
 
--- a byte that is no flag is refused
+-- a byte that is no flag is rejected
 pub mask_refused : (decode : Decoder) (type : ElementType) (mask part : List ℕ) (cause : CodecError) → present_count mask ≡ Err cause → present_part decode type (byte_elements mask) part ≡ Err cause
 mask_refused decode type mask part cause e =
     let after : List Bool → Result Chunk CodecError = λ flags. part_chunk decode type (blank_fill type) (count_set flags) part >>= (λ items. ok (under_flags flags items)) in

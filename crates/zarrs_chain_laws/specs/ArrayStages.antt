@@ -1,4 +1,4 @@
--- What the array codecs of a chain do, one after another.
+-- What the array-to-array codecs of a chain do, one after another.
 use Rattle.std.specs.Prelude.{ℕ, List, [], ◌∷◌, Result, Ok, IfOk, map}
 use Rattle.zarrs_chunk.specs.Answer.{◌>>=◌, AnswersBy, memory}
 use Rattle.zarrs_chunk.specs.declared.codec_error.CodecError.{CodecError}
@@ -12,7 +12,7 @@ use Rattle.zarrs_codec.specs.MappedChunk.{encoded_chunk, decoded_chunk}
 use Rattle.zarrs_array_to_array.specs.Mapping.{mapping_of}
 use Rattle.zarrs_array_to_array.specs.declared.array_to_array_codec.ArrayToArrayCodec.{ArrayToArrayCodec}
 
--- where a codec takes elements of a chunk of this type and these sizes, or the first cause of a refusal: the type, then the sizes
+-- where a codec takes elements of a chunk of this type and these sizes, or the first cause of an error: the type, then the sizes
 abbrev pub codec_map : ElementType → ArrayMapping → List ℕ → Result CoordinateMap CodecError
 codec_map type codec sizes = do
   _ ← type_taken codec type
@@ -30,7 +30,7 @@ arrays_map type (codec ∷ codecs) sizes = do
 abbrev pub IsMapWhere : ElementType → List ArrayMapping → List ℕ → Type 0
 IsMapWhere type codecs sizes = IfOk (arrays_map type codecs sizes) (λ m. IsCoordinateMap sizes m)
 
--- what the given codecs do to chunks of this type and these sizes, or the first cause of a refusal
+-- what the given codecs do to chunks of this type and these sizes, or the first cause of an error
 abbrev pub map_through : ElementType → List ArrayToArrayCodec → List ℕ → Result CoordinateMap CodecError
 map_through type codecs sizes = arrays_map type (map mapping_of codecs) sizes
 

@@ -1,4 +1,4 @@
--- What the bytes codecs of a chain do, one after another.
+-- What the bytes-to-bytes codecs of a chain do, one after another.
 use Rattle.std.specs.Prelude.{◌≡◌, ℕ, ◌<◌, ◌^◌, nat_lt, if◌then◌else◌, List, [], ◌∷◌, length, Result, Ok, Err}
 use Rattle.std.specs.declared.alloc.Global.{Global}
 use Rattle.std.specs.declared.borrow.CowSlice.{CowSlice}
@@ -20,7 +20,7 @@ outer_value f (codec ∷ codecs) bytes = do
   below ← in_memory bytes
   outer_value f codecs (f.encoded_bytes codec below)
 
--- the bytes that stand below the codecs, where the last of them is asked first; or its refusal, or that of one below
+-- the bytes that stand below the codecs, where the last of them is asked first; or its error, or that of one below
 abbrev pub outer_bytes : {B : Type 0} → BytesCodecs B → List B → BytesRepresentation → List ℕ → Result (List ℕ) CodecError
 outer_bytes f [] r value = Ok value
 outer_bytes f (codec ∷ codecs) r value = do
@@ -31,7 +31,7 @@ outer_bytes f (codec ∷ codecs) r value = do
 abbrev pub EncodesOuter : {B : Type 0} → BytesCodecs B → List B → CowSlice ℕ Global → Result (CowSlice ℕ Global) CodecError → Type 0
 EncodesOuter f codecs bytes result = Gives items_of result (outer_value f codecs (items_of bytes))
 
--- the bytes that the codecs made a value of are given, or the refusal of one of them
+-- the bytes that the codecs made a value of are given, or the error of one of them
 abbrev pub DecodesOuter : {B : Type 0} → BytesCodecs B → List B → BytesRepresentation → CowSlice ℕ Global → Result (CowSlice ℕ Global) CodecError → Type 0
 DecodesOuter f codecs r value result = Gives items_of result (outer_bytes f codecs r (items_of value))
 

@@ -32,7 +32,7 @@ abbrev pub GivesChainRepresentation : {B : Type 0} → BytesCodecs B → PlainCh
 GivesChainRepresentation f chain form result =
     GivesValue result (chain_representation f chain form.sizes form.type form.fill)
 
--- the value that the codec writes of the chunk that a container holds, or the first refusal
+-- the value that the codec writes of the chunk that a container holds, or the first error
 abbrev pub GivesCodecValue : {B : Type 0} → BytesCodecs B → PlainCodec B → Form → Held → Result (CowSlice ℕ Global) CodecError → Type 0
 GivesCodecValue f codec form held result = Gives items_of result (codec_held_value f codec form.sizes form.type form.fill held)
 
@@ -40,11 +40,11 @@ GivesCodecValue f codec form held result = Gives items_of result (codec_held_val
 abbrev pub GivesChainValue : {B : Type 0} → BytesCodecs B → PlainChain B → Form → Held → Result (CowSlice ℕ Global) CodecError → Type 0
 GivesChainValue f chain form held result = Gives items_of result (held_value f chain form.sizes form.type form.fill held)
 
--- a container of the chunk that a value stands for, of a codec that takes such chunks; or the first refusal
+-- a container of the chunk that a value stands for, of a codec that takes such chunks; or the first error
 abbrev pub GivesCodecChunk : {B : Type 0} → BytesCodecs B → PlainCodec B → Form → List ℕ → Result Held CodecError → Type 0
 GivesCodecChunk f codec form value result = GivesBy (Holds form.type) result (codec_chunk f codec form.sizes form.type form.fill value)
 
--- of any codec, whose representation refuses first
+-- of any codec, whose representation rejects first
 abbrev pub GivesTakenChunk : {B : Type 0} → BytesCodecs B → PlainCodec B → Form → List ℕ → Result Held CodecError → Type 0
 GivesTakenChunk f codec form value result = GivesBy (Holds form.type) result (taken_chunk f codec form.sizes form.type form.fill value)
 

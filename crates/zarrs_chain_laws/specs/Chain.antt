@@ -19,27 +19,27 @@ use Rattle.zarrs_chain_laws.specs.Decode.{Decoder, codec_chunk}
 use Rattle.zarrs_chain_laws.specs.Encode.{codec_value, chain_value}
 use Rattle.zarrs_chain_laws.specs.Representation.{codec_representation, chain_representation}
 
--- the sizes of the chunk that a chain's codec to bytes gets, and how many bytes it makes of it; or the first cause why the chain doesn't take such chunks
+-- the sizes of the chunk that a chain's array-to-bytes codec gets, and how many bytes it makes of it; or the first cause why the chain doesn't take such chunks
 abbrev pub taken_form : {B : Type 0} → BytesCodecs B → PlainChain B → List ℕ → ElementType → List ℕ → Result (List ℕ × BytesRepresentation) CodecError
 taken_form f chain sizes type fill = do
   encoded ← seen (λ m. m.encoded) (arrays_map type chain.array_to_array sizes)
   r ← codec_representation f chain.array_to_bytes encoded type fill
   Ok (encoded, r)
 
--- the value that a codec to bytes writes of the chunk that a container holds, or the first refusal: its representation, the container, the content
+-- the value that an array-to-bytes codec writes of the chunk that a container holds, or the first error: its representation, the container, the content
 abbrev pub codec_held_value : {B : Type 0} → BytesCodecs B → PlainCodec B → List ℕ → ElementType → List ℕ → Held → Result (List ℕ) CodecError
 codec_held_value f codec sizes type fill held = do
   _ ← codec_representation f codec sizes type fill
   _ ← validity type (product sizes) held
   codec_value f codec sizes type fill (elements type (product sizes) held)
 
--- the chunk that a codec to bytes reads of a value, or the first refusal: its representation, the value
+-- the chunk that an array-to-bytes codec reads of a value, or the first error: its representation, the value
 abbrev pub taken_chunk : {B : Type 0} → BytesCodecs B → PlainCodec B → Decoder
 taken_chunk f codec sizes type fill value = do
   _ ← codec_representation f codec sizes type fill
   codec_chunk f codec sizes type fill value
 
--- the value of the chunk that a container holds, or the first refusal: the chain's representation, the container, the content
+-- the value of the chunk that a container holds, or the first error: the chain's representation, the container, the content
 abbrev pub held_value : {B : Type 0} → BytesCodecs B → PlainChain B → List ℕ → ElementType → List ℕ → Held → Result (List ℕ) CodecError
 held_value f chain sizes type fill held = do
   _ ← chain_representation f chain sizes type fill
@@ -60,7 +60,7 @@ held_part f chain (suc count) type fill held = held_value f chain (suc count ∷
 abbrev pub reads_all_if : Bool → PartialDecoderCapability
 reads_all_if test = record { partial_read = test; partial_decode = test }
 
--- what a codec to bytes reads in part: `bytes`, `packbits` and a plain `vlen` all, any other with chains inside nothing
+-- what an array-to-bytes codec reads in part: `bytes`, `packbits` and a plain `vlen` all, any other with chains inside nothing
 abbrev pub codec_reads : {B : Type 0} → PlainCodec B → PartialDecoderCapability
 codec_reads (bytes_codec order) = reads_all_if true
 codec_reads (packbits_codec settings) = reads_all_if true
@@ -75,14 +75,14 @@ codec_writes (packbits_codec settings) = record { partial_encode = false }
 codec_writes (vlen_codec ia ix ib da dx db wide at_end) = record { partial_encode = false }
 codec_writes (optional_codec ma mx mb da dx db) = record { partial_encode = false }
 
--- what all bytes codecs read in part
+-- what all bytes-to-bytes codecs read in part
 abbrev pub outer_reads : {B : Type 0} → (B → PartialDecoderCapability) → List B → PartialDecoderCapability
 outer_reads reads codecs = record {
   partial_read = list_all (λ codec. (reads codec).partial_read) codecs;
   partial_decode = list_all (λ codec. (reads codec).partial_decode) codecs;
 }
 
--- what a chain reads in part: what all of its codecs do; array codecs do all
+-- what a chain reads in part: what all of its codecs do; array-to-array codecs do all
 abbrev pub chain_reads : {B : Type 0} → (B → PartialDecoderCapability) → PlainChain B → PartialDecoderCapability
 chain_reads reads chain = record {
   partial_read = (outer_reads reads chain.bytes_to_bytes).partial_read && (codec_reads chain.array_to_bytes).partial_read;

@@ -125,7 +125,7 @@ optional_chunk mask data' sizes type value = Err (UnsupportedDataType OPTIONAL)
 
 -- ---- chains
 
--- the chunk through a chain, by its representation and what its codec to bytes reads
+-- the chunk through a chain, by its representation and what its array-to-bytes codec reads
 abbrev pub around_chunk : {B : Type 0} → BytesCodecs B → List ArrayMapping → Measure → Decoder → List B → Decoder
 around_chunk f arrays measure content outer sizes type fill value = do
   m ← arrays_map type arrays sizes
@@ -142,6 +142,6 @@ codec_chunk f (vlen_codec ia ix ib da dx db wide at_end) sizes type fill value =
 codec_chunk f (optional_codec ma mx mb da dx db) sizes type fill value =
     optional_chunk (around_chunk f ma (codec_representation f mx) (codec_chunk f mx) mb) (around_chunk f da (codec_representation f dx) (codec_chunk f dx) db) sizes type value
 
--- the chunk that a value stands for through a chain, or the first refusal
+-- the chunk that a value stands for through a chain, or the first error
 abbrev pub chain_chunk : {B : Type 0} → BytesCodecs B → PlainChain B → Decoder
 chain_chunk f chain = around_chunk f chain.array_to_array (codec_representation f chain.array_to_bytes) (codec_chunk f chain.array_to_bytes) chain.bytes_to_bytes

@@ -127,7 +127,7 @@ optional_value mask data' sizes type chunk = Ok []
 
 -- ---- chains
 
--- the value through a chain, by its representation and what its codec to bytes writes
+-- the value through a chain, by its representation and what its array-to-bytes codec writes
 abbrev pub around_value : {B : Type 0} → BytesCodecs B → List ArrayMapping → Measure → Encoder → List B → Encoder
 around_value f arrays measure content outer sizes type fill chunk = do
   _ ← around_representation f arrays measure outer sizes type fill
@@ -136,7 +136,7 @@ around_value f arrays measure content outer sizes type fill chunk = do
   below ← content m.encoded type fill (moved_chunk m chunk)
   outer_value f outer below
 
--- what a codec to bytes writes of a chunk that it takes
+-- what an array-to-bytes codec writes of a chunk that it takes
 unfoldable pub codec_value : {B : Type 0} → BytesCodecs B → PlainCodec B → Encoder
 codec_value f (bytes_codec order) sizes type fill chunk = Ok (spelling order type chunk)
 codec_value f (packbits_codec settings) sizes type fill chunk = packed_value settings sizes type fill chunk
@@ -145,6 +145,6 @@ codec_value f (vlen_codec ia ix ib da dx db wide at_end) sizes type fill chunk =
 codec_value f (optional_codec ma mx mb da dx db) sizes type fill chunk =
     optional_value (around_value f ma (codec_representation f mx) (codec_value f mx) mb) (around_value f da (codec_representation f dx) (codec_value f dx) db) sizes type chunk
 
--- the value that a chain writes of a chunk, or the first refusal
+-- the value that a chain writes of a chunk, or the first error
 abbrev pub chain_value : {B : Type 0} → BytesCodecs B → PlainChain B → Encoder
 chain_value f chain = around_value f chain.array_to_array (codec_representation f chain.array_to_bytes) (codec_value f chain.array_to_bytes) chain.bytes_to_bytes

@@ -1,4 +1,4 @@
--- Laws of chains, those with chains inside too, and of lawful bytes codecs.
+-- Laws of chains, those with chains inside too, and of lawful bytes-to-bytes codecs.
 use Rattle.std.specs.Prelude.{◌≡◌, ◌<◌, ◌↔◌, ℕ, List, Ok, All}
 use Rattle.zarrs_data_type.specs.ElementType.{ElementType}
 use Rattle.zarrs_chunk.specs.ChunkShape.{product}
@@ -18,14 +18,14 @@ use Rattle.zarrs_chain_laws.specs.Representation.{chain_representation}
 use Rattle.zarrs_chain_laws.specs.Stands.{ChainStands}
 use Rattle.zarrs_chain_laws.specs.Written.{ChainWritten}
 
--- the array codecs of all chains inside are what their types hold to
+-- the array-to-array codecs of all chains inside are what their types hold to
 abbrev pub HasMappings : {B : Type 0} → PlainCodec B → Type 0
 HasMappings (bytes_codec order) = Unit {0}
 HasMappings (packbits_codec settings) = Unit {0}
 HasMappings (vlen_codec ia ix ib da dx db wide at_end) = All IsMapping ia × HasMappings ix × All IsMapping da × HasMappings dx
 HasMappings (optional_codec ma mx mb da dx db) = All IsMapping ma × HasMappings mx × All IsMapping da × HasMappings dx
 
--- a chain whose array codecs, and those of all chains inside, are what their types hold to
+-- a chain whose array-to-array codecs, and those of all chains inside, are what their types hold to
 pub record IsChainOfMappings {B : Type 0} (chain : PlainChain B) : Type 0 where
   pub mappings : All IsMapping chain.array_to_array
   pub inner_mappings : HasMappings chain.array_to_bytes
@@ -77,7 +77,7 @@ NormalTwice B =
     (codec : PlainCodec B) (type : ElementType) (chunk : Chunk)
     → AreElements type chunk → normal_form codec type (normal_form codec type chunk) ≡ normal_form codec type chunk
 
--- The normal form of a chunk that array codecs move is the normal form moved.
+-- The normal form of a chunk that array-to-array codecs move is the normal form moved.
 abbrev pub NormalMoved : Type 0 → Type 0
 NormalMoved B =
     (codec : PlainCodec B) (type : ElementType) (m : CoordinateMap) (chunk : Chunk)

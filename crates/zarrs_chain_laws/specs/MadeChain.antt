@@ -35,26 +35,26 @@ pub record Gathered (B : Type 0) : Type 0 where
 
 -- ---- codecs with chains inside, which `inside` makes of their lists
 
--- where the index stands, at the start where nothing is said
+-- where the index stands, at the start where nothing is declared
 abbrev pub location_or_start : Option VlenIndexLocation → VlenIndexLocation
 location_or_start None = Start
 location_or_start (Some location) = location
 
--- the codec of a configuration of `vlen`: the index chain's refusals come first
+-- the codec of a configuration of `vlen`: the index chain's errors come first
 abbrev pub vlen_of_parts : {B : Type 0} → (List Metadata → Result (PlainChain B) PluginCreateError) → VlenParts → Result (PlainCodec B) PluginCreateError
 vlen_of_parts inside parts = do
   index ← inside parts.index_codecs
   content ← inside parts.data_codecs
   Ok (vlen_codec_of index content (is_wide parts.index_data_type) (is_at_end (location_or_start parts.index_location)))
 
--- the codec of a configuration of `optional`: the mask chain's refusals come first
+-- the codec of a configuration of `optional`: the mask chain's errors come first
 abbrev pub optional_of_chains : {B : Type 0} → (List Metadata → Result (PlainChain B) PluginCreateError) → OptionalChains → Result (PlainCodec B) PluginCreateError
 optional_of_chains inside chains = do
   mask ← inside chains.mask_codecs
   content ← inside chains.data_codecs
   Ok (optional_codec_of mask content)
 
--- the configuration of a metadata of `vlen`: another name is refused before it is looked at
+-- the configuration of a metadata of `vlen`: another name is rejected before it is looked at
 abbrev pub read_as_vlen : Metadata → Result VlenParts PluginCreateError
 read_as_vlen metadata = made_of is_vlen_name read_vlen metadata
 
@@ -99,7 +99,7 @@ codec_made inside makes metadata = made_by_name (codec_named metadata.name) insi
 
 -- ---- lists
 
--- a codec behind those gathered so far: each kind keeps its order, and a second one to bytes is refused
+-- a codec behind those gathered so far: each kind keeps its order, and a second one to bytes is rejected
 abbrev pub with_codec : {B : Type 0} → CodecMade B → Gathered B → Result (Gathered B) PluginCreateError
 with_codec (array_made codec) so_far = Ok (record { array_to_array = so_far.array_to_array ++ codec ∷ []; array_to_bytes = so_far.array_to_bytes; bytes_to_bytes = so_far.bytes_to_bytes })
 with_codec (to_bytes_made codec) so_far = do
@@ -164,7 +164,7 @@ chain_made makes metadatas = chain_in makes (suc (depth_all metadatas)) metadata
 abbrev pub ChainsAreMadeAlike : Type 0 → Type 0
 ChainsAreMadeAlike B = (makes : Metadata → Result (Option B) PluginCreateError) (metadatas : List Metadata) → chain_made makes metadatas ≡ chain_made_by (chain_made makes) makes metadatas
 
--- ---- by a maker of bytes codecs
+-- ---- by a maker of bytes-to-bytes codecs
 
 -- `optional` of these chains
 abbrev pub optional_by : {B : Type 0} → (Metadata → Result (Option B) PluginCreateError) → OptionalChains → Result (PlainCodec B) PluginCreateError

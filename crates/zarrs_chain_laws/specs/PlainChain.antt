@@ -4,7 +4,7 @@ use Rattle.zarrs_data_type.specs.declared.endianness.Endianness.{Endianness}
 use Rattle.zarrs_array_to_array.specs.ArrayToArrayCodec.{ArrayMapping}
 use Rattle.zarrs_packbits.specs.PackBitsSettings.{PackBitsSettings}
 
--- A codec to bytes. One that has chains inside has the parts of each of them: its array codecs, its codec to bytes, its bytes codecs.
+-- An array-to-bytes codec. One that has chains inside has the parts of each of them: its array-to-array codecs, its array-to-bytes codec, its bytes-to-bytes codecs.
 pub data PlainCodec (B : Type 0) : Type 0 where
   -- the byte order
   bytes_codec : Option Endianness → PlainCodec B
@@ -15,7 +15,7 @@ pub data PlainCodec (B : Type 0) : Type 0 where
   -- the mask chain, the data chain
   optional_codec : List ArrayMapping → PlainCodec B → List B → List ArrayMapping → PlainCodec B → List B → PlainCodec B
 
--- codecs of chunks to chunks, one of chunks to bytes, and codecs of bytes to bytes
+-- array-to-array codecs, one array-to-bytes codec, bytes-to-bytes codecs
 pub record PlainChain (B : Type 0) : Type 0 where
   pub array_to_array : List ArrayMapping
   pub array_to_bytes : PlainCodec B

@@ -41,7 +41,7 @@ blank_fill (optional type) = 0 ∷ []
 
 -- ---- representations
 
--- what says how many bytes a chunk of these sizes, this type and this fill value has, or the first cause of a refusal
+-- what says how many bytes a chunk of these sizes, this type and this fill value has, or the first cause of an error
 abbrev pub Measure : Type 0
 Measure = List ℕ → ElementType → List ℕ → Result BytesRepresentation CodecError
 
@@ -76,7 +76,7 @@ optional_representation mask data' sizes (fixed width components sign) fill = Er
 optional_representation mask data' sizes text fill = Err (UnsupportedDataType OPTIONAL)
 optional_representation mask data' sizes bytes fill = Err (UnsupportedDataType OPTIONAL)
 
--- that of a chain, by that of its codec to bytes: the array codecs in order, then the codec to bytes; bytes codecs refuse nothing
+-- that of a chain, by that of its array-to-bytes codec: the array-to-array codecs in order, then the array-to-bytes codec; bytes-to-bytes codecs reject nothing
 abbrev pub around_representation : {B : Type 0} → BytesCodecs B → List ArrayMapping → Measure → List B → Measure
 around_representation f arrays measure outer sizes type fill = do
   m ← arrays_map type arrays sizes

@@ -69,7 +69,7 @@ abbrev pub OptionalStandsFor : Standing → Standing → List ℕ → ElementTyp
 OptionalStandsFor mask content sizes (optional type) value chunk = OptionalStands mask content sizes type value chunk
 OptionalStandsFor mask content sizes type value chunk = ⊥
 
--- Through a chain that takes the chunk: below its bytes codecs stands the chunk as its array codecs move it.
+-- Through a chain that takes the chunk: below its bytes-to-bytes codecs stands the chunk as its array-to-array codecs move it.
 pub record StandsThrough {B : Type 0} (f : BytesCodecs B) (arrays : List ArrayMapping) (measure : Measure) (content : Standing) (outer : List B) (sizes : List ℕ) (type : ElementType) (fill value : List ℕ) (chunk : Chunk) : Type 0 where
   pub map_is : CoordinateMap
   pub size : BytesRepresentation

@@ -49,7 +49,7 @@ abbrev pub OptionalWrittenFor : Standing → Standing → List ℕ → ElementTy
 OptionalWrittenFor mask content sizes (optional type) value chunk = OptionalWritten mask content sizes type value chunk
 OptionalWrittenFor mask content sizes type value chunk = ⊥
 
--- Through a chain that takes the chunk: its codec to bytes writes the chunk as its array codecs move it, and its bytes codecs what they make of that.
+-- Through a chain that takes the chunk: its array-to-bytes codec writes the chunk as its array-to-array codecs move it, and its bytes-to-bytes codecs what they make of that.
 pub record WrittenThrough {B : Type 0} (f : BytesCodecs B) (arrays : List ArrayMapping) (measure : Measure) (content : Standing) (outer : List B) (sizes : List ℕ) (type : ElementType) (fill value : List ℕ) (chunk : Chunk) : Type 0 where
   pub map_is : CoordinateMap
   pub size : BytesRepresentation

@@ -32,22 +32,22 @@ abbrev pub index_place : Bool → VlenIndexLocation
 index_place false = Start
 index_place true = End
 
--- the metadata of an array codec
+-- the metadata of an array-to-array codec
 abbrev pub mapping_metadata : ArrayMapping → Metadata
 mapping_metadata codec = codec_metadata (mapping_name codec) (mapping_configuration codec)
 
--- the name that is written of a codec to bytes
+-- the name that is written of an array-to-bytes codec
 abbrev pub codec_name : {B : Type 0} → PlainCodec B → List ℕ
 codec_name (bytes_codec order) = bytes_name
 codec_name (packbits_codec settings) = packbits_name
 codec_name (vlen_codec ia ix ib da dx db wide at_end) = vlen_name
 codec_name (optional_codec ma mx mb da dx db) = optional_name
 
--- the metadata of a chain's codecs, in the order in which they encode; `described` writes those of bytes codecs
+-- the metadata of a chain's codecs, in the order in which they encode; `described` writes those of bytes-to-bytes codecs
 abbrev pub listed : {B : Type 0} → (B → Metadata) → List ArrayMapping → Metadata → List B → List Metadata
 listed described arrays codec outer = map mapping_metadata arrays ++ codec ∷ map described outer
 
--- the configuration that is written of a codec to bytes; of `vlen` with the place of the index
+-- the configuration that is written of an array-to-bytes codec; of `vlen` with the place of the index
 abbrev pub codec_configuration : {B : Type 0} → (B → Metadata) → PlainCodec B → Members
 codec_configuration described (bytes_codec order) = write_bytes order
 codec_configuration described (packbits_codec settings) = write_settings settings
@@ -62,7 +62,7 @@ codec_configuration described (optional_codec ma mx mb da dx db) = write_optiona
   data_codecs = listed described da (codec_metadata (codec_name dx) (codec_configuration described dx)) db;
 })
 
--- the metadata of a codec to bytes
+-- the metadata of an array-to-bytes codec
 abbrev pub to_bytes_metadata : {B : Type 0} → (B → Metadata) → PlainCodec B → Metadata
 to_bytes_metadata described codec = codec_metadata (codec_name codec) (codec_configuration described codec)
 

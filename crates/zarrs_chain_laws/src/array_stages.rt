@@ -1,4 +1,4 @@
-//! The array codecs of a chain, one after another.
+//! The array-to-array codecs of a chain, one after another.
 ghost use Rattle.std.specs.Prelude.{◌≡◌, IfOk, false};
 ghost use Rattle.zarrs_chunk.specs.Answer.{is_fault};
 ghost use Rattle.zarrs_array_bytes.specs.Tight.{KeepsTight};
@@ -15,7 +15,7 @@ use zarrs_chunk::{ChunkShape, CodecError};
 use zarrs_codec::ArrayToArrayCodecTraits;
 use zarrs_data_type::{DataType, FillValue};
 
-/// The shape that a codec makes of this one. Refusals: that it doesn't take the type, and then that
+/// The shape that a codec makes of this one. Errors: that it doesn't take the type, and then that
 /// it doesn't take the shape.
 #[tactic(auto, using(crate::proofs::ArraySteps::shape_of_taken, crate::proofs::ArraySteps::shape_refused))]
 fn next_shape(
@@ -31,8 +31,8 @@ fn next_shape(
     codec.encoded_shape(alloc, shape)
 }
 
-/// The shape that the codecs make of this one. Refusals, of each codec in order: that it doesn't
-/// take the type, and then that it doesn't take the shape.
+/// The shape that the codecs make of this one. Errors, of each codec in order: that it doesn't take
+/// the type, and then that it doesn't take the shape.
 pub fn shape_through(
     alloc: Global,
     codecs: &[ArrayToArrayCodec],
@@ -51,8 +51,8 @@ pub fn shape_through(
     }
 }
 
-/// The chunk that the codecs make of this one, where they take it. Refusals, the first that holds,
-/// of each codec in order: those of its `encoded_shape`; those of its `encode`; `OutOfMemory`.
+/// The chunk that the codecs make of this one, where they take it. Errors, the first that holds, of
+/// each codec in order: those of its `encoded_shape`; those of its `encode`; `OutOfMemory`.
 pub fn encode_arrays<'a>(
     alloc: Global,
     codecs: &[ArrayToArrayCodec],
@@ -76,7 +76,7 @@ pub fn encode_arrays<'a>(
 }
 
 /// The chunk of this shape that the codecs make the given one of, where they take such chunks. What
-/// is made of a tight container is tight. Refusals, of each codec: those of its `encoded_shape`;
+/// is made of a tight container is tight. Errors, of each codec: those of its `encoded_shape`;
 /// those of its `decode`; `OutOfMemory`.
 pub fn decode_arrays<'a>(
     alloc: Global,

@@ -1,4 +1,4 @@
-//! The bytes codecs of a chain, one after another.
+//! The bytes-to-bytes codecs of a chain, one after another.
 ghost use Rattle.std.specs.Prelude.{◌≡◌};
 ghost use Rattle.zarrs_chain_laws.specs.BytesStages.{EncodesOuter, DecodesOuter, outer_representation as outer_representation_of};
 
@@ -22,7 +22,7 @@ pub fn outer_representation<B: BytesToBytesCodecTraits>(
     }
 }
 
-/// The last codec's bytes, each codec's being made of those before. Refusals: `OutOfMemory`.
+/// The last codec's bytes, each codec's being made of those before. Errors: `OutOfMemory`.
 pub fn encode_bytes<'a, B: BytesToBytesCodecTraits>(
     alloc: Global,
     codecs: &[B],
@@ -36,7 +36,7 @@ pub fn encode_bytes<'a, B: BytesToBytesCodecTraits>(
     }
 }
 
-/// The bytes that stand below the codecs. Refusals: `BytesCodec` of the last codec, then of the one
+/// The bytes that stand below the codecs. Errors: `BytesCodec` of the last codec, then of the one
 /// before, and so on.
 pub fn decode_bytes<'a, B: BytesToBytesCodecTraits>(
     alloc: Global,

@@ -42,7 +42,7 @@ pub fn normal_twice<B>()
     ensures written { (f : BytesCodecs B) → WrittenForNormal f }
 {}
 
-/// The normal form of a chunk that array codecs move is the normal form moved.
+/// The normal form of a chunk that array-to-array codecs move is the normal form moved.
 pub fn normal_moved<B>()
     ensures law { NormalMoved B }
 {}
@@ -72,8 +72,8 @@ pub fn chains_are_made_alike<B>()
     ensures law { ChainsAreMadeAlike B }
 {}
 
-/// What is written of a chain makes an equal one, where each bytes codec's metadata has a name that no
-/// codec of the table has, and no float, and the maker makes an equal codec of it.
+/// What is written of a chain makes an equal one, where each bytes-to-bytes codec's metadata has a
+/// name that no codec of the table has, and no float, and the maker makes an equal codec of it.
 pub fn chains_are_made_again<B>()
     ensures law { ChainsAreMadeAgain B }
 {}

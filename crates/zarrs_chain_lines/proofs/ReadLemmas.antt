@@ -8,13 +8,13 @@ use Rattle.zarrs_data_type.specs.Element.{Chunk}
 use Rattle.zarrs_data_type.specs.ElementType.{ElementType}
 use Rattle.zarrs_array_bytes.specs.Held.{Held}
 use Rattle.zarrs_array_bytes.specs.Validity.{Holds}
-use Rattle.zarrs_codec.specs.SampleBytesCodec.{sample_codecs}
+use Rattle.zarrs_chain_header.specs.KnownBytesCodec.{known_codecs}
 use Rattle.zarrs_codec.specs.StorageState.{count_if}
-use Rattle.zarrs_codec.specs.declared.sample_bytes_codec.SampleBytesCodec.{SampleBytesCodec}
+use Rattle.zarrs_chain_header.specs.declared.known_bytes_codec.KnownBytesCodec.{KnownBytesCodec}
 use Rattle.zarrs_codec_chain.specs.ChunkRead.{ChunkForm, stored_read}
 use Rattle.zarrs_codec_chain.specs.ChunkSource.{Source, source_made}
 use Rattle.zarrs_chain_json.specs.declared.refusal.Refusal.{Refusal}
-use Rattle.zarrs_chain_lines.specs.Commands.{State, sample_reads, chunk_part, part_of, read_answer}
+use Rattle.zarrs_chain_lines.specs.Commands.{State, known_reads, chunk_part, part_of, read_answer}
 use Rattle.zarrs_chain_json.specs.Elements.{chunk_tree}
 use Rattle.zarrs_chain_json.specs.Json.{ok_line, tree_of}
 use Rattle.zarrs_chain_json.specs.Shown.{HoldsSome}
@@ -42,25 +42,25 @@ passes (Ok b) a x h = refl
 passes (Err e) a x h = absurd (cc)
 
 -- what a decoder of such chunks answers
-pub part_read : (chunk form : ChunkForm SampleBytesCodec) (stored value : Option (List ℕ)) (selection : Selection) (r : Result Held CodecError) (source : Source) → form ≡ chunk → value ≡ stored → source_made sample_codecs sample_reads chunk stored ≡ Ok source
-    → is_fault r ≡ false → AnswersBy memory_or_fault (Holds form.type) r (stored_read sample_codecs form value selection) → AnswersBy memory (Holds chunk.type) r (chunk_part chunk stored selection)
+pub part_read : (chunk form : ChunkForm KnownBytesCodec) (stored value : Option (List ℕ)) (selection : Selection) (r : Result Held CodecError) (source : Source) → form ≡ chunk → value ≡ stored → source_made known_codecs known_reads chunk stored ≡ Ok source
+    → is_fault r ≡ false → AnswersBy memory_or_fault (Holds form.type) r (stored_read known_codecs form value selection) → AnswersBy memory (Holds chunk.type) r (chunk_part chunk stored selection)
 part_read chunk form stored value selection r source same_form same_value made quiet h =
-    let of_chunk : AnswersBy memory_or_fault (Holds chunk.type) r (stored_read sample_codecs chunk stored selection) =
-    subst (λ (v : Option (List ℕ)). AnswersBy memory_or_fault (Holds chunk.type) r (stored_read sample_codecs chunk v selection)) same_value
-    (subst (λ (f : ChunkForm SampleBytesCodec). AnswersBy memory_or_fault (Holds f.type) r (stored_read sample_codecs f value selection)) same_form h) in
+    let of_chunk : AnswersBy memory_or_fault (Holds chunk.type) r (stored_read known_codecs chunk stored selection) =
+    subst (λ (v : Option (List ℕ)). AnswersBy memory_or_fault (Holds chunk.type) r (stored_read known_codecs chunk v selection)) same_value
+    (subst (λ (f : ChunkForm KnownBytesCodec). AnswersBy memory_or_fault (Holds f.type) r (stored_read known_codecs f value selection)) same_form h) in
     subst (λ (y : Result Chunk CodecError). AnswersBy memory (Holds chunk.type) r y)
-    (sym (passes (source_made sample_codecs sample_reads chunk stored) source (stored_read sample_codecs chunk stored selection) made))
-    (without_faults chunk.type r (stored_read sample_codecs chunk stored selection) quiet of_chunk)
+    (sym (passes (source_made known_codecs known_reads chunk stored) source (stored_read known_codecs chunk stored selection) made))
+    (without_faults chunk.type r (stored_read known_codecs chunk stored selection) quiet of_chunk)
 
 pub stops : {A B : Type 0} (r : Result A CodecError) (x : Result B CodecError) (e : CodecError) → r ≡ Err e → (r >>= λ _. x) ≡ Err e
 stops (Ok a) x e h = absurd (cc)
 stops (Err f) x e h = cc
 
 -- where no decoder is made
-pub part_refused : (chunk : ChunkForm SampleBytesCodec) (stored : Option (List ℕ)) (selection : Selection) (e : CodecError) → fault e ≡ false
-    → Excused (memory_or_fault e) (source_made sample_codecs sample_reads chunk stored ≡ Err e) → Excused (memory e) (chunk_part chunk stored selection ≡ Err e)
+pub part_refused : (chunk : ChunkForm KnownBytesCodec) (stored : Option (List ℕ)) (selection : Selection) (e : CodecError) → fault e ≡ false
+    → Excused (memory_or_fault e) (source_made known_codecs known_reads chunk stored ≡ Err e) → Excused (memory e) (chunk_part chunk stored selection ≡ Err e)
 part_refused chunk stored selection e quiet h = λ wants.
-    stops (source_made sample_codecs sample_reads chunk stored) (stored_read sample_codecs chunk stored selection) e (excused_less (memory e) (fault e) (source_made sample_codecs sample_reads chunk stored ≡ Err e) quiet h wants)
+    stops (source_made known_codecs known_reads chunk stored) (stored_read known_codecs chunk stored selection) e (excused_less (memory e) (fault e) (source_made known_codecs known_reads chunk stored ≡ Err e) quiet h wants)
 
 -- ---- elements shown
 

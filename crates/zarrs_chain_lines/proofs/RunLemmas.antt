@@ -13,6 +13,7 @@ use Rattle.zarrs_chain_header.specs.Header.{Header, line_header}
 use Rattle.zarrs_chain_lines.specs.Commands.{State, first_state, answer_to}
 use Rattle.zarrs_chain_lines.specs.Run.{reply_of, out_of_memory, IsReply, output_line, AreReplies, IsDone, IsRefusedHeader, IsBadHeader, EndsDone, EndsBad}
 use Rattle.std.proofs.KnownBytes.{Appends-nil, Appends-trans}
+use Rattle.zarrs_chain_header.specs.declared.known_maker.KnownMaker.TheVariants.{WithSamples}
 
 -- ---- the loop over the commands
 
@@ -97,7 +98,7 @@ same_header : (header : Header) (state : State) → seen {E = Refusal} first_sta
 same_header header state h = cc
 
 -- what a good header opened
-opened_state : (line : List ℕ) (lines : List (List ℕ)) (output : List ℕ) (state : State) (r : Result Header Refusal) → line_header line ≡ r → seen first_state r ≡ Ok state → AreReplies state lines output → IsDone (line ∷ lines) output
+opened_state : (line : List ℕ) (lines : List (List ℕ)) (output : List ℕ) (state : State) (r : Result Header Refusal) → line_header WithSamples line ≡ r → seen first_state r ≡ Ok state → AreReplies state lines output → IsDone (line ∷ lines) output
 opened_state line lines output state (Ok header) is h replies = (header, is, subst (λ (s : State). AreReplies s lines output) (sym (same_header header state h)) replies)
 opened_state line lines output state (Err refusal) is h replies = absurd (cc)
 
@@ -108,23 +109,23 @@ refused_header : (r : Result Header Refusal) (refusal : Refusal) → seen first_
 refused_header (Ok header) refusal h = absurd (cc)
 refused_header (Err x) refusal h = ap (λ (y : Refusal). output_line (error_line y)) (sym (same_refusal x refusal h))
 
-bad_by : (b : Bool) (line : List ℕ) (refusal : Refusal) → wants_memory refusal ≡ b → Excused b (seen first_state (line_header line) ≡ Err refusal) → IsBadHeader (line ∷ []) (output_line (error_line refusal))
+bad_by : (b : Bool) (line : List ℕ) (refusal : Refusal) → wants_memory refusal ≡ b → Excused b (seen first_state (line_header WithSamples line) ≡ Err refusal) → IsBadHeader (line ∷ []) (output_line (error_line refusal))
 bad_by true line refusal is h = inr (ap output_line (error_line-memory refusal is))
-bad_by false line refusal is h = inl (refused_header (line_header line) refusal (h refl))
+bad_by false line refusal is h = inl (refused_header (line_header WithSamples line) refusal (h refl))
 
 -- a header that was refused
-pub bad_header : (line : List ℕ) (refusal : Refusal) → Excused (wants_memory refusal) (seen first_state (line_header line) ≡ Err refusal) → IsBadHeader (line ∷ []) (output_line (error_line refusal))
+pub bad_header : (line : List ℕ) (refusal : Refusal) → Excused (wants_memory refusal) (seen first_state (line_header WithSamples line) ≡ Err refusal) → IsBadHeader (line ∷ []) (output_line (error_line refusal))
 bad_header line refusal h = bad_by (wants_memory refusal) line refusal refl h
 
 -- ---- the endings
 
 -- after a good header and all commands
-pub ends_done : (unread mid left held holds : Option (List ℕ)) (line read : List ℕ) (state : State) → Gives unread mid line → read ≡ line → seen first_state (line_header read) ≡ Ok state
+pub ends_done : (unread mid left held holds : Option (List ℕ)) (line read : List ℕ) (state : State) → Gives unread mid line → read ≡ line → seen first_state (line_header WithSamples read) ≡ Ok state
     → IfSome mid (λ input. (left ≡ Some []) × ((output : List ℕ) × Appends held holds output × AreReplies state (filled_lines input) output)) → EndsDone unread left held holds
 ends_done None mid left held holds line read state given is good served = tt
 ends_done (Some input) mid left held holds line read state (rest, at, first) is good served =
     let all : (left ≡ Some []) × ((output : List ℕ) × Appends held holds output × AreReplies state (filled_lines rest) output) = subst (λ (known : Option (List ℕ)). IfSome known (λ others. (left ≡ Some []) × ((output : List ℕ) × Appends held holds output × AreReplies state (filled_lines others) output))) at served in
-    (all.0, (all.1.0, all.1.1, subst (λ (commands : List (List ℕ)). IsDone commands all.1.0) (sym first) (opened_state line (filled_lines rest) all.1.0 state (line_header line) refl (ap (λ l. seen first_state (line_header l)) (sym is) ∙ good) all.1.2)))
+    (all.0, (all.1.0, all.1.1, subst (λ (commands : List (List ℕ)). IsDone commands all.1.0) (sym first) (opened_state line (filled_lines rest) all.1.0 state (line_header WithSamples line) refl (ap (λ l. seen first_state (line_header WithSamples l)) (sym is) ∙ good) all.1.2)))
 
 -- without a header
 pub ends_empty : (unread left held : Option (List ℕ)) → Ends unread left → EndsDone unread left held held

@@ -4,9 +4,9 @@ use Rattle.zarrs_chunk.specs.Answer.{Answers, Excused, memory, fault, memory_or_
 use Rattle.zarrs_chunk.specs.declared.codec_error.CodecError.{CodecError}
 use Rattle.zarrs_codec.specs.ArrayWriter.{IsRefusedWrite}
 use Rattle.zarrs_codec.specs.MemoryHandle.{memory_state}
-use Rattle.zarrs_codec.specs.SampleBytesCodec.{sample_codecs}
+use Rattle.zarrs_chain_header.specs.KnownBytesCodec.{known_codecs}
 use Rattle.zarrs_codec.specs.declared.memory_handle.MemoryHandle.{MemoryHandle}
-use Rattle.zarrs_codec.specs.declared.sample_bytes_codec.SampleBytesCodec.{SampleBytesCodec}
+use Rattle.zarrs_chain_header.specs.declared.known_bytes_codec.KnownBytesCodec.{KnownBytesCodec}
 use Rattle.zarrs_codec_chain.specs.ChunkRead.{ChunkForm}
 use Rattle.zarrs_codec_chain.specs.ChunkWrite.{stored_written}
 use Rattle.zarrs_chain_laws.specs.Representation.{chain_representation}
@@ -14,9 +14,9 @@ use Rattle.zarrs_chain_lines.specs.Commands.{chunk_left}
 use Rattle.zarrs_chain_json.specs.Edit.{PlainEdit}
 use Rattle.zarrs_chain_lines.proofs.ReadLemmas.{no_fault, excused_less}
 
--- a chunk that sample codecs code
+-- a chunk that a header speaks of
 abbrev pub Form : Type 0
-Form = ChunkForm SampleBytesCodec
+Form = ChunkForm KnownBytesCodec
 
 -- ---- an edit by an encoder that is made for it
 
@@ -39,20 +39,20 @@ fits (Ok a) x h = refl
 fits (Err e) x h = absurd (cc)
 
 left_by : {T : Type 0} (chunk form : Form) (stored value after : Option (List ℕ)) (edit : PlainEdit) (r : Result T CodecError) → form ≡ chunk → value ≡ stored
-    → seen (λ _. tt {0}) (chain_representation sample_codecs chunk.chain chunk.sizes chunk.type chunk.fill) ≡ Ok tt → is_fault r ≡ false
-    → Answers memory_or_fault (λ _. after) r (seen Some (stored_written sample_codecs form value edit.selection edit.new)) → Answers memory (λ _. after) r (seen Some (chunk_left chunk stored edit))
+    → seen (λ _. tt {0}) (chain_representation known_codecs chunk.chain chunk.sizes chunk.type chunk.fill) ≡ Ok tt → is_fault r ≡ false
+    → Answers memory_or_fault (λ _. after) r (seen Some (stored_written known_codecs form value edit.selection edit.new)) → Answers memory (λ _. after) r (seen Some (chunk_left chunk stored edit))
 left_by chunk form stored value after edit r same_form same_value made quiet h =
-    let of_chunk : Answers memory_or_fault (λ _. after) r (seen Some (stored_written sample_codecs chunk stored edit.selection edit.new)) =
-    subst (λ (v : Option (List ℕ)). Answers memory_or_fault (λ _. after) r (seen Some (stored_written sample_codecs chunk v edit.selection edit.new))) same_value
-    (subst (λ (f : Form). Answers memory_or_fault (λ _. after) r (seen Some (stored_written sample_codecs f value edit.selection edit.new))) same_form h) in
+    let of_chunk : Answers memory_or_fault (λ _. after) r (seen Some (stored_written known_codecs chunk stored edit.selection edit.new)) =
+    subst (λ (v : Option (List ℕ)). Answers memory_or_fault (λ _. after) r (seen Some (stored_written known_codecs chunk v edit.selection edit.new))) same_value
+    (subst (λ (f : Form). Answers memory_or_fault (λ _. after) r (seen Some (stored_written known_codecs f value edit.selection edit.new))) same_form h) in
     subst (λ (y : Result (List ℕ) CodecError). Answers memory (λ _. after) r (seen Some y))
-    (sym (fits (chain_representation sample_codecs chunk.chain chunk.sizes chunk.type chunk.fill) (stored_written sample_codecs chunk stored edit.selection edit.new) made))
-    (left_without_faults after r (seen Some (stored_written sample_codecs chunk stored edit.selection edit.new)) quiet of_chunk)
+    (sym (fits (chain_representation known_codecs chunk.chain chunk.sizes chunk.type chunk.fill) (stored_written known_codecs chunk stored edit.selection edit.new) made))
+    (left_without_faults after r (seen Some (stored_written known_codecs chunk stored edit.selection edit.new)) quiet of_chunk)
 
 -- what an encoder of such chunks leaves
 pub part_written : {T : Type 0} (chunk form : Form) (stored value after left : Option (List ℕ)) (edit : PlainEdit) (r : Result T CodecError) → form ≡ chunk → value ≡ stored
-    → seen (λ _. tt {0}) (chain_representation sample_codecs chunk.chain chunk.sizes chunk.type chunk.fill) ≡ Ok tt → is_fault r ≡ false
-    → Answers memory_or_fault (λ _. left) r (seen Some (stored_written sample_codecs form value edit.selection edit.new)) → after ≡ left → Answers memory (λ _. after) r (seen Some (chunk_left chunk stored edit))
+    → seen (λ _. tt {0}) (chain_representation known_codecs chunk.chain chunk.sizes chunk.type chunk.fill) ≡ Ok tt → is_fault r ≡ false
+    → Answers memory_or_fault (λ _. left) r (seen Some (stored_written known_codecs form value edit.selection edit.new)) → after ≡ left → Answers memory (λ _. after) r (seen Some (chunk_left chunk stored edit))
 part_written chunk form stored value after left edit r same_form same_value made quiet h same =
     subst (λ (v : Option (List ℕ)). Answers memory (λ _. v) r (seen Some (chunk_left chunk stored edit))) (sym same) (left_by chunk form stored value left edit r same_form same_value made quiet h)
 
@@ -61,7 +61,7 @@ stops_seen (Ok a) x e h = absurd (cc)
 stops_seen (Err f) x e h = cc
 
 -- where no encoder is made
-pub part_unwritten : (chunk : Form) (stored : Option (List ℕ)) (edit : PlainEdit) (e : CodecError) → Excused (memory e) (seen (λ _. tt {0}) (chain_representation sample_codecs chunk.chain chunk.sizes chunk.type chunk.fill) ≡ Err e)
+pub part_unwritten : (chunk : Form) (stored : Option (List ℕ)) (edit : PlainEdit) (e : CodecError) → Excused (memory e) (seen (λ _. tt {0}) (chain_representation known_codecs chunk.chain chunk.sizes chunk.type chunk.fill) ≡ Err e)
     → Excused (memory e) (seen Some (chunk_left chunk stored edit) ≡ Err e)
 part_unwritten chunk stored edit e h = λ wants.
-    stops_seen (chain_representation sample_codecs chunk.chain chunk.sizes chunk.type chunk.fill) (stored_written sample_codecs chunk stored edit.selection edit.new) e (h wants)
+    stops_seen (chain_representation known_codecs chunk.chain chunk.sizes chunk.type chunk.fill) (stored_written known_codecs chunk stored edit.selection edit.new) e (h wants)

@@ -5,9 +5,9 @@ use Rattle.zarrs_chunk.specs.Answer.{◌>>=◌, Answers, AnswersBy, memory, seen
 use Rattle.zarrs_chunk.specs.Selection.{Selection}
 use Rattle.zarrs_chunk.specs.declared.codec_error.CodecError.{CodecError}
 use Rattle.zarrs_data_type.specs.Element.{Chunk}
-use Rattle.zarrs_codec.specs.SampleBytesCodec.{sample_codecs}
+use Rattle.zarrs_chain_header.specs.KnownBytesCodec.{known_codecs}
 use Rattle.zarrs_codec.specs.declared.capabilities.PartialDecoderCapability.{PartialDecoderCapability}
-use Rattle.zarrs_codec.specs.declared.sample_bytes_codec.SampleBytesCodec.{SampleBytesCodec}
+use Rattle.zarrs_chain_header.specs.declared.known_bytes_codec.KnownBytesCodec.{KnownBytesCodec}
 use Rattle.zarrs_chain_laws.specs.Chain.{held_value}
 use Rattle.zarrs_chain_laws.specs.PlainChain.{PlainChain}
 use Rattle.zarrs_chain_whole.specs.Reencode.{reencoded_value}
@@ -27,6 +27,7 @@ use Rattle.zarrs_chain_json.specs.Edit.{PlainEdit, edit_in}
 use Rattle.zarrs_chain_header.specs.Header.{Header, line_codecs}
 use Rattle.zarrs_array_bytes.specs.Held.{Held}
 use Rattle.zarrs_array_bytes.specs.Validity.{Holds}
+use Rattle.zarrs_chain_header.specs.declared.known_maker.KnownMaker.TheVariants.{WithSamples}
 
 -- what a session keeps: the header that opened it, and the stored value
 pub record State : Type 0 where
@@ -57,7 +58,7 @@ abbrev pub encode_answer : State → List ℕ → LineAnswer
 encode_answer state text = do
   tree ← tree_of text
   chunk ← elements_of state.header.data_type tree
-  value ← codec_answer (held_value sample_codecs state.header.chain state.header.sizes state.header.data_type state.header.fill (container_of state.header.data_type chunk))
+  value ← codec_answer (held_value known_codecs state.header.chain state.header.sizes state.header.data_type state.header.fill (container_of state.header.data_type chunk))
   Ok (ok_line (hex_tree value), state)
 
 -- load "HEX": these bytes are stored
@@ -70,27 +71,27 @@ load_answer state text = do
 -- the chunk that a value stands for
 abbrev pub chunk_answer : State → List ℕ → LineAnswer
 chunk_answer state value = do
-  chunk ← codec_answer (chain_chunk sample_codecs state.header.chain state.header.sizes state.header.data_type state.header.fill value)
+  chunk ← codec_answer (chain_chunk known_codecs state.header.chain state.header.sizes state.header.data_type state.header.fill value)
   Ok (ok_line (chunk_tree chunk), state)
 
 -- decode: the chunk that the stored value stands for, or none
 abbrev pub decode_answer : State → LineAnswer
 decode_answer state = stored_answer chunk_answer state state.value
 
--- the sample codecs read nothing in part
-abbrev pub sample_reads : SampleBytesCodec → PartialDecoderCapability
-sample_reads codec = record { partial_read = false; partial_decode = false }
+-- the bytes-to-bytes codecs that a header names read nothing in part
+abbrev pub known_reads : KnownBytesCodec → PartialDecoderCapability
+known_reads codec = record { partial_read = false; partial_decode = false }
 
 -- the chunk that a header speaks of
-abbrev pub form_of : Header → ChunkForm SampleBytesCodec
+abbrev pub form_of : Header → ChunkForm KnownBytesCodec
 form_of header =
     record { chain = header.chain; sizes = header.sizes; type = header.data_type; fill = header.fill }
 
 -- the elements that an indexer means of a stored value, by a decoder that is made for it: what refuses the making comes first
-abbrev pub chunk_part : ChunkForm SampleBytesCodec → Option (List ℕ) → Selection → Result Chunk CodecError
+abbrev pub chunk_part : ChunkForm KnownBytesCodec → Option (List ℕ) → Selection → Result Chunk CodecError
 chunk_part form value selection = do
-  _ ← source_made sample_codecs sample_reads form value
-  stored_read sample_codecs form value selection
+  _ ← source_made known_codecs known_reads form value
+  stored_read known_codecs form value selection
 
 -- the same of a header's chunk
 abbrev pub part_of : Header → Option (List ℕ) → Selection → Result Chunk CodecError
@@ -105,10 +106,10 @@ read_answer state text = do
   Ok (ok_line (chunk_tree chunk), state)
 
 -- the value that an edit leaves of what is stored, by an encoder that is made for it: what refuses the making comes first
-abbrev pub chunk_left : ChunkForm SampleBytesCodec → Option (List ℕ) → PlainEdit → Result (List ℕ) CodecError
+abbrev pub chunk_left : ChunkForm KnownBytesCodec → Option (List ℕ) → PlainEdit → Result (List ℕ) CodecError
 chunk_left form value edit = do
-  _ ← chain_representation sample_codecs form.chain form.sizes form.type form.fill
-  stored_written sample_codecs form value edit.selection edit.new
+  _ ← chain_representation known_codecs form.chain form.sizes form.type form.fill
+  stored_written known_codecs form value edit.selection edit.new
 
 -- the same of a header's chunk
 abbrev pub value_left : Header → Option (List ℕ) → PlainEdit → Result (List ℕ) CodecError
@@ -135,15 +136,15 @@ abbrev pub value_answer : State → LineAnswer
 value_answer state = stored_answer hex_answer state state.value
 
 -- what a chain writes for the chunk that a value stands for
-abbrev pub reencoded_answer : PlainChain SampleBytesCodec → State → List ℕ → LineAnswer
+abbrev pub reencoded_answer : PlainChain KnownBytesCodec → State → List ℕ → LineAnswer
 reencoded_answer to state value = do
-  other ← codec_answer (reencoded_value sample_codecs state.header.chain sample_codecs to (record { sizes = state.header.sizes; type = state.header.data_type; fill = state.header.fill }) value)
+  other ← codec_answer (reencoded_value known_codecs state.header.chain known_codecs to (record { sizes = state.header.sizes; type = state.header.data_type; fill = state.header.fill }) value)
   Ok (ok_line (hex_tree other), state)
 
 -- reencode METADATAS: what the chain of these codecs writes for the chunk that the stored value stands for, or none; the list is read and its chain made in either case, and the stored value stays
 abbrev pub reencode_answer : State → List ℕ → LineAnswer
 reencode_answer state text = do
-  to ← line_codecs text
+  to ← line_codecs WithSamples text
   stored_answer (reencoded_answer to) state state.value
 
 -- ---- lines

@@ -6,6 +6,7 @@ use Rattle.zarrs_chain_json.specs.Refusal.{error_line}
 use Rattle.zarrs_chain_lines.specs.Lines.{filled_lines}
 use Rattle.zarrs_chain_header.specs.Header.{Header, line_header}
 use Rattle.zarrs_chain_lines.specs.Commands.{State, LineAnswer, first_state, answer_to}
+use Rattle.zarrs_chain_header.specs.declared.known_maker.KnownMaker.TheVariants.{WithSamples}
 
 -- the reply that an answer makes, and the state after it; a refused command leaves the state
 abbrev pub reply_of : State → LineAnswer → List ℕ × State
@@ -36,7 +37,7 @@ AreReplies state (line ∷ lines) output =
 abbrev pub IsDone : List (List ℕ) → List ℕ → Type 0
 IsDone [] output = output ≡ []
 IsDone (line ∷ lines) output =
-    (header : Header) × (line_header line ≡ Ok header) × AreReplies (first_state header) lines output
+    (header : Header) × (line_header WithSamples line ≡ Ok header) × AreReplies (first_state header) lines output
 
 -- what is written to a header that opens nothing
 abbrev pub IsRefusedHeader : Result Header Refusal → List ℕ → Type 0
@@ -46,7 +47,7 @@ IsRefusedHeader (Err refusal) output = output ≡ output_line (error_line refusa
 -- there is a header, and what is written is its one answer: its first fault, or that memory ran out
 abbrev pub IsBadHeader : List (List ℕ) → List ℕ → Type 0
 IsBadHeader [] output = ⊥
-IsBadHeader (line ∷ lines) output = IsRefusedHeader (line_header line) output ⊎ (output ≡ output_line out_of_memory)
+IsBadHeader (line ∷ lines) output = IsRefusedHeader (line_header WithSamples line) output ⊎ (output ≡ output_line out_of_memory)
 
 -- A run to the end, by the bytes that the reader had and has left and that the writer held and holds, where those are known: all is read, and what was written answers all lines that aren't empty.
 abbrev pub EndsDone : Option (List ℕ) → Option (List ℕ) → Option (List ℕ) → Option (List ℕ) → Type 0

@@ -9,7 +9,7 @@ use Rattle.zarrs_array_bytes.specs.Held.{Held}
 use Rattle.zarrs_array_bytes.specs.Validity.{Holds}
 use Rattle.zarrs_codec.specs.MemoryHandle.{handle_value}
 use Rattle.zarrs_codec.specs.declared.memory_handle.MemoryHandle.{MemoryHandle}
-use Rattle.zarrs_codec.specs.declared.sample_bytes_codec.SampleBytesCodec.{SampleBytesCodec}
+use Rattle.zarrs_chain_header.specs.declared.known_bytes_codec.KnownBytesCodec.{KnownBytesCodec}
 use Rattle.zarrs_chain_whole.specs.ChainView.{plain_chain}
 use Rattle.zarrs_chain_whole.specs.declared.codec_chain.CodecChain.{CodecChain}
 use Rattle.zarrs_chain_json.specs.Edit.{edit_seen}
@@ -30,7 +30,7 @@ abbrev pub Replies : Session → Result (Vec ℕ Global) Refusal → LineAnswer 
 Replies session result expected = ReadsAs (λ line. (line.items, state_of session)) result expected
 
 -- the line shows what a chain writes for the chunk that a value stands for
-abbrev pub RepliesReencoded : CodecChain SampleBytesCodec → Session → List ℕ → Result (Vec ℕ Global) Refusal → Type 0
+abbrev pub RepliesReencoded : CodecChain KnownBytesCodec → Session → List ℕ → Result (Vec ℕ Global) Refusal → Type 0
 RepliesReencoded to session value result =
     Replies session result (reencoded_answer (plain_chain to) (state_of session) value)
 

@@ -5,6 +5,7 @@ ghost use Rattle.zarrs_chunk.specs.Indexer.{selection_of};
 ghost use Rattle.zarrs_codec.specs.MemoryHandle.{handle_value};
 ghost use Rattle.zarrs_chain_json.specs.Refusal.{ReadsAs};
 ghost use Rattle.zarrs_chain_header.specs.Header.{line_header};
+ghost use Rattle.zarrs_chain_header.specs.declared.known_maker.KnownMaker.TheVariants.{WithSamples};
 ghost use Rattle.zarrs_chain_lines.specs.Commands.{first_state, encode_answer, load_answer, chunk_answer, decode_answer, read_answer, write_answer, erase_answer, value_answer, reencode_answer, answer_to, GivesPart};
 ghost use Rattle.zarrs_chain_lines.specs.Session.{state_of, EditsSession, GivesChunkPart, Replies, RepliesReencoded, StoresChunkEdit};
 
@@ -12,14 +13,14 @@ use crate::command::{Command, command_of};
 use std::alloc::Global;
 use std::borrow::CowSlice;
 use zarrs_array_bytes::ArrayBytes;
-use zarrs_chain_header::{ChunkHeader, read_codecs, read_header};
+use zarrs_chain_header::{ChunkHeader, KnownBytesCodec, KnownMaker, read_codecs, read_header};
 use zarrs_chain_json::{
     Edit, Refusal, elements, hex_bytes, indexer, ok_elements, ok_hex, read_edit, tree,
 };
 use zarrs_chain_whole::CodecChain;
 use zarrs_chain_whole::reencode::reencode;
 use zarrs_chunk::{CodecError, Indexer};
-use zarrs_codec::{MemoryHandle, SampleBytesCodec};
+use zarrs_codec::MemoryHandle;
 use zarrs_codec_chain::CodecChainPartialTraits;
 
 /// What a header opened, and what is stored since.
@@ -84,9 +85,9 @@ fn write_part(
 impl Session {
     /// The session that a header opens, with nothing stored. Refusals: those of `read_header`.
     pub fn open(alloc: Global, header: &[u8]) -> Result<Session, Refusal>
-        ensures answer { ReadsAs state_of result (seen first_state (line_header header.now)) }
+        ensures answer { ReadsAs state_of result (seen first_state (line_header WithSamples header.now)) }
     {
-        let header = read_header(alloc, header)?;
+        let header = read_header(alloc, &KnownMaker::WithSamples, header)?;
         Ok(Session {
             header,
             handle: MemoryHandle::new(),
@@ -202,7 +203,7 @@ impl Session {
     fn reencode_value(
         &self,
         alloc: Global,
-        to: &CodecChain<SampleBytesCodec>,
+        to: &CodecChain<KnownBytesCodec>,
         value: &[u8],
     ) -> Result<Vec<u8>, Refusal>
         ensures answer { RepliesReencoded to.now self.now value.now result }
@@ -222,7 +223,7 @@ impl Session {
     fn reencode(&self, alloc: Global, text: &[u8]) -> Result<Vec<u8>, Refusal>
         ensures answer { Replies self.now result (reencode_answer (state_of self.now) text.now) }
     {
-        let to = read_codecs(alloc, text)?;
+        let to = read_codecs(alloc, &KnownMaker::WithSamples, text)?;
         match self.handle.value() {
             None => Ok(Vec::from_slice(alloc, b"ok none")?),
             Some(value) => self.reencode_value(alloc, &to, value),

@@ -1,4 +1,4 @@
--- The codec `bytes` behind array codecs, as a chain says it.
+-- The codec `bytes` behind array-to-array codecs, as a chain says it.
 use Rattle.zarrs_data_type.specs.Form.{form_of}
 use Rattle.std.proofs.Common.{◌≡◌, ℕ, Option, List, Result, Ok, Err, IfOk, refl, ap, sym, ◌∙◌, subst}
 use Rattle.std.specs.Prelude.{is_ok}
@@ -83,7 +83,7 @@ chunk_behind f arrays order outer sizes type fill form value below r maps e open
     ∙ bind_seen back (bytes_chunk order (form_of sizes type fill) below) in
     subst (λ (x : Result Chunk CodecError). GivesBy (Holds type) r x) (sym is) got
 
--- ---- as the code tells the codecs apart
+-- ---- as the code returns the codecs apart
 
 abbrev seen_chain : {B : Type 0} → List ArrayMapping → ArrayToBytesCodec B → List B → PlainChain B
 seen_chain arrays codec outer =

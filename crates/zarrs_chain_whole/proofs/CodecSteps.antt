@@ -1,4 +1,4 @@
--- One codec to bytes.
+-- One array-to-bytes codec.
 use Rattle.zarrs_data_type.specs.Form.{form_of}
 use Rattle.std.proofs.Common.{◌≡◌, ◌&&◌, ℕ, ◌^◌, nat_lt, Bool, true, false, if◌then◌else◌, List, [], Option, Result, Ok, Err, refl, sym}
 use Rattle.zarrs_chunk.specs.Answer.{◌>>=◌, Answers, memory, demand, checked_u64, seen, is_fault}
@@ -47,7 +47,7 @@ unfolding codec_representation codec_value
 packbits_held_value f settings sizes type fill held =
     layout_then (packed_layout settings (form_of sizes type fill)) value_len (validity type (product sizes) held) (λ l. value_with l (chunk_stream l (elements type (product sizes) held)))
 
--- ---- refusals of a representation are no faults of a handle
+-- ---- errors of a representation are no faults of a handle
 
 count_no_fault : (test : Bool) (n : ℕ) → is_fault {T = ℕ} (if test then Ok n else Err Overflow) ≡ false
 count_no_fault true n = refl

@@ -1,4 +1,4 @@
--- What a chain, or its codec to bytes, encodes is decoded again to what it keeps of the chunk.
+-- What a chain, or its array-to-bytes codec, encodes is decoded again to what it keeps of the chunk.
 use Rattle.std.proofs.Common.{◌≡◌, ◌<◌, ◌∙◌, ℕ, List, [], ◌∷◌, Option, Result, Ok, Err, refl, ap, sym, subst, Global}
 use Rattle.std.specs.List.{All}
 use Rattle.std.specs.Prelude.{IsOk, IfOk}
@@ -34,7 +34,7 @@ use Rattle.zarrs_chain_laws.proofs.HeldBytes.{chain_again, codec_again}
 use Rattle.zarrs_chain_whole.proofs.CodecRelations.{HasChains, value_written}
 use Rattle.zarrs_chain_whole.proofs.CodecSteps.{bytes_held_value, packbits_held_value, bytes_chunk_at, packbits_chunk_at}
 
--- ---- a codec to bytes
+-- ---- an array-to-bytes codec
 
 taken_again : {B : Type 0} (f : BytesCodecs B) (codec : PlainCodec B) (sizes : List ℕ) (type : ElementType) (fill value : List ℕ) (chunk : Chunk) → IsOk (codec_representation f codec sizes type fill) → codec_chunk f codec sizes type fill value ≡ Ok chunk → taken_chunk f codec sizes type fill value ≡ Ok chunk
 taken_again f codec sizes type fill value chunk taken again = rw (from_ok (codec_representation f codec sizes type fill) taken).1 again

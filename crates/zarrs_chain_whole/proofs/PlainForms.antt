@@ -12,12 +12,12 @@ use Rattle.zarrs_chain_laws.specs.declared.vlen.plain_vlen.PlainVlen.{PlainVlen}
 use Rattle.zarrs_chain_whole.specs.ChainView.{plain_vlen, plain_vlen_at}
 use Rattle.zarrs_chain_whole.specs.declared.vlen.vlen_codec.VlenCodec.{VlenCodec}
 
--- a chain with array codecs is no lone one
+-- a chain with array-to-array codecs is no lone one
 pub arrays_before : {B : Type 0} (arrays : List ArrayToArrayCodec) (codec : PlainCodec B) (outer : List B) → 0 < length arrays → lone_bytes (map mapping_of arrays) codec outer ≡ None
 arrays_before [] codec outer l = absurd (omega arith)
 arrays_before (a ∷ rest) codec outer l = refl
 
--- nor is one with bytes codecs
+-- nor is one with bytes-to-bytes codecs
 pub bytes_behind : {B : Type 0} (arrays : List ArrayToArrayCodec) (codec : PlainCodec B) (outer : List B) → 0 < length outer → lone_bytes (map mapping_of arrays) codec outer ≡ None
 bytes_behind arrays codec [] l = absurd (omega arith)
 bytes_behind (a ∷ rest) codec (b ∷ bs) l = refl

@@ -47,7 +47,7 @@ expected_is f from g to form value held is positive read =
 
 -- ---- the endings
 
--- the first chain refuses the value
+-- the first chain rejects the value
 pub reading_refused : {B C : Type 0} (f : BytesCodecs B) (from : PlainChain B) (g : BytesCodecs C) (to : PlainChain C) (form : Form) (value : List ℕ) (e : CodecError) → Decodes (chain_grammar f from) form value (Err e) → Reencodes f from g to form value (Err e)
 reading_refused f from g to form value e read = record {
   found = tt;
@@ -56,7 +56,7 @@ reading_refused f from g to form value e read = record {
   no_fault = read.no_fault;
 }
 
--- the second one refuses the chunk
+-- the second one rejects the chunk
 pub writing_refused : {B C : Type 0} (f : BytesCodecs B) (from : PlainChain B) (g : BytesCodecs C) (to : PlainChain C) (form : Form) (value : List ℕ) (held : Held) (e : CodecError)
     → IsChainOfMappings from → All (λ size. 0 < size) form.sizes → Decodes (chain_grammar f from) form value (Ok held) → Encodes (chain_grammar g to) form held (Err e) → Reencodes f from g to form value (Err e)
 writing_refused f from g to form value held e is positive read wrote = record {

@@ -47,7 +47,7 @@ pub vlen_tight : {B : Type 0} (f : BytesCodecs B) (codec : VlenCodec B) (sizes :
 vlen_tight f codec sizes type fill r taken flush =
     simple_tight_results type r (vlen_simple sizes type fill (subst IsOk (vlen_measured f codec sizes type fill) taken)) flush
 
--- ---- as the code tells the codecs apart
+-- ---- as the code returns the codecs apart
 
 pub bytes_tight_at : {B : Type 0} (f : BytesCodecs B) (codec : ArrayToBytesCodec B) (order : Option Endianness) (sizes : List ℕ) (type : ElementType) (fill : List ℕ) (r : Result Held CodecError) (due : Result Chunk CodecError)
     → codec ≡ Bytes order → IsOk (codec_representation f (plain_codec codec) sizes type fill) → AnswersBy memory (Holds type) r due → IfOk r (IsTight type)

@@ -102,7 +102,7 @@ module _ (order : Option Endianness) (arrays : List ArrayMapping) (sizes : List 
       ∙ ap (λ c. ok (moved_chunk back (map (turned order width components) c))) chunk_stored
       ∙ sym (ap (seen (moved_chunk back)) (chunk_is order sizes width components sign fill value len e long))
 
-  -- the array codecs make the moved chunk of a container of the chunk
+  -- the array-to-array codecs make the moved chunk of a container of the chunk
   back_is : (type : ElementType) (stored : Held) (chunk : Chunk) → arrays_map type arrays sizes ≡ Ok m → checked_u64 (product sizes) ≡ Ok (product sizes) → validity type (product sizes) stored ≡ Ok tt → elements type (product sizes) stored ≡ chunk
       → decoded_chunk (Ok tt) (arrays_map type arrays sizes) type sizes stored ≡ Ok (moved_chunk (inverse_map sizes m) chunk)
   back_is type stored chunk mapped counted valid are = rw (mapped, counted, valid) (ap (λ x. ok (moved_chunk (inverse_map sizes m) x)) are)

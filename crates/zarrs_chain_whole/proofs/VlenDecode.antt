@@ -220,7 +220,7 @@ offsets_answered r f chain wide count part held type fill items numbers some t e
     let numbers_so : numbers ≡ read_offsets wide raw.0.items = sym (ok_is (read_offsets wide items) numbers read) ∙ ap (read_offsets wide) raw.2 in
     same_answer r (index_offsets f chain wide count part) (made ∙ sym (offsets_found f chain wide count part held raw.0 numbers some so raw.1 numbers_so))
 
--- ---- refusals and the answer, one level
+-- ---- errors and the answer, one level
 
 -- past the parts
 past_parts : {B : Type 0} (f : BytesCodecs B) (codec : PlainCodec B) (index content : PlainChain B) (wide at_end : Bool) (sizes : List ℕ) (type : ElementType) (fill value i d : List ℕ)
@@ -318,7 +318,7 @@ vlen_answered f codec sizes type fill value r i d offsets raw count taken parts 
     subst (λ x. AnswersBy memory (Holds type) x (codec_chunk f (plain_vlen codec) sizes type fill value)) (sym is)
     (subst (λ (x : Result Chunk CodecError). AnswersBy memory (Holds type) (Ok (without_front raw offsets)) x) (sym chunk) (kept type (slices (product sizes) offsets raw.items) holds))
 
--- refusals, by the number of offsets that the code counts
+-- errors, by the number of offsets that the code counts
 
 pub index_refused_by : {B : Type 0} (f : BytesCodecs B) (codec : VlenCodec B) (sizes : List ℕ) (type : ElementType) (fill value i d : List ℕ) (count : ℕ) (error : CodecError)
     → ok (i, d) ≡ vlen_parts (is_at_end (out-VlenCodec _ codec).index_location) value → ok count ≡ checked_u64 (product sizes + 1)

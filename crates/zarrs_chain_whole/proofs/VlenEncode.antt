@@ -371,7 +371,7 @@ value_joined f codec index content wide at_end sizes type fill held raw offsets 
     ∙ next_answer (index_part f index wide offsets) part (λ part. content_part f content (drop (slice_index offsets 0) raw.items) >>= λ d. in_memory (vlen_layout at_end part d)) h
     ∙ next_answer (content_part f content (drop (slice_index offsets 0) raw.items)) items (λ d. in_memory (vlen_layout at_end part d)) k
 
--- ---- the first refusals, one level as the code opens it
+-- ---- the first errors, one level as the code opens it
 
 -- a codec `vlen` asks its representation, the container, and then the content
 pub held_checked : {B : Type 0} (f : BytesCodecs B) (codec : VlenCodec B) (sizes : List ℕ) (type : ElementType) (fill : List ℕ) (held : Held)

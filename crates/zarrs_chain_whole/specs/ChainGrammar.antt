@@ -1,4 +1,4 @@
--- What a chain, and its codec to bytes by itself, says of chunks.
+-- What a chain, and its array-to-bytes codec by itself, says of chunks.
 use Rattle.std.specs.Prelude.{◌≡◌, ℕ, List, length, IsOk}
 use Rattle.zarrs_chunk.specs.ChunkShape.{product}
 use Rattle.zarrs_data_type.specs.Element.{Chunk}
@@ -31,7 +31,7 @@ pub record TakenWritten {B : Type 0} (f : BytesCodecs B) (codec : PlainCodec B) 
   pub count_is : length chunk ≡ product form.sizes
   pub written : CodecWritten f codec form.sizes form.type form.fill value chunk
 
--- the grammar of a codec to bytes that stands in no chain
+-- the grammar of an array-to-bytes codec that stands in no chain
 abbrev pub codec_grammar : {B : Type 0} → BytesCodecs B → PlainCodec B → Grammar
 codec_grammar f codec = record {
   Stands = TakenStands f codec;

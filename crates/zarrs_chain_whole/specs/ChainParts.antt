@@ -25,11 +25,11 @@ parts_seen parts = record {
   bytes_to_bytes = parts.bytes_to_bytes.items;
 }
 
--- the codec joins the old parts, or the first refusal is answered
+-- the codec joins the old parts, or the first error is answered
 abbrev pub AddsCodec : {B : Type 0} → MadeCodec B → ChainParts B → ChainParts B → Result (Unit {0}) PluginCreateError → Type 0
 AddsCodec codec old new result = Makes (λ _. parts_seen new) result (with_codec (made_seen codec) (parts_seen old))
 
--- the same of a codec to bytes, which takes no memory
+-- the same of an array-to-bytes codec, which takes no memory
 abbrev pub AddsToBytes : {B : Type 0} → ArrayToBytesCodec B → ChainParts B → ChainParts B → Result (Unit {0}) PluginCreateError → Type 0
 AddsToBytes codec old new result =
     seen (λ _. parts_seen new) result ≡ with_codec (made_seen (ToBytes codec)) (parts_seen old)

@@ -1,4 +1,4 @@
--- What calls give that are asked of a codec to bytes about chunks: their sizes, their type and their fill value come one by one.
+-- What calls give that are asked of an array-to-bytes codec about chunks: their sizes, their type and their fill value come one by one.
 use Rattle.std.specs.Prelude.{ℕ, List, Option, Result, IfOk}
 use Rattle.std.specs.declared.alloc.Global.{Global}
 use Rattle.std.specs.declared.borrow.CowSlice.{CowSlice}
@@ -23,20 +23,20 @@ use Rattle.zarrs_chain_whole.specs.declared.array_to_bytes_codec.ArrayToBytesCod
 abbrev pub Takes : {B : Type 0} → BytesCodecs B → ArrayToBytesCodec B → List ℕ → ElementType → List ℕ → Type 0
 Takes f codec sizes type fill = IsTaken f (plain_codec codec) (form_of sizes type fill)
 
--- how many bytes the value of such a chunk has, or the first refusal
+-- how many bytes the value of such a chunk has, or the first error
 abbrev pub Counts : {B : Type 0} → BytesCodecs B → ArrayToBytesCodec B → List ℕ → ElementType → List ℕ → Result BytesRepresentation CodecError → Type 0
 Counts f codec sizes type fill result = GivesRepresentation f (plain_codec codec) (form_of sizes type fill) result
 
--- the value of the chunk that a container holds, or the first refusal
+-- the value of the chunk that a container holds, or the first error
 abbrev pub Writes : {B : Type 0} → BytesCodecs B → ArrayToBytesCodec B → List ℕ → ElementType → List ℕ → Held → Result (CowSlice ℕ Global) CodecError → Type 0
 Writes f codec sizes type fill held result = GivesCodecValue f (plain_codec codec) (form_of sizes type fill) held result
 
--- a container of the chunk that a value stands for, of a codec that takes such chunks; or the first refusal
+-- a container of the chunk that a value stands for, of a codec that takes such chunks; or the first error
 abbrev pub Reads : {B : Type 0} → BytesCodecs B → ArrayToBytesCodec B → List ℕ → ElementType → List ℕ → CowSlice ℕ Global → Result Held CodecError → Type 0
 Reads f codec sizes type fill value result =
     GivesCodecChunk f (plain_codec codec) (form_of sizes type fill) (items_of value) result
 
--- A container of the chunk of these sizes that the value of `bytes` in this order stands for, as the array codecs decode it where they take such chunks; or the first refusal.
+-- A container of the chunk of these sizes that the value of `bytes` in this order stands for, as the array-to-array codecs decode it where they take such chunks; or the first error.
 abbrev pub ReadsBehind : Option Endianness → List ArrayToArrayCodec → List ℕ → ElementType → List ℕ → CowSlice ℕ Global → Result Held CodecError → Type 0
 ReadsBehind order codecs sizes type fill value result =
     IfOk (map_through type codecs sizes) (λ m. GivesBy (Holds type) result (seen (moved_chunk (inverse_map sizes m)) (bytes_chunk order (form_of sizes type fill) (items_of value))))

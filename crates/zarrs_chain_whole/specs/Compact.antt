@@ -9,11 +9,11 @@ use Rattle.zarrs_chain_laws.specs.BytesStages.{outer_bytes}
 use Rattle.zarrs_chain_laws.specs.Chain.{taken_form}
 use Rattle.zarrs_chain_laws.specs.Representation.{codec_representation}
 
--- that a codec to bytes takes such chunks, or the first cause why not
+-- that an array-to-bytes codec takes such chunks, or the first error
 abbrev pub codec_opened : {B : Type 0} → BytesCodecs B → PlainCodec B → List ℕ → ElementType → List ℕ → Result (Unit {0}) CodecError
 codec_opened f codec sizes type fill = seen (λ _. tt) (codec_representation f codec sizes type fill)
 
--- that a chain takes such chunks and its bytes codecs decode the value, or the first refusal
+-- that a chain takes such chunks and its bytes-to-bytes codecs decode the value, or the first error
 abbrev pub chain_opened : {B : Type 0} → BytesCodecs B → PlainChain B → List ℕ → ElementType → List ℕ → List ℕ → Result (Unit {0}) CodecError
 chain_opened f chain sizes type fill value = do
   taken ← taken_form f chain sizes type fill

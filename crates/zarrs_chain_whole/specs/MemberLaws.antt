@@ -1,4 +1,4 @@
--- What joins the members of chains and of their codecs to bytes: what is decoded is of chunks that are taken, and has as many elements as they have.
+-- What joins the members of chains and of their array-to-bytes codecs: what is decoded is of chunks that are taken, and has as many elements as they have.
 use Rattle.std.specs.Prelude.{◌≡◌, ℕ, List, length, Ok, IsOk, refl}
 use Rattle.std.proofs.Common.{◌∙◌, ap, sym, subst}
 use Rattle.zarrs_chunk.specs.Answer.{◌>>=◌}

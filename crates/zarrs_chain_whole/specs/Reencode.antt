@@ -18,13 +18,13 @@ pub record Reencoded (from to : Grammar) (form : Form) (value other : List ℕ) 
   pub stands : from.Stands form value chunk
   pub written : to.Written form other chunk
 
--- the value that the second chain writes of the chunk that the first one reads of a value, or the first refusal: the reading's, then the writing's
+-- the value that the second chain writes of the chunk that the first one reads of a value, or the first error: the reading's, then the writing's
 abbrev pub reencoded_value : {B C : Type 0} → BytesCodecs B → PlainChain B → BytesCodecs C → PlainChain C → Form → List ℕ → Result (List ℕ) CodecError
 reencoded_value f from g to form value = do
   chunk ← chain_chunk f from form.sizes form.type form.fill value
   chain_value g to form.sizes form.type form.fill chunk
 
--- The answer is the value that the second chain writes for the chunk that the value stands for under the first, exactly where there is one, or the first refusal. Only a want of memory may come in its place.
+-- The answer is the value that the second chain writes for the chunk that the value stands for under the first, exactly where there is one, or the first error. Only a lack of memory may come in its place.
 pub record Reencodes {B C : Type 0} (f : BytesCodecs B) (from : PlainChain B) (g : BytesCodecs C) (to : PlainChain C) (form : Form) (value : List ℕ) (result : Result (Vec ℕ Global) CodecError) : Type 0 where
   pub found : IfOk result (λ answer. Reencoded (chain_grammar f from) (chain_grammar g to) form value answer.items)
   pub only : (other : List ℕ) → Reencoded (chain_grammar f from) (chain_grammar g to) form value other → Answers memory (λ answer. answer.items) result (Ok other)

@@ -1,4 +1,4 @@
-//! Chains and their codecs to bytes as every codec of chunks to bytes.
+//! Chains and their array-to-bytes codecs as every codec of chunks to bytes.
 use crate::array_to_bytes_codec::{
     ArrayToBytesCodec, codec_decode, codec_is_sound, codec_representation, codec_taken_encode,
 };

@@ -39,7 +39,7 @@ pub enum ArrayToBytesCodec<B> {
     Optional(OptionalCodec<B>),
 }
 
-/// The array codecs of the chains inside hold to what their types do.
+/// The array-to-array codecs of the chains inside hold to what their types do.
 #[cycle(sound)]
 #[tactic(auto, unfolding(crate::specs::ChainView::plain_codec))]
 pub(crate) fn codec_is_sound<B>(codec: &ArrayToBytesCodec<B>)
@@ -67,7 +67,7 @@ pub(crate) fn codec_has_ranges<B>(codec: &ArrayToBytesCodec<B>)
     }
 }
 
-/// How many bytes the value of such a chunk has. Refusals: the codec's own.
+/// How many bytes the value of such a chunk has. Errors: the codec's own.
 #[cycle(representation)]
 #[tactic(auto, unfolding(crate::specs::ChainView::plain_codec), using(crate::proofs::CodecSteps::bytes_measured, crate::proofs::CodecSteps::packbits_measured, crate::proofs::CodecSteps::vlen_measured, crate::proofs::CodecSteps::packbits_no_fault))]
 pub(crate) fn codec_representation<B: BytesToBytesCodecTraits>(
@@ -93,7 +93,7 @@ pub(crate) fn codec_representation<B: BytesToBytesCodecTraits>(
     }
 }
 
-/// The value of the chunk that `held` holds, where the codec takes such chunks. Refusals: those of
+/// The value of the chunk that `held` holds, where the codec takes such chunks. Errors: those of
 /// the codec's `encode` behind those of its `encoded_representation`.
 #[cycle(encode)]
 #[tactic(auto, unfolding(crate::specs::ChainView::plain_codec), using(crate::proofs::CodecSteps::bytes_held_value, crate::proofs::CodecSteps::packbits_held_value))]
@@ -118,7 +118,7 @@ pub(crate) fn codec_encode<'a, B: BytesToBytesCodecTraits>(
     }
 }
 
-/// The value of the chunk that `held` holds. Refusals: the codec's own.
+/// The value of the chunk that `held` holds. Errors: the codec's own.
 pub(crate) fn codec_taken_encode<'a, B: BytesToBytesCodecTraits>(
     alloc: Global,
     codec: &ArrayToBytesCodec<B>,
@@ -134,7 +134,7 @@ pub(crate) fn codec_taken_encode<'a, B: BytesToBytesCodecTraits>(
 }
 
 /// The chunk that a value stands for, in the container that it fixes, where the codec takes such
-/// chunks. Refusals: those of the codec's `decode` behind those of its `encoded_representation`.
+/// chunks. Errors: those of the codec's `decode` behind those of its `encoded_representation`.
 #[cycle(decode)]
 #[tactic(auto, unfolding(crate::specs::ChainView::plain_codec), using(crate::proofs::CodecSteps::bytes_chunk_at, crate::proofs::CodecSteps::packbits_chunk_at, crate::proofs::TakenTight::bytes_tight_at, crate::proofs::TakenTight::packbits_tight_at))]
 pub fn codec_decode<'a, B: BytesToBytesCodecTraits>(

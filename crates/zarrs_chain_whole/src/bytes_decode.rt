@@ -1,4 +1,4 @@
-//! The chunk that a value of the codec `bytes` stands for, behind array codecs.
+//! The chunk that a value of the codec `bytes` stands for, behind array-to-array codecs.
 ghost use Rattle.zarrs_array_bytes.specs.Tight.{IsTight};
 ghost use Rattle.std.specs.Prelude.{IfOk};
 ghost use Rattle.zarrs_data_type.specs.Form.{form_of};
@@ -13,10 +13,10 @@ use zarrs_chain_laws::array_stages::decode_arrays;
 use zarrs_chunk::{ChunkShape, CodecError};
 use zarrs_data_type::{DataType, FillValue};
 
-/// The chunk of this shape that a value of the codec stands for, as the array codecs decode it. They
-/// move the elements as they are stored, and what they made is turned round where it stands: of a
-/// borrowed value one copy is made, and not one for each of the two. Refusals: `InvalidBytesLength`;
-/// `OutOfMemory`.
+/// The chunk of this shape that a value of the codec stands for, as the array-to-array codecs
+/// decode it. They move the elements as they are stored, and what they made is turned round where
+/// it stands: of a borrowed value one copy is made, and not one for each of the two. Errors:
+/// `InvalidBytesLength`; `OutOfMemory`.
 pub(crate) fn bytes_decode<'a>(
     alloc: Global,
     codec: &BytesCodec,

@@ -78,7 +78,7 @@ impl<B> CodecChain<B> {
     }
 }
 
-/// What the array codecs are made of holds.
+/// What the array-to-array codecs are made of holds.
 fn arrays_are_sound(codecs: &[ArrayToArrayCodec])
     ensures mappings { All IsMapping (map mapping_of codecs.now) }
 {
@@ -91,8 +91,8 @@ fn arrays_are_sound(codecs: &[ArrayToArrayCodec])
     }
 }
 
-/// What the array codecs of the chain, and of those inside it, are made of holds. The call does
-/// nothing; its contract is for proofs.
+/// What the array-to-array codecs of the chain, and of those inside it, are made of holds. The call
+/// does nothing; its contract is for proofs.
 #[cycle(sound)]
 pub fn chain_is_sound<B>(chain: &CodecChain<B>)
     ensures mappings { IsChainOfMappings (plain_chain chain.now) }
@@ -110,9 +110,9 @@ pub(crate) fn chain_has_ranges<B>(chain: &CodecChain<B>)
 }
 
 impl<B: BytesToBytesCodecTraits> CodecChain<B> {
-    /// How many bytes the value of such a chunk has. Refusals, the first that holds, `OutOfMemory`
-    /// aside: those of the array codecs in order, of each its type and then its shape; those of the
-    /// codec to bytes.
+    /// How many bytes the value of such a chunk has. Errors, the first that holds, `OutOfMemory`
+    /// aside: those of the array-to-array codecs in order, of each its type and then its shape;
+    /// those of the array-to-bytes codec.
     pub fn encoded_representation(
         &self,
         alloc: Global,
@@ -125,9 +125,9 @@ impl<B: BytesToBytesCodecTraits> CodecChain<B> {
         chain_representation(alloc, self, shape, data_type, fill_value)
     }
 
-    /// The value that is written for the chunk that `elements` hold. Refusals, the first that
-    /// holds, `OutOfMemory` aside: those of `encoded_representation`; those of
-    /// `ArrayBytes::validate`; then of the codec to bytes, where it is
+    /// The value that is written for the chunk that `elements` hold. Errors, the first that holds,
+    /// `OutOfMemory` aside: those of `encoded_representation`; those of `ArrayBytes::validate`;
+    /// then of the array-to-bytes codec, where it is
     ///
     /// - `vlen`: `OffsetTooLarge` where 32 bits don't hold an offset that is to have so many; those
     ///   of the index chain; `OffsetNotKept` where it would change an offset; those of the data
@@ -155,9 +155,9 @@ impl<B: BytesToBytesCodecTraits> CodecChain<B> {
         chain_encode(alloc, self, elements, shape, data_type, fill_value)
     }
 
-    /// The chunk that a value stands for. Refusals, the first that holds, `OutOfMemory` aside:
-    /// those of `encoded_representation`; `BytesCodec` of the last bytes codec, then of the one
-    /// before; then of the codec to bytes, about what stands below them, where it is
+    /// The chunk that a value stands for. Errors, the first that holds, `OutOfMemory` aside: those
+    /// of `encoded_representation`; `BytesCodec` of the last bytes-to-bytes codec, then of the one
+    /// before; then of the array-to-bytes codec, about what stands below them, where it is
     ///
     /// - `bytes`: `InvalidBytesLength` for another length;
     /// - `packbits`: `InvalidBytesLength`; `PaddingByte` where the padding byte isn't the number of
@@ -196,7 +196,7 @@ impl<B: BytesToBytesCodecTraits> CodecChain<B> {
     }
 }
 
-/// What all bytes codecs read in part.
+/// What all bytes-to-bytes codecs read in part.
 fn outer_reads<B: BytesToBytesCodecTraits>(codecs: &[B]) -> PartialDecoderCapability
     ensures value { result ≡ outer_reads_of B.reads_in_part codecs.now }
 {
@@ -216,7 +216,7 @@ fn outer_reads<B: BytesToBytesCodecTraits>(codecs: &[B]) -> PartialDecoderCapabi
     }
 }
 
-/// Whether all bytes codecs write in part.
+/// Whether all bytes-to-bytes codecs write in part.
 fn outer_writes<B: BytesToBytesCodecTraits>(codecs: &[B]) -> bool
     ensures value { result ≡ outer_writes_of B.writes_in_part codecs.now }
 {
@@ -245,7 +245,7 @@ impl<B: BytesToBytesCodecTraits> CodecTraits for CodecChain<B> {
         None
     }
 
-    /// None, as the name. Nothing is refused.
+    /// None, as the name. Nothing is rejected.
     fn configuration(&self, _alloc: Global) -> Result<Option<Configuration>, PluginCreateError>
         ensures none { result ≡ Ok None }
     {

@@ -17,7 +17,7 @@ use zarrs_chunk::{ChunkShape, CodecError};
 use zarrs_codec::BytesToBytesCodecTraits;
 use zarrs_data_type::{DataType, FillValue};
 
-/// The chunk that a value stands for through the chain, in the container that it fixes. Refusals:
+/// The chunk that a value stands for through the chain, in the container that it fixes. Errors:
 /// those of `CodecChain::decode`.
 #[cycle(decode)]
 pub(crate) fn chain_decode<'a, B: BytesToBytesCodecTraits>(
@@ -49,7 +49,7 @@ pub(crate) fn chain_decode<'a, B: BytesToBytesCodecTraits>(
 }
 
 /// The row of so many elements that a part stands for through the chain; of none, whatever the part
-/// is. Refusals: those of `chain_decode`.
+/// is. Errors: those of `chain_decode`.
 #[cycle(decode)]
 pub(crate) fn part_decode<'a, B: BytesToBytesCodecTraits>(
     alloc: Global,

@@ -18,7 +18,7 @@ use zarrs_chunk::{ChunkShape, CodecError};
 use zarrs_codec::BytesToBytesCodecTraits;
 use zarrs_data_type::{DataType, FillValue};
 
-/// That the container holds a chunk of this shape and type. Refusals: those of
+/// That the container holds a chunk of this shape and type. Errors: those of
 /// `ArrayBytes::validate`.
 pub(crate) fn check_elements(
     elements: &ArrayBytes<'_>,
@@ -33,7 +33,7 @@ pub(crate) fn check_elements(
     elements.validate(count, data_type)
 }
 
-/// The value that the chain writes of the chunk that `held` holds. Refusals: those of
+/// The value that the chain writes of the chunk that `held` holds. Errors: those of
 /// `CodecChain::encode`.
 #[cycle(encode)]
 pub(crate) fn chain_encode<'a, B: BytesToBytesCodecTraits>(
@@ -60,7 +60,7 @@ pub(crate) fn chain_encode<'a, B: BytesToBytesCodecTraits>(
     encode_bytes(alloc, &chain.bytes_to_bytes, below)
 }
 
-/// What the chain writes of a row of so many elements: nothing of none. Refusals: those of
+/// What the chain writes of a row of so many elements: nothing of none. Errors: those of
 /// `chain_encode`.
 #[cycle(encode)]
 pub(crate) fn part_encode<'a, B: BytesToBytesCodecTraits>(

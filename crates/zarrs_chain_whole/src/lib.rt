@@ -1,9 +1,8 @@
-//! Chains of codecs: codecs of chunks to chunks, one of chunks to bytes, and codecs of bytes to
-//! bytes.
+//! Chains of codecs: array-to-array codecs, one array-to-bytes codec, bytes-to-bytes codecs.
 //!
 //! [`CodecChain`] encodes and decodes whole chunks, and [`reencode`] takes a value of one chain to
-//! another. The bytes codecs are the caller's. What reads and writes a chunk in part stands on this
-//! crate and goes through the chain by its [`stages`].
+//! another. The bytes-to-bytes codecs are the caller's. What reads and writes a chunk in part
+//! stands on this crate and goes through the chain by its [`stages`].
 #![tactic(auto)]
 
 mod array_to_bytes;

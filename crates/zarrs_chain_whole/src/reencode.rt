@@ -26,7 +26,7 @@ fn owned(alloc: Global, bytes: ArrayBytesRaw<'_>) -> Result<Vec<u8>, CodecError>
 }
 
 /// The value that the chain `to` writes for the chunk that `value` stands for under the chain
-/// `from`. Refusals, the first that holds, `OutOfMemory` aside: those of `CodecChain::decode` of
+/// `from`. Errors, the first that holds, `OutOfMemory` aside: those of `CodecChain::decode` of
 /// `from`; those of `CodecChain::encode` of `to`.
 ///
 /// Into the same chain the answer is the chunk's canonical value, which `value` need not be. Bytes
@@ -40,7 +40,8 @@ pub fn reencode<B: BytesToBytesCodecTraits, C: BytesToBytesCodecTraits>(
     data_type: &DataType,
     fill_value: &FillValue,
 ) -> Result<Vec<u8>, CodecError>
-    // Wide: two chains with their bytes codecs, and the form of a chunk as three parameters.
+    // Wide: two chains with their bytes-to-bytes codecs, and the form of a chunk as three
+    // parameters.
     ensures reencodes { Reencodes
         B.functions (plain_chain from.now) C.functions (plain_chain to.now)
         (form_of shape.now data_type.now fill_value.now) value.now result }

@@ -13,14 +13,15 @@ use zarrs_chunk::{ChunkShape, CodecError};
 use zarrs_codec::{BytesRepresentation, BytesToBytesCodecTraits};
 use zarrs_data_type::{DataType, FillValue};
 
-/// What a chain's codec to bytes gets, and how many bytes it makes of it.
+/// What a chain's array-to-bytes codec gets, and how many bytes it makes of it.
 #[derive(Drop)]
 pub(crate) struct TakenForm {
     pub(crate) shape: ChunkShape,
     pub(crate) representation: BytesRepresentation,
 }
 
-/// What the chain's codec to bytes gets of such a chunk. Refusals: those of `encoded_representation`.
+/// What the chain's array-to-bytes codec gets of such a chunk. Errors: those of
+/// `encoded_representation`.
 #[cycle(representation)]
 #[tactic(auto, using(zarrs_chain_laws::proofs::ChainSteps::chain_counted))]
 pub(crate) fn taken_form<B: BytesToBytesCodecTraits>(
@@ -42,7 +43,7 @@ pub(crate) fn taken_form<B: BytesToBytesCodecTraits>(
     })
 }
 
-/// How many bytes the value of such a chunk has. Refusals: those of `encoded_representation`.
+/// How many bytes the value of such a chunk has. Errors: those of `encoded_representation`.
 #[cycle(representation)]
 #[tactic(auto, using(zarrs_chain_laws::proofs::ChainSteps::refused_representation, zarrs_chain_laws::proofs::ChainSteps::form_representation))]
 pub(crate) fn chain_representation<B: BytesToBytesCodecTraits>(

@@ -1,6 +1,6 @@
-//! The steps of which a chain is made: what its codec to bytes gets, what the bytes codecs and the codec
-//! to bytes make of a value, and what holds of the codecs. A reader of a part of a chunk takes some of
-//! them and leaves others.
+//! The steps of which a chain is made: what its array-to-bytes codec gets, what the bytes-to-bytes
+//! codecs and the array-to-bytes codec make of a value, and what holds of the codecs. A reader of a
+//! part of a chunk takes some of them and leaves others.
 ghost use Rattle.zarrs_chunk.specs.Answer.{checked_u64};
 ghost use Rattle.std.specs.Prelude.{◌≡◌, IfOk, Ok};
 ghost use Rattle.zarrs_chunk.specs.ChunkShape.{product};
@@ -18,8 +18,8 @@ use zarrs_chunk::{ChunkShape, CodecError};
 use zarrs_codec::{BytesRepresentation, BytesToBytesCodecTraits};
 use zarrs_data_type::{DataType, FillValue};
 
-/// The shape of the chunk that the chain's codec to bytes gets, and how many bytes it makes of it.
-/// Refusals: those of `encoded_representation`.
+/// The shape of the chunk that the chain's array-to-bytes codec gets, and how many bytes it makes
+/// of it. Errors: those of `encoded_representation`.
 pub fn taken_form<B: BytesToBytesCodecTraits>(
     alloc: Global,
     chain: &CodecChain<B>,

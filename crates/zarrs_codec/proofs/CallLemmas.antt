@@ -1,6 +1,6 @@
 -- Records of calls, of some calls after others.
-use Rattle.std.proofs.Common.{◌≡◌, ◌∙◌, ℕ, zero, suc, ◌+◌, true, Option, Some, None, List, refl, ap, arith}
-use Rattle.zarrs_codec.specs.Calls.{Calls, after_reads, after_replacing, count_more}
+use Rattle.std.proofs.Common.{◌≡◌, ◌∙◌, ℕ, zero, suc, ◌+◌, true, Option, Some, None, refl, ap, arith}
+use Rattle.zarrs_codec.specs.Calls.{Calls, after_reads, count_more}
 use Rattle.zarrs_codec.specs.StorageState.{count_if}
 
 count_more-more : (n m count : ℕ) → count_more n (count_more m count) ≡ count_more (m + n) count
@@ -18,14 +18,3 @@ after_reads-none (Some calls) = refl
 pub after_reads-more : (m n : ℕ) (calls : Option Calls) → after_reads n (after_reads m calls) ≡ after_reads (m + n) calls
 after_reads-more m n None = refl
 after_reads-more m n (Some calls) = ap (λ (reads : ℕ). Some (record calls { reads = reads })) (count_more-more n m calls.reads)
-
--- one more
-pub after_reads-one : (n : ℕ) (calls : Option Calls) → after_reads 1 (after_reads n calls) ≡ after_reads (suc n) calls
-after_reads-one n calls =
-    let same : n + 1 ≡ suc n = omega arith in
-    after_reads-more n 1 calls ∙ ap (λ (k : ℕ). after_reads k calls) same
-
--- a reading call and a writing one may change places
-pub reads_replacing : (n : ℕ) (numbers : List ℕ) (calls : Option Calls) → after_reads n (after_replacing numbers calls) ≡ after_replacing numbers (after_reads n calls)
-reads_replacing n numbers None = refl
-reads_replacing n numbers (Some calls) = refl

@@ -1,11 +1,9 @@
 -- The one call of a handle that fails, for tests.
-use Rattle.std.specs.Prelude.{◌≡◌, ℕ, ◌+◌, ◌-◌, ◌%◌, ◌^◌, ◌==◌, Bool, false, Option, Some, None, if◌then◌else◌, Result, Ok, Err}
+use Rattle.std.specs.Prelude.{◌≡◌, ℕ, ◌+◌, ◌-◌, ◌%◌, ◌^◌, ◌==◌, Bool, false, ◌&&◌, Option, Some, None, if◌then◌else◌, Result, Ok, Err}
 use Rattle.zarrs_chunk.specs.Answer.{Excused, memory}
 use Rattle.zarrs_chunk.specs.declared.codec_error.CodecError.{CodecError}
 use Rattle.zarrs_chunk.specs.declared.codec_error.StorageError.{StorageError}
-use Rattle.zarrs_codec.specs.StorageState.{StorageState, last_failure}
-use Rattle.zarrs_codec.specs.MemoryHandle.{handle_value}
-use Rattle.zarrs_codec.specs.declared.memory_handle.MemoryHandle.{MemoryHandle}
+use Rattle.zarrs_codec.specs.StorageState.{last_failure}
 use Rattle.zarrs_codec.specs.declared.testing.failing_call.FailingCall.{FailingCall}
 
 -- Which of the calls to come fails, the next one being 1, and with which code. For 0 none fails.
@@ -31,26 +29,14 @@ abbrev pub wants_memory : {T : Type 0} → Result T CodecError → Bool
 wants_memory (Ok _) = false
 wants_memory (Err e) = memory e
 
--- the same of a call that takes memory before it fails: `OutOfMemory` may come in place of the failure
-pub record TearsInTurn {T : Type 0} (result : Result T CodecError) (before after : Turn) : Type 0 where
-  pub failure : Excused (wants_memory result) (last_failure result None ≡ failure_due before)
+-- the same of a writing call. One of a handle that tears takes memory before it fails: `OutOfMemory` may come in place of the failure.
+pub record TearsInTurn {T : Type 0} (tears : Bool) (result : Result T CodecError) (before after : Turn) : Type 0 where
+  pub failure : Excused (tears && wants_memory result) (last_failure result None ≡ failure_due before)
   pub counted : after ≡ turn_after before
 
 -- which call fails
 abbrev pub turn_of : FailingCall → Turn
 turn_of calls = record { left = calls.left; code = calls.code }
-
--- the state of a handle over memory of which one call fails: no byte is sure
-abbrev pub watched_state : MemoryHandle → FailingCall → StorageState
-watched_state memory calls =
-    record {
-      value = handle_value memory;
-      sure = None;
-      faults = calls.faults;
-      failure = calls.failure;
-      writes = calls.write_calls;
-      accepted_writes = calls.accepted_writes;
-    }
 
 -- ---- the calls that are counted
 

@@ -12,7 +12,6 @@ pub mod CodecMembers
 pub mod CodersOverHandles
 pub mod CountLaws
 pub mod FailingCall
-pub mod FailingHandle
 pub mod FencedHandle
 pub mod Grammar
 pub mod Lent
@@ -25,7 +24,7 @@ pub mod SampleMetadata
 pub mod MemoryHandle
 pub mod Refused
 pub mod StorageState
-pub mod TornHandle
+pub mod WatchedHandle
 pub use Rattle.zarrs_chunk.specs.Answer
 pub mod DecodeInto
 pub mod CoordinateMap

@@ -7,7 +7,7 @@ ghost use Rattle.zarrs_codec.specs.BytePieces.{pieces_fit, end_of, furthest_end,
 use zarrs_chunk::CodecError;
 
 /// Whether pieces can be written with so many bytes.
-pub(crate) fn check_pieces(pieces: &[(u64, u64)], len: usize) -> Result<(), CodecError>
+pub fn check_pieces(pieces: &[(u64, u64)], len: usize) -> Result<(), CodecError>
     ensures exact { result ≡ pieces_fit pieces.now len }
 {
     let mut sum: u64 = 0;
@@ -40,7 +40,7 @@ fn further(end: usize, start: u64, count: u64) -> usize
 }
 
 /// The furthest end of the pieces that aren't empty.
-pub(crate) fn furthest_end_of(pieces: &[(u64, u64)], len: usize) -> usize
+pub fn furthest_end_of(pieces: &[(u64, u64)], len: usize) -> usize
     requires fit { pieces_fit pieces.now len ≡ Ok tt }
     ensures value { result ≡ furthest_end pieces.now }
 {
@@ -80,7 +80,7 @@ fn write_piece(value: &mut [u8], start: usize, piece: &[u8])
 }
 
 /// Writes the pieces, one after another.
-pub(crate) fn write_pieces(value: &mut [u8], pieces: &[(u64, u64)], bytes: &[u8])
+pub fn write_pieces(value: &mut [u8], pieces: &[(u64, u64)], bytes: &[u8])
     requires fit { pieces_fit pieces.now (length bytes.now) ≡ Ok tt }
     requires inside { furthest_end pieces.now ≤ length value.old }
     ensures written { value.new ≡ update value.old (joined_runs pieces.now) bytes.now }

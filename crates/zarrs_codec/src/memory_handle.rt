@@ -24,7 +24,7 @@ pub struct MemoryHandle {
 impl MemoryHandle {
     ghost use Rattle.zarrs_codec.specs.MemoryHandle.{accepted_count, handle_value, write_count};
     ghost use Rattle.zarrs_codec.specs.StorageState.{count_if};
-    ghost use Rattle.zarrs_codec.specs.TornHandle.{first_half};
+    ghost use Rattle.zarrs_codec.specs.WatchedHandle.{first_half};
 
     /// A handle without a value.
     pub fn new() -> MemoryHandle

@@ -42,7 +42,7 @@ fn name_of(codec: SampleBytesCodec) -> &'static str
 }
 
 /// The bytes in reverse. Owned bytes are turned round in place.
-fn reversed(alloc: Global, bytes: ArrayBytesRaw<'_>) -> Result<Vec<u8>, CodecError>
+fn reverse_bytes(alloc: Global, bytes: ArrayBytesRaw<'_>) -> Result<Vec<u8>, CodecError>
     ensures answer { GivesItems result (Ok (reverse (items_of bytes.entry))) }
 {
     let mut reversed = match bytes {
@@ -144,7 +144,7 @@ impl BytesToBytesCodecTraits for SampleBytesCodec {
         bytes: ArrayBytesRaw<'a>,
     ) -> Result<ArrayBytesRaw<'a>, CodecError> {
         match self {
-            SampleBytesCodec::Reverse => Ok(CowSlice::Owned(reversed(alloc, bytes)?)),
+            SampleBytesCodec::Reverse => Ok(CowSlice::Owned(reverse_bytes(alloc, bytes)?)),
             SampleBytesCodec::Length => {
                 Ok(CowSlice::Owned(with_length(alloc, bytes.as_slice())?))
             }
@@ -158,7 +158,7 @@ impl BytesToBytesCodecTraits for SampleBytesCodec {
         _decoded_representation: &BytesRepresentation,
     ) -> Result<ArrayBytesRaw<'a>, CodecError> {
         match self {
-            SampleBytesCodec::Reverse => Ok(CowSlice::Owned(reversed(alloc, encoded)?)),
+            SampleBytesCodec::Reverse => Ok(CowSlice::Owned(reverse_bytes(alloc, encoded)?)),
             SampleBytesCodec::Length => behind_length(encoded),
         }
     }

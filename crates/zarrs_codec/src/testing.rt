@@ -4,12 +4,10 @@
 //! [`MemoryHandle`](crate::MemoryHandle) does.
 
 mod failing_call;
-mod failing_handle;
 mod fenced_handle;
 mod recording_handle;
-mod torn_handle;
+mod watched_handle;
 
-pub use failing_handle::FailingHandle;
 pub use fenced_handle::FencedHandle;
 pub use recording_handle::RecordingHandle;
-pub use torn_handle::TornHandle;
+pub use watched_handle::{FailingHandle, TornHandle, WatchedHandle};

@@ -31,7 +31,7 @@ reads codec = codec.partial_read
 abbrev decodes : PartialDecoderCapability → Bool
 decodes codec = codec.partial_decode
 
--- array codecs do all in part
+-- array-to-array codecs do all in part
 arrays_pass : (arrays : List ArrayMapping) (rest : List PartialDecoderCapability) → cache_place (map array_reads arrays ++ rest) ≡ cache_place rest
 arrays_pass [] rest = refl
 arrays_pass (codec ∷ arrays) rest = arrays_pass arrays rest
@@ -66,7 +66,7 @@ stage_again count (stage.Bytes below) h =
     ∙ ap (λ n. stage.Bytes n) (let e : count - (count - below) ≡ below = omega (arith, h) in e)
 stage_again count stage.Chunk h = otherwise (nat_le (suc count) count) (stage.Bytes (count - suc count)) stage.Chunk (gt_test count)
 
--- ---- bytes codecs
+-- ---- bytes-to-bytes codecs
 
 abbrev IsBelow : ℕ → Option ℕ → Type 0
 IsBelow n None = Unit {0}
@@ -107,7 +107,7 @@ bytes_place [] = refl
 bytes_place (codec ∷ codecs) =
     step codec.partial_decode codec.partial_read (length codecs) (last_without decodes codecs) (last_without reads codecs) (bytes_left codecs) (place_below decodes codecs) (place_below reads codecs) (bytes_place codecs)
 
--- ---- the codec to bytes
+-- ---- the array-to-bytes codec
 
 placed : (d r : Bool) (n : ℕ) (undecoded unread left : Option ℕ) → IsBelow n undecoded → IsBelow n unread → place_of n (bytes_stage left) ≡ greater (option_map suc undecoded) unread
     → place_of n (if not d then stage.Chunk else (if not r then stage.Bytes 0 else bytes_stage left)) ≡ greater (option_map suc (if d then undecoded else some n)) (if r then unread else some n)

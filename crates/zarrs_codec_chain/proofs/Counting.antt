@@ -21,7 +21,7 @@ pub anyway : {T E : Type 0} (r : Result T E) (P : Type 0) → P → OnOk r P
 anyway (Ok x) P h = h
 anyway (Err e) P h = tt
 
--- and what holds anyway of a refusal
+-- and what holds anyway of an error
 pub refused_anyway : {T E : Type 0} (r : Result T E) (P : Type 0) → P → OnErr r P
 refused_anyway (Ok x) P h = tt
 refused_anyway (Err e) P h = h

@@ -185,7 +185,7 @@ module _ {B : Type 0} (f : BytesCodecs B) (form : ChunkForm B) (encoded : List �
   written_value None chunk is = absurd is
   written_value (Some value) chunk is = (value, is)
 
-  -- an edit that is refused can't be made, or no value is written for what it makes
+  -- an edit that is rejected can't be made, or no value is written for what it makes
   refused_step : (stored : Option (List ℕ)) (state : Option Chunk) (edit : Edit) (e : CodecError) → StateHasBytes state → IsStoredFor f form stored state → edited_store f form stored edit ≡ Err e → AcceptsEdits f form (edit ∷ []) state → ⊥
   refused_step stored state Erase e here is refused accepts = absurd (not_refused None e refused)
   refused_step stored state (Encode indexer new) e here is refused accepts =

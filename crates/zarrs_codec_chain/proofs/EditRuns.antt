@@ -16,7 +16,7 @@ left_more n old mid new left one =
     ∙ ap (λ (s : StorageState). record (after_writing ready s) { value = new.value }) left
     ∙ ap (λ (k : ℕ). after_edits k new.value old) (sym (add-one n))
 
--- a refused edit behind so many accepted ones
+-- a rejected edit behind so many accepted ones
 pub refused_left : (n : ℕ) (old mid new : StorageState) (e : CodecError) → mid ≡ after_edits n mid.value old → IsRefusedWrite (refused e) mid new → IsRefusedWrite (refused e) (after_edits n mid.value old) new
 refused_left n old mid new e left h = subst (λ (s : StorageState). IsRefusedWrite (refused e) s new) left h
 

@@ -35,7 +35,7 @@ module _ {B : Type 0} (f : BytesCodecs B) (form : ChunkForm B) (encoded : List �
       ∙ ap (λ (codec : PlainCodec B). outer_stored f [] r stored >>= λ bytes. codec_read f codec encoded form.type form.fill bytes places) are.1
       ∙ stored_alone stored places
 
-  -- the elements that a selection means are those at its places
+  -- the elements that a selection selects are those at its places
   pub listed_is : (source : Source) (stored : Option (List ℕ)) (selection : Selection) (places : List ℕ) → source ≡ bytes_above (length form.chain.bytes_to_bytes) stored → encoded_places form.type form.chain.array_to_array form.sizes selection ≡ Ok places
       → source_read f form encoded r source selection ≡ read_places order form.type form.fill stored places
   listed_is source stored selection places is at =

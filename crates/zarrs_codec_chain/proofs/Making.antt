@@ -1,4 +1,4 @@
--- What is refused first where a coder is made.
+-- What is rejected first where a coder is made.
 use Rattle.std.proofs.Common.{◌≡◌, ℕ, false, List, Result, Ok, Err}
 use Rattle.std.specs.Prelude.{IfErr}
 use Rattle.zarrs_chunk.specs.Answer.{◌>>=◌, memory, seen}
@@ -17,7 +17,7 @@ use Rattle.zarrs_bytes.proofs.Coding.{ok}
 same_cause : {A : Type 0} (x e : CodecError) → ◌≡◌ {A = Result A CodecError} (Err x) (Err e) → ◌≡◌ {A = Result (Unit {0}) CodecError} (Err x) (Err e)
 same_cause x e h = cc
 
--- a call that answers the check's refusal
+-- a call that answers the check's error
 pub refused_first : {A : Type 0} (check : Result A CodecError) (e : CodecError) → (memory e ≡ false → check ≡ Err e) → IfErr check (λ cause. memory e ≡ false → ◌≡◌ {A = Result (Unit {0}) CodecError} (Err cause) (Err e))
 refused_first (Ok x) e h = tt
 refused_first (Err x) e h = λ m. same_cause x e (h m)
@@ -43,7 +43,7 @@ mapped : (a : Result CoordinateMap CodecError) (measure : List ℕ → Result By
 mapped (Ok m) measure behind P h = measured (measure m.encoded) m.encoded behind P h
 mapped (Err e) measure behind P h = h
 
--- a chain refuses a representation where it doesn't take the chunks
+-- a chain rejects a representation where it doesn't take the chunks
 pub representation_first : {B : Type 0} (f : BytesCodecs B) (chain : PlainChain B) (sizes : List ℕ) (type : ElementType) (fill : List ℕ) (P : CodecError → Type 0) → IfErr (taken_form f chain sizes type fill) P → IfErr (chain_representation f chain sizes type fill) P
 representation_first f chain sizes type fill P h =
     mapped (arrays_map type chain.array_to_array sizes) (λ encoded. codec_representation f chain.array_to_bytes encoded type fill) (outer_representation f chain.bytes_to_bytes) P h

@@ -67,7 +67,7 @@ filled_by type fill places held (Err x) e h = absurd h
 pub filled_places : (type : ElementType) (fill places : List ℕ) (held : Held) (count : ℕ) → count ≡ length places → IsOkAnd (fill_chunk type count fill) (Holds type held) → Holds type held (map (λ _. fill_element type fill) places)
 filled_places type fill places held count e h = filled_by type fill places held (fill_chunk type (length places) fill) refl (subst (λ n. IsOkAnd (fill_chunk type n fill) (Holds type held)) e h)
 
--- ---- what a codec to bytes takes
+-- ---- what an array-to-bytes codec takes
 
 seen_is_ok : {A C : Type 0} (g : A → C) (r : Result A CodecError) → is_ok (seen g r) ≡ true → is_ok r ≡ true
 seen_is_ok g (Ok x) e = refl
@@ -103,7 +103,7 @@ packed_fits settings sizes text fill l e = absurd cc
 packed_fits settings sizes bytes fill l e = absurd cc
 packed_fits settings sizes (optional type) fill l e = absurd cc
 
--- the fill value of a chunk that a codec to bytes takes fits the type
+-- the fill value of a chunk that an array-to-bytes codec takes fits the type
 codec_fits : {B : Type 0} (f : BytesCodecs B) (codec : PlainCodec B) (sizes : List ℕ) (type : ElementType) (fill : List ℕ) (r : BytesRepresentation) → codec_representation f codec sizes type fill ≡ Ok r → fill_fits type fill ≡ true
 unfolding codec_representation
 codec_fits f (bytes_codec order) sizes type fill r e = taken_fill order sizes type fill (seen_is_ok FixedSize (bytes_length order (form_of sizes type fill)) (is_ok_of _ r e))
@@ -172,7 +172,7 @@ packed_planned B view (Err e) codec settings sizes type fill runs is filled apar
     let never : ⊥ = cc (sym l.1 ∙ h ne) in
     absurd never
 
--- ---- runs through array codecs
+-- ---- runs through array-to-array codecs
 
 pub runs_answer : {A : Type 0} (view : A → List ℕ) (r : Result A CodecError) (type : ElementType) (arrays given : List ArrayMapping) (sizes : List ℕ) (selection : Selection) (m : CoordinateMap) → given ≡ arrays → arrays_map type arrays sizes ≡ Ok m
     → Answers memory view r (chained_places given selection sizes) → Answers memory view r (encoded_places type arrays sizes selection)
@@ -195,7 +195,7 @@ counted_after f codec encoded type fill o chunk e =
     let a = bind_ok o (codec_chunk f codec encoded type fill) chunk e in
     chunk_count f codec encoded type fill a.0 chunk a.2
 
--- the container of the chunk that the codec to bytes reads
+-- the container of the chunk that the array-to-bytes codec reads
 pub held_after : {B : Type 0} (f : BytesCodecs B) (codec : PlainCodec B) (encoded : List ℕ) (type : ElementType) (fill : List ℕ) (held : Held) (o : Result (List ℕ) CodecError) → IsOkAnd (o >>= codec_chunk f codec encoded type fill) (Holds type held)
     → ((o >>= codec_chunk f codec encoded type fill) ≡ ok (elements type (product encoded) held)) × (validity type (product encoded) held ≡ Ok tt)
 held_after f codec encoded type fill held o h = held_of type (product encoded) held (o >>= codec_chunk f codec encoded type fill) (counted_after f codec encoded type fill o) h

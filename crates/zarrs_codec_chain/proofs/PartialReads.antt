@@ -76,7 +76,7 @@ is_ok_of r x e = rw e refl
 pub places_through : (type : ElementType) (arrays : List ArrayMapping) (sizes : List ℕ) (selection : Selection) (m : CoordinateMap) → arrays_map type arrays sizes ≡ Ok m → chained_places arrays selection sizes ≡ encoded_places type arrays sizes selection
 places_through type arrays sizes selection m e = rw (e, chained_of type arrays sizes m e) refl
 
--- ---- codecs to bytes
+-- ---- array-to-bytes codecs
 
 layout_of : (settings : PackBitsSettings) (sizes : List ℕ) (type : ElementType) (fill : List ℕ) (r : BytesRepresentation) → seen FixedSize (packbits_length settings (form_of sizes type fill)) ≡ Ok r → is_ok (packed_layout settings (form_of sizes type fill)) ≡ true
 layout_of settings sizes type fill r e =
@@ -93,7 +93,7 @@ form_fills : (form : Option PlainForm) (decode : Decoder) (sizes : List ℕ) (ty
 form_fills None decode sizes type fill places = refl
 form_fills (Some form) decode sizes type fill places = refl
 
--- where nothing is stored a codec to bytes reads fill elements
+-- where nothing is stored an array-to-bytes codec reads fill elements
 pub codec_fills : {B : Type 0} (f : BytesCodecs B) (codec : PlainCodec B) (sizes : List ℕ) (type : ElementType) (fill : List ℕ) (r : BytesRepresentation) (places : List ℕ) → codec_representation f codec sizes type fill ≡ Ok r → codec_read f codec sizes type fill None places ≡ Ok (map (λ _. fill_element type fill) places)
 unfolding codec_representation
 codec_fills f (bytes_codec order) sizes type fill r places e = refl
@@ -114,7 +114,7 @@ form_selects {B} f codec (Some form) sizes type fill value chunk places p e h =
     let plain = plain_is_plain B codec form p in
     decoded_selects f form plain.0 sizes type fill value chunk places (subst (λ (c : PlainCodec B). codec_chunk f c sizes type fill value ≡ Ok chunk) plain.1 e) h
 
--- of a value that it reads as a chunk, a codec to bytes reads the chunk's elements
+-- of a value that it reads as a chunk, an array-to-bytes codec reads the chunk's elements
 pub codec_selects : {B : Type 0} (f : BytesCodecs B) (codec : PlainCodec B) (sizes : List ℕ) (type : ElementType) (fill value : List ℕ) (chunk : Chunk) (places : List ℕ)
     → codec_chunk f codec sizes type fill value ≡ Ok chunk → All (λ place. place < product sizes) places → codec_read f codec sizes type fill (Some value) places ≡ Ok (select chunk places)
 unfolding codec_chunk
@@ -129,7 +129,7 @@ codec_selects f (vlen_codec ia ix ib da dx db wide at_end) sizes type fill value
     form_selects f codec (plain_form_of codec) sizes type fill value chunk places refl e h
 codec_selects f (optional_codec ma mx mb da dx db) sizes type fill value chunk places e h = whole_selects (codec_chunk f (optional_codec ma mx mb da dx db) sizes type fill value) chunk places e
 
--- ---- bytes codecs in two parts
+-- ---- bytes-to-bytes codecs in two parts
 
 bind_again : {A C D : Type 0} (r : Result A CodecError) (g : A → Result C CodecError) (h : C → Result D CodecError) → ((r >>= g) >>= h) ≡ (r >>= λ x. g x >>= h)
 bind_again (Ok x) g h = refl
@@ -177,7 +177,7 @@ module _ {B : Type 0} (f : BytesCodecs B) (chain : PlainChain B) (encoded : List
       ∙ sym (codec_selects f chain.array_to_bytes encoded type fill b.0 a.0 places b.2 h)
       ∙ ap (λ o. read_below o places) (sym b.1)
 
--- places that go through a chain lie inside the encoded chunk
+-- places that go through a chain lie inside the moved chunk
 moved_below : (places : List ℕ) (m : CoordinateMap) (sizes encoded : List ℕ) → IsCoordinateMap sizes m → product encoded ≡ product sizes → All (λ place. place < product sizes) places → All (λ place. place < product encoded) (map m.to places)
 moved_below places m sizes encoded h count inside = λ k d l.
     let n : k < length places = omega (arith, length-map places m.to) in

@@ -1,4 +1,4 @@
--- What a write in place leaves through array codecs and `bytes`, and edits of chunks through any chain.
+-- What a write in place leaves through array-to-array codecs and `bytes`, and edits of chunks through any chain.
 use Rattle.zarrs_data_type.specs.Form.{form_of}
 use Rattle.std.proofs.Common.{◌≡◌, ℕ, ◌*◌, ◌<◌, ◌^◌, ◌||◌, nat_lt, Bool, true, false, Option, Some, None, List, [], ◌∷◌, length, map, replicate, get_or, Result, Ok, Err, arith, refl, ap, ap₂, sym, ◌∙◌, subst}
 use Rattle.std.specs.List.{All}
@@ -48,7 +48,7 @@ use Rattle.zarrs_chain_laws.proofs.NestedWritten.{chain_once}
 use Rattle.zarrs_codec_chain.proofs.PartialCalls.{bytes_is_ok}
 use Rattle.zarrs_codec_chain.proofs.PartialReads.{IsReadable, is_ok_of}
 
--- ---- `bytes` alone behind array codecs
+-- ---- `bytes` alone behind array-to-array codecs
 
 pub bytes_alone : {B : Type 0} (outer : List B) (codec : PlainCodec B) (order : Option Endianness) → order_in_place outer codec ≡ Some order → (outer ≡ []) × (codec ≡ bytes_codec order)
 bytes_alone [] (bytes_codec order) other e = (refl, ap bytes_codec (same order other e))
@@ -158,7 +158,7 @@ unfit_written type arrays sizes selection new there e h unfit = (unfit_refused t
 pub unfit_checked : (type : ElementType) (arrays : List ArrayMapping) (sizes : List ℕ) (selection : Selection) (new : Held) (there : List ℕ) (e : CodecError) → encoded_places type arrays sizes selection ≡ Ok there → data_fit type (length there) new ≡ Err e → data_checked sizes type selection new ≡ Err e
 unfit_checked type arrays sizes selection new there e h unfit = (unfit_refused type arrays sizes selection new there e h unfit).1
 
--- a selection or new elements that are refused
+-- a selection or new elements that are rejected
 pub left_unchecked : {B : Type 0} (f : BytesCodecs B) (form : ChunkForm B) (order : Option (Option Endianness)) (stored : Option (List ℕ)) (selection : Selection) (new : Held) (e : CodecError) → data_checked form.sizes form.type selection new ≡ Err e → seen (λ value. Some value) (selection_left f form order stored selection new) ≡ Err e
 left_unchecked f form order stored selection new e h = go (data_places form.sizes form.type selection new) h
   where
@@ -180,7 +180,7 @@ memory_too e h = first_false (memory e) (fault e) h
     first_false true b h = absurd cc
     first_false false b h = refl
 
--- ---- a chain of array codecs and `bytes`
+-- ---- a chain of array-to-array codecs and `bytes`
 
 module _ {B : Type 0} (f : BytesCodecs B) (form : ChunkForm B) (encoded : List ℕ) (r : BytesRepresentation) (h : IsReadable f form.chain form.sizes form.type form.fill encoded r) (order : Option Endianness) (alone : order_in_place form.chain.bytes_to_bytes form.chain.array_to_bytes ≡ Some order) where
   at_bytes : is_ok (bytes_length order (form_of h.map_is.encoded form.type form.fill)) ≡ true

@@ -136,10 +136,3 @@ pub others_are : {B : Type 0} (form : ChunkForm B) (selection : Selection) → p
 others_are form selection p =
     ap (λ (r : Option Region). seen (places_in_order form.chain.array_to_array form.sizes r) (encoded_places form.type form.chain.array_to_array form.sizes selection)) p
     ∙ own_order form.chain.array_to_array form.sizes (encoded_places form.type form.chain.array_to_array form.sizes selection)
-
--- the window that codecs take a region to, where they are these
-pub last_is : (arrays given : List ArrayMapping) (window here : Window) → given ≡ arrays → ◌≡◌ {A = Result Window CodecError} (Ok (last_window given window)) (Ok here) → here ≡ last_window arrays window
-last_is arrays given window here e last = sym (same_window (last_window given window) here last) ∙ ap (λ cs. last_window cs window) e
-  where
-    same_window : (x y : Window) → ◌≡◌ {A = Result Window CodecError} (Ok x) (Ok y) → x ≡ y
-    same_window x y e = cc

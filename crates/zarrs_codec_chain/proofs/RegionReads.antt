@@ -1,4 +1,4 @@
--- Reads of regions that go through array codecs as regions.
+-- Reads of regions that go through array-to-array codecs as regions.
 use Rattle.std.proofs.Common.{◌≡◌, ◌^◌, ◌<◌, ◌+◌, ◌-◌, ◌*◌, ◌&&◌, ℕ, true, Bool, Option, Some, None, List, [], ◌∷◌, ◌++◌, length, get_or, map, Result, Ok, Err, IfOk, refl, ap, sym, ◌∙◌, subst}
 use Rattle.std.specs.Prelude.{slice_index, IfErr, IsOkAnd}
 use Rattle.std.specs.List.{All, flat_map, list_all, range_with_len}
@@ -164,7 +164,7 @@ module _ {B : Type 0} (f : BytesCodecs B) (form : ChunkForm B) (encoded : List �
     wanted_is : wanted ≡ read_last (map h.map_is.to (window_places (window_of form.sizes region)))
     wanted_is = rw region_goes refl
 
-    -- the read of the last window is refused
+    -- the read of the last window is rejected
     pub region_refused : (places : List ℕ) (e : CodecError) → ok (window_places last) ≡ ok places → AnswersBy {T = Held} memory_or_fault (Holds form.type) (Err e) (read_last places) → AnswersBy {T = Held} memory_or_fault (Holds form.type) (Err e) wanted
     region_refused places e at answer = λ unexcused.
         wanted_is
@@ -196,13 +196,10 @@ module _ {B : Type 0} (f : BytesCodecs B) (form : ChunkForm B) (encoded : List �
 -- ---- calls
 
 -- the runs of the last window cover its places
-pub runs_at : (arrays given : List ArrayMapping) (window here : Window) (runs lent : List (ℕ × ℕ)) → given ≡ arrays → ◌≡◌ {A = Result Window CodecError} (Ok (last_window given window)) (Ok here) → ok (window_places here) ≡ ok (joined_runs runs) → lent ≡ runs
+pub runs_at : (arrays given : List ArrayMapping) (window : Window) (runs lent : List (ℕ × ℕ)) → given ≡ arrays → ok (window_places (last_window given window)) ≡ ok (joined_runs runs) → lent ≡ runs
     → ok (window_places (last_window arrays window)) ≡ ok (joined_runs lent)
-runs_at arrays given window here runs lent e last at same =
-    ap (λ cs. ok (window_places (last_window cs window))) (sym e) ∙ ap (λ w. ok (window_places w)) (windows_same (last_window given window) here last) ∙ at ∙ ap (λ rs. ok (joined_runs rs)) (sym same)
-  where
-    windows_same : (x y : Window) → ◌≡◌ {A = Result Window CodecError} (Ok x) (Ok y) → x ≡ y
-    windows_same x y e = cc
+runs_at arrays given window runs lent e at same =
+    ap (λ cs. ok (window_places (last_window cs window))) (sym e) ∙ at ∙ ap (λ rs. ok (joined_runs rs)) (sym same)
 
 -- a region inside is in bounds
 pub inside_bounds : (sizes : List ℕ) (region : Region) → is_box_inside sizes region.starts region.lengths ≡ true → (Q : CodecError → Type 0) → IfErr (bounds_of (subset region) sizes) Q
@@ -212,6 +209,3 @@ inside_bounds sizes region inside Q = rw (bounds_from sizes region inside) tt
 pub kept_bounds : (codecs : List ArrayMapping) (sizes : List ℕ) (selection : Selection) (region : Region) → IsKept codecs sizes selection region → (Q : CodecError → Type 0) → IfErr (bounds_of selection sizes) Q
 kept_bounds codecs sizes selection region k Q =
     subst (λ s. IfErr (bounds_of s sizes) Q) (sym k.selection_is) (inside_bounds sizes region k.inside Q)
-
-pub window_ok : (here there : Window) → here ≡ there → ◌≡◌ {A = Result Window CodecError} (Ok there) (Ok here)
-window_ok here there e = ap (λ w. let r : Result Window CodecError = Ok w in r) (sym e)

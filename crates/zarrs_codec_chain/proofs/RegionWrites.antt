@@ -1,4 +1,4 @@
--- Writes of regions that go through array codecs as regions.
+-- Writes of regions that go through array-to-array codecs as regions.
 use Rattle.std.proofs.Common.{◌≡◌, ◌^◌, ◌*◌, ◌<◌, ◌≤◌, ℕ, true, Option, Some, List, length, map, Result, Ok, Err, arith, refl, ap, sym, ◌∙◌, subst}
 use Rattle.std.specs.Prelude.{is_ok, IsOk}
 use Rattle.std.specs.List.{All}

@@ -72,7 +72,7 @@ bound_err : (V : Type 0) (b : Result (Unit {0}) CodecError) (rest : Unit {0} →
 bound_err V (Ok u) rest next error h = tt
 bound_err V (Err cause) rest next error h = λ m. ap (λ (x : CodecError). let r : Result V CodecError = Err x in r) (error_is {A = List ℕ} [] cause error (h m))
 
--- the bounds' refusal is the first
+-- the bounds' error is the first
 pub out_of_bounds : (V : Type 0) (type : ElementType) (arrays : List ArrayMapping) (sizes : List ℕ) (selection : Selection) (error : CodecError) → (memory error ≡ false → encoded_places type arrays sizes selection ≡ Err error)
     → IfErr (bounds_of selection sizes) (λ cause. memory error ≡ false → ◌≡◌ {A = Result V CodecError} (Err cause) (Err error))
 out_of_bounds V type arrays sizes selection error h = bound_err V (bounds_of selection sizes) _ _ error h

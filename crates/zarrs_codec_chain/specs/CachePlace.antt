@@ -9,7 +9,7 @@ use Rattle.zarrs_chain_laws.specs.PlainChain.{PlainChain}
 use Rattle.zarrs_chain_whole.specs.ChainView.{plain_chain}
 use Rattle.zarrs_chain_whole.specs.declared.codec_chain.CodecChain.{CodecChain}
 
--- what an array codec reads in part: all
+-- what an array-to-array codec reads in part: all
 abbrev pub array_reads : ArrayMapping → PartialDecoderCapability
 array_reads codec = record { partial_read = true; partial_decode = true }
 

@@ -19,7 +19,7 @@ abbrev pub ReplacesPlaces : {H E T : Type 0} → (H → Option Calls) → (H →
 ReplacesPlaces calls state type places before after result =
     MakesWrite calls 1 (replaced_in_place type (state before).value (state after).value places) before after result
 
--- the same of the places that a selection means, in the order in which they stand or, where they don't stand as a region, in their own
+-- the same of the places that a selection selects, in the order in which they stand or, where they don't stand as a region, in their own
 abbrev pub ReplacesSelected : {H E T B : Type 0} → (H → Option Calls) → (H → StorageState) → ChunkForm B → Selection → (before after : H) → Result T E → Type 0
 ReplacesSelected calls state form selection before after result =
     IfOk (ordered_places form selection) (λ places. ReplacesPlaces calls state form.type places before after result)

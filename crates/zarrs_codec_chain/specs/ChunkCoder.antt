@@ -58,11 +58,11 @@ IsFilledFrom f coder stored =
 abbrev pub reader_stores : {B : Type 0} {b : _} → ChunkCoder B b → Option (List ℕ) → Bool
 reader_stores coder stored = is_there (reader_source coder stored)
 
--- the array codecs of its chain keep regions
+-- the array-to-array codecs of its chain keep regions
 abbrev pub coder_keeps_regions : {B : Type 0} {b : _} → ChunkCoder B b → Bool
 coder_keeps_regions coder = keeps_regions (plain_chain coder.chain.now).array_to_array
 
--- each run ends within the encoded chunk
+-- each run ends within the moved chunk
 abbrev pub AreInside : {B : Type 0} {b : _} → ChunkCoder B b → List (ℕ × ℕ) → Type 0
 AreInside coder runs = EndWithin (product coder.encoded) runs
 
@@ -76,17 +76,17 @@ IsInPlace coder order = form_in_place (coder_form coder) ≡ Some order
 abbrev pub CoderHasForm : {B : Type 0} {b : _} → CodecChain B → List ℕ → ElementType → List ℕ → Result (ChunkCoder B b) CodecError → Type 0
 CoderHasForm chain sizes type fill result = IfOk result (λ coder. coder_form coder ≡ chunk_of chain sizes type fill)
 
--- a coder of such a chunk: the sizes and the representation that the chain's codec to bytes gets; or the first refusal
+-- a coder of such a chunk: the sizes and the representation that the chain's array-to-bytes codec gets; or the first error
 abbrev pub MeasuresCoder : {B : Type 0} {b : _} → CodecChain B → List ℕ → ElementType → List ℕ → Result (ChunkCoder B b) CodecError → Type 0
 MeasuresCoder {b = b} chain sizes type fill result =
     Gives (λ coder. (coder.encoded, coder.representation)) result (taken_form b.functions (plain_chain chain) sizes type fill)
 
--- a coder of such a chunk, its cache filled from what is stored; or the first refusal
+-- a coder of such a chunk, its cache filled from what is stored; or the first error
 abbrev pub MakesCoder : {B : Type 0} {b : _} → CodecChain B → List ℕ → ElementType → List ℕ → StorageState → Result (ChunkCoder B b) CodecError → Type 0
 MakesCoder {b = b} chain sizes type fill before result =
     Answers memory_or_fault (λ coder. reader_source coder before.value) result (source_made b.functions b.reads_in_part (chunk_of chain sizes type fill) before.value)
 
--- where the chain doesn't take such a chunk, this is what is answered, or a want of memory
+-- where the chain doesn't take such a chunk, this is what is answered, or a lack of memory
 abbrev pub FormFirst : {B : Type 0} {b : _} → CodecChain B → List ℕ → ElementType → List ℕ → Result (ChunkCoder B b) CodecError → Type 0
 FormFirst {b = b} chain sizes type fill result = RefusedFirst (taken_form b.functions (plain_chain chain) sizes type fill) result
 
@@ -102,9 +102,9 @@ FillsFrom f stored result = IfOk result (λ coder. IsFilledFrom f coder stored)
 abbrev pub MakesByReads : {H B : Type 0} {b : _} → (H → Option Calls) → (before after : H) → Result (ChunkCoder B b) CodecError → Type 0
 MakesByReads calls before after result = IfOk result (λ coder. calls after ≡ after_reads (filling_reads (coder_is_cached coder)) (calls before))
 
--- ---- what its calls give, of runs of places of the encoded chunk
+-- ---- what its calls give, of runs of places of the moved chunk
 
--- its codec to bytes reads in part
+-- its array-to-bytes codec reads in part
 abbrev pub reader_reads_parts : {B : Type 0} {b : _} → ChunkCoder B b → Bool
 reader_reads_parts coder = (codec_reads (plain_chain coder.chain.now).array_to_bytes).partial_decode
 
@@ -121,7 +121,7 @@ abbrev pub source_runs : {B : Type 0} {b : _} → BytesCodecs B → ChunkCoder B
 source_runs f coder source runs =
     source_places f (plain_chain coder.chain.now) coder.encoded coder.data_type coder.fill_value coder.representation source (joined_runs runs)
 
--- a container of them is given, or the first refusal
+-- a container of them is given, or the first error
 abbrev pub GivesSource : {B : Type 0} {b : _} → BytesCodecs B → ChunkCoder B b → Source → List (ℕ × ℕ) → Result Held CodecError → Type 0
 GivesSource f coder source runs result = GivesBy (Holds coder.data_type) result (source_runs f coder source runs)
 
@@ -129,7 +129,7 @@ GivesSource f coder source runs result = GivesBy (Holds coder.data_type) result 
 abbrev pub ReadsSource : {B : Type 0} {b : _} → BytesCodecs B → ChunkCoder B b → Source → List (ℕ × ℕ) → Result Held CodecError → Type 0
 ReadsSource f coder source runs result = AnswersBy memory_or_fault (Holds coder.data_type) result (source_runs f coder source runs)
 
--- by the bytes above so many of the first bytes codecs, or by none
+-- by the bytes above so many of the first bytes-to-bytes codecs, or by none
 abbrev pub GivesAbove : {B : Type 0} {b : _} → BytesCodecs B → ChunkCoder B b → ℕ → Option (CowSlice ℕ Global) → List (ℕ × ℕ) → Result Held CodecError → Type 0
 GivesAbove f coder below value runs result =
     GivesSource f coder (bytes_above below (option_map (λ bytes. items_of bytes) value)) runs result
@@ -151,7 +151,7 @@ ReadsStored f coder before runs result = ReadsSource f coder (stored_source code
 abbrev pub ReadsCached : {B : Type 0} {b : _} → BytesCodecs B → ChunkCoder B b → StorageState → List (ℕ × ℕ) → Result Held CodecError → Type 0
 ReadsCached f coder before runs result = ReadsSource f coder (reader_source coder before.value) runs result
 
--- a container of the elements at the places of these runs, of the chunk that a value stands for; or the first refusal
+-- a container of the elements at the places of these runs, of the chunk that a value stands for; or the first error
 abbrev pub GivesOpened : {B : Type 0} {b : _} → BytesCodecs B → ChunkCoder B b → List ℕ → List (ℕ × ℕ) → Result Held CodecError → Type 0
 GivesOpened f coder value runs result =
     GivesBy (Holds coder.data_type) result (seen (λ chunk. select chunk (joined_runs runs)) (opened_chunk f (plain_chain coder.chain.now) coder.encoded coder.data_type coder.fill_value coder.representation value))
@@ -178,7 +178,7 @@ AsksStoredOnce calls coder before after result =
 
 -- ---- what its calls give, of a selection
 
--- the elements that a selection means, where the handle has this value
+-- the elements that a selection selects, where the handle has this value
 abbrev pub reader_read : {B : Type 0} {b : _} → BytesCodecs B → ChunkCoder B b → Option (List ℕ) → Selection → Result Chunk CodecError
 reader_read f coder stored selection =
     source_read f (coder_form coder) coder.encoded coder.representation (reader_source coder stored) selection
@@ -187,7 +187,7 @@ reader_read f coder stored selection =
 abbrev pub is_coder_cache : {B : Type 0} {b : _} → ChunkCoder B b → Cache → Bool
 is_coder_cache coder cache = is_cache_of (plain_chain coder.chain.now) coder.encoded coder.data_type cache
 
--- a container of them is read, or the first refusal
+-- a container of them is read, or the first error
 abbrev pub ReadsSelection : {B : Type 0} {b : _} → BytesCodecs B → ChunkCoder B b → Option (List ℕ) → Selection → Result Held CodecError → Type 0
 ReadsSelection f coder stored selection result = AnswersBy memory_or_fault (Holds coder.data_type) result (reader_read f coder stored selection)
 
@@ -207,18 +207,18 @@ SureRegion f coder before region result = WhereSure f (coder_form coder) before 
 abbrev pub SureIndexer : {B T : Type 0} {b : _} → BytesCodecs B → ChunkCoder B b → StorageState → Indexer → Result T CodecError → Type 0
 SureIndexer f coder before indexer result = WhereSure f (coder_form coder) before (selection_of indexer) (is_fault result ≡ false)
 
--- where the indexer is refused, this is what is answered, or a want of memory: no failure of the handle comes in its place
+-- where the indexer is rejected, this is what is answered, or a lack of memory: no failure of the handle comes in its place
 abbrev pub RefusedAtIndexer : {B : Type 0} {b : _} → ChunkCoder B b → Indexer → Result Held CodecError → Type 0
 RefusedAtIndexer coder indexer result =
     IfErr (bounds_of (selection_of indexer) coder.shape) (λ cause. AnswersBy memory (Holds coder.data_type) result (Err cause))
 
--- what a read of the chunk gives that an indexer means
+-- what a read of the chunk gives that an indexer selects
 abbrev pub ReaderReads : {B : Type 0} {b : _} → BytesCodecs B → ChunkCoder B b → StorageState → Indexer → Result Held CodecError → Type 0
 ReaderReads f coder before indexer result = ReadsChunk f (coder_form coder) before (selection_of indexer) result
 
 -- ---- where an indexer's places go
 
--- the places that it means, as they go through the array codecs; or the first refusal
+-- the places that it means, as they go through the array-to-array codecs; or the first error
 abbrev pub reader_places : {B : Type 0} {b : _} → ChunkCoder B b → Indexer → Result (List ℕ) CodecError
 reader_places coder indexer = form_places (coder_form coder) (selection_of indexer)
 
@@ -226,11 +226,11 @@ reader_places coder indexer = form_places (coder_form coder) (selection_of index
 abbrev pub reader_ordered : {B : Type 0} {b : _} → ChunkCoder B b → Indexer → Result (List ℕ) CodecError
 reader_ordered coder indexer = ordered_places (coder_form coder) (selection_of indexer)
 
--- the indexer means this region, which goes through the array codecs of the coder's chain as a region
+-- the indexer selects this region, which goes through the array-to-array codecs of the coder's chain as a region
 abbrev pub IsKeptRegion : {B : Type 0} {b : _} → ChunkCoder B b → Indexer → Region → Type 0
 IsKeptRegion coder indexer region = IsKept (plain_chain coder.chain.now).array_to_array coder.shape (selection_of indexer) region
 
--- the region that an indexer means, where it goes through the array codecs of the coder's chain as a region
+-- the region that an indexer selects, where it goes through the array-to-array codecs of the coder's chain as a region
 abbrev pub reader_region : {B : Type 0} {b : _} → ChunkCoder B b → Indexer → Option Region
 reader_region coder indexer = kept_region (plain_chain coder.chain.now).array_to_array coder.shape (selection_of indexer)
 
@@ -238,11 +238,11 @@ reader_region coder indexer = kept_region (plain_chain coder.chain.now).array_to
 abbrev pub reader_planned : {B : Type 0} {b : _} → ChunkCoder B b → Indexer → Option Region
 reader_planned coder indexer = planned_region (coder_form coder) (selection_of indexer)
 
--- what is given are runs of the places where a region stands in the encoded chunk, in their order
+-- what is given are runs of the places where a region stands in the moved chunk, in their order
 abbrev pub GivesStanding : {B : Type 0} {b : _} → ChunkCoder B b → Region → Result (Vec (ℕ × ℕ) Global) CodecError → Type 0
 GivesStanding coder region result =
     Gives places_in result (Ok (standing_places (plain_chain coder.chain.now).array_to_array coder.shape region))
 
--- the plan of a read of what the indexer means: the ranges are the bytes of the meant places and no others, or there are none where it asks for more; or the first refusal
+-- the plan of a read of what the indexer selects: the ranges are the bytes of the selected places and no others, or there are none where it asks for more; or the first error
 abbrev pub ReaderPlans : {B : Type 0} {b : _} → ChunkCoder B b → Indexer → Result (Option (Vec ByteSpan Global)) CodecError → Type 0
 ReaderPlans {b = b} coder indexer result = PlansRead b.functions (coder_form coder) (selection_of indexer) result

@@ -47,7 +47,7 @@ pub record ChunkForm (B : Type 0) : Type 0 where
   pub type : ElementType
   pub fill : List ℕ
 
--- ---- codecs to bytes
+-- ---- array-to-bytes codecs
 
 -- what answers the elements at places of a chunk of these sizes, this type and this fill value, by the bytes that are there, or by none
 abbrev pub PlaceReader : Type 0
@@ -65,7 +65,7 @@ abbrev pub read_by_form : Option PlainForm → Decoder → PlaceReader
 read_by_form None decode sizes type fill stored places = whole_read decode sizes type fill stored places
 read_by_form (Some form) decode sizes type fill stored places = plain_read form (product sizes) type fill stored places
 
--- the elements at these places of a chunk that a codec to bytes gets: of `bytes` and `packbits` by the places' bytes alone; of a plain `vlen` by the offsets and the elements' bytes alone; of any other codec with chains inside by the whole chunk
+-- the elements at these places of a chunk that an array-to-bytes codec gets: of `bytes` and `packbits` by the places' bytes alone; of a plain `vlen` by the offsets and the elements' bytes alone; of any other codec with chains inside by the whole chunk
 abbrev pub codec_read : {B : Type 0} → BytesCodecs B → PlainCodec B → PlaceReader
 codec_read f (bytes_codec order) sizes type fill stored places = read_places order type fill stored places
 codec_read f (packbits_codec settings) sizes type fill stored places = read_places_of settings (form_of sizes type fill) stored places
@@ -77,19 +77,19 @@ codec_read f (optional_codec ma mx mb da dx db) sizes type fill stored places =
 
 -- ---- chains
 
--- where the places that a selection means go through array codecs, in order, or the first refusal
+-- where the places that a selection selects go through array-to-array codecs, in order, or the first error
 abbrev pub encoded_places : ElementType → List ArrayMapping → List ℕ → Selection → Result (List ℕ) CodecError
 encoded_places type arrays sizes selection = do
   places ← places_of selection sizes
   m ← arrays_map type arrays sizes
   Ok (map m.to places)
 
--- the bytes that stand below bytes codecs, where something is stored; or the refusal of the last of them, or of one below
+-- the bytes that stand below bytes-to-bytes codecs, where something is stored; or the error of the last of them, or of one below
 abbrev pub outer_stored : {B : Type 0} → BytesCodecs B → List B → BytesRepresentation → Option (List ℕ) → Result (Option (List ℕ)) CodecError
 outer_stored f codecs r None = Ok None
 outer_stored f codecs r (Some value) = seen (λ bytes. Some bytes) (outer_bytes f codecs r value)
 
--- The elements that a selection means, in its order, of what is stored, or the first refusal: the selection's; of the bytes codecs, the last of them first; of the codec to bytes. Where nothing is stored, the fill element at each place.
+-- The elements that a selection selects, in its order, of what is stored, or the first error: the selection's; of the bytes-to-bytes codecs, the last of them first; of the array-to-bytes codec. Where nothing is stored, the fill element at each place.
 abbrev pub stored_read : {B : Type 0} → BytesCodecs B → ChunkForm B → Option (List ℕ) → Selection → Result Chunk CodecError
 stored_read f form stored selection = do
   places ← encoded_places form.type form.chain.array_to_array form.sizes selection
@@ -106,7 +106,7 @@ codec_plans (packbits_codec settings) = true
 codec_plans (vlen_codec ia ix ib da dx db wide at_end) = false
 codec_plans (optional_codec ma mx mb da dx db) = false
 
--- whether a read asks for the bytes of its places alone: it does over `bytes` and `packbits` where there are no bytes codecs
+-- whether a read asks for the bytes of its places alone: it does over `bytes` and `packbits` where there are no bytes-to-bytes codecs
 abbrev pub reads_places : {B : Type 0} → List B → PlainCodec B → Bool
 reads_places [] codec = codec_plans codec
 reads_places (first ∷ rest) codec = false
@@ -115,7 +115,7 @@ reads_places (first ∷ rest) codec = false
 abbrev pub chain_reads_places : {B : Type 0} → PlainChain B → Bool
 chain_reads_places chain = reads_places chain.bytes_to_bytes chain.array_to_bytes
 
--- the byte order of `bytes` without bytes codecs: there the bytes of places are those of their elements, and a write over a stored value replaces them alone
+-- the byte order of `bytes` without bytes-to-bytes codecs: there the bytes of places are those of their elements, and a write over a stored value replaces them alone
 abbrev pub order_in_place : {B : Type 0} → List B → PlainCodec B → Option (Option Endianness)
 order_in_place [] (bytes_codec order) = Some order
 order_in_place [] (packbits_codec settings) = None
@@ -131,26 +131,26 @@ chain_in_place chain = order_in_place chain.bytes_to_bytes chain.array_to_bytes
 abbrev pub form_in_place : {B : Type 0} → ChunkForm B → Option (Option Endianness)
 form_in_place form = order_in_place form.chain.bytes_to_bytes form.chain.array_to_bytes
 
--- the region that a selection means, where its bytes are planned in the order in which they stand: over `bytes` without bytes codecs, of one that goes through the array codecs as a region
+-- the region that a selection selects, where its bytes are planned in the order in which they stand: over `bytes` without bytes-to-bytes codecs, of one that goes through the array-to-array codecs as a region
 abbrev pub planned_region : {B : Type 0} → ChunkForm B → Selection → Option Region
 planned_region form selection =
     if is_some (form_in_place form) then kept_region form.chain.array_to_array form.sizes selection else None
 
--- where a region stands in the encoded chunk: the places of its last window, which rise
+-- where a region stands in the moved chunk: the places of its last window, which rise
 abbrev pub standing_places : List ArrayMapping → List ℕ → Region → List ℕ
 standing_places arrays sizes region = window_places (last_window arrays (window_of sizes region))
 
--- places of the encoded chunk in the order in which their bytes are planned: in their own; of a region in which they stand
+-- places of the moved chunk in the order in which their bytes are planned: in their own; of a region in which they stand
 abbrev pub places_in_order : List ArrayMapping → List ℕ → Option Region → List ℕ → List ℕ
 places_in_order arrays sizes None places = places
 places_in_order arrays sizes (Some region) places = standing_places arrays sizes region
 
--- where the places that a selection means go, in the order in which their bytes are planned, or the first refusal
+-- where the places that a selection selects go, in the order in which their bytes are planned, or the first error
 abbrev pub ordered_places : {B : Type 0} → ChunkForm B → Selection → Result (List ℕ) CodecError
 ordered_places form selection =
     seen (places_in_order form.chain.array_to_array form.sizes (planned_region form selection)) (encoded_places form.type form.chain.array_to_array form.sizes selection)
 
--- the places whose bytes a read asks for, of the chunk that the codec to bytes gets, in the order in which they are planned, where it asks for these alone; or the first refusal
+-- the places whose bytes a read asks for, of the chunk that the array-to-bytes codec gets, in the order in which they are planned, where it asks for these alone; or the first error
 abbrev pub planned_places : {B : Type 0} → ChunkForm B → Selection → Result (Option (List ℕ)) CodecError
 planned_places form selection =
     seen (λ places. if reads_places form.chain.bytes_to_bytes form.chain.array_to_bytes then Some places else None) (ordered_places form selection)
@@ -171,7 +171,7 @@ IsReadPlan f form _ _ = ⊥
 
 -- ---- what a read rests on
 
--- whether a read asks for a part of the value alone: it does over `bytes`, `packbits` and a plain `vlen` where there are no bytes codecs
+-- whether a read asks for a part of the value alone: it does over `bytes`, `packbits` and a plain `vlen` where there are no bytes-to-bytes codecs
 abbrev pub asks_in_part : {B : Type 0} → List B → PlainCodec B → Bool
 asks_in_part [] codec = (codec_reads codec).partial_decode
 asks_in_part (first ∷ rest) codec = false
@@ -186,7 +186,7 @@ abbrev pub form_rests_on : Option PlainForm → ℕ → Option (List ℕ) → Li
 form_rests_on None count stored places = []
 form_rests_on (Some form) count stored places = stored_rests_on form count stored places
 
--- the same of a codec to bytes: of `bytes` and `packbits` the places' bytes, whatever is stored; none of a codec that is read whole
+-- the same of an array-to-bytes codec: of `bytes` and `packbits` the places' bytes, whatever is stored; none of a codec that is read whole
 abbrev pub codec_rests_on : {B : Type 0} → PlainCodec B → List ℕ → ElementType → List ℕ → Option (List ℕ) → List ℕ → Result (List ℕ) CodecError
 codec_rests_on (bytes_codec order) sizes type fill stored places = Ok (place_bytes (place_size type) places)
 codec_rests_on (packbits_codec settings) sizes type fill stored places = bytes_of_places settings (form_of sizes type fill) places
@@ -194,7 +194,7 @@ codec_rests_on (vlen_codec ia ix ib da dx db wide at_end) sizes type fill stored
     Ok (form_rests_on (plain_form_of (vlen_codec ia ix ib da dx db wide at_end)) (product sizes) stored places)
 codec_rests_on (optional_codec ma mx mb da dx db) sizes type fill stored places = Ok []
 
--- the numbers of the bytes that a read asks for, of what is stored, where it asks for a part alone; or the first refusal
+-- the numbers of the bytes that a read asks for, of what is stored, where it asks for a part alone; or the first error
 abbrev pub read_rests_on : {B : Type 0} → BytesCodecs B → ChunkForm B → Option (List ℕ) → Selection → Result (Option (List ℕ)) CodecError
 read_rests_on f form stored selection = do
   places ← encoded_places form.type form.chain.array_to_array form.sizes selection
@@ -219,7 +219,7 @@ reads_surely cached f form stored sure selection = cached || are_asked_sure sure
 
 -- ---- what a read gives
 
--- The answer is a container of the elements at the selected places, of the chunk that the stored value stands for, or of fill elements where nothing is stored; or the first refusal. Only a want of memory or a failure of the handle may come in its place, a failure behind the refusals of the selection, and never where the read asks for a part of the value alone and the bytes that it rests on are sure.
+-- The answer is a container of the elements at the selected places, of the chunk that the stored value stands for, or of fill elements where nothing is stored; or the first error. Only a lack of memory or a failure of the handle may come in its place, a failure behind the errors of the selection, and never where the read asks for a part of the value alone and the bytes that it rests on are sure.
 pub record ReadsChunk {B : Type 0} (f : BytesCodecs B) (form : ChunkForm B) (before : StorageState) (selection : Selection) (result : Result Held CodecError) : Type 0 where
   pub selected : (value : List ℕ) (chunk : Chunk) → before.value ≡ Some value → ChainStands f form.chain form.sizes form.type form.fill value chunk
       → AnswersBy memory_or_fault (Holds form.type) result (seen (select chunk) (places_of selection form.sizes))
@@ -243,7 +243,7 @@ chunk_of chain sizes type fill = chunk_form (plain_chain chain) (form_of sizes t
 abbrev pub TakenBy : {B : Type 0} → BytesCodecs B → PlainCodec B → Form → Type 0
 TakenBy f codec form = is_ok (codec_representation f codec form.sizes form.type form.fill) ≡ true
 
--- a container of the elements at the places of these runs, by the bytes that are there, or by none; or the first refusal
+-- a container of the elements at the places of these runs, by the bytes that are there, or by none; or the first error
 abbrev pub GivesRuns : {B : Type 0} → BytesCodecs B → PlainCodec B → Form → Option (List ℕ) → List (ℕ × ℕ) → Result Held CodecError → Type 0
 GivesRuns f codec form stored runs result =
     GivesBy (Holds form.type) result (codec_read f codec form.sizes form.type form.fill stored (joined_runs runs))
@@ -266,12 +266,12 @@ FillsRuns type fill runs result = GivesBy (Holds type) result (Ok (map (λ _. fi
 abbrev pub value_items : Option (Vec ℕ Global) → Option (List ℕ)
 value_items value = option_map (λ items. items.items) value
 
--- the plan of a read of the selected places, or the first refusal
+-- the plan of a read of the selected places, or the first error
 abbrev pub PlansRead : {B : Type 0} → BytesCodecs B → ChunkForm B → Selection → Result (Option (Vec ByteSpan Global)) CodecError → Type 0
 PlansRead f form selection result =
     GivesBy (λ ranges places. IsReadPlan f form (option_map (λ v. v.items) ranges) places) result (planned_places form selection)
 
--- the places that a selection means, as they go through the array codecs
+-- the places that a selection selects, as they go through the array-to-array codecs
 abbrev pub form_places : {B : Type 0} → ChunkForm B → Selection → Result (List ℕ) CodecError
 form_places form selection = encoded_places form.type form.chain.array_to_array form.sizes selection
 

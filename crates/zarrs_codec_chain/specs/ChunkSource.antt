@@ -29,12 +29,12 @@ use Rattle.zarrs_data_type.specs.Form.{Form}
 use Rattle.zarrs_chain_whole.specs.ChainView.{plain_chain}
 use Rattle.zarrs_chain_whole.specs.declared.codec_chain.CodecChain.{CodecChain}
 
--- What answers rest on: the bytes above so many of the first bytes codecs, or the chunk that the codec to bytes reads; either only where something is stored.
+-- What answers rest on: the bytes above so many of the first bytes-to-bytes codecs, or the chunk that the array-to-bytes codec reads; either only where something is stored.
 pub data Source : Type 0 where
   bytes_above : ℕ → Option (List ℕ) → Source
   chunk_below : Option Chunk → Source
 
--- the elements at these places of the chunk that the codec to bytes gets, by what answers rest on
+-- the elements at these places of the chunk that the array-to-bytes codec gets, by what answers rest on
 abbrev pub source_places : {B : Type 0} → BytesCodecs B → PlainChain B → List ℕ → ElementType → List ℕ → BytesRepresentation → Source → List ℕ → Result Chunk CodecError
 source_places f chain encoded type fill r (bytes_above below value) places = do
   bytes ← outer_stored f (take below chain.bytes_to_bytes) r value
@@ -42,7 +42,7 @@ source_places f chain encoded type fill r (bytes_above below value) places = do
 source_places f chain encoded type fill r (chunk_below None) places = Ok (map (λ _. fill_element type fill) places)
 source_places f chain encoded type fill r (chunk_below (Some chunk)) places = Ok (select chunk places)
 
--- the elements that a selection means
+-- the elements that a selection selects
 abbrev pub source_read : {B : Type 0} → BytesCodecs B → ChunkForm B → List ℕ → BytesRepresentation → Source → Selection → Result Chunk CodecError
 source_read f form encoded r source selection = do
   places ← encoded_places form.type form.chain.array_to_array form.sizes selection
@@ -50,7 +50,7 @@ source_read f form encoded r source selection = do
 
 -- ---- the cache's place
 
--- where a cache at this place stands, of a chain of so many bytes codecs: at the bytes above those that aren't decoded there yet, or at the chunk behind the codec to bytes
+-- where a cache at this place stands, of a chain of so many bytes-to-bytes codecs: at the bytes above those that aren't decoded there yet, or at the chunk behind the array-to-bytes codec
 abbrev pub stage_at : ℕ → Option ℕ → CacheStage
 stage_at count None = stage.Nowhere
 stage_at count (Some place) = if nat_le place count then stage.Bytes (count - place) else stage.Chunk
@@ -59,18 +59,18 @@ stage_at count (Some place) = if nat_le place count then stage.Bytes (count - pl
 abbrev pub cache_stage : {B : Type 0} → (B → PartialDecoderCapability) → PlainChain B → CacheStage
 cache_stage reads chain = stage_at (length chain.bytes_to_bytes) (cache_place (codecs_read reads chain))
 
--- of what bytes codecs read in part, in encode order: how many of the first ones a cache leaves undecoded; none where no codec wants a cache
+-- of what bytes-to-bytes codecs read in part, in encode order: how many of the first ones a cache leaves undecoded; none where no codec wants a cache
 abbrev pub bytes_left : List PartialDecoderCapability → Option ℕ
 bytes_left [] = None
 bytes_left (codec ∷ codecs) =
     if not codec.partial_decode then Some 0 else (if not codec.partial_read then Some 1 else option_map suc (bytes_left codecs))
 
--- a cache that leaves so many bytes codecs; none
+-- a cache that leaves so many bytes-to-bytes codecs; none
 abbrev pub bytes_stage : Option ℕ → CacheStage
 bytes_stage None = stage.Nowhere
 bytes_stage (Some left) = stage.Bytes left
 
--- where a cache stands, by what the codec to bytes reads in part and by how many bytes codecs it leaves
+-- where a cache stands, by what the array-to-bytes codec reads in part and by how many bytes-to-bytes codecs it leaves
 abbrev pub stage_by : PartialDecoderCapability → Option ℕ → CacheStage
 stage_by codec left = if not codec.partial_decode then stage.Chunk else (if not codec.partial_read then stage.Bytes 0 else bytes_stage left)
 
@@ -80,17 +80,17 @@ has_cache stage.Nowhere = false
 has_cache (stage.Bytes below) = true
 has_cache stage.Chunk = true
 
--- the stage is one of a chain of so many bytes codecs: a cache of bytes, or none, only where the codec to bytes decodes a part
+-- the stage is one of a chain of so many bytes-to-bytes codecs: a cache of bytes, or none, only where the array-to-bytes codec decodes a part
 abbrev pub stage_fits : PartialDecoderCapability → ℕ → CacheStage → Bool
 stage_fits reads codecs stage.Nowhere = reads.partial_decode
 stage_fits reads codecs (stage.Bytes below) = reads.partial_decode && nat_le below codecs
 stage_fits reads codecs stage.Chunk = true
 
--- the chunk that the codec to bytes reads of a value, or the first refusal
+-- the chunk that the array-to-bytes codec reads of a value, or the first error
 abbrev pub opened_chunk : {B : Type 0} → BytesCodecs B → PlainChain B → List ℕ → ElementType → List ℕ → BytesRepresentation → List ℕ → Result Chunk CodecError
 opened_chunk f chain encoded type fill r value = outer_bytes f chain.bytes_to_bytes r value >>= codec_chunk f chain.array_to_bytes encoded type fill
 
--- what answers rest on, of what is stored when a decoder is made, where its cache stands here; or the refusal of what decodes it: the bytes codecs, the last of them first, and then the codec to bytes
+-- what answers rest on, of what is stored when a decoder is made, where its cache stands here; or the error of what decodes it: the bytes-to-bytes codecs, the last of them first, and then the array-to-bytes codec
 abbrev pub source_at : {B : Type 0} → BytesCodecs B → PlainChain B → List ℕ → ElementType → List ℕ → BytesRepresentation → CacheStage → Option (List ℕ) → Result Source CodecError
 source_at f chain encoded type fill r stage.Nowhere stored = Ok (bytes_above (length chain.bytes_to_bytes) stored)
 source_at f chain encoded type fill r (stage.Bytes below) None = Ok (bytes_above below None)
@@ -102,13 +102,13 @@ source_at f chain encoded type fill r stage.Chunk (Some value) = do
   chunk ← opened_chunk f chain encoded type fill r value
   Ok (chunk_below (Some chunk))
 
--- What answers rest on that is made of what is stored, where the cache stands here; or the first refusal: the chain's representation, and then what decodes the value up to the cache.
+-- What answers rest on that is made of what is stored, where the cache stands here; or the first error: the chain's representation, and then what decodes the value up to the cache.
 abbrev pub source_made_at : {B : Type 0} → BytesCodecs B → ChunkForm B → CacheStage → Option (List ℕ) → Result Source CodecError
 source_made_at f form cache stored = do
   taken ← taken_form f form.chain form.sizes form.type form.fill
   source_at f form.chain taken.0 form.type form.fill taken.1 cache stored
 
--- What a decoder's answers rest on that is made of what is stored, or the first refusal: its cache stands where the chain wants it.
+-- What a decoder's answers rest on that is made of what is stored, or the first error: its cache stands where the chain wants it.
 abbrev pub source_made : {B : Type 0} → BytesCodecs B → (B → PartialDecoderCapability) → ChunkForm B → Option (List ℕ) → Result Source CodecError
 source_made f reads form stored = source_made_at f form (cache_stage reads form.chain) stored
 
@@ -120,7 +120,7 @@ source_of type count codecs stored kept.Handle = bytes_above codecs stored
 source_of type count codecs stored (kept.Bytes below value) = bytes_above below (option_map (λ bytes. bytes.items) value)
 source_of type count codecs stored (kept.Chunk held) = chunk_below (option_map (elements type count) held)
 
--- the cache is one of a chunk of so many elements, for a chain of so many bytes codecs: bytes are kept only where the codec to bytes reads in part
+-- the cache is one of a chunk of so many elements, for a chain of so many bytes-to-bytes codecs: bytes are kept only where the array-to-bytes codec reads in part
 abbrev pub cache_fits : PartialDecoderCapability → ElementType → ℕ → ℕ → Cache → Bool
 cache_fits reads type count codecs kept.Handle = true
 cache_fits reads type count codecs (kept.Bytes below value) = reads.partial_decode && nat_le below codecs
@@ -161,15 +161,15 @@ IsSizeOf type (chunk_below (Some chunk)) size = (held : Held) × Holds type held
 
 -- ---- what calls give
 
--- the container of the chunk that the codec to bytes reads of a value, or the first refusal
+-- the container of the chunk that the array-to-bytes codec reads of a value, or the first error
 abbrev pub OpensChunk : {B : Type 0} → BytesCodecs B → PlainChain B → Form → BytesRepresentation → List ℕ → Result Held CodecError → Type 0
 OpensChunk f chain form r value result = GivesBy (Holds form.type) result (opened_chunk f chain form.sizes form.type form.fill r value)
 
--- the bytes of a value above so many of the first bytes codecs, or the refusal of what decodes them
+-- the bytes of a value above so many of the first bytes-to-bytes codecs, or the error of what decodes them
 abbrev pub upper_bytes : {B : Type 0} → BytesCodecs B → List B → ℕ → BytesRepresentation → List ℕ → Result (List ℕ) CodecError
 upper_bytes f codecs below r value = outer_bytes f (drop below codecs) (outer_representation f (take below codecs) r) value
 
--- these are given, or the first refusal
+-- these are given, or the first error
 abbrev pub OpensBytes : {B : Type 0} → BytesCodecs B → List B → ℕ → BytesRepresentation → List ℕ → Result (Vec ℕ Global) CodecError → Type 0
 OpensBytes f codecs below r value result = GivesItems result (upper_bytes f codecs below r value)
 
@@ -177,7 +177,7 @@ OpensBytes f codecs below r value result = GivesItems result (upper_bytes f code
 abbrev pub is_stage_of : {B : Type 0} → PlainChain B → CacheStage → Bool
 is_stage_of chain stage = stage_fits (codec_reads chain.array_to_bytes) (length chain.bytes_to_bytes) stage
 
--- the cache is one of the chunks that the chain's codec to bytes gets
+-- the cache is one of the chunks that the chain's array-to-bytes codec gets
 abbrev pub is_cache_of : {B : Type 0} → PlainChain B → List ℕ → ElementType → Cache → Bool
 is_cache_of chain encoded type cache = cache_fits (codec_reads chain.array_to_bytes) type (product encoded) (length chain.bytes_to_bytes) cache
 
@@ -185,7 +185,7 @@ is_cache_of chain encoded type cache = cache_fits (codec_reads chain.array_to_by
 abbrev pub GivesCacheOf : {B : Type 0} → CodecChain B → List ℕ → ElementType → Result Cache CodecError → Type 0
 GivesCacheOf chain encoded type result = IfOk result (λ cache. is_cache_of (plain_chain chain) encoded type cache ≡ true)
 
--- a cache at this stage, filled from what is stored, or the refusal of what decodes it
+-- a cache at this stage, filled from what is stored, or the error of what decodes it
 abbrev pub FillsCache : {B : Type 0} → BytesCodecs B → PlainChain B → BytesRepresentation → CacheStage → Form → Option (List ℕ) → Result Cache CodecError → Type 0
 FillsCache f chain r stage form stored result =
     Answers memory_or_fault (source_of form.type (product form.sizes) (length chain.bytes_to_bytes) stored) result (source_at f chain form.sizes form.type form.fill r stage stored)

@@ -35,12 +35,12 @@ use Rattle.zarrs_array_bytes.specs.Validity.{data_fit, validity}
 use Rattle.zarrs_codec.specs.declared.capabilities.PartialEncoderCapability.{PartialEncoderCapability}
 use Rattle.zarrs_chain_laws.specs.Chain.{chain_writes}
 
--- the value of a chunk with new elements at these places, or the first refusal
+-- the value of a chunk with new elements at these places, or the first error
 abbrev pub edited_value : {B : Type 0} → BytesCodecs B → ChunkForm B → Chunk → List ℕ → Held → Result (List ℕ) CodecError
 edited_value f form chunk places new =
     chain_value f form.chain form.sizes form.type form.fill (with_elements form.type chunk places new)
 
--- The value that new elements at these places leave, or the first refusal. Where nothing is stored, it is that of the chunk of fill elements with the new ones. Of a stored value it is, over `bytes` without bytes codecs, the value with the bytes of the places, as they go through the array codecs, replaced; else that of the chunk that it stands for, with the new elements.
+-- The value that new elements at these places leave, or the first error. Where nothing is stored, it is that of the chunk of fill elements with the new ones. Of a stored value it is, over `bytes` without bytes-to-bytes codecs, the value with the bytes of the places, as they go through the array-to-array codecs, replaced; else that of the chunk that it stands for, with the new elements.
 abbrev pub value_left : {B : Type 0} → BytesCodecs B → ChunkForm B → Option (Option Endianness) → Option (List ℕ) → List ℕ → Held → Result (List ℕ) CodecError
 value_left f form order None places new = edited_value f form (filled_chunk form.sizes form.type form.fill) places new
 value_left f form None (Some value) places new = do
@@ -50,7 +50,7 @@ value_left f form (Some order) (Some value) places new = do
   m ← arrays_map form.type form.chain.array_to_array form.sizes
   Ok (with_place_bytes (place_size form.type) value (map m.to places) (spelling order form.type (elements form.type (length places) new)))
 
--- The value that new elements at a selection leave of what is stored, or the first refusal: the selection's; that of the new elements; of what decodes the stored value; of what encodes the chunk with the new elements.
+-- The value that new elements at a selection leave of what is stored, or the first error: the selection's; that of the new elements; of what decodes the stored value; of what encodes the chunk with the new elements.
 abbrev pub selection_left : {B : Type 0} → BytesCodecs B → ChunkForm B → Option (Option Endianness) → Option (List ℕ) → Selection → Held → Result (List ℕ) CodecError
 selection_left f form order stored selection new = do
   places ← data_places form.sizes form.type selection new
@@ -60,12 +60,12 @@ selection_left f form order stored selection new = do
 abbrev pub stored_written : {B : Type 0} → BytesCodecs B → ChunkForm B → Option (List ℕ) → Selection → Held → Result (List ℕ) CodecError
 stored_written f form stored selection new = selection_left f form (order_in_place form.chain.bytes_to_bytes form.chain.array_to_bytes) stored selection new
 
--- the chunk that an edit starts from, or the first refusal: the one that the stored value stands for; where there is none, one of fill elements
+-- the chunk that an edit starts from, or the first error: the one that the stored value stands for; where there is none, one of fill elements
 abbrev pub started_chunk : {B : Type 0} → BytesCodecs B → ChunkForm B → Option (List ℕ) → Result Chunk CodecError
 started_chunk f form None = fill_chunk form.type (product form.sizes) form.fill
 started_chunk f form (Some value) = chain_chunk f form.chain form.sizes form.type form.fill value
 
--- where new elements at a selection go through array codecs, or the first refusal: the selection's; that of the new elements
+-- where new elements at a selection go through array-to-array codecs, or the first error: the selection's; that of the new elements
 abbrev pub written_places : ElementType → List ArrayMapping → List ℕ → Selection → Held → Result (List ℕ) CodecError
 written_places type arrays sizes selection new = do
   places ← data_places sizes type selection new
@@ -92,7 +92,7 @@ abbrev pub StoresChunk : {B : Type 0} → BytesCodecs B → ChunkForm B → Opti
 StoresChunk f form None chunk = ⊥
 StoresChunk f form (Some value) chunk = ChainWritten f form.chain form.sizes form.type form.fill value chunk
 
--- Where an edit of what is stored starts from a chunk, it is accepted exactly where the selection is in bounds, the new elements fit it and a value is written for the chunk with these; the value afterwards is that one, the last write of a place standing. Else the first refusal is answered. Only a want of memory or a failure of the handle may come in its place, a failure behind the refusals of the selection and of the elements, which leave the handle as it was.
+-- Where an edit of what is stored starts from a chunk, it is accepted exactly where the selection is in bounds, the new elements fit it and a value is written for the chunk with these; the value afterwards is that one, the last write of a place standing. Else the first error is answered. Only a lack of memory or a failure of the handle may come in its place, a failure behind the errors of the selection and of the elements, which leave the handle as it was.
 pub record EditsChunk {B : Type 0} (f : BytesCodecs B) (form : ChunkForm B) (before after : StorageState) (selection : Selection) (new : Held) (result : Result (Unit {0}) CodecError) : Type 0 where
   pub found : OnOk result ((chunk : Chunk) → EditStarts f form before.value chunk → IsOkAnd (edited_chunk form.sizes form.type chunk selection new) (StoresChunk f form after.value))
   pub only : (chunk : Chunk) (value : List ℕ) → EditStarts f form before.value chunk → IsOkAnd (edited_chunk form.sizes form.type chunk selection new) (ChainWritten f form.chain form.sizes form.type form.fill value)
@@ -108,7 +108,7 @@ pub record EditsChunk {B : Type 0} (f : BytesCodecs B) (form : ChunkForm B) (bef
 abbrev pub form_checked : {B : Type 0} → ChunkForm B → Selection → Held → Result (Unit {0}) CodecError
 form_checked form selection new = data_checked form.sizes form.type selection new
 
--- where they go through the array codecs
+-- where they go through the array-to-array codecs
 abbrev pub form_written : {B : Type 0} → ChunkForm B → Selection → Held → Result (List ℕ) CodecError
 form_written form selection new = written_places form.type form.chain.array_to_array form.sizes selection new
 
@@ -128,7 +128,7 @@ FitsRuns form runs new = data_fit form.type (length (joined_runs runs)) new ≡ 
 abbrev pub FitsPlacesIn : ElementType → Held → Vec (ℕ × ℕ) Global → Type 0
 FitsPlacesIn type new runs = data_fit type (length (places_in runs)) new ≡ Ok tt
 
--- runs of the places that the indexer means, where there is one new element of the type for each; or the first refusal
+-- runs of the places that the indexer selects, where there is one new element of the type for each; or the first error
 abbrev pub GivesDataPlaces : Indexer → List ℕ → ElementType → Held → Result (Vec (ℕ × ℕ) Global) CodecError → Type 0
 GivesDataPlaces indexer sizes type new result = Gives places_in result (data_places sizes type (selection_of indexer) new)
 
@@ -136,16 +136,16 @@ GivesDataPlaces indexer sizes type new result = Gives places_in result (data_pla
 abbrev pub IsWhole : {B : Type 0} → ChunkForm B → Held → Type 0
 IsWhole form held = validity form.type (product form.sizes) held ≡ Ok tt
 
--- the value afterwards is the one that new elements at a selection leave, in place or by the whole value; or the first refusal is answered
+-- the value afterwards is the one that new elements at a selection leave, in place or by the whole value; or the first error is answered
 abbrev pub WritesSelection : {B : Type 0} → BytesCodecs B → ChunkForm B → Option (Option Endianness) → (before after : StorageState) → Selection → Held → Result (Unit {0}) CodecError → Type 0
 WritesSelection f form order before after selection new result =
     Answers memory_or_fault (λ _. after.value) result (seen Some (selection_left f form order before.value selection new))
 
--- where the selection is refused, this is what is answered, or a want of memory
+-- where the selection is rejected, this is what is answered, or a lack of memory
 abbrev pub WriteRefusedAtSelection : {B : Type 0} → ChunkForm B → Selection → Result (Unit {0}) CodecError → Type 0
 WriteRefusedAtSelection form selection result = IfErr (bounds_of selection form.sizes) (λ cause. Answers memory (λ done. done) result (Err cause))
 
--- where the new elements are refused, this is what is answered, or a want of memory
+-- where the new elements are rejected, this is what is answered, or a lack of memory
 abbrev pub RefusedAtData : {B : Type 0} → ChunkForm B → Selection → Held → Result (Unit {0}) CodecError → Type 0
 RefusedAtData form selection new result = IfErr (form_checked form selection new) (λ cause. Answers memory (λ done. done) result (Err cause))
 
@@ -153,7 +153,7 @@ RefusedAtData form selection new result = IfErr (form_checked form selection new
 abbrev pub UntouchedAtData : {B : Type 0} → ChunkForm B → Selection → Held → (before after : StorageState) → Type 0
 UntouchedAtData form selection new before after = IfErr (form_checked form selection new) (λ _. after ≡ before)
 
--- What a write of new elements at a selection gives, in place with this byte order or by the whole value: the value afterwards is the one that they leave, or the first refusal is answered; what the selection or the elements are refused for comes before the handle is asked, which is left as it was.
+-- What a write of new elements at a selection gives, in place with this byte order or by the whole value: the value afterwards is the one that they leave, or the first error is answered; what the selection or the elements are rejected for comes before the handle is asked, which is left as it was.
 pub record WritesChunk {B : Type 0} (f : BytesCodecs B) (form : ChunkForm B) (order : Option (Option Endianness)) (before after : StorageState) (selection : Selection) (new : Held) (result : Result (Unit {0}) CodecError) : Type 0 where
   pub answer : WritesSelection f form order before after selection new result
   pub indexer_first : WriteRefusedAtSelection form selection result
@@ -166,7 +166,7 @@ pub record LendsData (type : ElementType) (region : Region) (new lent : Held) : 
   pub valid : validity type (product region.lengths) lent ≡ Ok tt
   pub same : elements type (product region.lengths) lent ≡ elements type (product region.lengths) new
 
--- whatever is stored, new elements at a selection leave what these leave at the places of these runs of the chunk that the codec to bytes gets, which has these sizes
+-- whatever is stored, new elements at a selection leave what these leave at the places of these runs of the chunk that the array-to-bytes codec gets, which has these sizes
 abbrev pub LeavesThere : {B : Type 0} → BytesCodecs B → ChunkForm B → List ℕ → Option Endianness → Selection → Held → List (ℕ × ℕ) → Held → Type 0
 LeavesThere f form encoded order selection new runs held =
     (stored : Option (List ℕ)) → selection_left f form (Some order) stored selection new ≡ Ok (bytes_left order (form_of encoded form.type form.fill) stored (joined_runs runs) held)

@@ -1,4 +1,4 @@
--- What runs of places give through a codec to bytes as the code has it.
+-- What runs of places give through an array-to-bytes codec as the code has it.
 use Rattle.std.specs.Prelude.{ℕ, Option, List, [], Result, Vec}
 use Rattle.std.proofs.Common.{Global}
 use Rattle.zarrs_chunk.specs.Answer.{GivesBy, no_refusal}
@@ -19,7 +19,7 @@ use Rattle.zarrs_codec_chain.specs.ChunkRead.{IsCodecPlan, SureRuns, TakenBy, or
 abbrev pub Takes : {B : Type 0} → BytesCodecs B → ArrayToBytesCodec B → List ℕ → ElementType → List ℕ → Type 0
 Takes f codec sizes type fill = TakenBy f (plain_codec codec) (form_of sizes type fill)
 
--- the chain's codec to bytes takes such chunks
+-- the chain's array-to-bytes codec takes such chunks
 abbrev pub CodecTakes : {B : Type 0} → BytesCodecs B → CodecChain B → List ℕ → ElementType → List ℕ → Type 0
 CodecTakes f chain sizes type fill = TakenBy f (plain_chain chain).array_to_bytes (form_of sizes type fill)
 

@@ -19,7 +19,7 @@ use Rattle.zarrs_codec_chain.specs.RefusedFirst.{RefusedFirst}
 use Rattle.zarrs_codec_chain.specs.declared.partial_decoder.array_partial_decoder.ArrayPartialDecoder.{ArrayPartialDecoder}
 use Rattle.zarrs_codec_chain.specs.declared.partial_encoder.array_partial_encoder.ArrayPartialEncoder.{ArrayPartialEncoder}
 
--- A decoder of the chunk of these sizes, this type and this fill value is made, its cache filled from what the handle keeps; or the first refusal is answered.
+-- A decoder of the chunk of these sizes, this type and this fill value is made, its cache filled from what the handle keeps; or the first error is answered.
 abbrev pub DecoderMade : {H B : Type 0} {h : _} {b : _} → CodecChain B → List ℕ → ElementType → List ℕ → H → Result (ArrayPartialDecoder H B h b) (Refused H) → Type 0
 DecoderMade {h = h} {b = b} chain sizes type fill handle result =
     Answers memory_or_fault (λ decoder. decoder_source decoder (h.state handle).value) (made result) (source_made b.functions b.reads_in_part (chunk_of chain sizes type fill) (h.state handle).value)
@@ -28,7 +28,7 @@ DecoderMade {h = h} {b = b} chain sizes type fill handle result =
 abbrev pub DecoderHasForm : {H B : Type 0} {h : _} {b : _} → CodecChain B → List ℕ → ElementType → List ℕ → Result (ArrayPartialDecoder H B h b) (Refused H) → Type 0
 DecoderHasForm chain sizes type fill result = IfOk result (λ decoder. form_of decoder ≡ chunk_of chain sizes type fill)
 
--- where the chain has no representation of such a chunk, this is what is answered, or a want of memory
+-- where the chain has no representation of such a chunk, this is what is answered, or a lack of memory
 abbrev pub ChainFirst : {H B : Type 0} {h : _} {b : _} → CodecChain B → List ℕ → ElementType → List ℕ → Result (ArrayPartialDecoder H B h b) (Refused H) → Type 0
 ChainFirst {b = b} chain sizes type fill result =
     RefusedFirst (chain_representation b.functions (plain_chain chain) sizes type fill) (made result)
@@ -41,7 +41,7 @@ CachesAsPlaced reads chain result = IfOk result (λ decoder. is_cached decoder �
 abbrev pub MadeOver : {H B V : Type 0} {h : _} {b : _} → (H → V) → H → Result (ArrayPartialDecoder H B h b) (Refused H) → Type 0
 MadeOver view handle result = IfOk result (λ decoder. view (handle_of decoder) ≡ view handle)
 
--- the handle that a refusal hands back is as a reading call leaves it
+-- the handle that an error hands back is as a reading call leaves it
 abbrev pub HandsBackRead : {H B : Type 0} {h : _} {b : _} → (H → StorageState) → H → Result (ArrayPartialDecoder H B h b) (Refused H) → Type 0
 HandsBackRead state handle result = IfErr result (λ refused. state refused.handle ≡ after_reading (made result) (state handle))
 
@@ -49,7 +49,7 @@ HandsBackRead state handle result = IfErr result (λ refused. state refused.hand
 abbrev pub MadeByReads : {H B : Type 0} {h : _} {b : _} → (H → Option Calls) → H → Result (ArrayPartialDecoder H B h b) (Refused H) → Type 0
 MadeByReads calls handle result = IfOk result (λ decoder. calls (handle_of decoder) ≡ after_reads (filling_reads (is_cached decoder)) (calls handle))
 
--- An encoder of the chunk of these sizes, this type and this fill value is made where the chain has a representation of it; else the first refusal is answered.
+-- An encoder of the chunk of these sizes, this type and this fill value is made where the chain has a representation of it; else the first error is answered.
 abbrev pub EncoderMade : {H B : Type 0} {h : _} {w : _} {b : _} → CodecChain B → List ℕ → ElementType → List ℕ → Result (ArrayPartialEncoder H B h w b) (Refused H) → Type 0
 EncoderMade {b = b} chain sizes type fill result =
     GivesValue (outcome result) (seen (λ _. tt) (chain_representation b.functions (plain_chain chain) sizes type fill))

@@ -53,12 +53,12 @@ EditHasBytes Erase = Unit {0}
 
 -- ---- of values
 
--- what an edit leaves of what is stored, or its first refusal
+-- what an edit leaves of what is stored, or its first error
 abbrev pub edited_store : {B : Type 0} → BytesCodecs B → ChunkForm B → Option (List ℕ) → Edit → Result (Option (List ℕ)) CodecError
 edited_store f form stored (Encode indexer new) = seen (λ value. Some value) (stored_written f form stored (selection_of indexer) new)
 edited_store f form stored Erase = Ok None
 
--- what edits leave, one after another, or the first refusal
+-- what edits leave, one after another, or the first error
 abbrev pub stores_edited : {B : Type 0} → BytesCodecs B → ChunkForm B → List Edit → Option (List ℕ) → Result (Option (List ℕ)) CodecError
 stores_edited f form [] stored = Ok stored
 stores_edited f form (edit ∷ edits) stored = edited_store f form stored edit >>= stores_edited f form edits
@@ -84,7 +84,7 @@ AcceptsEdits f form [] state = Unit {0}
 AcceptsEdits f form (edit ∷ edits) state =
     IsOkAnd (edited_state form state edit) (λ next. IsWritable f form next × AcceptsEdits f form edits next)
 
--- what may come in place of an edit's answer: of new elements a want of memory or a failure of the handle; of an erase, which takes no memory, a failure alone
+-- what may come in place of an edit's answer: of new elements a lack of memory or a failure of the handle; of an erase, which takes no memory, a failure alone
 abbrev pub edit_excuse : Edit → CodecError → Bool
 edit_excuse (Encode indexer new) = memory_or_fault
 edit_excuse Erase = fault
@@ -110,7 +110,7 @@ after_edits done stored state = record state {
   accepted_writes = advanced done state.accepted_writes;
 }
 
--- what is left where an edit was refused behind so many accepted ones: what a refused write leaves of that, and that itself where neither memory nor the handle was the cause; else that
+-- what is left where an edit was rejected behind so many accepted ones: what a rejected write leaves of that, and that itself where neither memory nor the handle was the cause; else that
 abbrev pub LeavesEdits : Option CodecError → StorageState → StorageState → Type 0
 LeavesEdits None accepted left = left ≡ accepted
 LeavesEdits (Some refusal) accepted left =
@@ -118,7 +118,7 @@ LeavesEdits (Some refusal) accepted left =
 
 -- ---- what a list of edits gives
 
--- What a beginning of the edits leaves, behind which one is refused, or none. From nothing, or from a value that is written for a chunk, what is stored is written for the chunk as the accepted edits leave it: where none was refused, where the handle is atomic, and where the refused one made no writing call. An edit is refused, a want of memory and a failure of the handle aside, exactly where it can't be made of that chunk or no value is written for what it makes. Each accepted edit makes one writing call; of a refused one is left what a refused write leaves.
+-- What a beginning of the edits leaves, behind which one is rejected, or none. From nothing, or from a value that is written for a chunk, what is stored is written for the chunk as the accepted edits leave it: where none was rejected, where the handle is atomic, and where the rejected one made no writing call. An edit is rejected, a lack of memory and a failure of the handle aside, exactly where it can't be made of that chunk or no value is written for what it makes. Each accepted edit makes one writing call; of a rejected one is left what a rejected write leaves.
 pub record RunsEdits {B : Type 0} (f : BytesCodecs B) (form : ChunkForm B) (atomic : Bool) (before after : StorageState) (edits : List Edit) (outcome : EditOutcome) : Type 0 where
   pub written : IfNone outcome.refusal (LeavesWritten f form edits before.value after.value)
   pub written_if_atomic : atomic ≡ true → LeavesWritten f form (take outcome.done edits) before.value after.value

@@ -38,7 +38,7 @@ is_cached decoder = is_kept decoder.coder.cache
 abbrev pub decoder_held : {H B : Type 0} {h : _} {b : _} → ArrayPartialDecoder H B h b → ℕ → ℕ
 decoder_held decoder held = held_by held decoder.coder.cache
 
--- the decoder that was made, or why not
+-- the decoder that was made, or the first error
 abbrev pub made : {T H : Type 0} → Result T (Refused H) → Result T CodecError
 made (Ok decoder) = Ok decoder
 made (Err refused) = Err refused.error
@@ -86,11 +86,11 @@ abbrev pub KeepsCache : {H B : Type 0} {h : _} {b : _} → (H → StorageState) 
 KeepsCache state f reads decoder size =
     is_cached decoder ≡ true → IsCacheSize f reads (form_of decoder) (state (handle_of decoder)).value size
 
--- what a read of a decoder gives, of what the indexer means
+-- what a read of a decoder gives, of what the indexer selects
 abbrev pub DecoderReads : {H B : Type 0} {h : _} {b : _} → (H → StorageState) → ArrayPartialDecoder H B h b → Indexer → Result Held CodecError → Type 0
 DecoderReads {b = b} state decoder indexer result =
     ReadsChunk b.functions (form_of decoder) (state (handle_of decoder)) (selection_of indexer) result
 
--- the plan of a read of a decoder: the ranges are the bytes of the meant places and no others, or there are none where it asks for more; or the first refusal
+-- the plan of a read of a decoder: the ranges are the bytes of the selected places and no others, or there are none where it asks for more; or the first error
 abbrev pub DecoderPlans : {H B : Type 0} {h : _} {b : _} → ArrayPartialDecoder H B h b → Indexer → Result (Option (Vec ByteSpan Global)) CodecError → Type 0
 DecoderPlans {b = b} decoder indexer result = PlansRead b.functions (form_of decoder) (selection_of indexer) result

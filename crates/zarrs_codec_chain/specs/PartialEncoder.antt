@@ -31,7 +31,7 @@ encoder_handle encoder = encoder.handle
 abbrev pub encoder_form : {H B : Type 0} {h : _} {w : _} {b : _} → ArrayPartialEncoder H B h w b → ChunkForm B
 encoder_form encoder = coder_form encoder.coder
 
--- what its bytes codecs compute
+-- what its bytes-to-bytes codecs compute
 abbrev pub encoder_functions : {H B : Type 0} {h : _} {w : _} {b : _} → ArrayPartialEncoder H B h w b → BytesCodecs B
 encoder_functions {b = b} encoder = b.functions
 
@@ -53,7 +53,7 @@ abbrev pub EncoderWrites : {H B T L : Type 0} {h : _} {w : _} {b : _} → (H →
 EncoderWrites state lent atomic before after result =
     OnlyWrites (λ encoder. state (encoder_handle encoder)) (λ encoder. lent (encoder_handle encoder)) encoder_form atomic before after result
 
--- A call that makes one writing call of its handle, accepted or refused: of a refused one the value is as it was where the handle is atomic. The reference that is lent and what the coder is made of are the same.
+-- A call that makes one writing call of its handle, accepted or rejected: of a rejected one the value is as it was where the handle is atomic. The reference that is lent and what the coder is made of are the same.
 pub record WritesOnce {C T L F : Type 0} (state : C → StorageState) (lent : C → L) (form : C → F) (atomic : Bool) (before after : C) (result : Result T CodecError) : Type 0 where
   pub one_write : apart_from_value (state after) ≡ after_writing result (state before)
   pub kept_if_atomic : OnErr result (atomic ≡ true → (state after).value ≡ (state before).value)
@@ -89,7 +89,7 @@ abbrev pub EncoderGives : {H B : Type 0} {h : _} {w : _} {b : _} → (H → Stor
 EncoderGives state encoder indexer result =
     ReadsChunk (encoder_functions encoder) (encoder_form encoder) (encoder_state state encoder) (selection_of indexer) result
 
--- the plan of a read of an encoder: the ranges are the bytes of the meant places and no others, or there are none where it asks for more; or the first refusal
+-- the plan of a read of an encoder: the ranges are the bytes of the selected places and no others, or there are none where it asks for more; or the first error
 abbrev pub EncoderPlans : {H B : Type 0} {h : _} {w : _} {b : _} → ArrayPartialEncoder H B h w b → Indexer → Result (Option (Vec ByteSpan Global)) CodecError → Type 0
 EncoderPlans encoder indexer result = PlansRead (encoder_functions encoder) (encoder_form encoder) (selection_of indexer) result
 

@@ -15,27 +15,27 @@ use Rattle.zarrs_chain_laws.specs.vlen.PlainVlen.{PlainForm, plain_form_of}
 use Rattle.zarrs_chain_laws.specs.Stands.{ChainStands}
 use Rattle.zarrs_codec_chain.specs.ChunkRead.{ChunkForm, codec_rests_on, encoded_places, ordered_places, planned_region, stored_read}
 
--- Of a stored value that stands for a chunk, a read in part answers the chunk's elements that the selection means, or the selection's refusal.
+-- Of a stored value that stands for a chunk, a read in part answers the chunk's elements that the selection selects, or the selection's error.
 abbrev pub StoredSelects : {B : Type 0} → BytesCodecs B → Type 0
 StoredSelects {B} f =
     (form : ChunkForm B) (value : List ℕ) (chunk : Chunk) (selection : Selection)
     → IsChainOfMappings form.chain → All (λ size. 0 < size) form.sizes → ChainStands f form.chain form.sizes form.type form.fill value chunk
     → stored_read f form (Some value) selection ≡ seen (select chunk) (places_of selection form.sizes)
 
--- the bytes that the codec to bytes reads of a value, or the first refusal: the chain's representation; the bytes codecs, the last of them first
+-- the bytes that the array-to-bytes codec reads of a value, or the first error: the chain's representation; the bytes-to-bytes codecs, the last of them first
 abbrev pub bytes_below : {B : Type 0} → BytesCodecs B → ChunkForm B → List ℕ → Result (List ℕ) CodecError
 bytes_below f form value = do
   taken ← taken_form f form.chain form.sizes form.type form.fill
   outer_bytes f form.chain.bytes_to_bytes taken.1 value
 
--- the numbers of the bytes, of those below the bytes codecs, that the elements which a selection means rest on; or the first refusal
+-- the numbers of the bytes, of those below the bytes-to-bytes codecs, that the elements which a selection selects rest on; or the first error
 abbrev pub selection_rests_on : {B : Type 0} → BytesCodecs B → ChunkForm B → List ℕ → Selection → Result (List ℕ) CodecError
 selection_rests_on f form below selection = do
   places ← encoded_places form.type form.chain.array_to_array form.sizes selection
   taken ← taken_form f form.chain form.sizes form.type form.fill
   codec_rests_on form.chain.array_to_bytes taken.0 form.type form.fill (Some below) places
 
--- Over a plain `vlen` a read rests on these bytes alone: two values whose bytes below the bytes codecs are as many, and the same there, are read alike, or refused for the same cause.
+-- Over a plain `vlen` a read rests on these bytes alone: two values whose bytes below the bytes-to-bytes codecs are as many, and the same there, are read alike, or rejected for the same cause.
 abbrev pub StoredReadsAlike : {B : Type 0} → BytesCodecs B → Type 0
 StoredReadsAlike {B} f =
     (form : ChunkForm B) (plain : PlainForm) (value other below beside : List ℕ) (selection : Selection)
@@ -43,7 +43,7 @@ StoredReadsAlike {B} f =
     → length below ≡ length beside → IfOk (selection_rests_on f form below selection) (All (λ number. slice_index below number ≡ slice_index beside number))
     → stored_read f form (Some value) selection ≡ stored_read f form (Some other) selection
 
--- The places whose bytes are planned are those that a selection means, each as often. Those of a region that is planned as it stands rise.
+-- The places whose bytes are planned are those that a selection selects, each as often. Those of a region that is planned as it stands rise.
 pub record IsInOrder {B : Type 0} (form : ChunkForm B) (selection : Selection) (meant ordered : List ℕ) : Type 0 where
   pub same : IsPermutation meant ordered
   pub rising : IfSome (planned_region form selection) (λ _. IsStrictlyIncreasing ordered)

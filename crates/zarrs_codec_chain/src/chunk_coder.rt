@@ -42,7 +42,7 @@ pub(crate) struct ChunkCoder<'a, B: BytesToBytesCodecTraits> {
 impl<'a, B: BytesToBytesCodecTraits> ChunkCoder<'a, B> {
     ghost use Rattle.zarrs_codec_chain.specs.ChunkCoder.{coder_form, coder_is_cached, MeasuresCoder, MakesByReads, MakesCoder, CachesAsWanted, FillsFrom, FormFirst, CoderHasForm};
 
-    /// A coder of such a chunk without a cache. Refusals: those of the chain's representation.
+    /// A coder of such a chunk without a cache. Errors: those of the chain's representation.
     pub(crate) fn uncached(
         alloc: Global,
         chain: &'a CodecChain<B>,
@@ -69,9 +69,9 @@ impl<'a, B: BytesToBytesCodecTraits> ChunkCoder<'a, B> {
         })
     }
 
-    /// A coder of such a chunk, whose cache is filled from the handle. Refusals, the first that holds,
-    /// `OutOfMemory` aside: those of the chain's representation, before the handle is asked; with a
-    /// cache, `Storage` and those of what decodes the value up to the cache.
+    /// A coder of such a chunk, whose cache is filled from the handle. Errors, the first that
+    /// holds, `OutOfMemory` aside: those of the chain's representation, before the handle is asked;
+    /// with a cache, `Storage` and those of what decodes the value up to the cache.
     pub(crate) fn new<H: BytesPartialDecoderTraits>(
         alloc: Global,
         chain: &'a CodecChain<B>,

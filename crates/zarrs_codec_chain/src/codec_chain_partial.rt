@@ -20,7 +20,7 @@ use zarrs_data_type::{DataType, FillValue};
 /// What a [`CodecChain`] makes to read and to write a chunk in part. What is promised of it stands at the
 /// methods of the impl for [`CodecChain`].
 pub trait CodecChainPartialTraits<B: BytesToBytesCodecTraits> {
-    /// A decoder of a chunk in part, over a handle. A refusal hands the handle back; which ones
+    /// A decoder of a chunk in part, over a handle. An error hands the handle back; which ones
     /// there are stands at the method of the impl.
     fn partial_decoder<'a, H: BytesPartialDecoderTraits>(
         &'a self,
@@ -31,7 +31,7 @@ pub trait CodecChainPartialTraits<B: BytesToBytesCodecTraits> {
         fill_value: &FillValue,
     ) -> Result<ArrayPartialDecoder<'a, H, B>, Refused<H>>;
 
-    /// An encoder of a chunk in part, over a handle. A refusal hands the handle back; which ones
+    /// An encoder of a chunk in part, over a handle. An error hands the handle back; which ones
     /// there are stands at the method of the impl.
     fn partial_encoder<'a, H: BytesPartialEncoderTraits>(
         &'a self,
@@ -44,11 +44,11 @@ pub trait CodecChainPartialTraits<B: BytesToBytesCodecTraits> {
 }
 
 impl<B: BytesToBytesCodecTraits> CodecChainPartialTraits<B> for CodecChain<B> {
-    /// A decoder of a chunk in part, over a handle. Refusals, the first that holds, `OutOfMemory`
+    /// A decoder of a chunk in part, over a handle. Errors, the first that holds, `OutOfMemory`
     /// aside: those of `encoded_representation`, before the handle is asked; with a cache,
     /// `Storage`, and then those of what decodes the value up to the cache: `BytesCodec` of the
-    /// last bytes codec, then of the one before; and where the cache holds elements, over
-    /// `optional` and over a `vlen` that isn't plain, what `CodecChain::decode` refuses of the
+    /// last bytes-to-bytes codec, then of the one before; and where the cache holds elements, over
+    /// `optional` and over a `vlen` that isn't plain, what `CodecChain::decode` rejects of the
     /// value of this codec:
     ///
     /// - of `vlen` `InvalidBytesLength`, `IndexLength`, `Overflow`, those of the index chain,
@@ -56,8 +56,8 @@ impl<B: BytesToBytesCodecTraits> CodecChainPartialTraits<B> for CodecChain<B> {
     /// - of `optional` `InvalidBytesLength`, `HeaderOverflow`, `InvalidBytesLength`, those of the
     ///   mask chain, `MaskValue`, those of the data chain.
     ///
-    /// A refusal hands the handle back, as it stands. With a cache the handle is asked once, and without one
-    /// never.
+    /// An error hands the handle back, as it stands. With a cache the handle is asked once, and
+    /// without one never.
     fn partial_decoder<'a, H: BytesPartialDecoderTraits>(
         &'a self,
         alloc: Global,
@@ -85,8 +85,8 @@ impl<B: BytesToBytesCodecTraits> CodecChainPartialTraits<B> for CodecChain<B> {
         }
     }
 
-    /// An encoder of a chunk in part, over a handle, which isn't asked yet. Refusals: those of
-    /// `encoded_representation`; `OutOfMemory`. A refusal hands the handle back as it was.
+    /// An encoder of a chunk in part, over a handle, which isn't asked yet. Errors: those of
+    /// `encoded_representation`; `OutOfMemory`. An error hands the handle back as it was.
     fn partial_encoder<'a, H: BytesPartialEncoderTraits>(
         &'a self,
         alloc: Global,

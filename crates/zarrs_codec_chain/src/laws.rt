@@ -11,22 +11,23 @@ pub fn sizes_are_exact()
 {}
 
 /// Of a stored value that stands for a chunk, a read in part answers the chunk's elements that the
-/// selection means, or the selection's refusal: by the places' bytes, by the offsets of a plain `vlen`
-/// and the elements' bytes, or by the whole chunk.
+/// selection selects, or the selection's error: by the places' bytes, by the offsets of a plain
+/// `vlen` and the elements' bytes, or by the whole chunk.
 pub fn reads_select<B>()
     ensures law { (f : BytesCodecs B) → StoredSelects f }
 {}
 
-/// Over a plain `vlen`, through whatever chain, a read rests on the length of the bytes below the bytes
-/// codecs, on the offsets there and on the bytes of the elements that are meant; whatever the other bytes
-/// are, the answer or the refusal is the same.
+/// Over a plain `vlen`, through whatever chain, a read rests on the length of the bytes below the
+/// bytes-to-bytes codecs, on the offsets there and on the bytes of the elements that are selected;
+/// whatever the other bytes are, the answer or the error is the same.
 pub fn reads_are_alike<B>()
     ensures law { (f : BytesCodecs B) → StoredReadsAlike f }
 {}
 
-/// The places whose bytes `planned_ranges` answers are those that the indexer means, each as often:
-/// over `bytes` without bytes codecs those of a box that goes through the array codecs as one in the
-/// order in which they stand in the value, so that they rise, and all others in the indexer's order.
+/// The places whose bytes `planned_ranges` answers are those that the indexer selects, each as
+/// often: over `bytes` without bytes-to-bytes codecs those of a box that goes through the
+/// array-to-array codecs as one in the order in which they stand in the value, so that they rise,
+/// and all others in the indexer's order.
 pub fn planned_places_are_meant<B>()
     ensures law { PlannedPlacesAreMeant B }
 {}

@@ -42,6 +42,7 @@ pub use zarrs_codec::{
     PartialDecoderCapability, PartialEncoderCapability, Refused, SampleBytesCodec, SampleMaker,
     StorageError,
 };
+pub use zarrs_crc32c::{CRC32C, Crc32cCodec, Crc32cMaker};
 pub use zarrs_data_type::{Components, DataType, Endianness, FillValue, HasComponents};
 pub use zarrs_metadata::{
     BytesCodecConfiguration, BytesCodecConfigurationV1, Configuration, MetadataV3,

@@ -1,6 +1,6 @@
 //! Stores a chunk of 4 by 6 bytes, reads a window of it, edits the window and decodes the whole.
 //!
-//! The chunk is transposed, and a bytes codec of the caller's puts the value's length in front. The
+//! The chunk is transposed, and a checksum stands behind the value. The
 //! window is read, and the edit made, through a storage handle, as if the whole chunk were there.
 #![tactic(auto)]
 
@@ -11,8 +11,9 @@ use std::io;
 use std::process::ExitCode;
 use thiserror::Error;
 use zarrs_codec_chain::{
-    ArrayBytes, ArraySubset, ChunkShape, CodecChain, CodecChainPartialTraits, CodecError, DataType,
-    FillValue, Indexer, MemoryHandle, MetadataV3, PluginCreateError, SampleBytesCodec, SampleMaker,
+    ArrayBytes, ArraySubset, ChunkShape, CodecChain, CodecChainPartialTraits, CodecError,
+    Crc32cCodec, Crc32cMaker, DataType, FillValue, Indexer, MemoryHandle, MetadataV3,
+    PluginCreateError,
 };
 
 /// What stopped the program.
@@ -34,7 +35,7 @@ enum Fault {
 const CODECS: &'static str = r#"[
     {"name": "transpose", "configuration": {"order": [1, 0]}},
     "bytes",
-    "sample.length"
+    "crc32c"
 ]"#;
 
 /// The elements of the chunk, row by row.
@@ -53,18 +54,18 @@ fn metadatas(alloc: Global, items: &[Value]) -> Result<Vec<MetadataV3>, PluginCr
     Ok(list)
 }
 
-/// The chain of a list of metadata in JSON, its bytes codecs made by `SampleMaker`.
-fn chain(alloc: Global, text: &str) -> Result<CodecChain<SampleBytesCodec>, Fault> {
+/// The chain of a list of metadata in JSON, its bytes-to-bytes codec made by `Crc32cMaker`.
+fn chain(alloc: Global, text: &str) -> Result<CodecChain<Crc32cCodec>, Fault> {
     let tree = Value::from_str(alloc, text)?;
     let items = match &tree {
         Value::Array(items) => items.as_slice(),
         _ => &[],
     };
     let list = metadatas(alloc, items)?;
-    Ok(CodecChain::from_metadata(alloc, list.as_slice(), &SampleMaker)?)
+    Ok(CodecChain::from_metadata(alloc, list.as_slice(), &Crc32cMaker)?)
 }
 
-/// What a chain is told of a chunk.
+/// What a chain is returned of a chunk.
 #[derive(Drop)]
 struct Form {
     shape: ChunkShape,
@@ -84,7 +85,7 @@ fn example_form(alloc: Global) -> Result<Form, CodecError> {
 /// The whole chunk is encoded, and its value is stored.
 fn store(
     alloc: Global,
-    chain: &CodecChain<SampleBytesCodec>,
+    chain: &CodecChain<Crc32cCodec>,
     form: &Form,
 ) -> Result<MemoryHandle, CodecError> {
     let Form {
@@ -100,7 +101,7 @@ fn store(
 /// Reads the window of rows 1 and 2, columns 2 to 4, and writes other elements there.
 fn edit<R: Print + AllocGlobal>(
     rt: &R,
-    chain: &CodecChain<SampleBytesCodec>,
+    chain: &CodecChain<Crc32cCodec>,
     form: &Form,
     handle: MemoryHandle,
 ) -> Result<MemoryHandle, Fault> {
@@ -124,7 +125,7 @@ fn edit<R: Print + AllocGlobal>(
 /// Decodes the whole chunk of what is stored.
 fn decode<R: Print + AllocGlobal>(
     rt: &R,
-    chain: &CodecChain<SampleBytesCodec>,
+    chain: &CodecChain<Crc32cCodec>,
     form: &Form,
     value: &[u8],
 ) -> Result<(), Fault> {

@@ -60,7 +60,10 @@ pub(crate) fn member<'v>(members: &'v Configuration, key: &str) -> Option<&'v Va
 }
 
 /// An object with the same members.
-pub(crate) fn copied(members: &Configuration, alloc: Global) -> Result<Configuration, AllocError>
+pub(crate) fn copy_members(
+    members: &Configuration,
+    alloc: Global,
+) -> Result<Configuration, AllocError>
     ensures copy { IfOk result (λ copy. configuration_seen copy ≡ configuration_seen members.now) }
 {
     let mut copies = Map::new(alloc);

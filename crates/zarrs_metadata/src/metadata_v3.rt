@@ -9,7 +9,7 @@ ghost use Rattle.zarrs_metadata.specs.MetadataV3.{metadata_seen, configuration_s
 ghost use Rattle.zarrs_metadata.specs.PluginCreateError.{Makes};
 ghost use Rattle.zarrs_metadata.specs.Trees.{lent_tree, needed_text, optional_key};
 
-use crate::json::{copied, holds_float, member};
+use crate::json::{copy_members, holds_float, member};
 use crate::plugin_create_error::PluginCreateError;
 use serde_json::{Map, Value};
 use std::alloc::Global;
@@ -57,7 +57,7 @@ fn must_understand_of(value: Option<&Value>) -> Result<bool, PluginCreateError>
     }
 }
 
-fn copied_where_there(
+fn copy_where_there(
     configuration: Option<&Configuration>,
     alloc: Global,
 ) -> Result<Option<Configuration>, PluginCreateError>
@@ -65,7 +65,7 @@ fn copied_where_there(
 {
     match configuration {
         None => Ok(None),
-        Some(members) => Ok(Some(copied(members, alloc)?)),
+        Some(members) => Ok(Some(copy_members(members, alloc)?)),
     }
 }
 
@@ -77,7 +77,7 @@ fn metadata_among(alloc: Global, members: &Configuration) -> Result<MetadataV3, 
     let must_understand = must_understand_of(member(members, "must_understand"))?;
     Ok(MetadataV3 {
         name: String::from_str(alloc, name)?,
-        configuration: copied_where_there(configuration, alloc)?,
+        configuration: copy_where_there(configuration, alloc)?,
         must_understand,
     })
 }
@@ -184,7 +184,7 @@ impl MetadataV3 {
     {
         let mut members = Map::new(alloc);
         if let Some(configuration) = &self.configuration {
-            let copy = Value::Object(copied(configuration, alloc)?);
+            let copy = Value::Object(copy_members(configuration, alloc)?);
             serde_json::put(&mut members, alloc, "configuration", copy)?;
         }
         if !self.must_understand {

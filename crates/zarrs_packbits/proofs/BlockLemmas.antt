@@ -1,10 +1,10 @@
 -- Components of one byte each, made of the fields of bytes.
-use Rattle.std.proofs.Common.{◌≡◌, ℕ, zero, suc, ◌+◌, ◌-◌, ◌*◌, ◌/◌, ◌%◌, ◌^◌, ◌<◌, ◌≤◌, List, [], ◌∷◌, ◌++◌, length, map, take, drop, get_or, set, arith, refl, ap, sym, ◌∙◌}
+use Rattle.std.proofs.Common.{◌≡◌, ℕ, zero, suc, ◌+◌, ◌-◌, ◌*◌, ◌/◌, ◌%◌, ◌^◌, ◌<◌, ◌≤◌, List, [], ◌∷◌, ◌++◌, length, map, take, drop, get_or, set, arith, refl, ap, sym, subst, ◌∙◌}
 use Rattle.std.specs.List.{flat_map, range_with_len, take-map}
 use Rattle.std.specs.Prelude.{bit_or}
 use Rattle.std.proofs.Math.Seq.{take-add}
 use Rattle.std.proofs.lemmas.Nat.{pow_pos, mod_below, shl_whole, or_comm, or_shifted}
-use Rattle.std.proofs.lemmas.List.{drop_more, get_or-drop, append-nil, append_assoc, take_at, drop_at, drop-take, drop-drop, take-take, take_all, take-append-le, length-append, length-drop, length-take-le, length-set, take_more, take_more_set, take_rest, map-append}
+use Rattle.std.proofs.lemmas.List.{drop_more, get_or-drop, append-nil, append_assoc, take_at, drop_at, drop-take, drop-drop, take-take, take_all, take-append-le, take-append-drop, length-append, length-drop, length-take-le, length-set, take_more, take_more_set, take_rest, map-append}
 use Rattle.std.proofs.lemmas.List.Concat.{flat_map-append}
 use Rattle.zarrs_packbits.specs.Bits.{low_bits, bits_of, field}
 use Rattle.zarrs_packbits.specs.BitStream.{components_from}
@@ -13,6 +13,7 @@ use Rattle.zarrs_packbits.specs.KeptBits.{component_bits, full_component, sign_w
 use Rattle.zarrs_packbits.specs.declared.layout.PackedLayout.{PackedLayout}
 use Rattle.zarrs_packbits.proofs.FieldLemmas.{flat_more, flat_map_same}
 use Rattle.zarrs_packbits.proofs.ElementBits.{flat_split}
+use Rattle.zarrs_packbits.proofs.LocalLemmas.{field_of_piece}
 use Rattle.zarrs_packbits.proofs.LowBits.{low_bits-cat, length-low_bits, length-bits_of, low_bits-split, low_bits-mod, bits_of-drop, bits_of-take, bit_of-place}
 use Rattle.zarrs_packbits.proofs.WordLemmas.{component_is, field_within, low_bits-take}
 
@@ -215,13 +216,13 @@ map_more f to from p h k e =
 
 -- ---- blocks behind one another
 
-pub last_step : (l : PackedLayout) (c m left n : ℕ) (old new block front bytes zeros : List ℕ) → l.count ≡ c → m * c ≡ 8 → 0 < c → l.first + l.count + l.above ≡ 8 → block ≡ map (lifted_byte l.first (sign_weight l.sign l.count)) (flat_map (fields_of c m) (front ++ zeros)) → front ≡ take left bytes → left ≤ length bytes → n * c ≤ 8 * left → n ≤ m * (left + length zeros) → new ≡ old ++ take n block
+pub last_step : (l : PackedLayout) (c m left n : ℕ) (old new block from bytes : List ℕ) → l.count ≡ c → m * c ≡ 8 → 0 < c → l.first + l.count + l.above ≡ 8 → block ≡ map (lifted_byte l.first (sign_weight l.sign l.count)) (flat_map (fields_of c m) from) → take left from ≡ take left bytes → left ≤ length bytes → n * c ≤ 8 * left → n ≤ m * length from → new ≡ old ++ take n block
     → bits_of new ≡ bits_of old ++ components_from l 0 n (bits_of bytes)
-last_step l c m left n old new block front bytes zeros is whole some size made begins within long short added =
-    let count : length (front ++ zeros) ≡ left + length zeros = length-append front zeros ∙ ap (λ k. k + length zeros) (ap length begins ∙ length-take-le left bytes within) in
+last_step l c m left n old new block from bytes is whole some size made begins within long short added =
+    let rest = drop left from in
     ap bits_of added ∙ flat_map-append (low_bits 8) old (take n block)
     ∙ ap (λ (xs : List ℕ). bits_of old ++ bits_of (take n xs)) made
-    ∙ ap (λ (xs : List ℕ). bits_of old ++ xs) (block_is l c m left 0 n (front ++ zeros) bytes zeros is whole some size (ap (λ (xs : List ℕ). xs ++ zeros) begins) (omega arith) long (rw count short))
+    ∙ ap (λ (xs : List ℕ). bits_of old ++ xs) (block_is l c m left 0 n from bytes rest is whole some size (sym (take-append-drop left from) ∙ ap (λ (xs : List ℕ). xs ++ rest) begins) (omega arith) long short)
 
 pub final_step : (l : PackedLayout) (at w r s parts : ℕ) (old out new bytes : List ℕ) → parts ≡ w + r → 8 * s ≡ at + w * l.count
     → out ≡ old ++ components_from l at w (bits_of bytes) → new ≡ out ++ components_from l 0 r (bits_of (take (length bytes - s) (drop s bytes)))
@@ -258,6 +259,37 @@ one_part bytes p first c lt h =
     ap (field first c) one
     ∙ ap (λ n. field n c (low_bits 8 byte)) (let e : first ≡ 0 + first = omega arith in e)
     ∙ sym (field_within (low_bits 8 byte) 0 first c byte (sym (low_bits-take (first + c) 8 byte h)))
+
+-- a component more of those in the first byte
+head_more : (l : PackedLayout) (skip p x y : ℕ) (old out new bytes : List ℕ) → 0 < l.count → l.first + l.count + l.above ≡ 8 → 0 < length bytes → (skip + p) * l.count + l.count ≤ 8 → x ≡ cut_byte ((skip + p) * l.count) l.count (get_or bytes 0 0) → y ≡ lifted_byte l.first (sign_weight l.sign l.count) x
+    → bits_of out ≡ bits_of old ++ components_from l (skip * l.count) p (bits_of bytes) → new ≡ out ++ y ∷ [] → bits_of new ≡ bits_of old ++ components_from l (skip * l.count) (p + 1) (bits_of bytes)
+head_more l skip p x y old out new bytes some size filled room isx isy before added =
+    let c = l.count in
+    let bits = bits_of bytes in
+    let first = l.first in
+    let here = (skip + p) * c in
+    let at = skip * c in
+    let front = components_from l at p bits in
+    let place : here ≡ at + p * c + 0 * c = omega arith in
+    let below : x < 2 ^ c = rw isx (mod_below (get_or bytes 0 0 / 2 ^ here) (2 ^ c) (pow_pos c)) in
+    let kept : low_bits c x ≡ field here c bits
+    = ap (low_bits c) isx ∙ sym (one_part bytes 0 here c filled room) ∙ field_of_piece bytes 0 1 here c (omega arith) (omega arith) ∙ ap (λ n. field n c bits) (let e : 8 * 0 + here ≡ here = omega arith in e) in
+    let byte : low_bits 8 y ≡ components_from l (at + p * c) 1 bits
+    = ap (low_bits 8) isy ∙ ap (λ m. low_bits m (lifted_byte first (sign_weight l.sign c) x)) (sym size) ∙ component_is 8 first c l.above x l.sign some (omega arith) below
+    ∙ ap (full_component first l.above l.sign) (kept ∙ ap (λ n. field n c bits) place)
+    ∙ sym (append-nil (full_component first l.above l.sign (field (at + p * c + 0 * c) c bits))) in
+    ap bits_of added
+    ∙ flat_map-append (low_bits 8) out (y ∷ [])
+    ∙ ap (λ (xs : List ℕ). xs ++ bits_of (y ∷ [])) before
+    ∙ ap (λ (xs : List ℕ). (bits_of old ++ front) ++ xs) (append-nil (low_bits 8 y) ∙ byte)
+    ∙ append_assoc (bits_of old) front (components_from l (at + p * c) 1 bits)
+    ∙ ap (λ (xs : List ℕ). bits_of old ++ xs) (sym (components_more l at p 1 bits))
+
+pub head_step : (l : PackedLayout) (count skip p x y : ℕ) (old out new bytes : List ℕ) → l.count ≡ count → 0 < l.count → l.first + l.count + l.above ≡ 8 → 0 < length bytes → (skip + p) * count + count ≤ 8 → x ≡ cut_byte ((skip + p) * count) count (get_or bytes 0 0) → y ≡ lifted_byte l.first (sign_weight l.sign count) x
+    → bits_of out ≡ bits_of old ++ components_from l (skip * count) p (bits_of bytes) → new ≡ out ++ y ∷ [] → bits_of new ≡ bits_of old ++ components_from l (skip * count) (p + 1) (bits_of bytes)
+head_step l count skip p x y old out new bytes is some size filled =
+    subst (λ (k : ℕ). (skip + p) * k + k ≤ 8 → x ≡ cut_byte ((skip + p) * k) k (get_or bytes 0 0) → y ≡ lifted_byte l.first (sign_weight l.sign k) x → bits_of out ≡ bits_of old ++ components_from l (skip * k) p (bits_of bytes) → new ≡ out ++ y ∷ [] → bits_of new ≡ bits_of old ++ components_from l (skip * k) (p + 1) (bits_of bytes)) is
+    (head_more l skip p x y old out new bytes some size filled)
 
 -- and of some of them in a row
 cut_parts : (c first s n : ℕ) (bytes : List ℕ) → s + n ≤ length bytes → first + c ≤ 8 → flat_map (low_bits c) (map (cut_byte first c) (take n (drop s bytes))) ≡ flat_map (λ j. field first c (component_bits 1 bytes (s + j))) (range_with_len 0 n)

@@ -78,19 +78,10 @@ chosen_not : (b : Bool) (n m : ℕ) → b ≡ false → (if b then n else m) ≡
 chosen_not true n m e = absurd cc
 chosen_not false n m e = refl
 
-chosen : (b : Bool) (n m : ℕ) → b ≡ true → (if b then n else m) ≡ n
-chosen true n m e = refl
-chosen false n m e = absurd cc
-
 -- one where not all bits of whole bytes are kept
 pub one_call : (settings : PackBitsSettings) (form : Form) (stored : Option (List ℕ)) (runs : List (ℕ × ℕ)) (l : PackedLayout) → packed_layout settings form ≡ Ok l → is_whole l ≡ false → reading_calls_of settings form stored runs ≡ 1
 one_call settings form stored runs l is part =
     chosen_not (keeps_all_bytes (packed_layout settings form)) (calls_for_runs (place_size form.type) stored runs) 1 (ap keeps_all_bytes is ∙ part)
-
--- and else as many as of the codec `bytes`
-pub whole_calls : (settings : PackBitsSettings) (form : Form) (stored : Option (List ℕ)) (runs : List (ℕ × ℕ)) (l : PackedLayout) → packed_layout settings form ≡ Ok l → is_whole l ≡ true → reading_calls_of settings form stored runs ≡ calls_for_runs (place_size form.type) stored runs
-whole_calls settings form stored runs l is whole =
-    chosen (keeps_all_bytes (packed_layout settings form)) (calls_for_runs (place_size form.type) stored runs) 1 (ap keeps_all_bytes is ∙ whole)
 
 -- so it is of the runs of the places that are read
 pub counted_at : {C T : Type 0} (calls : C → Option Calls) (settings : PackBitsSettings) (form : Form) (stored : Option (List ℕ)) (places : Result (List ℕ) CodecError) (runs : List (ℕ × ℕ)) (before after : C) (r : Result T CodecError) → places ≡ Ok (joined_runs runs) → AreFilled runs → AreApart runs

@@ -18,6 +18,7 @@ pub mod LowBits
 pub mod MadeAgain
 pub mod PartReads
 pub mod RunLemmas
+pub mod SpreadLemmas
 pub mod Standing
 pub mod Taken
 pub mod WholeChunk

@@ -2,17 +2,17 @@
 ghost use Rattle.std.specs.Prelude.{◌≡◌, ℕ, ◌+◌, ◌*◌, ◌%◌, ◌^◌, ◌<◌, ◌≤◌, length, replicate, IfOk, slice_index};
 ghost use Rattle.zarrs_packbits.specs.Bits.{low_bits, bit_of};
 ghost use Rattle.zarrs_packbits.specs.BlockBits.{stream_of_blocks};
-ghost use Rattle.zarrs_packbits.specs.PackedLayout.{IsOneTwoOrFour, IsPackedLayout, ReachWords, parts_of};
-ghost use Rattle.zarrs_packbits.specs.WrittenBits.{written_bits, AppendsBits, AppendsComponents, IsPartlyFilled, LeavesBits, LeavesFirst, LeavesUpTo, Flushes, LeavesParts, LeavesRest};
+ghost use Rattle.zarrs_packbits.specs.PackedLayout.{IsPackedLayout, ReachWords, parts_of};
+ghost use Rattle.zarrs_packbits.specs.WrittenBits.{written_bits, AppendsBits, IsPartlyFilled, LeavesBits, LeavesFirst, LeavesUpTo, Flushes, LeavesParts, LeavesRest};
 
-use crate::blocks::{append_blocks, append_cut};
+use crate::blocks::append_cut;
 use crate::lanes::{append_joined_lanes, append_spread_lanes};
 use crate::layout::PackedLayout;
 use crate::words::{append_bits, component_word, read_bits, read_within};
 use std::alloc::AllocError;
 
 /// One bit so many times, as a number.
-pub(crate) fn repeated(bit: bool, count: u64) -> u64
+pub(crate) fn repeat_bit(bit: bool, count: u64) -> u64
     requires some { 0 < count }
     requires count { count ≤ 64 }
     ensures bits { low_bits count result ≡ replicate count (bit_of bit) }
@@ -22,7 +22,7 @@ pub(crate) fn repeated(bit: bool, count: u64) -> u64
 }
 
 /// The bytes, with those of a word that is partly filled behind them.
-pub(crate) fn flushed(mut out: Vec<u8>, word: u64, filled: u32) -> Result<Vec<u8>, AllocError>
+pub(crate) fn flush_word(mut out: Vec<u8>, word: u64, filled: u32) -> Result<Vec<u8>, AllocError>
     requires room { filled < 64 }
     requires word { word < 2 ^ filled }
     ensures bits { Flushes out word filled result }
@@ -235,7 +235,7 @@ pub(crate) fn append_by_words(
 
 /// Those of the bits in `word` that make whole bytes go to `out`. The answer is the word that is
 /// partly filled then, and how far.
-fn leveled(out: &mut Vec<u8>, word: u64, filled: u32) -> Result<(u64, u32), AllocError>
+fn flush_whole_bytes(out: &mut Vec<u8>, word: u64, filled: u32) -> Result<(u64, u32), AllocError>
     requires begun { IsPartlyFilled word filled }
     ensures bits { LeavesBits out.new.items result (written_bits out.old.items word filled) }
     ensures begun { IfOk result (λ left. IsPartlyFilled left.0 left.1) }
@@ -305,63 +305,10 @@ pub(crate) fn append_first(
     if layout.size != 1 || (layout.count != 4 && layout.count != 2) {
         return append_words(out, word, filled, layout, bytes);
     }
-    let (last, used) = leveled(out, word, filled)?;
+    let (last, used) = flush_whole_bytes(out, word, filled)?;
     if used != 0 {
         return Ok((last, used, 0));
     }
     append_joined(out, layout, bytes)?;
     Ok((0, 0, (64 * (bytes.len() / 64)) as u64))
-}
-
-/// Appends so many components of one byte whose kept bits, one, two or four each, stand in the bytes from
-/// the first one on.
-fn append_spread(
-    out: &mut Vec<u8>,
-    layout: &PackedLayout,
-    bytes: &[u8],
-    parts: u64,
-) -> Result<(), AllocError>
-    requires size { layout.now.first + layout.now.count + layout.now.above ≡ 8 }
-    requires count { IsOneTwoOrFour layout.now.count }
-    requires inside { parts * layout.now.count ≤ 8 * length bytes.now }
-    ensures appended { AppendsComponents layout.now parts bytes.now out.old out.new result }
-{
-    match layout.count {
-        1 => append_blocks(out, layout, bytes, parts, 1, 64, 8),
-        2 => append_blocks(out, layout, bytes, parts, 2, 64, 16),
-        _ => append_blocks(out, layout, bytes, parts, 4, 128, 64),
-    }
-}
-
-/// Appends so many components of one byte, whose kept bits, one, two or four each, stand in the bytes
-/// from bit `at` on: 64 at a time, from the first one on that begins a byte.
-pub(crate) fn append_bytes(
-    out: &mut Vec<u8>,
-    word: u64,
-    filled: u32,
-    layout: &PackedLayout,
-    bytes: &[u8],
-    at: u64,
-    parts: u64,
-) -> Result<(u64, u32), AllocError>
-    requires begun { IsPartlyFilled word filled }
-    requires some { 0 < layout.now.count }
-    requires size { layout.now.first + layout.now.count + layout.now.above ≡ 8 }
-    requires count { IsOneTwoOrFour layout.now.count }
-    requires inside { at + parts * layout.now.count ≤ 8 * length bytes.now }
-    requires at { at + parts * layout.now.count < 2 ^ 64 }
-    ensures bits { LeavesParts out.old word filled layout.now at parts bytes.now out.new result }
-    ensures begun { IfOk result (λ left. IsPartlyFilled left.0 left.1) }
-{
-    let head = ((8 - at % 8) % 8 / layout.count).min(parts);
-    let (part, reached) = append_components(out, word, filled, layout, bytes, at, head)?;
-    let (last, used) = leveled(out, part, reached)?;
-    let next = at + head * layout.count;
-    let rest = parts - head;
-    if next % 8 != 0 || used != 0 {
-        let left = append_components(out, last, used, layout, bytes, next, rest)?;
-        return Ok(left);
-    }
-    append_spread(out, layout, &bytes[(next / 8) as usize..], rest)?;
-    Ok((0, 0))
 }

@@ -2,13 +2,13 @@
 ghost use Rattle.std.specs.Prelude.{◌≡◌, ℕ, ◌+◌, ◌*◌, ◌^◌, ◌<◌, ◌≤◌, List, [], length, replicate, IfOk};
 ghost use Rattle.zarrs_packbits.specs.Bits.{low_bits, bits_of, field, bit_of};
 ghost use Rattle.zarrs_packbits.specs.BitStream.{stream_of_bytes, component_in};
-ghost use Rattle.zarrs_packbits.specs.PackedLayout.{IsOneTwoOrFour, IsPackedLayout, parts_of};
+ghost use Rattle.zarrs_packbits.specs.PackedLayout.{IsPackedLayout, parts_of};
 ghost use Rattle.zarrs_packbits.specs.Packing.{packing};
 ghost use Rattle.zarrs_packbits.specs.WrittenBits.{flags_of, written_bits, IsPartlyFilled, Puts, PutsComponents};
 
 use crate::bit_appends::{
-    append_by_words, append_bytes, append_first, append_kept, append_narrow, flushed, in_range,
-    parts_by_words, repeated,
+    append_by_words, append_first, append_kept, append_narrow, flush_word, in_range,
+    parts_by_words, repeat_bit,
 };
 use crate::layout::PackedLayout;
 use crate::words::{append_bits, gather_flags, read_bits};
@@ -82,7 +82,7 @@ impl BitWriter {
         let mut done = 0;
         while done < count {
             let more = (count - done).min(64);
-            self.put(repeated(bit, more), more as u32)?;
+            self.put(repeat_bit(bit, more), more as u32)?;
             done += more;
         }
         Ok(())
@@ -178,35 +178,6 @@ impl BitWriter {
         Ok(())
     }
 
-    /// Puts so many components of one byte, of which one bit is kept, or two or four.
-    fn put_spread(
-        &mut self,
-        layout: &PackedLayout,
-        bytes: &[u8],
-        at: u64,
-        parts: u64,
-    ) -> Result<(), AllocError>
-        requires some { 0 < layout.now.count }
-        requires size { layout.now.first + layout.now.count + layout.now.above ≡ 8 }
-        requires count { IsOneTwoOrFour layout.now.count }
-        requires inside { at + parts * layout.now.count ≤ 8 * length bytes.now }
-        requires at { at + parts * layout.now.count < 2 ^ 64 }
-        ensures appended { PutsComponents layout.now at parts bytes.now self.old self.new result }
-    {
-        let (word, filled) = append_bytes(
-            &mut self.out,
-            self.word,
-            self.filled,
-            layout,
-            bytes,
-            at,
-            parts,
-        )?;
-        self.word = word;
-        self.filled = filled;
-        Ok(())
-    }
-
     /// Puts so many components of up to 64 bits, whose kept bits stand in the bytes from bit `at` on.
     fn put_narrow(
         &mut self,
@@ -248,9 +219,6 @@ impl BitWriter {
         requires at { at + parts * layout.now.count < 2 ^ 64 }
         ensures appended { PutsComponents layout.now at parts bytes.now self.old self.new result }
     {
-        if layout.is_spread() {
-            return self.put_spread(layout, bytes, at, parts);
-        }
         if layout.is_narrow() {
             return self.put_narrow(layout, bytes, at, parts);
         }
@@ -265,7 +233,7 @@ impl BitWriter {
         ensures value { IfOk result (λ v. v.items ≡ packing self) }
     {
         let BitWriter { out, word, filled } = self;
-        let bytes = in_range(flushed(out, word, filled)?);
+        let bytes = in_range(flush_word(out, word, filled)?);
         Ok(bytes)
     }
 }

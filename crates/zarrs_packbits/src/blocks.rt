@@ -1,14 +1,10 @@
 //! Components of one byte each, 64 of them at a time.
-ghost use Rattle.std.specs.Prelude.{◌≡◌, ◌+◌, ◌*◌, ◌^◌, ◌<◌, ◌≤◌, All, length, map};
+ghost use Rattle.std.specs.Prelude.{◌≡◌, ◌+◌, ◌^◌, ◌<◌, ◌≤◌, All, map};
 ghost use Rattle.std.specs.List.{flat_map};
 ghost use Rattle.zarrs_packbits.specs.Bits.{bits_of, low_bits};
-ghost use Rattle.zarrs_packbits.specs.BlockBits.{block_fields, block_len, cut_byte, fields_of, lifted_byte};
-ghost use Rattle.zarrs_packbits.specs.KeptBits.{sign_weight};
-ghost use Rattle.zarrs_packbits.specs.PackedLayout.{IsOneTwoOrFour};
-ghost use Rattle.zarrs_packbits.specs.WrittenBits.{AppendsBits, AppendsComponents};
+ghost use Rattle.zarrs_packbits.specs.BlockBits.{block_fields, cut_byte, fields_of, lifted_byte};
+ghost use Rattle.zarrs_packbits.specs.WrittenBits.{AppendsBits};
 
-use crate::layout::PackedLayout;
-use crate::words::weight_of_sign;
 use std::alloc::AllocError;
 
 /// The bits of eight bytes, each in a byte.
@@ -51,31 +47,40 @@ fn spread_quarters(from: &[u8; 16]) -> [u8; 64]
     to
 }
 
+/// The byte whose kept bits are these, from bit `first` on.
+#[inline(always)]
+pub(crate) fn lift_byte(kept: u8, first: u64, weight: u8) -> u8
+    requires bit { first < 8 }
+    ensures value { result ≡ lifted_byte first weight kept }
+{
+    (kept ^ weight).wrapping_sub(weight) << first
+}
+
 /// The bytes whose kept bits are these, from bit `first` on.
 #[inline(always)]
-fn lifted<const N: usize>(kept: &[u8; N], first: u64, weight: u8) -> [u8; N]
+fn lift<const N: usize>(kept: &[u8; N], first: u64, weight: u8) -> [u8; N]
     requires bit { first < 8 }
     ensures value { result ≡ map (lifted_byte first weight) kept.now }
 {
     let mut to = [0u8; N];
     for place in 0..N {
-        to[place] = (kept[place] ^ weight).wrapping_sub(weight) << first;
+        to[place] = lift_byte(kept[place], first, weight);
     }
     to
 }
 
 /// The components, from bit `first` on, whose kept bits, one each, stand in eight bytes.
 #[inline(always)]
-fn bit_block(from: &[u8; 8], first: u64, weight: u8) -> [u8; 64]
+pub(crate) fn bit_block(from: &[u8; 8], first: u64, weight: u8) -> [u8; 64]
     requires bit { first < 8 }
     ensures value { result ≡ map (lifted_byte first weight) (flat_map (fields_of 1 8) from.now) }
 {
-    lifted(&spread_bits(from), first, weight)
+    lift(&spread_bits(from), first, weight)
 }
 
 /// The components, from bit `first` on, whose kept bits, four each, stand in 64 bytes.
 #[inline(always)]
-fn half_block(from: &[u8; 64], first: u64, weight: u8) -> [u8; 128]
+pub(crate) fn half_block(from: &[u8; 64], first: u64, weight: u8) -> [u8; 128]
     requires bit { first < 8 }
     ensures value { result ≡ map (lifted_byte first weight) (flat_map (fields_of 4 2) from.now) }
 {
@@ -84,106 +89,16 @@ fn half_block(from: &[u8; 64], first: u64, weight: u8) -> [u8; 128]
     if first == 0 && weight == 0 {
         return kept;
     }
-    lifted(&kept, first, weight)
+    lift(&kept, first, weight)
 }
 
 /// The components, from bit `first` on, whose kept bits, two each, stand in 16 bytes.
 #[inline(always)]
-fn quarter_block(from: &[u8; 16], first: u64, weight: u8) -> [u8; 64]
+pub(crate) fn quarter_block(from: &[u8; 16], first: u64, weight: u8) -> [u8; 64]
     requires bit { first < 8 }
     ensures value { result ≡ map (lifted_byte first weight) (flat_map (fields_of 2 4) from.now) }
 {
-    lifted(&spread_quarters(from), first, weight)
-}
-
-/// Appends so many components of one byte, as many as a block has or fewer, whose kept bits, one,
-/// two or four each, stand in the bytes from the first one on.
-#[inline(always)]
-fn append_block(
-    out: &mut Vec<u8>,
-    layout: &PackedLayout,
-    bytes: &[u8],
-    parts: usize,
-    count: u64,
-    weight: u8,
-) -> Result<(), AllocError>
-    requires count { layout.now.count ≡ count }
-    requires kept { IsOneTwoOrFour count }
-    requires size { layout.now.first + layout.now.count + layout.now.above ≡ 8 }
-    requires weight { weight ≡ sign_weight layout.now.sign count }
-    requires few { parts * count ≤ 8 * block_len count }
-    requires inside { parts * count ≤ 8 * length bytes.now }
-    ensures appended { AppendsComponents layout.now parts bytes.now out.old out.new result }
-{
-    let first = layout.first;
-    let left = (parts * count as usize + 7) / 8;
-    match count {
-        1 => {
-            let mut from = [0u8; 8];
-            from[..left].copy_from_slice(&bytes[..left]);
-            out.extend_from_slice(&bit_block(&from, first, weight)[..parts])?;
-            Ok(())
-        }
-        2 => {
-            let mut from = [0u8; 16];
-            from[..left].copy_from_slice(&bytes[..left]);
-            out.extend_from_slice(&quarter_block(&from, first, weight)[..parts])?;
-            Ok(())
-        }
-        _ => {
-            let mut from = [0u8; 64];
-            from[..left].copy_from_slice(&bytes[..left]);
-            out.extend_from_slice(&half_block(&from, first, weight)[..parts])?;
-            Ok(())
-        }
-    }
-}
-
-/// Appends so many components of one byte, a block of `room` of them at a time, out of `len` bytes.
-/// Their kept bits, one, two or four each, stand in the bytes from the first one on.
-#[inline(always)]
-pub(crate) fn append_blocks(
-    out: &mut Vec<u8>,
-    layout: &PackedLayout,
-    bytes: &[u8],
-    parts: u64,
-    count: u64,
-    room: u64,
-    len: usize,
-) -> Result<(), AllocError>
-    requires count { layout.now.count ≡ count }
-    requires kept { IsOneTwoOrFour count }
-    requires some { 0 < room }
-    requires room { room * count ≡ 8 * len }
-    requires len { len ≡ block_len count }
-    requires size { layout.now.first + layout.now.count + layout.now.above ≡ 8 }
-    requires inside { parts * count ≤ 8 * length bytes.now }
-    ensures appended { AppendsComponents layout.now parts bytes.now out.old out.new result }
-{
-    let weight = weight_of_sign(count, layout.sign) as u8;
-    let whole = (parts / room) as usize;
-    for block in 0..whole {
-        append_block(
-            out,
-            layout,
-            &bytes[len * block..],
-            room as usize,
-            count,
-            weight,
-        )?;
-    }
-    if parts % room == 0 {
-        return Ok(());
-    }
-    append_block(
-        out,
-        layout,
-        &bytes[len * whole..],
-        (parts % room) as usize,
-        count,
-        weight,
-    )?;
-    Ok(())
+    lift(&spread_quarters(from), first, weight)
 }
 
 /// So many bits of each of 64 bytes, each in a byte.

@@ -18,6 +18,7 @@ mod packbits_codec;
 mod packbits_partial_decoder;
 mod packed_values;
 mod runs;
+mod spread;
 mod words;
 
 pub use bit_places::div_rem_8bit;

@@ -9,7 +9,7 @@ use zarrs_metadata::{
     MetadataV3, PackBitsCodecConfiguration, PackBitsPaddingEncoding, PluginCreateError,
 };
 
-fn said(padding: Option<PackBitsPaddingEncoding>) -> PackBitsPaddingEncoding
+fn choose_padding(padding: Option<PackBitsPaddingEncoding>) -> PackBitsPaddingEncoding
     ensures value { result ≡ padding_or_none padding }
 {
     match padding {
@@ -28,7 +28,7 @@ impl PackBitsCodec {
     {
         let PackBitsCodecConfiguration::V1(configuration) = configuration;
         PackBitsCodec::new(
-            said(configuration.padding_encoding),
+            choose_padding(configuration.padding_encoding),
             configuration.first_bit,
             configuration.last_bit,
         )

@@ -7,8 +7,10 @@ ghost use Rattle.zarrs_packbits.specs.BitStream.{bytes_packed, bytes_unpacked};
 ghost use Rattle.zarrs_packbits.specs.PackedLayout.{IsPackedLayout, is_whole, parts_of};
 ghost use Rattle.zarrs_packbits.specs.PaddingByte.{padding_before, padding_behind, value_len};
 
+use crate::bit_appends::in_range;
 use crate::bit_writer::BitWriter;
 use crate::layout::PackedLayout;
+use crate::spread::append_spread;
 use std::alloc::{AllocError, Global};
 use std::borrow::CowSlice;
 use zarrs_array_bytes::ArrayBytesRaw;
@@ -16,7 +18,7 @@ use zarrs_chunk::CodecError;
 use zarrs_metadata::PackBitsPaddingEncoding;
 
 /// Puts the padding byte, where it stands first.
-fn begun(alloc: Global, layout: &PackedLayout, room: usize) -> Result<BitWriter, AllocError>
+fn begin_value(alloc: Global, layout: &PackedLayout, room: usize) -> Result<BitWriter, AllocError>
     requires layout { IsPackedLayout layout.now }
     ensures value { IfOk result (λ w. w ≡ bits_of (padding_before layout.now)) }
 {
@@ -29,7 +31,7 @@ fn begun(alloc: Global, layout: &PackedLayout, room: usize) -> Result<BitWriter,
 }
 
 /// Puts the padding byte, where it stands last.
-fn ended(layout: &PackedLayout, mut value: Vec<u8>) -> Result<Vec<u8>, AllocError>
+fn end_value(layout: &PackedLayout, mut value: Vec<u8>) -> Result<Vec<u8>, AllocError>
     requires layout { IsPackedLayout layout.now }
     ensures value { IfOk result (λ v. v.items ≡ value.items ++ padding_behind layout.now) }
 {
@@ -47,9 +49,9 @@ fn packed_value(alloc: Global, layout: &PackedLayout, bytes: &[u8]) -> Result<Ve
     requires len { length bytes.now ≡ parts_of layout.now * layout.now.size }
     ensures value { IfOk result (λ v. v.items ≡ bytes_packed layout.now bytes.now) }
 {
-    let mut writer = begun(alloc, layout, layout.value_len() as usize)?;
+    let mut writer = begin_value(alloc, layout, layout.value_len() as usize)?;
     writer.put_stream(layout, bytes)?;
-    let value = ended(layout, writer.finish()?)?;
+    let value = end_value(layout, writer.finish()?)?;
     Ok(value)
 }
 
@@ -61,8 +63,15 @@ fn unpacked_bytes(alloc: Global, layout: &PackedLayout, value: &[u8]) -> Result<
     ensures value { IfOk result (λ v. v.items ≡ bytes_unpacked layout.now value.now) }
 {
     let parts = layout.elements * layout.group;
-    let mut writer = BitWriter::with_capacity(alloc, (parts * layout.size) as usize)?;
-    writer.put_components(layout, &value[layout.lead()..], 0, parts)?;
+    let room = (parts * layout.size) as usize;
+    let packed = &value[layout.lead()..];
+    if layout.is_spread() {
+        let mut out = Vec::with_capacity(alloc, room)?;
+        append_spread(&mut out, layout, packed, parts)?;
+        return Ok(in_range(out));
+    }
+    let mut writer = BitWriter::with_capacity(alloc, room)?;
+    writer.put_components(layout, packed, 0, parts)?;
     writer.finish()
 }
 

@@ -10,8 +10,10 @@ ghost use Rattle.zarrs_packbits.specs.PartialRead.{runs_are_sure, ReadsPacked};
 ghost use Rattle.zarrs_packbits.specs.ReadPlan.{run_span, run_bits, runs_len};
 ghost use Rattle.zarrs_packbits.specs.WrittenBits.{Puts};
 
+use crate::bit_appends::in_range;
 use crate::bit_writer::BitWriter;
 use crate::layout::PackedLayout;
+use crate::spread::append_runs;
 use std::alloc::{AllocError, Global};
 use zarrs_bytes::fill_runs;
 use zarrs_chunk::{CodecError, count_places};
@@ -81,6 +83,11 @@ fn unpack_runs(
 {
     let element = layout.group.saturating_mul(layout.size);
     let room = count_places(runs).saturating_mul(element);
+    if layout.is_spread() {
+        let mut out = Vec::with_capacity(alloc, room as usize)?;
+        append_runs(&mut out, layout, bytes, runs)?;
+        return Ok(in_range(out));
+    }
     let mut writer = BitWriter::with_capacity(alloc, room as usize)?;
     put_runs(&mut writer, layout, bytes, runs)?;
     writer.finish()

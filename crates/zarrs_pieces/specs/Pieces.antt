@@ -54,7 +54,7 @@ are_at_hand pieces numbers = list_all (is_at_hand pieces) numbers
 abbrev pub numbers_of : ByteSpan → List ℕ
 numbers_of range = range_with_len range.start (range.end - range.start)
 
--- where all bytes with these numbers are at hand, a read doesn't fail, but for want of memory
+-- where all bytes with these numbers are at hand, a read doesn't fail, but for lack of memory
 abbrev pub SureIfAtHand : {T : Type 0} → List Piece → List ℕ → Result T CodecError → Type 0
 SureIfAtHand pieces numbers result = NeverFailsIf (are_at_hand (pieces_seen pieces) numbers) result
 
@@ -81,7 +81,7 @@ value_with len pieces = map (byte_at pieces) (range_with_len 0 len)
 abbrev pub value_of : ℕ → List Piece → List ℕ
 value_of len pieces = value_with len (pieces_seen pieces)
 
--- the ranges' bytes of this value are answered, joined in order, or the first refusal; a want of memory or a failure may come in their place
+-- the ranges' bytes of this value are answered, joined in order, or the first error; a lack of memory or a failure may come in their place
 abbrev pub Gathers : ℕ → List Piece → List ByteSpan → Result (Vec ℕ Global) CodecError → Type 0
 Gathers len pieces ranges result = AnswersItems memory_or_fault result (read_value (value_of len pieces) ranges)
 
@@ -90,6 +90,6 @@ pub record HasPieces (len : ℕ) (pieces : List PlainPiece) (value : List ℕ) :
   pub length_is : length value ≡ len
   pub same : (number : ℕ) → is_at_hand pieces number ≡ true → get_or value number 0 ≡ byte_at pieces number
 
--- the range ends past the value, and is refused for that, or else a byte isn't at hand
+-- the range ends past the value, and is rejected for that, or else a byte isn't at hand
 abbrev pub IsOutside : List ℕ → ByteSpan → CodecError → Type 0
 IsOutside value range error = Excused (fault error) (EndsOutside value range error)

@@ -20,7 +20,7 @@ pieces_state handle =
       accepted_writes = 0;
     }
 
--- the state of a handle that is made over pieces, or the refusal
+-- the state of a handle that is made over pieces, or the error
 abbrev pub made_state : ℕ → List PlainPiece → Result StorageState CodecError
 made_state len pieces = do
   _ ← demand (are_apart len 0 pieces) InvalidByteRange

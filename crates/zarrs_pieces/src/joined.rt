@@ -44,9 +44,9 @@ fn join_rising(alloc: Global, ranges: &[ByteRange]) -> Result<Vec<ByteRange>, Al
     Ok(joined)
 }
 
-/// Ranges of the same bytes, in order: each has a byte, and between one and the next is a byte of none
-/// of them. So the bytes that they have are pieces of which a [`PiecesHandle`](crate::PiecesHandle) is
-/// made. Refusals: `OutOfMemory`.
+/// Ranges of the same bytes, in order: each has a byte, and between one and the next is a byte of
+/// none of them. So the bytes that they have are pieces of which a
+/// [`PiecesHandle`](crate::PiecesHandle) is made. Errors: `OutOfMemory`.
 pub fn join_ranges(alloc: Global, ranges: Vec<ByteRange>) -> Result<Vec<ByteRange>, CodecError>
     ensures joins { IfOk result (λ joined. Joins ranges.items joined.items) }
     ensures memory { IfErr result (λ error. error ≡ OutOfMemory) }

@@ -5,8 +5,8 @@ use std::alloc::Global;
 use zarrs_chunk::CodecError;
 use zarrs_codec::{ByteRange, BytesPartialDecoderTraits, gather};
 
-/// A handle on a value in memory that is lent, or on none. It never fails, but for want of memory, so
-/// all of its bytes are sure.
+/// A handle on a value in memory that is lent, or on none. It never fails, but for lack of memory,
+/// so all of its bytes are sure.
 #[derive(Drop)]
 pub struct LentHandle<'a> {
     value: Option<&'a [u8]>,

@@ -13,8 +13,9 @@ use zarrs_codec::{ByteRange, BytesPartialDecoderTraits};
 
 /// A handle on a value of `len` bytes of which these pieces are at hand, lent by a caller.
 ///
-/// Reads of the pieces' bytes never fail, but for want of memory; a read of any other byte answers
-/// `Storage` with the code 0. As pieces stand apart, a range whose bytes are all at hand lies in one.
+/// Reads of the pieces' bytes never fail, but for lack of memory; a read of any other byte answers
+/// `Storage` with the code 0. As pieces stand apart, a range whose bytes are all at hand lies in
+/// one.
 #[derive(Drop)]
 pub struct PiecesHandle<'a> {
     len: u64,
@@ -27,7 +28,7 @@ pub struct PiecesHandle<'a> {
 impl<'a> PiecesHandle<'a> {
     ghost use Rattle.zarrs_pieces.specs.PiecesHandle.{pieces_state, made_over};
 
-    /// A handle over these pieces of a value of `len` bytes. Refusals: `InvalidByteRange` where they
+    /// A handle over these pieces of a value of `len` bytes. Errors: `InvalidByteRange` where they
     /// don't come in order, with at least a byte between one and the next, or one ends behind the
     /// value.
     pub fn new(len: u64, pieces: Vec<Piece<'a>>) -> Result<PiecesHandle<'a>, CodecError>

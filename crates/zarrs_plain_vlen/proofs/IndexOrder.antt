@@ -1,4 +1,4 @@
--- The order in which an index is refused.
+-- The order in which an index is rejected.
 use Rattle.std.proofs.Common.{◌≡◌, ℕ, ◌+◌, ◌*◌, ◌^◌, ◌==◌, nat_lt, Bool, true, false, if◌then◌else◌, List, length, Result, Ok, Some, refl, ap, ◌∙◌}
 use Rattle.zarrs_chunk.specs.Answer.{◌>>=◌, demand, checked_u64}
 use Rattle.zarrs_chunk.specs.declared.codec_error.CodecError.{CodecError}

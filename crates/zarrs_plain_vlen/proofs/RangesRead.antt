@@ -23,7 +23,7 @@ pub ranges_read : (stored : Option (List ℕ)) (ranges : List ByteSpan) → is_s
 ranges_read None ranges some inside = absurd cc
 ranges_read (Some value) ranges some inside = rw inside refl
 
--- and never refused
+-- and never rejected
 pub never_refused : (stored : Option (List ℕ)) (ranges : List ByteSpan) (error : CodecError) → is_some stored ≡ true → list_all (λ range. nat_le range.end (length (value_or_empty stored))) ranges ≡ true
     → read_ranges stored ranges ≡ Err error → ⊥
 never_refused stored ranges error some inside e = ok_no_err (Some (bytes_in_ranges (value_or_empty stored) ranges)) error (sym (ranges_read stored ranges some inside) ∙ e)

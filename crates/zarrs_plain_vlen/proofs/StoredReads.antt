@@ -69,7 +69,7 @@ refused_first : (r : Result Chunk CodecError) (error : CodecError) → (r >>= λ
 refused_first (Ok chunk) error e = absurd cc
 refused_first (Err cause) error e = cc
 
--- a refusal of what is stored is that of the value
+-- an error of what is stored is that of the value
 pub refused_stored : (form : PlainForm) (count : ℕ) (type : ElementType) (fill : List ℕ) (stored : Option (List ℕ)) (places : List ℕ) (error : CodecError) → stored_vlen_read form count stored places ≡ Err error → plain_read form count type fill stored places ≡ Err error
 refused_stored form count type fill None places error e = absurd cc
 refused_stored form count type fill (Some value) places error e = refused_first (vlen_read form count value places) error e

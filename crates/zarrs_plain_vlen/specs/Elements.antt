@@ -82,17 +82,17 @@ bytes_read offsets content places = do
   _ ← demand (list_all (is_there offsets (length content)) places) InvalidByteRange
   Ok (flat_map (cut offsets content) places)
 
--- The answer is the bytes of the elements of the runs, of data that stand there in what is stored, or the first refusal. Only a want of memory or a failure of the handle may come in its place.
+-- The answer is the bytes of the elements of the runs, of data that stand there in what is stored, or the first error. Only a lack of memory or a failure of the handle may come in its place.
 abbrev pub ReadsContent : List ℕ → ByteSpan → StorageState → List (ℕ × ℕ) → Result (Vec ℕ Global) CodecError → Type 0
 ReadsContent offsets content before runs result =
     Answers memory_or_fault (λ bytes. bytes.items) result (bytes_read offsets (span_bytes (stored_bytes before) content) (joined_runs runs))
 
--- the elements of the runs, of data that stand there in what is stored, or the first refusal
+-- the elements of the runs, of data that stand there in what is stored, or the first error
 abbrev pub stored_elements : List ℕ → ByteSpan → StorageState → List (ℕ × ℕ) → Result Chunk CodecError
 stored_elements offsets content before runs =
     elements_read offsets (span_bytes (stored_bytes before) content) (joined_runs runs)
 
--- The answer is a container of these elements, or the first refusal. Only a want of memory or a failure of the handle may come in its place.
+-- The answer is a container of these elements, or the first error. Only a lack of memory or a failure of the handle may come in its place.
 abbrev pub ReadsSpan : ElementType → List ℕ → ByteSpan → StorageState → List (ℕ × ℕ) → Result Held CodecError → Type 0
 ReadsSpan type offsets content before runs result =
     AnswersBy memory_or_fault (Holds type) result (stored_elements offsets content before runs)

@@ -27,14 +27,14 @@ ReadSelects {B} f =
     → All (λ size. 0 < size) sizes → CodecStands f (plain_codec_of form content) sizes type fill value chunk → All (λ place. place < product sizes) places
     → vlen_read form (product sizes) value places ≡ Ok (select chunk places)
 
--- A read rests on these bytes alone: two values of one length that have the same bytes there are read alike at these places, or refused for the same cause.
+-- A read rests on these bytes alone: two values of one length that have the same bytes there are read alike at these places, or rejected for the same cause.
 abbrev pub ReadsAlike : Type 0
 ReadsAlike =
     (form : PlainForm) (count : ℕ) (value other places : List ℕ)
     → length value ≡ length other → All (λ number. slice_index value number ≡ slice_index other number) (rests_on form count value places)
     → vlen_read form count value places ≡ vlen_read form count other places
 
--- Of a stored value that stands for a chunk, a read in part answers the chunk's elements that the selection means, or the selection's refusal.
+-- Of a stored value that stands for a chunk, a read in part answers the chunk's elements that the selection selects, or the selection's error.
 abbrev pub PartSelects : {B : Type 0} → BytesCodecs B → Type 0
 PartSelects {B} f =
     (form : PlainForm) (content : Option Endianness) (sizes : List ℕ) (type : ElementType) (fill value : List ℕ) (chunk : Chunk) (selection : Selection)
@@ -46,7 +46,7 @@ abbrev pub spelled_offsets : PlainForm → ℕ → List ℕ → List ℕ
 spelled_offsets form count index =
     offsets_in_chunk form.wide (map (bytes_element (Some form.order) (offset_type form.wide) index) (range_with_len 0 count))
 
--- An index is refused in this order: `Overflow` where 64 bits don't count the offsets, or their bytes; `InvalidBytesLength` where it has another length; `InvalidOffsets` where its offsets fall.
+-- An index is rejected in this order: `Overflow` where 64 bits don't count the offsets, or their bytes; `InvalidBytesLength` where it has another length; `InvalidOffsets` where its offsets fall.
 abbrev pub IndexIsRefusedInOrder : Type 0
 IndexIsRefusedInOrder =
     (form : PlainForm) (count : ℕ) (index : List ℕ)

@@ -11,7 +11,7 @@ use Rattle.zarrs_plain_vlen.specs.declared.layout.Layout.{Layout}
 abbrev pub vlen_layout : Layout → VlenLayout
 vlen_layout layout = record { index = layout.index; content = layout.content }
 
--- The answer is where index and data of the stored value stand, or the first refusal. Only a want of memory or a failure of the handle may come in its place.
+-- The answer is where index and data of the stored value stand, or the first error. Only a lack of memory or a failure of the handle may come in its place.
 abbrev pub FindsLayout : Bool → StorageState → Result Layout CodecError → Type 0
 FindsLayout at_end before result =
     Answers memory_or_fault vlen_layout result (layout_of at_end (stored_bytes before))

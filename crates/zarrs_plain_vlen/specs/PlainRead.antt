@@ -9,12 +9,12 @@ use Rattle.zarrs_data_type.specs.ElementType.{ElementType}
 use Rattle.zarrs_chain_laws.specs.vlen.PlainVlen.{PlainForm}
 use Rattle.zarrs_plain_vlen.specs.VlenRead.{vlen_read}
 
--- the elements at places of what is stored, or the first refusal; the fill element at each place, where nothing is stored
+-- the elements at places of what is stored, or the first error; the fill element at each place, where nothing is stored
 abbrev pub plain_read : PlainForm → ℕ → ElementType → List ℕ → Option (List ℕ) → List ℕ → Result Chunk CodecError
 plain_read form count type fill None places = Ok (map (λ _. fill_element type fill) places)
 plain_read form count type fill (Some value) places = vlen_read form count value places
 
--- the elements that a selection means, in its order, of what is stored, or the first refusal: the selection's; the value's
+-- the elements that a selection selects, in its order, of what is stored, or the first error: the selection's; the value's
 abbrev pub plain_part : PlainForm → List ℕ → ElementType → List ℕ → Option (List ℕ) → Selection → Result Chunk CodecError
 plain_part form sizes type fill stored selection = do
   places ← places_of selection sizes

@@ -21,7 +21,7 @@ are_inside value ranges = list_all (λ range. nat_le range.end (length value)) r
 abbrev pub SureAt : {T : Type 0} → StorageState → List ℕ → Result T CodecError → Type 0
 SureAt before numbers result = are_sure before.sure numbers ≡ true → is_fault result ≡ false
 
--- The bytes of these ranges of what is stored are read, joined in order. Only a want of memory or a failure of the handle may come in their place.
+-- The bytes of these ranges of what is stored are read, joined in order. Only a lack of memory or a failure of the handle may come in their place.
 abbrev pub ReadsRanges : StorageState → List ByteSpan → Result (Vec ℕ Global) CodecError → Type 0
 ReadsRanges before ranges result =
     Answers memory_or_fault (λ bytes. bytes.items) result (Ok (bytes_in_ranges (stored_bytes before) ranges))

@@ -15,20 +15,20 @@ use Rattle.zarrs_chain_laws.specs.vlen.VlenSteps.{offsets_form, read_offsets}
 
 -- ---- the answer
 
--- so many offsets that an index part stands for, or the first refusal
+-- so many offsets that an index part stands for, or the first error
 abbrev pub offsets_of_index : PlainForm → ℕ → List ℕ → Result (List ℕ) CodecError
 offsets_of_index form count index = do
   chunk ← bytes_chunk (Some form.order) (offsets_form form.wide count) index
   _ ← demand (rises (offsets_in_chunk form.wide chunk)) InvalidOffsets
   Ok (offsets_in_chunk form.wide chunk)
 
--- the offsets of so many elements, one more than these, that an index part stands for, or the first refusal
+-- the offsets of so many elements, one more than these, that an index part stands for, or the first error
 abbrev pub offsets_read : PlainForm → ℕ → List ℕ → Result (List ℕ) CodecError
 offsets_read form count index = do
   _ ← checked_u64 (count + 1)
   offsets_of_index form (count + 1) index
 
--- the offsets that the bytes of an index spell, of 8 bytes each or of 4, or the first refusal
+-- the offsets that the bytes of an index spell, of 8 bytes each or of 4, or the first error
 abbrev pub spelled_offsets : Bool → List ℕ → Result (List ℕ) CodecError
 spelled_offsets wide bytes = offsets_of (read_offsets wide bytes)
 
@@ -43,7 +43,7 @@ elements_read offsets content places = do
   _ ← demand (list_all (is_there offsets (length content)) places) InvalidByteRange
   Ok (map (λ place. plain (cut offsets content place)) places)
 
--- The elements at places of a chunk of so many, by a value's index and the elements' bytes alone; or the first refusal: of the value's parts; of the index, also where there are no places; of an element that isn't there.
+-- The elements at places of a chunk of so many, by a value's index and the elements' bytes alone; or the first error: of the value's parts; of the index, also where there are no places; of an element that isn't there.
 abbrev pub vlen_read : PlainForm → ℕ → List ℕ → List ℕ → Result Chunk CodecError
 vlen_read form count value places = do
   parts ← vlen_parts form.at_end value
@@ -52,7 +52,7 @@ vlen_read form count value places = do
 
 -- ---- what it rests on
 
--- the numbers, or none of what is refused
+-- the numbers, or none of what is rejected
 abbrev pub numbers_in : Result (List ℕ) CodecError → List ℕ
 numbers_in (Ok numbers) = numbers
 numbers_in (Err cause) = []
@@ -73,7 +73,7 @@ elements_at form count value places = do
   offsets ← offsets_read form count (span_bytes value layout.index)
   Ok (element_numbers layout.content.start offsets places)
 
--- The numbers of the bytes that a read of these places rests on: those of the index's length, those of the index and those of the elements; of a value that is refused, those of the parts that it has.
+-- The numbers of the bytes that a read of these places rests on: those of the index's length, those of the index and those of the elements; of a value that is rejected, those of the parts that it has.
 abbrev pub rests_on : PlainForm → ℕ → List ℕ → List ℕ → List ℕ
 rests_on form count value places =
     head_numbers form.at_end (length value)
@@ -84,7 +84,7 @@ abbrev pub stored_rests_on : PlainForm → ℕ → Option (List ℕ) → List �
 stored_rests_on form count None places = []
 stored_rests_on form count (Some value) places = rests_on form count value places
 
--- the elements at places of what is stored, or the first refusal; none, where nothing is stored
+-- the elements at places of what is stored, or the first error; none, where nothing is stored
 abbrev pub stored_vlen_read : PlainForm → ℕ → Option (List ℕ) → List ℕ → Result (Option Chunk) CodecError
 stored_vlen_read form count None places = Ok None
 stored_vlen_read form count (Some value) places = do

@@ -167,7 +167,7 @@ fn ends_of_runs(
     Ok(ends)
 }
 
-/// The bytes of the elements at the runs, read by one call. Refusals: `InvalidByteRange`.
+/// The bytes of the elements at the runs, read by one call. Errors: `InvalidByteRange`.
 fn read_bytes<H: BytesPartialDecoderTraits>(
     alloc: Global,
     handle: &mut H,
@@ -203,7 +203,7 @@ fn variable(bytes: Vec<u8>, offsets: Vec<usize>) -> Result<ArrayBytes<'static>, 
     ArrayBytes::new_vlen(CowSlice::Owned(bytes), ArrayBytesOffsets::new(offsets)?)
 }
 
-/// The elements at the runs, in their order, of data that stand there in the stored value. Refusals:
+/// The elements at the runs, in their order, of data that stand there in the stored value. Errors:
 /// `InvalidByteRange`.
 pub(crate) fn read_elements<H: BytesPartialDecoderTraits>(
     alloc: Global,

@@ -31,7 +31,7 @@ fn offset_size(data_type: VlenIndexDataType) -> u64
     }
 }
 
-/// How many offsets `count` elements have, where their index has `found` bytes. Refusals: `Overflow`
+/// How many offsets `count` elements have, where their index has `found` bytes. Errors: `Overflow`
 /// where 64 bits don't count the offsets, or their bytes; `InvalidBytesLength` where it has others.
 fn count_offsets(count: u64, data_type: VlenIndexDataType, found: u64) -> Result<u64, CodecError>
     ensures answer { result ≡ index_count (is_wide data_type) count found }
@@ -63,7 +63,7 @@ fn row_of(alloc: Global, count: u64) -> Result<ChunkShape, CodecError>
     }
 }
 
-/// The elements of an index, `count` offsets. Refusals: those of the codec `bytes`.
+/// The elements of an index, `count` offsets. Errors: those of the codec `bytes`.
 fn index_rows(
     alloc: Global,
     codec: PlainVlen,
@@ -84,7 +84,7 @@ fn index_rows(
     )
 }
 
-/// The offsets, `count` of them, that an index stands for. Refusals: those of the codec `bytes`;
+/// The offsets, `count` of them, that an index stands for. Errors: those of the codec `bytes`;
 /// `InvalidOffsets`.
 fn decode_index(
     alloc: Global,
@@ -101,7 +101,7 @@ fn decode_index(
 }
 
 /// The offsets of `count` elements, by the index that stands there in the stored value. An index of
-/// another length isn't read. Refusals: `Overflow`, `InvalidBytesLength`, `InvalidOffsets`.
+/// another length isn't read. Errors: `Overflow`, `InvalidBytesLength`, `InvalidOffsets`.
 pub(crate) fn read_index<H: BytesPartialDecoderTraits>(
     alloc: Global,
     handle: &mut H,

@@ -9,7 +9,7 @@ pub fn read_selects<B>()
 {}
 
 /// Of a stored value that stands for a chunk, a read in part answers the chunk's elements that the
-/// selection means, or the selection's refusal.
+/// selection selects, or the selection's error.
 pub fn part_selects<B>()
     ensures law { (f : BytesCodecs B) → PartSelects f }
 {}
@@ -19,8 +19,9 @@ pub fn reads_alike()
     ensures law { ReadsAlike }
 {}
 
-/// An index is refused in this order: `Overflow` where 64 bits don't count the offsets, or their
-/// bytes; `InvalidBytesLength` where it has another length; `InvalidOffsets` where its offsets fall.
+/// An index is rejected in this order: `Overflow` where 64 bits don't count the offsets, or their
+/// bytes; `InvalidBytesLength` where it has another length; `InvalidOffsets` where its offsets
+/// fall.
 pub fn index_is_refused_in_order()
     ensures law { IndexIsRefusedInOrder }
 {}

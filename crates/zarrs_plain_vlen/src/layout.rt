@@ -36,7 +36,7 @@ pub(crate) fn range_of(start: u64, end: u64) -> ByteRange
     }
 }
 
-/// Where the length of the index stands, in a value of `size` bytes. Refusals: `InvalidBytesLength`.
+/// Where the length of the index stands, in a value of `size` bytes. Errors: `InvalidBytesLength`.
 fn head_range(size: u64, location: VlenIndexLocation) -> Result<ByteRange, CodecError>
     ensures answer { result ≡ head_of (is_at_end location) size }
     ensures len { IfOk result (λ head. head.start + 8 ≡ head.end) }
@@ -55,7 +55,8 @@ fn head_range(size: u64, location: VlenIndexLocation) -> Result<ByteRange, Codec
     }
 }
 
-/// Where the parts stand of a value of `size` bytes, whose index has `count`. Refusals: `IndexLength`.
+/// Where the parts stand of a value of `size` bytes, whose index has `count`. Errors:
+/// `IndexLength`.
 fn layout_of_size(size: u64, location: VlenIndexLocation, count: u64) -> Result<Layout, CodecError>
     requires len { 8 ≤ size }
     ensures answer { seen vlen_layout result ≡ layout_within (is_at_end location) size count }
@@ -79,8 +80,8 @@ fn layout_of_size(size: u64, location: VlenIndexLocation, count: u64) -> Result<
     }
 }
 
-/// Where the parts of the stored value stand, which has `size` bytes. The length of its index is read,
-/// and nothing else. Refusals: `InvalidBytesLength`, `IndexLength`.
+/// Where the parts of the stored value stand, which has `size` bytes. The length of its index is
+/// read, and nothing else. Errors: `InvalidBytesLength`, `IndexLength`.
 pub(crate) fn read_layout<H: BytesPartialDecoderTraits>(
     alloc: Global,
     handle: &mut H,

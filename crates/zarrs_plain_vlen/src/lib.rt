@@ -1,5 +1,5 @@
 //! A plain `vlen` read in part: its index whole, and of the data the bytes of the elements that are
-//! meant alone.
+//! selected alone.
 //!
 //! A codec `vlen` is plain where its index chain is `bytes` with a byte order, and its data chain is
 //! `bytes`, both alone ([`PlainVlen`]). [`read_runs`] reads elements by runs of places over a lent

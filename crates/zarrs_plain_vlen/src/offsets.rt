@@ -42,7 +42,7 @@ impl Model for Offsets {
 }
 
 impl Offsets {
-    /// The offsets that the bytes spell. Refusals: `InvalidOffsets` where there is none, or one is
+    /// The offsets that the bytes spell. Errors: `InvalidOffsets` where there is none, or one is
     /// less than the one before.
     pub(crate) fn new(
         bytes: ArrayBytesRaw<'static>,

@@ -16,7 +16,7 @@ use zarrs_chunk::CodecError;
 use zarrs_codec::BytesPartialDecoderTraits;
 use zarrs_data_type::DataType;
 
-/// The elements at the places of these runs of the stored value, which has `size` bytes. Refusals:
+/// The elements at the places of these runs of the stored value, which has `size` bytes. Errors:
 /// those of `read_runs`.
 fn read_stored<H: BytesPartialDecoderTraits>(
     alloc: Global,
@@ -46,9 +46,9 @@ fn read_stored<H: BytesPartialDecoderTraits>(
 /// of `count` elements; `None` where nothing is stored.
 ///
 /// Of the stored value the length of the index is read, the index, and of the data the bytes of
-/// these elements alone, by one call. The container's offsets begin at 0, and it has no other bytes.
-/// Refusals, the first that holds, also where there are no runs: `InvalidBytesLength` where the
-/// value is shorter than the length of an index; `IndexLength`; `Overflow` where 64 bits don't
+/// these elements alone, by one call. The container's offsets begin at 0, and it has no other
+/// bytes. Errors, the first that holds, also where there are no runs: `InvalidBytesLength` where
+/// the value is shorter than the length of an index; `IndexLength`; `Overflow` where 64 bits don't
 /// count the offsets, or their bytes; `InvalidBytesLength` where the index has another length;
 /// `InvalidOffsets`; `InvalidByteRange` where an element that isn't empty ends behind the data.
 /// `OutOfMemory` and `Storage` may come at any time, `Storage` never where all bytes that are named

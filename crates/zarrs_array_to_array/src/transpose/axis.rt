@@ -15,7 +15,7 @@ pub(crate) struct Axis {
 }
 
 /// Two axes as one, where a step along the first passes all of the second.
-fn joined(first: Axis, second: Axis) -> Option<Axis>
+fn join_axes(first: Axis, second: Axis) -> Option<Axis>
     ensures adjoining { IfSome result (λ both. first.step ≡ second.size * second.step) }
     ensures size { IfSome result (λ both. both.size ≡ first.size * second.size) }
     ensures step { IfSome result (λ both. both.step ≡ second.step) }
@@ -60,7 +60,7 @@ fn push_behind(axes: &mut Vec<Axis>, first: Axis, second: Axis) -> Result<(), Al
     ensures reach { OnOk result (ReachBehind second (axes.old.items ++ first ∷ []) axes.new.items) }
     ensures count { OnOk result (length axes.old.items + 1 ≤ length axes.new.items) }
 {
-    match joined(first, second) {
+    match join_axes(first, second) {
         Some(both) => push_one(axes, both),
         None => push_both(axes, first, second),
     }

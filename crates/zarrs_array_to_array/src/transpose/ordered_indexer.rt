@@ -8,7 +8,7 @@ ghost use Rattle.zarrs_array_to_array.specs.Boxes.{tuples_in, ordered_tuples as 
 ghost use Rattle.zarrs_array_to_array.specs.EncodedSelection.{GivesOrdered};
 
 use crate::boxes::ordered_box;
-use crate::transpose::strides::permuted;
+use crate::transpose::strides::permute;
 use std::alloc::{AllocError, Global};
 use zarrs_chunk::{ArrayIndices, CodecError, Indexer};
 
@@ -24,7 +24,7 @@ fn ordered_tuples(
 {
     let mut ordered = Vec::with_capacity(alloc, tuples.len())?;
     for tuple in tuples {
-        ordered.push(permuted(alloc, order, tuple.as_slice())?)?;
+        ordered.push(permute(alloc, order, tuple.as_slice())?)?;
     }
     Ok(ordered)
 }

@@ -1,7 +1,7 @@
 //! The strides of a chunk, and rows of places.
 ghost use Rattle.std.specs.Prelude.{◌≡◌, ◌<◌, ◌^◌, ◌+◌, ◌*◌, ◌-◌, ◌++◌, length, All, IfOk, OnOk};
 ghost use Rattle.zarrs_chunk.specs.ChunkShape.{product};
-ghost use Rattle.zarrs_array_to_array.specs.Orders.{permuted as permuted_of};
+ghost use Rattle.zarrs_array_to_array.specs.Orders.{permuted};
 ghost use Rattle.zarrs_array_to_array.specs.Strides.{strides as strides_of, row, next_rows, IsRoomy};
 
 use std::alloc::{AllocError, Global};
@@ -25,9 +25,9 @@ pub(crate) fn strides(alloc: Global, sizes: &[u64]) -> Result<Vec<u64>, AllocErr
 
 /// Entry i of the answer is entry `order[i]` of the list: the sizes, starts or lengths of a
 /// transposed chunk. Errors: `OutOfMemory`.
-pub fn permuted(alloc: Global, order: &[usize], xs: &[u64]) -> Result<Vec<u64>, AllocError>
+pub fn permute(alloc: Global, order: &[usize], xs: &[u64]) -> Result<Vec<u64>, AllocError>
     requires order { All (λ axis. axis < length xs.now) order.now }
-    ensures value { IfOk result (λ v. v.items ≡ permuted_of order.now xs.now) }
+    ensures value { IfOk result (λ v. v.items ≡ permuted order.now xs.now) }
 {
     let mut out = Vec::with_capacity(alloc, order.len())?;
     for axis in order {

@@ -34,7 +34,7 @@ fn transposed_pieces(
 }
 
 /// The elements of one size of a chunk with its axes in this order.
-pub(crate) fn transposed_fixed<'b>(
+pub(crate) fn transpose_fixed<'b>(
     alloc: Global,
     bytes: &[u8],
     size: usize,

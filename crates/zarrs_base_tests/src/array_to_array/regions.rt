@@ -1,10 +1,10 @@
 //! A region of a chunk through codecs, by the calls of `zarrs_array_regions`: where it goes, and its
 //! elements there and back.
-ghost use Rattle.std.specs.Prelude.{◌≡◌, ◌<◌, ◌^◌, Ok, map};
+ghost use Rattle.std.specs.Prelude.{◌≡◌, ◌<◌, Ok, map};
 ghost use Rattle.zarrs_chunk.specs.ChunkShape.{product};
 ghost use Rattle.zarrs_array_bytes.specs.Validity.{validity};
 ghost use Rattle.zarrs_array_to_array.specs.Mapping.{mapping_of};
-ghost use Rattle.zarrs_array_regions.specs.Windows.{IsWindow, TakesRegion, TakeType};
+ghost use Rattle.zarrs_array_regions.specs.Windows.{TakesRegion, TakeType};
 
 use crate::array_to_array::calls::has_bytes;
 use crate::array_to_array::checks::{Asked, answers, indexer, is};
@@ -13,7 +13,7 @@ use std::alloc::Global;
 use std::process::Abort;
 use std::test::Fail;
 use zarrs_array_bytes::ArrayBytes;
-use zarrs_array_regions::{Window, decoded_window, encoded_window, kept_region, last_window};
+use zarrs_array_regions::{decoded_window, encode_region, kept_region, region_runs};
 use zarrs_array_to_array::{ArrayToArrayCodec, encoded_places};
 use zarrs_chunk::{ArraySubset, CodecError, Indexer};
 
@@ -45,25 +45,9 @@ fn codecs(alloc: Global, texts: &[&'static str]) -> Result<Vec<ArrayToArrayCodec
     Ok(codecs)
 }
 
-/// The window is the last two rows of a chunk of sizes 3 and 2.
-fn is_window(rt: &impl Abort, window: &Window) {
-    let came = (
-        window.sizes.as_slice(),
-        window.region.start(),
-        window.region.shape(),
-    );
-    let wanted = ([3, 2].as_slice(), [1, 0].as_slice(), [2, 2].as_slice());
-    is(rt, "the window", &came, &wanted);
-}
-
-/// Its places are one run.
-fn has_run(rt: &impl Abort, alloc: Global, window: Window) -> Result<(), CodecError>
-    requires inside { IsWindow (product window.sizes) window }
-    requires counted { product window.sizes < 2 ^ 64 }
-{
-    let runs = window.into_runs(alloc)?;
-    is(rt, "runs", &runs.as_slice(), &[(2, 4)].as_slice());
-    Ok(())
+/// The window is the last two rows of a chunk of sizes 3 and 2: its places are one run.
+fn is_run(rt: &impl Abort, runs: &[(u64, u64)]) {
+    is(rt, "runs", &runs, &[(2, 4)].as_slice());
 }
 
 /// Where the region goes.
@@ -76,9 +60,9 @@ fn goes(
 ) -> Result<(), CodecError>
     requires region { TakesRegion (map mapping_of codecs.now) form.now.shape region.now }
 {
-    let window = last_window(alloc, codecs, &form.shape, region)?;
-    is_window(rt, &window);
-    has_run(rt, alloc, window)
+    let runs = region_runs(alloc, codecs, &form.shape, region)?;
+    is_run(rt, runs.as_slice());
+    Ok(())
 }
 
 /// The elements of its window are decoded to its own.
@@ -108,9 +92,9 @@ fn comes_back(
     has_bytes(rt, "decoded", came, &Ok(ELEMENTS))
 }
 
-/// The window is the region's, and these are its elements.
-fn is_moved(rt: &impl Abort, window: &Window, held: &ArrayBytes<'_>) -> Result<(), CodecError> {
-    is_window(rt, window);
+/// The runs are the window's, and these are its elements.
+fn is_moved(rt: &impl Abort, runs: &[(u64, u64)], held: &ArrayBytes<'_>) -> Result<(), CodecError> {
+    is_run(rt, runs);
     answers(rt, "encoded", &held.as_fixed(), &Ok(MOVED))
 }
 
@@ -129,8 +113,8 @@ fn goes_along(
     let count = region.num_elements()?;
     let held = lent(ELEMENTS);
     held.validate(count, &form.data_type)?;
-    let (window, held) = encoded_window(alloc, codecs, &form.shape, region, held, &form.data_type)?;
-    is_moved(rt, &window, &held)
+    let (runs, held) = encode_region(alloc, codecs, &form.shape, region, held, &form.data_type)?;
+    is_moved(rt, runs.as_slice(), &held)
 }
 
 fn goes_and_comes(
@@ -184,6 +168,12 @@ fn chunk_is_kept(
 ) -> Result<(), CodecError> {
     let form = chunk_form(alloc, CHUNK)?;
     region_is_kept(rt, alloc, codecs, &form)
+}
+
+#[test]
+fn a_region_goes_through_a_transposition(rt: HostRuntime) -> Result<(), Fail> {
+    let codecs = codecs(rt.alloc(), &[LAST_FIRST])?;
+    Ok(chunk_is_kept(&rt, rt.alloc(), codecs.as_slice())?)
 }
 
 #[test]

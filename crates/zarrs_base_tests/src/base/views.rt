@@ -114,7 +114,10 @@ fn is_written(
 
 fn writes(rt: &impl Abort, alloc: Global, row: &Written) -> Result<(), CodecError> {
     let mut bytes = [0u8; 6];
-    is_written(rt, row, &mut view(alloc, &mut bytes, &row.form)?)
+    is_written(rt, row, &mut view(alloc, &mut bytes, &row.form)?)?;
+    // The view has been dropped, which writes nothing more.
+    are(rt, row.name, &bytes, row.after);
+    Ok(())
 }
 
 #[test]

@@ -20,7 +20,7 @@ use Rattle.zarrs_chain_laws.specs.PlainChain.{PlainCodec, PlainChain}
 use Rattle.zarrs_chain_laws.specs.Encode.{byte_elements, chain_value, codec_value}
 use Rattle.zarrs_chain_laws.specs.declared.codec_name.TheConstants.{OPTIONAL}
 
--- the type inside, or the refusal of a type that isn't optional
+-- the type inside, or the error of a type that isn't optional
 abbrev pub optional_inner : ElementType → Result ElementType CodecError
 optional_inner (fixed width components sign) = Err (UnsupportedDataType OPTIONAL)
 optional_inner text = Err (UnsupportedDataType OPTIONAL)
@@ -66,7 +66,7 @@ mask_chunk f chain sizes part = chain_chunk f chain sizes flag_type (0 ∷ []) p
 abbrev pub optional_content : {B : Type 0} → BytesCodecs B → PlainCodec B → List ℕ → ElementType → Held → Result (List ℕ) CodecError
 optional_content f codec sizes inner held = codec_value f codec sizes (optional inner) [] (elements (optional inner) (product sizes) held)
 
--- a container of the elements that a data part stands for under a mask, or the first refusal
+-- a container of the elements that a data part stands for under a mask, or the first error
 abbrev pub GivesPresent : {B : Type 0} → BytesCodecs B → PlainChain B → ElementType → List ℕ → List ℕ → Result Held CodecError → Type 0
 GivesPresent f chain type mask part result =
     GivesBy (Holds (optional type)) result (present_part (chain_chunk f chain) type (byte_elements mask) part)

@@ -65,7 +65,7 @@ index_elements wide offsets = do
   _ ← demand (offsets_fit wide offsets) OffsetTooLarge
   Ok (offset_elements wide (from_first offsets))
 
--- a container of an index's elements is given, or the refusal of offsets that are too large
+-- a container of an index's elements is given, or the error of offsets that are too large
 abbrev pub GivesIndex : Bool → List ℕ → Result Held CodecError → Type 0
 GivesIndex wide offsets result = GivesBy (Holds (offset_type wide)) result (index_elements wide offsets)
 
@@ -124,7 +124,7 @@ IsPackable settings form = IsOk (packed_layout settings form)
 abbrev pub offsets_form : Bool → ℕ → Form
 offsets_form wide count = form_of (count ∷ []) (offset_type wide) (offset_bytes wide 0)
 
--- The answer is whether `packbits` gives the elements of each chunk back unchanged that these bytes hold. Only a want of memory may come in its place.
+-- The answer is whether `packbits` gives the elements of each chunk back unchanged that these bytes hold. Only a lack of memory may come in its place.
 abbrev pub TellsKept : PackBitsSettings → List ℕ → ElementType → List ℕ → Result Bool CodecError → Type 0
 TellsKept settings sizes type items result =
     (chunk : Chunk) → Holds type (flen (lent_bytes items)) chunk → length chunk ≡ product sizes

@@ -13,7 +13,7 @@ use zarrs_metadata::{
     PluginCreateError,
 };
 
-/// The configuration of a metadata of `optional`. Refusals: those of `optional_configuration`.
+/// The configuration of a metadata of `optional`. Errors: those of `optional_configuration`.
 fn read_optional_configuration(
     alloc: Global,
     metadata: &MetadataV3,
@@ -29,9 +29,10 @@ fn read_optional_configuration(
     OptionalCodecConfiguration::from_configuration(alloc, configuration)
 }
 
-/// The configuration of a metadata of `optional`, whose lists are less deep. Refusals, the first
-/// that holds, `OutOfMemory` aside: `UnknownName` for another name; those of
-/// `OptionalCodecConfiguration::from_configuration`, and `InvalidConfiguration` where there is none.
+/// The configuration of a metadata of `optional`, whose lists are less deep. Errors, the first that
+/// holds, `OutOfMemory` aside: `UnknownName` for another name; those of
+/// `OptionalCodecConfiguration::from_configuration`, and `InvalidConfiguration` where there is
+/// none.
 pub fn optional_configuration(
     alloc: Global,
     metadata: &MetadataV3,
@@ -59,7 +60,7 @@ pub fn present_codecs(configuration: &OptionalCodecConfiguration) -> &[MetadataV
     configuration.data_codecs.as_slice()
 }
 
-/// The configuration of `optional` by its two keys. Refusals: `OutOfMemory`.
+/// The configuration of `optional` by its two keys. Errors: `OutOfMemory`.
 pub fn optional_members(
     alloc: Global,
     mask_codecs: Vec<MetadataV3>,

@@ -23,7 +23,7 @@ use zarrs_data_type::{DataType, FillValue};
 /// How many bytes stand before the mask: its length and that of the data, 8 bytes each.
 const HEADER_SIZE: usize = 16;
 
-/// The type of the present elements. Refusals: `UnsupportedDataType` where the type isn't optional.
+/// The type of the present elements. Errors: `UnsupportedDataType` where the type isn't optional.
 pub fn inner_type(data_type: &DataType) -> Result<&DataType, CodecError>
     ensures answer { seen (λ inner. inner.now) result ≡ optional_inner data_type.now }
     ensures no_fault { is_fault result ≡ false }
@@ -35,7 +35,7 @@ pub fn inner_type(data_type: &DataType) -> Result<&DataType, CodecError>
 }
 
 /// The fill value that a chain of present elements of this type gets: zeros, no bytes, or absent.
-/// Refusals: `OutOfMemory`.
+/// Errors: `OutOfMemory`.
 #[tactic(auto, using(crate::proofs::OptionalSteps::blank_fits))]
 pub fn blank_fill(alloc: Global, data_type: &DataType) -> Result<FillValue, CodecError>
     ensures answer { GivesValue result (Ok (blank_fill_of data_type.now)) }
@@ -51,7 +51,7 @@ pub fn blank_fill(alloc: Global, data_type: &DataType) -> Result<FillValue, Code
 }
 
 /// What stands under the outermost mask of a container, the mask, and how many elements are present
-/// under it. Refusals: `ArrayBytesKind` for elements without a mask.
+/// under it. Errors: `ArrayBytesKind` for elements without a mask.
 #[tactic(auto, using(crate::proofs::OptionalSteps::masked_is))]
 pub fn masked_parts(
     elements: ArrayBytes<'_>,
@@ -102,9 +102,10 @@ pub fn lent<'r>(raw: &'r ArrayBytesRaw<'_>) -> &'r [u8]
     }
 }
 
-/// The mask and the data, lent, that stand behind their lengths. Refusals, the first that holds:
-/// `InvalidBytesLength` where there are fewer bytes than the lengths take; `HeaderOverflow` where 64
-/// bits don't count what the lengths say; `InvalidBytesLength` where there are more bytes, or fewer.
+/// The mask and the data, lent, that stand behind their lengths. Errors, the first that holds:
+/// `InvalidBytesLength` where there are fewer bytes than the lengths take; `HeaderOverflow` where
+/// 64 bits don't count what the lengths say; `InvalidBytesLength` where there are more bytes, or
+/// fewer.
 fn split_bytes(value: &[u8]) -> Result<(&[u8], &[u8]), CodecError>
     ensures answer { seen both_lent result ≡ optional_parts value.now }
     ensures no_fault { is_fault result ≡ false }
@@ -137,10 +138,10 @@ fn without_front(mut bytes: Vec<u8>, count: usize) -> Vec<u8>
     bytes
 }
 
-/// The mask and the data of a value. Borrowed bytes are lent on; of owned ones the mask is copied, and
-/// the data are moved to the front. Refusals, the first that holds, `OutOfMemory` aside:
-/// `InvalidBytesLength` where there are fewer than 16 bytes; `HeaderOverflow` where 64 bits don't count
-/// what the two lengths say; `InvalidBytesLength` where there are more bytes, or fewer.
+/// The mask and the data of a value. Borrowed bytes are lent on; of owned ones the mask is copied,
+/// and the data are moved to the front. Errors, the first that holds, `OutOfMemory` aside:
+/// `InvalidBytesLength` where there are fewer than 16 bytes; `HeaderOverflow` where 64 bits don't
+/// count what the two lengths say; `InvalidBytesLength` where there are more bytes, or fewer.
 #[tactic(auto, using(crate::proofs::NestedParts::owned_parts, crate::proofs::NestedParts::mask_inside))]
 pub fn split_value(
     alloc: Global,
@@ -161,7 +162,7 @@ pub fn split_value(
     }
 }
 
-/// The value of these parts: the two lengths, the mask and the data. Refusals: `OutOfMemory`.
+/// The value of these parts: the two lengths, the mask and the data. Errors: `OutOfMemory`.
 #[tactic(auto, unfolding(crate::specs::Encode::length_bytes))]
 pub fn join_parts<'a>(
     alloc: Global,

@@ -13,7 +13,7 @@ use zarrs_metadata::{
     VlenCodecConfigurationV0_1, VlenIndexDataType, VlenIndexLocation,
 };
 
-/// The configuration of a metadata of `vlen`. Refusals: those of `vlen_configuration`.
+/// The configuration of a metadata of `vlen`. Errors: those of `vlen_configuration`.
 fn read_vlen_configuration(
     alloc: Global,
     metadata: &MetadataV3,
@@ -29,7 +29,7 @@ fn read_vlen_configuration(
     VlenCodecConfiguration::from_configuration(alloc, configuration)
 }
 
-/// The configuration of a metadata of `vlen`, whose lists are less deep. Refusals, the first that
+/// The configuration of a metadata of `vlen`, whose lists are less deep. Errors, the first that
 /// holds, `OutOfMemory` aside: `UnknownName` for another name; those of
 /// `VlenCodecConfiguration::from_configuration`, and `InvalidConfiguration` where there is none.
 pub fn vlen_configuration(
@@ -83,7 +83,7 @@ pub fn index_location(configuration: &VlenCodecConfiguration) -> VlenIndexLocati
     }
 }
 
-/// The configuration of `vlen` by its four keys. Refusals: `OutOfMemory`.
+/// The configuration of `vlen` by its four keys. Errors: `OutOfMemory`.
 pub fn vlen_members(
     alloc: Global,
     index_codecs: Vec<MetadataV3>,

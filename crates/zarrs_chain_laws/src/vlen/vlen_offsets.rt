@@ -106,7 +106,7 @@ fn narrow_items(alloc: Global, offsets: &[usize], first: usize) -> Result<Vec<u8
     Ok(items)
 }
 
-/// The bytes of offsets, counted from the first of them. Refusals, the first that holds:
+/// The bytes of offsets, counted from the first of them. Errors, the first that holds:
 /// `OffsetTooLarge` where the last doesn't fit its type; `OutOfMemory`.
 pub fn offset_items(
     alloc: Global,
@@ -138,7 +138,7 @@ pub fn offset_type(data_type: VlenIndexDataType) -> DataType
     }
 }
 
-/// The fill value of such elements: zero. Refusals: `OutOfMemory`.
+/// The fill value of such elements: zero. Errors: `OutOfMemory`.
 #[tactic(auto, unfolding(crate::specs::Encode::offset_bytes))]
 pub fn offset_fill(alloc: Global, data_type: VlenIndexDataType) -> Result<FillValue, CodecError>
     ensures answer { GivesValue result (Ok (offset_bytes (is_wide data_type) 0)) }
@@ -150,7 +150,7 @@ pub fn offset_fill(alloc: Global, data_type: VlenIndexDataType) -> Result<FillVa
     Ok(FillValue::new(zero))
 }
 
-/// The elements of an index: the offsets, counted from the first of them. Refusals: those of
+/// The elements of an index: the offsets, counted from the first of them. Errors: those of
 /// `offset_items`.
 pub fn index_elements<'a>(
     alloc: Global,
@@ -165,7 +165,7 @@ pub fn index_elements<'a>(
 }
 
 /// The offsets that the bytes of elements spell, of 4 or 8 bytes each, the lowest first; bytes at
-/// the end that are no whole offset are left out. Refusals: `OutOfMemory`.
+/// the end that are no whole offset are left out. Errors: `OutOfMemory`.
 pub fn offset_numbers(
     alloc: Global,
     items: &[u8],

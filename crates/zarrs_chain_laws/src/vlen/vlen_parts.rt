@@ -64,7 +64,7 @@ fn split_end(value: &[u8]) -> Result<(&[u8], &[u8]), CodecError>
     Ok((index, data))
 }
 
-/// The index and the data of a value. Refusals, the first that holds: `InvalidBytesLength` where it
+/// The index and the data of a value. Errors, the first that holds: `InvalidBytesLength` where it
 /// is shorter than the index's length; `IndexLength` where the index is longer than what is left.
 pub fn split(value: &[u8], location: VlenIndexLocation) -> Result<(&[u8], &[u8]), CodecError>
     ensures answer { seen both_lent result ≡ vlen_parts (is_at_end location) value.now }
@@ -123,7 +123,7 @@ pub fn data_part(
     }
 }
 
-/// The bytes and the offsets of elements of any length. Refusals: `ArrayBytesKind` for any other
+/// The bytes and the offsets of elements of any length. Errors: `ArrayBytesKind` for any other
 /// elements.
 pub fn variable_parts<'a>(
     elements: ArrayBytes<'a>,
@@ -151,7 +151,7 @@ fn joined(alloc: Global, first: &[u8], second: &[u8], third: &[u8]) -> Result<Ve
     Ok(value)
 }
 
-/// The value of an index and data. Refusals: `OutOfMemory`.
+/// The value of an index and data. Errors: `OutOfMemory`.
 #[tactic(auto, unfolding(crate::specs::Encode::length_bytes))]
 pub fn join(
     alloc: Global,

@@ -22,46 +22,46 @@ use Rattle.zarrs_chain_whole.specs.declared.optional.optional_codec.OptionalCode
 abbrev pub Takes : {B : Type 0} → BytesCodecs B → OptionalCodec B → List ℕ → ElementType → List ℕ → Type 0
 Takes f codec sizes type fill = IsTaken f (plain_optional codec) (form_of sizes type fill)
 
--- how many bytes the value of such a chunk has, or the first refusal
+-- how many bytes the value of such a chunk has, or the first error
 abbrev pub Counts : {B : Type 0} → BytesCodecs B → OptionalCodec B → List ℕ → ElementType → List ℕ → Result BytesRepresentation CodecError → Type 0
 Counts f codec sizes type fill result = GivesRepresentation f (plain_optional codec) (form_of sizes type fill) result
 
--- the value of the chunk that a container holds, or the first refusal
+-- the value of the chunk that a container holds, or the first error
 abbrev pub Writes : {B : Type 0} → BytesCodecs B → OptionalCodec B → List ℕ → ElementType → List ℕ → Held → Result (CowSlice ℕ Global) CodecError → Type 0
 Writes f codec sizes type fill held result = GivesCodecValue f (plain_optional codec) (form_of sizes type fill) held result
 
--- a container of the chunk that a value stands for, of a codec that takes such chunks; or the first refusal
+-- a container of the chunk that a value stands for, of a codec that takes such chunks; or the first error
 abbrev pub Reads : {B : Type 0} → BytesCodecs B → OptionalCodec B → List ℕ → ElementType → List ℕ → CowSlice ℕ Global → Result Held CodecError → Type 0
 Reads f codec sizes type fill value result =
     GivesCodecChunk f (plain_optional codec) (form_of sizes type fill) (items_of value) result
 
--- of any codec, whose representation refuses first
+-- of any codec, whose representation rejects first
 abbrev pub ReadsAny : {B : Type 0} → BytesCodecs B → OptionalCodec B → List ℕ → ElementType → List ℕ → CowSlice ℕ Global → Result Held CodecError → Type 0
 ReadsAny f codec sizes type fill value result =
     GivesTakenChunk f (plain_optional codec) (form_of sizes type fill) (items_of value) result
 
--- the value of the chunk of optional elements that a container holds, this being the type inside; or the first refusal
+-- the value of the chunk of optional elements that a container holds, this being the type inside; or the first error
 abbrev pub WritesContent : {B : Type 0} → BytesCodecs B → OptionalCodec B → List ℕ → ElementType → Held → Result (CowSlice ℕ Global) CodecError → Type 0
 WritesContent f codec sizes inner held result =
     Gives items_of result (optional_content f (plain_optional codec) sizes inner held)
 
 -- ---- the chains inside
 
--- the mask part of these mask bytes, or the first refusal
+-- the mask part of these mask bytes, or the first error
 abbrev pub WritesMask : {B : Type 0} → BytesCodecs B → CodecChain B → List ℕ → CowSlice ℕ Global → Result (CowSlice ℕ Global) CodecError → Type 0
 WritesMask f chain sizes mask result = Gives items_of result (mask_part f (plain_chain chain) sizes (items_of mask))
 
--- the part of a row of so many present elements, or the first refusal
+-- the part of a row of so many present elements, or the first error
 abbrev pub WritesPresent : {B : Type 0} → BytesCodecs B → CodecChain B → ℕ → ElementType → Held → Result (CowSlice ℕ Global) CodecError → Type 0
 WritesPresent f chain count type present result =
     GivesPartValue f (plain_chain chain) count type (blank_fill type) present result
 
--- the mask bytes that a mask part stands for, or the first refusal
+-- the mask bytes that a mask part stands for, or the first error
 abbrev pub ReadsMask : {B : Type 0} → BytesCodecs B → CodecChain B → List ℕ → CowSlice ℕ Global → Result (CowSlice ℕ Global) CodecError → Type 0
 ReadsMask f chain sizes part result =
     Gives (λ mask. byte_elements (items_of mask)) result (mask_chunk f (plain_chain chain) sizes (items_of part))
 
--- a container of the elements that a data part stands for under a mask, or the first refusal
+-- a container of the elements that a data part stands for under a mask, or the first error
 abbrev pub ReadsPresent : {B : Type 0} → BytesCodecs B → CodecChain B → ElementType → CowSlice ℕ Global → CowSlice ℕ Global → Result Held CodecError → Type 0
 ReadsPresent f chain type mask part result =
     GivesPresent f (plain_chain chain) type (items_of mask) (items_of part) result

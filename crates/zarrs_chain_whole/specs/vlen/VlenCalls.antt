@@ -31,7 +31,7 @@ use Rattle.zarrs_chain_whole.specs.declared.vlen.vlen_codec.VlenCodec.{VlenCodec
 abbrev pub Takes : {B : Type 0} → BytesCodecs B → VlenCodec B → List ℕ → ElementType → List ℕ → Type 0
 Takes f codec sizes type fill = IsTaken f (plain_vlen codec) (form_of sizes type fill)
 
--- how many bytes the value of such a chunk has, or the first refusal
+-- how many bytes the value of such a chunk has, or the first error
 abbrev pub Counts : {B : Type 0} → BytesCodecs B → VlenCodec B → List ℕ → ElementType → List ℕ → Result BytesRepresentation CodecError → Type 0
 Counts f codec sizes type fill result = GivesRepresentation f (plain_vlen codec) (form_of sizes type fill) result
 
@@ -39,37 +39,37 @@ Counts f codec sizes type fill result = GivesRepresentation f (plain_vlen codec)
 abbrev pub Says : {B : Type 0} → BytesCodecs B → VlenCodec B → List ℕ → ElementType → List ℕ → Result BytesRepresentation CodecError → Type 0
 Says f codec sizes type fill result = result ≡ codec_represented f (plain_vlen codec) (form_of sizes type fill)
 
--- the value of the chunk that a container holds, or the first refusal
+-- the value of the chunk that a container holds, or the first error
 abbrev pub Writes : {B : Type 0} → BytesCodecs B → VlenCodec B → List ℕ → ElementType → List ℕ → Held → Result (CowSlice ℕ Global) CodecError → Type 0
 Writes f codec sizes type fill held result = GivesCodecValue f (plain_vlen codec) (form_of sizes type fill) held result
 
--- a container of the chunk that a value stands for, of a codec that takes such chunks; or the first refusal
+-- a container of the chunk that a value stands for, of a codec that takes such chunks; or the first error
 abbrev pub Reads : {B : Type 0} → BytesCodecs B → VlenCodec B → List ℕ → ElementType → List ℕ → CowSlice ℕ Global → Result Held CodecError → Type 0
 Reads f codec sizes type fill value result =
     GivesCodecChunk f (plain_vlen codec) (form_of sizes type fill) (items_of value) result
 
--- of any codec, whose representation refuses first
+-- of any codec, whose representation rejects first
 abbrev pub ReadsAny : {B : Type 0} → BytesCodecs B → VlenCodec B → List ℕ → ElementType → List ℕ → CowSlice ℕ Global → Result Held CodecError → Type 0
 ReadsAny f codec sizes type fill value result =
     GivesTakenChunk f (plain_vlen codec) (form_of sizes type fill) (items_of value) result
 
 -- ---- the chains inside
 
--- the index part of offsets, or the first refusal
+-- the index part of offsets, or the first error
 abbrev pub WritesIndex : {B : Type 0} → BytesCodecs B → CodecChain B → VlenIndexDataType → List ℕ → Result (CowSlice ℕ Global) CodecError → Type 0
 WritesIndex f chain data_type offsets result =
     Gives items_of result (index_part f (plain_chain chain) (is_wide data_type) offsets)
 
--- the data part of bytes, or the first refusal
+-- the data part of bytes, or the first error
 abbrev pub WritesData : {B : Type 0} → BytesCodecs B → CodecChain B → CowSlice ℕ Global → Result (CowSlice ℕ Global) CodecError → Type 0
 WritesData f chain bytes result = Gives items_of result (content_part f (plain_chain chain) (items_of bytes))
 
--- the offsets, so many, that an index part stands for, or the first refusal
+-- the offsets, so many, that an index part stands for, or the first error
 abbrev pub ReadsIndex : {B : Type 0} → BytesCodecs B → CodecChain B → VlenIndexDataType → ℕ → List ℕ → Result (List ℕ) CodecError → Type 0
 ReadsIndex f chain data_type count part result =
     GivesValue result (index_offsets f (plain_chain chain) (is_wide data_type) count part)
 
--- the bytes, so many, that a data part stands for, or the first refusal
+-- the bytes, so many, that a data part stands for, or the first error
 abbrev pub ReadsData : {B : Type 0} → BytesCodecs B → CodecChain B → ℕ → CowSlice ℕ Global → Result (CowSlice ℕ Global) CodecError → Type 0
 ReadsData f chain count part result = Gives items_of result (content_bytes f (plain_chain chain) count (items_of part))
 
@@ -85,12 +85,12 @@ abbrev pub TellsPacked : PackBitsSettings → VlenIndexDataType → List ℕ →
 TellsPacked settings data_type offsets result =
     GivesValue result (Ok (keeps_offsets {B = ℕ} (packbits_codec settings) (is_wide data_type) offsets))
 
--- that a codec gives offsets back unchanged, or the refusal
+-- that a codec gives offsets back unchanged, or the error
 abbrev pub ChecksOffsets : {B : Type 0} → ArrayToBytesCodec B → VlenIndexDataType → List ℕ → Result (Unit {0}) CodecError → Type 0
 ChecksOffsets codec data_type offsets result =
     GivesValue result (offsets_kept (plain_codec codec) (is_wide data_type) offsets)
 
--- whether the bytes of elements of one size are these, or the refusal of any other elements
+-- whether the bytes of elements of one size are these, or the error of any other elements
 abbrev pub tells_items : Held → List ℕ → Result Bool CodecError
 tells_items held items = seen (λ raw. pointwise nat_eq raw.items items) (fixed_part held)
 

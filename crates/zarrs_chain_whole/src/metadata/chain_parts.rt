@@ -42,7 +42,7 @@ impl<B: Drop> ChainParts<B> {
         }
     }
 
-    /// The codec joins those of its kind, behind them. Refusals: `MultipleArrayToBytes` for a second
+    /// The codec joins those of its kind, behind them. Errors: `MultipleArrayToBytes` for a second
     /// one of chunks to bytes; `OutOfMemory`.
     pub(crate) fn add(&mut self, codec: MadeCodec<B>) -> Result<(), PluginCreateError>
         ensures answer { AddsCodec codec self.old self.new result }
@@ -64,7 +64,7 @@ impl<B: Drop> ChainParts<B> {
         Ok(())
     }
 
-    /// The chain of the codecs. Refusals: `MissingArrayToBytes` where none is of chunks to bytes.
+    /// The chain of the codecs. Errors: `MissingArrayToBytes` where none is of chunks to bytes.
     pub(crate) fn into_chain(self) -> Result<CodecChain<B>, PluginCreateError>
         ensures answer { seen plain_chain result ≡ finished (parts_seen self) }
     {

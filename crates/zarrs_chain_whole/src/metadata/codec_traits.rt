@@ -1,4 +1,4 @@
-//! What codecs to bytes say of themselves, as every codec does, and the metadata of a chain.
+//! What array-to-bytes codecs say of themselves, as every codec does, and the metadata of a chain.
 ghost use Rattle.std.specs.Prelude.{IfOk};
 ghost use Rattle.zarrs_chain_whole.specs.ChainView.{plain_chain};
 ghost use Rattle.zarrs_chain_laws.specs.WrittenMetadata.{chain_metadatas};
@@ -16,9 +16,9 @@ use zarrs_metadata::{Configuration, MetadataV3, PluginCreateError};
 
 impl<B: BytesToBytesCodecTraits> CodecChain<B> {
     /// The metadata of the chain's codecs, in the order in which they encode: of each its name and
-    /// its configuration, which has to be understood; of a bytes codec its own. `from_metadata` makes
-    /// an equal chain of them, with a maker that makes the bytes codecs again. Refusals:
-    /// `OutOfMemory`.
+    /// its configuration, which has to be understood; of a bytes-to-bytes codec its own.
+    /// `from_metadata` makes an equal chain of them, with a maker that makes the bytes-to-bytes
+    /// codecs again. Errors: `OutOfMemory`.
     pub fn create_metadatas(&self, alloc: Global) -> Result<Vec<MetadataV3>, PluginCreateError>
         ensures answer { WritesList result (chain_metadatas B.described (plain_chain self.now)) }
         ensures made_again { IfOk result (MakesAgain B.described self.now) }
@@ -48,7 +48,7 @@ impl<B: BytesToBytesCodecTraits> CodecTraits for ArrayToBytesCodec<B> {
         Some(codec_name(self))
     }
 
-    /// The codec's configuration. Refusals: `OutOfMemory`.
+    /// The codec's configuration. Errors: `OutOfMemory`.
     fn configuration(&self, alloc: Global) -> Result<Option<Configuration>, PluginCreateError> {
         Ok(Some(codec_written(alloc, self)?))
     }

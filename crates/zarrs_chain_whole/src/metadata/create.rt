@@ -11,10 +11,10 @@ impl<B: Drop> CodecChain<B> {
     /// The chain of a list of metadata. A name is looked up among those of the seven codecs, else
     /// `maker` is asked. The codecs go by their kinds, and within a kind they keep their order. A
     /// metadata that no codec can be made of is passed over where it need not be understood, for
-    /// whatever cause but want of memory.
+    /// whatever cause but lack of memory.
     ///
-    /// Refusals, the first in the list's order, `OutOfMemory` aside: `UnknownName` where neither the
-    /// table nor the maker knows a name; those of a codec's making; `MultipleArrayToBytes` for a
+    /// Errors, the first in the list's order, `OutOfMemory` aside: `UnknownName` where neither the
+    /// table nor the maker knows a name; those of a codec's construction; `MultipleArrayToBytes` for a
     /// second codec of chunks to bytes that could be made, also where it need not be understood;
     /// behind all of them `MissingArrayToBytes` where there is none.
     pub fn from_metadata<M: BytesCodecMaker<B>>(

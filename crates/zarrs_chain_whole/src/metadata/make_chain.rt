@@ -28,7 +28,7 @@ use zarrs_metadata::{
 };
 use zarrs_packbits::PackBitsCodec;
 
-/// The codec `vlen` with these chains in boxes. Refusals: `OutOfMemory`.
+/// The codec `vlen` with these chains in boxes. Errors: `OutOfMemory`.
 fn boxed_vlen<B: Drop>(
     alloc: Global,
     index: CodecChain<B>,
@@ -44,7 +44,7 @@ fn boxed_vlen<B: Drop>(
     Ok(VlenCodec::new(index, content, index_data_type, location))
 }
 
-/// The codec `optional` with these chains in boxes. Refusals: `OutOfMemory`.
+/// The codec `optional` with these chains in boxes. Errors: `OutOfMemory`.
 fn boxed_optional<B: Drop>(
     alloc: Global,
     mask: CodecChain<B>,
@@ -57,8 +57,8 @@ fn boxed_optional<B: Drop>(
     Ok(OptionalCodec::new(mask, content))
 }
 
-/// The codec `vlen` of a configuration. Refusals, the first that holds, `OutOfMemory` aside: those
-/// of the index chain, those of the data chain.
+/// The codec `vlen` of a configuration. Errors, the first that holds, `OutOfMemory` aside: those of
+/// the index chain, those of the data chain.
 #[cycle(make)]
 pub(crate) fn vlen_from<B: Drop, M: BytesCodecMaker<B>>(
     alloc: Global,
@@ -78,7 +78,7 @@ pub(crate) fn vlen_from<B: Drop, M: BytesCodecMaker<B>>(
     )
 }
 
-/// The codec `optional` of a configuration. Refusals, the first that holds, `OutOfMemory` aside:
+/// The codec `optional` of a configuration. Errors, the first that holds, `OutOfMemory` aside:
 /// those of the mask chain, those of the data chain.
 #[cycle(make)]
 pub(crate) fn optional_from<B: Drop, M: BytesCodecMaker<B>>(
@@ -93,7 +93,7 @@ pub(crate) fn optional_from<B: Drop, M: BytesCodecMaker<B>>(
     boxed_optional(alloc, mask, content)
 }
 
-/// The codec `vlen` of a metadata. Refusals: those of `VlenCodec::create`.
+/// The codec `vlen` of a metadata. Errors: those of `VlenCodec::create`.
 #[cycle(make)]
 pub(crate) fn vlen_create<B: Drop, M: BytesCodecMaker<B>>(
     alloc: Global,
@@ -106,7 +106,7 @@ pub(crate) fn vlen_create<B: Drop, M: BytesCodecMaker<B>>(
     vlen_from(alloc, &configuration, maker)
 }
 
-/// The codec `optional` of a metadata. Refusals: those of `OptionalCodec::create`.
+/// The codec `optional` of a metadata. Errors: those of `OptionalCodec::create`.
 #[cycle(make)]
 pub(crate) fn optional_create<B: Drop, M: BytesCodecMaker<B>>(
     alloc: Global,
@@ -119,7 +119,7 @@ pub(crate) fn optional_create<B: Drop, M: BytesCodecMaker<B>>(
     optional_from(alloc, &configuration, maker)
 }
 
-/// What the maker makes of a metadata. Refusals: `UnknownName` where it makes nothing; its own.
+/// What the maker makes of a metadata. Errors: `UnknownName` where it makes nothing; its own.
 fn asked<B: Drop, M: BytesCodecMaker<B>>(
     alloc: Global,
     metadata: &MetadataV3,
@@ -134,8 +134,8 @@ fn asked<B: Drop, M: BytesCodecMaker<B>>(
     }
 }
 
-/// The codec of a metadata. Refusals, the first that holds, `OutOfMemory` aside: `UnknownName` where
-/// neither the table of names nor the maker knows its name; those of the codec's making.
+/// The codec of a metadata. Errors, the first that holds, `OutOfMemory` aside: `UnknownName` where
+/// neither the table of names nor the maker knows its name; those of the codec's construction.
 #[cycle(make)]
 #[tactic(auto, unfolding(crate::specs::ChainView::plain_codec))]
 fn codec_from<B: Drop, M: BytesCodecMaker<B>>(
@@ -175,8 +175,8 @@ fn is_want_of_memory(refusal: PluginCreateError) -> bool
     matches!(refusal, PluginCreateError::OutOfMemory)
 }
 
-/// Where a codec can't be made, its metadata is passed over if it need not be understood. Want of
-/// memory says nothing of the metadata, so it is never passed over. Refusals: this one.
+/// Where a codec can't be made, its metadata is passed over if it need not be understood. Lack of
+/// memory says nothing of the metadata, so it is never passed over. Errors: this one.
 fn pass_over(refusal: PluginCreateError, must_understand: bool) -> Result<(), PluginCreateError>
     ensures value { result ≡ passed_over refusal must_understand }
 {
@@ -187,8 +187,8 @@ fn pass_over(refusal: PluginCreateError, must_understand: bool) -> Result<(), Pl
 }
 
 /// The codec of a metadata joins those of the list. Where none can be made, the metadata is passed
-/// over if it need not be understood, for whatever cause but want of memory. Refusals, the first
-/// that holds, `OutOfMemory` aside: those of the codec's making; `MultipleArrayToBytes`.
+/// over if it need not be understood, for whatever cause but lack of memory. Errors, the first that
+/// holds, `OutOfMemory` aside: those of the codec's construction; `MultipleArrayToBytes`.
 #[cycle(make)]
 fn join<B: Drop, M: BytesCodecMaker<B>>(
     alloc: Global,
@@ -204,7 +204,7 @@ fn join<B: Drop, M: BytesCodecMaker<B>>(
     }
 }
 
-/// The chain of a list of metadata. Refusals: those of `CodecChain::from_metadata`.
+/// The chain of a list of metadata. Errors: those of `CodecChain::from_metadata`.
 #[cycle(make)]
 pub(crate) fn chain_from<B: Drop, M: BytesCodecMaker<B>>(
     alloc: Global,

@@ -20,7 +20,7 @@ use zarrs_codec::{BytesToBytesCodecTraits, CodecTraits};
 use zarrs_metadata::{Configuration, MetadataV3, PluginCreateError};
 use zarrs_packbits::PackBitsCodec;
 
-/// The metadata of an array codec. Refusals: `OutOfMemory`.
+/// The metadata of an array-to-array codec. Errors: `OutOfMemory`.
 fn array_metadata(alloc: Global, codec: &ArrayToArrayCodec) -> Result<MetadataV3, PluginCreateError>
     ensures answer { Makes metadata_seen result
         (Ok (mapping_metadata (mapping_of codec.now))) }
@@ -32,7 +32,7 @@ fn array_metadata(alloc: Global, codec: &ArrayToArrayCodec) -> Result<MetadataV3
     }
 }
 
-/// The metadata of array codecs, in order. Refusals: `OutOfMemory`.
+/// The metadata of array-to-array codecs, in order. Errors: `OutOfMemory`.
 fn array_metadatas(
     alloc: Global,
     codecs: &[ArrayToArrayCodec],
@@ -46,7 +46,8 @@ fn array_metadatas(
     Ok(list)
 }
 
-/// The metadata of bytes codecs, in order, behind those of the list. Refusals: `OutOfMemory`.
+/// The metadata of bytes-to-bytes codecs, in order, behind those of the list. Errors:
+/// `OutOfMemory`.
 fn push_outer<B: BytesToBytesCodecTraits>(
     alloc: Global,
     codecs: &[B],
@@ -60,7 +61,7 @@ fn push_outer<B: BytesToBytesCodecTraits>(
     Ok(())
 }
 
-/// The name of a codec to bytes in metadata.
+/// The name of an array-to-bytes codec in metadata.
 #[tactic(auto, unfolding(crate::specs::ChainView::plain_codec), using(crate::specs::ChainView::plain_vlen_at, crate::specs::ChainView::plain_optional_at))]
 pub(crate) fn codec_name<B>(codec: &ArrayToBytesCodec<B>) -> &'static str
     ensures value { result.now ≡ codec_name_of (plain_codec codec.now) }
@@ -73,7 +74,7 @@ pub(crate) fn codec_name<B>(codec: &ArrayToBytesCodec<B>) -> &'static str
     }
 }
 
-/// The configuration of `bytes`. Refusals: `OutOfMemory`.
+/// The configuration of `bytes`. Errors: `OutOfMemory`.
 fn bytes_written(alloc: Global, codec: &BytesCodec) -> Result<Configuration, PluginCreateError>
     ensures answer { Writes result (write_bytes codec.now) }
 {
@@ -83,7 +84,7 @@ fn bytes_written(alloc: Global, codec: &BytesCodec) -> Result<Configuration, Plu
     }
 }
 
-/// The configuration of `packbits`. Refusals: `OutOfMemory`.
+/// The configuration of `packbits`. Errors: `OutOfMemory`.
 fn packbits_written(
     alloc: Global,
     codec: &PackBitsCodec,
@@ -96,7 +97,7 @@ fn packbits_written(
     }
 }
 
-/// The configuration of a codec to bytes. Refusals: `OutOfMemory`.
+/// The configuration of an array-to-bytes codec. Errors: `OutOfMemory`.
 #[cycle(written)]
 #[tactic(auto, unfolding(crate::specs::ChainView::plain_codec))]
 pub(crate) fn codec_written<B: BytesToBytesCodecTraits>(
@@ -113,7 +114,7 @@ pub(crate) fn codec_written<B: BytesToBytesCodecTraits>(
     }
 }
 
-/// The metadata of a chain's codecs, in the order in which they encode. Refusals: `OutOfMemory`.
+/// The metadata of a chain's codecs, in the order in which they encode. Errors: `OutOfMemory`.
 #[cycle(written)]
 pub(crate) fn chain_written<B: BytesToBytesCodecTraits>(
     alloc: Global,

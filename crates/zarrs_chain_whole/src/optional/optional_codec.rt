@@ -58,7 +58,7 @@ impl<B> OptionalCodec<B> {
     }
 }
 
-/// The array codecs of the chains inside hold to what their types do.
+/// The array-to-array codecs of the chains inside hold to what their types do.
 #[cycle(sound)]
 #[tactic(auto, using(crate::specs::ChainView::plain_optional_at))]
 pub(crate) fn optional_is_sound<B>(codec: &OptionalCodec<B>)
@@ -78,7 +78,7 @@ pub(crate) fn optional_has_ranges<B>(codec: &OptionalCodec<B>)
     chain_has_ranges(&codec.data_codecs);
 }
 
-/// The configuration that is written of the codec. Refusals: `OutOfMemory`.
+/// The configuration that is written of the codec. Errors: `OutOfMemory`.
 #[cycle(written)]
 #[tactic(auto, using(crate::specs::ChainView::plain_optional_at))]
 pub(crate) fn optional_written<B: BytesToBytesCodecTraits>(
@@ -92,7 +92,7 @@ pub(crate) fn optional_written<B: BytesToBytesCodecTraits>(
     optional_members(alloc, mask_codecs, data_codecs)
 }
 
-/// The length of such a chunk's value. Refusals: those of `OptionalCodec::encoded_representation`.
+/// The length of such a chunk's value. Errors: those of `OptionalCodec::encoded_representation`.
 #[cycle(representation)]
 #[tactic(auto, using(crate::proofs::OptionalAt::representation_at))]
 pub(crate) fn optional_representation<B: BytesToBytesCodecTraits>(
@@ -117,7 +117,7 @@ pub(crate) fn optional_representation<B: BytesToBytesCodecTraits>(
     Ok(both_representations(&mask, &content))
 }
 
-/// What the chain writes of these mask bytes as a chunk of flags. Refusals: those of `chain_encode`.
+/// What the chain writes of these mask bytes as a chunk of flags. Errors: those of `chain_encode`.
 #[cycle(encode)]
 #[tactic(auto, using(zarrs_chain_laws::proofs::OptionalSteps::mask_answers))]
 fn mask_encode<'a, B: BytesToBytesCodecTraits>(
@@ -142,7 +142,7 @@ fn mask_encode<'a, B: BytesToBytesCodecTraits>(
     )
 }
 
-/// What the chain writes of a row of so many present elements. Refusals: those of `chain_encode`.
+/// What the chain writes of a row of so many present elements. Errors: those of `chain_encode`.
 #[cycle(encode)]
 fn present_encode<'a, B: BytesToBytesCodecTraits>(
     alloc: Global,
@@ -158,7 +158,7 @@ fn present_encode<'a, B: BytesToBytesCodecTraits>(
 }
 
 /// The value of a container of optional elements of this inner type, as many as the shape has.
-/// Refusals: those of the chains.
+/// Errors: those of the chains.
 #[cycle(encode)]
 #[tactic(auto, using(zarrs_chain_laws::proofs::OptionalSteps::mask_long, zarrs_chain_laws::proofs::OptionalSteps::never_unmasked, zarrs_chain_laws::proofs::OptionalSteps::present_taken, crate::proofs::OptionalAt::content_at, crate::proofs::OptionalAt::written_at))]
 fn content_encode<'a, B: BytesToBytesCodecTraits>(
@@ -179,7 +179,7 @@ fn content_encode<'a, B: BytesToBytesCodecTraits>(
     join_parts(alloc, lent(&mask_part), lent(&data_part))
 }
 
-/// The value of the chunk that `held` holds, where the codec takes such chunks. Refusals: those of
+/// The value of the chunk that `held` holds, where the codec takes such chunks. Errors: those of
 /// `OptionalCodec::encode` behind those of `encoded_representation`.
 #[cycle(encode)]
 #[tactic(auto, using(crate::proofs::OptionalAt::counted_at, crate::proofs::OptionalAt::inner_refused_at, crate::proofs::OptionalAt::inner_valid, crate::proofs::OptionalAt::value_at))]
@@ -199,7 +199,7 @@ pub(crate) fn optional_encode<'a, B: BytesToBytesCodecTraits>(
     content_encode(alloc, codec, held, shape, inner)
 }
 
-/// The value of the chunk that `held` holds. Refusals: those of `OptionalCodec::encode`.
+/// The value of the chunk that `held` holds. Errors: those of `OptionalCodec::encode`.
 fn optional_taken_encode<'a, B: BytesToBytesCodecTraits>(
     alloc: Global,
     codec: &OptionalCodec<B>,
@@ -214,7 +214,7 @@ fn optional_taken_encode<'a, B: BytesToBytesCodecTraits>(
     optional_encode(alloc, codec, held, shape, kind, fill)
 }
 
-/// The mask bytes of the chunk of flags that a part stands for. Refusals: those of `chain_decode`.
+/// The mask bytes of the chunk of flags that a part stands for. Errors: those of `chain_decode`.
 #[cycle(decode)]
 #[tactic(auto, using(zarrs_chain_laws::proofs::OptionalFlags::flags_in_bytes, zarrs_chain_laws::proofs::OptionalFlags::flags_are_fixed))]
 fn mask_decode<'a, B: BytesToBytesCodecTraits>(
@@ -231,8 +231,8 @@ fn mask_decode<'a, B: BytesToBytesCodecTraits>(
 }
 
 /// The elements of this inner type that a part stands for, put back under the mask, with blank ones
-/// under those that are absent. Refusals, the first that holds, `OutOfMemory` aside: `MaskValue` where
-/// a mask byte isn't 0 or 1; those of the chain.
+/// under those that are absent. Errors, the first that holds, `OutOfMemory` aside: `MaskValue`
+/// where a mask byte isn't 0 or 1; those of the chain.
 #[cycle(decode)]
 #[tactic(auto, using(zarrs_chain_laws::proofs::OptionalSteps::mask_refused, zarrs_chain_laws::proofs::OptionalSteps::present_opened, zarrs_chain_laws::proofs::OptionalSteps::part_expanded))]
 fn present_decode<'a, B: BytesToBytesCodecTraits>(
@@ -271,7 +271,7 @@ fn has_room<B: BytesToBytesCodecTraits>(
     shape.as_slice();
 }
 
-/// The chunk that a value stands for, where the codec takes such chunks. Refusals: those of
+/// The chunk that a value stands for, where the codec takes such chunks. Errors: those of
 /// `OptionalCodec::decode` behind those of `encoded_representation`.
 #[cycle(decode)]
 #[tactic(auto, using(crate::proofs::OptionalAt::chunk_opened_at, crate::proofs::OptionalAt::chunk_at, crate::proofs::OptionalAt::tight_at))]
@@ -294,7 +294,7 @@ pub(crate) fn optional_decode<'a, B: BytesToBytesCodecTraits>(
     present_decode(alloc, &codec.data_codecs, mask, data_part, inner)
 }
 
-/// The chunk that a value stands for, where the codec takes such chunks. Refusals: those of
+/// The chunk that a value stands for, where the codec takes such chunks. Errors: those of
 /// `OptionalCodec::decode`.
 fn optional_taken_decode<'a, B: BytesToBytesCodecTraits>(
     alloc: Global,
@@ -312,11 +312,11 @@ fn optional_taken_decode<'a, B: BytesToBytesCodecTraits>(
 }
 
 impl<B: BytesToBytesCodecTraits> OptionalCodec<B> {
-    /// How many bytes the value of such a chunk has: the two lengths, and what the mask chain and the
-    /// data chain make, each of a chunk of the full shape. Refusals, the first that holds,
-    /// `OutOfMemory` aside: `UnsupportedDataType` where the type isn't optional; `InvalidFillValue`;
-    /// `Overflow` where 64 bits don't count the elements; those of the mask chain; those of the data
-    /// chain.
+    /// How many bytes the value of such a chunk has: the two lengths, and what the mask chain and
+    /// the data chain make, each of a chunk of the full shape. Errors, the first that holds,
+    /// `OutOfMemory` aside: `UnsupportedDataType` where the type isn't optional;
+    /// `InvalidFillValue`; `Overflow` where 64 bits don't count the elements; those of the mask
+    /// chain; those of the data chain.
     pub fn encoded_representation(
         &self,
         alloc: Global,
@@ -329,9 +329,9 @@ impl<B: BytesToBytesCodecTraits> OptionalCodec<B> {
         optional_representation(alloc, self, shape, data_type, fill_value)
     }
 
-    /// The value that is written for the chunk that `elements` hold. Refusals, the first that holds,
-    /// `OutOfMemory` aside: those of `encoded_representation`; those of `ArrayBytes::validate`; those
-    /// of the mask chain; those of the data chain at the row of present elements.
+    /// The value that is written for the chunk that `elements` hold. Errors, the first that holds,
+    /// `OutOfMemory` aside: those of `encoded_representation`; those of `ArrayBytes::validate`;
+    /// those of the mask chain; those of the data chain at the row of present elements.
     pub fn encode<'a>(
         &self,
         alloc: Global,
@@ -349,8 +349,8 @@ impl<B: BytesToBytesCodecTraits> OptionalCodec<B> {
         optional_taken_encode(alloc, self, elements, shape, data_type, fill_value)
     }
 
-    /// The chunk that a value stands for. Refusals, the first that holds, `OutOfMemory` aside:
-    /// those of `encoded_representation`; `InvalidBytesLength` where there are fewer than 16 bytes;
+    /// The chunk that a value stands for. Errors, the first that holds, `OutOfMemory` aside: those
+    /// of `encoded_representation`; `InvalidBytesLength` where there are fewer than 16 bytes;
     /// `HeaderOverflow` where 64 bits don't count what the two lengths say; `InvalidBytesLength`
     /// where there are more bytes, or fewer; those of the mask chain; `MaskValue` where a mask byte
     /// isn't 0 or 1; those of the data chain at the row of present elements.

@@ -100,7 +100,7 @@ impl<B: BytesToBytesCodecTraits> CodecTraits for OptionalCodec<B> {
         Some("zarrs.optional")
     }
 
-    /// The codec's configuration, by its two keys. Refusals: `OutOfMemory`.
+    /// The codec's configuration, by its two keys. Errors: `OutOfMemory`.
     fn configuration(&self, alloc: Global) -> Result<Option<Configuration>, PluginCreateError> {
         Ok(Some(optional_written(alloc, self)?))
     }

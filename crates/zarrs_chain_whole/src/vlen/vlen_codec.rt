@@ -97,7 +97,7 @@ impl<B> VlenCodec<B> {
     }
 }
 
-/// The codec `bytes` alone, in a box. Refusals: `OutOfMemory`.
+/// The codec `bytes` alone, in a box. Errors: `OutOfMemory`.
 #[tactic(auto, unfolding(crate::specs::ChainView::plain_codec))]
 fn boxed_bytes<B: Drop>(alloc: Global, codec: BytesCodec) -> Result<Box<CodecChain<B>>, CodecError>
     ensures made { Answers memory boxed_chain result (Ok (bytes_chain codec)) }
@@ -108,9 +108,9 @@ fn boxed_bytes<B: Drop>(alloc: Global, codec: BytesCodec) -> Result<Box<CodecCha
 }
 
 impl<B: Drop> VlenCodec<B> {
-    /// The codec where nothing else is asked for: offsets of 64 bits, the lowest byte first, and the
-    /// index at the start; the elements' bytes as they are. Both chains are `bytes` alone, the data
-    /// chain without a byte order. Refusals: `OutOfMemory`.
+    /// The codec where nothing else is asked for: offsets of 64 bits, the lowest byte first, and
+    /// the index at the start; the elements' bytes as they are. Both chains are `bytes` alone, the
+    /// data chain without a byte order. Errors: `OutOfMemory`.
     pub fn new_default(alloc: Global) -> Result<VlenCodec<B>, CodecError>
         ensures made { Answers memory plain_vlen result (Ok default_vlen) }
     {
@@ -125,7 +125,7 @@ impl<B: Drop> VlenCodec<B> {
     }
 }
 
-/// The array codecs of the chains inside hold to what their types do.
+/// The array-to-array codecs of the chains inside hold to what their types do.
 #[cycle(sound)]
 #[tactic(auto, using(crate::specs::ChainView::plain_vlen_at))]
 pub fn vlen_is_sound<B>(codec: &VlenCodec<B>)
@@ -145,7 +145,7 @@ pub(crate) fn vlen_has_ranges<B>(codec: &VlenCodec<B>)
     chain_has_ranges(&codec.data_codecs);
 }
 
-/// The configuration that is written of the codec. Refusals: `OutOfMemory`.
+/// The configuration that is written of the codec. Errors: `OutOfMemory`.
 #[cycle(written)]
 #[tactic(auto, using(crate::specs::ChainView::plain_vlen_at, crate::proofs::WrittenAt::offset_type_again, crate::proofs::WrittenAt::index_place_again))]
 pub(crate) fn vlen_written<B: BytesToBytesCodecTraits>(
@@ -165,7 +165,7 @@ pub(crate) fn vlen_written<B: BytesToBytesCodecTraits>(
     )
 }
 
-/// How many bytes the value has: any number. Refusals: `UnsupportedDataType` where the elements
+/// How many bytes the value has: any number. Errors: `UnsupportedDataType` where the elements
 /// aren't of any length; `Overflow` where 64 bits don't count them.
 pub(crate) fn vlen_representation(
     shape: &ChunkShape,
@@ -181,7 +181,7 @@ pub(crate) fn vlen_representation(
     Ok(BytesRepresentation::UnboundedSize)
 }
 
-/// How many bytes the value has. Refusals: those of `vlen_representation`.
+/// How many bytes the value has. Errors: those of `vlen_representation`.
 #[tactic(auto, using(crate::proofs::CodecSteps::vlen_measured, crate::proofs::CodecSteps::vlen_measured_exactly))]
 fn vlen_measure<B: BytesToBytesCodecTraits>(
     codec: &VlenCodec<B>,
@@ -195,7 +195,7 @@ fn vlen_measure<B: BytesToBytesCodecTraits>(
     vlen_representation(shape, data_type)
 }
 
-/// The chunk that a value stands for, where the codec takes such chunks. Refusals: those of
+/// The chunk that a value stands for, where the codec takes such chunks. Errors: those of
 /// `VlenCodec::decode`.
 fn vlen_taken_decode<'a, B: BytesToBytesCodecTraits>(
     alloc: Global,
@@ -213,9 +213,9 @@ fn vlen_taken_decode<'a, B: BytesToBytesCodecTraits>(
 }
 
 impl<B: BytesToBytesCodecTraits> VlenCodec<B> {
-    /// How many bytes the value of such a chunk has: any number. The chains inside aren't asked, and no
-    /// memory is taken. Refusals, the first that holds: `UnsupportedDataType` where the elements
-    /// aren't of any length; `Overflow` where 64 bits don't count them.
+    /// How many bytes the value of such a chunk has: any number. The chains inside aren't asked,
+    /// and no memory is taken. Errors, the first that holds: `UnsupportedDataType` where the
+    /// elements aren't of any length; `Overflow` where 64 bits don't count them.
     pub fn encoded_representation(
         &self,
         shape: &ChunkShape,
@@ -228,11 +228,11 @@ impl<B: BytesToBytesCodecTraits> VlenCodec<B> {
         vlen_measure(self, shape, data_type, fill_value)
     }
 
-    /// The value that is written for the chunk that `elements` hold. Refusals, the first that holds,
+    /// The value that is written for the chunk that `elements` hold. Errors, the first that holds,
     /// `OutOfMemory` aside: those of `encoded_representation`; those of `ArrayBytes::validate`;
-    /// `OffsetTooLarge` where 32 bits don't hold an offset that is to have so many; those of the index
-    /// chain at a row of one offset more than elements; `OffsetNotKept` where it would change an
-    /// offset; those of the data chain at the row of the elements' bytes.
+    /// `OffsetTooLarge` where 32 bits don't hold an offset that is to have so many; those of the
+    /// index chain at a row of one offset more than elements; `OffsetNotKept` where it would change
+    /// an offset; those of the data chain at the row of the elements' bytes.
     pub fn encode<'a>(
         &self,
         alloc: Global,
@@ -250,11 +250,11 @@ impl<B: BytesToBytesCodecTraits> VlenCodec<B> {
         vlen_encode(alloc, self, elements, shape, data_type, fill_value)
     }
 
-    /// The chunk that a value stands for. Refusals, the first that holds, `OutOfMemory` aside: those
+    /// The chunk that a value stands for. Errors, the first that holds, `OutOfMemory` aside: those
     /// of `encoded_representation`; `InvalidBytesLength` where there are fewer than 8 bytes;
-    /// `IndexLength` where the index is longer than what is left; `Overflow` where 64 bits don't count
-    /// the offsets; those of the index chain; `InvalidOffsets` where an offset is less than the one
-    /// before; those of the data chain at a row of as many bytes as the last offset says.
+    /// `IndexLength` where the index is longer than what is left; `Overflow` where 64 bits don't
+    /// count the offsets; those of the index chain; `InvalidOffsets` where an offset is less than
+    /// the one before; those of the data chain at a row of as many bytes as the last offset says.
     ///
     /// The container's offsets begin at 0, wherever those of the value begin, and its bytes are those
     /// of the elements alone.

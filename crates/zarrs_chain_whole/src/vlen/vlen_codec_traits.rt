@@ -102,7 +102,7 @@ impl<B: BytesToBytesCodecTraits> CodecTraits for VlenCodec<B> {
         Some("zarrs.vlen")
     }
 
-    /// The codec's configuration, by its four keys. Refusals: `OutOfMemory`.
+    /// The codec's configuration, by its four keys. Errors: `OutOfMemory`.
     fn configuration(&self, alloc: Global) -> Result<Option<Configuration>, PluginCreateError> {
         Ok(Some(vlen_written(alloc, self)?))
     }

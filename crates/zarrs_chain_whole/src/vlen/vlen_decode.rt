@@ -20,7 +20,7 @@ use zarrs_codec::BytesToBytesCodecTraits;
 use zarrs_data_type::{DataType, FillValue};
 use zarrs_metadata::VlenIndexDataType;
 
-/// The offsets, so many, that an index part stands for. Refusals: those of the chain;
+/// The offsets, so many, that an index part stands for. Errors: those of the chain;
 /// `InvalidOffsets`.
 #[cycle(decode)]
 #[tactic(auto, using(crate::proofs::VlenDecode::zero_fits_at))]
@@ -48,7 +48,7 @@ fn index_decode<B: BytesToBytesCodecTraits>(
     ArrayBytesOffsets::new(numbers)
 }
 
-/// The bytes, so many, that a data part stands for. Refusals: those of the chain.
+/// The bytes, so many, that a data part stands for. Errors: those of the chain.
 #[cycle(decode)]
 fn content_decode<'a, B: BytesToBytesCodecTraits>(
     alloc: Global,
@@ -66,7 +66,7 @@ fn content_decode<'a, B: BytesToBytesCodecTraits>(
 
 /// The chunk that a value stands for, where the codec takes such chunks. Where the stored offsets
 /// begin above 0, no element has the bytes in front: they are left out, and the offsets are counted
-/// from the first. Refusals: those of `VlenCodec::decode` behind those of `encoded_representation`.
+/// from the first. Errors: those of `VlenCodec::decode` behind those of `encoded_representation`.
 #[cycle(decode)]
 #[tactic(auto, using(crate::proofs::VlenDecode::vlen_read_at, crate::proofs::VlenDecode::index_inside, crate::proofs::TakenTight::vlen_tight))]
 pub fn vlen_decode<'a, B: BytesToBytesCodecTraits>(
@@ -97,7 +97,7 @@ pub fn vlen_decode<'a, B: BytesToBytesCodecTraits>(
     ArrayBytes::new_flush(bytes, offsets)
 }
 
-/// How many offsets there are, one more than elements. Refusals: `Overflow`.
+/// How many offsets there are, one more than elements. Errors: `Overflow`.
 fn offset_count(shape: &ChunkShape) -> Result<u64, CodecError>
     ensures answer { result ≡ checked_u64 (product shape.now + 1) }
     ensures some { IfOk result (λ count. 0 < count) }

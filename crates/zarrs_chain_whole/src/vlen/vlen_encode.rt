@@ -17,7 +17,7 @@ use zarrs_codec::BytesToBytesCodecTraits;
 use zarrs_data_type::{DataType, FillValue};
 use zarrs_metadata::VlenIndexDataType;
 
-/// The index part of offsets, counted from the first of them. Refusals: `OffsetTooLarge`; those of
+/// The index part of offsets, counted from the first of them. Errors: `OffsetTooLarge`; those of
 /// the chain; `OffsetNotKept`.
 #[cycle(encode)]
 fn index_encode<'a, B: BytesToBytesCodecTraits>(
@@ -45,7 +45,7 @@ fn index_encode<'a, B: BytesToBytesCodecTraits>(
     Ok(part)
 }
 
-/// The data part of bytes. Refusals: those of the chain.
+/// The data part of bytes. Errors: those of the chain.
 #[cycle(encode)]
 fn content_encode<'a, B: BytesToBytesCodecTraits>(
     alloc: Global,
@@ -67,7 +67,7 @@ fn content_encode<'a, B: BytesToBytesCodecTraits>(
     )
 }
 
-/// The value of the chunk that `held` holds. Refusals: those of `VlenCodec::encode`.
+/// The value of the chunk that `held` holds. Errors: those of `VlenCodec::encode`.
 #[cycle(encode)]
 #[tactic(auto, using(crate::proofs::VlenEncode::held_checked, crate::proofs::VlenEncode::first_inside))]
 pub(crate) fn vlen_encode<'a, B: BytesToBytesCodecTraits>(

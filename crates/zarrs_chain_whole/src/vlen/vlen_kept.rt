@@ -38,7 +38,7 @@ fn keeps_items(
     holds_items(&kept, items)
 }
 
-/// Whether the bytes of elements of one size are these. Refusals: `ArrayBytesKind` for any other
+/// Whether the bytes of elements of one size are these. Errors: `ArrayBytesKind` for any other
 /// elements.
 fn holds_items(elements: &ArrayBytes<'_>, items: &[u8]) -> Result<bool, CodecError>
     ensures answer { result ≡ tells_items elements.now items.now }
@@ -96,7 +96,7 @@ fn is_kept<B>(
 }
 
 /// That a codec that was given offsets, counted from the first of them, gives them back unchanged.
-/// Refusals: `OffsetNotKept`.
+/// Errors: `OffsetNotKept`.
 pub(crate) fn check_kept<B>(
     alloc: Global,
     codec: &ArrayToBytesCodec<B>,

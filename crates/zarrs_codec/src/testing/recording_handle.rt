@@ -57,7 +57,7 @@ impl RecordingHandle {
 
     /// The bytes that accepted writing calls replaced, in order: of each run of them the number of its
     /// first byte, and how many they are.
-    pub fn replaced(&self) -> &[(u64, u64)]
+    pub fn replaced_runs(&self) -> &[(u64, u64)]
         ensures value { joined_runs result.now ≡ (recorded_calls self.now).replaced }
     {
         self.replaced.as_slice()

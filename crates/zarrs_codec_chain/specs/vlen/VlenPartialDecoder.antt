@@ -23,7 +23,7 @@ use Rattle.zarrs_codec.specs.Refused.{outcome}
 use Rattle.zarrs_codec.specs.declared.refused.Refused.{Refused}
 use Rattle.zarrs_chain_whole.specs.declared.vlen.vlen_codec.VlenCodec.{VlenCodec}
 
--- the chunk that is read: through which codec to bytes, its sizes, its type and its fill value
+-- the chunk that is read: through which array-to-bytes codec, its sizes, its type and its fill value
 pub record CodecForm (B : Type 0) : Type 0 where
   pub codec : PlainCodec B
   pub sizes : List ℕ
@@ -39,13 +39,13 @@ vlen_form_of decoder =
 abbrev pub vlen_handle_of : {H B : Type 0} {h : _} {b : _} → VlenPartialDecoder H B h b → H
 vlen_handle_of decoder = decoder.handle
 
--- The elements that a selection means, in its order, of what is stored, or the first refusal: the selection's; the codec's. Where nothing is stored, the fill element at each place.
+-- The elements that a selection selects, in its order, of what is stored, or the first error: the selection's; the codec's. Where nothing is stored, the fill element at each place.
 abbrev pub codec_stored_read : {B : Type 0} → BytesCodecs B → CodecForm B → Option (List ℕ) → Selection → Result Chunk CodecError
 codec_stored_read f form stored selection = do
   places ← places_of selection form.sizes
   codec_read f form.codec form.sizes form.type form.fill stored places
 
--- the numbers of the bytes that a read rests on, of what is stored, or the first refusal: the selection's; the codec's
+-- the numbers of the bytes that a read rests on, of what is stored, or the first error: the selection's; the codec's
 abbrev pub codec_selection_rests_on : {B : Type 0} → CodecForm B → Option (List ℕ) → Selection → Result (List ℕ) CodecError
 codec_selection_rests_on form stored selection = do
   places ← places_of selection form.sizes
@@ -79,7 +79,7 @@ codec_reader f form sure stored in_part = record {
 
 -- ---- what calls give
 
--- A decoder of the chunk of these sizes, this type and this fill value is made where the codec takes such chunks; else the first refusal is answered.
+-- A decoder of the chunk of these sizes, this type and this fill value is made where the codec takes such chunks; else the first error is answered.
 abbrev pub VlenDecoderMade : {H B : Type 0} {h : _} {b : _} → VlenCodec B → List ℕ → ElementType → List ℕ → Result (VlenPartialDecoder H B h b) (Refused H) → Type 0
 VlenDecoderMade {b = b} codec sizes type fill result =
     GivesValue (outcome result) (seen (λ _. tt) (codec_representation b.functions (plain_vlen codec) sizes type fill))
@@ -93,12 +93,12 @@ VlenHasForm codec sizes type fill result =
 abbrev pub vlen_decodes_in_part : {H B : Type 0} {h : _} {b : _} → VlenPartialDecoder H B h b → Bool
 vlen_decodes_in_part decoder = (codec_reads (vlen_form_of decoder).codec).partial_decode
 
--- the elements that a selection means are read of what the handle keeps, or the first refusal
+-- the elements that a selection selects are read of what the handle keeps, or the first error
 abbrev pub VlenReads : {H B : Type 0} {h : _} {b : _} → (H → StorageState) → BytesCodecs B → VlenPartialDecoder H B h b → Selection → Result Held CodecError → Type 0
 VlenReads state f decoder selection result =
     AnswersBy memory_or_fault (Holds (vlen_form_of decoder).type) result (codec_stored_read f (vlen_form_of decoder) (state (vlen_handle_of decoder)).value selection)
 
--- where the selection is refused, this is what is answered, or a want of memory
+-- where the selection is rejected, this is what is answered, or a lack of memory
 abbrev pub VlenRefusedAtSelection : {H B : Type 0} {h : _} {b : _} → VlenPartialDecoder H B h b → Selection → Result Held CodecError → Type 0
 VlenRefusedAtSelection decoder selection result =
     IfErr (bounds_of selection (vlen_form_of decoder).sizes) (λ cause. AnswersBy memory (Holds (vlen_form_of decoder).type) result (Err cause))
@@ -108,7 +108,7 @@ abbrev pub SureVlen : {H B : Type 0} {h : _} {b : _} → (H → StorageState) �
 SureVlen state decoder selection result =
     CodecWhereSure (vlen_form_of decoder) (state (vlen_handle_of decoder)) selection (is_fault result ≡ false)
 
--- What a read gives: the elements at the selected places, of the chunk that the stored value stands for, or of fill elements where nothing is stored; or the first refusal. Only a want of memory or a failure of the handle may come in its place, a failure behind the refusals of the selection, and never where the codec is plain and the bytes are sure that the answer rests on.
+-- What a read gives: the elements at the selected places, of the chunk that the stored value stands for, or of fill elements where nothing is stored; or the first error. Only a lack of memory or a failure of the handle may come in its place, a failure behind the errors of the selection, and never where the codec is plain and the bytes are sure that the answer rests on.
 pub record ReadsVlen {B : Type 0} (f : BytesCodecs B) (form : CodecForm B) (before : StorageState) (selection : Selection) (result : Result Held CodecError) : Type 0 where
   pub selected : (value : List ℕ) (chunk : Chunk) → before.value ≡ Some value → CodecStands f form.codec form.sizes form.type form.fill value chunk
       → AnswersBy memory_or_fault (Holds form.type) result (seen (select chunk) (places_of selection form.sizes))

@@ -36,7 +36,7 @@ GivesForm f codec sizes type fill result =
 
 -- ---- by the whole value
 
--- the elements of the chunk that a value stands for, or the first refusal
+-- the elements of the chunk that a value stands for, or the first error
 abbrev pub GivesVlen : {B : Type 0} → BytesCodecs B → VlenCodec B → Vec ℕ Global → List ℕ → ElementType → List ℕ → Result Held CodecError → Type 0
 GivesVlen f codec value sizes type fill result =
     Gives (elements type (product sizes)) result (codec_chunk f (plain_vlen codec) sizes type fill value.items)
@@ -69,7 +69,7 @@ SurePlain state codec before count runs result =
 
 -- ---- either way
 
--- a container of the elements at the places of these runs, of what a handle keeps, or the first refusal
+-- a container of the elements at the places of these runs, of what a handle keeps, or the first error
 abbrev pub ReadsVlenRuns : {H B : Type 0} → (H → StorageState) → BytesCodecs B → VlenCodec B → H → List ℕ → ElementType → List ℕ → List (ℕ × ℕ) → Result Held CodecError → Type 0
 ReadsVlenRuns state f codec before sizes type fill runs result =
     ReadsRuns f (plain_vlen codec) (form_of sizes type fill) (state before) runs result

@@ -21,14 +21,14 @@ use zarrs_data_type::{DataType, FillValue};
 /// Reads a chunk of a [`CodecChain`] in part, over a storage handle that it owns. The chain is
 /// borrowed.
 ///
-/// Without bytes codecs, over `bytes` and `packbits`, a read looks at the bytes of the places that are
-/// asked for and at no others: it checks neither the value's length nor what else stands there. Over a
-/// plain `vlen`, whose index chain is `bytes` with a byte order and whose data chain is `bytes`, both
-/// alone, it looks at the offsets and at the bytes of the elements that are asked for. Where a
-/// codec can't read or decode a part, what it makes is kept in a cache, which is filled once, when
-/// the decoder is made; after that the handle is left alone. One that was an encoder
-/// (`ArrayPartialEncoder::into_decoder`) has no cache: through such a codec each of its reads
-/// decodes the whole value.
+/// Without bytes-to-bytes codecs, over `bytes` and `packbits`, a read looks at the bytes of the
+/// places that are asked for and at no others: it checks neither the value's length nor what else
+/// stands there. Over a plain `vlen`, whose index chain is `bytes` with a byte order and whose data
+/// chain is `bytes`, both alone, it looks at the offsets and at the bytes of the elements that are
+/// asked for. Where a codec can't read or decode a part, what it makes is kept in a cache, which is
+/// filled once, when the decoder is made; after that the handle is left alone. One that was an
+/// encoder (`ArrayPartialEncoder::into_decoder`) has no cache: through such a codec each of its
+/// reads decodes the whole value.
 #[derive(Drop)]
 pub struct ArrayPartialDecoder<'a, H: BytesPartialDecoderTraits, B: BytesToBytesCodecTraits> {
     pub(crate) handle: H,
@@ -47,20 +47,20 @@ impl<'a, H: BytesPartialDecoderTraits, B: BytesToBytesCodecTraits> ArrayPartialD
         self.coder.data_type()
     }
 
-    /// The elements that the indexer means, in its order: those of the chunk that the stored value
-    /// stands for, and the fill value at each place where nothing is stored. Without bytes codecs, over
-    /// `bytes` and `packbits`, the answer rests on the places' bytes alone, and over a plain `vlen` on
-    /// the value's length, the offsets and the elements' bytes, whatever else is stored. In what is given
-    /// offsets begin at 0 and end at the length of the bytes, mask bytes are 0 and 1, and absent elements
-    /// stand over blank ones.
+    /// The elements that the indexer selects, in its order: those of the chunk that the stored
+    /// value stands for, and the fill value at each place where nothing is stored. Without
+    /// bytes-to-bytes codecs, over `bytes` and `packbits`, the answer rests on the places' bytes
+    /// alone, and over a plain `vlen` on the value's length, the offsets and the elements' bytes,
+    /// whatever else is stored. In what is given offsets begin at 0 and end at the length of the
+    /// bytes, mask bytes are 0 and 1, and absent elements stand over blank ones.
     ///
-    /// Refusals, the first that holds, `OutOfMemory` aside: those of `Indexer::check`; `Storage`,
-    /// but never of a decoder that has a cache, nor where the answer rests on such bytes alone and
-    /// all of these are sure; `BytesCodec` of the last bytes codec, then of the one before, of a
-    /// decoder that has a cache only of those below it; over `bytes` and `packbits`
+    /// Errors, the first that holds, `OutOfMemory` aside: those of `Indexer::check`; `Storage`, but
+    /// never of a decoder that has a cache, nor where the answer rests on such bytes alone and all
+    /// of these are sure; `BytesCodec` of the last bytes-to-bytes codec, then of the one before, of
+    /// a decoder that has a cache only of those below it; over `bytes` and `packbits`
     /// `InvalidByteRange` where a place's bytes lie past the end; over a plain `vlen` those of
-    /// `zarrs_plain_vlen::read_runs`, also where the indexer means no place; over `optional` and
-    /// any other `vlen`, without a cache, what `CodecChain::decode` refuses of the value of this
+    /// `zarrs_plain_vlen::read_runs`, also where the indexer selects no place; over `optional` and
+    /// any other `vlen`, without a cache, what `CodecChain::decode` rejects of the value of this
     /// codec:
     ///
     /// - of `vlen` `InvalidBytesLength`, `IndexLength`, `Overflow`, those of the index chain,
@@ -68,7 +68,7 @@ impl<'a, H: BytesPartialDecoderTraits, B: BytesToBytesCodecTraits> ArrayPartialD
     /// - of `optional` `InvalidBytesLength`, `HeaderOverflow`, `InvalidBytesLength`, those of the
     ///   mask chain, `MaskValue`, those of the data chain.
     ///
-    /// With a cache over these codecs, it was refused when the decoder was made.
+    /// With a cache over these codecs, it was rejected when the decoder was made.
     pub fn partial_decode(
         &mut self,
         alloc: Global,
@@ -85,7 +85,7 @@ impl<'a, H: BytesPartialDecoderTraits, B: BytesToBytesCodecTraits> ArrayPartialD
     }
 
     /// Whether a value is stored; of a decoder that has a cache, whether one was when it was made.
-    /// Refusals: `Storage`, but never of a decoder that has a cache, nor where the handle has sure
+    /// Errors: `Storage`, but never of a decoder that has a cache, nor where the handle has sure
     /// bytes.
     pub fn exists(&mut self) -> Result<bool, CodecError>
         ensures answer { Tells result (is_some (H.state (handle_of self.old)).value) }
@@ -108,10 +108,10 @@ impl<'a, H: BytesPartialDecoderTraits, B: BytesToBytesCodecTraits> ArrayPartialD
 
     /// The ranges, in bytes of the stored value, that a read asks for, where it asks for the bytes
     /// of its places alone: they are these bytes and no others. They come in the order in which the
-    /// places do, neighbours joined; over `bytes` those of a box that goes through the array codecs
-    /// as one in the order in which they stand. `None` where bytes codecs, or chains inside the
-    /// codec to bytes, stand in the way. Refusals, the first that holds: those of `Indexer::check`;
-    /// `OutOfMemory`.
+    /// places do, neighbours joined; over `bytes` those of a box that goes through the
+    /// array-to-array codecs as one in the order in which they stand. `None` where bytes-to-bytes
+    /// codecs, or chains inside the array-to-bytes codec, stand in the way. Errors, the first that
+    /// holds: those of `Indexer::check`; `OutOfMemory`.
     pub fn planned_ranges(
         &self,
         alloc: Global,

@@ -1,8 +1,8 @@
 //! What a partial decoder keeps of the stored value.
 use zarrs_array_bytes::ArrayBytes;
 
-/// Where the cache stands: nowhere; at the bytes above so many of the first bytes codecs; at the chunk
-/// that the codec to bytes reads.
+/// Where the cache stands: nowhere; at the bytes above so many of the first bytes-to-bytes codecs;
+/// at the chunk that the array-to-bytes codec reads.
 #[derive(Clone, Copy, Debug, PartialEq, Eq)]
 pub(crate) enum CacheStage {
     Nowhere,
@@ -10,8 +10,9 @@ pub(crate) enum CacheStage {
     Chunk,
 }
 
-/// What is kept: nothing, so that the handle is asked; the bytes above so many of the first bytes
-/// codecs; the chunk that the codec to bytes reads. `None` inside says that nothing is stored.
+/// What is kept: nothing, so that the handle is asked; the bytes above so many of the first
+/// bytes-to-bytes codecs; the chunk that the array-to-bytes codec reads. `None` inside says that
+/// nothing is stored.
 #[derive(Drop)]
 pub(crate) enum Cache {
     Handle,

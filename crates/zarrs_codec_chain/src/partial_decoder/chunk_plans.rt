@@ -9,7 +9,7 @@ ghost use Rattle.zarrs_codec_chain.specs.ChunkRead.{chain_reads_places};
 use crate::chunk_coder::ChunkCoder;
 use crate::partial_decoder::codec_read::{codec_in_place, planned_runs, plans_reads};
 use std::alloc::Global;
-use zarrs_array_regions::last_window;
+use zarrs_array_regions::region_runs;
 use zarrs_chain_whole::CodecChain;
 use zarrs_chunk::{ArraySubset, CodecError, Indexer};
 use zarrs_codec::{ByteRange, BytesToBytesCodecTraits};
@@ -17,8 +17,8 @@ use zarrs_codec::{ByteRange, BytesToBytesCodecTraits};
 impl<'a, B: BytesToBytesCodecTraits> ChunkCoder<'a, B> {
     ghost use Rattle.zarrs_codec_chain.specs.ChunkCoder.{ReaderPlans, IsKeptRegion, GivesStanding, AreInside, coder_keeps_regions, reader_ordered, reader_planned};
 
-    /// The places where a region stands in the encoded chunk, in their order, as runs: those of its
-    /// window. Refusals: `OutOfMemory`.
+    /// The places where a region stands in the moved chunk, in their order, as runs: those of its
+    /// window. Errors: `OutOfMemory`.
     fn standing_runs(
         &self,
         alloc: Global,
@@ -33,11 +33,11 @@ impl<'a, B: BytesToBytesCodecTraits> ChunkCoder<'a, B> {
     {
         self.is_sound();
         let codecs = self.chain.array_to_array_codecs();
-        let window = last_window(alloc, codecs, &self.shape, region)?;
-        window.into_runs(alloc)
+        region_runs(alloc, codecs, &self.shape, region)
     }
 
-    /// The box that the indexer means, where its bytes are planned in the order in which they stand.
+    /// The box that the indexer selects, where its bytes are planned in the order in which they
+    /// stand.
     fn planned_region<'i>(&self, indexer: &'i Indexer) -> Option<&'i ArraySubset>
         ensures region { option_map (λ box. box.now) result ≡ reader_planned self.now indexer.now }
         ensures region_kept { IfSome result (λ box. IsKeptRegion self.now indexer.now box.now) }
@@ -48,8 +48,8 @@ impl<'a, B: BytesToBytesCodecTraits> ChunkCoder<'a, B> {
         }
     }
 
-    /// Where the places that an indexer means go in the chunk that the codec to bytes gets, in the
-    /// order in which their bytes are planned, as runs. Refusals: those of `Indexer::check`;
+    /// Where the places that an indexer selects go in the chunk that the array-to-bytes codec gets,
+    /// in the order in which their bytes are planned, as runs. Errors: those of `Indexer::check`;
     /// `OutOfMemory`.
     fn ordered_runs(&self, alloc: Global, indexer: &Indexer) -> Result<Vec<(u64, u64)>, CodecError>
         ensures answer { Gives places_in result (reader_ordered self.now indexer.now) }
@@ -65,7 +65,7 @@ impl<'a, B: BytesToBytesCodecTraits> ChunkCoder<'a, B> {
     }
 
     /// The ranges of bytes that a read asks for, where it asks for the bytes of its places alone.
-    /// Refusals: those of `Indexer::check`; `OutOfMemory`.
+    /// Errors: those of `Indexer::check`; `OutOfMemory`.
     pub(crate) fn planned_ranges(
         &self,
         alloc: Global,

@@ -16,7 +16,7 @@ use crate::partial_decoder::codec_read::codec_in_place;
 use crate::partial_decoder::encoded_runs::encoded_runs;
 use std::alloc::Global;
 use zarrs_array_bytes::ArrayBytes;
-use zarrs_array_regions::{decoded_window, kept_region, last_window};
+use zarrs_array_regions::{decoded_window, kept_region, region_runs};
 use zarrs_array_to_array::encoded_places;
 use zarrs_bytes::BytesCodec;
 use zarrs_chunk::{ArraySubset, CodecError, Indexer};
@@ -32,8 +32,8 @@ impl<'a, B: BytesToBytesCodecTraits> ChunkCoder<'a, B> {
         self.chain.partial_decoder_capability().partial_decode
     }
 
-    /// Where the places that an indexer means go in the chunk that the codec to bytes gets, as runs,
-    /// none of which starts where the one before it ends.
+    /// Where the places that an indexer selects go in the chunk that the array-to-bytes codec gets,
+    /// as runs, none of which starts where the one before it ends.
     pub(crate) fn runs(
         &self,
         alloc: Global,
@@ -68,7 +68,7 @@ impl<'a, B: BytesToBytesCodecTraits> ChunkCoder<'a, B> {
         )
     }
 
-    /// The box that the indexer means, where it goes through the array codecs as a box.
+    /// The box that the indexer selects, where it goes through the array-to-array codecs as a box.
     pub(crate) fn kept_region<'i>(&self, indexer: &'i Indexer) -> Option<&'i ArraySubset>
         ensures region { option_map (λ box. box.now) result ≡ reader_region self.now indexer.now }
         ensures region_kept { IfSome result (λ box. IsKeptRegion self.now indexer.now box.now) }
@@ -76,11 +76,11 @@ impl<'a, B: BytesToBytesCodecTraits> ChunkCoder<'a, B> {
         kept_region(self.chain.array_to_array_codecs(), &self.shape, indexer)
     }
 
-    /// The elements of a region that goes through the array codecs as one, in row-major order:
-    /// those of its window in the encoded chunk are read, by the window's own runs, and decoded.
-    /// Refusals, the first that holds, `OutOfMemory` aside: `Storage`; those of the bytes codecs
-    /// that a cache leaves, and those that `partial_decode` of `ArrayPartialDecoder` names of the
-    /// codec to bytes.
+    /// The elements of a region that goes through the array-to-array codecs as one, in row-major
+    /// order: those of its window in the moved chunk are read, by the window's own runs, and
+    /// decoded. Errors, the first that holds, `OutOfMemory` aside: `Storage`; those of the
+    /// bytes-to-bytes codecs that a cache leaves, and those that `partial_decode` of
+    /// `ArrayPartialDecoder` names of the array-to-bytes codec.
     fn read_region<H: BytesPartialDecoderTraits>(
         &self,
         alloc: Global,
@@ -101,8 +101,7 @@ impl<'a, B: BytesToBytesCodecTraits> ChunkCoder<'a, B> {
     {
         self.is_sound();
         let codecs = self.chain.array_to_array_codecs();
-        let window = last_window(alloc, codecs, &self.shape, region)?;
-        let runs = window.into_runs(alloc)?;
+        let runs = region_runs(alloc, codecs, &self.shape, region)?;
         let held = self.read_runs(alloc, handle, &runs)?;
         decoded_window(
             alloc,
@@ -116,7 +115,7 @@ impl<'a, B: BytesToBytesCodecTraits> ChunkCoder<'a, B> {
     }
 
     /// The codec `bytes`, where the indexer is a list of tuples whose bytes are asked for by
-    /// themselves: there are no bytes codecs, and nothing is kept.
+    /// themselves: there are no bytes-to-bytes codecs, and nothing is kept.
     fn lister(&self, indexer: &Indexer) -> Option<&BytesCodec>
         ensures writes_in_place { IfSome result (λ codec. IsInPlace self.now codec.now) }
         ensures uncached { IfSome result (λ _. self.now.cache ≡ Cache.Handle) }
@@ -127,8 +126,8 @@ impl<'a, B: BytesToBytesCodecTraits> ChunkCoder<'a, B> {
         }
     }
 
-    /// The elements that a list of tuples means, in its order, over `bytes` alone: the places' bytes
-    /// are read a batch at a time, and no list of runs is made. Refusals, the first that holds,
+    /// The elements that a list of tuples select, in its order, over `bytes` alone: the places'
+    /// bytes are read a batch at a time, and no list of runs is made. Errors, the first that holds,
     /// `OutOfMemory` aside: those of `Indexer::check`; `Storage`; `InvalidByteRange`.
     fn read_listed<H: BytesPartialDecoderTraits>(
         &self,
@@ -151,10 +150,10 @@ impl<'a, B: BytesToBytesCodecTraits> ChunkCoder<'a, B> {
         codec.read_places(alloc, handle, &self.data_type, &self.fill_value, places)
     }
 
-    /// The elements that the indexer means, in its order. Refusals, the first that holds,
-    /// `OutOfMemory` aside: those of `Indexer::check`; `Storage`; those of the bytes codecs that a
-    /// cache leaves, and those that `partial_decode` of `ArrayPartialDecoder` names of the codec to
-    /// bytes.
+    /// The elements that the indexer selects, in its order. Errors, the first that holds,
+    /// `OutOfMemory` aside: those of `Indexer::check`; `Storage`; those of the bytes-to-bytes
+    /// codecs that a cache leaves, and those that `partial_decode` of `ArrayPartialDecoder` names
+    /// of the array-to-bytes codec.
     pub(crate) fn read<H: BytesPartialDecoderTraits>(
         &self,
         alloc: Global,
@@ -181,8 +180,8 @@ impl<'a, B: BytesToBytesCodecTraits> ChunkCoder<'a, B> {
         self.read_runs(alloc, handle, &runs)
     }
 
-    /// The elements that the indexer means, in its order, of the chunk whose value the handle keeps,
-    /// where the cache, if there is one, was filled from that value. Refusals: those of
+    /// The elements that the indexer selects, in its order, of the chunk whose value the handle
+    /// keeps, where the cache, if there is one, was filled from that value. Errors: those of
     /// `ArrayPartialDecoder::partial_decode`.
     pub(crate) fn read_chunk<H: BytesPartialDecoderTraits>(
         &self,
@@ -203,7 +202,7 @@ impl<'a, B: BytesToBytesCodecTraits> ChunkCoder<'a, B> {
         self.read(alloc, handle, indexer)
     }
 
-    /// Whether something is stored, or was when the cache was filled. Refusals: `Storage`.
+    /// Whether something is stored, or was when the cache was filled. Errors: `Storage`.
     pub(crate) fn exists<H: BytesPartialDecoderTraits>(
         &self,
         handle: &mut H,

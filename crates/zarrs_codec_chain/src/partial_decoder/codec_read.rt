@@ -1,4 +1,4 @@
-//! Reading runs of places through a codec to bytes, of a handle or of bytes in memory.
+//! Reading runs of places through an array-to-bytes codec, of a handle or of bytes in memory.
 ghost use Rattle.zarrs_data_type.specs.Form.{form_of};
 ghost use Rattle.std.specs.Prelude.{◌≡◌, ◌<◌, ◌≤◌, ◌+◌, ◌^◌, IfOk, All, length, option_map, true};
 ghost use Rattle.zarrs_chunk.specs.ChunkShape.{product};
@@ -20,8 +20,8 @@ use zarrs_codec::{ByteRange, BytesPartialDecoderTraits, BytesToBytesCodecTraits}
 use zarrs_data_type::{DataType, FillValue};
 use zarrs_pieces::LentHandle;
 
-/// The elements at the places of these runs of a chunk that the codec takes, over a handle that keeps
-/// its bytes: the fill value at each place where nothing is stored. Refusals: the codec's own;
+/// The elements at the places of these runs of a chunk that the codec takes, over a handle that
+/// keeps its bytes: the fill value at each place where nothing is stored. Errors: the codec's own;
 /// `OutOfMemory` and `Storage`, which may come before.
 #[tactic(auto, unfolding(zarrs_chain_whole::specs::ChainView::plain_codec), using(zarrs_chain_whole::specs::ChainView::plain_vlen_at, zarrs_chain_whole::specs::ChainView::plain_optional_at))]
 pub(crate) fn read_runs<H: BytesPartialDecoderTraits, B: BytesToBytesCodecTraits>(
@@ -108,7 +108,7 @@ fn as_bytes<B>(codec: &ArrayToBytesCodec<B>) -> Option<&BytesCodec>
     }
 }
 
-/// The codec `bytes`, where the chain has no bytes codecs around it.
+/// The codec `bytes`, where the chain has no bytes-to-bytes codecs around it.
 pub(crate) fn codec_in_place<B>(chain: &CodecChain<B>) -> Option<&BytesCodec>
     ensures value { option_map (λ v. v.now) result ≡ chain_in_place (plain_chain chain.now) }
 {
@@ -118,7 +118,7 @@ pub(crate) fn codec_in_place<B>(chain: &CodecChain<B>) -> Option<&BytesCodec>
     }
 }
 
-/// The ranges of bytes that a read of these runs asks for. Refusals: `OutOfMemory`.
+/// The ranges of bytes that a read of these runs asks for. Errors: `OutOfMemory`.
 #[tactic(auto, unfolding(zarrs_chain_whole::specs::ChainView::plain_codec), using(zarrs_chain_whole::specs::ChainView::plain_vlen_at, zarrs_chain_whole::specs::ChainView::plain_optional_at))]
 pub(crate) fn planned_runs<B: BytesToBytesCodecTraits>(
     alloc: Global,

@@ -1,4 +1,4 @@
-//! Where an indexer's places go through the array codecs of a chain.
+//! Where an indexer's places go through the array-to-array codecs of a chain.
 ghost use Rattle.std.specs.Prelude.{◌<◌, ◌^◌, IfOk, All, length};
 ghost use Rattle.zarrs_chunk.specs.Answer.{Gives};
 ghost use Rattle.zarrs_chunk.specs.ChunkShape.{product};
@@ -9,9 +9,9 @@ use std::alloc::Global;
 use zarrs_array_to_array::{ArrayToArrayCodec, encoded_places};
 use zarrs_chunk::{ChunkShape, CodecError, Indexer, runs_of_places};
 
-/// Where the places that an indexer means go through the codecs, in order, as runs of a start and a
-/// length, none of which starts where the one before it ends. Without codecs the indexer's own runs
-/// are lent on, so that no place is written down by itself. Refusals, the first that holds,
+/// Where the places that an indexer selects go through the codecs, in order, as runs of a start and
+/// a length, none of which starts where the one before it ends. Without codecs the indexer's own
+/// runs are lent on, so that no place is written down by itself. Errors, the first that holds,
 /// `OutOfMemory` aside: those of `Indexer::places`, and then those of each codec's `encoded_shape`.
 pub(crate) fn encoded_runs(
     alloc: Global,

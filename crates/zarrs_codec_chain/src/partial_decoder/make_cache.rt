@@ -24,7 +24,8 @@ use zarrs_codec::{
 };
 use zarrs_data_type::{DataType, FillValue};
 
-/// How many of the first bytes codecs a cache leaves undecoded, where one of the codecs wants a cache.
+/// How many of the first bytes-to-bytes codecs a cache leaves undecoded, where one of the codecs
+/// wants a cache.
 fn codecs_left<B: BytesToBytesCodecTraits>(codecs: &[B]) -> Option<usize>
     ensures value { result ≡ bytes_left (map B.reads_in_part codecs.now) }
     ensures known { (left : ℕ) → result ≡ Some left → left ≤ length codecs.now }
@@ -47,8 +48,8 @@ fn codecs_left<B: BytesToBytesCodecTraits>(codecs: &[B]) -> Option<usize>
     }
 }
 
-/// Where a cache stands, by what the codec to bytes reads in part and by how many bytes codecs it
-/// leaves.
+/// Where a cache stands, by what the array-to-bytes codec reads in part and by how many
+/// bytes-to-bytes codecs it leaves.
 fn stage_of(codec: PartialDecoderCapability, left: Option<usize>) -> CacheStage
     ensures value { result ≡ stage_by codec left }
 {
@@ -64,7 +65,7 @@ fn stage_of(codec: PartialDecoderCapability, left: Option<usize>) -> CacheStage
     }
 }
 
-/// What the codec to bytes reads in part.
+/// What the array-to-bytes codec reads in part.
 pub(crate) fn codec_reads<B: BytesToBytesCodecTraits>(
     chain: &CodecChain<B>,
 ) -> PartialDecoderCapability
@@ -92,7 +93,7 @@ fn into_vec(alloc: Global, bytes: ArrayBytesRaw<'_>) -> Result<Vec<u8>, CodecErr
     }
 }
 
-/// The bytes above so many of the first codecs, that a value stands for. Refusals: `BytesCodec` of
+/// The bytes above so many of the first codecs, that a value stands for. Errors: `BytesCodec` of
 /// the last codec, then of the one before.
 fn bytes_above<B: BytesToBytesCodecTraits>(
     alloc: Global,
@@ -109,8 +110,8 @@ fn bytes_above<B: BytesToBytesCodecTraits>(
     into_vec(alloc, bytes)
 }
 
-/// The chunk that the codec to bytes reads. Refusals: `BytesCodec` of the last bytes codec, then of the
-/// one before; those of the codec to bytes.
+/// The chunk that the array-to-bytes codec reads. Errors: `BytesCodec` of the last bytes-to-bytes
+/// codec, then of the one before; those of the array-to-bytes codec.
 pub(crate) fn chunk_below<B: BytesToBytesCodecTraits>(
     alloc: Global,
     chain: &CodecChain<B>,
@@ -142,9 +143,9 @@ pub(crate) fn chunk_below<B: BytesToBytesCodecTraits>(
     )
 }
 
-/// What is kept of the stored value where the cache stands here. The handle is asked once, and not at
-/// all without a cache. Refusals, the first that holds, `OutOfMemory` aside: `Storage`; those of what
-/// decodes the value up to the cache.
+/// What is kept of the stored value where the cache stands here. The handle is asked once, and not
+/// at all without a cache. Errors, the first that holds, `OutOfMemory` aside: `Storage`; those of
+/// what decodes the value up to the cache.
 pub(crate) fn make_cache<H: BytesPartialDecoderTraits, B: BytesToBytesCodecTraits>(
     alloc: Global,
     chain: &CodecChain<B>,

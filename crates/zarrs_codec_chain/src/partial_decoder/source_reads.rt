@@ -25,10 +25,10 @@ use zarrs_codec::{BytesPartialDecoderTraits, BytesToBytesCodecTraits};
 impl<'a, B: BytesToBytesCodecTraits> ChunkCoder<'a, B> {
     ghost use Rattle.zarrs_codec_chain.specs.ChunkCoder.{reader_reads_parts, AsksOnce, AsksStoredOnce, GivesOpened, SureSource, is_coder_cache, AreInside, TightAsKept, LeavesAlone, GivesAbove, GivesKept, ReadsCached, ReadsStored};
 
-    /// The elements at the places of these runs, by the bytes above so many of the first bytes
-    /// codecs, or by none. Refusals, the first that holds, `OutOfMemory` aside: `BytesCodec` of the
-    /// last of these codecs, then of the one before; of the codec to bytes those that
-    /// `partial_decode` of `ArrayPartialDecoder` names.
+    /// The elements at the places of these runs, by the bytes above so many of the first
+    /// bytes-to-bytes codecs, or by none. Errors, the first that holds, `OutOfMemory` aside:
+    /// `BytesCodec` of the last of these codecs, then of the one before; of the array-to-bytes
+    /// codec those that `partial_decode` of `ArrayPartialDecoder` names.
     fn read_above(
         &self,
         alloc: Global,
@@ -70,8 +70,8 @@ impl<'a, B: BytesToBytesCodecTraits> ChunkCoder<'a, B> {
         }
     }
 
-    /// The same, by what the handle keeps. Without bytes codecs the handle is asked for what the places
-    /// rest on alone, and else for the whole value.
+    /// The same, by what the handle keeps. Without bytes-to-bytes codecs the handle is asked for
+    /// what the places rest on alone, and else for the whole value.
     fn read_stored<H: BytesPartialDecoderTraits>(
         &self,
         alloc: Global,
@@ -108,7 +108,7 @@ impl<'a, B: BytesToBytesCodecTraits> ChunkCoder<'a, B> {
         self.read_above(alloc, value, below, runs)
     }
 
-    /// The same, where the codec to bytes reads no part: by the whole chunk.
+    /// The same, where the array-to-bytes codec reads no part: by the whole chunk.
     fn read_whole<H: BytesPartialDecoderTraits>(
         &self,
         alloc: Global,
@@ -130,7 +130,8 @@ impl<'a, B: BytesToBytesCodecTraits> ChunkCoder<'a, B> {
         }
     }
 
-    /// The elements at the places of these runs of the chunk that the codec to bytes reads of a value.
+    /// The elements at the places of these runs of the chunk that the array-to-bytes codec reads of
+    /// a value.
     fn runs_of_value(
         &self,
         alloc: Global,
@@ -176,7 +177,7 @@ impl<'a, B: BytesToBytesCodecTraits> ChunkCoder<'a, B> {
         }
     }
 
-    /// The elements at the places of these runs of the chunk that the codec to bytes gets.
+    /// The elements at the places of these runs of the chunk that the array-to-bytes codec gets.
     pub(crate) fn read_runs<H: BytesPartialDecoderTraits>(
         &self,
         alloc: Global,

@@ -23,10 +23,10 @@ use zarrs_data_type::{DataType, FillValue};
 /// Writes a chunk of a [`CodecChain`] in part, over a storage handle that it owns, and reads it in
 /// part. The chain is borrowed.
 ///
-/// It has no cache: each call asks the handle, so what is read is what was written last. Over `bytes`
-/// without bytes codecs a write over a stored value replaces the bytes of its places alone; through
-/// every other chain the whole value is decoded, encoded and replaced. A chunk of fill values is
-/// stored like any other.
+/// It has no cache: each call asks the handle, so what is read is what was written last. Over
+/// `bytes` without bytes-to-bytes codecs a write over a stored value replaces the bytes of its
+/// places alone; through every other chain the whole value is decoded, encoded and replaced. A
+/// chunk of fill values is stored like any other.
 #[derive(Drop)]
 pub struct ArrayPartialEncoder<'a, H: BytesPartialEncoderTraits, B: BytesToBytesCodecTraits> {
     pub(crate) handle: H,
@@ -55,19 +55,19 @@ impl<'a, H: BytesPartialEncoderTraits, B: BytesToBytesCodecTraits> ArrayPartialE
         self.coder.data_type()
     }
 
-    /// The elements that the indexer means, in its order: those of the chunk that the stored value
-    /// stands for, and the fill value at each place where nothing is stored. Without bytes codecs, over
-    /// `bytes` and `packbits`, the answer rests on the places' bytes alone, and over a plain `vlen` on
-    /// the value's length, the offsets and the elements' bytes, whatever else is stored. In what is given
-    /// offsets begin at 0 and end at the length of the bytes, mask bytes are 0 and 1, and absent elements
-    /// stand over blank ones.
+    /// The elements that the indexer selects, in its order: those of the chunk that the stored
+    /// value stands for, and the fill value at each place where nothing is stored. Without
+    /// bytes-to-bytes codecs, over `bytes` and `packbits`, the answer rests on the places' bytes
+    /// alone, and over a plain `vlen` on the value's length, the offsets and the elements' bytes,
+    /// whatever else is stored. In what is given offsets begin at 0 and end at the length of the
+    /// bytes, mask bytes are 0 and 1, and absent elements stand over blank ones.
     ///
-    /// Refusals, the first that holds, `OutOfMemory` aside: those of `Indexer::check`; `Storage`, but
-    /// never where the answer rests on such bytes alone and all of these are sure; `BytesCodec` of the
-    /// last bytes codec, then of the one before; over `bytes` and `packbits` `InvalidByteRange` where a
-    /// place's bytes lie past the end; over a plain `vlen` those of `zarrs_plain_vlen::read_runs`,
-    /// also where the indexer means no place; over `optional` and any other `vlen` what
-    /// `CodecChain::decode` refuses of the value of this codec:
+    /// Errors, the first that holds, `OutOfMemory` aside: those of `Indexer::check`; `Storage`, but
+    /// never where the answer rests on such bytes alone and all of these are sure; `BytesCodec` of
+    /// the last bytes-to-bytes codec, then of the one before; over `bytes` and `packbits`
+    /// `InvalidByteRange` where a place's bytes lie past the end; over a plain `vlen` those of
+    /// `zarrs_plain_vlen::read_runs`, also where the indexer selects no place; over `optional` and
+    /// any other `vlen` what `CodecChain::decode` rejects of the value of this codec:
     ///
     /// - of `vlen` `InvalidBytesLength`, `IndexLength`, `Overflow`, those of the index chain,
     ///   `InvalidOffsets`, those of the data chain;
@@ -86,7 +86,7 @@ impl<'a, H: BytesPartialEncoderTraits, B: BytesToBytesCodecTraits> ArrayPartialE
         self.coder.read_chunk(alloc, &mut self.handle, indexer)
     }
 
-    /// Whether a value is stored. Refusals: `Storage`, but never where the handle has sure bytes.
+    /// Whether a value is stored. Errors: `Storage`, but never where the handle has sure bytes.
     pub fn exists(&mut self) -> Result<bool, CodecError>
         ensures answer { Tells result (is_some (encoder_value H.state self.old)) }
         ensures sure { NeverFailsIf (is_some (H.state (encoder_handle self.old)).sure) result }
@@ -104,10 +104,10 @@ impl<'a, H: BytesPartialEncoderTraits, B: BytesToBytesCodecTraits> ArrayPartialE
 
     /// The ranges, in bytes of the stored value, that a read asks for, where it asks for the bytes
     /// of its places alone: they are these bytes and no others. They come in the order in which the
-    /// places do, neighbours joined; over `bytes` those of a box that goes through the array codecs
-    /// as one in the order in which they stand. `None` where bytes codecs, or chains inside the
-    /// codec to bytes, stand in the way. Refusals, the first that holds: those of `Indexer::check`;
-    /// `OutOfMemory`.
+    /// places do, neighbours joined; over `bytes` those of a box that goes through the
+    /// array-to-array codecs as one in the order in which they stand. `None` where bytes-to-bytes
+    /// codecs, or chains inside the array-to-bytes codec, stand in the way. Errors, the first that
+    /// holds: those of `Indexer::check`; `OutOfMemory`.
     pub fn planned_ranges(
         &self,
         alloc: Global,
@@ -126,21 +126,22 @@ impl<'a, H: BytesPartialEncoderTraits, B: BytesToBytesCodecTraits> ArrayPartialE
         self.coder.decodes_parts() && self.handle.supports_partial_decode()
     }
 
-    /// Writes these elements at the places that the indexer means, in its order: where a place comes
-    /// twice, the last one stands. The value afterwards is the one that is written for the chunk with
-    /// these elements, which begins as the chunk that the stored value stands for, or as fill values
-    /// where nothing is stored; that one is written whole, for an indexer without places too. Over
-    /// `bytes` without bytes codecs every stored value is accepted and none of it is read: the places'
-    /// bytes alone are replaced, and it grows with zeros up to the furthest place.
+    /// Writes these elements at the places that the indexer selects, in its order: where a place
+    /// comes twice, the last one stands. The value afterwards is the one that is written for the
+    /// chunk with these elements, which begins as the chunk that the stored value stands for, or as
+    /// fill values where nothing is stored; that one is written whole, for an indexer without
+    /// places too. Over `bytes` without bytes-to-bytes codecs every stored value is accepted and
+    /// none of it is read: the places' bytes alone are replaced, and it grows with zeros up to the
+    /// furthest place.
     ///
-    /// Refusals, the first that holds, `OutOfMemory` aside: those of `Indexer::check`; level by
-    /// level `ArrayBytesKind` or `DataMismatch` of the new elements; then, once the handle is
-    /// asked, `Storage` of the reading; but over `bytes` without bytes codecs, what
-    /// `CodecChain::decode` refuses of a value that is stored, and what `CodecChain::encode`
-    /// refuses of the chunk with these elements; `Storage` of the writing. What these two refuse is
+    /// Errors, the first that holds, `OutOfMemory` aside: those of `Indexer::check`; level by level
+    /// `ArrayBytesKind` or `DataMismatch` of the new elements; then, once the handle is asked,
+    /// `Storage` of the reading; but over `bytes` without bytes-to-bytes codecs, what
+    /// `CodecChain::decode` rejects of a value that is stored, and what `CodecChain::encode`
+    /// rejects of the chunk with these elements; `Storage` of the writing. What these two reject is
     ///
-    /// - of a stored value `BytesCodec` of the last bytes codec, then of the one before; of `bytes`
-    ///   and `packbits` `InvalidBytesLength`, of `packbits` `PaddingByte`; of `vlen`
+    /// - of a stored value `BytesCodec` of the last bytes-to-bytes codec, then of the one before;
+    ///   of `bytes` and `packbits` `InvalidBytesLength`, of `packbits` `PaddingByte`; of `vlen`
     ///   `InvalidBytesLength`, `IndexLength`, `Overflow`, those of the index chain,
     ///   `InvalidOffsets`, those of the data chain; of `optional` `InvalidBytesLength`,
     ///   `HeaderOverflow`, `InvalidBytesLength`, those of the mask chain, `MaskValue`, those of the
@@ -149,9 +150,9 @@ impl<'a, H: BytesPartialEncoderTraits, B: BytesToBytesCodecTraits> ArrayPartialE
     ///   `vlen` `OffsetTooLarge`, those of the index chain, `OffsetNotKept`, those of the data
     ///   chain; of `optional` those of the mask chain, those of the data chain.
     ///
-    /// One that is accepted makes exactly one reading and one writing call of the handle. One that is
-    /// refused makes no writing call, or the one that refused it, and leaves the value as it was, but
-    /// where that call is refused and the handle isn't atomic.
+    /// One that is accepted makes exactly one reading and one writing call of the handle. One that
+    /// is rejected makes no writing call, or the one that rejected it, and leaves the value as it
+    /// was, but where that call is rejected and the handle isn't atomic.
     pub fn partial_encode(
         &mut self,
         alloc: Global,
@@ -167,8 +168,8 @@ impl<'a, H: BytesPartialEncoderTraits, B: BytesToBytesCodecTraits> ArrayPartialE
         self.coder.write(alloc, &mut self.handle, indexer, elements)
     }
 
-    /// Leaves no value; there may have been none. Refusals: `Storage`. It makes exactly one writing
-    /// call of the handle. A refusal leaves the value as it was where the handle is atomic.
+    /// Leaves no value; there may have been none. Errors: `Storage`. It makes exactly one writing
+    /// call of the handle. An error leaves the value as it was where the handle is atomic.
     pub fn erase(&mut self) -> Result<(), CodecError>
         ensures answer { Answers fault (λ _. encoder_value H.state self.new) result (Ok None) }
         ensures left { EncoderWritesOnce H.state H.lent H.atomic self.old self.new result }

@@ -14,7 +14,7 @@ impl<'a, B: BytesToBytesCodecTraits> ChunkCoder<'a, B> {
     ghost use Rattle.zarrs_codec_chain.specs.ChunkCoder.{coder_form};
     ghost use Rattle.zarrs_codec_chain.specs.ChunkWriter.{CountsWriting, ReadsNothing, Writes};
 
-    /// Writes new elements at the places that the indexer means. Refusals: those of
+    /// Writes new elements at the places that the indexer selects. Errors: those of
     /// `ArrayPartialEncoder::partial_encode`.
     pub(crate) fn write<H: BytesPartialEncoderTraits>(
         &self,

@@ -13,7 +13,7 @@ use zarrs_codec::{BytesPartialEncoderTraits, BytesToBytesCodecTraits};
 /// One edit of a chunk.
 #[derive(Debug, Drop)]
 pub enum Edit<'a> {
-    /// These elements are written at the places that the indexer means.
+    /// These elements are written at the places that the indexer selects.
     Encode(Indexer, ArrayBytes<'a>),
     /// The value is erased.
     Erase,
@@ -22,9 +22,9 @@ pub enum Edit<'a> {
 /// How far a list of edits came.
 #[derive(Clone, Copy, Debug, PartialEq, Eq)]
 pub struct EditOutcome {
-    /// How many were accepted, all of them before the one that was refused.
+    /// How many were accepted, all of them before the one that was rejected.
     pub done: usize,
-    /// Why that one was refused; `None` where all were accepted.
+    /// Why that one was rejected; `None` where all were accepted.
     pub refusal: Option<CodecError>,
 }
 
@@ -47,18 +47,18 @@ fn apply<H: BytesPartialEncoderTraits, B: BytesToBytesCodecTraits>(
     }
 }
 
-/// Makes the edits in order, up to the first refusal. What is stored afterwards is what was written
-/// last: from nothing, or from a value that is written for a chunk, the value that is written for the
-/// chunk as the accepted edits leave it, or nothing where the last of them erases. Each accepted edit
-/// makes one writing call. One that is refused makes none, or the one that refused it, and leaves what
-/// the accepted ones left, but where that call is refused and the handle isn't atomic. It takes no
-/// memory of its own.
+/// Makes the edits in order, up to the first error. What is stored afterwards is what was written
+/// last: from nothing, or from a value that is written for a chunk, the value that is written for
+/// the chunk as the accepted edits leave it, or nothing where the last of them erases. Each
+/// accepted edit makes one writing call. One that is rejected makes none, or the one that rejected
+/// it, and leaves what the accepted ones left, but where that call is rejected and the handle isn't
+/// atomic. It takes no memory of its own.
 ///
-/// Refusals of an edit are those of `ArrayPartialEncoder::partial_encode`, and of an erase
-/// `Storage` alone. From nothing, or from a value that is written for a chunk, an edit is refused,
-/// a want of memory and a failure of the handle aside, exactly where the indexer is out of bounds,
-/// the new elements don't fit it, or no value is written for the chunk with them. Over any other
-/// value one is also refused where the value stands for no chunk, but over `bytes` without bytes
+/// Errors of an edit are those of `ArrayPartialEncoder::partial_encode`, and of an erase `Storage`
+/// alone. From nothing, or from a value that is written for a chunk, an edit is rejected, a lack of
+/// memory and a failure of the handle aside, exactly where the indexer is out of bounds, the new
+/// elements don't fit it, or no value is written for the chunk with them. Over any other value one
+/// is also rejected where the value stands for no chunk, but over `bytes` without bytes-to-bytes
 /// codecs.
 pub fn run_edits<H: BytesPartialEncoderTraits, B: BytesToBytesCodecTraits>(
     alloc: Global,

@@ -1,4 +1,4 @@
-//! Writing a chunk in part in place: over `bytes` without bytes codecs.
+//! Writing a chunk in part in place: over `bytes` without bytes-to-bytes codecs.
 ghost use Rattle.std.specs.Prelude.{◌≡◌, ◌<◌, IfOk, All, Some, true, false};
 ghost use Rattle.zarrs_chunk.specs.Answer.{is_fault, seen, Gives};
 ghost use Rattle.zarrs_chunk.specs.ChunkShape.{product};
@@ -18,7 +18,7 @@ use crate::partial_encoder::whole_writer::check_data;
 use std::alloc::Global;
 use std::borrow::CowSlice;
 use zarrs_array_bytes::ArrayBytes;
-use zarrs_array_regions::encoded_window;
+use zarrs_array_regions::encode_region;
 use zarrs_bytes::BytesCodec;
 use zarrs_chunk::{ArraySubset, CodecError, Indexer};
 use zarrs_codec::{BytesPartialEncoderTraits, BytesToBytesCodecTraits};
@@ -27,9 +27,9 @@ impl<'a, B: BytesToBytesCodecTraits> ChunkCoder<'a, B> {
     ghost use Rattle.zarrs_codec_chain.specs.ChunkCoder.{coder_form, coder_keeps_regions};
     ghost use Rattle.zarrs_codec_chain.specs.ChunkWriter.{ArePlaced, ChecksElements, GivesWrittenPlaces, region_check, SameEdit, StandThere, WritesInPlace};
 
-    /// Where new elements go in the chunk that the codec to bytes gets, as runs, where there is one for
-    /// each place that the indexer means. Refusals, the first that holds, `OutOfMemory` aside: those of
-    /// `Indexer::check`; those of `ArrayBytes::validate_data`.
+    /// Where new elements go in the chunk that the array-to-bytes codec gets, as runs, where there
+    /// is one for each place that the indexer selects. Errors, the first that holds, `OutOfMemory`
+    /// aside: those of `Indexer::check`; those of `ArrayBytes::validate_data`.
     fn placed_runs(
         &self,
         alloc: Global,
@@ -49,7 +49,7 @@ impl<'a, B: BytesToBytesCodecTraits> ChunkCoder<'a, B> {
         Ok(runs)
     }
 
-    /// New elements of a region, one for each of its places, lent. Refusals: those of
+    /// New elements of a region, one for each of its places, lent. Errors: those of
     /// `ArrayBytes::validate_data`.
     fn region_data<'e>(
         &self,
@@ -70,8 +70,8 @@ impl<'a, B: BytesToBytesCodecTraits> ChunkCoder<'a, B> {
         Ok(ArrayBytes::new_flen(CowSlice::Borrowed(bytes)))
     }
 
-    /// The window that the array codecs take a region to, as runs, and new elements of the region as
-    /// they stand there. Refusals, the first that holds: those of `ArrayBytes::validate_data`;
+    /// The runs of a region where the array-to-array codecs take it, and new elements of the region
+    /// as they stand there. Errors, the first that holds: those of `ArrayBytes::validate_data`;
     /// `OutOfMemory`.
     fn encoded_region<'e>(
         &self,
@@ -96,7 +96,7 @@ impl<'a, B: BytesToBytesCodecTraits> ChunkCoder<'a, B> {
         self.is_sound();
         let codecs = self.chain.array_to_array_codecs();
         let lent = self.region_data(codec, region, elements)?;
-        let (window, encoded) = encoded_window(
+        let (runs, encoded) = encode_region(
             alloc,
             codecs,
             &self.shape,
@@ -104,12 +104,11 @@ impl<'a, B: BytesToBytesCodecTraits> ChunkCoder<'a, B> {
             lent,
             &self.data_type,
         )?;
-        let runs = window.into_runs(alloc)?;
         Ok((runs, encoded))
     }
 
-    /// The same as `write_in_place`, of a region that goes through the array codecs as one: its new
-    /// elements are encoded and written in its window of the encoded chunk.
+    /// The same as `write_in_place`, of a region that goes through the array-to-array codecs as
+    /// one: its new elements are encoded and written in its window of the moved chunk.
     fn write_region<H: BytesPartialEncoderTraits>(
         &self,
         alloc: Global,
@@ -145,9 +144,10 @@ impl<'a, B: BytesToBytesCodecTraits> ChunkCoder<'a, B> {
         )
     }
 
-    /// Writes new elements at the places that the indexer means, where the chain is array codecs and
-    /// this codec `bytes` alone: of a stored value the places' bytes alone are replaced. Refusals:
-    /// those of `Indexer::check`; those of `ArrayBytes::validate_data`; `OutOfMemory` and `Storage`.
+    /// Writes new elements at the places that the indexer selects, where the chain is
+    /// array-to-array codecs and this codec `bytes` alone: of a stored value the places' bytes
+    /// alone are replaced. Errors: those of `Indexer::check`; those of `ArrayBytes::validate_data`;
+    /// `OutOfMemory` and `Storage`.
     pub(crate) fn write_in_place<H: BytesPartialEncoderTraits>(
         &self,
         alloc: Global,

@@ -18,7 +18,7 @@ use zarrs_chunk::{ChunkShape, CodecError, Indexer, count_places};
 use zarrs_codec::{BytesPartialDecoderTraits, BytesPartialEncoderTraits, BytesToBytesCodecTraits};
 use zarrs_data_type::DataType;
 
-/// Whether there is one new element of the type for each place of the runs. Refusals: those of
+/// Whether there is one new element of the type for each place of the runs. Errors: those of
 /// `ArrayBytes::validate_data`.
 pub(crate) fn check_data(
     elements: &ArrayBytes<'_>,
@@ -32,8 +32,8 @@ pub(crate) fn check_data(
     elements.validate_data(count_places(runs), data_type)
 }
 
-/// The runs of the places that the indexer means, where there is one new element for each. Refusals,
-/// the first that holds, `OutOfMemory` aside: those of `Indexer::places`; those of
+/// The runs of the places that the indexer selects, where there is one new element for each.
+/// Errors, the first that holds, `OutOfMemory` aside: those of `Indexer::places`; those of
 /// `ArrayBytes::validate_data`.
 fn checked_runs(
     alloc: Global,
@@ -56,8 +56,8 @@ impl<'a, B: BytesToBytesCodecTraits> ChunkCoder<'a, B> {
     ghost use Rattle.zarrs_codec_chain.specs.ChunkWriter.{CountsRenewal, GivesEdited, LeavesUnharmed, ReadsNewValue, ReadsStart, Renews, WritesRuns};
 
     /// The chunk that an edit starts from: the one that the stored value stands for, or one of fill
-    /// values. Refusals: `Storage`; those of `CodecChain::decode`; `Overflow` where 64 bits don't count
-    /// the bytes of fill values.
+    /// values. Errors: `Storage`; those of `CodecChain::decode`; `Overflow` where 64 bits don't
+    /// count the bytes of fill values.
     fn start<H: BytesPartialDecoderTraits>(
         &self,
         alloc: Global,
@@ -83,7 +83,7 @@ impl<'a, B: BytesToBytesCodecTraits> ChunkCoder<'a, B> {
         }
     }
 
-    /// The value of the chunk with new elements at the places of the runs. Refusals: those of
+    /// The value of the chunk with new elements at the places of the runs. Errors: those of
     /// `CodecChain::encode`.
     fn value_with(
         &self,
@@ -108,7 +108,7 @@ impl<'a, B: BytesToBytesCodecTraits> ChunkCoder<'a, B> {
         )
     }
 
-    /// The value that new elements at the places of the runs leave. Nothing is written yet. Refusals:
+    /// The value that new elements at the places of the runs leave. Nothing is written yet. Errors:
     /// `Storage`; those of `CodecChain::decode`; those of `CodecChain::encode`.
     fn new_value<H: BytesPartialDecoderTraits>(
         &self,
@@ -151,8 +151,8 @@ impl<'a, B: BytesToBytesCodecTraits> ChunkCoder<'a, B> {
         handle.replace(alloc, value.as_slice())
     }
 
-    /// Writes new elements at the places that the indexer means, by the whole value. Refusals: those
-    /// of `ArrayPartialEncoder::partial_encode`.
+    /// Writes new elements at the places that the indexer selects, by the whole value. Errors:
+    /// those of `ArrayPartialEncoder::partial_encode`.
     pub(crate) fn write_whole<H: BytesPartialEncoderTraits>(
         &self,
         alloc: Global,

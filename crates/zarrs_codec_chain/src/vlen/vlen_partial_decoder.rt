@@ -24,10 +24,10 @@ use zarrs_data_type::{DataType, FillValue};
 /// Reads a chunk of a [`VlenCodec`] in part, over a storage handle that it owns. The codec is
 /// borrowed.
 ///
-/// Where the codec is plain, its index chain `bytes` with a byte order and its data chain `bytes`, both
-/// alone, each read asks the handle for the offsets and for the bytes of the elements that are meant,
-/// whatever else is stored. Else it asks for the whole value, decodes it, and takes these elements out.
-/// Nothing is kept in between.
+/// Where the codec is plain, its index chain `bytes` with a byte order and its data chain `bytes`,
+/// both alone, each read asks the handle for the offsets and for the bytes of the elements that are
+/// selected, whatever else is stored. Else it asks for the whole value, decodes it, and takes these
+/// elements out. Nothing is kept in between.
 #[derive(Drop)]
 pub struct VlenPartialDecoder<'a, H: BytesPartialDecoderTraits, B: BytesToBytesCodecTraits> {
     handle: H,
@@ -40,7 +40,7 @@ pub struct VlenPartialDecoder<'a, H: BytesPartialDecoderTraits, B: BytesToBytesC
     ghost counted: { product shape < 2 ^ 64 },
 }
 
-/// What a partial decoder keeps of a chunk that the codec takes. Refusals: those of
+/// What a partial decoder keeps of a chunk that the codec takes. Errors: those of
 /// `encoded_representation`.
 fn parts_of_decoder<B: BytesToBytesCodecTraits>(
     codec: &VlenCodec<B>,
@@ -63,7 +63,7 @@ fn parts_of_decoder<B: BytesToBytesCodecTraits>(
 /// What a [`VlenCodec`] makes to read a chunk in part. What is promised of it stands at the method of
 /// the impl for [`VlenCodec`].
 pub trait VlenCodecPartialTraits<B: BytesToBytesCodecTraits> {
-    /// A decoder of a chunk in part, over a handle. A refusal hands the handle back; which ones
+    /// A decoder of a chunk in part, over a handle. An error hands the handle back; which ones
     /// there are stands at the method of the impl.
     fn partial_decoder<'a, H: BytesPartialDecoderTraits>(
         &'a self,
@@ -78,8 +78,8 @@ pub trait VlenCodecPartialTraits<B: BytesToBytesCodecTraits> {
 impl<B: BytesToBytesCodecTraits> VlenCodecPartialTraits<B> for VlenCodec<B> {
     ghost use Rattle.zarrs_codec_chain.specs.vlen.VlenPartialDecoder.{vlen_handle_of, VlenDecoderMade, VlenHasForm};
 
-    /// A decoder of a chunk in part, over a handle. Refusals, the first that holds: those of
-    /// `encoded_representation`; `OutOfMemory`. A refusal hands the handle back as it was.
+    /// A decoder of a chunk in part, over a handle. Errors, the first that holds: those of
+    /// `encoded_representation`; `OutOfMemory`. An error hands the handle back as it was.
     fn partial_decoder<'a, H: BytesPartialDecoderTraits>(
         &'a self,
         alloc: Global,
@@ -116,7 +116,7 @@ impl<'a, H: BytesPartialDecoderTraits, B: BytesToBytesCodecTraits> VlenPartialDe
         &self.data_type
     }
 
-    /// The elements that the indexer means, by what the handle keeps.
+    /// The elements that the indexer selects, by what the handle keeps.
     fn read(&mut self, alloc: Global, indexer: &Indexer) -> Result<ArrayBytes<'static>, CodecError>
         ensures answer { VlenReads H.state B.functions self.old
             (selection_of indexer.now) result }
@@ -137,14 +137,14 @@ impl<'a, H: BytesPartialDecoderTraits, B: BytesToBytesCodecTraits> VlenPartialDe
         )
     }
 
-    /// The elements that the indexer means, in its order: those of the chunk that the stored value
-    /// stands for, and the fill value at each place where nothing is stored. Of a plain codec the
-    /// answer rests on the value's length, its offsets and the bytes of these elements alone.
+    /// The elements that the indexer selects, in its order: those of the chunk that the stored
+    /// value stands for, and the fill value at each place where nothing is stored. Of a plain codec
+    /// the answer rests on the value's length, its offsets and the bytes of these elements alone.
     ///
-    /// Refusals, the first that holds, `OutOfMemory` aside: those of `Indexer::check`; `Storage`, but
-    /// never of a plain codec where all the bytes that the answer rests on are sure; of a plain codec
-    /// those of `zarrs_plain_vlen::read_runs`, also where the indexer means no place; of any other
-    /// those of `VlenCodec::decode`.
+    /// Errors, the first that holds, `OutOfMemory` aside: those of `Indexer::check`; `Storage`, but
+    /// never of a plain codec where all the bytes that the answer rests on are sure; of a plain
+    /// codec those of `zarrs_plain_vlen::read_runs`, also where the indexer selects no place; of
+    /// any other those of `VlenCodec::decode`.
     pub fn partial_decode(
         &mut self,
         alloc: Global,
@@ -159,7 +159,7 @@ impl<'a, H: BytesPartialDecoderTraits, B: BytesToBytesCodecTraits> VlenPartialDe
         self.read(alloc, indexer)
     }
 
-    /// Whether a value is stored. Refusals: `Storage`, but never where the handle has sure bytes.
+    /// Whether a value is stored. Errors: `Storage`, but never where the handle has sure bytes.
     pub fn exists(&mut self) -> Result<bool, CodecError>
         ensures answer { Tells result (is_some (H.state (vlen_handle_of self.old)).value) }
         ensures sure { NeverFailsIf (is_some (H.state (vlen_handle_of self.old)).sure) result }

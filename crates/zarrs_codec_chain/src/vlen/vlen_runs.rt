@@ -21,7 +21,7 @@ use zarrs_chunk::{ChunkShape, CodecError};
 use zarrs_codec::{BytesPartialDecoderTraits, BytesToBytesCodecTraits};
 use zarrs_data_type::{DataType, FillValue};
 
-/// The chunk that a value stands for, in a container of its own. Refusals: those of
+/// The chunk that a value stands for, in a container of its own. Errors: those of
 /// `VlenCodec::decode`.
 fn decoded<B: BytesToBytesCodecTraits>(
     alloc: Global,
@@ -39,8 +39,8 @@ fn decoded<B: BytesToBytesCodecTraits>(
     vlen_decode(alloc, codec, CowSlice::Owned(value), shape, kind, fill)
 }
 
-/// The elements at the places of these runs of a chunk that the codec takes, by its whole value: the
-/// fill value at each place where there is none. Refusals: those of `VlenCodec::decode`.
+/// The elements at the places of these runs of a chunk that the codec takes, by its whole value:
+/// the fill value at each place where there is none. Errors: those of `VlenCodec::decode`.
 fn runs_of_value<B: BytesToBytesCodecTraits>(
     alloc: Global,
     codec: &VlenCodec<B>,
@@ -68,8 +68,8 @@ fn runs_of_value<B: BytesToBytesCodecTraits>(
     }
 }
 
-/// The elements at the places of these runs of a chunk of `count` elements of a plain `vlen`: those of
-/// the stored value, and the fill value at each place where nothing is stored. Refusals: those of
+/// The elements at the places of these runs of a chunk of `count` elements of a plain `vlen`: those
+/// of the stored value, and the fill value at each place where nothing is stored. Errors: those of
 /// `zarrs_plain_vlen::read_runs`.
 fn read_or_fill<H: BytesPartialDecoderTraits>(
     alloc: Global,
@@ -121,8 +121,8 @@ fn plain_runs<H: BytesPartialDecoderTraits>(
     read_or_fill(alloc, codec, handle, count, kind, fill, runs)
 }
 
-/// The elements at the places of these runs of a chunk that the codec takes, by the whole value that
-/// the handle keeps. Refusals: `Storage`; those of `VlenCodec::decode`.
+/// The elements at the places of these runs of a chunk that the codec takes, by the whole value
+/// that the handle keeps. Errors: `Storage`; those of `VlenCodec::decode`.
 fn whole_runs<H: BytesPartialDecoderTraits, B: BytesToBytesCodecTraits>(
     alloc: Global,
     codec: &VlenCodec<B>,
@@ -148,10 +148,10 @@ fn whole_runs<H: BytesPartialDecoderTraits, B: BytesToBytesCodecTraits>(
     runs_of_value(alloc, codec, value, shape, kind, fill, runs)
 }
 
-/// The elements at the places of these runs of a chunk that the codec takes, over a handle that keeps
-/// its value: the fill value at each place where nothing is stored. Refusals, the first that holds,
-/// `OutOfMemory` aside: `Storage`; those of `zarrs_plain_vlen::read_runs` of a plain `vlen`, and those
-/// of `VlenCodec::decode` of any other.
+/// The elements at the places of these runs of a chunk that the codec takes, over a handle that
+/// keeps its value: the fill value at each place where nothing is stored. Errors, the first that
+/// holds, `OutOfMemory` aside: `Storage`; those of `zarrs_plain_vlen::read_runs` of a plain `vlen`,
+/// and those of `VlenCodec::decode` of any other.
 pub(crate) fn vlen_runs<H: BytesPartialDecoderTraits, B: BytesToBytesCodecTraits>(
     alloc: Global,
     codec: &VlenCodec<B>,

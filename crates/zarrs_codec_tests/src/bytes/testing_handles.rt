@@ -316,7 +316,7 @@ fn has_record(
     replaced: &[(u64, u64)],
 ) {
     is(rt, name, &handle.reads(), &reads);
-    is(rt, name, &handle.replaced(), &replaced);
+    is(rt, name, &handle.replaced_runs(), &replaced);
 }
 
 fn keeps_record(

@@ -116,7 +116,7 @@ pub fn count_autos(dims: &[ReshapeDim]) -> usize
     count
 }
 
-fn cloned(alloc: Global, dims: &[ReshapeDim]) -> Result<Vec<ReshapeDim>, PluginCreateError>
+fn clone_dims(alloc: Global, dims: &[ReshapeDim]) -> Result<Vec<ReshapeDim>, PluginCreateError>
     ensures copy { Makes (λ v. map dim_of v.items) result (Ok (map dim_of dims.now)) }
 {
     let mut copies = Vec::with_capacity(alloc, dims.len())?;
@@ -153,7 +153,7 @@ impl ReshapeShape {
     pub fn clone(&self) -> Result<ReshapeShape, PluginCreateError>
         ensures copy { Makes (λ copy. copy) result (Ok self.now) }
     {
-        let dims = cloned(*self.dims.allocator(), self.dims.as_slice())?;
+        let dims = clone_dims(*self.dims.allocator(), self.dims.as_slice())?;
         Ok(ReshapeShape { dims })
     }
 }

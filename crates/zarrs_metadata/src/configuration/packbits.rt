@@ -89,7 +89,7 @@ fn name_of(padding: PackBitsPaddingEncoding) -> &'static str
     }
 }
 
-fn said(padding: Option<PackBitsPaddingEncoding>) -> PackBitsPaddingEncoding
+fn choose_padding(padding: Option<PackBitsPaddingEncoding>) -> PackBitsPaddingEncoding
     ensures value { result ≡ padding_or_none padding }
 {
     match padding {
@@ -140,7 +140,10 @@ impl PackBitsCodecConfiguration {
     {
         let PackBitsCodecConfiguration::V1(configuration) = self;
         let mut members = Map::new(alloc);
-        let padding = Value::try_from_str(alloc, name_of(said(configuration.padding_encoding)))?;
+        let padding = Value::try_from_str(
+            alloc,
+            name_of(choose_padding(configuration.padding_encoding)),
+        )?;
         serde_json::put(
             &mut members,
             alloc,

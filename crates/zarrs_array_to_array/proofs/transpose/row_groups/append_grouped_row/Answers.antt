@@ -7,14 +7,14 @@ use Rattle.zarrs_array_to_array.proofs.RowGroups.{group_more, group_inside}
 use Rattle.zarrs_array_to_array.proofs.transpose.row_groups.append_grouped_row.Goals as goal
 
 pub append_row_of-requires-clause-inside : goal.append_row_of-requires-clause-inside
-append_row_of-requires-clause-inside g c = λ k l.
-    let done = c.args.axis.size / 16 * 16 in
+append_row_of-requires-clause-inside c = λ k l.
+    let done = c.args.axis.size / 8 * 8 in
     subst (λ n. n ≤ length c.args.bytes.now) (sym (group_inside c.args.front c.args.axis.step c.args.size c.args.len done k)) (c.requires.inside (done + k) (omega arith))
 
 pub returns : goal.returns
-returns g c =
+returns c =
     let f : ℕ → List ℕ = stretch c.args.len c.args.size c.args.bytes.now in
-    let done = c.args.axis.size / 16 * 16 in
+    let done = c.args.axis.size / 8 * 8 in
     let rest = c.args.axis.size - done in
     record {
       appended =

@@ -5,4 +5,4 @@ use Rattle.zarrs_array_to_array.specs.Strides.{row}
 use Rattle.zarrs_array_to_array.proofs.transpose.row_groups.append_groups.Given as goal
 
 abbrev pub invariant-loop-index : goal.invariant-loop-index
-invariant-loop-index g l = l.out.items ≡ l.initial.out.items ++ flat_map (stretch l.len l.size l.bytes) (row l.front l.step (l.index * 16))
+invariant-loop-index l = l.out.items ≡ l.initial.out.items ++ flat_map (stretch l.len l.size l.bytes) (row l.front l.step (l.index * 8))

@@ -3,7 +3,7 @@ use Rattle.std.specs.List.{flat_map}
 use Rattle.std.proofs.lemmas.Result.{err_from_is_err_and}
 use Rattle.zarrs_chunk.specs.Answer.{memory_or_fault}
 use Rattle.zarrs_chunk.specs.Runs.{joined_runs}
-use Rattle.zarrs_array_bytes.specs.Held.{raw_of, owned_bytes}
+use Rattle.zarrs_array_bytes.specs.Held.{owned_bytes}
 use Rattle.zarrs_codec.specs.Calls.{after_reads}
 use Rattle.zarrs_bytes.specs.ByteOrder.{turned_bytes}
 use Rattle.zarrs_bytes.specs.BytesCodec.{turn_size}
@@ -12,7 +12,6 @@ use Rattle.zarrs_bytes.specs.ReadingCalls.{calls_for_runs}
 use Rattle.zarrs_bytes.proofs.Reading.{at_some, at_err, at_none, Excused-weaker}
 use Rattle.zarrs_bytes.proofs.bytes_codec.BytesCodec.read_runs.Goals as goal
 use Rattle.zarrs_array_bytes.proofs.TightLemmas.{flen_tight}
-use Rattle.zarrs_bytes.proofs.Exact.{bytes_are}
 
 pub returns-in_err-read_bytes-clause-answer : goal.returns-in_err-read_bytes-clause-answer
 returns-in_err-read_bytes-clause-answer g c =
@@ -34,16 +33,16 @@ returns-in_ok-bytes-in-None-clause-answer g c =
     let fills = c.in_ok-bytes-in-None.ensures.value ∙ ap (λ (fill : List ℕ). flat_map (λ _. fill) places) c.as_ne_bytes.ensures.value in
     rw c.new_flen.ensures.made (at_none c.args.self.now c.args.data_type.now c.args.fill_value.now places stored (owned_bytes bytes.items) c.element_size-size.ensures.fill_is_element (ap (λ n. bytes_at n stored places) (sym c.element_size-size.ensures.size) ∙ read) fills small)
 
-pub returns-in_ok-elements-in-Some-clause-answer : goal.returns-in_ok-elements-in-Some-clause-answer
-returns-in_ok-elements-in-Some-clause-answer g c =
+pub returns-in-Some-clause-answer : goal.returns-in-Some-clause-answer
+returns-in-Some-clause-answer g c =
     let stored = (g.H.BytesPartialDecoderTraits.state c.args.handle.now).value in
     let places = joined_runs c.args.runs.now in
     let read = rw c.in-Some.is at c.in_ok-read_bytes.ensures.answer in
-    let raw = raw_of c.in_ok-elements-in-Some.elements in
-    let is : raw.items ≡ turned_bytes (turn_size c.args.self.now c.args.data_type.now) c.in-Some.bytes.items
-    = bytes_are _ _ c.in_ok-elements-in-Some.ensures.exact.is ∙ ap (λ s. turned_bytes s c.in-Some.bytes.items) c.turn_size-turn_size.ensures.size in
-    let small : length c.in-Some.bytes.items < 2 ^ 64 = omega (arith, c.in-Some.bytes.ok, c.in-Some.bytes.small) in
-    rw c.new_flen-in-Some.ensures.made (at_some c.args.self.now c.args.data_type.now c.args.fill_value.now places c.in-Some.bytes.items stored raw c.element_size-size.ensures.fill_is_element (ap (λ n. bytes_at n stored places) (sym c.element_size-size.ensures.size) ∙ read) is small)
+    let bytes = c.in-Some.bytes in
+    let raw = owned_bytes (turned_bytes c.turn_size.result bytes.items) in
+    let is : raw.items ≡ turned_bytes (turn_size c.args.self.now c.args.data_type.now) bytes.items = ap (λ size. turned_bytes size bytes.items) c.turn_size.ensures.size in
+    let small : length bytes.items < 2 ^ 64 = omega (arith, bytes.ok, bytes.small) in
+    rw c.hold_turned.ensures.held (at_some c.args.self.now c.args.data_type.now c.args.fill_value.now places bytes.items stored raw c.element_size-size.ensures.fill_is_element (ap (λ n. bytes_at n stored places) (sym c.element_size-size.ensures.size) ∙ read) is small)
 
 pub returns-in_ok-bytes-in-None-clause-counted : goal.returns-in_ok-bytes-in-None-clause-counted
 returns-in_ok-bytes-in-None-clause-counted g c =
@@ -51,8 +50,8 @@ returns-in_ok-bytes-in-None-clause-counted g c =
     let stored = (D.state c.args.handle.now).value in
     c.in_ok-read_bytes.ensures.counted ∙ ap (λ (n : ℕ). after_reads (calls_for_runs n stored c.args.runs.now) (D.calls c.args.handle.now)) c.element_size-size.ensures.size
 
-pub returns-in_ok-elements-in-Some-clause-counted : goal.returns-in_ok-elements-in-Some-clause-counted
-returns-in_ok-elements-in-Some-clause-counted g c =
+pub returns-in-Some-clause-counted : goal.returns-in-Some-clause-counted
+returns-in-Some-clause-counted g c =
     let D = g.H.BytesPartialDecoderTraits in
     let stored = (D.state c.args.handle.now).value in
     c.in_ok-read_bytes.ensures.counted ∙ ap (λ (n : ℕ). after_reads (calls_for_runs n stored c.args.runs.now) (D.calls c.args.handle.now)) c.element_size-size.ensures.size
@@ -62,6 +61,6 @@ returns-in_ok-bytes-in-None-clause-tight g c =
     let raw = owned_bytes c.in_ok-bytes-in-None.bytes.items in
     rw c.new_flen.ensures.made (flen_tight c.args.data_type.now raw)
 
-pub returns-in_ok-elements-in-Some-clause-tight : goal.returns-in_ok-elements-in-Some-clause-tight
-returns-in_ok-elements-in-Some-clause-tight g c =
-    rw c.new_flen-in-Some.ensures.made (flen_tight c.args.data_type.now (raw_of c.in_ok-elements-in-Some.elements))
+pub returns-in-Some-clause-tight : goal.returns-in-Some-clause-tight
+returns-in-Some-clause-tight g c =
+    rw c.hold_turned.ensures.held (flen_tight c.args.data_type.now (owned_bytes (turned_bytes c.turn_size.result c.in-Some.bytes.items)))

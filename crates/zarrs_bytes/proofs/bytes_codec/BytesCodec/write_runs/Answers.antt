@@ -8,8 +8,8 @@ use Rattle.zarrs_bytes.proofs.LentElements.{items_of_ok, lent_fits, lent_left, l
 use Rattle.zarrs_bytes.proofs.PartWrites.{fits_kind}
 use Rattle.zarrs_bytes.proofs.bytes_codec.BytesCodec.write_runs.Goals as goal
 
-pub lent-requires : goal.lent-requires
-lent-requires g c = record { kind = fits_kind c.args.self.now c.args.shape.now c.args.data_type.now c.args.fill_value.now (length (joined_runs c.args.runs.items)) c.args.elements.now c.requires.taken c.requires.fit }
+pub lend-requires : goal.lend-requires
+lend-requires g c = record { kind = fits_kind c.args.self.now c.args.shape.now c.args.data_type.now c.args.fill_value.now (length (joined_runs c.args.runs.items)) c.args.elements.now c.requires.taken c.requires.fit }
 
 pub returns-in_err-elements : goal.returns-in_err-elements
 returns-in_err-elements g c = never_refused c.args.elements.now c.in_err-elements.field-0.0 _ c.in_err-elements.ensures.items

@@ -1,18 +1,19 @@
-use Rattle.std.proofs.Common.{◌∙◌, ◌+◌, ◌≤◌, sym, subst, map, refl}
+use Rattle.std.proofs.Common.{◌+◌, ◌≤◌, ap, sym, subst, map, refl}
 use Rattle.std.specs.List.{All}
 use Rattle.zarrs_chunk.specs.Runs.{joined_runs}
 use Rattle.zarrs_array_bytes.specs.Validity.{Holds}
 use Rattle.zarrs_array_to_array.specs.Mapping.{mapping_of}
 use Rattle.zarrs_array_regions.specs.Windows.{TakesRegion, TakeType, window_of, window_elements, encoded_elements}
+use Rattle.zarrs_bytes.proofs.Coding.{ok}
 use Rattle.zarrs_chain_laws.proofs.ArraySteps.{ok_is}
 use Rattle.zarrs_codec_chain.specs.ChunkCoder.{coder_form}
 use Rattle.zarrs_codec_chain.proofs.PartialReads.{is_readable}
-use Rattle.zarrs_codec_chain.proofs.RegionReads.{takes_region, takes_type, runs_at, window_ok}
+use Rattle.zarrs_codec_chain.proofs.RegionReads.{takes_region, takes_type, runs_at}
 use Rattle.zarrs_codec_chain.proofs.RegionWrites.{region_leaves, region_fits}
 use Rattle.zarrs_codec_chain.proofs.chunk_coder.ChunkCoder.encoded_region.Goals as goal
 
-pub encoded_window-requires-clause-region : goal.encoded_window-requires-clause-region
-encoded_window-requires-clause-region g c =
+pub encode_region-requires-clause-region : goal.encode_region-requires-clause-region
+encode_region-requires-clause-region g c =
     let f = g.B.BytesToBytesCodecTraits.functions in
     let k = c.args.self.now in
     let form = coder_form k in
@@ -22,8 +23,8 @@ encoded_window-requires-clause-region g c =
     let h = is_readable f form.chain form.sizes form.type form.fill k.encoded k.representation are positive k.taken in
     subst (λ cs. TakesRegion cs form.sizes region) (sym c.array_to_array_codecs-codecs.ensures.value) (takes_region f form k.encoded k.representation h are positive k.counted_whole region c.requires.inside c.requires.region_kept)
 
-pub encoded_window-requires-clause-takes : goal.encoded_window-requires-clause-takes
-encoded_window-requires-clause-takes g c =
+pub encode_region-requires-clause-takes : goal.encode_region-requires-clause-takes
+encode_region-requires-clause-takes g c =
     let f = g.B.BytesToBytesCodecTraits.functions in
     let k = c.args.self.now in
     let form = coder_form k in
@@ -44,10 +45,10 @@ returns-clause-same_edit g c =
     let positive = c.is_sound.ensures.positive in
     let h = is_readable f form.chain form.sizes form.type form.fill k.encoded k.representation are positive k.taken in
     let window = window_of form.sizes region in
-    let there = (c.in_ok-window.ensures {u = tt}).encoded.is in
-    let at = runs_at form.chain.array_to_array (map mapping_of c.array_to_array_codecs-codecs.result.now) window c.in_ok-window.window c.in_ok-runs.runs.items c.in_ok-runs.runs.items c.array_to_array_codecs-codecs.ensures.value (window_ok _ _ there.0) ((c.in_ok-runs.ensures {u = tt}).places.is) refl in
-    let holds = subst (λ cs. Holds form.type c.in_ok-window.encoded (encoded_elements cs window (window_elements form.type window c.in_ok-lent.lent))) c.array_to_array_codecs-codecs.ensures.value there.1 in
-    region_leaves f form k.encoded k.representation h are positive k.counted_whole region c.requires.inside c.args.codec.now c.requires.writes_in_place c.requires.region_kept new c.in_ok-lent.lent c.in_ok-window.encoded ((c.in_ok-lent.ensures {u = tt}).lent) (joined_runs c.in_ok-runs.runs.items) at holds k.filling
+    let there = (c.in_ok-runs.ensures {u = tt}).encoded.is in
+    let at = runs_at form.chain.array_to_array (map mapping_of c.array_to_array_codecs-codecs.result.now) window c.in_ok-runs.runs.items c.in_ok-runs.runs.items c.array_to_array_codecs-codecs.ensures.value (ap ok (sym there.0)) refl in
+    let holds = subst (λ cs. Holds form.type c.in_ok-runs.encoded (encoded_elements cs window (window_elements form.type window c.in_ok-lent.lent))) c.array_to_array_codecs-codecs.ensures.value there.1 in
+    region_leaves f form k.encoded k.representation h are positive k.counted_whole region c.requires.inside c.args.codec.now c.requires.writes_in_place c.requires.region_kept new c.in_ok-lent.lent c.in_ok-runs.encoded ((c.in_ok-lent.ensures {u = tt}).lent) (joined_runs c.in_ok-runs.runs.items) at holds k.filling
 
 pub returns-clause-inside : goal.returns-clause-inside
 returns-clause-inside g c =
@@ -57,8 +58,7 @@ returns-clause-inside g c =
     let are = c.is_sound.ensures.mappings.mappings in
     let positive = c.is_sound.ensures.positive in
     let h = is_readable f form.chain form.sizes form.type form.fill k.encoded k.representation are positive k.taken in
-    let count = (c.in_ok-window.ensures {u = tt}).inside.count_is ∙ sym h.count in
-    subst (λ n. All (λ run. run.0 + run.1 ≤ n) c.in_ok-runs.runs.items) count ((c.in_ok-runs.ensures {u = tt}).below)
+    subst (λ n. All (λ run. run.0 + run.1 ≤ n) c.in_ok-runs.runs.items) (sym h.count) ((c.in_ok-runs.ensures {u = tt}).below)
 
 pub returns-clause-fit : goal.returns-clause-fit
 returns-clause-fit g c =
@@ -71,15 +71,15 @@ returns-clause-fit g c =
     let positive = c.is_sound.ensures.positive in
     let h = is_readable f form.chain form.sizes form.type form.fill k.encoded k.representation are positive k.taken in
     let window = window_of form.sizes region in
-    let there = (c.in_ok-window.ensures {u = tt}).encoded.is in
-    let at = runs_at form.chain.array_to_array (map mapping_of c.array_to_array_codecs-codecs.result.now) window c.in_ok-window.window c.in_ok-runs.runs.items c.in_ok-runs.runs.items c.array_to_array_codecs-codecs.ensures.value (window_ok _ _ there.0) ((c.in_ok-runs.ensures {u = tt}).places.is) refl in
-    let holds = subst (λ cs. Holds form.type c.in_ok-window.encoded (encoded_elements cs window (window_elements form.type window c.in_ok-lent.lent))) c.array_to_array_codecs-codecs.ensures.value there.1 in
-    region_fits f form k.encoded k.representation h are positive k.counted_whole region c.requires.inside c.args.codec.now c.requires.writes_in_place c.requires.region_kept new c.in_ok-lent.lent c.in_ok-window.encoded ((c.in_ok-lent.ensures {u = tt}).lent) (joined_runs c.in_ok-runs.runs.items) at holds
+    let there = (c.in_ok-runs.ensures {u = tt}).encoded.is in
+    let at = runs_at form.chain.array_to_array (map mapping_of c.array_to_array_codecs-codecs.result.now) window c.in_ok-runs.runs.items c.in_ok-runs.runs.items c.array_to_array_codecs-codecs.ensures.value (ap ok (sym there.0)) refl in
+    let holds = subst (λ cs. Holds form.type c.in_ok-runs.encoded (encoded_elements cs window (window_elements form.type window c.in_ok-lent.lent))) c.array_to_array_codecs-codecs.ensures.value there.1 in
+    region_fits f form k.encoded k.representation h are positive k.counted_whole region c.requires.inside c.args.codec.now c.requires.writes_in_place c.requires.region_kept new c.in_ok-lent.lent c.in_ok-runs.encoded ((c.in_ok-lent.ensures {u = tt}).lent) (joined_runs c.in_ok-runs.runs.items) at holds
 
 pub returns-clause-places : goal.returns-clause-places
 returns-clause-places g c =
     let form = coder_form c.args.self.now in
     let window = window_of form.sizes c.args.region.now in
-    let there = (c.in_ok-window.ensures {u = tt}).encoded.is in
-    let at = runs_at form.chain.array_to_array (map mapping_of c.array_to_array_codecs-codecs.result.now) window c.in_ok-window.window c.in_ok-runs.runs.items c.in_ok-runs.runs.items c.array_to_array_codecs-codecs.ensures.value (window_ok _ _ there.0) ((c.in_ok-runs.ensures {u = tt}).places.is) refl in
+    let there = (c.in_ok-runs.ensures {u = tt}).encoded.is in
+    let at = runs_at form.chain.array_to_array (map mapping_of c.array_to_array_codecs-codecs.result.now) window c.in_ok-runs.runs.items c.in_ok-runs.runs.items c.array_to_array_codecs-codecs.ensures.value (ap ok (sym there.0)) refl in
     sym (ok_is _ _ at)

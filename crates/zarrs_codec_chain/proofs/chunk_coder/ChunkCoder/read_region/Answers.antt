@@ -1,4 +1,4 @@
-use Rattle.std.proofs.Common.{◌∙◌, ◌+◌, ◌≤◌, sym, subst, map}
+use Rattle.std.proofs.Common.{◌+◌, ◌≤◌, sym, subst, map}
 use Rattle.std.specs.List.{All}
 use Rattle.std.proofs.lemmas.Result.{err_from_is_err_and}
 use Rattle.zarrs_chunk.specs.Answer.{AnswersBy, memory}
@@ -14,8 +14,8 @@ use Rattle.zarrs_codec_chain.proofs.RegionReads.{takes_region, takes_type, regio
 use Rattle.zarrs_codec_chain.proofs.SureReads.{sure_anyway}
 use Rattle.zarrs_codec_chain.proofs.chunk_coder.ChunkCoder.read_region.Goals as goal
 
-pub last_window-requires : goal.last_window-requires
-last_window-requires g c =
+pub region_runs-requires : goal.region_runs-requires
+region_runs-requires g c =
     let f = g.B.BytesToBytesCodecTraits.functions in
     let k = c.args.self.now in
     let form = coder_form k in
@@ -32,8 +32,7 @@ read_runs-requires-clause-inside g c =
     let are = c.is_sound.ensures.mappings.mappings in
     let positive = c.is_sound.ensures.positive in
     let h = is_readable f form.chain form.sizes form.type form.fill k.encoded k.representation are positive k.taken in
-    let count = (c.in_ok-window.ensures {u = tt}).inside.count_is ∙ sym h.count in
-    rw c.deref.ensures.value (subst (λ n. All (λ run. run.0 + run.1 ≤ n) c.in_ok-runs.runs.items) count ((c.in_ok-runs.ensures {u = tt}).below))
+    rw c.deref.ensures.value (subst (λ n. All (λ run. run.0 + run.1 ≤ n) c.in_ok-runs.runs.items) (sym h.count) ((c.in_ok-runs.ensures {u = tt}).below))
 
 pub returns-in_err-held-clause-answer : goal.returns-in_err-held-clause-answer
 returns-in_err-held-clause-answer g c =
@@ -44,7 +43,7 @@ returns-in_err-held-clause-answer g c =
     let positive = c.is_sound.ensures.positive in
     let h = is_readable f form.chain form.sizes form.type form.fill k.encoded k.representation are positive k.taken in
     let source = reader_source k (g.H.BytesPartialDecoderTraits.state c.args.handle.now).value in
-    let at = runs_at form.chain.array_to_array (map mapping_of c.array_to_array_codecs-codecs.result.now) (window_of form.sizes c.args.region.now) c.in_ok-window.window c.in_ok-runs.runs.items c.deref.result.now c.array_to_array_codecs-codecs.ensures.value ((c.in_ok-window.ensures {u = tt}).last.is) ((c.in_ok-runs.ensures {u = tt}).places.is) c.deref.ensures.value in
+    let at = runs_at form.chain.array_to_array (map mapping_of c.array_to_array_codecs-codecs.result.now) (window_of form.sizes c.args.region.now) c.in_ok-runs.runs.items c.deref.result.now c.array_to_array_codecs-codecs.ensures.value ((c.in_ok-runs.ensures {u = tt}).places.is) c.deref.ensures.value in
     let p = err_from_is_err_and c.from_residual-in_err-held.result c.from_residual-in_err-held.ensures.1 in
     rw (p.1, p.2) (region_refused f form k.encoded k.representation h are positive k.counted_whole c.args.region.now c.requires.inside c.requires.region_kept source (joined_runs c.deref.result.now) c.in_err-held.field-0.0 at c.in_err-held.ensures.answer)
 
@@ -56,7 +55,7 @@ returns-in_err-held-clause-sure g c =
     let are = c.is_sound.ensures.mappings.mappings in
     let positive = c.is_sound.ensures.positive in
     let h = is_readable f form.chain form.sizes form.type form.fill k.encoded k.representation are positive k.taken in
-    let at = runs_at form.chain.array_to_array (map mapping_of c.array_to_array_codecs-codecs.result.now) (window_of form.sizes c.args.region.now) c.in_ok-window.window c.in_ok-runs.runs.items c.deref.result.now c.array_to_array_codecs-codecs.ensures.value ((c.in_ok-window.ensures {u = tt}).last.is) ((c.in_ok-runs.ensures {u = tt}).places.is) c.deref.ensures.value in
+    let at = runs_at form.chain.array_to_array (map mapping_of c.array_to_array_codecs-codecs.result.now) (window_of form.sizes c.args.region.now) c.in_ok-runs.runs.items c.deref.result.now c.array_to_array_codecs-codecs.ensures.value ((c.in_ok-runs.ensures {u = tt}).places.is) c.deref.ensures.value in
     let p = err_from_is_err_and c.from_residual-in_err-held.result c.from_residual-in_err-held.ensures.1 in
     rw (p.1, p.2) (region_sure_where f form k.encoded k.representation h are positive k.counted_whole c.args.region.now c.requires.inside c.requires.region_kept (g.H.BytesPartialDecoderTraits.state c.args.handle.now) (joined_runs c.deref.result.now) _ at k.taken c.in_err-held.ensures.sure)
 
@@ -89,7 +88,7 @@ decoded_window-requires-clause-valid g c =
     let positive = c.is_sound.ensures.positive in
     let h = is_readable f form.chain form.sizes form.type form.fill k.encoded k.representation are positive k.taken in
     let source = reader_source k (g.H.BytesPartialDecoderTraits.state c.args.handle.now).value in
-    let at = runs_at form.chain.array_to_array (map mapping_of c.array_to_array_codecs-codecs.result.now) (window_of form.sizes c.args.region.now) c.in_ok-window.window c.in_ok-runs.runs.items c.deref.result.now c.array_to_array_codecs-codecs.ensures.value ((c.in_ok-window.ensures {u = tt}).last.is) ((c.in_ok-runs.ensures {u = tt}).places.is) c.deref.ensures.value in
+    let at = runs_at form.chain.array_to_array (map mapping_of c.array_to_array_codecs-codecs.result.now) (window_of form.sizes c.args.region.now) c.in_ok-runs.runs.items c.deref.result.now c.array_to_array_codecs-codecs.ensures.value ((c.in_ok-runs.ensures {u = tt}).places.is) c.deref.ensures.value in
     region_valid f form k.encoded k.representation h are positive k.counted_whole c.args.region.now c.requires.inside c.requires.region_kept source (joined_runs c.deref.result.now) c.in_ok-held.held at ((c.in_ok-held.ensures {u = tt}).answer)
 
 pub returns-clause-answer : goal.returns-clause-answer
@@ -101,7 +100,7 @@ returns-clause-answer g c =
     let positive = c.is_sound.ensures.positive in
     let h = is_readable f form.chain form.sizes form.type form.fill k.encoded k.representation are positive k.taken in
     let source = reader_source k (g.H.BytesPartialDecoderTraits.state c.args.handle.now).value in
-    let at = runs_at form.chain.array_to_array (map mapping_of c.array_to_array_codecs-codecs.result.now) (window_of form.sizes c.args.region.now) c.in_ok-window.window c.in_ok-runs.runs.items c.deref.result.now c.array_to_array_codecs-codecs.ensures.value ((c.in_ok-window.ensures {u = tt}).last.is) ((c.in_ok-runs.ensures {u = tt}).places.is) c.deref.ensures.value in
+    let at = runs_at form.chain.array_to_array (map mapping_of c.array_to_array_codecs-codecs.result.now) (window_of form.sizes c.args.region.now) c.in_ok-runs.runs.items c.deref.result.now c.array_to_array_codecs-codecs.ensures.value ((c.in_ok-runs.ensures {u = tt}).places.is) c.deref.ensures.value in
     region_answered f form k.encoded k.representation h are positive k.counted_whole c.args.region.now c.requires.inside c.requires.region_kept source (joined_runs c.deref.result.now) c.in_ok-held.held c.decoded_window.result at ((c.in_ok-held.ensures {u = tt}).answer)
     (subst (λ cs. AnswersBy memory (Holds form.type) c.decoded_window.result (ok (decoded_of cs form.type (window_of form.sizes c.args.region.now) c.in_ok-held.held))) c.array_to_array_codecs-codecs.ensures.value c.decoded_window.ensures.decoded.is)
 

@@ -1,19 +1,18 @@
-use Rattle.std.proofs.Common.{◌∙◌, ◌+◌, ◌≤◌, sym, subst, map}
+use Rattle.std.proofs.Common.{◌+◌, ◌≤◌, sym, subst, map}
 use Rattle.std.specs.Prelude.{IfOk}
 use Rattle.std.specs.List.{All}
 use Rattle.zarrs_chunk.specs.Answer.{Gives}
 use Rattle.zarrs_chunk.specs.Runs.{joined_runs}
 use Rattle.zarrs_array_to_array.specs.Mapping.{mapping_of}
-use Rattle.zarrs_array_regions.specs.Windows.{TakesRegion, window_of, window_places}
+use Rattle.zarrs_array_regions.specs.Windows.{TakesRegion, window_of, window_places, last_window}
 use Rattle.zarrs_bytes.proofs.Coding.{ok}
 use Rattle.zarrs_codec_chain.specs.ChunkCoder.{coder_form}
 use Rattle.zarrs_codec_chain.proofs.PartialReads.{is_readable}
-use Rattle.zarrs_codec_chain.proofs.PlannedPlaces.{last_is}
 use Rattle.zarrs_codec_chain.proofs.RegionReads.{takes_region}
 use Rattle.zarrs_codec_chain.proofs.chunk_coder.ChunkCoder.standing_runs.Goals as goal
 
-pub last_window-requires : goal.last_window-requires
-last_window-requires g c =
+pub region_runs-requires : goal.region_runs-requires
+region_runs-requires g c =
     let f = g.B.BytesToBytesCodecTraits.functions in
     let k = c.args.self.now in
     let form = coder_form k in
@@ -25,8 +24,7 @@ last_window-requires g c =
 pub returns-clause-places : goal.returns-clause-places
 returns-clause-places g c =
     let form = coder_form c.args.self.now in
-    let last = last_is form.chain.array_to_array (map mapping_of c.array_to_array_codecs-codecs.result.now) (window_of form.sizes c.args.region.now) c.in_ok-window.window c.array_to_array_codecs-codecs.ensures.value ((c.in_ok-window.ensures {u = tt}).last.is) in
-    subst (λ w. Gives (λ runs. joined_runs runs.items) c.into_runs.result (ok (window_places w))) last c.into_runs.ensures.places
+    subst (λ cs. Gives (λ runs. joined_runs runs.items) c.region_runs.result (ok (window_places (last_window cs (window_of form.sizes c.args.region.now))))) c.array_to_array_codecs-codecs.ensures.value c.region_runs.ensures.places
 
 pub returns-clause-inside : goal.returns-clause-inside
 returns-clause-inside g c =
@@ -36,5 +34,4 @@ returns-clause-inside g c =
     let are = c.is_sound.ensures.mappings.mappings in
     let positive = c.is_sound.ensures.positive in
     let h = is_readable f form.chain form.sizes form.type form.fill k.encoded k.representation are positive k.taken in
-    let count = (c.in_ok-window.ensures {u = tt}).inside.count_is ∙ sym h.count in
-    subst (λ n. IfOk c.into_runs.result (λ runs. All (λ run. run.0 + run.1 ≤ n) runs.items)) count c.into_runs.ensures.below
+    subst (λ n. IfOk c.region_runs.result (λ runs. All (λ run. run.0 + run.1 ≤ n) runs.items)) (sym h.count) c.region_runs.ensures.below

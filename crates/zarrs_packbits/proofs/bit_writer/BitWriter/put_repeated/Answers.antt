@@ -9,11 +9,11 @@ loop-done-preserved c =
     let more = c.min-more.result in
     let bit = bit_of c.args.bit in
     let before = c.args.self.now in
-    let word = low_bits more c.repeated.result in
+    let word = low_bits more c.repeat_bit.result in
     record {
       bits = c.in_ok-put.ensures.appended
           ∙ ap (λ xs. xs ++ word) c.loop-done.invariant.bits
-          ∙ ap (λ xs. (before ++ replicate done bit) ++ xs) c.repeated.ensures.bits
+          ∙ ap (λ xs. (before ++ replicate done bit) ++ xs) c.repeat_bit.ensures.bits
           ∙ append_assoc before (replicate done bit) (replicate more bit)
           ∙ ap (λ xs. before ++ xs) (replicate-append-replicate done more bit);
       within = omega arith;

@@ -19,12 +19,12 @@ use Rattle.zarrs_array_to_array.proofs.transpose.transpose_codec.TransposeCodecA
 pub returns-clause-exact : goal.returns-clause-exact
 returns-clause-exact c =
     let checked = c.in_ok-count.ensures {u = tt} in
-    record { is = encoded_answers c.args.self.now c.args.shape.now c.as_slice.result.now c.as_slice-2.result.now c.args.data_type.now c.args.bytes c.in_ok-count.count c.transposed.result (sym checked.exact) checked.count (c.as_slice.ensures.value ∙ c.self.view_is) c.as_slice-2.ensures.value c.transposed.ensures.exact.is; no_fault = search rules }
+    record { is = encoded_answers c.args.self.now c.args.shape.now c.as_slice.result.now c.as_slice-2.result.now c.args.data_type.now c.args.bytes c.in_ok-count.count c.transpose_elements.result (sym checked.exact) checked.count (c.as_slice.ensures.value ∙ c.self.view_is) c.as_slice-2.ensures.value c.transpose_elements.ensures.exact.is; no_fault = search rules }
 
 pub returns-clause-by_tuple : goal.returns-clause-by_tuple
 returns-clause-by_tuple c =
     let order : is_order c.args.self.now ≡ true = rw (← (c.as_slice.ensures.value ∙ c.self.view_is)) c.as_slice.ensures.sound in
-    found_by memory (Holds c.args.data_type.now) c.transposed.result (transpose_encoded c.args.self.now c.args.data_type.now c.args.shape.now c.args.bytes) (λ v. IsTransposed c.args.self.now c.args.shape.now (elements c.args.data_type.now (product c.args.shape.now) c.args.bytes) v) (returns-clause-exact c).is
+    found_by memory (Holds c.args.data_type.now) c.transpose_elements.result (transpose_encoded c.args.self.now c.args.data_type.now c.args.shape.now c.args.bytes) (λ v. IsTransposed c.args.self.now c.args.shape.now (elements c.args.data_type.now (product c.args.shape.now) c.args.bytes) v) (returns-clause-exact c).is
     (λ v e. encoded_found c.args.self.now c.args.shape.now c.args.data_type.now c.args.bytes v order e)
 
 pub returns-clause-moved : goal.returns-clause-moved
@@ -33,8 +33,8 @@ returns-clause-moved c =
     let sizes = c.args.shape.now in
     let type = c.args.data_type.now in
     let held = c.args.bytes in
-    where_expected (Holds type) c.transposed.result (encoded_chunk (type_taken (transpose order) type) (coordinates (transpose order) sizes) type sizes held)
-    (subst (λ expected. AnswersBy memory (Holds type) c.transposed.result expected) (transpose_encoded-chunk order sizes type held) (returns-clause-exact c).is)
+    where_expected (Holds type) c.transpose_elements.result (encoded_chunk (type_taken (transpose order) type) (coordinates (transpose order) sizes) type sizes held)
+    (subst (λ expected. AnswersBy memory (Holds type) c.transpose_elements.result expected) (transpose_encoded-chunk order sizes type held) (returns-clause-exact c).is)
 
 pub returns-in_err-count-clause-moved : goal.returns-in_err-count-clause-moved
 returns-in_err-count-clause-moved c =
@@ -42,7 +42,7 @@ returns-in_err-count-clause-moved c =
 
 pub returns-clause-unfit : goal.returns-clause-unfit
 returns-clause-unfit c =
-    encoded_unfit c.args.self.now c.args.shape.now c.args.data_type.now c.args.bytes c.transposed.result (returns-clause-exact c).is
+    encoded_unfit c.args.self.now c.args.shape.now c.args.data_type.now c.args.bytes c.transpose_elements.result (returns-clause-exact c).is
 
 pub returns-in_err-count-clause-unfit : goal.returns-in_err-count-clause-unfit
 returns-in_err-count-clause-unfit c =
@@ -52,4 +52,4 @@ returns-in_err-count-clause-unfit c =
 
 pub returns-clause-tight : goal.returns-clause-tight
 returns-clause-tight c =
-    c.transposed.ensures.tight (never_absent c.args.data_type.now c.args.bytes (c.in_ok-count.ensures {u = tt}).never_absent)
+    c.transpose_elements.ensures.tight (never_absent c.args.data_type.now c.args.bytes (c.in_ok-count.ensures {u = tt}).never_absent)

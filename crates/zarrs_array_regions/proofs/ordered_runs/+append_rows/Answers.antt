@@ -1,0 +1,78 @@
+use Rattle.std.proofs.Common.{◌≡◌, ◌++◌, ◌∷◌, ◌∙◌, [], List, ℕ, ◌+◌, ◌*◌, map, drop, get_or, ap, sym, arith, refl, subst}
+use Rattle.std.specs.Prelude.{OnOk}
+use Rattle.std.proofs.lemmas.List.{append-nil, take_rest}
+use Rattle.std.specs.List.{range_with_len}
+use Rattle.zarrs_array_regions.specs.OrderedRuns.{row_at, fronts_over}
+use Rattle.zarrs_array_regions.proofs.OrderedRows.{fronts_none, fronts_last, fronts_next, fronts_more, first_room, last_room, rest_axes, rest_room}
+use Rattle.zarrs_array_regions.proofs.ordered_runs.+append_rows.Goals as goal
+
+pub push_rows-requires-in-len1-clause-room : goal.push_rows-requires-in-len1-clause-room
+push_rows-requires-in-len1-clause-room t c =
+    let axis = get_or c.args.order.now 0 0 in
+    last_room c.args.order.now c.args.sizes.now c.args.starts.now c.args.lengths.now c.args.front c.args.row axis (omega arith) refl c.requires.axes c.requires.room (omega arith)
+
+pub overflow_mul-first-in-len1-up : goal.overflow_mul-first-in-len1-up
+overflow_mul-first-in-len1-up t c =
+    let axis = get_or c.args.order.now 0 0 in
+    let room = first_room c.args.order.now c.args.sizes.now c.args.starts.now c.args.lengths.now c.args.front c.args.row axis (omega arith) refl c.requires.axes c.requires.room in
+    omega (arith, room)
+
+pub overflow_add-first-in-len1-up : goal.overflow_add-first-in-len1-up
+overflow_add-first-in-len1-up t c =
+    let axis = get_or c.args.order.now 0 0 in
+    let room = first_room c.args.order.now c.args.sizes.now c.args.starts.now c.args.lengths.now c.args.front c.args.row axis (omega arith) refl c.requires.axes c.requires.room in
+    omega (arith, room)
+
+pub overflow_add-first-in-loop-index : goal.overflow_add-first-in-loop-index
+overflow_add-first-in-loop-index t c =
+    let axis = get_or c.args.order.now 0 0 in
+    let room = first_room c.args.order.now c.args.sizes.now c.args.starts.now c.args.lengths.now c.args.front c.args.row axis (omega arith) refl c.requires.axes c.requires.room in
+    omega (arith, room)
+
+pub append_rows-requires : goal.append_rows-requires
+append_rows-requires t c =
+    let axis = get_or c.args.order.now 0 0 in
+    let rest = take_rest c.args.order.now 1 in (
+      omega arith,
+      (
+        rest_axes c.args.order.now c.args.sizes.now c.args.starts.now c.args.lengths.now c.args.front c.args.row axis (omega arith) refl c.requires.axes c.requires.room _ rest,
+        rest_room c.args.order.now c.args.sizes.now c.args.starts.now c.args.lengths.now c.args.front c.args.row axis (omega arith) refl c.requires.axes c.requires.room _ c.loop-index.index rest (omega arith),
+      ),
+    )
+
+pub loop-index-init : goal.loop-index-init
+loop-index-init t c = sym (append-nil c.args.out.now.items)
+
+pub loop-index-preserved : goal.loop-index-preserved
+loop-index-preserved t c =
+    let axis = get_or c.args.order.now 0 0 in
+    let rest = drop 1 c.args.order.now in
+    let first = c.args.front * get_or c.args.sizes.now axis 0 + get_or c.args.starts.now axis 0 in
+    c.in_ok-append_rows-in-len1-up.ensures.made
+    ∙ ap (λ (xs : List ℕ). c.loop-index.out.items ++ map (row_at c.args.row) (fronts_over xs c.args.sizes.now c.args.starts.now c.args.lengths.now ((first + c.loop-index.index) ∷ []))) (take_rest c.args.order.now 1)
+    ∙ ap (λ (xs : List (ℕ × ℕ)). xs ++ map (row_at c.args.row) (fronts_over rest c.args.sizes.now c.args.starts.now c.args.lengths.now ((first + c.loop-index.index) ∷ []))) c.loop-index.invariant
+    ∙ fronts_more c.args.row c.args.out.now.items rest c.args.sizes.now c.args.starts.now c.args.lengths.now first c.loop-index.index
+
+pub returns-in-empty : goal.returns-in-empty
+returns-in-empty t c =
+    let runs = c.args.out.now.items in
+    record { made = subst (λ (xs : List ℕ). OnOk c.push_rows.result (c.push_rows.new.out.items ≡ runs ++ map (row_at c.args.row) xs)) (sym (fronts_none c.args.order.now c.args.sizes.now c.args.starts.now c.args.lengths.now c.args.front c.in-empty.len_below)) c.push_rows.ensures.appended }
+
+pub returns-in-len1 : goal.returns-in-len1
+returns-in-len1 t c =
+    let runs = c.args.out.now.items in
+    let axis = get_or c.args.order.now 0 0 in
+    record { made = subst (λ (xs : List ℕ). OnOk c.push_rows-in-len1.result (c.push_rows-in-len1.new.out.items ≡ runs ++ map (row_at c.args.row) xs)) (sym (fronts_last c.args.order.now c.args.sizes.now c.args.starts.now c.args.lengths.now axis c.args.front (omega arith) refl)) c.push_rows-in-len1.ensures.appended }
+
+pub returns-after-loop-index : goal.returns-after-loop-index
+returns-after-loop-index t c =
+    let runs = c.args.out.now.items in
+    let axis = get_or c.args.order.now 0 0 in
+    let rest = drop 1 c.args.order.now in
+    let first = c.args.front * get_or c.args.sizes.now axis 0 + get_or c.args.starts.now axis 0 in
+    let all : c.loop-index.index ≡ get_or c.args.lengths.now axis 0 = omega arith in
+    record {
+      made = c.loop-index.invariant
+          ∙ ap (λ (n : ℕ). runs ++ map (row_at c.args.row) (fronts_over rest c.args.sizes.now c.args.starts.now c.args.lengths.now (range_with_len first n))) all
+          ∙ ap (λ (xs : List ℕ). runs ++ map (row_at c.args.row) xs) (sym (fronts_next c.args.order.now c.args.sizes.now c.args.starts.now c.args.lengths.now axis c.args.front (omega arith) refl));
+    }

@@ -1,0 +1,10 @@
+use Rattle.std.proofs.Common.{◌≡◌, ◌++◌, map, length, drop}
+use Rattle.std.specs.List.{range_with_len}
+use Rattle.zarrs_array_regions.specs.OrderedRuns.{row_at, fronts_over}
+use Rattle.zarrs_array_regions.proofs.ordered_runs.+append_rows.Given as goal
+
+abbrev pub decreases-append_rows : goal.decreases-append_rows
+decreases-append_rows l = length l.order.now
+
+abbrev pub invariant-loop-index : goal.invariant-loop-index
+invariant-loop-index l = l.out.items ≡ l.initial.out.items ++ map (row_at l.row) (fronts_over (drop 1 l.order) l.sizes l.starts l.lengths (range_with_len l.first l.index))

@@ -1,0 +1,140 @@
+//! The runs of a region with the axes of its chunk in another order.
+ghost use Rattle.std.specs.Prelude.{◌≡◌, ◌<◌, ◌≤◌, ◌^◌, ◌+◌, ◌*◌, length, All, IfOk};
+ghost use Rattle.std.specs.List.{range_with_len};
+ghost use Rattle.zarrs_chunk.specs.ChunkShape.{product};
+ghost use Rattle.zarrs_chunk.specs.Runs.{AreFilled, EndWithin, AreApart};
+ghost use Rattle.zarrs_array_to_array.specs.Orders.{permuted};
+ghost use Rattle.zarrs_array_regions.specs.OrderedRuns.{AppendsRows, AreAxes, GivesOrdered, HasRoom, HasRows, IsPartialAt, IsWholeBehind};
+
+use std::alloc::{AllocError, Global};
+
+/// The rows of a region along the last axis that it doesn't cover whole: how many places its front
+/// passes in one step, how many lie before the row, and how many the row has.
+#[derive(Clone, Copy, Debug, Drop)]
+pub(crate) struct Row {
+    pub(crate) step: u64,
+    pub(crate) start: u64,
+    pub(crate) len: u64,
+}
+
+/// How many elements the axes of this order have.
+fn count_elements(order: &[usize], sizes: &[u64]) -> u64
+    requires below { All (λ axis. axis < length sizes.now) order.now }
+    requires positive { All (λ size. 0 < size) sizes.now }
+    requires fits { product (permuted order.now sizes.now) < 2 ^ 64 }
+    ensures value { result ≡ product (permuted order.now sizes.now) }
+{
+    let mut count = 1;
+    for axis in order {
+        count *= sizes[*axis];
+    }
+    count
+}
+
+/// How many axes stand before those at the end of the order that the region covers whole.
+fn outer_axes(order: &[usize], sizes: &[u64], starts: &[u64], lengths: &[u64]) -> usize
+    requires axes { AreAxes order.now sizes.now starts.now lengths.now }
+    ensures axes { result ≤ length order.now }
+    ensures whole { IsWholeBehind result order.now sizes.now starts.now lengths.now }
+    ensures partial { IsPartialAt result order.now sizes.now lengths.now }
+{
+    let mut axes = 0;
+    for index in 0..order.len() {
+        let axis = order[index];
+        if starts[axis] != 0 || lengths[axis] != sizes[axis] {
+            axes = index + 1;
+        }
+    }
+    axes
+}
+
+/// How many rows there are over these axes. No memory has room for `usize::MAX` of them.
+fn count_rows(order: &[usize], lengths: &[u64]) -> usize
+    requires below { All (λ axis. axis < length lengths.now) order.now }
+{
+    let mut count: usize = 1;
+    for axis in order {
+        count = count.saturating_mul(lengths[*axis] as usize);
+    }
+    count
+}
+
+/// Appends the rows behind so many fronts, one after another.
+fn push_rows(out: &mut Vec<(u64, u64)>, first: u64, count: u64, row: Row) -> Result<(), AllocError>
+    requires room { (first + count) * row.step < 2 ^ 64 }
+    requires start { row.start ≤ row.step }
+    requires step { 0 < row.step }
+    ensures appended { AppendsRows row (range_with_len first count) out.old out.new result }
+{
+    for index in 0..count {
+        out.push(((first + index) * row.step + row.start, row.len))?;
+    }
+    Ok(())
+}
+
+/// Appends the rows of the region behind a front, over these axes.
+fn append_rows(
+    out: &mut Vec<(u64, u64)>,
+    order: &[usize],
+    sizes: &[u64],
+    starts: &[u64],
+    lengths: &[u64],
+    front: u64,
+    row: Row,
+) -> Result<(), AllocError>
+    requires axes { AreAxes order.now sizes.now starts.now lengths.now }
+    requires room { HasRoom front order.now sizes.now row }
+    ensures made { HasRows front row order.now sizes.now starts.now lengths.now out.old out.new result }
+{
+    match order {
+        [] => push_rows(out, front, 1, row),
+        [axis] => {
+            let first = front * sizes[*axis] + starts[*axis];
+            push_rows(out, first, lengths[*axis], row)
+        }
+        [axis, rest @ ..] => {
+            let first = front * sizes[*axis] + starts[*axis];
+            for index in 0..lengths[*axis] {
+                append_rows(out, rest, sizes, starts, lengths, first + index, row)?;
+            }
+            Ok(())
+        }
+    }
+}
+
+/// The runs of a region of a chunk of these sizes, with the axes of both in this order. Axes at the end
+/// that the region covers whole join, so there is one run for each row of the last axis before them, or
+/// one alone where it covers all axes.
+pub(crate) fn ordered_runs(
+    alloc: Global,
+    order: &[usize],
+    sizes: &[u64],
+    starts: &[u64],
+    lengths: &[u64],
+) -> Result<Vec<(u64, u64)>, AllocError>
+    requires axes { AreAxes order.now sizes.now starts.now lengths.now }
+    requires filled { All (λ len. 0 < len) lengths.now }
+    requires fits { product (permuted order.now sizes.now) < 2 ^ 64 }
+    ensures places { GivesOrdered order.now sizes.now starts.now lengths.now result }
+    ensures filled { IfOk result (λ v. AreFilled v.items) }
+    ensures below { IfOk result (λ v. EndWithin (product (permuted order.now sizes.now)) v.items) }
+    ensures apart { IfOk result (λ v. AreApart v.items) }
+{
+    let axes = outer_axes(order, sizes, starts, lengths);
+    if axes == 0 {
+        let mut runs = Vec::new(alloc);
+        runs.push((0, count_elements(order, sizes)))?;
+        return Ok(runs);
+    }
+    let before = &order[..axes - 1];
+    let last = order[axes - 1];
+    let whole = count_elements(&order[axes..], sizes);
+    let row = Row {
+        step: sizes[last] * whole,
+        start: starts[last] * whole,
+        len: lengths[last] * whole,
+    };
+    let mut runs = Vec::with_capacity(alloc, count_rows(before, lengths))?;
+    append_rows(&mut runs, before, sizes, starts, lengths, 0, row)?;
+    Ok(runs)
+}

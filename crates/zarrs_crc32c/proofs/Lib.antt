@@ -1,0 +1,3 @@
+pub mod Registers
+pub mod Replaced
+pub mod TableEntries

@@ -1,0 +1,5 @@
+pub mod Checksum
+pub mod Crc32cCodec
+pub mod Crc32cMetadata
+pub mod Lawful
+pub mod Laws
