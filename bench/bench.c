@@ -46,7 +46,7 @@ void *realloc(void *block, size_t len) {
 
 /* ---- the workload at hand ---- */
 
-enum call { ENCODE, DECODE, READ, WRITE, EDITS, REENCODE, PLAN, READ_PIECES };
+enum call { ENCODE, DECODE, READ, READS, WRITE, EDITS, REENCODE, PLAN, READ_PIECES };
 
 /* Elements as they cross, or a value in `bytes` alone. */
 struct buffers {
@@ -65,6 +65,8 @@ static struct {
     uint64_t tuples;        /* the selection; of edits one behind another */
     uint64_t *numbers;
     size_t numbers_len;
+    zarrs_edit_size *edits;
+    zarrs_selection_size *selections;
     struct buffers ours, plain; /* the answers */
     zarrs_sizes room;
     size_t rows, columns; /* of C's kernels, from here on */
@@ -118,20 +120,13 @@ static void answers(size_t masks, size_t offsets, size_t bytes) {
 #define ANSWERS                                                                                                    \
     job.ours.masks, job.room.masks, job.ours.offsets, job.room.offsets, job.ours.bytes, job.room.bytes, &job.ours.len
 
-/* Each edit's value is the next one's: they go to and fro between two buffers. */
-static uint32_t edit_in_turn(void) {
-    uint8_t *from = job.in.bytes, *to = job.ours.bytes, *other = job.new.masks;
-    size_t len = job.in.len.bytes;
-    uint32_t code = 0;
-    for (size_t i = 0; i < job.numbers_len && !code; i += 4) {
-        code = zarrs_write(HEADER, true, from, len, ZARRS_BOX, job.numbers + i, 4, NULL, 0, NULL, 0, job.new.bytes,
-                           job.new.len.bytes, to, len, &job.ours.len.bytes);
-        from = to;
-        to = from == job.ours.bytes ? other : job.ours.bytes;
-    }
-    job.ours.bytes = from;
-    job.new.masks = to;
-    return code;
+/* All edits by one call, in a copy of the value, as C makes them. */
+static uint32_t edit_in_place(void) {
+    size_t done;
+    memcpy(job.ours.bytes, VALUE);
+    job.ours.len.bytes = job.in.len.bytes;
+    return zarrs_edit(HEADER, job.ours.bytes, job.in.len.bytes, job.edits, job.numbers_len / 4, job.numbers,
+                      job.numbers_len, job.new.bytes, job.new.len.bytes, &done);
 }
 
 static uint32_t call_ours(void) {
@@ -141,7 +136,10 @@ static uint32_t call_ours(void) {
     case DECODE: return zarrs_decode(HEADER, VALUE, ANSWERS);
     case READ: return zarrs_read(HEADER, true, VALUE, SELECTION, ANSWERS);
     case WRITE: return zarrs_write(HEADER, true, VALUE, SELECTION, ELEMENTS(job.new), ANSWER);
-    case EDITS: return edit_in_turn();
+    case EDITS: return edit_in_place();
+    case READS:
+        return zarrs_read_many(HEADER, true, VALUE, job.selections, job.numbers_len / 4, job.numbers, job.numbers_len,
+                               ANSWERS);
     case REENCODE:
         return zarrs_reencode(HEADER, VALUE, (const uint8_t *)job.other_codecs, strlen(job.other_codecs), ANSWER);
     case PLAN:
@@ -357,6 +355,34 @@ static void packs(void) {
     pack_window("packbits read uint4 512x512 at x=1000", "\"uint4\"", 8 * mi, 1000, plain_window_nibbles);
 }
 
+/* ---- crc32c behind bytes ---- */
+
+static bool plain_checksum(void) {
+    if (job.call == DECODE) return checksum_decode(job.in.bytes, job.in.len.bytes, job.plain.bytes);
+    checksum_encode(job.in.bytes, job.in.len.bytes, job.plain.bytes);
+    return true;
+}
+
+static void checksum(const char *name, enum call call, size_t n) {
+    char shape[32];
+    snprintf(shape, sizeof shape, "[%zu]", n);
+    if (!begin(name, call, shape, "\"uint8\"", "00", LITTLE ",\"crc32c\"")) return;
+    noise_in(n);
+    if (call == DECODE) {
+        uint8_t *value = room(n + 4);
+        checksum_encode(job.in.bytes, n, value);
+        job.in.bytes = value;
+        job.in.len.bytes = n + 4;
+    }
+    answers(0, 0, call == ENCODE ? n + 4 : n);
+    measure(plain_checksum);
+}
+
+static void checksums(void) {
+    checksum("crc32c encode 16 MiB", ENCODE, 16 << 20);
+    checksum("crc32c decode 16 MiB", DECODE, 16 << 20);
+}
+
 /* ---- texts: `rows` of them, and of a read `columns` from `at.x` ---- */
 
 static bool plain_texts(void) {
@@ -447,20 +473,23 @@ KERNEL(chain, transpose_u32(job.in.bytes, job.rows, job.columns, true, job.plain
 KERNEL(read_turned, window_turned(job.in.bytes, job.rows, job.at, job.plain.bytes))
 KERNEL(read_rows, window_rows(job.in.bytes, job.columns, job.at, job.plain.bytes))
 
-/* A write answers a new value; edits are made in one copy. */
-static bool plain_write_turned(void) {
+/* A write answers a new value; edits are made in one copy, each with elements of its own. */
+static bool plain_write(void (*write)(uint8_t *, size_t, struct window, const uint8_t *), size_t stride) {
+    size_t size = job.new.len.bytes / (job.numbers_len / 4);
     memcpy(job.plain.bytes, job.in.bytes, job.in.len.bytes);
-    for (size_t i = 0; i < job.numbers_len; i += 4) {
-        uint64_t *edit = job.numbers + i;
-        write_turned(job.plain.bytes, job.rows, (struct window){edit[0], edit[1], edit[2], edit[3]}, job.new.bytes);
+    for (size_t i = 0; i < job.numbers_len / 4; i++) {
+        uint64_t *edit = job.numbers + 4 * i;
+        write(job.plain.bytes, stride, (struct window){edit[0], edit[1], edit[2], edit[3]}, job.new.bytes + i * size);
     }
     return true;
 }
-static bool plain_write_rows(void) {
-    memcpy(job.plain.bytes, job.in.bytes, job.in.len.bytes);
-    for (size_t i = 0; i < job.numbers_len; i += 4) {
-        uint64_t *edit = job.numbers + i;
-        write_rows(job.plain.bytes, job.columns, (struct window){edit[0], edit[1], edit[2], edit[3]}, job.new.bytes);
+static bool plain_write_turned(void) { return plain_write(write_turned, job.rows); }
+static bool plain_write_rows(void) { return plain_write(write_rows, job.columns); }
+static bool plain_reads_turned(void) {
+    size_t size = job.room.bytes / (job.numbers_len / 4);
+    for (size_t i = 0; i < job.numbers_len / 4; i++) {
+        uint64_t *at = job.numbers + 4 * i;
+        window_turned(job.in.bytes, job.rows, (struct window){at[0], at[1], at[2], at[3]}, job.plain.bytes + i * size);
     }
     return true;
 }
@@ -505,19 +534,37 @@ static void window(const char *name, enum call call, bool is_turned, size_t side
     }
 }
 
-static void edits(const char *name, bool is_turned, size_t width) {
-    size_t side = 512, count = 1000;
-    if (!square(name, EDITS, is_turned, side)) return;
-    noise_in(4 * side * side);
+/* 1,000 windows of a chunk, as numbers. */
+static void windows(size_t side, size_t width, size_t count) {
     job.numbers_len = 4 * count;
     job.numbers = room(32 * count);
     for (size_t i = 0; i < count; i++) {
         uint64_t y = noise_number() % (side - width), x = noise_number() % (side - width);
         memcpy(job.numbers + 4 * i, (uint64_t[]){y, x, width, width}, 32);
     }
-    job.new = (struct buffers){room(4 * side * side), NULL, noise(4 * width * width), {0, 0, 4 * width * width}};
+}
+
+static void edits(const char *name, bool is_turned, size_t width) {
+    size_t side = 512, count = 1000, size = 4 * width * width;
+    if (!square(name, EDITS, is_turned, side)) return;
+    noise_in(4 * side * side);
+    windows(side, width, count);
+    job.edits = room(count * sizeof *job.edits);
+    for (size_t i = 0; i < count; i++) job.edits[i] = (zarrs_edit_size){ZARRS_BOX, 4, size};
+    job.new = (struct buffers){NULL, NULL, noise(count * size), {0, 0, count * size}};
     answers(0, 0, 4 * side * side);
     measure(is_turned ? plain_write_turned : plain_write_rows);
+}
+
+static void reads(const char *name, size_t width) {
+    size_t side = 512, count = 1000, size = 4 * width * width;
+    if (!square(name, READS, true, side)) return;
+    noise_in(4 * side * side);
+    windows(side, width, count);
+    job.selections = room(count * sizeof *job.selections);
+    for (size_t i = 0; i < count; i++) job.selections[i] = (zarrs_selection_size){ZARRS_BOX, 4};
+    answers(0, 0, count * size);
+    measure(plain_reads_turned);
 }
 
 static void picks(const char *name, bool is_turned, size_t count) {
@@ -570,6 +617,7 @@ static void squares(void) {
     edits("chain 1,000 edits of 2x2 of 512x512", true, 2);
     edits("chain 1,000 edits of 32x32 of 512x512", true, 32);
     edits("bytes 1,000 edits of 8x8 of 512x512", false, 8);
+    reads("chain 1,000 reads of 8x8 of 512x512", 8);
     picks("bytes read 100,000 tuples of 2048x2048", false, 100000);
     picks("chain read 100,000 tuples of 2048x2048", true, 100000);
     picks("bytes read 1,000 tuples of 2048x2048", false, 1000);
@@ -591,6 +639,7 @@ int main(int argc, char **argv) {
     }
     transposes();
     packs();
+    checksums();
     all_texts();
     optionals();
     squares();

@@ -136,6 +136,49 @@ static bool has_offsets(const uint8_t *value, size_t len, size_t n) {
     return len >= 8 && number_at(value, 0) == 8 * (n + 1) && len - 8 >= 8 * (n + 1);
 }
 
+static uint32_t crc_rows[8][256];
+
+static void fill_crc_rows(void) {
+    for (uint32_t byte = 0; byte < 256; byte++) {
+        uint32_t rest = byte;
+        for (int row = 0; row < 8; row++) {
+            for (int bit = 0; bit < 8; bit++) rest = rest >> 1 ^ (rest & 1 ? 0x82f63b78 : 0);
+            crc_rows[row][byte] = rest;
+        }
+    }
+}
+
+static uint32_t crc32c(const uint8_t *in, size_t n) {
+    const uint32_t(*rows)[256] = crc_rows;
+    uint32_t crc = ~0u;
+    if (!rows[0][1]) fill_crc_rows();
+    for (; n >= 8; in += 8, n -= 8) {
+        uint64_t eight;
+        memcpy(&eight, in, 8);
+        eight ^= crc;
+        crc = rows[7][eight & 255] ^ rows[6][eight >> 8 & 255] ^ rows[5][eight >> 16 & 255] ^
+              rows[4][eight >> 24 & 255] ^ rows[3][eight >> 32 & 255] ^ rows[2][eight >> 40 & 255] ^
+              rows[1][eight >> 48 & 255] ^ rows[0][eight >> 56];
+    }
+    while (n--) crc = crc >> 8 ^ rows[0][(crc ^ *in++) & 255];
+    return ~crc;
+}
+
+void checksum_encode(const uint8_t *in, size_t n, uint8_t *value) {
+    uint32_t crc = crc32c(in, n);
+    memcpy(value, in, n);
+    memcpy(value + n, &crc, 4);
+}
+
+bool checksum_decode(const uint8_t *value, size_t len, uint8_t *out) {
+    uint32_t crc;
+    if (len < 4) return false;
+    memcpy(&crc, value + len - 4, 4);
+    if (crc != crc32c(value, len - 4)) return false;
+    memcpy(out, value, len - 4);
+    return true;
+}
+
 bool texts_encode(const uint8_t *bytes, const uint64_t *offsets, size_t n, uint8_t *value) {
     uint64_t taken = 8 * (n + 1);
     if (!rise_to((const void *)offsets, n, offsets[n])) return false;

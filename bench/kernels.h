@@ -20,6 +20,10 @@ void unpack_nibbles(const uint8_t *in, size_t n, uint8_t *out);
 void pack_int16(const uint8_t *in, size_t n, int first, int count, uint8_t *out);
 void unpack_int16(const uint8_t *in, size_t in_len, size_t n, int first, int count, uint8_t *out);
 
+/* Bytes and their CRC-32C behind them, eight bytes a step; back, where it is theirs. */
+void checksum_encode(const uint8_t *in, size_t n, uint8_t *value);
+bool checksum_decode(const uint8_t *value, size_t len, uint8_t *out);
+
 /* Texts behind their offsets: the bytes that the offsets take, the offsets, the texts' bytes. */
 bool texts_encode(const uint8_t *bytes, const uint64_t *offsets, size_t n, uint8_t *value);
 bool texts_decode(const uint8_t *value, size_t len, size_t n, uint64_t *offsets, uint8_t *bytes);

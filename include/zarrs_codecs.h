@@ -25,7 +25,7 @@
  * A call answers ZARRS_DONE; ZARRS_SHORT where a buffer is too short for the answer; or the code of the
  * first cause of a refusal, one of enum zarrs_code, whose name zarrs_error_name tells. Where it answers
  * ZARRS_SHORT it has written how many items are needed, and nothing else; where it refuses, nothing at
- * all. Want of memory (ZARRS_OUT_OF_MEMORY) may come in place of any other answer.
+ * all (but for zarrs_edit, which says what stands). Want of memory (ZARRS_OUT_OF_MEMORY) may come in place of any other answer.
  *
  * Elements cross in three buffers, whatever their type:
  *
@@ -72,6 +72,7 @@ enum zarrs_code {
     ZARRS_SHORT = 1, /* a buffer is too short for the answer */
     ZARRS_SYNTAX = 2, /* the header, or a list of codecs, isn't of its form */
     ZARRS_ARGUMENT = 3, /* masks of several lengths, numbers that are no selection, other pieces */
+    ZARRS_NOT_IN_PLACE = 4, /* a value can't be edited where it stands */
     ZARRS_OUT_OF_MEMORY = 10, /* memory was refused: may come in place of any other */
     ZARRS_STORAGE = 11, /* a byte is needed that isn't among the pieces */
     ZARRS_UNSUPPORTED_DATA_TYPE = 12, /* a codec doesn't take this type */
@@ -121,6 +122,21 @@ typedef struct zarrs_sizes {
     size_t bytes;
 } zarrs_sizes;
 
+/* A selection of a list: its count of tuples, or ZARRS_BOX, and how many numbers it has. The numbers of all
+ * selections stand joined, in their order. */
+typedef struct zarrs_selection_size {
+    uint64_t tuples;
+    size_t numbers;
+} zarrs_selection_size;
+
+/* An edit of a list: the same of its selection, and how many bytes its new elements have. The bytes of all
+ * edits stand joined, too. */
+typedef struct zarrs_edit_size {
+    uint64_t tuples;
+    size_t numbers;
+    size_t bytes;
+} zarrs_edit_size;
+
 /* The library's version, as 0.1.0; of one that was made without a proof, with the word unproved behind it. */
 extern const char zarrs_version[];
 
@@ -132,7 +148,14 @@ uint32_t zarrs_error_name(uint32_t code, uint8_t *name, size_t name_len, size_t 
 
 /* The same with a zero behind it, in text, which has ZARRS_NAME_SIZE bytes. */
 #define ZARRS_NAME_SIZE 64
-static inline const char *zarrs_name(uint32_t code, char *text)
+#if defined(__cplusplus) || (defined(__STDC_VERSION__) && __STDC_VERSION__ >= 199901L)
+static inline
+#elif defined(__GNUC__) /* C89 has no word for it */
+static __inline__
+#else
+static
+#endif
+const char *zarrs_name(uint32_t code, char *text)
 {
     size_t len = 0;
     if (zarrs_error_name(code, (uint8_t *)text, ZARRS_NAME_SIZE - 1, &len) != ZARRS_DONE)
@@ -176,6 +199,17 @@ uint32_t zarrs_read(const uint8_t *header, size_t header_len,
                     uint64_t *offsets, size_t offsets_len,
                     uint8_t *bytes, size_t bytes_len, zarrs_sizes *needed);
 
+/* What zarrs_read answers of each selection of a list: the parts of each answer stand behind those of the one
+ * before it, so each has its own masks, its own offsets, from 0 on, and its own bytes. needed counts them all.
+ * The header is read once, and a value that has to be decoded whole is decoded once. */
+uint32_t zarrs_read_many(const uint8_t *header, size_t header_len,
+                         bool is_stored, const uint8_t *value, size_t value_len,
+                         const zarrs_selection_size *sizes, size_t sizes_len,
+                         const uint64_t *numbers, size_t numbers_len,
+                         uint8_t *masks, size_t masks_len,
+                         uint64_t *offsets, size_t offsets_len,
+                         uint8_t *bytes, size_t bytes_len, zarrs_sizes *needed);
+
 /* The value of the chunk with new elements where a selection means them: it begins as the chunk that a value
  * stands for, or as fill values where nothing is stored, and then the value isn't read. Of a tuple that comes
  * more than once the last element stands. The old value stays as it is. */
@@ -186,6 +220,19 @@ uint32_t zarrs_write(const uint8_t *header, size_t header_len,
                      const uint64_t *offsets, size_t offsets_len,
                      const uint8_t *bytes, size_t bytes_len,
                      uint8_t *out, size_t out_len, size_t *needed);
+
+/* New elements written into the value itself, by a list of edits: what zarrs_write answers, one after another.
+ * The header is read once, and of the value only the bytes of the edits' places are written; it may overlap
+ * no other argument. That is done where all codecs of the chain write a part of a value (bytes, behind
+ * array-to-array codecs or none, and no codec of bytes), and the value has all bytes of the chunk; else
+ * ZARRS_NOT_IN_PLACE is answered. done is always written: it says how many edits were made. Where one is
+ * refused, those before it stand, and the value has nothing of it nor of those behind it. So elements are of
+ * a fixed size, and neither masks nor offsets are given. */
+uint32_t zarrs_edit(const uint8_t *header, size_t header_len,
+                    uint8_t *value, size_t value_len,
+                    const zarrs_edit_size *sizes, size_t sizes_len,
+                    const uint64_t *numbers, size_t numbers_len,
+                    const uint8_t *bytes, size_t bytes_len, size_t *done);
 
 /* Which bytes of a value zarrs_read asks for, whatever is stored: ranges, each the number of its first byte
  * and that of the first byte behind it, in order and with at least a byte between one and the next. Where

@@ -5,7 +5,7 @@
 #include "zarrs_codecs.h"
 
 enum { ROOM = 1 << 14, PAGE = 4096, AXES = 5, PATTERN = 0xA5 };
-enum { CHECK, REPRESENTATION, ENCODE, DECODE, READ, WRITE, REENCODE, PLAN, PIECES, NAME, KINDS };
+enum { CHECK, REPRESENTATION, ENCODE, DECODE, READ, WRITE, REENCODE, PLAN, PIECES, NAME, MANY, EDIT, KINDS };
 /* Memory that ends where none is. */
 typedef struct { uint8_t *begin; } room;
 
@@ -74,6 +74,10 @@ uint32_t tell(fuzzer *f, const header *h, int kind, bool is_stored, lent given, 
 /* A call that writes a value. */
 void write_value(fuzzer *f, const header *h, int kind, bool is_stored, lent old, const selection *s,
     const elements *e, lent codecs, value *v);
+/* Reads several selections by one call, and each by one of its own; `check` is what is answered of the header. */
+void read_several(fuzzer *f, const header *h, const value *v, bool is_stored, uint32_t check);
+/* Makes several edits of a good header's chunk by one call, and each by a write. */
+void edit_several(fuzzer *f, const header *h, const value *v);
 void turn(fuzzer *f);
 
 #endif

@@ -194,6 +194,7 @@ void turn(fuzzer *f)
         if (h == &good) {
             read_all_ways(f, h, &v, NULL);
             write_all_ways(f, h, &v, NULL);
+            read_several(f, h, &v, true, check);
         }
         return;
     }
@@ -212,6 +213,8 @@ void turn(fuzzer *f)
                "what was decoded is encoded differently");
         read_all_ways(f, h, &v, &chunk);
         write_all_ways(f, h, &v, &chunk);
+        read_several(f, h, &v, some(f, 4), check);
+        edit_several(f, h, &v);
         if (h->index)
             look_loose(f, h, &v, &chunk);
         char codecs[ROOM / 2];
@@ -231,9 +234,13 @@ void turn(fuzzer *f)
         look_tight(f, h, &other, h->count);
     read_all_ways(f, h, &v, NULL);
     write_all_ways(f, h, &v, NULL);
-    uint8_t *name = blank(f, f->to_bytes, 64);
-    size_t needed;
-    code = zarrs_error_name((uint32_t)some(f, 300), name, name ? some(f, 65) : 0, &needed);
+    read_several(f, h, &v, true, check);
+    edit_several(f, h, &v);
+    size_t room_of = some(f, 65), needed;
+    uint8_t *name = blank(f, f->to_bytes, room_of);
+    code = zarrs_error_name((uint32_t)some(f, 300), name, room_of, &needed);
     after(f, h, NAME, code);
-    EXPECT(code <= ZARRS_SHORT && needed < 64, "an error's name");
+    EXPECT(needed < 64 && code == (needed <= room_of ? ZARRS_DONE : ZARRS_SHORT), "an error's name");
+    EXPECT(code == ZARRS_SHORT || needed == room_of || name[needed] == 0, "an error's name without an end");
+    EXPECT(untouched(f->to_bytes, room_of, code == ZARRS_SHORT ? 0 : needed < room_of ? needed + 1 : needed), "written behind a name");
 }

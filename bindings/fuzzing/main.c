@@ -6,7 +6,8 @@
  * - that an allocation that is refused gives ZARRS_OUT_OF_MEMORY, and no other change;
  * - that a header which zarrs_check refuses is refused by each call;
  * - that offsets begin at 0 and end at the bytes' end, and mask bytes are 0 or 1 (not looked at with `loose`);
- * - that decode, encode, read, write, reencode and reads by pieces agree with each other.
+ * - that decode, encode, read, write, reencode and reads by pieces agree with each other;
+ * - that several selections are read, and several edits made, by one call as by one call each.
  * It prints how many calls there were of each kind, and ends the process at the first fault, whose seed it prints.
  */
 #define _GNU_SOURCE
@@ -17,7 +18,8 @@
 #include <time.h>
 
 static const char *const KIND_NAMES[] = {"check", "representation", "encode", "decode", "read", "write",
-                                         "reencode", "planned_ranges", "read_pieces", "error_name"};
+                                         "reencode", "planned_ranges", "read_pieces", "error_name",
+                                         "read_many", "edit"};
 static double limit;
 
 static double now(void)

@@ -8,6 +8,14 @@
 
 __thread long allocations_left = -1;
 __thread bool was_refused;
+#if defined(__has_feature)
+#if __has_feature(address_sanitizer)
+#define __SANITIZE_ADDRESS__ 1
+#endif
+#endif
+
+/* With the address sanitizer malloc is its own, and nothing is refused. */
+#ifndef __SANITIZE_ADDRESS__
 extern void *__libc_malloc(size_t);
 extern void *__libc_realloc(void *, size_t);
 
@@ -25,6 +33,7 @@ static bool is_refused_now(void)
 
 void *malloc(size_t size) { return is_refused_now() ? NULL : __libc_malloc(size); }
 void *realloc(void *at, size_t size) { return is_refused_now() ? NULL : __libc_realloc(at, size); }
+#endif
 
 void fault(fuzzer *f, const header *h, const char *what)
 {

@@ -63,7 +63,7 @@ def test_where_an_array_is_made(tmp_path, monkeypatch):
         {"chunks": (1, 1)},
         {"data_type": "int9"},
         {"fill_value": 300},
-        {"codecs": ["crc32c"]},
+        {"codecs": ["adler32"]},
         {"attributes": {"a": float("nan")}},
         {"attributes": {"a": object()}},
         {"attributes": 5},

@@ -60,9 +60,9 @@ def test_a_code_of_no_name():
 @pytest.mark.parametrize(
     "name, codecs, shape, data_type",
     [
-        ("UnknownName", ["crc32c"], (4,), "int32"),
+        ("UnknownName", ["adler32"], (4,), "int32"),
         ("UnknownName", ["sharding_indexed"], (4,), "int32"),
-        ("UnknownName", [LITTLE, "crc32c"], (4,), "int32"),
+        ("UnknownName", [LITTLE, "adler32"], (4,), "int32"),
         ("UnknownName", ["gzip", LITTLE], (4,), "int32"),
         ("MissingArrayToBytes", [], (4,), "int32"),
         ("MissingArrayToBytes", [transpose([0])], (4,), "int32"),
@@ -177,7 +177,7 @@ def test_reencoding_into_other_codecs_that_do_not_fit():
     with pytest.raises(z.InvalidBytesLength):
         chain.reencode(bytes(15), [BIG])
     with pytest.raises(z.UnknownName):
-        chain.reencode(bytes(16), ["crc32c"])
+        chain.reencode(bytes(16), ["adler32"])
 
 
 def masks(mask, data=LITTLE):
@@ -201,7 +201,7 @@ INT, TEXT, MASKED = "int32", "string", {"optional": "int32"}
 @pytest.mark.parametrize(
     "codecs, shape, data_type, name, codec, inner, key",
     [
-        ([LITTLE, "crc32c"], (4,), INT, "UnknownName", (1, "crc32c"), (), None),
+        ([LITTLE, "adler32"], (4,), INT, "UnknownName", (1, "adler32"), (), None),
         ([LITTLE, GZIP], (4,), INT, "InvalidConfiguration", (1, "gzip"), (), "level"),
         ([LITTLE, "gzip"], (4,), INT, "InvalidConfiguration", (1, "gzip"), (), "level"),
         (["bytes"], (4,), INT, "EndiannessMissing", (0, "bytes"), (), "endian"),
@@ -216,8 +216,8 @@ INT, TEXT, MASKED = "int32", "string", {"optional": "int32"}
         ([transpose([0])], (4,), INT, "MissingArrayToBytes", None, (), None),
         ([packed(first_bit=0, last_bit=32)], (4,), INT, "BitRange", (0, "packbits"), (), "last_bit"),
         ([packed(padding_encoding="first")], (4,), INT, "InvalidConfiguration", (0, "packbits"), (), "padding_encoding"),
-        ([texts(index_codecs=["crc32c"])], (4,), TEXT, "UnknownName", (0, "zarrs.vlen"), (("index_codecs", 0, "crc32c"),), None),
-        ([texts(data_codecs=["bytes", "crc32c"])], (4,), TEXT, "UnknownName", (0, "zarrs.vlen"), (("data_codecs", 1, "crc32c"),), None),
+        ([texts(index_codecs=["adler32"])], (4,), TEXT, "UnknownName", (0, "zarrs.vlen"), (("index_codecs", 0, "adler32"),), None),
+        ([texts(data_codecs=["bytes", "adler32"])], (4,), TEXT, "UnknownName", (0, "zarrs.vlen"), (("data_codecs", 1, "adler32"),), None),
         ([texts(index_codecs=[])], (4,), TEXT, "MissingArrayToBytes", (0, "zarrs.vlen"), (), "index_codecs"),
         ([texts(index_location="middle")], (4,), TEXT, "InvalidConfiguration", (0, "zarrs.vlen"), (), "index_location"),
         ([without(VLEN, "index_data_type")], (4,), TEXT, "InvalidConfiguration", (0, "zarrs.vlen"), (), "index_data_type"),

@@ -172,7 +172,7 @@ SHARDS = {
     "codecs, data_type, codec",
     [
         ([SHARDS], "int32", (0, "sharding_indexed")),
-        ([LITTLE, {"name": "crc32c"}], "int32", (1, "crc32c")),
+        ([LITTLE, {"name": "adler32"}], "int32", (1, "adler32")),
         ([{"name": "vlen-utf8"}, ZSTD], "string", (0, "vlen-utf8")),
         ([{"name": "vlen-bytes"}, ZSTD], "variable_length_bytes", (0, "vlen-bytes")),
         ([{"name": "numcodecs.delta", "configuration": {}}, LITTLE], "int32", (0, "numcodecs.delta")),

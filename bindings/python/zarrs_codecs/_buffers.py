@@ -34,6 +34,11 @@ def start(array: AnyArray) -> Any:
     return _Start.from_buffer(_plain(array).data)
 
 
+def counted(array: AnyArray, count: int) -> tuple[Any, int]:
+    """What C is given of an array in one piece, and how many items that is; of none, no address."""
+    return (start(array), count) if count else (None, 0)
+
+
 def _plain(array: AnyArray) -> AnyArray:
     """The same memory, which numpy lends of moments only as whole numbers."""
     return array.view(np.int64) if array.dtype.kind in "mM" else array

@@ -4,13 +4,13 @@ import math
 import numbers
 import operator
 import reprlib
-from collections.abc import Callable
+from collections.abc import Callable, Sequence
 from ctypes import byref
 from typing import Any
 
 import numpy as np
 
-from ._buffers import lent, start
+from ._buffers import counted, lent, start
 from ._data_types import DataType
 from ._library import SHORT, Sizes, checked
 from ._texts import joined, parted
@@ -161,6 +161,35 @@ def told(kind: DataType, call: Callable[..., Any], shape: tuple[int, ...], room:
     if not kind.is_optional:
         return array
     return masked(array, np.logical_not(present, out=present).reshape(shape))
+
+
+def told_many(kind: DataType, call: Callable[..., Any], shapes: Sequence[tuple[int, ...]], room: int = 0) -> list[AnyArray]:
+    """The elements that a call tells of several selections, of these shapes, each behind the one before it."""
+    counts = [math.prod(shape) for shape in shapes]
+    count = sum(counts)
+    present = np.empty(count if kind.is_optional else 0, bool)
+    offsets = np.empty(count + len(counts) if kind.is_variable else 0, np.uint64)
+    size = room if kind.is_variable else count * kind.dtype.itemsize
+    whole, sizes = np.empty(size, np.uint8), Sizes()
+    code = call(*counted(present, present.size), *counted(offsets, offsets.size), *counted(whole, whole.size), byref(sizes))
+    if code == SHORT:
+        whole = np.empty(sizes.bytes, np.uint8)
+        code = call(*counted(present, present.size), *counted(offsets, offsets.size), *counted(whole, whole.size), byref(sizes))
+    checked(code)
+    answers, first, at = [], 0, 0
+    for number, (shape, many) in enumerate(zip(shapes, counts, strict=True)):
+        if kind.is_variable:
+            own = offsets[first + number : first + number + many + 1]
+            end = at + int(own[-1])
+            array = parted(own, whole[at:end].tobytes(), kind.is_text).reshape(shape)
+        else:
+            end = at + many * kind.dtype.itemsize
+            array = whole[at:end].view(kind.dtype).reshape(shape)
+        if kind.is_optional:
+            array = masked(array, ~present[first : first + many].reshape(shape))
+        answers.append(array)
+        first, at = first + many, end
+    return answers
 
 
 def empty(kind: DataType, shape: tuple[int, ...]) -> AnyArray:

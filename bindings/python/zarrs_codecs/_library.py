@@ -20,6 +20,8 @@ _CALLS = {
     "zarrs_encode": [*_BUFFER, *_ELEMENTS, *_BUFFER, _AT],
     "zarrs_decode": [*_BUFFER, *_BUFFER, *_ELEMENTS, _AT],
     "zarrs_read": [*_BUFFER, *_STORED, *_SELECTION, *_ELEMENTS, _AT],
+    "zarrs_read_many": [*_BUFFER, *_STORED, *_BUFFER, *_BUFFER, *_ELEMENTS, _AT],
+    "zarrs_edit": [*_BUFFER, *_BUFFER, *_BUFFER, *_BUFFER, *_BUFFER, _AT],
     "zarrs_write": [*_BUFFER, *_STORED, *_SELECTION, *_ELEMENTS, *_BUFFER, _AT],
     "zarrs_planned_ranges": [*_BUFFER, *_SELECTION, *_BUFFER, _AT, _AT],
     "zarrs_read_pieces": [*_BUFFER, _NUMBER, *_BUFFER, *_BUFFER, *_SELECTION, *_ELEMENTS, _AT],
@@ -32,6 +34,12 @@ class Sizes(ctypes.Structure):
     """How many items the three buffers of elements have, or need."""
 
     _fields_ = [("masks", _LENGTH), ("offsets", _LENGTH), ("bytes", _LENGTH)]
+
+
+class EditSize(ctypes.Structure):
+    """How many tuples an edit's selection has, and how many numbers and bytes the edit takes."""
+
+    _fields_ = [("tuples", _NUMBER), ("numbers", _LENGTH), ("bytes", _LENGTH)]
 
 
 def _loaded() -> ctypes.CDLL:

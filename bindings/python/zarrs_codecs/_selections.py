@@ -33,6 +33,10 @@ class Rows:
         """That of the answer."""
         return (len(self.rows),)
 
+    def numbers(self) -> tuple[int, AnyArray]:
+        """How many rows there are, and their numbers."""
+        return len(self.rows), self.rows.reshape(-1)
+
     def arguments(self) -> Arguments:
         """What C is given."""
         return len(self.rows), lent(self.rows)[0], self.rows.size
@@ -65,11 +69,15 @@ class Box:
         """Whether there are elements between those that are meant."""
         return any(one.step > 1 for one in self.on_axes)
 
+    def numbers(self) -> tuple[int, AnyArray]:
+        """That it is a box, and its starts and lengths."""
+        starts = [one.start for one in self.on_axes]
+        return BOX, np.array([*starts, *map(len, self.on_axes)], np.uint64)
+
     def arguments(self) -> Arguments:
         """What C is given."""
-        starts = [one.start for one in self.on_axes]
-        numbers = np.array([*starts, *map(len, self.on_axes)], np.uint64)
-        return BOX, start(numbers), numbers.size
+        tuples, numbers = self.numbers()
+        return tuples, start(numbers), numbers.size
 
     def closed(self, item_size: int = 1, gap: int | None = None) -> "Box":
         """The same elements, and those in gaps of fewer bytes, in all where it is None: `after` leaves them

@@ -4,7 +4,7 @@ import ctypes
 import math
 import operator
 import reprlib
-from collections.abc import Callable, Sequence
+from collections.abc import Callable, Iterable, Sequence
 from functools import cached_property, partial, wraps
 from typing import Any, Concatenate, NamedTuple, ParamSpec, TypeVar
 
@@ -12,17 +12,17 @@ import numpy as np
 import numpy.typing as npt
 from numpy.typing import ArrayLike
 
-from ._buffers import lent, overlaps, start
+from ._buffers import counted, lent, overlaps, start
 from ._bytes_codecs import hint, split
 from ._data_types import data_type as data_type_of
-from ._elements import given, held, put, spread, takes, told, told_into
+from ._elements import given, held, put, spread, takes, told, told_into, told_many
 from ._files import Source
 from ._header import Header, copied, json_of
-from ._library import SHORT, checked, library
+from ._library import SHORT, EditSize, checked, library
 from ._locating import OF_CODECS, locate
 from ._selections import Selection, select
 from ._types import AnyArray, Bytes, Shape
-from .refusals import InvalidConfiguration, Refused, UnknownName
+from .refusals import InvalidConfiguration, NotInPlace, Refused, UnknownName
 
 # How many bytes of an answer are read from a file at a time: a quarter of it, between these. Some three
 # times as many are held beside it.
@@ -82,9 +82,9 @@ class Chain:
     >>> chain = Chain([{"name": "bytes", "configuration": {"endian": "big"}}], (2,), "int16", -1)
     >>> chain.shape, chain.dtype, chain.encode([1, 2])
     ((2,), dtype('int16'), array([0, 1, 0, 2], dtype=uint8))
-    >>> Chain(["bytes", "crc32c"], (2,), "uint8")
+    >>> Chain(["bytes", "adler32"], (2,), "uint8")
     Traceback (most recent call last):
-    zarrs_codecs.refusals.UnknownName: UnknownName, by codec 1, 'crc32c'
+    zarrs_codecs.refusals.UnknownName: UnknownName, by codec 1, 'adler32'
     """
 
     def __init__(
@@ -292,18 +292,73 @@ class Chain:
         return put(self._read(inner, chosen)[chosen.after], out)
 
     @_naming
-    def write(self, value: Any, selection: Any, array: ArrayLike) -> Bytes:
+    def read_many(self, value: Any, selections: Iterable[Any]) -> list[AnyArray]:
+        """The elements of each of several selections, a list of what `read` answers one after another; the
+        value is looked at once where it has to be decoded whole. Raises what `read` does.
+
+        >>> chain = Chain(["bytes"], (2, 3), "uint8", 9)
+        >>> chain.read_many(chain.encode([[1, 2, 3], [4, 5, 6]]), [0, (..., 2)])
+        [array([1, 2, 3], dtype=uint8), array([3, 6], dtype=uint8)]
+        """
+        inner = self._inner(value)
+        chosen = [select(one, self.shape).closed() for one in selections]
+        given_numbers = [one.numbers() for one in chosen]
+        sizes = np.array([(tuples, many.size) for tuples, many in given_numbers], np.uint64).reshape(-1, 2)
+        numbers = np.concatenate([many for _, many in given_numbers] or [np.empty(0, np.uint64)])
+        at, length = lent(b"" if inner is None else inner)
+        arguments = (inner is not None, at, length, *counted(sizes, len(sizes)), *counted(numbers, numbers.size))
+        call = partial(library.zarrs_read_many, self._header, self._length, *arguments)
+        answers = told_many(self._type, call, [one.shape for one in chosen], length + 64)
+        return [
+            told_one if one.after is None else told_one[one.after]
+            for one, told_one in zip(chosen, answers, strict=True)
+        ]
+
+    @_naming
+    def write(self, value: Any, selection: Any, array: ArrayLike, out: Any = None) -> Any:
         """The value, an array of bytes, that is left of a value, or of None, where an array's elements are
         written at the places that a selection means, broadcast to its shape in numpy's way. The old value stays
         as it is. Raises what `read` and `encode` do, and `ValueError` where the elements don't broadcast.
+
+        Where `out` is given it is the value itself, a buffer in one piece that may be written: the elements are
+        written into it, and it is returned. Raises `NotInPlace` where not all codecs write a part of a value,
+        as `bytes` does and the codecs before it, or the value is too short. What a slice with a step leaves
+        out is written anew, as it was.
 
         >>> chain = Chain(["bytes"], (2, 3), "uint8", 9)
         >>> chain.decode(chain.write(None, (slice(None), 1), [7, 8]))
         array([[9, 7, 9],
                [9, 8, 9]], dtype=uint8)
+        >>> value = bytearray(b"abcdef")
+        >>> chain.write(value, (1, slice(2)), [88, 89], out=value)
+        bytearray(b'abcXYf')
         """
         elements = held(self._type, array)
-        return self._write(self._inner(value), select(selection, self.shape), elements)
+        meant = select(selection, self.shape)
+        if out is None:
+            return self._write(self._inner(value), meant, elements)
+        if out is not value:
+            raise ValueError("out is the value itself, where it is given")
+        self._edit(value, meant, elements)
+        return value
+
+    def _edit(self, value: Any, meant: Selection, elements: AnyArray) -> None:
+        """Writes elements that the type holds into the value itself."""
+        if self._outer:
+            raise NotInPlace("NotInPlace")
+        view = memoryview(value)
+        if view.readonly or not view.c_contiguous:
+            raise ValueError("out is a buffer in one piece that may be written")
+        chosen = meant.closed()
+        new = self._read(value, chosen) if meant.has_gaps else None
+        spread_out = spread(self._type, elements, chosen.shape, chosen.after, new)
+        if overlaps(spread_out, value):
+            spread_out = spread_out.copy()
+        *_, bytes_at, count = given(self._type, spread_out)
+        tuples, numbers, many = chosen.arguments()
+        size, done = EditSize(tuples, many, count), ctypes.c_size_t()
+        edit = (ctypes.byref(size), 1, numbers, many, bytes_at, count, ctypes.byref(done))
+        checked(library.zarrs_edit(self._header, self._length, *lent(value), *edit))
 
     @_naming
     def _write(self, inner: Any, meant: Selection, elements: AnyArray) -> Bytes:

@@ -28,6 +28,7 @@ __all__ = [
     "MultipleArrayToBytes",
     "MultipleAuto",
     "NotAPermutation",
+    "NotInPlace",
     "OffsetNotKept",
     "OffsetTooLarge",
     "OutOfBounds",
@@ -94,6 +95,10 @@ class Syntax(_Wrong):
 
 class Argument(_Wrong):
     """Masks aren't of one length, numbers are no selection, or pieces have other bytes than were fetched."""
+
+
+class NotInPlace(_Wrong):
+    """A value can't be edited where it stands: not all codecs write a part of it, or it is too short."""
 
 
 class InvalidMetadata(_Wrong):

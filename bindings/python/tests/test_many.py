@@ -1,0 +1,142 @@
+"""Values edited where they stand, and several selections by one call."""
+
+import ctypes
+
+import numpy as np
+import pytest
+from samples import BIG, LITTLE, VLEN, optional, same, transpose
+
+import zarrs_codecs as z
+from zarrs_codecs import Chain
+from zarrs_codecs._library import BOX, EditSize, library
+
+GZIP = {"name": "gzip", "configuration": {"level": 1}}
+SELECTIONS = [0, np.s_[1:, ::2], np.s_[..., -1], [[3, 4], [0, 0], [3, 4]], np.s_[2, 2], np.s_[4:, :], np.s_[::-1]]
+
+
+def chunk_of(dtype):
+    return np.arange(20).reshape(4, 5).astype(dtype)
+
+
+@pytest.mark.parametrize(
+    "codecs, data_type",
+    [
+        ([LITTLE], "int16"),
+        ([transpose([1, 0]), BIG], "float64"),
+        (["packbits"], "uint4"),
+        ([LITTLE, GZIP], "uint32"),
+    ],
+)
+def test_many_selections_are_read_as_one_after_another(codecs, data_type):
+    chain = Chain(codecs, (4, 5), data_type, 7)
+    value = chain.encode(chunk_of(chain.dtype) % 16)
+    for stored in (value, None):
+        answers = chain.read_many(stored, SELECTIONS)
+        assert len(answers) == len(SELECTIONS)
+        for answer, selection in zip(answers, SELECTIONS, strict=True):
+            same(answer, chain.read(stored, selection))
+    assert chain.read_many(value, []) == []
+
+
+def test_many_selections_of_texts_and_of_absent_elements():
+    texts = Chain([VLEN], (5,), "string")
+    value = texts.encode(np.array(["", "a", "bcd", "éé", "e"], object))
+    for answer, selection in zip(
+        texts.read_many(value, [np.s_[1:4], 2, np.s_[3:3], [[4], [0]]]), [np.s_[1:4], 2, np.s_[3:3], [[4], [0]]], strict=True
+    ):
+        same(answer, texts.read(value, selection))
+    counts = Chain([optional(LITTLE)], (3,), {"optional": "int32"})
+    value = counts.encode(np.ma.MaskedArray([1, 2, 3], [False, True, False]))
+    first, second = counts.read_many(value, [np.s_[1:], 0])
+    same(first, counts.read(value, np.s_[1:]))
+    same(second, counts.read(value, 0))
+
+
+def test_many_selections_of_which_one_is_refused():
+    chain = Chain([LITTLE], (4, 5), "int16")
+    value = chain.encode(chunk_of("int16"))
+    with pytest.raises(z.OutOfBounds):
+        chain.read_many(value, [0, [[4, 0]]])
+    with pytest.raises(z.InvalidByteRange):
+        chain.read_many(value[:-1], [0, -1])
+    same(chain.read_many(value[:-1], [0])[0], chain.read(value, 0))
+
+
+@pytest.mark.parametrize("codecs", [[LITTLE], [transpose([1, 0]), BIG]])
+def test_a_value_is_edited_where_it_stands(codecs):
+    chain = Chain(codecs, (4, 5), "int16")
+    chunk = chunk_of("int16")
+    value = chain.encode(chunk)
+    for selection, new in [(0, [9, 8, 7, 6, 5]), (np.s_[1:3, ::2], -1), (np.s_[::-1, 4], [1, 2, 3, 4]), ((3, 3), 77)]:
+        expected = chain.write(value, selection, new)
+        chunk[selection] = new
+        assert chain.write(value, selection, new, out=value) is value
+        same(value, expected)
+    same(chain.decode(value), chunk)
+    held = bytearray(value)
+    chain.write(held, [[0, 0], [3, 4]], [5, 6], out=held)
+    assert held == bytes(chain.write(value, [[0, 0], [3, 4]], [5, 6]))
+
+
+def test_elements_of_the_value_itself():
+    chain = Chain([LITTLE], (4,), "uint16")
+    value = chain.encode([1, 2, 3, 4])
+    chain.write(value, np.s_[1:], value.view("<u2")[:3], out=value)
+    same(chain.decode(value), np.array([1, 1, 2, 3], "uint16"))
+
+
+@pytest.mark.parametrize(
+    "codecs, data_type", [(["packbits"], "bool"), ([LITTLE, GZIP], "int16"), ([optional("bytes")], {"optional": "uint8"})]
+)
+def test_what_isnt_edited_in_place(codecs, data_type):
+    chain = Chain(codecs, (4,), data_type)
+    value = chain.encode(np.ma.MaskedArray([1, 0, 1, 0], False))
+    before = bytes(value)
+    with pytest.raises(z.NotInPlace):
+        chain.write(value, 0, 0, out=value)
+    assert bytes(value) == before
+
+
+def test_a_short_value_isnt_edited():
+    chain = Chain([LITTLE], (4,), "int16")
+    value = chain.encode([1, 2, 3, 4])[:7].copy()
+    with pytest.raises(z.NotInPlace):
+        chain.write(value, 0, 9, out=value)
+    assert value[0] == 1
+
+
+def test_out_is_the_value_and_may_be_written():
+    chain = Chain([LITTLE], (4,), "int16")
+    value = chain.encode([1, 2, 3, 4])
+    with pytest.raises(ValueError, match="the value itself"):
+        chain.write(value, 0, 9, out=value.copy())
+    with pytest.raises(ValueError, match="may be written"):
+        held = bytes(value)
+        chain.write(held, 0, 9, out=held)
+    with pytest.raises(z.OutOfBounds):
+        chain.write(value, [[4]], [9], out=value)
+    same(chain.decode(value), np.array([1, 2, 3, 4], "int16"))
+
+
+def test_edits_of_a_list_stand_up_to_the_one_that_is_refused():
+    header = b'{"shape":[4],"data_type":"uint8","fill_value":"00","codecs":["bytes"]}'
+    sizes = (EditSize * 3)(EditSize(BOX, 2, 2), EditSize(1, 1, 1), EditSize(BOX, 2, 1))
+    numbers = (ctypes.c_uint64 * 5)(0, 2, 4, 3, 1)
+    value, done = ctypes.create_string_buffer(b"....", 4), ctypes.c_size_t(9)
+    call = (header, len(header), value, 4, sizes, 3, numbers)
+    assert library.zarrs_edit(*call, 5, b"abcd", 4, ctypes.byref(done)) == 17
+    assert value.raw == b"ab.." and done.value == 1
+    numbers[2] = 1
+    assert library.zarrs_edit(*call, 5, b"abcd", 4, ctypes.byref(done)) == 0
+    assert value.raw == b"ac.d" and done.value == 3
+    for count, length in ((4, 4), (5, 3), (5, 5)):
+        assert library.zarrs_edit(*call, count, b"efghi", length, ctypes.byref(done)) == 3
+        assert value.raw == b"ac.d" and done.value == 0
+
+
+def test_names_end_with_a_zero_where_there_is_room():
+    needed = ctypes.c_size_t()
+    for room, code, text in ((8, 0, b"Overflow"), (9, 0, b"Overflow\0"), (12, 0, b"Overflow\0..."), (7, 1, b".......")):
+        name = ctypes.create_string_buffer(b"." * room, room)
+        assert library.zarrs_error_name(18, name, room, ctypes.byref(needed)) == code
+        assert name.raw == text and needed.value == 8

@@ -1,0 +1,477 @@
+"""Random headers and lines for tools/fuzz: `Run(seed)` has `lines`, and whether the last of them has its end.
+
+Most of what is made is as it should be; now and then something is not: a size, an order, a key, a letter. The model tells
+what a good header means, and writes the values that are loaded, whole or damaged.
+"""
+import itertools
+import json
+import math
+import random
+
+import model
+
+PAGES = model.PAGES
+SQUEEZE = ("zarrs.squeeze", PAGES + "/array_to_array/squeeze")
+VLEN = ("zarrs.vlen", PAGES + "/array_to_bytes/vlen")
+OPTIONAL = ("zarrs.optional", "optional", PAGES + "/array_to_bytes/optional")
+BEHIND = ("sample.reverse", "sample.length", "crc32c")
+HUGE = (2**64 - 1, 2**63, 2**63 - 1, 2**62, 2**61, 2**32, 2**32 - 1, 2**31)
+# what stands where something else is due
+JUNK = (None, True, False, 0, 1, 2, 7, -1, -2, 2**32, 2**63, 2**64 - 1, "", "x", "00", "0", "bytes", "little", "\u00e9", [], [0], [[]], {}, {"a": 1})
+# the same, as text
+ODD = ("0.5", "1e3", "1.0", "-0", "18446744073709551616", "-9223372036854775809", "NaN", "01", "1e999", '"\\ud800"', '"\\u0041"', "[1,]", "nul")
+LINES = (
+    b"", b" ", b"sing", b"value ", b"Value", b"decode []", b"erase x", b"encode", b"read", b"write {}", b"load", b"load \"0\"", b"load \"0G\"",
+    b"load \"AB\" ", b"load  \"cd\"", b"load \"00\" 1", b"value\r", b"\xff", b"load \"\xc3\x28\"", b"load \"\xed\xa0\x80\"", b"reencode",
+    b"reencode []", b"reencode {}", b"load \"00", b"read {}", b"read {\"places\":[]}", b"encode null", b"\tvalue", b"load\t\"00\"", b"load \"00\"\t\r",
+    b"load \"\\u0030\\u0030\"", b"encode " + b"[" * 130 + b"]" * 130, b"encode " + b"[" * 127 + b"]" * 127, b"load [1.5]", b"load 1e400", b"\x00",
+    b"\xef\xbb\xbfvalue", b"read {\"ranges\":[[0,1]],\"ranges\":[]}", b"write {\"at\":{\"indices\":[]},\"data\":[],\"data\":[]}",
+    b"load {\"a\":0.5,\"a\":\"00\"}", b"erase",
+)
+
+
+class Run:
+    """The lines of a seed."""
+
+    def __init__(self, seed):
+        self.random = random.Random(seed)
+        # more elements than memory holds, and often than 64 bits count: with it come other faults of a header
+        self.is_huge = self.chance(0.06)
+        self.lines = [self.header()]
+        try:
+            self.session = model.Session(self.lines[0])
+        except (model.Refused, model.TooLarge):
+            self.lines += [b"value"] * self.chance(0.2)
+        else:
+            self.is_huge = math.prod(self.session.shape) > 500
+            for _ in range(self.random.randint(1, 12)):
+                self.lines += self.next_lines() if not self.has_long_elements() else [self.pick((b"decode", b"value"))]
+        if self.chance(0.04):
+            self.lines.insert(self.random.randint(0, len(self.lines)), b"")
+        self.has_end = not self.chance(0.03)
+
+    # -- Chances
+
+    def chance(self, part):
+        return self.random.random() < part
+
+    def pick(self, items):
+        return self.random.choice(items)
+
+    def few(self, most):
+        return min(self.random.randint(0, most), self.random.randint(0, most))
+
+    # -- Types, shapes, fill values
+
+    def type_tree(self, depth=0):
+        roll = self.random.random()
+        if roll < 0.42:
+            return self.pick(sorted(set(model.TYPES) - {"string", "bytes"}))
+        if roll < 0.58:
+            bits = self.pick((1, 3, 5, 7, 8, 9, 11, 12, 16, 17, 24, 31, 32, 33, 63, 64, 65, self.random.randint(1, 130)))
+            return {"components": {"bits": bits, "count": self.random.randint(1, 3), "signed": self.chance(0.5)}}
+        if roll < 0.76 or depth > 2:
+            return self.pick(("string", "bytes"))
+        return {"optional": self.type_tree(depth + 1)}
+
+    def shape(self):
+        if self.is_huge:
+            return [self.pick(HUGE) for _ in range(self.random.randint(1, 2))] + [self.random.randint(1, 3)] * self.few(2)
+        shape = [self.pick((1, 1, 2, 2, 3, 4, 5, 7)) for _ in range(self.random.randint(0, 4))]
+        while math.prod(shape) > 70:
+            shape.pop()
+        return [self.random.randint(1, 40)] if len(shape) == 1 and self.chance(0.3) else shape
+
+    def fill(self, of_type):
+        if of_type[0] == "fixed":
+            return bytes(model.size_of(of_type)) if self.chance(0.5) else self.random.randbytes(model.size_of(of_type))
+        if of_type[0] == "variable":
+            return self.random.randbytes(self.few(4))
+        return b"\0" if self.chance(0.4) else self.fill(of_type[1]) + b"\1"
+
+    # -- Codecs
+
+    def transpose(self, shape, is_flat):
+        axes = 1 if is_flat else len(shape)
+        axes += self.pick((1, -1)) if self.chance(0.03) else 0
+        order = list(range(max(axes, 0)))
+        self.random.shuffle(order)
+        if order and self.chance(0.02):
+            order[0] = self.pick((0, len(order), 2**64 - 1))
+        return {"name": "transpose", "configuration": {"order": order}}
+
+    def reshape(self, shape, is_flat):
+        count, sizes = math.prod(shape), []
+        if is_flat:
+            sizes = self.pick(([-1], [-1, 1], [1, -1], [-1], [[0]]))
+        else:
+            left = count
+            for _ in range(self.random.randint(0, 3)):
+                size = self.pick([it for it in range(1, 9) if left % it == 0])
+                sizes.append(size)
+                left //= size
+            sizes.insert(self.random.randint(0, len(sizes)), left)
+            if self.chance(0.4):
+                sizes[self.random.randrange(len(sizes))] = -1
+            if self.chance(0.35):
+                sizes = [[axis] for axis in range(len(shape))]
+                while len(sizes) > 1 and self.chance(0.5):
+                    sizes[-2:] = [sizes[-2] + sizes[-1]]
+                if sizes and self.chance(0.3):
+                    sizes[self.random.randrange(len(sizes))] = -1
+        if sizes and self.chance(0.04):
+            sizes = list(sizes)
+            sizes[self.random.randrange(len(sizes))] = self.pick((0, -1, 3, [0], [7], [], 2**32, 2**63, [0, 0]))
+        return {"name": "reshape", "configuration": {"shape": sizes}}
+
+    def arrays(self, of_type, shape, is_flat):
+        """Array-to-array codecs, and the shape behind them."""
+        codecs = []
+        for _ in range(self.few(3)):
+            kinds = [self.reshape, lambda *_: self.named(SQUEEZE)]
+            if of_type[0] != "optional" or self.chance(0.05):
+                kinds += [self.transpose] * 2
+            codecs.append(self.pick(kinds)(shape, is_flat))
+            try:
+                name, said, _ = model.read_metadata(codecs[-1])
+                shape = model.shape_behind(model.make_codec(name, said), shape, of_type)
+            except model.Refused:
+                pass
+        return codecs, shape
+
+    def named(self, names, configuration=None):
+        name = self.pick(names)
+        if configuration is None:
+            return self.pick((name, {"name": name}, {"name": name, "configuration": {}}, {"name": name, "configuration": {"other": [1]}}))
+        return {"name": name, "configuration": configuration}
+
+    def bytes(self, of_type):
+        if of_type[0] == "fixed" and model.width_of(of_type) > 1 and not self.chance(0.2 if self.is_huge else 0.03):
+            return self.named(("bytes", "bytes", "endian"), {"endian": self.pick(("little", "big"))})
+        return self.pick((self.named(("bytes", "endian")), self.named(("bytes",), {"endian": self.pick(("little", "big", None))})))
+
+    def packbits(self, of_type):
+        bits, said = of_type[1] if of_type[0] == "fixed" else 8, {}
+        if self.chance(0.6):
+            said["padding_encoding"] = self.pick(("none", "first_byte", "last_byte", "first_byte", "last_byte", None))
+        if self.chance(0.45):
+            said["first_bit"] = self.random.randint(0, bits - 1)
+        if self.chance(0.45):
+            said["last_bit"] = self.random.randint(said.get("first_bit", 0), bits - 1)
+        if self.chance(0.2 if self.is_huge else 0.04):
+            said[self.pick(("first_bit", "last_bit"))] = self.pick((None, bits, bits - 1, 0, 2**64 - 1))
+        return self.named(("packbits",), said or None)
+
+    def vlen(self, shape, depth):
+        offset = self.pick(("uint32", "uint64"))
+        plain = [{"name": "bytes", "configuration": {"endian": self.pick(("little", "big"))}}], self.pick((["bytes"], ["endian"]))
+        index, data = plain
+        if self.chance(0.5):
+            index = self.chain(model.TYPES[offset], [min(math.prod(shape) + 1, model.MOST)], False, depth + 1)
+        if self.chance(0.4):
+            data = self.chain(model.UINT8, [1], True, depth + 1)
+        said = {"index_codecs": index, "data_codecs": data, "index_data_type": offset}
+        if self.chance(0.6):
+            said["index_location"] = self.pick(("start", "end"))
+        return self.named(VLEN, said)
+
+    def optional(self, of_type, shape, depth):
+        inside = of_type[1] if of_type[0] == "optional" else model.UINT8
+        mask, data = self.chain(model.BOOL, shape, False, depth + 1), self.chain(inside, shape, True, depth + 1)
+        return self.named(OPTIONAL, {"mask_codecs": mask, "data_codecs": data})
+
+    def to_bytes(self, of_type, shape, depth):
+        kind = of_type[0] if not self.chance(0.02) else self.pick(("fixed", "variable", "optional"))
+        if kind == "fixed":
+            return self.bytes(of_type) if self.chance(0.55) else self.packbits(of_type)
+        return self.vlen(shape, depth) if kind == "variable" or depth > 4 else self.optional(of_type, shape, depth)
+
+    def chain(self, of_type, shape, is_flat, depth=0):
+        """A list of codecs; flat where the chunk has one axis of any length."""
+        codecs, shape = self.arrays(of_type, shape, is_flat)
+        codecs.append(self.to_bytes(of_type, shape, depth))
+        if self.chance(0.25):
+            codecs += [self.named(BEHIND) for _ in range(self.random.randint(1, 3))]
+        if self.chance(0.06):
+            self.random.shuffle(codecs)
+        if self.chance(0.06):
+            codecs.insert(self.random.randint(0, len(codecs)), self.spare_codec(of_type))
+        if self.chance(0.03) and isinstance(codecs[-1], dict):
+            codecs[-1]["must_understand"] = self.pick((False, True, None))
+        return codecs
+
+    def spare_codec(self, of_type):
+        """A codec too many, which often needn't be understood."""
+        codec = self.pick((
+            {"name": "gzip"}, {"name": "packbits", "configuration": {"first_bit": 3, "last_bit": 1}}, {"name": "transpose"}, "bytes",
+            {"name": "vlen", "configuration": {"index_codecs": [5]}}, {"name": "zarrs.vlen", "configuration": {"index_codecs": [5]}},
+            {"name": "reshape", "configuration": {"shape": [0, -1, -1]}}, {"name": "zarrs.optional", "configuration": {"mask_codecs": [], "data_codecs": []}},
+        ))
+        return {**(codec if isinstance(codec, dict) else {"name": codec}), "must_understand": False} if self.chance(0.7) else codec
+
+    # -- Headers
+
+    def header(self):
+        tree = self.type_tree()
+        of_type, shape = model.read_type(tree), self.shape()
+        fill = self.fill(of_type).hex() if not self.chance(0.2 if self.is_huge else 0.02) else self.pick(("", "00", "0", "0001", "zz"))
+        said = {"shape": shape, "data_type": tree, "fill_value": fill, "codecs": self.chain(of_type, shape, False)}
+        if self.chance(0.1):
+            said["other"] = self.pick(JUNK)
+        if self.chance(0.2):
+            keys = list(said)
+            self.random.shuffle(keys)
+            said = {key: said[key] for key in keys}
+        for _ in range(self.pick((1, 1, 2, 3)) if self.chance(0.12) else 0):
+            said = self.spoilt_tree(said)
+        return self.text(said, 0.02)
+
+    def text(self, tree, spoilt):
+        text = json.dumps(tree, separators=(",", ":"), ensure_ascii=False) if not self.chance(0.05) else json.dumps(tree)
+        if self.chance(spoilt):
+            return self.spoilt_text(text)
+        return text.encode()
+
+    def spoilt_text(self, text):
+        roll, data = self.random.random(), bytearray(text.encode())
+        if roll < 0.4:
+            places = [at for at, letter in enumerate(text) if letter in "0123456789"]
+            if places:
+                at = self.pick(places)
+                return (text[:at] + self.pick(ODD) + text[at + 1 :]).encode()
+        if roll < 0.6:
+            return bytes(data[: self.random.randrange(len(data))])
+        at = self.random.randrange(len(data))
+        if roll < 0.8:
+            data[at] = self.pick((0, 10, 34, 44, 91, 93, 123, 125, 48, 32, 255, self.random.randrange(256)))
+        else:
+            del data[at]
+        return bytes(data).replace(b"\n", b" ")
+
+    def spoilt_tree(self, tree):
+        """The tree with one part changed, left out or doubled."""
+        if isinstance(tree, (list, dict)) and tree and self.chance(0.8):
+            keys = list(tree) if isinstance(tree, dict) else list(range(len(tree)))
+            key, new = self.pick(keys), dict(tree) if isinstance(tree, dict) else list(tree)
+            if self.chance(0.12):
+                del new[key]
+            elif self.chance(0.1) and isinstance(new, list):
+                new.append(self.pick(JUNK) if self.chance(0.5) else tree[key])
+            elif self.chance(0.1) and isinstance(new, dict):
+                new[self.pick(("other", "name", "must_understand", "configuration"))] = self.pick(JUNK)
+            else:
+                new[key] = self.spoilt_tree(tree[key])
+            return new
+        return self.pick(JUNK)
+
+    # -- Elements and values
+
+    def element(self, of_type):
+        if of_type[0] == "optional":
+            return None if self.chance(0.35) else [self.element(of_type[1])]
+        if of_type[0] == "variable":
+            return self.random.randbytes(self.few(6))
+        if of_type == model.BOOL and not self.chance(0.1):
+            return self.pick((b"\0", b"\1"))
+        size = model.size_of(of_type)
+        return self.random.randbytes(size) if self.chance(0.8) else bytes([self.pick((0, 1, 127, 128, 255))]) * size
+
+    def chunk(self):
+        count = math.prod(self.session.shape)
+        return [self.element(self.session.type) for _ in range(count if count < 500 else self.few(3))]
+
+    def tree_of(self, element):
+        if element is None:
+            return None
+        return [self.tree_of(element[0])] if isinstance(element, list) else element.hex()
+
+    def elements(self, chunk):
+        tree = [self.tree_of(it) for it in chunk]
+        if self.chance(0.06):
+            return self.wrong_elements(tree)
+        if self.chance(0.03):
+            return tree[1:] if self.chance(0.5) else tree + tree[:1]
+        return tree
+
+    def wrong_elements(self, tree):
+        """The tree with one fault or several."""
+        for _ in range(self.random.randint(1, 3)):
+            if isinstance(tree, list) and tree and self.chance(0.7):
+                tree[self.random.randrange(len(tree))] = self.pick((None, ["00"], [None], [], "0", "00", "0000", "zz", 5, True, {}))
+            else:
+                tree = self.spoilt_tree(tree)
+        return tree
+
+    def loose_vlen(self, codec, chunk):
+        """A value whose offsets begin above 0, or end at 0 before bytes of no element."""
+        _, index, data, offset, place = codec
+        ends = [0, *itertools.accumulate(map(len, chunk))]
+        before = self.random.randint(1, 4)
+        joined = self.random.randbytes(before) + b"".join(chunk)
+        size = model.size_of(offset)
+        offsets = [(end + before).to_bytes(size, "little") for end in ends]
+        if ends[-1] == 0:
+            offsets = [bytes(size)] * len(ends)
+        stored = model.encode_chain(index, offsets, [len(offsets)], offset, bytes(size))
+        texts = model.encode_chain(data, [bytes([it]) for it in joined], [len(joined)], model.UINT8, b"\0")
+        length = model.length_bytes(len(stored))
+        return length + stored + texts if place == "start" else texts + stored + length
+
+    def loose_optional(self, codec, shape):
+        """A value without a present element, and data all the same."""
+        mask = model.encode_chain(codec[1], [b"\0"] * math.prod(shape), shape, model.BOOL, b"\0")
+        more = self.random.randbytes(self.few(5))
+        return model.length_bytes(len(mask)) + model.length_bytes(len(more)) + mask + more
+
+    def content(self):
+        """A value before the bytes-to-bytes codecs."""
+        shape, of_type, fill = self.session.form
+        arrays, codec, _ = self.session.chain
+        chain, last = (arrays, codec, []), model.shapes_of(self.session.chain, shape, of_type)[-1]
+        if self.is_huge or self.chance(0.06):
+            return self.random.randbytes(self.few(40))
+        if codec[0] == "vlen" and self.chance(0.15):
+            return self.loose_vlen(codec, self.chunk() if self.chance(0.7) else [b""] * math.prod(shape))
+        if codec[0] == "optional" and self.chance(0.08):
+            return self.loose_optional(codec, last)
+        return model.encode_chain(chain, self.chunk(), shape, of_type, fill)
+
+    def spoilt_content(self, codec, value):
+        """The value with another number in a place of its layout."""
+        if codec[0] == "packbits" and value:
+            at = self.pick((0, len(value) - 1))
+            return value[:at] + bytes([self.pick((value[at] ^ 1, value[at] ^ 128, 0, 1, 7, 8, 255))]) + value[at + 1 :]
+        if codec[0] == "vlen" and len(value) >= 16:
+            stored, texts = model.split_vlen(codec, value)
+            size, stored = model.size_of(codec[3]), bytearray(stored)
+            if stored:
+                end = 0 if codec[1][1][1:2] == ("little",) else size - 1
+                at = min(self.random.randrange(len(stored)) // size * size + end, len(stored) - 1)
+                stored[at] = self.pick((0, 1, 2, 3, 200, max(0, stored[at] - 1), min(255, stored[at] + 1)))
+            length = model.length_bytes(len(stored) + self.pick((0, 0, 0, 0, 1, -1)))
+            return length + stored + texts if codec[4] == "start" else texts + stored + length
+        if codec[0] == "optional" and len(value) >= 16:
+            masks, datas = (int.from_bytes(value[at : at + 8], "little") for at in (0, 8))
+            mask, data = bytearray(value[16 : 16 + masks]), value[16 + masks :]
+            if mask and self.chance(0.5):
+                mask[self.random.randrange(len(mask))] = self.pick((0, 1, 2, 255))
+            else:
+                masks, datas = self.pick(((masks, 2**64 - 1), (2**64 - 16, masks), (masks + 1, datas - 1), (masks + 1, datas), (masks, len(data) - 1)))
+            data = data[: datas if self.chance(0.5) else len(data)]
+            return model.length_bytes(masks) + model.length_bytes(max(0, datas)) + mask + data
+        return self.damaged(value)
+
+    def damaged(self, value):
+        value = bytearray(value)
+        for _ in range(self.random.randint(1, 2)):
+            roll, at = self.random.random(), self.pick((0, max(0, len(value) - 1), self.random.randrange(len(value) + 1)))
+            if roll < 0.22:
+                del value[at:]
+            elif roll < 0.3:
+                del value[:1]
+            elif roll < 0.4:
+                value += self.random.randbytes(self.random.randint(1, 3))
+            elif roll < 0.55 and len(value) >= 8:
+                at = self.pick((0, 0, min(8, len(value) - 8), len(value) - 8, self.random.randrange(len(value) - 7)))
+                number = self.pick((0, 1, 2, 7, 8, 9, len(value), len(value) - 8, len(value) - 16, 2**32, 2**63, 2**64 - 1, 2**64 - 16))
+                value[at : at + 8] = model.length_bytes(max(number, 0))
+            elif at < len(value):
+                value[at] = self.pick((0, 1, 2, 255, value[at] ^ 1 << self.random.randrange(8), self.random.randrange(256)))
+        return bytes(value)
+
+    def value(self):
+        """A value to be loaded: one that is written for a chunk, or one that is damaged before or behind the last codecs."""
+        try:
+            value = self.content()
+        except (model.Refused, model.TooLarge):
+            value = self.random.randbytes(self.few(30))
+        if self.chance(0.35):
+            value = self.damaged(value) if self.chance(0.5) else bytes(self.spoilt_value(value))
+        value = model.do_behind(self.session.chain, value)
+        return self.damaged(value) if self.chance(0.12) else value
+
+    def spoilt_value(self, value):
+        try:
+            return self.spoilt_content(self.session.chain[1], value)
+        except model.Refused:
+            return self.damaged(value)
+
+    # -- Lines
+
+    def range_in(self, size):
+        begin, end = sorted((self.random.randint(0, size), self.random.randint(0, size)))
+        if size > 500:
+            begin = self.pick((0, 0, 1, size - 1, size // 2))
+            end = min(size, begin + self.few(3))
+        if self.chance(0.03):
+            return self.pick(([end, begin], [begin, size + 1], [size, size], [0, 2**64 - 1], [size, 0], [begin]))
+        return [begin, end]
+
+    def indexer(self):
+        shape = self.session.shape
+        if self.chance(0.5):
+            rows, kind = [self.range_in(size) for size in shape], "ranges"
+        else:
+            many, kind = self.few(7), "indices"
+            rows = [[self.random.randrange(size) if size < 500 else self.pick((0, 1, size - 1)) for size in shape] for _ in range(many)]
+            if rows and self.chance(0.25):
+                rows.append(self.pick(rows))
+        if rows and self.chance(0.06):
+            rows = self.spoilt_tree(rows) if self.chance(0.4) else rows[1:] if self.chance(0.5) else rows + [[self.pick((0, 9))] * max(1, len(shape))]
+        return {kind: rows}
+
+    def read(self):
+        return b"read " + self.text(self.indexer(), 0.01)
+
+    def write(self):
+        at = self.indexer()
+        try:
+            many = len(model.places_in(model.read_indexer(at), self.session.shape))
+        except (model.Refused, model.TooLarge):
+            many = 1
+        many += self.pick((1, -1)) if self.chance(0.04) else 0
+        data = self.elements([self.element(self.session.type) for _ in range(many)])
+        if self.chance(0.07):
+            at = self.pick(({"ranges": [[1, 0]] * len(self.session.shape)}, {"indices": [[0]]}, {"indices": [[2**32] * len(self.session.shape)]}, {"ranges": []}, at))
+            data = self.wrong_elements([self.tree_of(self.element(self.session.type)) for _ in range(self.few(3))])
+        tree = {"at": at, "data": data} if self.chance(0.8) else {"data": data, "at": at}
+        if self.chance(0.02):
+            tree = self.spoilt_tree(tree)
+        return b"write " + self.text(tree, 0.01)
+
+    def reencode(self):
+        of_type = self.session.type if not self.chance(0.03) else self.pick(sorted(model.TYPES.values()))
+        tree = self.chain(of_type, self.session.shape, False)
+        return b"reencode " + self.text(self.spoilt_tree(tree) if self.chance(0.03) else tree, 0.01)
+
+    def has_long_elements(self):
+        """Whether an element has more bytes than are made here, as of components that were spoilt."""
+        inside = self.session.type
+        while inside[0] == "optional":
+            inside = inside[1]
+        return inside[0] == "fixed" and model.size_of(inside) > 1000
+
+    def next_lines(self):
+        """A line, and one that looks at it where it loads a value."""
+        line = self.line()
+        if not line.startswith(b"load") or self.chance(0.3):
+            return [line]
+        return [line, self.pick((lambda: b"decode", lambda: b"decode", self.read, self.write if not self.is_huge else self.read))()]
+
+    def line(self):
+        roll = self.random.random()
+        if roll < 0.25:
+            return b"load " + self.text(self.value().hex(), 0.01)
+        if roll < 0.44:
+            return self.read()
+        if roll < 0.58 and not self.is_huge:
+            return self.write()
+        if roll < 0.68:
+            return b"encode " + self.text(self.elements(self.chunk()), 0.01)
+        if roll < 0.79:
+            return b"decode"
+        if roll < 0.88:
+            return b"value"
+        if roll < 0.91:
+            return b"erase"
+        return self.reencode() if roll < 0.97 else self.pick(LINES)
